@@ -1,0 +1,9 @@
+pub mod FoldingLaws
+pub mod ValueLaws
+pub mod Examples
+pub mod GraphLemmas
+pub mod ClosedLaws
+pub mod SetLemmas
+pub mod MarkingLaws
+pub mod SetLaws
+pub mod StreamLaws

@@ -1,0 +1,8 @@
+-- The numbers of the faults.
+use Rattle.std.specs.Prelude.{ℕ}
+use Rattle.aig_graph.specs.declared.build.BuildError.{BuildError}
+use Rattle.aig_graph.specs.declared.build.BuildError.TheVariants.{NoMemory, TooLarge}
+
+abbrev pub build_error_code : BuildError → ℕ
+build_error_code NoMemory = 1
+build_error_code TooLarge = 2

@@ -1,0 +1,22 @@
+-- What follows from the variables that are no gates up to a variable, gate by gate.
+use Rattle.std.specs.Prelude.{ℕ, ◌-◌, suc, zero, slice_get, Option, Some, None, nat_le, if◌then◌else◌}
+use Rattle.aig_graph.specs.declared.graph.Gate.{Gate}
+use Rattle.aig_graph.specs.Graph.{Graph, variable, first_gate}
+
+-- the gate at a variable
+abbrev pub gate_at : Graph → ℕ → Option Gate
+gate_at g v = if nat_le (first_gate g) v then slice_get g.gates (v - first_gate g) else None
+
+-- what a variable gets: its own where it is no gate, else what the rule makes of what the two fan-ins get
+abbrev pub fold_step : {A : Type 0} → (ℕ → A) → (Gate → A → A → A) → (ℕ → A) → ℕ → Option Gate → A
+fold_step leaf rule fan_in v None = leaf v
+fold_step leaf rule fan_in v (Some gate) = rule gate (fan_in (variable gate.rhs0)) (fan_in (variable gate.rhs1))
+
+-- the same, looking through at most this many gates on each way
+unfoldable pub fold_to_depth : {A : Type 0} → Graph → (ℕ → A) → (Gate → A → A → A) → ℕ → ℕ → A
+fold_to_depth g leaf rule zero v = leaf v
+fold_to_depth g leaf rule (suc depth) v = fold_step leaf rule (fold_to_depth g leaf rule depth) v (gate_at g v)
+
+-- No way from a variable down through gates is longer than the variable.
+unfoldable pub fold_gates : {A : Type 0} → Graph → (ℕ → A) → (Gate → A → A → A) → ℕ → A
+fold_gates g leaf rule v = fold_to_depth g leaf rule (suc v) v

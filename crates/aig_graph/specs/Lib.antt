@@ -1,0 +1,11 @@
+pub mod Graph
+pub mod Folding
+pub mod Value
+pub mod Circuits
+pub mod Streams
+pub mod Closed
+pub mod Border
+pub mod Building
+pub mod Codes
+pub mod Laws
+pub mod Marking

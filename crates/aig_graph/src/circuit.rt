@@ -1,0 +1,64 @@
+ghost use Rattle.std.specs.Prelude.{◌≡◌};
+
+use crate::graph::Aig;
+use crate::properties::{Props, Symbols};
+use std::marker::Model;
+
+/// A graph with the literals that it is asked about, and names. All literals and positions are in range, which each
+/// literal of this type is proved to keep.
+#[derive(Drop)]
+pub struct Circuit {
+    pub aig: Aig,
+    pub props: Props,
+    pub symbols: Symbols,
+}
+
+impl Model for Circuit {
+    ghost use Rattle.aig_graph.specs.Circuits.{Network, IsNetwork};
+
+    ghost Value = { Network };
+
+    ghost view = { λ c. record { aig = c.aig; props = c.props; symbols = c.symbols } };
+
+    ghost invariant = { λ c. IsNetwork (record { aig = c.aig; props = c.props; symbols = c.symbols }) };
+}
+
+impl Circuit {
+    ghost use Rattle.aig_graph.specs.Circuits.{IsNetwork};
+
+    /// The circuit of these parts.
+    pub fn new(aig: Aig, props: Props, symbols: Symbols) -> Circuit
+        requires { IsNetwork (record { aig = aig; props = props; symbols = symbols }) }
+        ensures { result ≡ record { aig = aig; props = props; symbols = symbols } }
+    {
+        Circuit {
+            aig,
+            props,
+            symbols,
+        }
+    }
+
+    /// The graph.
+    pub fn aig(&self) -> &Aig
+        ensures value { result.now ≡ self.now.aig }
+        ensures network { IsNetwork self.now }
+    {
+        &self.aig
+    }
+
+    /// The literals that are asked about.
+    pub fn props(&self) -> &Props
+        ensures value { result.now ≡ self.now.props }
+        ensures network { IsNetwork self.now }
+    {
+        &self.props
+    }
+
+    /// The names.
+    pub fn symbols(&self) -> &Symbols
+        ensures value { result.now ≡ self.now.symbols }
+        ensures network { IsNetwork self.now }
+    {
+        &self.symbols
+    }
+}

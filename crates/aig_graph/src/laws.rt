@@ -1,0 +1,27 @@
+ghost use Rattle.std.specs.Prelude.{ℕ, List};
+ghost use Rattle.aig_graph.specs.Graph.{Graph, IsGraph};
+ghost use Rattle.aig_graph.specs.Circuits.{Network};
+ghost use Rattle.aig_graph.specs.Value.{Inputs, Choice};
+ghost use Rattle.aig_graph.specs.Laws.{ValueLaws, IsReflexive, IsTransitive, EmptySetLaws, AtMostOne, PassableLaw};
+
+/// What the value of a literal is, by what its variable is: a constant, an input, a latch at step 0 and at a later step, a
+/// gate, and the negation of each.
+pub fn value_laws()
+    ensures { (g : Graph) (x : Inputs) (f : Choice) → IsGraph g → ValueLaws g x f }
+{}
+
+/// A circuit has its own streams, with each free latch kept; and from one circuit to the next to a third, the lists of
+/// kept latches compose.
+pub fn stream_laws()
+    ensures reflexive { (c : Network) → IsReflexive c }
+    ensures transitive { (c d e : Network) (first second : List ℕ) → IsTransitive c d e first second }
+{}
+
+/// A gate is passable exactly where each of its fan-ins' variables is a known latch or a passable gate. The empty set is
+/// closed and counts the known latches that something reads. There is at most one greatest and at most one smallest
+/// least set.
+pub fn set_laws()
+    ensures passable { (g : Graph) (v : ℕ) → IsGraph g → PassableLaw g v }
+    ensures empty { (c : Network) → EmptySetLaws c }
+    ensures one { (c : Network) (s r : List ℕ) → AtMostOne c s r }
+{}
