@@ -109,8 +109,9 @@ fn members(alloc: Global, set: &ClosedSet, variables: usize) -> Result<Vec<bool>
     Ok(inside)
 }
 
-/// Marks each variable that a gate outside the set, a next literal or a property reads. The marks of the set are `inside`.
-fn mark_read(read: &mut [bool], circuit: &Circuit, inside: &[bool])
+/// Marks each variable that a gate outside a set, a next literal or a property reads; `inside` has the marks of the set.
+/// Both tables have an entry for each variable. Linear in the circuit.
+pub fn mark_read(read: &mut [bool], circuit: &Circuit, inside: &[bool])
     requires tests { length inside.now ≡ variables_end circuit.now.aig }
     requires marks { length read.old ≡ variables_end circuit.now.aig }
     ensures { (s : List ℕ) → AreMarks inside.now (has s) → Marks read.old read.new (is_read circuit.now s) }

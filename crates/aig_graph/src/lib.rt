@@ -13,7 +13,7 @@ mod memory;
 mod properties;
 mod sequence;
 
-pub use border::count;
+pub use border::{count, mark_read};
 pub use build::{AigBuilder, BuildError, MAX_VARIABLES};
 pub use circuit::Circuit;
 pub use closed::{ClosedSet, is_closed};

@@ -1,0 +1,21 @@
+-- The numbers of the faults.
+use Rattle.std.specs.Prelude.{ℕ}
+use Rattle.aag_format.specs.declared.fault.ReadError.{ReadError}
+use Rattle.aag_format.specs.declared.fault.ReadError.TheVariants.{BadHeader, TooLarge, MaxIndex, BadLine, BadLiteral, DefinedTwice, Undefined, Cycle, BadReset, BadDelta, Truncated, BadSymbol, Trailing, NoMemory, Device}
+
+abbrev pub code_of : ReadError → ℕ
+code_of (BadHeader at) = 1
+code_of (TooLarge at) = 2
+code_of (MaxIndex at) = 3
+code_of (BadLine at) = 4
+code_of (BadLiteral at) = 5
+code_of (DefinedTwice at) = 6
+code_of Undefined = 7
+code_of Cycle = 8
+code_of (BadReset at) = 9
+code_of (BadDelta at) = 10
+code_of (Truncated at) = 11
+code_of (BadSymbol at) = 12
+code_of (Trailing at) = 13
+code_of NoMemory = 14
+code_of Device = 15

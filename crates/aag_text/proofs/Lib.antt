@@ -1,0 +1,11 @@
+pub mod RowLaws
+pub mod LineLaws
+pub mod AnsweringLaws
+pub mod SectionLaws
+pub mod LineReadingLaws
+pub mod HeaderLaws
+pub mod PlaceLaws
+pub mod CollectingLaws
+pub mod PartLaws
+pub mod CircuitLaws
+pub mod FileLaws

@@ -1,0 +1,78 @@
+ghost use Rattle.std.specs.Prelude.{◌≡◌, ◌≤◌, length, take, OnOk, OnErr};
+ghost use Rattle.counted_io.specs.Emitting.{Emits, EmitsPart};
+ghost use Rattle.counted_io.specs.Row.{row};
+ghost use Rattle.aag_format.specs.Text.{header_row, without_last_zeros};
+ghost use Rattle.aag_writer.specs.Sections.{header_counts, header_text};
+
+use aig_graph::Circuit;
+use counted_io::{CountedWrite, Pending, WriteError};
+
+/// How many numbers a header always has.
+const LEAST: usize = 5;
+
+/// How many counts a header can have.
+const MOST: usize = 9;
+
+/// The greatest variable, and how many there are of each kind.
+fn counts(circuit: &Circuit) -> [u64; MOST]
+    ensures { result ≡ header_counts circuit.now }
+{
+    let aig = circuit.aig();
+    let props = circuit.props();
+    [
+        aig.variables() as u64 - 1,
+        u64::from(aig.inputs()),
+        aig.latches().len() as u64,
+        props.outputs.len() as u64,
+        aig.gates().len() as u64,
+        props.bad.len() as u64,
+        props.constraints.len() as u64,
+        props.justice.len() as u64,
+        props.fairness.len() as u64,
+    ]
+}
+
+/// How many counts there are up to the last one that isn't 0.
+fn used(counts: &[u64]) -> usize
+    ensures within { result ≤ length counts.now }
+    ensures used { take result counts.now ≡ without_last_zeros counts.now }
+{
+    let mut used = 0;
+    for (k, count) in counts.iter().enumerate() {
+        if *count != 0 {
+            used = k + 1;
+        }
+    }
+    used
+}
+
+/// Puts the header's numbers, and the newline.
+fn put_counts<W: CountedWrite>(
+    pending: &mut Pending,
+    writer: &mut W,
+    circuit: &Circuit,
+) -> Result<(), WriteError>
+    ensures ok { OnOk result (Emits (W.output writer.old) pending.old
+        (W.output writer.new) pending.new (row (header_row circuit.now))) }
+    ensures err { OnErr result (EmitsPart (W.output writer.old) pending.old
+        (W.output writer.new) (row (header_row circuit.now))) }
+{
+    let counts = counts(circuit);
+    let len = LEAST + used(&counts[LEAST..]);
+    pending.put_row(writer, &counts[..len])
+}
+
+/// Puts the first line.
+pub fn put_header<W: CountedWrite>(
+    pending: &mut Pending,
+    writer: &mut W,
+    circuit: &Circuit,
+) -> Result<(), WriteError>
+    ensures ok { OnOk result (Emits (W.output writer.old) pending.old
+        (W.output writer.new) pending.new (header_text circuit.now)) }
+    ensures err { OnErr result (EmitsPart (W.output writer.old) pending.old
+        (W.output writer.new) (header_text circuit.now)) }
+{
+    pending.put(writer, b"aag ")?;
+    put_counts(pending, writer, circuit)
+}

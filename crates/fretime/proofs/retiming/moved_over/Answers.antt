@@ -1,0 +1,9 @@
+use Rattle.std.proofs.Common.{◌≡◌, ◌∙◌, ◌∷◌, []}
+use Rattle.aig_graph.specs.Border.{border_size}
+use Rattle.fretime.proofs.RoomLaws.{room}
+use Rattle.fretime.proofs.retiming.moved_over.Goals as goal
+
+pub moved-requires-clause-room : goal.moved-requires-clause-room
+moved-requires-clause-room c =
+    let same : c.in-Some.set ≡ c.args.gate.var ∷ [] = c.in-Some.ensures.1 ∙ c.in_ok-vec.ensures.items in
+    rw same (room c.args.circuit.now.aig (border_size c.args.circuit.now (c.args.gate.var ∷ [])) c.requires.graph c.requires.helps.fewer)

@@ -1,0 +1,4 @@
+pub mod Codes
+pub mod Retiming
+pub mod Answering
+pub mod Outcomes

@@ -1,0 +1,43 @@
+use std::fs::File;
+use std::io;
+use std::io::Write;
+use std::rt::Files;
+
+/// A file that is made, or emptied where it is there, at the first byte written: until then a file with this path stays
+/// as it was.
+#[derive(Drop)]
+pub struct LazyFile<'a, R: Files> {
+    files: &'a R,
+    path: &'a str,
+    file: Option<R::File>,
+}
+
+impl<'a, R: Files> LazyFile<'a, R> {
+    /// Makes no file yet.
+    pub fn new(files: &'a R, path: &'a str) -> LazyFile<'a, R> {
+        LazyFile {
+            files,
+            path,
+            file: None,
+        }
+    }
+}
+
+impl<R: Files> Write for LazyFile<'_, R> {
+    fn write(&mut self, bytes: &[u8]) -> io::Result<usize> {
+        if bytes.is_empty() {
+            return Ok(0);
+        }
+        let mut file = match self.file.take() {
+            Some(file) => file,
+            None => File::create(self.files, self.path)?,
+        };
+        let written = file.write(bytes);
+        self.file = Some(file);
+        written
+    }
+
+    fn flush(&mut self) -> io::Result<()> {
+        Ok(())
+    }
+}

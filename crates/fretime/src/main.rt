@@ -1,0 +1,33 @@
+//! The program `fretime`: reads an ASCII AIGER circuit, moves latches forward over a gate so that fewer are left, and
+//! writes it.
+#![tactic(auto)]
+
+mod command_line;
+mod errors;
+mod lazy_file;
+mod outcome;
+mod printing;
+mod retime_one;
+mod retiming;
+mod run;
+
+use counted_io::Counted;
+use run::{run_words, tell_no_words};
+use std::env::Env;
+use std::process::ExitCode;
+use std::{env, io};
+
+/// The words of the program's own line.
+fn words<R: Env + AllocGlobal>(rt: &R) -> io::Result<Vec<String>> {
+    Ok(env::args(rt)?.collect(rt.alloc())?)
+}
+
+fn main(rt: HostRuntime) -> ExitCode {
+    let mut out = Counted::new(rt.stdout());
+    let mut err = Counted::new(rt.stderr());
+    let status = match words(&rt) {
+        Ok(words) => run_words(&rt, rt.alloc(), words.as_slice(), &mut out, &mut err),
+        Err(error) => tell_no_words(&error, &mut err),
+    };
+    ExitCode::from(status)
+}

@@ -1,0 +1,3 @@
+pub mod FanOutLaws
+pub mod CountingLaws
+pub mod OneGateLaws

@@ -1,0 +1,2 @@
+pub mod FanOut
+pub mod OneGate
