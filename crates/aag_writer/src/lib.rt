@@ -8,3 +8,6 @@ mod symbols;
 mod writing;
 
 pub use writing::write_aag;
+
+#[cfg(test)]
+mod tests;
