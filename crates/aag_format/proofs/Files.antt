@@ -18,6 +18,7 @@ use Rattle.aag_format.proofs.Sections.{bind_ok, SectionRead, offset_after, secti
 use Rattle.aag_format.proofs.Checks.{same_ok}
 use Rattle.aag_format.proofs.Items.{at_inputs, at_latches, at_outputs, at_gates, InputFollows, LatchFollows, OutputFollows, GateFollows}
 use Rattle.aag_format.proofs.Steps.{inputs_section, latches_section, outputs_section, gates_section, trailing_line}
+use Rattle.aag_format.proofs.Faults.{fault_of_bytes}
 use Rattle.aag_format.proofs.Headers.{read_header_ok, read_header_passes}
 use Rattle.aag_format.proofs.Conditions.{AllFollowed, all_followed, conditions_hold}
 use Rattle.aag_format.proofs.Resolved.{resolved_where_true, true_where_resolved}
@@ -205,4 +206,5 @@ the_reading_law bytes = record {
   file = read_bytes-of_file bytes;
   read = file_of_read_bytes bytes;
   one = λ h h' raw raw' file file'. same_ok raw raw' (sym (items_of_file bytes h raw file) ∙ items_of_file bytes h' raw' file');
+  fault = λ e was. record { read = was; of_bytes = fault_of_bytes bytes e was };
 }

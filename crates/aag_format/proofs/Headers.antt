@@ -32,11 +32,11 @@ checked_header_passes h within =
     ∙ unless_passes (nat_lt h.greatest (h.inputs + h.latches + h.gates)) (MaxIndex 0) (Ok h) (le-ltb h.greatest (h.inputs + h.latches + h.gates) within.total)
 
 -- the answer for the header that a line spells
-abbrev header_found : Option Header → Result Header ReadError
+abbrev pub header_found : Option Header → Result Header ReadError
 header_found None = Err (BadHeader 0)
 header_found (Some h) = checked_header h
 
-read_header-found : (line : List ℕ) → read_header line ≡ header_found (header_of line)
+pub read_header-found : (line : List ℕ) → read_header line ≡ header_found (header_of line)
 unfolding read_header
 read_header-found line = by_case (header_of line)
   where

@@ -7,6 +7,7 @@ pub mod Apart
 pub mod Headers
 pub mod Conditions
 pub mod Resolved
+pub mod Faults
 pub mod Files
 pub mod Decimals
 pub mod Ranges

@@ -1,5 +1,5 @@
--- The numbers of the faults.
-use Rattle.std.specs.Prelude.{ℕ}
+-- The faults: their numbers, and whose they are.
+use Rattle.std.specs.Prelude.{ℕ, Bool, true, false}
 use Rattle.aag_format.specs.declared.fault.ReadError.{ReadError}
 use Rattle.aag_format.specs.declared.fault.ReadError.TheVariants.{BadHeader, TooLarge, MaxIndex, BadLine, BadLiteral, DefinedTwice, Undefined, Cycle, BadReset, BadDelta, Truncated, BadSymbol, Trailing, NoMemory, Device}
 
@@ -19,3 +19,9 @@ code_of (BadSymbol at) = 12
 code_of (Trailing at) = 13
 code_of NoMemory = 14
 code_of Device = 15
+
+-- whether the bytes have the fault: neither memory nor the reader has it
+abbrev pub is_fault_of_bytes : ReadError → Bool
+is_fault_of_bytes NoMemory = false
+is_fault_of_bytes Device = false
+is_fault_of_bytes fault = true

@@ -1,5 +1,5 @@
 -- The first fault of a file, item by item, and what is read where there is none.
-use Rattle.std.specs.Prelude.{ℕ, ◌+◌, ◌-◌, ◌*◌, ◌^◌, ◌%◌, ◌==◌, ◌||◌, ◌&&◌, Bool, not, nat_le, nat_lt, List, [], ◌∷◌, ◌++◌, length, Option, Some, None, Result, Ok, Err, if◌then◌else◌}
+use Rattle.std.specs.Prelude.{ℕ, ◌≡◌, ◌+◌, ◌-◌, ◌*◌, ◌^◌, ◌%◌, ◌==◌, ◌||◌, ◌&&◌, Bool, true, not, nat_le, nat_lt, List, [], ◌∷◌, ◌++◌, length, Option, Some, None, Result, Ok, Err, if◌then◌else◌}
 use Rattle.std.specs.List.{list_any, list_all, enumerate_from}
 use Rattle.aig_graph.specs.declared.graph.Reset.{Reset}
 use Rattle.aig_graph.specs.declared.graph.Reset.TheVariants.{Zero, One, Free}
@@ -10,6 +10,7 @@ use Rattle.aag_format.specs.declared.raw.Header.{Header}
 use Rattle.aag_format.specs.declared.raw.RawGate.{RawGate}
 use Rattle.aag_format.specs.declared.fault.ReadError.{ReadError}
 use Rattle.aag_format.specs.declared.fault.ReadError.TheVariants.{BadHeader, TooLarge, MaxIndex, BadLine, BadLiteral, DefinedTwice, Undefined, BadReset, Truncated, Trailing}
+use Rattle.aag_format.specs.Codes.{is_fault_of_bytes}
 use Rattle.aag_format.specs.Lines.{lines, numbers_of}
 use Rattle.aag_format.specs.Raw.{Raw, defined, defined_before}
 use Rattle.aag_format.specs.Files.{header_of}
@@ -142,3 +143,8 @@ read_items bytes (line ∷ rest) = read_header line >>= λ h. read_lines h nothi
 -- the circuit of the bytes, or their first fault
 unfoldable pub read_bytes : List ℕ → Result Network ReadError
 read_bytes bytes = read_items bytes (lines bytes) >>= resolve
+
+-- the first fault of the bytes: neither memory nor a reader has it
+pub record IsFaultOf (bytes : List ℕ) (e : ReadError) : Type 0 where
+  pub read : read_bytes bytes ≡ Err e
+  pub of_bytes : is_fault_of_bytes e ≡ true

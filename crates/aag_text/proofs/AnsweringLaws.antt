@@ -1,8 +1,10 @@
 -- Faults that pass through what comes next.
-use Rattle.std.proofs.Common.{◌≡◌, Result, Ok, Err, refl, Bool, true, false, sym, ◌∙◌}
+use Rattle.std.proofs.Common.{◌≡◌, ◌⊎◌, inl, inr, ℕ, List, IfErr, Result, Ok, Err, refl, Bool, true, false, sym, ◌∙◌}
 use Rattle.aag_format.specs.declared.fault.ReadError.{ReadError}
 use Rattle.aag_format.specs.declared.fault.ReadError.TheVariants.{NoMemory}
-use Rattle.aag_format.specs.Reading.{◌>>=◌, unless}
+use Rattle.aag_format.specs.Reading.{◌>>=◌, unless, read_bytes, IsFaultOf}
+use Rattle.aag_format.proofs.Faults.{fault_of_bytes}
+use Rattle.aig_graph.specs.Circuits.{Network}
 use Rattle.aag_text.specs.Answering.{Fails, Gives}
 
 pub Fails-same : {Y : Type 0} (e : ReadError) (a b : Result Y ReadError) → a ≡ b → Fails e a → Fails e b
@@ -38,3 +40,12 @@ three_checks true q r d e f answer = refl
 three_checks false true r d e f answer = refl
 three_checks false false true d e f answer = refl
 three_checks false false false d e f answer = refl
+
+-- an error in place of what bytes give is of memory, or the fault of the bytes
+fails_by : (bytes : List ℕ) (e : ReadError) → Fails e (read_bytes bytes) → (e ≡ NoMemory) ⊎ IsFaultOf bytes e
+fails_by bytes NoMemory fails = inl refl
+fails_by bytes e fails = inr (record { read = fails; of_bytes = fault_of_bytes bytes e fails })
+
+pub gives_fault : {X : Type 0} (view : X → Network) (r : Result X ReadError) (bytes : List ℕ) → Gives view r (read_bytes bytes) → IfErr r (λ e. (e ≡ NoMemory) ⊎ IsFaultOf bytes e)
+gives_fault view (Ok x) bytes gives = tt
+gives_fault view (Err e) bytes gives = fails_by bytes e gives

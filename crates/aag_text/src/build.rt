@@ -6,7 +6,7 @@ ghost use Rattle.aag_text.specs.Building as building;
 
 use crate::table::Variables;
 use aag_format::{RawGate, RawLatch, ReadError};
-use aig_graph::{Aig, Circuit, Gate, Latch, Lit, Props, Sequence, Symbols};
+use aig_graph::{Aig, Circuit, Gate, Latch, Lit, Props, Symbols};
 use std::alloc::Global;
 
 /// The literal of the circuit that stands for one of the file, where its variable is the constant or among the first ones.
@@ -90,35 +90,10 @@ pub(crate) fn circuit(
     gates: Vec<Gate>,
 ) -> Circuit
     requires graph { IsGraph (record { inputs = inputs; latches = latches.items; gates = gates.items }) }
-    requires outputs { AreLiteralsOf (record { inputs = inputs; latches = latches.items; gates = gates.items }) outputs.items }
+    requires outputs { AreLiteralsOf
+        (record { inputs = inputs; latches = latches.items; gates = gates.items }) outputs.items }
     ensures { result ≡ building.network inputs latches.items outputs.items gates.items }
 {
     let aig = Aig::from_parts(inputs, latches, gates);
-    Circuit::new(aig, only_outputs(alloc, outputs), no_symbols(alloc))
-}
-
-fn only_outputs(alloc: Global, outputs: Vec<Lit>) -> Props
-    ensures { result ≡ record { outputs = outputs.items; bad = []; constraints = []; justice = []; fairness = [] } }
-{
-    Props {
-        outputs: Sequence::from_vec(outputs),
-        bad: Sequence::from_vec(Vec::new(alloc)),
-        constraints: Sequence::from_vec(Vec::new(alloc)),
-        justice: Sequence::from_vec(Vec::new(alloc)),
-        fairness: Sequence::from_vec(Vec::new(alloc)),
-    }
-}
-
-fn no_symbols(alloc: Global) -> Symbols
-    ensures { result ≡ record { inputs = []; latches = []; outputs = []; bad = []; constraints = []; justice = []; fairness = [] } }
-{
-    Symbols {
-        inputs: Sequence::from_vec(Vec::new(alloc)),
-        latches: Sequence::from_vec(Vec::new(alloc)),
-        outputs: Sequence::from_vec(Vec::new(alloc)),
-        bad: Sequence::from_vec(Vec::new(alloc)),
-        constraints: Sequence::from_vec(Vec::new(alloc)),
-        justice: Sequence::from_vec(Vec::new(alloc)),
-        fairness: Sequence::from_vec(Vec::new(alloc)),
-    }
+    Circuit::new(aig, Props::of_outputs(alloc, outputs), Symbols::none(alloc))
 }

@@ -1,4 +1,4 @@
-ghost use Rattle.std.specs.Prelude.{◌≡◌, ◌⊎◌, ◌-◌, ◌≤◌, ◌<◌, ◌^◌, Ok, Err, IfOk, IfErr, OnOk, length};
+ghost use Rattle.std.specs.Prelude.{◌≡◌, ◌⊎◌, ◌-◌, ◌≤◌, ◌<◌, ◌^◌, Ok, IfOk, IfErr, OnOk, length};
 ghost use Rattle.aag_format.specs.declared.fault.ReadError.TheVariants.{NoMemory};
 ghost use Rattle.aag_format.specs.Lines.{lines};
 ghost use Rattle.aag_format.specs.Reading as reading;
@@ -21,7 +21,7 @@ use std::alloc::Global;
 /// were read.
 pub fn read_aag(alloc: Global, bytes: &[u8]) -> Result<Circuit, ReadError>
     ensures ok { IfOk result (λ circuit. reading.read_bytes bytes.now ≡ Ok circuit) }
-    ensures err { IfErr result (λ error. (error ≡ NoMemory) ⊎ (reading.read_bytes bytes.now ≡ Err error)) }
+    ensures err { IfErr result (λ error. (error ≡ NoMemory) ⊎ reading.IsFaultOf bytes.now error) }
 {
     read(alloc, bytes)
 }
@@ -37,7 +37,8 @@ fn read(alloc: Global, bytes: &[u8]) -> Result<Circuit, ReadError>
 /// Takes all lines of a file.
 fn read_items(alloc: Global, bytes: &[u8]) -> Result<Machine, ReadError>
     ensures reading { IfOk result (λ machine. IsReading machine) }
-    ensures gives { Gives (λ machine. raw_of machine) result (reading.read_items bytes.now (lines bytes.now)) }
+    ensures gives { Gives (λ machine. raw_of machine) result
+        (reading.read_items bytes.now (lines bytes.now)) }
 {
     let Some((first, rest)) = next_line(bytes) else {
         return Err(ReadError::BadHeader(0));

@@ -48,20 +48,6 @@ impl Write for Narrow {
     }
 }
 
-fn no_symbols(alloc: Global) -> Symbols
-    ensures { result ≡ record { inputs = []; latches = []; outputs = []; bad = []; constraints = []; justice = []; fairness = [] } }
-{
-    Symbols {
-        inputs: Sequence::from_vec(Vec::new(alloc)),
-        latches: Sequence::from_vec(Vec::new(alloc)),
-        outputs: Sequence::from_vec(Vec::new(alloc)),
-        bad: Sequence::from_vec(Vec::new(alloc)),
-        constraints: Sequence::from_vec(Vec::new(alloc)),
-        justice: Sequence::from_vec(Vec::new(alloc)),
-        fairness: Sequence::from_vec(Vec::new(alloc)),
-    }
-}
-
 /// Two inputs, a latch behind each, and the gate of the latches, which is variable 5.
 fn gate_behind_two_latches(alloc: Global, first: Reset) -> Result<Aig, BuildError>
     ensures { IfOk result (λ aig. variables_end aig ≡ 6) }
@@ -89,14 +75,9 @@ fn latch_behind_a_gate(alloc: Global, reset: Reset, negated: bool) -> Result<Aig
 fn with_output(alloc: Global, aig: Aig, output: Lit) -> Result<Circuit, AllocError>
     requires { IsLiteralOf aig output }
 {
-    let props = Props {
-        outputs: Sequence::from_vec(Vec::from_array(alloc, [output])?),
-        bad: Sequence::from_vec(Vec::new(alloc)),
-        constraints: Sequence::from_vec(Vec::new(alloc)),
-        justice: Sequence::from_vec(Vec::new(alloc)),
-        fairness: Sequence::from_vec(Vec::new(alloc)),
-    };
-    Ok(Circuit::new(aig, props, no_symbols(alloc)))
+    let outputs = Vec::from_array(alloc, [output])?;
+    let props = Props::of_outputs(alloc, outputs);
+    Ok(Circuit::new(aig, props, Symbols::none(alloc)))
 }
 
 fn one(alloc: Global, lit: Lit) -> Result<Sequence<Lit>, AllocError>
@@ -114,7 +95,7 @@ fn two_justice_properties(
     ensures { IfOk result (λ justice. justice ≡ (first ∷ second ∷ []) ∷ [] ∷ []) }
 {
     let lits = Sequence::from_vec(Vec::from_array(alloc, [first, second])?);
-    let none = Sequence::from_vec(Vec::new(alloc));
+    let none = Sequence::empty(alloc);
     Ok(Sequence::from_vec(Vec::from_array(alloc, [lits, none])?))
 }
 
@@ -219,14 +200,15 @@ fn stops_at_a_failed_write(rt: HostRuntime) -> Result<(), Fail> {
 
 /// The literals of all but the liveness properties.
 fn plain_props(alloc: Global) -> Result<Props, AllocError>
-    ensures { IfOk result (λ props. props ≡ record { outputs = 6 ∷ []; bad = 6 ∷ []; constraints = 3 ∷ []; justice = []; fairness = [] }) }
+    ensures { IfOk result (λ props. props ≡
+        record { outputs = 6 ∷ []; bad = 6 ∷ []; constraints = 3 ∷ []; justice = []; fairness = [] }) }
 {
     Ok(Props {
         outputs: one(alloc, Lit::new(3, false))?,
         bad: one(alloc, Lit::new(3, false))?,
         constraints: one(alloc, Lit::new(1, true))?,
-        justice: Sequence::from_vec(Vec::new(alloc)),
-        fairness: Sequence::from_vec(Vec::new(alloc)),
+        justice: Sequence::empty(alloc),
+        fairness: Sequence::empty(alloc),
     })
 }
 
@@ -247,7 +229,7 @@ fn first_names(alloc: Global) -> Result<Symbols, AllocError>
     ensures outputs { IfOk result (λ symbols. AreNamesBelow 1 symbols.outputs) }
     ensures bad { IfOk result (λ symbols. AreNamesBelow 1 symbols.bad) }
 {
-    let mut symbols = no_symbols(alloc);
+    let mut symbols = Symbols::none(alloc);
     symbols.inputs = one_name(alloc, b"x")?;
     symbols.outputs = one_name(alloc, b"out")?;
     symbols.bad = one_name(alloc, b"bad")?;

@@ -1,5 +1,6 @@
-ghost use Rattle.std.specs.Prelude.{◌≡◌, ◌==◌, length};
+ghost use Rattle.std.specs.Prelude.{◌≡◌, ◌==◌, [], length};
 
+use std::alloc::Global;
 use std::marker::Model;
 
 /// A list of values, made of a `Vec` and given back as one without taking memory. Contracts see the list, so two
@@ -18,6 +19,13 @@ impl<T> Model for Sequence<T> {
 }
 
 impl<T> Sequence<T> {
+    /// The sequence of no elements. Takes no memory.
+    pub fn empty(alloc: Global) -> Sequence<T>
+        ensures { result ≡ [] }
+    {
+        Sequence::from_vec(Vec::new(alloc))
+    }
+
     /// The sequence of the vector's elements.
     pub fn from_vec(elements: Vec<T>) -> Sequence<T>
         ensures { result ≡ elements.items }

@@ -3,25 +3,11 @@ ghost use Rattle.aig_graph.specs.Building.{without_gates};
 ghost use Rattle.aig_graph.specs.Graph.{variables_end, IsLiteralOf};
 
 use crate::{
-    Aig, AigBuilder, BuildError, Circuit, ClosedSet, Lit, NoMemory, Props, Reset, Sequence,
-    Symbols, count, is_closed, reset_value, set_laws, stream_laws, value_laws,
+    Aig, AigBuilder, BuildError, Circuit, ClosedSet, Lit, NoMemory, Props, Reset, Symbols, count,
+    is_closed, reset_value, set_laws, stream_laws, value_laws,
 };
 use std::alloc::Global;
 use std::test::Fail;
-
-fn no_symbols(alloc: Global) -> Symbols
-    ensures { result ≡ record { inputs = []; latches = []; outputs = []; bad = []; constraints = []; justice = []; fairness = [] } }
-{
-    Symbols {
-        inputs: Sequence::from_vec(Vec::new(alloc)),
-        latches: Sequence::from_vec(Vec::new(alloc)),
-        outputs: Sequence::from_vec(Vec::new(alloc)),
-        bad: Sequence::from_vec(Vec::new(alloc)),
-        constraints: Sequence::from_vec(Vec::new(alloc)),
-        justice: Sequence::from_vec(Vec::new(alloc)),
-        fairness: Sequence::from_vec(Vec::new(alloc)),
-    }
-}
 
 /// Two inputs and two latches.
 fn two_latches(alloc: Global) -> Result<AigBuilder, BuildError>
@@ -42,24 +28,12 @@ fn gate_behind_two_latches(alloc: Global) -> Result<Aig, BuildError>
     Ok(builder.finish())
 }
 
-fn no_literals(alloc: Global) -> Sequence<Lit>
-    ensures { result ≡ [] }
-{
-    Sequence::from_vec(Vec::new(alloc))
-}
-
 fn with_output(alloc: Global, aig: Aig, output: Lit) -> Result<Circuit, BuildError>
     requires { IsLiteralOf aig output }
 {
     let outputs = Vec::from_array(alloc, [output])?;
-    let props = Props {
-        outputs: Sequence::from_vec(outputs),
-        bad: no_literals(alloc),
-        constraints: no_literals(alloc),
-        justice: Sequence::from_vec(Vec::new(alloc)),
-        fairness: no_literals(alloc),
-    };
-    Ok(Circuit::new(aig, props, no_symbols(alloc)))
+    let props = Props::of_outputs(alloc, outputs);
+    Ok(Circuit::new(aig, props, Symbols::none(alloc)))
 }
 
 /// The gate of two latches, negated, as the one output.

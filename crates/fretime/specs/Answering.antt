@@ -1,9 +1,10 @@
 -- What becomes of a reader's bytes: the retimed circuit of those bytes, whose text is written, or an error.
-use Rattle.std.specs.Prelude.{ℕ, ◌≡◌, ◌⊎◌, List, [], Option, Some, Result, Ok, Err}
+use Rattle.std.specs.Prelude.{ℕ, ◌≡◌, ◌⊎◌, List, [], Option, Some, true, Result, Ok, Err}
 use Rattle.counted_io.specs.Input.{Input}
 use Rattle.counted_io.specs.Output.{Output, WritesPart, one_more}
 use Rattle.aag_format.specs.declared.fault.ReadError.{ReadError}
 use Rattle.aag_format.specs.declared.fault.ReadError.TheVariants.{NoMemory, Device}
+use Rattle.aag_format.specs.Codes.{is_fault_of_bytes}
 use Rattle.aag_format.specs.Reading.{read_bytes}
 use Rattle.aag_format.specs.Text.{text}
 use Rattle.aig_graph.specs.Circuits.{Network}
@@ -31,10 +32,11 @@ pub record IsMemoryRefusal (old new : Input) (e : ReadError) : Type 0 where
   pub error : e ≡ NoMemory
   pub failures : new.failures ≡ old.failures
 
--- the bytes, read to their end, have this fault
+-- the bytes, read to their end, have this fault, which is none of memory's or of the reader
 pub record IsFaultOfBytes (old new : Input) (e : ReadError) : Type 0 where
   pub read : ReadsToEnd old new
   pub fault : ReadsAs old (Err e)
+  pub of_bytes : is_fault_of_bytes e ≡ true
 
 -- why there is no circuit
 abbrev pub IsReadError : Input → Input → ReadError → Type 0

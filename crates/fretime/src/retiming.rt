@@ -103,7 +103,7 @@ fn left_alone(alloc: Global, circuit: Circuit, kept_free: Sequence<u32>) -> Reti
         circuit,
         kept_free,
         read_latches,
-        frames: Sequence::from_vec(Vec::new(alloc)),
+        frames: Sequence::empty(alloc),
     }
 }
 

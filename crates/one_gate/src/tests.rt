@@ -2,35 +2,9 @@ ghost use Rattle.std.specs.Prelude.{◌≡◌, ◌<◌, ◌∷◌, [], All, IfOk
 ghost use Rattle.aig_graph.specs.Graph.{Graph, variable, variables_end};
 
 use crate::{HelpingGate, first_helping_gate, known_latches};
-use aig_graph::{Aig, AigBuilder, Circuit, Lit, Props, Reset, Sequence, Symbols};
+use aig_graph::{Aig, AigBuilder, Circuit, Lit, Props, Reset, Symbols};
 use std::alloc::Global;
 use std::test::Fail;
-
-fn no_symbols(alloc: Global) -> Symbols
-    ensures { result ≡ record { inputs = []; latches = []; outputs = []; bad = []; constraints = []; justice = []; fairness = [] } }
-{
-    Symbols {
-        inputs: Sequence::from_vec(Vec::new(alloc)),
-        latches: Sequence::from_vec(Vec::new(alloc)),
-        outputs: Sequence::from_vec(Vec::new(alloc)),
-        bad: Sequence::from_vec(Vec::new(alloc)),
-        constraints: Sequence::from_vec(Vec::new(alloc)),
-        justice: Sequence::from_vec(Vec::new(alloc)),
-        fairness: Sequence::from_vec(Vec::new(alloc)),
-    }
-}
-
-fn only_outputs(alloc: Global, outputs: Vec<Lit>) -> Props
-    ensures { result ≡ record { outputs = outputs.items; bad = []; constraints = []; justice = []; fairness = [] } }
-{
-    Props {
-        outputs: Sequence::from_vec(outputs),
-        bad: Sequence::from_vec(Vec::new(alloc)),
-        constraints: Sequence::from_vec(Vec::new(alloc)),
-        justice: Sequence::from_vec(Vec::new(alloc)),
-        fairness: Sequence::from_vec(Vec::new(alloc)),
-    }
-}
 
 /// Two inputs, two latches that hold them, and a gate of both latches.
 fn two_latches(alloc: Global, second: Reset) -> Result<Aig, Fail>
@@ -47,7 +21,7 @@ fn two_latches(alloc: Global, second: Reset) -> Result<Aig, Fail>
 fn circuit(alloc: Global, aig: Aig, outputs: Vec<Lit>) -> Circuit
     requires { All (λ lit. variable lit < variables_end aig) outputs.items }
 {
-    Circuit::new(aig, only_outputs(alloc, outputs), no_symbols(alloc))
+    Circuit::new(aig, Props::of_outputs(alloc, outputs), Symbols::none(alloc))
 }
 
 #[test]

@@ -15,7 +15,8 @@ use std::alloc::Global;
 fn push_staying(held: &mut Vec<Latch>, plan: &Plan<'_>) -> Result<(), NoMemory>
     requires empty { held.old.items ≡ [] }
     requires closed { IsClosedSet plan.now.circuit.now.aig plan.now.members.set.now }
-    ensures { OnOk result (held.new.items ≡ map (latch_for plan.now.circuit.now plan.now.members.set.now)
+    ensures { OnOk result (held.new.items ≡
+        map (latch_for plan.now.circuit.now plan.now.members.set.now)
         (places (keeps plan.now.circuit.now plan.now.members.set.now) (first_gate plan.now.circuit.now.aig))) }
 {
     let aig = plan.aig();
@@ -33,7 +34,8 @@ fn push_border(held: &mut Vec<Latch>, plan: &Plan<'_>, start: &[bool]) -> Result
     requires staying { held.old.items ≡ map (latch_for plan.now.circuit.now plan.now.members.set.now)
         (places (keeps plan.now.circuit.now plan.now.members.set.now) (first_gate plan.now.circuit.now.aig)) }
     requires start { start.now ≡ table (variables_end plan.now.circuit.now.aig) (value_at_start plan.now.circuit.now.aig) }
-    ensures { OnOk result (held.new.items ≡ map (latch_for plan.now.circuit.now plan.now.members.set.now)
+    ensures { OnOk result (held.new.items ≡
+        map (latch_for plan.now.circuit.now plan.now.members.set.now)
         (places (keeps plan.now.circuit.now plan.now.members.set.now) (variables_end plan.now.circuit.now.aig))) }
 {
     let aig = plan.aig();
@@ -48,7 +50,8 @@ fn push_border(held: &mut Vec<Latch>, plan: &Plan<'_>, start: &[bool]) -> Result
 
 fn moved_latches(alloc: Global, plan: &Plan<'_>) -> Result<Vec<Latch>, NoMemory>
     requires { IsClosedSet plan.now.circuit.now.aig plan.now.members.set.now }
-    ensures { IfOk result (λ latches. latches.items ≡ map (latch_for plan.now.circuit.now plan.now.members.set.now)
+    ensures { IfOk result (λ latches. latches.items ≡
+        map (latch_for plan.now.circuit.now plan.now.members.set.now)
         (places (keeps plan.now.circuit.now plan.now.members.set.now) (variables_end plan.now.circuit.now.aig))) }
 {
     let start = values_at_start(alloc, plan.aig())?;
@@ -61,7 +64,8 @@ fn moved_latches(alloc: Global, plan: &Plan<'_>) -> Result<Vec<Latch>, NoMemory>
 /// Adds the gates outside the set, in old order.
 fn push_outer(made: &mut Vec<Gate>, plan: &Plan<'_>) -> Result<(), NoMemory>
     requires { made.old.items ≡ [] }
-    ensures { OnOk result (made.new.items ≡ map (outer_gate plan.now.circuit.now plan.now.members.set.now)
+    ensures { OnOk result (made.new.items ≡
+        map (outer_gate plan.now.circuit.now plan.now.members.set.now)
         (places (is_outer plan.now.circuit.now.aig plan.now.members.set.now) (variables_end plan.now.circuit.now.aig))) }
 {
     let aig = plan.aig();
@@ -77,7 +81,8 @@ fn push_outer(made: &mut Vec<Gate>, plan: &Plan<'_>) -> Result<(), NoMemory>
 /// Adds a copy of each gate of the set, in old order.
 fn push_copies(made: &mut Vec<Gate>, plan: &Plan<'_>) -> Result<(), NoMemory>
     requires { IsClosedSet plan.now.circuit.now.aig plan.now.members.set.now }
-    ensures { OnOk result (made.new.items ≡ made.old.items ++ map (copied_gate plan.now.circuit.now plan.now.members.set.now) plan.now.members.set.now) }
+    ensures { OnOk result (made.new.items ≡ made.old.items ++
+        map (copied_gate plan.now.circuit.now plan.now.members.set.now) plan.now.members.set.now) }
 {
     let aig = plan.aig();
     let first = 1 + aig.inputs() as usize + aig.latches().len();
@@ -90,7 +95,8 @@ fn push_copies(made: &mut Vec<Gate>, plan: &Plan<'_>) -> Result<(), NoMemory>
 
 fn moved_gates(alloc: Global, plan: &Plan<'_>) -> Result<Vec<Gate>, NoMemory>
     requires { IsClosedSet plan.now.circuit.now.aig plan.now.members.set.now }
-    ensures { IfOk result (λ gates. gates.items ≡ (moved_graph plan.now.circuit.now plan.now.members.set.now).gates) }
+    ensures { IfOk result (λ gates. gates.items ≡
+        (moved_graph plan.now.circuit.now plan.now.members.set.now).gates) }
 {
     let mut made = Vec::with_capacity(alloc, plan.aig().gates().len())?;
     push_outer(&mut made, plan)?;
@@ -102,7 +108,8 @@ fn moved_gates(alloc: Global, plan: &Plan<'_>) -> Result<Vec<Gate>, NoMemory>
 pub(crate) fn moved_aig(alloc: Global, plan: &Plan<'_>) -> Result<Aig, NoMemory>
     requires closed { IsClosedSet plan.now.circuit.now.aig plan.now.members.set.now }
     requires room { variables_end (moved_graph plan.now.circuit.now plan.now.members.set.now) ≤ 2 ^ 28 }
-    ensures value { IfOk result (λ aig. aig ≡ moved_graph plan.now.circuit.now plan.now.members.set.now) }
+    ensures value { IfOk result (λ aig. aig ≡
+        moved_graph plan.now.circuit.now plan.now.members.set.now) }
     ensures graph { OnOk result (IsGraph plan.now.circuit.now.aig) }
 {
     let latches = moved_latches(alloc, plan)?;

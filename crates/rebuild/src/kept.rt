@@ -23,7 +23,8 @@ pub(crate) fn latch_of(aig: &Aig, var: usize) -> Option<Latch>
 /// Whether a latch holds the variable after the move, where it is told whether the variable is read from outside.
 fn is_kept(aig: &Aig, members: &Members<'_>, read: bool, var: usize) -> bool
     requires { var < length members.now.marks.items }
-    ensures { result ≡ (is_free_latch (latch_at aig.now var) || ((is_known (latch_at aig.now var) || has members.now.set.now var) && read)) }
+    ensures { result ≡ (is_free_latch (latch_at aig.now var) ||
+        ((is_known (latch_at aig.now var) || has members.now.set.now var) && read)) }
 {
     match latch_of(aig, var) {
         Some(latch) => latch.reset == Reset::Free || read,
@@ -55,7 +56,8 @@ pub(crate) fn kept_marks(
     members: &Members<'_>,
 ) -> Result<Vec<bool>, NoMemory>
     requires { length members.now.marks.items ≡ variables_end circuit.now.aig }
-    ensures { IfOk result (λ kept. kept.items ≡ table (variables_end circuit.now.aig) (keeps circuit.now members.now.set.now)) }
+    ensures { IfOk result (λ kept. kept.items ≡
+        table (variables_end circuit.now.aig) (keeps circuit.now members.now.set.now)) }
 {
     let mut read = vec![in alloc; false; circuit.aig().variables()]?;
     let marks = read.as_mut_slice();
@@ -78,7 +80,8 @@ pub(crate) fn outer_marks(
     aig: &Aig,
     members: &Members<'_>,
 ) -> Result<Vec<bool>, NoMemory>
-    ensures { IfOk result (λ outer. outer.items ≡ table (length members.now.marks.items) (is_outer aig.now members.now.set.now)) }
+    ensures { IfOk result (λ outer. outer.items ≡
+        table (length members.now.marks.items) (is_outer aig.now members.now.set.now)) }
 {
     let first = 1 + aig.inputs() as usize + aig.latches().len();
     let mut outer = Vec::with_capacity(alloc, members.marks.len())?;

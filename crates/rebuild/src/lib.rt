@@ -13,3 +13,6 @@ mod tables;
 mod variables;
 
 pub use moving::moved;
+
+#[cfg(test)]
+mod tests;

@@ -18,9 +18,11 @@ use std::alloc::Global;
 /// the value are left out.
 pub fn moved(alloc: Global, circuit: &Circuit, set: &ClosedSet) -> Result<Circuit, NoMemory>
     requires closed { IsClosedSet circuit.now.aig set.now }
-    requires room { 1 + circuit.now.aig.inputs + free_latches circuit.now.aig + border_size circuit.now set.now + length circuit.now.aig.gates ≤ 2 ^ 28 }
+    requires room { 1 + circuit.now.aig.inputs + free_latches circuit.now.aig +
+        border_size circuit.now set.now + length circuit.now.aig.gates ≤ 2 ^ 28 }
     ensures value { IfOk result (λ after. after ≡ moved_of circuit.now set.now) }
-    ensures streams { IfOk result (λ after. SameStreams circuit.now after (range_with_len 0 (free_latches circuit.now.aig))) }
+    ensures streams { IfOk result (λ after.
+        SameStreams circuit.now after (range_with_len 0 (free_latches circuit.now.aig))) }
 {
     let plan = Plan::new(alloc, circuit, set)?;
     let aig = moved_aig(alloc, &plan)?;

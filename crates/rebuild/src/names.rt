@@ -35,7 +35,8 @@ fn staying_names(
     names: &[Symbol],
 ) -> Result<Sequence<Symbol>, NoMemory>
     requires { All (λ name. name.position < length plan.now.circuit.now.aig.latches) names.now }
-    ensures { IfOk result (λ copies. copies ≡ map (moved_name plan.now.circuit.now plan.now.members.set.now)
+    ensures { IfOk result (λ copies. copies ≡
+        map (moved_name plan.now.circuit.now plan.now.members.set.now)
         (filter (stays plan.now.circuit.now plan.now.members.set.now) names.now)) }
 {
     let mut copies = Vec::new(alloc);
@@ -49,7 +50,8 @@ fn staying_names(
 
 /// The names after the move.
 pub(crate) fn moved_names(alloc: Global, plan: &Plan<'_>) -> Result<Symbols, NoMemory>
-    ensures { IfOk result (λ symbols. symbols ≡ moved_symbols plan.now.circuit.now plan.now.members.set.now) }
+    ensures { IfOk result (λ symbols. symbols ≡
+        moved_symbols plan.now.circuit.now plan.now.members.set.now) }
 {
     let symbols = plan.circuit.symbols();
     let inputs = copy_names(alloc, symbols.inputs.as_slice())?;

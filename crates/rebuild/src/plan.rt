@@ -22,8 +22,10 @@ pub(crate) struct Plan<'a> {
     ghost small: { variables_end circuit.now.aig ≤ 2 ^ 28 },
     ghost marked: { length members.marks.items ≡ variables_end circuit.now.aig },
     ghost held: { kept.items ≡ table (variables_end circuit.now.aig) (keeps circuit.now members.set.now) },
-    ghost read: { variables.outside.items ≡ table (variables_end circuit.now.aig) (outside_variable circuit.now members.set.now) },
-    ghost numbered: { variables.copies.items ≡ table (variables_end circuit.now.aig) (copy_variable circuit.now members.set.now) },
+    ghost read: { variables.outside.items ≡
+        table (variables_end circuit.now.aig) (outside_variable circuit.now members.set.now) },
+    ghost numbered: { variables.copies.items ≡
+        table (variables_end circuit.now.aig) (copy_variable circuit.now members.set.now) },
     ghost room: { copies_start circuit.now members.set.now + count_below (has members.set.now) (variables_end circuit.now.aig) ≤ 2 ^ 28 },
 }
 
@@ -123,7 +125,9 @@ impl<'a> Plan<'a> {
     pub(crate) fn outer_gate(&self, gate: Gate) -> Gate
         requires first { variable gate.rhs0 < variables_end self.now.circuit.now.aig }
         requires second { variable gate.rhs1 < variables_end self.now.circuit.now.aig }
-        ensures { result ≡ gate_of (outside self.now.circuit.now self.now.members.set.now gate.rhs0) (outside self.now.circuit.now self.now.members.set.now gate.rhs1) }
+        ensures { result ≡ gate_of
+            (outside self.now.circuit.now self.now.members.set.now gate.rhs0)
+            (outside self.now.circuit.now self.now.members.set.now gate.rhs1) }
     {
         Gate::of(self.outside(gate.rhs0), self.outside(gate.rhs1))
     }
@@ -132,7 +136,9 @@ impl<'a> Plan<'a> {
     pub(crate) fn copied_gate(&self, gate: Gate) -> Gate
         requires first { variable gate.rhs0 < variables_end self.now.circuit.now.aig }
         requires second { variable gate.rhs1 < variables_end self.now.circuit.now.aig }
-        ensures { result ≡ gate_of (copied self.now.circuit.now self.now.members.set.now gate.rhs0) (copied self.now.circuit.now self.now.members.set.now gate.rhs1) }
+        ensures { result ≡ gate_of
+            (copied self.now.circuit.now self.now.members.set.now gate.rhs0)
+            (copied self.now.circuit.now self.now.members.set.now gate.rhs1) }
     {
         Gate::of(self.copied(gate.rhs0), self.copied(gate.rhs1))
     }
@@ -140,7 +146,10 @@ impl<'a> Plan<'a> {
     /// A latch that stays, after the move.
     pub(crate) fn staying_latch(&self, latch: Latch) -> Latch
         requires { variable latch.next < variables_end self.now.circuit.now.aig }
-        ensures { result ≡ record { next = outside self.now.circuit.now self.now.members.set.now latch.next; reset = latch.reset } }
+        ensures { result ≡ record {
+          next = outside self.now.circuit.now self.now.members.set.now latch.next;
+          reset = latch.reset;
+        } }
     {
         Latch {
             next: self.outside(latch.next),
@@ -152,7 +161,10 @@ impl<'a> Plan<'a> {
     pub(crate) fn border_latch(&self, var: usize, value: bool) -> Latch
         requires within { var < variables_end self.now.circuit.now.aig }
         requires member { has self.now.members.set.now var ≡ true }
-        ensures { result ≡ record { next = 2 * copy_variable self.now.circuit.now self.now.members.set.now var; reset = reset_to value } }
+        ensures { result ≡ record {
+          next = 2 * copy_variable self.now.circuit.now self.now.members.set.now var;
+          reset = reset_to value;
+        } }
     {
         Latch {
             next: self.copy_of(var),
@@ -163,8 +175,11 @@ impl<'a> Plan<'a> {
     /// The position after the move of the latch at a position, if it stays.
     pub(crate) fn staying_position(&self, position: u32) -> Option<u32>
         requires { position < length self.now.circuit.now.aig.latches }
-        ensures { result ≡ (if keeps self.now.circuit.now self.now.members.set.now (first_latch self.now.circuit.now.aig + position)
-            then Some (count_below (keeps self.now.circuit.now self.now.members.set.now) (first_latch self.now.circuit.now.aig + position)) else None) }
+        ensures { result ≡
+            (if keeps self.now.circuit.now self.now.members.set.now (first_latch self.now.circuit.now.aig + position)
+            then Some (count_below (keeps self.now.circuit.now self.now.members.set.now)
+            (first_latch self.now.circuit.now.aig + position))
+            else None) }
     {
         let first = 1 + self.aig().inputs();
         let var = (first + position) as usize;

@@ -10,7 +10,8 @@ use std::alloc::Global;
 /// What is read from outside the set in the place of each literal.
 fn outside_all(alloc: Global, plan: &Plan<'_>, lits: &[Lit]) -> Result<Sequence<Lit>, NoMemory>
     requires { All (λ lit. variable lit < variables_end plan.now.circuit.now.aig) lits.now }
-    ensures { IfOk result (λ mapped. mapped ≡ map (outside plan.now.circuit.now plan.now.members.set.now) lits.now) }
+    ensures { IfOk result (λ mapped. mapped ≡
+        map (outside plan.now.circuit.now plan.now.members.set.now) lits.now) }
 {
     let mut mapped = Vec::with_capacity(alloc, lits.len())?;
     for lit in lits {
@@ -25,7 +26,8 @@ fn outside_justice(
     justice: &[Sequence<Lit>],
 ) -> Result<Sequence<Sequence<Lit>>, NoMemory>
     requires { All (λ lits. All (λ lit. variable lit < variables_end plan.now.circuit.now.aig) lits) justice.now }
-    ensures { IfOk result (λ mapped. mapped ≡ map (map (outside plan.now.circuit.now plan.now.members.set.now)) justice.now) }
+    ensures { IfOk result (λ mapped. mapped ≡
+        map (map (outside plan.now.circuit.now plan.now.members.set.now)) justice.now) }
 {
     let mut mapped = Vec::with_capacity(alloc, justice.len())?;
     for lits in justice {
@@ -36,7 +38,8 @@ fn outside_justice(
 
 /// The properties after the move.
 pub(crate) fn outside_props(alloc: Global, plan: &Plan<'_>) -> Result<Props, NoMemory>
-    ensures value { IfOk result (λ props. props ≡ moved_props plan.now.circuit.now plan.now.members.set.now) }
+    ensures value { IfOk result (λ props. props ≡
+        moved_props plan.now.circuit.now plan.now.members.set.now) }
     ensures network { OnOk result (IsNetwork plan.now.circuit.now) }
 {
     let props = plan.circuit.props();

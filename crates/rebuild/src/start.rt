@@ -30,7 +30,8 @@ fn value_of(values: &[bool], lit: Lit) -> bool
 fn gate_value(values: &[bool], gate: Gate) -> bool
     requires first { variable gate.rhs0 < length values.now }
     requires second { variable gate.rhs1 < length values.now }
-    ensures { result ≡ (signed gate.rhs0 (tells values.now (variable gate.rhs0)) && signed gate.rhs1 (tells values.now (variable gate.rhs1))) }
+    ensures { result ≡ (signed gate.rhs0 (tells values.now (variable gate.rhs0)) &&
+        signed gate.rhs1 (tells values.now (variable gate.rhs1))) }
 {
     value_of(values, gate.rhs0) && value_of(values, gate.rhs1)
 }
@@ -70,7 +71,8 @@ fn push_gates(values: &mut Vec<bool>, aig: &Aig) -> Result<(), NoMemory>
 
 /// By variable its value at step 0, where inputs and free latches are 0.
 pub(crate) fn values_at_start(alloc: Global, aig: &Aig) -> Result<Vec<bool>, NoMemory>
-    ensures { IfOk result (λ values. values.items ≡ table (variables_end aig.now) (value_at_start aig.now)) }
+    ensures { IfOk result (λ values. values.items ≡
+        table (variables_end aig.now) (value_at_start aig.now)) }
 {
     let mut values = Vec::with_capacity(alloc, aig.variables())?;
     push_inputs(&mut values, aig)?;

@@ -29,7 +29,8 @@ pub(crate) fn count_marks(marks: &[bool]) -> u32
 /// By place the number of marks before it, counted from `first` on.
 pub(crate) fn number_marks(alloc: Global, marks: &[bool], first: u32) -> Result<Vec<u32>, NoMemory>
     requires { first + length marks.now ≤ 2 ^ 30 }
-    ensures { IfOk result (λ numbers. numbers.items ≡ table (length marks.now) (λ v. first + count_below (tells marks.now) v)) }
+    ensures { IfOk result (λ numbers. numbers.items ≡ table (length marks.now)
+        (λ v. first + count_below (tells marks.now) v)) }
 {
     let mut numbers = Vec::with_capacity(alloc, marks.len())?;
     let mut number = first;
@@ -51,7 +52,8 @@ pub(crate) fn renumber(
     requires same { length outer.now ≡ length kept.now }
     requires few { first + length kept.now ≤ 2 ^ 30 }
     requires few_more { next + length kept.now ≤ 2 ^ 30 }
-    ensures { IfOk result (λ numbers. numbers.items ≡ table (length kept.now) (numbered (tells kept.now) (tells outer.now) first next)) }
+    ensures { IfOk result (λ numbers. numbers.items ≡
+        table (length kept.now) (numbered (tells kept.now) (tells outer.now) first next)) }
 {
     let mut numbers = Vec::with_capacity(alloc, kept.len())?;
     let mut kept_number = first;

@@ -27,8 +27,10 @@ pub(crate) fn new_variables(
 ) -> Result<Variables, NoMemory>
     requires marked { length members.now.marks.items ≡ variables_end circuit.now.aig }
     requires kept { kept.now ≡ table (variables_end circuit.now.aig) (keeps circuit.now members.now.set.now) }
-    ensures outside { IfOk result (λ v. v.outside.items ≡ table (variables_end circuit.now.aig) (outside_variable circuit.now members.now.set.now)) }
-    ensures copies { IfOk result (λ v. v.copies.items ≡ table (variables_end circuit.now.aig) (copy_variable circuit.now members.now.set.now)) }
+    ensures outside { IfOk result (λ v. v.outside.items ≡
+        table (variables_end circuit.now.aig) (outside_variable circuit.now members.now.set.now)) }
+    ensures copies { IfOk result (λ v. v.copies.items ≡
+        table (variables_end circuit.now.aig) (copy_variable circuit.now members.now.set.now)) }
 {
     let aig = circuit.aig();
     let marks = outer_marks(alloc, aig, members)?;
