@@ -1,5 +1,5 @@
 -- What becomes of a reader's bytes: the retimed circuit of those bytes, whose text is written, or an error.
-use Rattle.std.specs.Prelude.{ℕ, ◌≡◌, ◌⊎◌, List, [], Option, Some, true, Result, Ok, Err}
+use Rattle.std.specs.Prelude.{ℕ, ◌≡◌, ◌⊎◌, List, [], Some, true, Result, Ok, Err}
 use Rattle.counted_io.specs.Input.{Input}
 use Rattle.counted_io.specs.Output.{Output, WritesPart, one_more}
 use Rattle.aag_format.specs.declared.fault.ReadError.{ReadError}

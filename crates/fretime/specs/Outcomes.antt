@@ -1,5 +1,4 @@
 -- How a line ends, by why it wasn't done.
-use Rattle.aag_format.specs.declared.fault.ReadError.{ReadError}
 use Rattle.aag_format.specs.declared.fault.ReadError.TheVariants.{NoMemory, Device}
 use Rattle.fretime.specs.declared.errors.BytesError.{BytesError}
 use Rattle.fretime.specs.declared.errors.BytesError.TheVariants.{Read, Retime, Write}
