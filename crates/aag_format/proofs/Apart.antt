@@ -5,8 +5,8 @@ use Rattle.std.proofs.lemmas.Bool.{eq-eqb, ne_eqb, both_ways}
 use Rattle.std.proofs.lemmas.List.{get_or_append_left, get_or_at, length-append}
 use Rattle.std.proofs.lemmas.List.Quantifiers.{all_pairs_push}
 use Rattle.std.proofs.lemmas.List.Folds.{list_any_at, list_any_none}
+use Rattle.variable_tables.specs.Marking.{has}
 use Rattle.aig_graph.specs.Graph.{variable}
-use Rattle.aig_graph.specs.Border.{has}
 use Rattle.aag_format.specs.declared.raw.Header.{Header}
 use Rattle.aag_format.specs.Raw.{Raw, IsDefinable, defined}
 use Rattle.aag_format.proofs.Checks.{AreWithin, Defines}

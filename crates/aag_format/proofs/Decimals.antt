@@ -7,7 +7,7 @@ use Rattle.std.proofs.lemmas.List.Folds.{list_all-append}
 use Rattle.std.proofs.lemmas.Bool.{not-true, and_parts, and_from, lt-ltb, ne_eqb, cond-true, cond-false, cond_both, not_from_false}
 use Rattle.std.proofs.lemmas.Fmt.{digits_decimal, digits_value-decimal, decimal_nonempty}
 use Rattle.std.proofs.lemmas.Str.Parse.{IsNumeralModel, numerals_by_fold}
-use Rattle.counted_io.specs.Row.{row, spaced}
+use Rattle.counted_io.specs.Line.{line, spaced}
 use Rattle.aag_format.specs.Lines.{with_front, lines, pieces, is_number, digits_value, numbers_of}
 
 -- ---- the digits of a number
@@ -16,13 +16,13 @@ use Rattle.aag_format.specs.Lines.{with_front, lines, pieces, is_number, digits_
 digits_model : IsNumeralModel (λ ds. list_all is_ascii_digit ds ≡ true) digits_value
 digits_model = numerals_by_fold (λ ds. list_all is_ascii_digit ds ≡ true) (search rules) (λ n ds. fold (λ value digit. 10 * value + (digit - 48)) n ds) (search rules)
 
-decimal-is_number : (n : ℕ) → n < 2 ^ 64 → is_number (decimal n) ≡ true
+pub decimal-is_number : (n : ℕ) → n < 2 ^ 64 → is_number (decimal n) ≡ true
 decimal-is_number n small =
     and_from (not (nat_eq (length (decimal n)) 0)) (list_all is_ascii_digit (decimal n))
     (not_from_false (nat_eq (length (decimal n)) 0) (ne_eqb (length (decimal n)) 0 (λ e. absurd (omega (arith, decimal_nonempty n small)))))
     (digits_decimal digits_model n small)
 
-decimal-value : (n : ℕ) → n < 2 ^ 64 → digits_value (decimal n) ≡ n
+pub decimal-value : (n : ℕ) → n < 2 ^ 64 → digits_value (decimal n) ≡ n
 decimal-value n small = digits_value-decimal digits_model n small
 
 -- ---- what no digit is
@@ -46,7 +46,7 @@ pub decimal-lacks : (b n : ℕ) → b < 48 → lacks b (decimal n) ≡ true
 unfolding digits
 decimal-lacks b n low = digits_onto-lacks b 64 n [] low refl
 
-lacks-append : (b : ℕ) (xs ys : List ℕ) → lacks b xs ≡ true → lacks b ys ≡ true → lacks b (xs ++ ys) ≡ true
+pub lacks-append : (b : ℕ) (xs ys : List ℕ) → lacks b xs ≡ true → lacks b ys ≡ true → lacks b (xs ++ ys) ≡ true
 lacks-append b xs ys front back = list_all-append (λ c. not (nat_eq c b)) xs ys ∙ and_from (lacks b xs) (lacks b ys) front back
 
 -- ---- the numbers of a row
@@ -56,8 +56,8 @@ abbrev pub row_line : List ℕ → List ℕ
 row_line [] = []
 row_line (n ∷ ns) = decimal n ++ flat_map spaced ns
 
-pub row-is_line : (ns : List ℕ) → row ns ≡ row_line ns ++ 10 ∷ []
-unfolding row
+pub row-is_line : (ns : List ℕ) → line ns ≡ row_line ns ++ 10 ∷ []
+unfolding line
 row-is_line [] = refl
 row-is_line (n ∷ ns) = sym (append_assoc (decimal n) (flat_map spaced ns) (10 ∷ []))
 
@@ -67,7 +67,7 @@ unfolding spaced
 spaced-lacks_newline [] = refl
 spaced-lacks_newline (n ∷ ns) = lacks-append 10 (decimal n) (flat_map spaced ns) (decimal-lacks 10 n (omega arith)) (spaced-lacks_newline ns)
 
-row_line-lacks_newline : (ns : List ℕ) → lacks 10 (row_line ns) ≡ true
+pub row_line-lacks_newline : (ns : List ℕ) → lacks 10 (row_line ns) ≡ true
 row_line-lacks_newline [] = refl
 row_line-lacks_newline (n ∷ ns) = lacks-append 10 (decimal n) (flat_map spaced ns) (decimal-lacks 10 n (omega arith)) (spaced-lacks_newline ns)
 
@@ -128,14 +128,14 @@ lines-at_newline (b ∷ line) rest clean =
     ∙ ap (with_front b) (lines-at_newline line rest parts.1)
 
 -- the line of a row, and the lines of rows
-pub lines-row : (ns rest : List ℕ) → lines (row ns ++ rest) ≡ row_line ns ∷ lines rest
+pub lines-row : (ns rest : List ℕ) → lines (line ns ++ rest) ≡ row_line ns ∷ lines rest
 lines-row ns rest =
     ap (λ (text : List ℕ). lines (text ++ rest)) (row-is_line ns) ∙ ap lines (append_assoc (row_line ns) (10 ∷ []) rest)
     ∙ lines-at_newline (row_line ns) rest (row_line-lacks_newline ns)
 
-pub lines-rows : {X : Type 0} (numbers : X → List ℕ) (xs : List X) (rest : List ℕ) → lines (flat_map (λ x. row (numbers x)) xs ++ rest) ≡ map (λ x. row_line (numbers x)) xs ++ lines rest
+pub lines-rows : {X : Type 0} (numbers : X → List ℕ) (xs : List X) (rest : List ℕ) → lines (flat_map (λ x. line (numbers x)) xs ++ rest) ≡ map (λ x. row_line (numbers x)) xs ++ lines rest
 lines-rows numbers [] rest = refl
 lines-rows numbers (x ∷ xs) rest =
-    ap lines (append_assoc (row (numbers x)) (flat_map (λ y. row (numbers y)) xs) rest)
-    ∙ lines-row (numbers x) (flat_map (λ y. row (numbers y)) xs ++ rest)
+    ap lines (append_assoc (line (numbers x)) (flat_map (λ y. line (numbers y)) xs) rest)
+    ∙ lines-row (numbers x) (flat_map (λ y. line (numbers y)) xs ++ rest)
     ∙ ap (λ (ls : List (List ℕ)). row_line (numbers x) ∷ ls) (lines-rows numbers xs rest)

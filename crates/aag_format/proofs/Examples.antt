@@ -12,7 +12,7 @@ use Rattle.aag_format.specs.Files.{header_of}
 use Rattle.aag_format.specs.Meaning.{circuit_of}
 use Rattle.aag_format.specs.Reading.{◌>>=◌, read_bytes, read_lines, read_line, read_header, checked_header, is_resolved}
 use Rattle.aag_format.specs.Text.{text, latch_row, gate_row, symbol_line}
-use Rattle.counted_io.specs.Row.{row, spaced}
+use Rattle.counted_io.specs.Line.{line, spaced}
 
 -- two inputs, two latches behind them and a gate
 abbrev two_latches : Network
@@ -32,7 +32,7 @@ unfolding read_bytes read_lines read_line read_header checked_header is_resolved
 read_example = refl
 
 text_example : text two_latches ≡ codes "aag 5 2 2 1 1\n2\n4\n6 2\n8 4\n10\n10 8 6\n"
-unfolding text latch_row gate_row symbol_line row spaced digits
+unfolding text latch_row gate_row symbol_line line spaced digits
 text_example = refl
 
 -- files with a fault each
@@ -52,7 +52,7 @@ rewritten_examples : (rewritten (codes "aag 9 1 0 1 1\n6\n18\n18 7 6\n") ≡ Ok 
     × (rewritten (codes "aag 01 1 0 1 0\n2\n02") ≡ Ok (codes "aag 1 1 0 1 0\n2\n2\n"))
     × (rewritten (codes "aag 1 1 0 1 0 0 0 0 0\n2\n2\n") ≡ Ok (codes "aag 1 1 0 1 0\n2\n2\n"))
     × (rewritten (codes "aag 268435455 0 0 0 0") ≡ Ok (codes "aag 0 0 0 0 0\n"))
-unfolding read_bytes read_lines read_line read_header checked_header is_resolved lines pieces numbers_of header_of circuit_of text latch_row gate_row symbol_line row spaced digits
+unfolding read_bytes read_lines read_line read_header checked_header is_resolved lines pieces numbers_of header_of circuit_of text latch_row gate_row symbol_line line spaced digits
 rewritten_examples = (refl, refl, refl, refl, refl)
 
 -- headers and lines of another form, and limits

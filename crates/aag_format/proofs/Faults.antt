@@ -2,8 +2,8 @@
 use Rattle.std.proofs.Common.{ℕ, ◌+◌, ◌-◌, ◌^◌, ◌≡◌, List, [], ◌∷◌, Option, Some, None, Result, Ok, Err, Bool, true, false, cond, nat_lt, length, refl, sym, subst}
 use Rattle.aig_graph.specs.declared.graph.Reset.{Reset}
 use Rattle.aig_graph.specs.declared.graph.Reset.TheVariants.{Zero}
+use Rattle.variable_tables.specs.Marking.{has}
 use Rattle.aig_graph.specs.Graph.{variable}
-use Rattle.aig_graph.specs.Border.{has}
 use Rattle.aig_graph.specs.Circuits.{Network}
 use Rattle.aag_format.specs.declared.raw.Header.{Header}
 use Rattle.aag_format.specs.declared.fault.ReadError.{ReadError}

@@ -7,8 +7,8 @@ use Rattle.std.proofs.lemmas.List.Folds.{Any-from_list_any, list_any_at}
 use Rattle.std.proofs.lemmas.List.FromFn.{length-enumerate_from, get_or-enumerate_from}
 use Rattle.std.proofs.lemmas.List.Sums.{AllPass-from_list_all, list_all-from_AllPass}
 use Rattle.std.proofs.lemmas.Option.{slice_get_within, slice_get-get_or, get_or_from_slice_get}
+use Rattle.variable_tables.specs.Marking.{has}
 use Rattle.aig_graph.specs.Graph.{variable}
-use Rattle.aig_graph.specs.Border.{has}
 use Rattle.aag_format.specs.declared.raw.RawLatch.{RawLatch}
 use Rattle.aag_format.specs.declared.raw.RawGate.{RawGate}
 use Rattle.aag_format.specs.Raw.{Raw, IsKnownAmong, IsResolved, defined, defined_before}

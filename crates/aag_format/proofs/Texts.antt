@@ -11,7 +11,7 @@ use Rattle.aig_graph.specs.declared.graph.Reset.TheVariants.{Zero, One, Free}
 use Rattle.aig_graph.specs.declared.properties.Symbols.{Symbols}
 use Rattle.aig_graph.specs.Graph.{Graph, IsGraph, IsGateAt, IsLiteralOf, variable, first_latch, first_gate, variables_end}
 use Rattle.aig_graph.specs.Circuits.{Network, IsNetwork}
-use Rattle.counted_io.specs.Row.{row}
+use Rattle.counted_io.specs.Line.{line}
 use Rattle.aag_format.specs.Lines.{with_front, lines}
 use Rattle.aag_format.specs.Files.{header_from, header_of, SpellsLiteral, SpellsLatch, SpellsGate, Spells, IsAsciiFile}
 use Rattle.aag_format.specs.Text.{header_row, latch_row, gate_row, single_rows, numbered_rows, input_rows, property_rows, all_symbols, text}
@@ -50,11 +50,11 @@ regrouped a b b' c d p p' e s f g h = rw (f, g, h) (simp append_assoc)
 
 -- the text, part by part
 text-plain : (c : Network) → IsPlain c
-    → text c ≡ codes "aag " ++ (row (header_numbers c) ++ (input_rows c.aig.inputs ++ (latch_rows c ++ (single_rows c.props.outputs ++ (gate_rows c ++ [])))))
+    → text c ≡ codes "aag " ++ (line (header_numbers c) ++ (input_rows c.aig.inputs ++ (latch_rows c ++ (single_rows c.props.outputs ++ (gate_rows c ++ [])))))
 unfolding text
 text-plain c plain =
-    regrouped (codes "aag ") (row (header_row c)) (row (header_numbers c)) (input_rows c.aig.inputs) (latch_rows c) (property_rows c.props) (single_rows c.props.outputs) (gate_rows c) (all_symbols c.symbols)
-    (ap row (header_row-plain c plain)) (property_rows-plain c plain) (symbols-plain c plain)
+    regrouped (codes "aag ") (line (header_row c)) (line (header_numbers c)) (input_rows c.aig.inputs) (latch_rows c) (property_rows c.props) (single_rows c.props.outputs) (gate_rows c) (all_symbols c.symbols)
+    (ap line (header_row-plain c plain)) (property_rows-plain c plain) (symbols-plain c plain)
 
 -- the lines of each section
 abbrev header_line : Network → List ℕ
@@ -73,7 +73,7 @@ abbrev gate_lines : Network → List (List ℕ)
 gate_lines c = map (λ (e : ℕ × Gate). row_line (gate_row e.0 e.1)) (enumerate_from (first_gate c.aig) c.aig.gates)
 
 -- the first line
-lines-header : (ns rest : List ℕ) → lines (codes "aag " ++ (row ns ++ rest)) ≡ (codes "aag " ++ row_line ns) ∷ lines rest
+lines-header : (ns rest : List ℕ) → lines (codes "aag " ++ (line ns ++ rest)) ≡ (codes "aag " ++ row_line ns) ∷ lines rest
 unfolding lines
 lines-header ns rest = ap (λ (ls : List (List ℕ)). with_front 97 (with_front 97 (with_front 103 (with_front 32 ls)))) (lines-row ns rest)
 

@@ -1,5 +1,7 @@
--- The faults: their numbers, and whose they are.
+-- The faults: their numbers, whose they are, and those of a reader that was not read to its end.
 use Rattle.std.specs.Prelude.{ℕ, Bool, true, false}
+use Rattle.counted_io.specs.declared.reading.ReadAllError.{ReadAllError}
+use Rattle.counted_io.specs.declared.reading.ReadAllError.TheVariants as reading
 use Rattle.aag_format.specs.declared.fault.ReadError.{ReadError}
 use Rattle.aag_format.specs.declared.fault.ReadError.TheVariants.{BadHeader, TooLarge, MaxIndex, BadLine, BadLiteral, DefinedTwice, Undefined, Cycle, BadReset, BadDelta, Truncated, BadSymbol, Trailing, NoMemory, Device}
 
@@ -25,3 +27,8 @@ abbrev pub is_fault_of_bytes : ReadError → Bool
 is_fault_of_bytes NoMemory = false
 is_fault_of_bytes Device = false
 is_fault_of_bytes fault = true
+
+-- the fault where a reader wasn't read to its end
+abbrev pub fault_of_reading : ReadAllError → ReadError
+fault_of_reading reading.NoMemory = NoMemory
+fault_of_reading reading.Device = Device

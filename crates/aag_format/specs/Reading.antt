@@ -3,8 +3,8 @@ use Rattle.std.specs.Prelude.{ℕ, ◌≡◌, ◌+◌, ◌-◌, ◌*◌, ◌^◌
 use Rattle.std.specs.List.{list_any, list_all, enumerate_from}
 use Rattle.aig_graph.specs.declared.graph.Reset.{Reset}
 use Rattle.aig_graph.specs.declared.graph.Reset.TheVariants.{Zero, One, Free}
+use Rattle.variable_tables.specs.Marking.{has}
 use Rattle.aig_graph.specs.Graph.{variable}
-use Rattle.aig_graph.specs.Border.{has}
 use Rattle.aig_graph.specs.Circuits.{Network}
 use Rattle.aag_format.specs.declared.raw.Header.{Header}
 use Rattle.aag_format.specs.declared.raw.RawGate.{RawGate}

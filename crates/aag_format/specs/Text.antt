@@ -10,7 +10,7 @@ use Rattle.aig_graph.specs.declared.properties.Symbol.{Symbol}
 use Rattle.aig_graph.specs.declared.properties.Symbols.{Symbols}
 use Rattle.aig_graph.specs.Graph.{first_latch, first_gate, variables_end}
 use Rattle.aig_graph.specs.Circuits.{Network}
-use Rattle.counted_io.specs.Row.{row}
+use Rattle.counted_io.specs.Line.{line}
 
 -- the numbers up to the last one that isn't 0
 abbrev pub without_last_zeros : List ℕ → List ℕ
@@ -37,15 +37,15 @@ gate_row var gate = 2 * var ∷ gate.rhs0 ∷ gate.rhs1 ∷ []
 
 -- a row of one number for each
 abbrev pub single_rows : List ℕ → List ℕ
-single_rows ns = flat_map (λ n. row (n ∷ [])) ns
+single_rows ns = flat_map (λ n. line (n ∷ [])) ns
 
 -- the rows of numbered things, from a number on
 abbrev pub numbered_rows : {X : Type 0} → (ℕ → X → List ℕ) → ℕ → List X → List ℕ
-numbered_rows numbers first xs = flat_map (λ e. row (numbers e.0 e.1)) (enumerate_from first xs)
+numbered_rows numbers first xs = flat_map (λ e. line (numbers e.0 e.1)) (enumerate_from first xs)
 
 -- the rows of the inputs, whose variables are the first
 abbrev pub input_rows : ℕ → List ℕ
-input_rows inputs = flat_map (λ v. row (2 * v ∷ [])) (range_with_len 1 inputs)
+input_rows inputs = flat_map (λ v. line (2 * v ∷ [])) (range_with_len 1 inputs)
 
 abbrev pub property_rows : Props → List ℕ
 property_rows p =
@@ -68,6 +68,6 @@ all_symbols s =
 -- the ASCII text of a circuit
 unfoldable pub text : Network → List ℕ
 text c =
-    codes "aag " ++ row (header_row c) ++ input_rows c.aig.inputs
+    codes "aag " ++ line (header_row c) ++ input_rows c.aig.inputs
     ++ numbered_rows latch_row (first_latch c.aig) c.aig.latches ++ property_rows c.props
     ++ numbered_rows gate_row (first_gate c.aig) c.aig.gates ++ all_symbols c.symbols

@@ -1,5 +1,6 @@
 ghost use Rattle.std.specs.Prelude.{◌≡◌};
 
+use counted_io::ReadAllError;
 use std::alloc::{AllocError, AllocFailed};
 use thiserror::Error;
 
@@ -100,5 +101,19 @@ impl<T: Drop> From<AllocFailed<T>> for ReadError {
 
     fn from(_error: AllocFailed<T>) -> ReadError {
         ReadError::NoMemory
+    }
+}
+
+impl From<ReadAllError> for ReadError {
+    ghost use Rattle.std.specs.Prelude.{◌≡◌};
+    ghost use Rattle.aag_format.specs.Codes.{fault_of_reading};
+
+    ghost from_gives = { λ error e. e ≡ fault_of_reading error };
+
+    fn from(error: ReadAllError) -> ReadError {
+        match error {
+            ReadAllError::NoMemory => ReadError::NoMemory,
+            ReadAllError::Device => ReadError::Device,
+        }
     }
 }

@@ -2,8 +2,8 @@
 use Rattle.std.proofs.Common.{ℕ, ◌+◌, ◌*◌, ◌^◌, ◌<◌, ◌≤◌, ◌≡◌, inl, inr, length, List, [], ◌∷◌, map, Option, Some, None, Result, Ok, Err, refl, arith, Bool, true, false, cond, nat_eq, nat_lt, nat_le, ap, sym, ◌∙◌, get_or}
 use Rattle.std.proofs.lemmas.Bool.{cond-true, cases_Bool, cases_lt, cases_eq, eq-eqb, ne_eqb, ltb-false, lt-ltb, le-ltb, or_parts}
 use Rattle.std.specs.Option.{option_and_then}
+use Rattle.variable_tables.specs.Marking.{has}
 use Rattle.aig_graph.specs.Graph.{variable}
-use Rattle.aig_graph.specs.Border.{has}
 use Rattle.aig_graph.specs.declared.graph.Reset.{Reset}
 use Rattle.aag_format.specs.declared.raw.Header.{Header}
 use Rattle.aag_format.specs.declared.fault.ReadError.{ReadError}

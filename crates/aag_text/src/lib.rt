@@ -12,7 +12,7 @@ mod table;
 
 pub use aag_format::{ReadError, reading_law, round_trip_law};
 pub use aag_writer::write_aag;
-pub use counted_io::{Counted, CountedRead, CountedWrite, WriteError};
+pub use counted_io::{Counted, CountedRead, CountedWrite, FailAfter, Failure, OneByte, WriteError};
 pub use read::read_aag;
 
 #[cfg(test)]

@@ -1,5 +1,5 @@
 ghost use Rattle.std.specs.Prelude.{◌≡◌, ◌++◌, ◌∷◌, [], ◌==◌, not, length, position, IfOk, OnErr, if◌then◌else◌};
-ghost use Rattle.aig_graph.specs.Border.{has};
+ghost use Rattle.variable_tables.specs.Marking.{has};
 
 use indexmap::IndexSet;
 use std::alloc::{AllocError, Global};

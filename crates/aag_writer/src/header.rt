@@ -1,11 +1,10 @@
-ghost use Rattle.std.specs.Prelude.{◌≡◌, ◌≤◌, length, take, OnOk, OnErr};
-ghost use Rattle.counted_io.specs.Emitting.{Emits, EmitsPart};
-ghost use Rattle.counted_io.specs.Row.{row};
-ghost use Rattle.aag_format.specs.Text.{header_row, without_last_zeros};
-ghost use Rattle.aag_writer.specs.Sections.{header_counts, header_text};
+ghost use Rattle.std.specs.Prelude.{◌≡◌, ◌≤◌, length, take};
+ghost use Rattle.counted_io.specs.Buffered.{Puts};
+ghost use Rattle.aag_format.specs.Text.{without_last_zeros};
+ghost use Rattle.aag_writer.specs.Header.{header_counts, header_text};
 
 use aig_graph::Circuit;
-use counted_io::{CountedWrite, Pending, WriteError};
+use counted_io::{Buffered, CountedWrite};
 
 /// How many numbers a header always has.
 const LEAST: usize = 5;
@@ -46,33 +45,12 @@ fn used(counts: &[u64]) -> usize
     used
 }
 
-/// Puts the header's numbers, and the newline.
-fn put_counts<W: CountedWrite>(
-    pending: &mut Pending,
-    writer: &mut W,
-    circuit: &Circuit,
-) -> Result<(), WriteError>
-    ensures ok { OnOk result (Emits (W.output writer.old) pending.old
-        (W.output writer.new) pending.new (row (header_row circuit.now))) }
-    ensures err { OnErr result (EmitsPart (W.output writer.old) pending.old
-        (W.output writer.new) (row (header_row circuit.now))) }
+/// Puts the first line.
+pub(crate) fn put_header<W: CountedWrite>(out: &mut Buffered<'_, W>, circuit: &Circuit)
+    ensures { Puts W.output out.old out.new (header_text circuit.now) }
 {
     let counts = counts(circuit);
     let len = LEAST + used(&counts[LEAST..]);
-    pending.put_row(writer, &counts[..len])
-}
-
-/// Puts the first line.
-pub fn put_header<W: CountedWrite>(
-    pending: &mut Pending,
-    writer: &mut W,
-    circuit: &Circuit,
-) -> Result<(), WriteError>
-    ensures ok { OnOk result (Emits (W.output writer.old) pending.old
-        (W.output writer.new) pending.new (header_text circuit.now)) }
-    ensures err { OnErr result (EmitsPart (W.output writer.old) pending.old
-        (W.output writer.new) (header_text circuit.now)) }
-{
-    pending.put(writer, b"aag ")?;
-    put_counts(pending, writer, circuit)
+    out.put(b"aag ");
+    out.put_line(&counts[..len]);
 }

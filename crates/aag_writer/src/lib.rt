@@ -1,9 +1,9 @@
 //! Writes circuits in the ASCII form of the AIGER 1.9 note, through a buffer that takes no memory.
 #![tactic(auto)]
 
+mod graph;
 mod header;
 mod properties;
-mod rows;
 mod symbols;
 mod writing;
 

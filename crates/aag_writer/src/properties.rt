@@ -1,76 +1,46 @@
-ghost use Rattle.std.specs.Prelude.{◌≡◌, ◌++◌, length, map, OnOk, OnErr};
+ghost use Rattle.std.specs.Prelude.{◌≡◌, length, map};
 ghost use Rattle.std.specs.List.{flat_map};
-ghost use Rattle.counted_io.specs.Emitting.{Emits, EmitsPart};
+ghost use Rattle.counted_io.specs.Buffered.{Puts};
 ghost use Rattle.aag_format.specs.Text.{property_rows, single_rows};
-ghost use Rattle.aag_writer.specs.Sections.{rows_to_constraints, rows_to_justice};
 
-use crate::rows::{put_literals, put_sizes};
 use aig_graph::{Lit, Props, Sequence};
-use counted_io::{CountedWrite, Pending, WriteError};
+use counted_io::{Buffered, CountedWrite};
 
-/// Puts the rows of the outputs, the bad literals and the constraints.
-#[tactic(auto, using(counted_io::proofs::EmittingLaws::emitting_in_turn))]
-fn put_to_constraints<W: CountedWrite>(
-    pending: &mut Pending,
-    writer: &mut W,
-    props: &Props,
-) -> Result<(), WriteError>
-    ensures ok { OnOk result (Emits (W.output writer.old) pending.old
-        (W.output writer.new) pending.new (rows_to_constraints props.now)) }
-    ensures err { OnErr result (EmitsPart (W.output writer.old) pending.old
-        (W.output writer.new) (rows_to_constraints props.now)) }
+/// Puts a line for each literal.
+fn put_literals<W: CountedWrite>(out: &mut Buffered<'_, W>, lits: &[Lit])
+    ensures { Puts W.output out.old out.new (single_rows lits.now) }
 {
-    put_literals(pending, writer, props.outputs.as_slice())?;
-    put_literals(pending, writer, props.bad.as_slice())?;
-    put_literals(pending, writer, props.constraints.as_slice())
+    for lit in lits {
+        out.put_line(&[u64::from(lit.code())]);
+    }
+}
+
+/// Puts how many literals each justice property has.
+fn put_justice_sizes<W: CountedWrite>(out: &mut Buffered<'_, W>, justice: &[Sequence<Lit>])
+    ensures { Puts W.output out.old out.new (single_rows (map length justice.now)) }
+{
+    for lits in justice {
+        out.put_line(&[lits.len() as u64]);
+    }
 }
 
 /// Puts the literals of each justice property in turn.
-fn put_justice<W: CountedWrite>(
-    pending: &mut Pending,
-    writer: &mut W,
-    justice: &[Sequence<Lit>],
-) -> Result<(), WriteError>
-    ensures ok { OnOk result (Emits (W.output writer.old) pending.old
-        (W.output writer.new) pending.new (flat_map single_rows justice.now)) }
-    ensures err { OnErr result (EmitsPart (W.output writer.old) pending.old
-        (W.output writer.new) (flat_map single_rows justice.now)) }
+fn put_justice<W: CountedWrite>(out: &mut Buffered<'_, W>, justice: &[Sequence<Lit>])
+    ensures { Puts W.output out.old out.new (flat_map single_rows justice.now) }
 {
     for lits in justice {
-        put_literals(pending, writer, lits.as_slice())?;
+        put_literals(out, lits.as_slice());
     }
-    Ok(())
 }
 
-/// Puts the rows up to the literals of the justice properties.
-#[tactic(auto, using(counted_io::proofs::EmittingLaws::emitting_in_turn))]
-fn put_to_justice<W: CountedWrite>(
-    pending: &mut Pending,
-    writer: &mut W,
-    props: &Props,
-) -> Result<(), WriteError>
-    ensures ok { OnOk result (Emits (W.output writer.old) pending.old
-        (W.output writer.new) pending.new (rows_to_justice props.now)) }
-    ensures err { OnErr result (EmitsPart (W.output writer.old) pending.old
-        (W.output writer.new) (rows_to_justice props.now)) }
+/// Puts the lines of all properties.
+pub(crate) fn put_properties<W: CountedWrite>(out: &mut Buffered<'_, W>, props: &Props)
+    ensures { Puts W.output out.old out.new (property_rows props.now) }
 {
-    put_to_constraints(pending, writer, props)?;
-    put_sizes(pending, writer, props.justice.as_slice())?;
-    put_justice(pending, writer, props.justice.as_slice())
-}
-
-/// Puts the rows of all properties.
-#[tactic(auto, using(counted_io::proofs::EmittingLaws::emitting_in_turn))]
-pub fn put_properties<W: CountedWrite>(
-    pending: &mut Pending,
-    writer: &mut W,
-    props: &Props,
-) -> Result<(), WriteError>
-    ensures ok { OnOk result (Emits (W.output writer.old) pending.old
-        (W.output writer.new) pending.new (property_rows props.now)) }
-    ensures err { OnErr result (EmitsPart (W.output writer.old) pending.old
-        (W.output writer.new) (property_rows props.now)) }
-{
-    put_to_justice(pending, writer, props)?;
-    put_literals(pending, writer, props.fairness.as_slice())
+    put_literals(out, props.outputs.as_slice());
+    put_literals(out, props.bad.as_slice());
+    put_literals(out, props.constraints.as_slice());
+    put_justice_sizes(out, props.justice.as_slice());
+    put_justice(out, props.justice.as_slice());
+    put_literals(out, props.fairness.as_slice());
 }

@@ -1,13 +1,18 @@
 -- Values and counts, computed.
-use Rattle.std.proofs.Common.{◌≡◌, [], ◌∷◌, refl, true, false, nat_eq}
+use Rattle.std.proofs.Common.{◌≡◌, [], ◌∷◌, refl, true, false, nat_eq, List, Some, None}
 use Rattle.aig_graph.specs.declared.graph.Reset.TheVariants.{Zero, One, Free}
 use Rattle.aig_graph.specs.Graph.{Graph}
-use Rattle.aig_graph.specs.Circuits.{Network}
-use Rattle.aig_graph.specs.Border.{border_size, in_border, is_read, count_below}
+use Rattle.aig_graph.specs.Circuits.{Network, outputs_alone, no_symbols}
+use Rattle.aig_graph.specs.Border.{border_size, in_border, is_read_outside}
+use Rattle.aig_graph.specs.Move.{move_of}
+use Rattle.variable_tables.specs.Counting.{count_below}
+use Rattle.aig_graph.specs.declared.properties.Symbol.{Symbol}
+use Rattle.aig_graph.specs.Closed.{is_settled}
+use Rattle.aig_graph.specs.Keep.{held_by, first_missing}
 use Rattle.aig_graph.specs.Value.{value, latch_value}
 use Rattle.aig_graph.specs.Folding.{fold_gates, fold_to_depth}
 
--- two inputs, a latch behind each, and the gate of the latches, 5
+-- two inputs, a latch at each, and the gate of the latches, 5
 abbrev known : Graph
 known = record {
   inputs = 2;
@@ -21,7 +26,7 @@ values_of_gate :
 unfolding value latch_value fold_gates fold_to_depth
 values_of_gate = (refl, refl, refl, refl)
 
--- one input, a free latch behind it, a latch behind the free one, and the gate of both, the first of them negated
+-- one input, a free latch at it, a latch that reads the free one, and the gate of both, the first of them negated
 abbrev with_free : Graph
 with_free = record {
   inputs = 1;
@@ -45,12 +50,38 @@ network = record {
     latches = record { next = 2; reset = Zero } ∷ record { next = 4; reset = Zero } ∷ record { next = 6; reset = Zero } ∷ record { next = 8; reset = Zero } ∷ [];
     gates = record { rhs0 = 12; rhs1 = 10 } ∷ record { rhs0 = 18; rhs1 = 14 } ∷ record { rhs0 = 18; rhs1 = 16 } ∷ record { rhs0 = 22; rhs1 = 20 } ∷ [];
   };
-  props = record { outputs = 10 ∷ 12 ∷ 18 ∷ 24 ∷ []; bad = []; constraints = []; justice = []; fairness = [] };
-  symbols = record { inputs = []; latches = []; outputs = []; bad = []; constraints = []; justice = []; fairness = [] };
+  props = outputs_alone (10 ∷ 12 ∷ 18 ∷ 24 ∷ []);
+  symbols = no_symbols;
 }
 
 counts :
-    (border_size network [] ≡ 4) × (border_size network (9 ∷ []) ≡ 5) × (border_size network (9 ∷ 10 ∷ []) ≡ 5) × (border_size network (9 ∷ 11 ∷ []) ≡ 5)
-    × (border_size network (9 ∷ 10 ∷ 11 ∷ []) ≡ 5) × (border_size network (9 ∷ 10 ∷ 11 ∷ 12 ∷ []) ≡ 4)
-unfolding border_size in_border is_read count_below network
+    (border_size (move_of network [] []) ≡ 4) × (border_size (move_of network [] (9 ∷ [])) ≡ 5) × (border_size (move_of network [] (9 ∷ 10 ∷ [])) ≡ 5)
+    × (border_size (move_of network [] (9 ∷ 11 ∷ [])) ≡ 5) × (border_size (move_of network [] (9 ∷ 10 ∷ 11 ∷ [])) ≡ 5)
+    × (border_size (move_of network [] (9 ∷ 10 ∷ 11 ∷ 12 ∷ [])) ≡ 4)
+unfolding border_size in_border is_read_outside count_below network
 counts = (refl, refl, refl, refl, refl, refl)
+
+-- with the first latch, 5, held, gate 9 and what rests on it aren't passable; with the third, 7, gate 10 isn't
+passable_beside_held_latches :
+    (is_settled network.aig [] 9 ≡ true) × (is_settled network.aig (0 ∷ []) 9 ≡ false) × (is_settled network.aig (0 ∷ []) 12 ≡ false)
+    × (is_settled network.aig (2 ∷ []) 9 ≡ true) × (is_settled network.aig (2 ∷ []) 10 ≡ false) × (is_settled network.aig (2 ∷ []) 11 ≡ true)
+    × (is_settled network.aig (2 ∷ []) 12 ≡ false)
+unfolding is_settled fold_gates fold_to_depth network
+passable_beside_held_latches = (refl, refl, refl, refl, refl, refl, refl)
+
+-- the third latch is read by gate 10 alone: over gates 9, 10 and 11 it leaves the border, unless it is held
+border_with_held_latches :
+    (in_border (move_of network [] (9 ∷ 10 ∷ 11 ∷ [])) 7 ≡ false) × (in_border (move_of network (2 ∷ []) (9 ∷ 10 ∷ 11 ∷ [])) 7 ≡ true)
+    × (in_border (move_of network (0 ∷ []) (9 ∷ 10 ∷ 11 ∷ [])) 7 ≡ false) × (border_size (move_of network (2 ∷ []) (9 ∷ 11 ∷ [])) ≡ 5)
+unfolding border_size in_border is_read_outside count_below network
+border_with_held_latches = (refl, refl, refl, refl)
+
+-- latches 0 and 2 are named a, latch 1 is named b
+abbrev names : List Symbol
+names = record { position = 0; name = 97 ∷ [] } ∷ record { position = 1; name = 98 ∷ [] } ∷ record { position = 2; name = 97 ∷ [] } ∷ []
+
+held_by_name :
+    (held_by ((97 ∷ []) ∷ []) names ≡ 0 ∷ 2 ∷ []) × (held_by ((98 ∷ []) ∷ (99 ∷ []) ∷ []) names ≡ 1 ∷ []) × (held_by ([] ∷ []) names ≡ [])
+    × (first_missing names ((97 ∷ []) ∷ (98 ∷ []) ∷ []) ≡ None) × (first_missing names ((98 ∷ []) ∷ (99 ∷ []) ∷ [] ∷ []) ≡ Some 1)
+unfolding held_by first_missing
+held_by_name = (refl, refl, refl, refl, refl)

@@ -3,8 +3,8 @@ use Rattle.std.proofs.Common.{ℕ, ◌+◌, ◌-◌, ◌<◌, ◌≡◌, suc, ze
 use Rattle.std.proofs.lemmas.Bool.{leb-true, le-leb, cond-false, lt-leb}
 use Rattle.std.proofs.lemmas.Option.{none-some}
 use Rattle.aig_graph.specs.declared.graph.Gate.{Gate}
-use Rattle.aig_graph.specs.Graph.{Graph, IsGraph, IsGateAt, variable, first_gate}
-use Rattle.aig_graph.specs.Folding.{gate_at, fold_step, fold_to_depth, fold_gates}
+use Rattle.aig_graph.specs.Graph.{Graph, IsGraph, IsGateAt, variable, first_gate, gate_at}
+use Rattle.aig_graph.specs.Folding.{fold_step, fold_to_depth, fold_gates}
 
 pub gate_at-before : (g : Graph) (v : ℕ) → v < first_gate g → gate_at g v ≡ None
 gate_at-before g v h = cond-false _ _ _ (lt-leb _ _ h)

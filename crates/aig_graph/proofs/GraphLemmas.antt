@@ -1,9 +1,13 @@
--- What keeps a graph a graph.
-use Rattle.std.proofs.Common.{ℕ, ◌+◌, ◌<◌, ◌≡◌, ◌^◌, suc, zero, List, [], ◌∷◌, ◌++◌, length, Some, refl, arith, slice_get, slice_set, ap, sym, subst, ◌⊎◌, inl, inr, length-append}
-use Rattle.std.proofs.lemmas.Option.{none-some, same_Some}
+-- What keeps a graph a graph, and what follows from being one.
+use Rattle.std.proofs.Common.{get_or, cond, not, Bool, true, false, ℕ, ◌+◌, ◌<◌, ◌≤◌, ◌≡◌, ◌^◌, suc, zero, List, [], ◌∷◌, ◌++◌, length, Some, refl, arith, slice_get, slice_set, ap, sym, subst, ◌⊎◌, inl, inr, length-append}
+use Rattle.std.proofs.lemmas.Option.{none-some, same_Some, slice_get-get_or, slice_get_within}
+use Rattle.std.proofs.Math.Seq.{take-length}
+use Rattle.std.proofs.lemmas.List.Sums.{sum_by-cons}
+use Rattle.std.specs.List.{All, count_by}
+use Rattle.aig_graph.specs.declared.literal.TheConstants.{MAX_VARIABLES}
 use Rattle.aig_graph.specs.declared.graph.Gate.{Gate}
 use Rattle.aig_graph.specs.declared.graph.Latch.{Latch}
-use Rattle.aig_graph.specs.Graph.{Graph, IsGraph, IsGateAt, IsLiteralOf, variable, variables_end, first_gate}
+use Rattle.aig_graph.specs.Graph.{Graph, IsGraph, IsGateAt, IsLiteralOf, variable, variables_end, first_latch, first_gate, is_free, free_latches, known_latches}
 use Rattle.aig_graph.specs.Building.{gate_of, with_gate, next_at, with_next}
 
 -- an element of a list with one more at the end
@@ -64,3 +68,42 @@ IsGraph-with_next g h k next same_graph valid of_h =
       ];
       gates = λ j gate e. rw same (valid.gates j gate e);
     }
+
+pub all_from_slice_get : {X : Type 0} (P : X → Type 0) (xs : List X) → ((k : ℕ) (x : X) → slice_get xs k ≡ Some x → P x) → All P xs
+all_from_slice_get P xs every = λ k d h. every k (get_or xs k d) (slice_get-get_or xs k d h)
+
+-- the next literals and the fan-ins of a graph are in range
+pub latches-within : (g : Graph) (n : ℕ) → IsGraph g → n ≡ variables_end g → All (λ (latch : Latch). variable latch.next < n) g.latches
+latches-within g n valid e = all_from_slice_get (λ (latch : Latch). variable latch.next < n) g.latches (λ k latch there.
+    let within : variable latch.next < variables_end g = valid.latches k latch there in omega arith)
+
+pub gates-within : (g : Graph) (n : ℕ) → IsGraph g → n ≡ variables_end g
+    → All (λ (gate : Gate). (variable gate.rhs0 < n) × (variable gate.rhs1 < n)) g.gates
+gates-within g n valid e = all_from_slice_get (λ (gate : Gate). (variable gate.rhs0 < n) × (variable gate.rhs1 < n)) g.gates (λ k gate there.
+    let at : IsGateAt (first_gate g + k) gate = valid.gates k gate there in
+    let short : k < length g.gates = slice_get_within g.gates k gate there in
+    (omega arith, omega arith))
+
+-- those that pass a test and those that don't are all
+pass_or_not : {X : Type 0} (test : X → Bool) (xs : List X) → count_by test xs + count_by (λ x. not (test x)) xs ≡ length xs
+pass_or_not test [] = refl
+pass_or_not test (x ∷ xs) =
+    let passing = sum_by-cons (λ y. bit (test y)) x xs in
+    let failing = sum_by-cons (λ y. bit (not (test y))) x xs in
+    let others = pass_or_not test xs in
+    let one = either (test x) in
+    omega (arith, passing, failing, others, one)
+  where
+    bit : Bool → ℕ
+    bit b = cond b 1 0
+
+    either : (b : Bool) → bit b + bit (not b) ≡ 1
+    either true = refl
+    either false = refl
+
+pub known_and_free : (g : Graph) → known_latches g + free_latches g ≡ length g.latches
+known_and_free g = rw take-length (omega (arith, pass_or_not is_free g.latches))
+
+-- there is room for the latches of a border that isn't larger than the known latches
+pub room : (g : Graph) (n : ℕ) → IsGraph g → n ≤ known_latches g → first_latch g + free_latches g + n + length g.gates ≤ MAX_VARIABLES
+room g n valid fewer = omega (arith, known_and_free g, valid.small)

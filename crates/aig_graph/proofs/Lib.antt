@@ -2,8 +2,12 @@ pub mod FoldingLaws
 pub mod ValueLaws
 pub mod Examples
 pub mod GraphLemmas
+pub mod KindLaws
+pub mod SignLaws
 pub mod ClosedLaws
 pub mod SetLemmas
-pub mod MarkingLaws
+pub mod ReadingLemmas
+pub mod BorderLemmas
+pub mod HoldingLemmas
 pub mod SetLaws
 pub mod StreamLaws

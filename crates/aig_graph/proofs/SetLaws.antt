@@ -1,47 +1,48 @@
 -- Passable gates, the empty set, and sets that are one.
-use Rattle.std.proofs.Common.{ℕ, ◌+◌, ◌<◌, ◌≤◌, ◌≡◌, ◌⊎◌, inl, inr, Bool, ◌&&◌, List, [], ◌∷◌, get_or, IsTrue, refl, arith, ap, sym, ◌∙◌, subst, suc, zero}
+use Rattle.std.proofs.Common.{ℕ, ◌+◌, ◌<◌, ◌≤◌, ◌≡◌, ◌⊎◌, inl, inr, Bool, ◌&&◌, ◌||◌, List, [], ◌∷◌, get_or, IsTrue, refl, arith, ap, sym, ◌∙◌, subst, suc, zero}
 use Rattle.std.specs.Prelude.{◌↔◌}
 use Rattle.std.specs.List.{Contains}
 use Rattle.std.specs.List.Sorted.{IsStrictlyIncreasing}
 use Rattle.std.proofs.lemmas.List.{get_or_default}
 use Rattle.std.proofs.lemmas.List.Kept.{AllPairs-from_increasing}
 use Rattle.aig_graph.specs.declared.graph.Gate.{Gate}
-use Rattle.aig_graph.specs.Graph.{Graph, IsGraph, variable, variables_end}
+use Rattle.aig_graph.specs.Graph.{Graph, IsGraph, variable, variables_end, latch_at, is_known}
 use Rattle.aig_graph.specs.Circuits.{Network}
-use Rattle.aig_graph.specs.Closed.{latch_at, is_known, is_settled}
+use Rattle.aig_graph.specs.Closed.{is_held, is_settled}
 use Rattle.aig_graph.specs.Border.{in_border, is_read, border_size}
-use Rattle.aig_graph.specs.Laws.{IsKnownOrPassable, PassableLaw, EmptySetLaws, AtMostOne}
+use Rattle.aig_graph.specs.Laws.{MayMoveOrPassable, PassableLaw, EmptySetLaws, AtMostOne}
 use Rattle.aig_graph.proofs.ClosedLaws.{settled_where, is_settled-gate, and_true, and_left, and_right}
-use Rattle.aig_graph.proofs.MarkingLaws.{count_below-same, or_false}
+use Rattle.variable_tables.proofs.CountingLemmas.{count_below-same}
+use Rattle.variable_tables.proofs.MarkingLemmas.{or_false}
 
--- a variable is settled exactly where it is a known latch or a passable gate
-settled_iff : (g : Graph) (v : ℕ) → IsTrue (is_settled g v) ↔ IsKnownOrPassable g v
-settled_iff g v = settled_where g v
+-- a variable is settled exactly where it is a known latch that isn't held or a passable gate
+settled_iff : (g : Graph) (held : List ℕ) (v : ℕ) → IsTrue (is_settled g held v) ↔ MayMoveOrPassable g held v
+settled_iff g held v = settled_where g held v
 
-pub passable_law : (g : Graph) (v : ℕ) → IsGraph g → PassableLaw g v
-passable_law g v valid = (
+pub passable_law : (g : Graph) (held : List ℕ) (v : ℕ) → IsGraph g → PassableLaw g held v
+passable_law g held v valid = (
   (λ passable.
       let gate : Gate = passable.0 in
-      let settled : IsTrue (is_settled g (variable gate.rhs0) && is_settled g (variable gate.rhs1)) =
-      subst (λ (b : Bool). IsTrue b) (is_settled-gate g valid v gate passable.1) passable.2 in (
+      let settled : IsTrue (is_settled g held (variable gate.rhs0) && is_settled g held (variable gate.rhs1)) =
+      subst (λ (b : Bool). IsTrue b) (is_settled-gate g held valid v gate passable.1) passable.2 in (
         gate,
         passable.1,
-        (settled_iff g (variable gate.rhs0)).0 (and_left (is_settled g (variable gate.rhs0)) (is_settled g (variable gate.rhs1)) settled),
-        (settled_iff g (variable gate.rhs1)).0 (and_right (is_settled g (variable gate.rhs0)) (is_settled g (variable gate.rhs1)) settled),
+        (settled_iff g held (variable gate.rhs0)).0 (and_left (is_settled g held (variable gate.rhs0)) (is_settled g held (variable gate.rhs1)) settled),
+        (settled_iff g held (variable gate.rhs1)).0 (and_right (is_settled g held (variable gate.rhs0)) (is_settled g held (variable gate.rhs1)) settled),
       )),
   (λ rests.
       let gate : Gate = rests.0 in (
         gate,
         rests.1,
-        subst (λ (b : Bool). IsTrue b) (sym (is_settled-gate g valid v gate rests.1))
-            (and_true (is_settled g (variable gate.rhs0)) (is_settled g (variable gate.rhs1))
-            ((settled_iff g (variable gate.rhs0)).1 rests.2) ((settled_iff g (variable gate.rhs1)).1 rests.3)),
+        subst (λ (b : Bool). IsTrue b) (sym (is_settled-gate g held valid v gate rests.1))
+            (and_true (is_settled g held (variable gate.rhs0)) (is_settled g held (variable gate.rhs1))
+            ((settled_iff g held (variable gate.rhs0)).1 rests.2) ((settled_iff g held (variable gate.rhs1)).1 rests.3)),
       )),
 )
 
-pub empty_set_laws : (c : Network) → EmptySetLaws c
+pub empty_set_laws : (c : Network) (held : List ℕ) → EmptySetLaws c held
 unfolding border_size in_border
-empty_set_laws c = record {
+empty_set_laws c held = record {
   closed = record {
     rising = λ i h. absurd (omega arith);
     closed = record {
@@ -49,7 +50,7 @@ empty_set_laws c = record {
       fan_ins = λ v gate member e. absurd (omega (arith, member.1));
     };
   };
-  count = count_below-same _ _ (variables_end c.aig) (λ v h. ap (λ b. b && is_read c [] v) (or_false (is_known (latch_at c.aig v))));
+  count = count_below-same _ _ (variables_end c.aig) (λ v h. ap (λ b. b && (is_held c.aig held v || is_read c [] v)) (or_false (is_known (latch_at c.aig v))));
 }
 
 contains_head : (x : ℕ) (xs : List ℕ) → Contains (x ∷ xs) x
@@ -106,8 +107,8 @@ rising_same (x ∷ xs) (y ∷ ys) p q there back =
     let tails : xs ≡ ys = rising_same xs ys (tail_rising x xs p) (tail_rising y ys q) (tail_within x xs y ys heads p there) (tail_within y ys x xs (sym heads) q back) in
     cc
 
-pub at_most_one : (c : Network) (s r : List ℕ) → AtMostOne c s r
-at_most_one c s r = record {
+pub at_most_one : (c : Network) (held s r : List ℕ) → AtMostOne c held s r
+at_most_one c held s r = record {
   greatest = λ p q. rising_same s r p.least.closed.rising q.least.closed.rising (q.holds s p.least) (p.holds r q.least);
   smallest = λ p q. rising_same s r p.least.closed.rising q.least.closed.rising (p.within r q.least) (q.within s p.least);
 }

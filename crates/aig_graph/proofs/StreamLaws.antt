@@ -9,10 +9,10 @@ use Rattle.std.proofs.lemmas.Option.{none-some, same_Some}
 use Rattle.aig_graph.specs.declared.graph.Latch.{Latch}
 use Rattle.aig_graph.specs.declared.graph.Reset.{Reset}
 use Rattle.aig_graph.specs.declared.graph.Reset.TheVariants.{Zero, One, Free}
-use Rattle.aig_graph.specs.Graph.{Graph}
+use Rattle.aig_graph.specs.Graph.{Graph, free_before, is_free, free_latches}
 use Rattle.aig_graph.specs.Circuits.{Network}
-use Rattle.aig_graph.specs.Value.{Inputs, Choice, value, value_within, latch_value, opening, opening_at, next_value, free_before, is_free}
-use Rattle.aig_graph.specs.Streams.{property_literals, free_latches, chosen}
+use Rattle.aig_graph.specs.Value.{Inputs, Choice, value, value_within, latch_value, opening, opening_at, next_value}
+use Rattle.aig_graph.specs.Streams.{property_literals, chosen}
 use Rattle.aig_graph.specs.Laws.{all_free, composed, IsReflexive, IsTransitive}
 
 -- functions that agree everywhere are one

@@ -1,44 +1,49 @@
--- Passable gates, and closed sets of them.
-use Rattle.std.specs.Prelude.{ℕ, ◌-◌, ◌≡◌, ◌⊎◌, Bool, false, not, ◌&&◌, nat_le, List, slice_get, Option, Some, None, IsTrue, Contains, if◌then◌else◌}
+-- Passable gates, and closed sets of them, where some latches are held.
+use Rattle.std.specs.Prelude.{ℕ, ◌-◌, ◌≡◌, ◌⊎◌, Bool, not, ◌&&◌, List, Some, is_some, IsTrue, Contains}
+use Rattle.std.specs.List.Sorted.{IsStrictlyIncreasing}
+use Rattle.variable_tables.specs.Marking.{has}
 use Rattle.aig_graph.specs.declared.graph.Gate.{Gate}
 use Rattle.aig_graph.specs.declared.graph.Latch.{Latch}
-use Rattle.aig_graph.specs.Graph.{Graph, variable, first_latch}
-use Rattle.aig_graph.specs.Folding.{gate_at, fold_gates}
-use Rattle.aig_graph.specs.Value.{is_free}
+use Rattle.aig_graph.specs.Graph.{Graph, variable, first_latch, latch_at, gate_at, is_known}
+use Rattle.aig_graph.specs.Folding.{fold_gates}
 
--- the latch at a variable
-abbrev pub latch_at : Graph → ℕ → Option Latch
-latch_at g v = if nat_le (first_latch g) v then slice_get g.latches (v - first_latch g) else None
+-- whether the variable is a latch whose position, from 0, is one of those that are held
+abbrev pub is_held : Graph → List ℕ → ℕ → Bool
+is_held g held v = has held (v - first_latch g) && is_some (latch_at g v)
 
--- whether there is a latch, and its reset is known
-abbrev pub is_known : Option Latch → Bool
-is_known None = false
-is_known (Some latch) = not (is_free latch)
+-- whether the variable is a known latch that isn't held
+abbrev pub may_move : Graph → List ℕ → ℕ → Bool
+may_move g held v = not (is_held g held v) && is_known (latch_at g v)
 
 abbrev pub both : Gate → Bool → Bool → Bool
 both gate a b = a && b
 
--- whether a variable is a known latch, or a gate that rests on known latches alone
-unfoldable pub is_settled : Graph → ℕ → Bool
-is_settled g v = fold_gates g (λ w. is_known (latch_at g w)) both v
+-- whether a variable is a known latch that isn't held, or a gate that rests on such latches alone
+unfoldable pub is_settled : Graph → List ℕ → ℕ → Bool
+is_settled g held v = fold_gates g (may_move g held) both v
 
--- a gate of which each fan-in's variable is a known latch or a passable gate
-abbrev pub IsPassable : Graph → ℕ → Type 0
-IsPassable g v = (gate : Gate) × (gate_at g v ≡ Some gate) × IsTrue (is_settled g v)
+-- a gate of which each fan-in's variable is a known latch that isn't held, or a passable gate
+abbrev pub IsPassable : Graph → List ℕ → ℕ → Type 0
+IsPassable g held v = (gate : Gate) × (gate_at g v ≡ Some gate) × IsTrue (is_settled g held v)
 
 -- a latch, or in s
 abbrev pub IsLatchOrIn : Graph → List ℕ → ℕ → Type 0
 IsLatchOrIn g s v = ((latch : Latch) × (latch_at g v ≡ Some latch)) ⊎ Contains s v
 
 -- each variable of s is a passable gate whose fan-ins' variables are latches or in s
-pub record IsClosed (g : Graph) (s : List ℕ) : Type 0 where
-  pub passable : (v : ℕ) → Contains s v → IsPassable g v
+pub record IsClosed (g : Graph) (held s : List ℕ) : Type 0 where
+  pub passable : (v : ℕ) → Contains s v → IsPassable g held v
   pub fan_ins : (v : ℕ) (gate : Gate) → Contains s v → gate_at g v ≡ Some gate → IsLatchOrIn g s (variable gate.rhs0) × IsLatchOrIn g s (variable gate.rhs1)
 
--- a known latch, or in s
-abbrev pub IsHolder : Graph → List ℕ → ℕ → Type 0
-IsHolder g s v = IsTrue (is_known (latch_at g v)) ⊎ Contains s v
+-- a closed set, as the rising list of its variables
+pub record IsClosedSet (g : Graph) (held s : List ℕ) : Type 0 where
+  pub rising : IsStrictlyIncreasing s
+  pub closed : IsClosed g held s
 
--- a gate whose fan-ins' variables are holders
-unfoldable pub RestsOn : Graph → List ℕ → ℕ → Type 0
-RestsOn g s v = (gate : Gate) × (gate_at g v ≡ Some gate) × IsHolder g s (variable gate.rhs0) × IsHolder g s (variable gate.rhs1)
+-- a known latch that isn't held, or in s
+abbrev pub MayMoveOrIn : Graph → List ℕ → List ℕ → ℕ → Type 0
+MayMoveOrIn g held s v = IsTrue (may_move g held v) ⊎ Contains s v
+
+-- a gate whose fan-ins' variables are known latches that aren't held, or in s
+unfoldable pub RestsOn : Graph → List ℕ → List ℕ → ℕ → Type 0
+RestsOn g held s v = (gate : Gate) × (gate_at g v ≡ Some gate) × MayMoveOrIn g held s (variable gate.rhs0) × MayMoveOrIn g held s (variable gate.rhs1)

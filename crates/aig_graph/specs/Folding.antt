@@ -1,11 +1,7 @@
 -- What follows from the variables that are no gates up to a variable, gate by gate.
-use Rattle.std.specs.Prelude.{ℕ, ◌-◌, suc, zero, slice_get, Option, Some, None, nat_le, if◌then◌else◌}
+use Rattle.std.specs.Prelude.{ℕ, suc, zero, Option, Some, None}
 use Rattle.aig_graph.specs.declared.graph.Gate.{Gate}
-use Rattle.aig_graph.specs.Graph.{Graph, variable, first_gate}
-
--- the gate at a variable
-abbrev pub gate_at : Graph → ℕ → Option Gate
-gate_at g v = if nat_le (first_gate g) v then slice_get g.gates (v - first_gate g) else None
+use Rattle.aig_graph.specs.Graph.{Graph, variable, gate_at}
 
 -- what a variable gets: its own where it is no gate, else what the rule makes of what the two fan-ins get
 abbrev pub fold_step : {A : Type 0} → (ℕ → A) → (Gate → A → A → A) → (ℕ → A) → ℕ → Option Gate → A

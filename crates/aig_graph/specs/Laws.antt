@@ -1,15 +1,16 @@
 -- Laws of the value of a literal, of equal streams, and of closed sets.
-use Rattle.std.specs.Prelude.{ℕ, ◌+◌, ◌*◌, ◌<◌, ◌≡◌, ◌↔◌, ◌⊎◌, false, not, ◌&&◌, List, [], map, slice_get, slice_index, Some, IsTrue}
+use Rattle.std.specs.Prelude.{ℕ, ◌+◌, ◌*◌, ◌<◌, ◌≡◌, ◌↔◌, ◌⊎◌, false, not, ◌&&◌, ◌||◌, List, [], map, slice_get, slice_index, Some, IsTrue}
 use Rattle.std.specs.List.{range_with_len}
+use Rattle.variable_tables.specs.Counting.{count_below}
 use Rattle.aig_graph.specs.declared.graph.Gate.{Gate}
 use Rattle.aig_graph.specs.declared.graph.Latch.{Latch}
-use Rattle.aig_graph.specs.Graph.{Graph, variable, first_latch, first_gate, variables_end}
-use Rattle.aig_graph.specs.Folding.{gate_at}
-use Rattle.aig_graph.specs.Value.{Inputs, Choice, value, opening, free_before}
+use Rattle.aig_graph.specs.Graph.{Graph, variable, first_latch, first_gate, variables_end, latch_at, gate_at, is_known, free_before, free_latches}
+use Rattle.aig_graph.specs.Value.{Inputs, Choice, value, opening}
 use Rattle.aig_graph.specs.Circuits.{Network}
-use Rattle.aig_graph.specs.Streams.{SameStreams, free_latches}
-use Rattle.aig_graph.specs.Closed.{latch_at, is_known, IsPassable}
-use Rattle.aig_graph.specs.Border.{is_read, count_below, border_size, IsClosedSet, IsGreatestLeast, IsSmallestLeast}
+use Rattle.aig_graph.specs.Streams.{SameStreams}
+use Rattle.aig_graph.specs.Closed.{is_held, may_move, IsPassable, IsClosedSet}
+use Rattle.aig_graph.specs.Move.{move_of}
+use Rattle.aig_graph.specs.Border.{is_read, border_size, IsGreatestLeast, IsSmallestLeast}
 
 pub record ValueLaws (g : Graph) (x : Inputs) (f : Choice) : Type 0 where
   pub constant : (t : ℕ) → value g x f t 0 ≡ false
@@ -36,19 +37,21 @@ IsReflexive c = SameStreams c c (all_free c.aig)
 abbrev pub IsTransitive : Network → Network → Network → List ℕ → List ℕ → Type 0
 IsTransitive c d e first second = SameStreams c d first → SameStreams d e second → SameStreams c e (composed first second)
 
--- a known latch, or a passable gate
-abbrev pub IsKnownOrPassable : Graph → ℕ → Type 0
-IsKnownOrPassable g v = IsTrue (is_known (latch_at g v)) ⊎ IsPassable g v
+-- a known latch that isn't held, or a passable gate
+abbrev pub MayMoveOrPassable : Graph → List ℕ → ℕ → Type 0
+MayMoveOrPassable g held v = IsTrue (may_move g held v) ⊎ IsPassable g held v
 
-abbrev pub PassableLaw : Graph → ℕ → Type 0
-PassableLaw g v =
-    IsPassable g v
-    ↔ ((gate : Gate) × (gate_at g v ≡ Some gate) × IsKnownOrPassable g (variable gate.rhs0) × IsKnownOrPassable g (variable gate.rhs1))
+abbrev pub PassableLaw : Graph → List ℕ → ℕ → Type 0
+PassableLaw g held v =
+    IsPassable g held v
+    ↔ ((gate : Gate) × (gate_at g v ≡ Some gate) × MayMoveOrPassable g held (variable gate.rhs0) × MayMoveOrPassable g held (variable gate.rhs1))
 
-pub record EmptySetLaws (c : Network) : Type 0 where
-  pub closed : IsClosedSet c.aig []
-  pub count : border_size c [] ≡ count_below (λ v. is_known (latch_at c.aig v) && is_read c [] v) (variables_end c.aig)
+-- the border of the empty set: the known latches that are held or read
+pub record EmptySetLaws (c : Network) (held : List ℕ) : Type 0 where
+  pub closed : IsClosedSet c.aig held []
+  pub count : border_size (move_of c held [])
+      ≡ count_below (λ v. is_known (latch_at c.aig v) && (is_held c.aig held v || is_read c [] v)) (variables_end c.aig)
 
-pub record AtMostOne (c : Network) (s r : List ℕ) : Type 0 where
-  pub greatest : IsGreatestLeast c s → IsGreatestLeast c r → s ≡ r
-  pub smallest : IsSmallestLeast c s → IsSmallestLeast c r → s ≡ r
+pub record AtMostOne (c : Network) (held s r : List ℕ) : Type 0 where
+  pub greatest : IsGreatestLeast c held s → IsGreatestLeast c held r → s ≡ r
+  pub smallest : IsSmallestLeast c held s → IsSmallestLeast c held r → s ≡ r

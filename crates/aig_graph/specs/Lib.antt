@@ -4,8 +4,9 @@ pub mod Value
 pub mod Circuits
 pub mod Streams
 pub mod Closed
+pub mod Move
 pub mod Border
 pub mod Building
 pub mod Codes
+pub mod Keep
 pub mod Laws
-pub mod Marking

@@ -1,10 +1,10 @@
 -- The value of a literal at a step.
-use Rattle.std.specs.Prelude.{ℕ, ◌-◌, ◌%◌, suc, zero, Bool, true, false, not, ◌&&◌, ◌==◌, nat_lt, take, count_by, slice_get, Option, Some, None, if◌then◌else◌}
+use Rattle.std.specs.Prelude.{ℕ, ◌+◌, ◌-◌, ◌*◌, ◌%◌, suc, zero, Bool, true, false, not, ◌&&◌, ◌==◌, nat_lt, slice_get, Option, Some, None, if◌then◌else◌}
 use Rattle.aig_graph.specs.declared.graph.Gate.{Gate}
 use Rattle.aig_graph.specs.declared.graph.Latch.{Latch}
 use Rattle.aig_graph.specs.declared.graph.Reset.{Reset}
 use Rattle.aig_graph.specs.declared.graph.Reset.TheVariants.{Zero, One, Free}
-use Rattle.aig_graph.specs.Graph.{Graph, variable, first_latch}
+use Rattle.aig_graph.specs.Graph.{Graph, variable, first_latch, free_before}
 use Rattle.aig_graph.specs.Folding.{fold_gates}
 
 -- the digit of an input at a step
@@ -19,16 +19,18 @@ Choice = ℕ → Bool
 abbrev pub signed : ℕ → Bool → Bool
 signed lit b = if lit % 2 == 1 then not b else b
 
+-- the literal base, negated where lit is
+abbrev pub signed_as : ℕ → ℕ → ℕ
+signed_as lit base = 2 * variable base + (base + lit) % 2
+
 -- the AND of a gate's literals, by the values of their variables
 abbrev pub conjunction : Gate → Bool → Bool → Bool
 conjunction gate a b = signed gate.rhs0 a && signed gate.rhs1 b
 
-abbrev pub is_free : Latch → Bool
-is_free latch = elim latch.reset [ Zero ↦ false | One ↦ false | Free ↦ true ]
-
--- how many of the first n latches are free
-abbrev pub free_before : Graph → ℕ → ℕ
-free_before g n = count_by is_free (take n g.latches)
+-- the reset with this value
+abbrev pub reset_to : Bool → Reset
+reset_to true = One
+reset_to false = Zero
 
 -- what a latch holds at step 0, where b was chosen for it
 abbrev pub opening : Reset → Bool → Bool

@@ -1,18 +1,16 @@
-ghost use Rattle.std.specs.Prelude.{◌≡◌, ◌+◌, ◌*◌, ◌<◌, ◌≤◌, ◌^◌, ◌↔◌, length, OnOk, OnErr, IfOk, IsErrOf, slice_get, slice_set, Some};
+ghost use Rattle.std.specs.Prelude.{◌≡◌, ◌+◌, ◌*◌, ◌<◌, ◌≤◌, ◌↔◌, length, OnOk, OnErr, IfOk, IsErrOf, slice_get, slice_set, Some};
 ghost use Rattle.aig_graph.specs.Graph.{variables_end, IsLiteralOf};
 ghost use Rattle.aig_graph.specs.Building.{without_gates, gate_of, with_gate, with_next};
+ghost use Rattle.aig_graph.specs.declared.literal.TheConstants.{MAX_VARIABLES};
 ghost use Rattle.aig_graph.specs.declared.build.BuildError.TheVariants.{NoMemory};
 
 use crate::graph::{Aig, Gate, Latch, Reset};
-use crate::literal::Lit;
+use crate::literal::{Lit, MAX_VARIABLES};
 use std::alloc::{AllocError, AllocFailed, Global};
 use std::marker::Model;
 use thiserror::Error;
 
-/// The number of variables, the constant among them, that a graph may have: 2^28.
-pub const MAX_VARIABLES: usize = 1 << 28;
-
-/// Why a builder refused.
+/// Why a builder refuses.
 #[derive(Clone, Copy, Debug, PartialEq, Eq, Error)]
 pub enum BuildError {
     /// Memory was refused.
@@ -76,7 +74,7 @@ impl AigBuilder {
     /// `TooLarge` where the variables would be more than a graph may have, and only there.
     pub fn new(alloc: Global, inputs: u32, resets: Vec<Reset>) -> Result<AigBuilder, BuildError>
         ensures ok { IfOk result (λ builder. builder ≡ without_gates inputs resets.items) }
-        ensures too_large { IsErrOf result BuildError.TooLarge ↔ (2 ^ 28 ≤ inputs + length resets.items) }
+        ensures too_large { IsErrOf result BuildError.TooLarge ↔ (MAX_VARIABLES ≤ inputs + length resets.items) }
     {
         let room = MAX_VARIABLES - 1;
         if inputs as usize > room || resets.len() > room - inputs as usize {
@@ -99,19 +97,19 @@ impl AigBuilder {
     /// The number of variables, the constant among them.
     fn variables(&self) -> usize
         ensures variables { result ≡ variables_end self.now }
-        ensures small { result ≤ 2 ^ 28 }
+        ensures small { result ≤ MAX_VARIABLES }
     {
         1 + self.inputs as usize + self.latches.len() + self.gates.len()
     }
 
-    /// Adds the gate of two literals, and answers its literal. Equal gates are not shared. After an `Err` the builder is
+    /// Adds the gate of two literals, and returns its literal. Equal gates are not shared. After an `Err` the builder is
     /// as it was.
     pub fn and(&mut self, a: Lit, b: Lit) -> Result<Lit, BuildError>
         requires a { IsLiteralOf self.old a }
         requires b { IsLiteralOf self.old b }
         ensures ok { OnOk result (self.new ≡ with_gate self.old (gate_of a b)) }
         ensures literal { IfOk result (λ lit. lit ≡ 2 * variables_end self.old) }
-        ensures too_large { IsErrOf result BuildError.TooLarge ↔ (variables_end self.old ≡ 2 ^ 28) }
+        ensures too_large { IsErrOf result BuildError.TooLarge ↔ (variables_end self.old ≡ MAX_VARIABLES) }
         ensures err { OnErr result (self.new ≡ self.old) }
     {
         let variable = self.variables();

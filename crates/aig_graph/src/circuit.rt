@@ -4,13 +4,13 @@ use crate::graph::Aig;
 use crate::properties::{Props, Symbols};
 use std::marker::Model;
 
-/// A graph with the literals that it is asked about, and names. All literals and positions are in range, which each
-/// literal of this type is proved to keep.
+/// A sequential circuit: an and-inverter graph, its properties and its symbol table. Invariant: every literal and every
+/// symbol position is in range.
 #[derive(Drop)]
 pub struct Circuit {
-    pub aig: Aig,
-    pub props: Props,
-    pub symbols: Symbols,
+    aig: Aig,
+    props: Props,
+    symbols: Symbols,
 }
 
 impl Model for Circuit {
@@ -24,6 +24,7 @@ impl Model for Circuit {
 }
 
 impl Circuit {
+    ghost use Rattle.aig_graph.specs.Graph.{IsGraph};
     ghost use Rattle.aig_graph.specs.Circuits.{IsNetwork};
 
     /// The circuit of these parts.
@@ -41,12 +42,15 @@ impl Circuit {
     /// The graph.
     pub fn aig(&self) -> &Aig
         ensures value { result.now ≡ self.now.aig }
+        ensures graph { IsGraph self.now.aig }
         ensures network { IsNetwork self.now }
     {
-        &self.aig
+        let aig = &self.aig;
+        let _gates = aig.gates();
+        aig
     }
 
-    /// The literals that are asked about.
+    /// The properties.
     pub fn props(&self) -> &Props
         ensures value { result.now ≡ self.now.props }
         ensures network { IsNetwork self.now }
@@ -54,7 +58,7 @@ impl Circuit {
         &self.props
     }
 
-    /// The names.
+    /// The symbol table.
     pub fn symbols(&self) -> &Symbols
         ensures value { result.now ≡ self.now.symbols }
         ensures network { IsNetwork self.now }

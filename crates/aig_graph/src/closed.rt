@@ -1,14 +1,18 @@
+//! Closed sets of passable gates. Whether a set is closed takes one look at each member: where the fan-ins of every member are
+//! latches that may move or members, all members are passable, by induction along the order of the gates.
 ghost use Rattle.std.specs.Prelude.{◌≡◌, ◌+◌, ◌<◌, ◌↔◌, ◌⊎◌, IsTrue, All, Contains, MatchOption, length};
 ghost use Rattle.std.specs.Option.{SomeIff};
 ghost use Rattle.std.specs.List.Sorted.{IsStrictlyIncreasing};
-ghost use Rattle.aig_graph.specs.Closed.{IsClosed, IsHolder, RestsOn, latch_at, is_known};
-ghost use Rattle.aig_graph.specs.Folding.{gate_at};
-ghost use Rattle.aig_graph.specs.Border.{has};
+ghost use Rattle.variable_tables.specs.Marking.{has};
+ghost use Rattle.aig_graph.specs.Closed.{IsClosedSet, MayMoveOrIn, RestsOn};
+ghost use Rattle.aig_graph.specs.Graph.{gate_at};
 
-use crate::graph::{Aig, Gate, Latch, Reset};
+use crate::graph::Aig;
+use crate::keep::Keep;
+use crate::rising::{contains, is_rising};
 use std::marker::Model;
 
-/// A set of variables, kept as a strictly rising list. Whether it is closed in a graph, `is_closed` tells.
+/// A set of variables, as a strictly rising list. `is_closed` returns whether it is a closed set of a graph.
 #[derive(Drop)]
 pub struct ClosedSet {
     vars: Vec<u32>,
@@ -50,53 +54,44 @@ impl ClosedSet {
         ensures value { result ≡ has self.now var }
         ensures contains { IsTrue result ↔ Contains self.now var }
     {
-        self.vars.binary_search(&var).is_ok()
+        contains(self.vars(), var)
     }
 }
 
-fn is_rising(vars: &[u32]) -> bool
-    ensures { IsTrue result ↔ IsStrictlyIncreasing vars.now }
+/// Whether the set is a closed set of passable gates: each member is a gate, and each of its fan-ins' variables is a latch
+/// with a known reset that isn't held, or a member. No memory is taken; a member costs a few binary searches.
+pub fn is_closed(aig: &Aig, set: &ClosedSet, keep: &Keep) -> bool
+    ensures { IsTrue result ↔ IsClosedSet aig.now keep.now set.now }
 {
-    for i in 1..vars.len() {
-        if vars[i - 1] >= vars[i] {
-            return false;
-        }
-    }
-    true
+    // That fan-ins come before their gates is what a graph's readers ensure.
+    let _gates = aig.gates();
+    each_rests_on(aig, set, keep)
 }
 
-/// Whether the set is a closed set of passable gates: each member is a gate that rests on known latches alone, and each of
-/// its fan-ins' variables is a latch or a member. No memory is taken; a member costs two binary searches.
-pub fn is_closed(aig: &Aig, set: &ClosedSet) -> bool
-    ensures { IsTrue result ↔ IsClosed aig.now set.now }
+fn each_rests_on(aig: &Aig, set: &ClosedSet, keep: &Keep) -> bool
+    ensures value { IsTrue result ↔ All (RestsOn aig.now keep.now set.now) set.now }
+    ensures rising { IsStrictlyIncreasing set.now }
 {
-    // The order of the gates is what makes the answer right, and the readers tell it.
-    let _inputs = aig.inputs();
-    each_rests_on_holders(aig, set)
+    set.vars().iter().all(|var| rests_on(aig, set, keep, *var))
 }
 
-fn each_rests_on_holders(aig: &Aig, set: &ClosedSet) -> bool
-    ensures { IsTrue result ↔ All (RestsOn aig.now set.now) set.now }
-{
-    set.vars()
-        .iter()
-        .all(|var| rests_on_holders(aig, set, *var))
-}
-
-/// Whether the variable is a gate whose fan-ins' variables are known latches or in the set.
+/// Whether the variable is a gate whose fan-ins' variables are latches that may move, or in the set.
 #[tactic(auto, unfolding(crate::specs::Closed::RestsOn))]
-fn rests_on_holders(aig: &Aig, set: &ClosedSet, var: u32) -> bool
-    ensures { IsTrue result ↔ RestsOn aig.now set.now var }
+fn rests_on(aig: &Aig, set: &ClosedSet, keep: &Keep, var: u32) -> bool
+    ensures { IsTrue result ↔ RestsOn aig.now keep.now set.now var }
 {
     match aig.gate(var) {
-        Some(gate) => is_holder(aig, set, gate.rhs0.var()) && is_holder(aig, set, gate.rhs1.var()),
+        Some(gate) => {
+            may_move_or_in(aig, set, keep, gate.rhs0.var())
+                && may_move_or_in(aig, set, keep, gate.rhs1.var())
+        }
         None => false,
     }
 }
 
-/// Whether the variable is a known latch or in the set.
-fn is_holder(aig: &Aig, set: &ClosedSet, var: u32) -> bool
-    ensures { IsTrue result ↔ IsHolder aig.now set.now var }
+/// Whether the variable is a latch that may move, or in the set.
+fn may_move_or_in(aig: &Aig, set: &ClosedSet, keep: &Keep, var: u32) -> bool
+    ensures { IsTrue result ↔ MayMoveOrIn aig.now keep.now set.now var }
 {
-    aig.is_known_latch(var) || set.has(var)
+    keep.may_move(aig, var) || set.has(var)
 }

@@ -1,28 +1,38 @@
-ghost use Rattle.std.specs.Prelude.{◌≡◌, ◌+◌, ◌-◌, ◌<◌, ◌≤◌, ◌^◌, false, length};
+ghost use Rattle.std.specs.Prelude.{◌≡◌, ◌-◌, ◌<◌, ◌≤◌, false, length};
 ghost use Rattle.std.specs.List.{slice_index_or};
+ghost use Rattle.aig_graph.specs.declared.literal.TheConstants.{MAX_VARIABLES};
 ghost use Rattle.aig_graph.specs.Graph.{Graph, variable, first_latch};
-ghost use Rattle.aig_graph.specs.Value.{signed};
+ghost use Rattle.aig_graph.specs.Value.{signed, reset_to};
 
 use crate::literal::Lit;
 use std::marker::Model;
 
-/// What a latch holds at step 0. A free latch holds either value: it is uninitialised.
-#[derive(Clone, Copy, PartialEq, Eq, Debug)]
+/// What a latch has at step 0. A free latch is uninitialised: it has either value.
+#[derive(Clone, Copy, PartialEq, Eq, Hash, Debug)]
 pub enum Reset {
     Zero,
     One,
     Free,
 }
 
-/// A latch holds at each later step what its next literal was at the step before.
-#[derive(Clone, Copy, PartialEq, Eq, Debug)]
+impl From<bool> for Reset {
+    ghost from_gives = { λ value reset. reset ≡ reset_to value };
+
+    /// The known reset with this value.
+    fn from(value: bool) -> Reset {
+        if value { Reset::One } else { Reset::Zero }
+    }
+}
+
+/// A latch has at each later step the value that its next literal had at the step before.
+#[derive(Clone, Copy, PartialEq, Eq, Hash, Debug)]
 pub struct Latch {
     pub next: Lit,
     pub reset: Reset,
 }
 
 /// The AND of two literals, the larger first.
-#[derive(Clone, Copy, PartialEq, Eq, Debug)]
+#[derive(Clone, Copy, PartialEq, Eq, Hash, Debug)]
 pub struct Gate {
     pub rhs0: Lit,
     pub rhs1: Lit,
@@ -43,9 +53,9 @@ impl Gate {
     }
 }
 
-/// A sequential and-inverter graph. Variable 0 is the constant; behind it come the inputs, the latches and the gates, in
+/// A sequential and-inverter graph. Variable 0 is the constant; after it come the inputs, the latches and the gates, in
 /// this order. The fan-ins of a gate have variables below its own, all literals are in range, and there are at most
-/// 2^28 - 1 variables beside the constant.
+/// `MAX_VARIABLES` variables.
 #[derive(Drop)]
 pub struct Aig {
     inputs: u32,
@@ -64,11 +74,9 @@ impl Model for Aig {
 }
 
 impl Aig {
-    ghost use Rattle.aig_graph.specs.Graph.{IsGraph, variables_end};
-    ghost use Rattle.aig_graph.specs.Folding.{gate_at};
-    ghost use Rattle.aig_graph.specs.Closed.{latch_at, is_known};
+    ghost use Rattle.aig_graph.specs.Graph.{IsGraph, first_gate, variables_end, latches_and_gates, gate_at, latch_at, is_known, free_latches, known_latches};
 
-    /// The graph of these parts. No memory is taken.
+    /// The graph of these parts, which are in range.
     pub fn from_parts(inputs: u32, latches: Vec<Latch>, gates: Vec<Gate>) -> Aig
         requires { IsGraph (record { inputs = inputs; latches = latches.items; gates = gates.items }) }
         ensures { result ≡ record { inputs = inputs; latches = latches.items; gates = gates.items } }
@@ -104,46 +112,96 @@ impl Aig {
         self.gates.as_slice()
     }
 
+    /// The variable of the first latch.
+    pub fn first_latch(&self) -> u32
+        ensures value { result ≡ first_latch self.now }
+        ensures graph { IsGraph self.now }
+    {
+        1 + self.inputs
+    }
+
+    /// The variable of the first gate.
+    pub fn first_gate(&self) -> u32
+        ensures value { result ≡ first_gate self.now }
+        ensures graph { IsGraph self.now }
+    {
+        self.first_latch() + self.latches.len() as u32
+    }
+
     /// The number of variables, the constant among them.
     pub fn variables(&self) -> usize
         ensures value { result ≡ variables_end self.now }
-        ensures small { result ≤ 2 ^ 28 }
+        ensures small { result ≤ MAX_VARIABLES }
     {
         1 + self.inputs as usize + self.latches.len() + self.gates.len()
+    }
+
+    /// The number of latches and gates: how many entries a table by variable has from the first latch on.
+    pub fn latches_and_gates(&self) -> usize
+        ensures value { result ≡ latches_and_gates self.now }
+        ensures small { result ≤ MAX_VARIABLES }
+    {
+        self.latches.len() + self.gates.len()
+    }
+
+    /// The latch at a variable.
+    pub fn latch(&self, var: u32) -> Option<Latch>
+        ensures { result ≡ latch_at self.now var }
+    {
+        if var < self.first_latch() {
+            return None;
+        }
+        self.latches
+            .get((var - self.first_latch()) as usize)
+            .copied()
     }
 
     /// The gate at a variable.
     pub fn gate(&self, var: u32) -> Option<Gate>
         ensures { result ≡ gate_at self.now var }
     {
-        let first = 1 + self.inputs as usize + self.latches.len();
-        if (var as usize) < first {
+        if var < self.first_gate() {
             return None;
         }
-        self.gates.get(var as usize - first).copied()
+        self.gates.get((var - self.first_gate()) as usize).copied()
     }
 
     /// Whether the variable is a latch whose reset is known.
     pub fn is_known_latch(&self, var: u32) -> bool
         ensures { result ≡ is_known (latch_at self.now var) }
     {
-        let first = 1 + self.inputs as usize;
-        if (var as usize) < first {
-            return false;
-        }
-        match self.latches.get(var as usize - first) {
+        match self.latch(var) {
             Some(latch) => latch.reset != Reset::Free,
             None => false,
         }
+    }
+
+    /// The number of latches whose reset is free.
+    pub fn free_latches(&self) -> u32
+        ensures { result ≡ free_latches self.now }
+    {
+        self.latches
+            .iter()
+            .filter(|latch| latch.reset == Reset::Free)
+            .count() as u32
+    }
+
+    /// The number of latches whose reset is known.
+    pub fn known_latches(&self) -> u32
+        ensures { result ≡ known_latches self.now }
+    {
+        self.latches
+            .iter()
+            .filter(|latch| latch.reset != Reset::Free)
+            .count() as u32
     }
 }
 
 /// The value of a literal whose latch or gate has its entry in `values`: the latches come first, then the gates.
 pub fn reset_value(aig: &Aig, values: &[bool], lit: Lit) -> bool
-    requires behind_inputs { first_latch aig.now ≤ variable lit }
+    requires past_inputs { first_latch aig.now ≤ variable lit }
     requires has_entry { variable lit - first_latch aig.now < length values.now }
     ensures { result ≡ signed lit (slice_index_or values.now (variable lit - first_latch aig.now) false) }
 {
-    let value = values[lit.var() as usize - 1 - aig.inputs() as usize];
-    if lit.is_negated() { !value } else { value }
+    lit.value(values[(lit.var() - aig.first_latch()) as usize])
 }

@@ -17,11 +17,11 @@ pub fn stream_laws()
     ensures transitive { (c d e : Network) (first second : List ℕ) → IsTransitive c d e first second }
 {}
 
-/// A gate is passable exactly where each of its fan-ins' variables is a known latch or a passable gate. The empty set is
-/// closed and counts the known latches that something reads. There is at most one greatest and at most one smallest
-/// least set.
+/// A gate is passable exactly where each of its fan-ins' variables is a known latch that isn't held, or a passable gate.
+/// The empty set is closed, and its border is the known latches that are held or read. There is at most one greatest and
+/// at most one smallest least set.
 pub fn set_laws()
-    ensures passable { (g : Graph) (v : ℕ) → IsGraph g → PassableLaw g v }
-    ensures empty { (c : Network) → EmptySetLaws c }
-    ensures one { (c : Network) (s r : List ℕ) → AtMostOne c s r }
+    ensures passable { (g : Graph) (held : List ℕ) (v : ℕ) → IsGraph g → PassableLaw g held v }
+    ensures empty { (c : Network) (held : List ℕ) → EmptySetLaws c held }
+    ensures one { (c : Network) (held s r : List ℕ) → AtMostOne c held s r }
 {}

@@ -7,22 +7,28 @@ mod build;
 mod circuit;
 mod closed;
 mod graph;
+mod holding;
+mod keep;
 mod laws;
 mod literal;
-mod memory;
 mod properties;
+mod reading;
+mod rising;
 mod sequence;
 
-pub use border::{count, mark_read};
-pub use build::{AigBuilder, BuildError, MAX_VARIABLES};
+pub use border::{count, mark_held};
+pub use build::{AigBuilder, BuildError};
 pub use circuit::Circuit;
 pub use closed::{ClosedSet, is_closed};
 pub use graph::{Aig, Gate, Latch, Reset, reset_value};
+pub use holding::{KeepError, keep_of};
+pub use keep::Keep;
 pub use laws::{set_laws, stream_laws, value_laws};
-pub use literal::Lit;
-pub use memory::NoMemory;
+pub use literal::{Lit, MAX_VARIABLES};
 pub use properties::{Props, Symbol, Symbols};
+pub use reading::mark_read;
 pub use sequence::Sequence;
+pub use variable_tables::NoMemory;
 
 #[cfg(test)]
 mod tests;

@@ -1,22 +1,28 @@
-ghost use Rattle.std.specs.Prelude.{◌≡◌, ◌≢◌, ◌+◌, ◌*◌, ◌/◌, ◌%◌, ◌<◌, ◌↔◌, ◌^◌, IsTrue, if◌then◌else◌};
+ghost use Rattle.std.specs.Prelude.{◌≡◌, ◌≢◌, ◌+◌, ◌*◌, ◌/◌, ◌%◌, ◌<◌, ◌↔◌, IsTrue, if◌then◌else◌};
+ghost use Rattle.aig_graph.specs.declared.literal.TheConstants.{MAX_VARIABLES};
+ghost use Rattle.aig_graph.specs.Value.{signed, signed_as};
 
 use std::marker::Model;
 
+/// The number of variables that a graph may have, the constant among them.
+pub const MAX_VARIABLES: usize = 1 << 28;
+
 /// A variable or its negation. Contracts see the AIGER number: twice the variable, and one more where it is negated.
 /// Variable 0 is the constant.
-#[derive(Clone, Copy, PartialEq, Eq, PartialOrd, Ord, Debug)]
+#[derive(Clone, Copy, PartialEq, Eq, PartialOrd, Ord, Hash, Debug)]
 pub struct Lit {
     code: u32,
 }
 
 impl Model for Lit {
-    ghost use Rattle.std.specs.Prelude.{ℕ, ◌<◌, ◌^◌};
+    ghost use Rattle.std.specs.Prelude.{ℕ, ◌<◌, ◌*◌};
+    ghost use Rattle.aig_graph.specs.declared.literal.TheConstants.{MAX_VARIABLES};
 
     ghost Value = { ℕ };
 
     ghost view = { λ l. l.code };
 
-    ghost invariant = { λ l. l.code < 2 ^ 29 };
+    ghost invariant = { λ l. l.code < 2 * MAX_VARIABLES };
 
     ghost inverse = { λ n. record { code = n } };
 }
@@ -30,7 +36,7 @@ impl Lit {
 
     /// The literal of a variable.
     pub fn new(var: u32, negated: bool) -> Lit
-        requires { var < 2 ^ 28 }
+        requires { var < MAX_VARIABLES }
         ensures { result ≡ 2 * var + (if negated then 1 else 0) }
     {
         Lit {
@@ -41,7 +47,7 @@ impl Lit {
     /// The variable that the literal reads.
     pub fn var(self) -> u32
         ensures variable { result ≡ self / 2 }
-        ensures small { result < 2 ^ 28 }
+        ensures small { result < MAX_VARIABLES }
     {
         self.code / 2
     }
@@ -49,7 +55,7 @@ impl Lit {
     /// The AIGER number.
     pub fn code(self) -> u32
         ensures code { result ≡ self }
-        ensures small { result < 2 ^ 29 }
+        ensures small { result < 2 * MAX_VARIABLES }
     {
         self.code
     }
@@ -68,6 +74,25 @@ impl Lit {
     {
         Lit {
             code: self.code ^ 1,
+        }
+    }
+
+    /// This literal, negated if `other` is a negation: what stands in for `other` where this one stands in for its
+    /// variable.
+    pub fn signed_as(self, other: Lit) -> Lit
+        ensures { result ≡ signed_as other self }
+    {
+        Lit::new(self.var(), self.is_negated() != other.is_negated())
+    }
+
+    /// The value of the literal where its variable has the value `of_variable`.
+    pub fn value(self, of_variable: bool) -> bool
+        ensures { result ≡ signed self of_variable }
+    {
+        if self.is_negated() {
+            !of_variable
+        } else {
+            of_variable
         }
     }
 }

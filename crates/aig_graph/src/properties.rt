@@ -1,10 +1,11 @@
-ghost use Rattle.std.specs.Prelude.{◌≡◌, []};
+ghost use Rattle.std.specs.Prelude.{◌≡◌};
+ghost use Rattle.aig_graph.specs.Circuits.{outputs_alone, no_symbols};
 
 use crate::literal::Lit;
 use crate::sequence::Sequence;
 use std::alloc::Global;
 
-/// The literals that a circuit is asked about, by kind. A justice property is a list of literals.
+/// The properties of a circuit, by kind. A justice property is a list of literals.
 #[derive(Drop)]
 pub struct Props {
     pub outputs: Sequence<Lit>,
@@ -17,7 +18,7 @@ pub struct Props {
 impl Props {
     /// Outputs alone. Takes no memory.
     pub fn of_outputs(alloc: Global, outputs: Vec<Lit>) -> Props
-        ensures { result ≡ record { outputs = outputs.items; bad = []; constraints = []; justice = []; fairness = [] } }
+        ensures { result ≡ outputs_alone outputs.items }
     {
         Props {
             outputs: Sequence::from_vec(outputs),
@@ -29,14 +30,15 @@ impl Props {
     }
 }
 
-/// The name, any bytes but a newline in a file, of what stands at a position, counted from 0, of its kind.
+/// A symbol: the name of the input, latch or property at `position`, from 0, among those of its kind. In a file it has no
+/// newline.
 #[derive(Drop)]
 pub struct Symbol {
     pub position: u32,
     pub name: Sequence<u8>,
 }
 
-/// Names by kind, by strictly rising position in each. A justice name is one of a property, not of a literal.
+/// The symbol table: by kind the symbols, their positions strictly rising. A justice symbol names a property, not a literal.
 #[derive(Drop)]
 pub struct Symbols {
     pub inputs: Sequence<Symbol>,
@@ -49,9 +51,9 @@ pub struct Symbols {
 }
 
 impl Symbols {
-    /// No names. Takes no memory.
+    /// No symbols. Takes no memory.
     pub fn none(alloc: Global) -> Symbols
-        ensures { result ≡ record { inputs = []; latches = []; outputs = []; bad = []; constraints = []; justice = []; fairness = [] } }
+        ensures { result ≡ no_symbols }
     {
         Symbols {
             inputs: Sequence::empty(alloc),

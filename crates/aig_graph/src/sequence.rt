@@ -3,8 +3,8 @@ ghost use Rattle.std.specs.Prelude.{◌≡◌, ◌==◌, [], length};
 use std::alloc::Global;
 use std::marker::Model;
 
-/// A list of values, made of a `Vec` and given back as one without taking memory. Contracts see the list, so two
-/// sequences are equal where their elements are, whatever room they have.
+/// A list of values: a `Vec` that contracts see as a list, so that two sequences are equal where their elements are,
+/// whatever room they have. It is made from a `Vec` and given back without taking memory.
 #[derive(Drop)]
 pub struct Sequence<T> {
     elements: Vec<T>,

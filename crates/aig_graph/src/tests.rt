@@ -1,10 +1,11 @@
 ghost use Rattle.std.specs.Prelude.{◌≡◌, [], ◌∷◌, IfOk};
 ghost use Rattle.aig_graph.specs.Building.{without_gates};
-ghost use Rattle.aig_graph.specs.Graph.{variables_end, IsLiteralOf};
+ghost use Rattle.aig_graph.specs.Graph.{first_latch, variables_end, IsLiteralOf};
 
 use crate::{
-    Aig, AigBuilder, BuildError, Circuit, ClosedSet, Lit, NoMemory, Props, Reset, Symbols, count,
-    is_closed, reset_value, set_laws, stream_laws, value_laws,
+    Aig, AigBuilder, BuildError, Circuit, ClosedSet, Gate, Keep, KeepError, Latch, Lit, NoMemory,
+    Props, Reset, Symbols, count, is_closed, keep_of, reset_value, set_laws, stream_laws,
+    value_laws,
 };
 use std::alloc::Global;
 use std::test::Fail;
@@ -17,9 +18,10 @@ fn two_latches(alloc: Global) -> Result<AigBuilder, BuildError>
     AigBuilder::new(alloc, 2, resets)
 }
 
-/// A latch behind each input, and the gate of the latches, which is variable 5.
-fn gate_behind_two_latches(alloc: Global) -> Result<Aig, BuildError>
-    ensures { IfOk result (λ aig. variables_end aig ≡ 6) }
+/// A latch at each input, and the gate of the latches, which is variable 5.
+fn gate_of_two_latches(alloc: Global) -> Result<Aig, BuildError>
+    ensures first { IfOk result (λ aig. first_latch aig ≡ 3) }
+    ensures end { IfOk result (λ aig. variables_end aig ≡ 6) }
 {
     let mut builder = two_latches(alloc)?;
     let _gate = builder.and(Lit::new(3, false), Lit::new(4, false))?;
@@ -38,18 +40,18 @@ fn with_output(alloc: Global, aig: Aig, output: Lit) -> Result<Circuit, BuildErr
 
 /// The gate of two latches, negated, as the one output.
 fn example(alloc: Global) -> Result<Circuit, BuildError> {
-    let aig = gate_behind_two_latches(alloc)?;
+    let aig = gate_of_two_latches(alloc)?;
     with_output(alloc, aig, Lit::new(5, true))
 }
 
+/// The size of the border of a closed set, no latch held.
 fn counted(alloc: Global, circuit: &Circuit, vars: Vec<u32>) -> Option<u32> {
     let set = ClosedSet::new(vars)?;
-    count(alloc, circuit, &set).ok()
-}
-
-fn closed(aig: &Aig, vars: Vec<u32>) -> Option<bool> {
-    let set = ClosedSet::new(vars)?;
-    Some(is_closed(aig, &set))
+    let keep = Keep::none();
+    if !is_closed(circuit.aig(), &set, &keep) {
+        return None;
+    }
+    count(alloc, circuit, &set, &keep).ok()
 }
 
 #[test]
@@ -60,11 +62,25 @@ fn adds_a_gate(rt: HostRuntime) -> Result<(), Fail> {
     Ok(())
 }
 
+fn is_gate_of_two_latches(aig: &Aig) -> bool {
+    let first = Latch {
+        next: Lit::new(1, false),
+        reset: Reset::Zero,
+    };
+    let second = Latch {
+        next: Lit::new(2, false),
+        reset: Reset::Zero,
+    };
+    let gate = Gate::of(Lit::new(3, false), Lit::new(4, false));
+    aig.inputs() == 2
+        && aig.latches() == [first, second].as_slice()
+        && aig.gates() == [gate].as_slice()
+}
+
 #[test]
 fn builds_a_graph(rt: HostRuntime) -> Result<(), Fail> {
-    let aig = gate_behind_two_latches(rt.alloc())?;
-    assert_eq!(rt; (aig.inputs(), aig.variables()), (2, 6));
-    assert_eq!(rt; (aig.latches().len(), aig.gates().len()), (2, 1));
+    let aig = gate_of_two_latches(rt.alloc())?;
+    assert!(rt; is_gate_of_two_latches(&aig));
     Ok(())
 }
 
@@ -77,29 +93,10 @@ fn refuses_too_many_variables(rt: HostRuntime) {
 }
 
 #[test]
-fn counts_a_gate(rt: HostRuntime) -> Result<(), Fail> {
+fn counts_the_border_of_a_gate(rt: HostRuntime) -> Result<(), Fail> {
     let circuit = example(rt.alloc())?;
     let vars = Vec::from_array(rt.alloc(), [5])?;
     assert_eq!(rt; counted(rt.alloc(), &circuit, vars), Some(1));
-    Ok(())
-}
-
-#[test]
-fn counts_no_gate(rt: HostRuntime) -> Result<(), Fail> {
-    let circuit = example(rt.alloc())?;
-    assert_eq!(rt;
-        counted(rt.alloc(), &circuit, Vec::new(rt.alloc())),
-        Some(2)
-    );
-    assert!(rt; circuit.symbols().inputs.is_empty());
-    Ok(())
-}
-
-#[test]
-fn tells_a_closed_set(rt: HostRuntime) -> Result<(), Fail> {
-    let aig = gate_behind_two_latches(rt.alloc())?;
-    let vars = Vec::from_array(rt.alloc(), [5])?;
-    assert_eq!(rt; closed(&aig, vars), Some(true));
     Ok(())
 }
 
@@ -111,20 +108,41 @@ fn refuses_a_list_that_does_not_rise(rt: HostRuntime) -> Result<(), Fail> {
 }
 
 #[test]
-fn tells_a_reset(rt: HostRuntime) -> Result<(), Fail> {
-    let aig = gate_behind_two_latches(rt.alloc())?;
-    assert!(rt; aig.inputs() == 2);
+fn holds_no_latch_without_names(rt: HostRuntime) -> Result<(), Fail> {
+    let circuit = example(rt.alloc())?;
+    let keep = keep_of(rt.alloc(), &circuit, &[]);
+    assert!(rt; keep.is_ok_and(|keep| keep.positions().is_empty()));
+    Ok(())
+}
+
+#[test]
+fn refuses_a_name_that_no_latch_has(rt: HostRuntime) -> Result<(), Fail> {
+    let circuit = example(rt.alloc())?;
+    let name = Vec::from_array(rt.alloc(), [b'a'])?;
+    let refused = keep_of(rt.alloc(), &circuit, &[name]).err();
+    assert_eq!(rt; refused, Some(KeepError::NoSuchName(0)));
+    Ok(())
+}
+
+#[test]
+fn reads_values_at_step_0(rt: HostRuntime) -> Result<(), Fail> {
+    let aig = gate_of_two_latches(rt.alloc())?;
     assert!(rt; !reset_value(&aig, &[false, true, true], Lit::new(5, true)));
     Ok(())
 }
 
 #[test]
-fn tells_literals_and_codes(rt: HostRuntime) {
+fn reads_literals_and_codes(rt: HostRuntime) {
     assert_eq!(rt; Lit::FALSE.not(), Lit::TRUE);
-    assert!(rt; Lit::TRUE.is_negated());
-    assert_eq!(rt; Lit::new(7, true).var(), 7);
-    assert_eq!(rt; NoMemory.code(), 1);
-    assert_eq!(rt; BuildError::TooLarge.code(), 2);
+    assert_eq!(rt; Lit::new(7, true).signed_as(Lit::TRUE).code(), 14);
+    assert_eq!(rt;
+        (
+            NoMemory.code(),
+            BuildError::TooLarge.code(),
+            KeepError::NoMemory.code()
+        ),
+        (1, 2, 2)
+    );
     value_laws();
     stream_laws();
     set_laws();

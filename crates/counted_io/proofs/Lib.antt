@@ -1,3 +1,4 @@
-pub mod OutputLaws
-pub mod EmittingLaws
-pub mod InputLaws
+pub mod ResultLemmas
+pub mod OutputLemmas
+pub mod BufferedLemmas
+pub mod InputLemmas

@@ -1,6 +1,7 @@
 pub mod Output
 pub mod Input
 pub mod Counted
-pub mod Emitting
-pub mod Row
+pub mod Buffered
+pub mod Line
 pub mod ReadErrors
+pub mod Fakes

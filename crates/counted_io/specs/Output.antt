@@ -1,5 +1,5 @@
 -- What a counted writer has been given, and what writing a text does to it.
-use Rattle.std.specs.Prelude.{ℕ, ◌+◌, ◌-◌, ◌^◌, ◌≡◌, ◌==◌, ◌&&◌, Bool, true, not, min, List, take, Option, Result, Ok, Err, if◌then◌else◌}
+use Rattle.std.specs.Prelude.{ℕ, ◌+◌, ◌-◌, ◌^◌, ◌≡◌, ◌==◌, ◌&&◌, Bool, true, not, min, List, take, Option, Result, Ok, Err, OnOk, OnErr, if◌then◌else◌}
 use Rattle.std.specs.Io.KnownBytes.{Appends}
 
 -- the bytes that a writer holds, where they are known, and how many writes failed
@@ -30,3 +30,8 @@ pub record WritesPart (old new : Output) (text : List ℕ) : Type 0 where
   pub count : ℕ
   pub bytes : Appends old.bytes new.bytes (take count text)
   pub failures : new.failures ≡ one_more old.failures
+
+-- at `Ok` all of the text was written, and at an error a beginning of it
+pub record Writes {T E : Type 0} (old new : Output) (result : Result T E) (text : List ℕ) : Type 0 where
+  pub ok : OnOk result (WritesAll old new text)
+  pub err : OnErr result (WritesPart old new text)

@@ -1,138 +1,60 @@
 use crate::{
-    Counted, CountedRead, CountedWrite, Pending, ReadAllError, WriteError, read_all, write_all,
+    Buffered, Counted, CountedRead, CountedWrite, FailAfter, Failure, OneByte, ReadAllError,
+    WriteError, read_all, write_all,
 };
-use std::io;
-use std::io::{Read, Write};
+use std::alloc::Global;
+use std::fmt::Write;
 use std::test::Fail;
 
-/// How a call fails.
-#[derive(Clone, Copy)]
-enum Failure {
-    Error,
-    Nothing,
-}
-
-/// A writer that takes one byte a call, and fails from a number of calls on.
-#[derive(Drop)]
-struct Narrow {
-    taken: Vec<u8>,
-    calls_left: u64,
-    failure: Failure,
-}
-
-impl Write for Narrow {
-    fn write(&mut self, bytes: &[u8]) -> io::Result<usize> {
-        if self.calls_left == 0 {
-            return match self.failure {
-                Failure::Error => Err(io::Error::from(io::ErrorKind::Other)),
-                Failure::Nothing => Ok(0),
-            };
-        }
-        self.calls_left -= 1;
-        match bytes.first() {
-            Some(byte) => self.taken.push(*byte)?,
-            None => return Ok(0),
-        }
-        Ok(1)
-    }
-
-    fn flush(&mut self) -> io::Result<()> {
-        Ok(())
-    }
-}
-
-/// A reader that gives one byte a call, and fails from a number of calls on.
-#[derive(Drop)]
-struct Trickle {
-    given: u8,
-    calls_left: u64,
-    fails: bool,
-}
-
-impl Read for Trickle {
-    fn read(&mut self, buffer: &mut [u8]) -> io::Result<usize> {
-        if self.calls_left == 0 {
-            if self.fails {
-                return Err(io::Error::from(io::ErrorKind::Other));
-            }
-            return Ok(0);
-        }
-        let Some(first) = buffer.first_mut() else {
-            return Ok(0);
-        };
-        self.calls_left -= 1;
-        self.given = self.given.wrapping_add(1);
-        *first = self.given;
-        Ok(1)
-    }
-}
-
-/// Two rows, a byte and a number.
+/// Two lines, a text, a byte and a number.
 fn put_some<W: CountedWrite>(writer: &mut W) -> Result<(), WriteError> {
-    let mut pending = Pending::new();
-    pending.put_row(writer, &[6, 0, 18446744073709551615])?;
-    pending.put_row(writer, &[])?;
-    pending.put_byte(writer, b'c')?;
-    pending.put_number(writer, 10)?;
-    pending.flush(writer)
+    let mut out = Buffered::new(writer);
+    out.put_line(&[6, 0, 18446744073709551615]);
+    out.put_line(&[]);
+    let _ = out.write_str("to ");
+    out.put_byte(b'c');
+    out.put_number(10);
+    out.flush()
+}
+
+const SOME: &[u8] = b"6 0 18446744073709551615\n\nto c10";
+
+/// What a device that takes one byte a call, and fails from a number of calls on, was given, the
+/// failures, and how the writing ended.
+fn put_to_failing(
+    alloc: Global,
+    calls: u64,
+    failure: Failure,
+) -> (Vec<u8>, u64, Result<(), WriteError>) {
+    let mut taken = Vec::new(alloc);
+    let device = FailAfter::new(OneByte::new(&mut taken), calls, failure);
+    let mut out = Counted::new(device);
+    let result = put_some(&mut out);
+    let failures = CountedWrite::failures(&out);
+    (taken, failures, result)
 }
 
 #[test]
-fn prints_rows(rt: HostRuntime) -> Result<(), Fail> {
+fn puts_lines(rt: HostRuntime) -> Result<(), Fail> {
     let mut out = Counted::new(Vec::new(rt.alloc()));
     put_some(&mut out)?;
-    assert_eq!(rt; CountedWrite::failures(&out), 0);
-    assert_eq!(rt;
-        out.into_inner().as_slice(),
-        b"6 0 18446744073709551615\n\nc10".as_slice()
-    );
+    assert_eq!(rt; out.into_inner().as_slice(), SOME);
     Ok(())
 }
 
 #[test]
-fn goes_on_after_a_partial_write(rt: HostRuntime) -> Result<(), Fail> {
-    let mut out = Counted::new(Narrow {
-        taken: Vec::new(rt.alloc()),
-        calls_left: 1000,
-        failure: Failure::Error,
-    });
-    put_some(&mut out)?;
-    assert_eq!(rt; CountedWrite::failures(&out), 0);
-    assert_eq!(rt;
-        out.into_inner().taken.as_slice(),
-        b"6 0 18446744073709551615\n\nc10".as_slice()
-    );
-    Ok(())
+fn goes_on_after_a_partial_write(rt: HostRuntime) {
+    let (taken, failures, result) = put_to_failing(rt.alloc(), 1000, Failure::Error);
+    assert!(rt; taken.as_slice() == SOME && failures == 0 && result.is_ok());
 }
 
 #[test]
-fn stops_at_a_failed_write(rt: HostRuntime) -> Result<(), Fail> {
+fn stops_at_a_failed_write(rt: HostRuntime) {
     for failure in [Failure::Error, Failure::Nothing] {
-        let mut out = Counted::new(Narrow {
-            taken: Vec::new(rt.alloc()),
-            calls_left: 3,
-            failure,
-        });
-        assert_eq!(rt; put_some(&mut out), Err(WriteError::Device));
-        assert_eq!(rt; CountedWrite::failures(&out), 1);
-        assert_eq!(rt; out.into_inner().taken.as_slice(), b"6 0".as_slice());
+        let (taken, failures, result) = put_to_failing(rt.alloc(), 3, failure);
+        let device = result == Err(WriteError::Device);
+        assert!(rt; taken.as_slice() == b"6 0".as_slice() && failures == 1 && device);
     }
-    Ok(())
-}
-
-#[test]
-fn cuts_a_long_piece(rt: HostRuntime) -> Result<(), Fail> {
-    let piece = [7u8; 20000];
-    let mut out = Counted::new(Vec::new(rt.alloc()));
-    let mut pending = Pending::new();
-    pending.put_byte(&mut out, b'c')?;
-    pending.put(&mut out, &piece)?;
-    pending.flush(&mut out)?;
-    let written = out.into_inner();
-    assert_eq!(rt; written.len(), 20001);
-    assert_eq!(rt; written[0], b'c');
-    assert_eq!(rt; &written[1..], piece.as_slice());
-    Ok(())
 }
 
 #[test]
@@ -145,55 +67,38 @@ fn writes_at_once(rt: HostRuntime) -> Result<(), Fail> {
 
 #[test]
 fn reads_to_the_end(rt: HostRuntime) -> Result<(), Fail> {
-    let mut slice = Counted::new(b"aag 0".as_slice());
-    assert_eq!(rt;
-        read_all(rt.alloc(), &mut &mut slice)?.as_slice(),
-        b"aag 0".as_slice()
-    );
-    assert_eq!(rt; CountedRead::failures(&slice), 0);
-
-    let mut trickle = Counted::new(Trickle {
-        given: 0,
-        calls_left: 3,
-        fails: false,
-    });
-    assert_eq!(rt;
-        read_all(rt.alloc(), &mut trickle)?.as_slice(),
-        [1, 2, 3].as_slice()
-    );
+    let mut reader = Counted::new(OneByte::new(b"aag 0".as_slice()));
+    let bytes = read_all(rt.alloc(), &mut &mut reader)?;
+    assert_eq!(rt; bytes.as_slice(), b"aag 0".as_slice());
     Ok(())
 }
 
 #[test]
-fn stops_at_a_failed_read(rt: HostRuntime) -> Result<(), Fail> {
-    let mut trickle = Counted::new(Trickle {
-        given: 0,
-        calls_left: 1,
-        fails: true,
-    });
-    let answer = read_all(rt.alloc(), &mut trickle).err();
-    assert_eq!(rt; answer, Some(ReadAllError::Device));
-    assert_eq!(rt; CountedRead::failures(&trickle), 1);
-    assert_eq!(rt; trickle.into_inner().given, 1);
-    Ok(())
+fn stops_at_a_failed_read(rt: HostRuntime) {
+    let device = FailAfter::new(OneByte::new(b"aag 0".as_slice()), 2, Failure::Nothing);
+    let mut reader = Counted::new(device);
+    let error = read_all(rt.alloc(), &mut reader).err();
+    let failures = CountedRead::failures(&reader);
+    let left = reader.into_inner().into_inner().into_inner();
+    assert!(rt; error == Some(ReadAllError::Device) && failures == 1 && left == b"g 0".as_slice());
 }
 
 #[test]
 fn names_its_errors(rt: HostRuntime) -> Result<(), Fail> {
-    assert_eq!(rt; WriteError::Device.code(), 1);
-    assert_eq!(rt; ReadAllError::NoMemory.code(), 1);
-    assert_eq!(rt; ReadAllError::Device.code(), 2);
+    let alloc = rt.alloc();
+    let device = WriteError::Device;
     assert_eq!(rt;
-        WriteError::Device.to_string(rt.alloc())?.as_str(),
-        "device"
+        format!(in alloc; "{} {device}", device.code())?.as_str(),
+        "1 device"
     );
-    assert_eq!(rt;
-        ReadAllError::NoMemory.to_string(rt.alloc())?.as_str(),
-        "no memory"
-    );
-    assert_eq!(rt;
-        ReadAllError::Device.to_string(rt.alloc())?.as_str(),
-        "device"
-    );
+    for (error, text) in [
+        (ReadAllError::NoMemory, "1 no memory"),
+        (ReadAllError::Device, "2 device"),
+    ] {
+        assert_eq!(rt;
+            format!(in alloc; "{} {error}", error.code())?.as_str(),
+            text
+        );
+    }
     Ok(())
 }

@@ -1,5 +1,5 @@
-ghost use Rattle.std.specs.Prelude.{◌≡◌, ◌<◌, ◌≤◌, IfOk, OnOk, OnErr, take, length};
-ghost use Rattle.counted_io.specs.Output.{WritesAll, WritesPart};
+ghost use Rattle.std.specs.Prelude.{◌≡◌, ◌<◌, ◌≤◌, IfOk, OnErr, take, length};
+ghost use Rattle.counted_io.specs.Output.{Writes, WritesAll, WritesPart};
 
 use crate::counted::CountedWrite;
 use thiserror::Error;
@@ -41,10 +41,9 @@ fn write_part<W: CountedWrite>(writer: &mut W, bytes: &[u8]) -> Result<usize, Wr
 /// Writes all the bytes, in as many calls as the writer wants.
 ///
 /// Stops at the first write that fails: a beginning of the bytes was written then.
-#[tactic(auto, using(crate::proofs::OutputLaws::writing_in_turn))]
+#[tactic(auto, using(crate::proofs::OutputLemmas::writing_in_turn))]
 pub fn write_all<W: CountedWrite>(writer: &mut W, bytes: &[u8]) -> Result<(), WriteError>
-    ensures ok { OnOk result (WritesAll (W.output writer.old) (W.output writer.new) bytes.now) }
-    ensures err { OnErr result (WritesPart (W.output writer.old) (W.output writer.new) bytes.now) }
+    ensures { Writes (W.output writer.old) (W.output writer.new) result bytes.now }
 {
     let mut rest = bytes;
     while !rest.is_empty() {

@@ -27,7 +27,7 @@ pub record IsReadFailure (old new : Input) (e : ReadError) : Type 0 where
   pub error : e ≡ Device
   pub failures : new.failures ≡ one_more old.failures
 
--- memory was refused
+-- memory ran out, and no read failed
 pub record IsMemoryRefusal (old new : Input) (e : ReadError) : Type 0 where
   pub error : e ≡ NoMemory
   pub failures : new.failures ≡ old.failures
@@ -54,8 +54,8 @@ pub record StopsWriting (input : Input) (old new : Output) : Type 0 where
   pub answer : AnswersFor input retimed
   pub writes : WritesPart old new (text retimed.circuit)
 
--- why there is no answer; nothing is written before the answer is whole
+-- why there is no answer; nothing is written before the answer is whole, and only what is a circuit is retimed
 abbrev pub IsBytesError : Input → Input → Output → Output → BytesError → Type 0
 IsBytesError old new before after (Read e) = IsReadError old new e × (after ≡ before)
-IsBytesError old new before after (Retime e) = ReadsToEnd old new × (after ≡ before)
+IsBytesError old new before after (Retime e) = ReadsToEnd old new × ((c : Network) × ReadsAs old (Ok c)) × (after ≡ before)
 IsBytesError old new before after (Write e) = ReadsToEnd old new × StopsWriting old before after

@@ -2,7 +2,7 @@ use clap::error::ErrorKind;
 use clap::{Arg, ArgMatches, Command, Error};
 use std::alloc::{AllocError, Global};
 
-/// The files of a line `retime IN OUT`.
+/// The files of the command `retime IN OUT`.
 #[derive(Clone, Copy)]
 pub struct RetimeFiles<'a> {
     /// The path of the file that is read.
@@ -27,7 +27,7 @@ const RETIME_ABOUT: &str = "Moves latches forward over one gate, where that leav
 const RETIME_LONG_ABOUT: &str =
     "Reads a circuit, moves latches forward over one gate where that leaves fewer, and writes it.
 
-OUT is made once IN has been read and retimed: a circuit that is refused leaves OUT as it was.";
+OUT is created once IN has been read and retimed: a circuit that is refused leaves OUT as it was.";
 
 const RETIME_EXAMPLE: &str = "Example:
   fretime retime counter.aag smaller.aag
@@ -65,7 +65,7 @@ fn program<'a>(alloc: Global) -> Result<Command<'a>, AllocError> {
         .subcommand(retime_command(alloc)?)
 }
 
-/// The two paths of a line, where it has them.
+/// The two paths of `retime`, where the arguments have them.
 fn files_of<'a>(matches: &ArgMatches<'a>) -> Option<RetimeFiles<'a>> {
     let retime = matches.subcommand_matches("retime")?;
     let input = retime.get_str("IN")?;
@@ -73,12 +73,12 @@ fn files_of<'a>(matches: &ArgMatches<'a>) -> Option<RetimeFiles<'a>> {
     Some(RetimeFiles { input, output })
 }
 
-/// What the words of a line ask for, the program's name first.
+/// What the command-line arguments ask for, the program's name first.
 ///
 /// # Errors
 ///
-/// The words ask for help or the version, or they aren't a line of the program, or there is no memory.
-pub fn read_line<'a>(alloc: Global, words: &'a [String]) -> Result<RetimeFiles<'a>, Error> {
+/// They ask for help or the version, or are no command of the program, or there is no memory.
+pub fn parse_arguments<'a>(alloc: Global, words: &'a [String]) -> Result<RetimeFiles<'a>, Error> {
     let mut program = program(alloc)?;
     let matches = program.try_get_matches_from_mut(words)?;
     match files_of(&matches) {

@@ -8,7 +8,7 @@ use thiserror::Error;
 /// Why a circuit wasn't retimed.
 #[derive(Clone, Copy, Debug, PartialEq, Eq, Error)]
 pub enum RetimeError {
-    /// Memory was refused.
+    /// Out of memory.
     #[error("out of memory")]
     NoMemory,
 }
@@ -25,27 +25,39 @@ impl RetimeError {
 }
 
 impl From<AllocError> for RetimeError {
+    ghost use Rattle.fretime.specs.declared.errors.RetimeError.TheVariants.{NoMemory};
+
+    ghost from_gives = { λ _ e. e ≡ NoMemory };
+
     fn from(_error: AllocError) -> RetimeError {
         RetimeError::NoMemory
     }
 }
 
 impl<T: Drop> From<AllocFailed<T>> for RetimeError {
+    ghost use Rattle.fretime.specs.declared.errors.RetimeError.TheVariants.{NoMemory};
+
+    ghost from_gives = { λ _ e. e ≡ NoMemory };
+
     fn from(_error: AllocFailed<T>) -> RetimeError {
         RetimeError::NoMemory
     }
 }
 
 impl From<NoMemory> for RetimeError {
+    ghost use Rattle.fretime.specs.declared.errors.RetimeError.TheVariants as errors;
+
+    ghost from_gives = { λ _ e. e ≡ errors.NoMemory };
+
     fn from(_error: NoMemory) -> RetimeError {
         RetimeError::NoMemory
     }
 }
 
-/// Why bytes weren't answered by the text of a retimed circuit.
+/// Why a reader's bytes weren't retimed and written.
 #[derive(Clone, Copy, Debug, PartialEq, Eq, Error)]
 pub enum BytesError {
-    /// The bytes are no circuit, or weren't read.
+    /// The bytes are no circuit, or can't be read.
     #[error("{0}")]
     Read(ReadError),
     /// The circuit wasn't retimed.

@@ -1,3 +1,5 @@
+ghost use Rattle.std.specs.Option.{option_and_then};
+
 use std::fs::File;
 use std::io;
 use std::io::Write;
@@ -24,6 +26,8 @@ impl<'a, R: Files> LazyFile<'a, R> {
 }
 
 impl<R: Files> Write for LazyFile<'_, R> {
+    ghost contents = { λ l. option_and_then R.File.contents l.file };
+
     fn write(&mut self, bytes: &[u8]) -> io::Result<usize> {
         if bytes.is_empty() {
             return Ok(0);

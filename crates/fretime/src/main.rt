@@ -12,12 +12,12 @@ mod retiming;
 mod run;
 
 use counted_io::Counted;
-use run::{run_words, tell_no_words};
+use run::{report_unreadable_arguments, run_words};
 use std::env::Env;
 use std::process::ExitCode;
 use std::{env, io};
 
-/// The words of the program's own line.
+/// The command-line arguments, the program's own name first.
 fn words<R: Env + AllocGlobal>(rt: &R) -> io::Result<Vec<String>> {
     Ok(env::args(rt)?.collect(rt.alloc())?)
 }
@@ -27,7 +27,7 @@ fn main(rt: HostRuntime) -> ExitCode {
     let mut err = Counted::new(rt.stderr());
     let status = match words(&rt) {
         Ok(words) => run_words(&rt, rt.alloc(), words.as_slice(), &mut out, &mut err),
-        Err(error) => tell_no_words(&error, &mut err),
+        Err(error) => report_unreadable_arguments(&error, &mut err),
     };
     ExitCode::from(status)
 }

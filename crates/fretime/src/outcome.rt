@@ -1,23 +1,23 @@
 ghost use Rattle.std.specs.Prelude.{◌≡◌};
-ghost use Rattle.fretime.specs.Outcomes.{outcome_of, outcome_of_error};
+ghost use Rattle.fretime.specs.Outcomes.{outcome_of, outcome_of_error, failure_of};
 
 use crate::command_line::RetimeFiles;
 use crate::errors::{BytesError, RetimeError};
 use aag_text::ReadError;
 use thiserror::Error;
 
-/// How a line ended.
+/// How a run ended.
 #[derive(Clone, Copy, Debug, PartialEq, Eq)]
 pub enum Outcome {
     /// All was done.
     Done,
     /// A file isn't what it should be.
     Refused,
-    /// The words aren't a line of the program.
+    /// The arguments are no command of the program.
     CommandLine,
-    /// A file couldn't be opened, read, made or written.
+    /// A file couldn't be opened, created, read or written.
     Device,
-    /// Memory was refused.
+    /// Out of memory.
     Memory,
 }
 
@@ -38,16 +38,16 @@ impl Outcome {
     }
 }
 
-/// Why a line wasn't done, with the path of the file. Its `Display` is the message on standard error, without a newline.
+/// Why a command failed, with the path of the file. Its `Display` is the message on standard error, without a newline.
 #[derive(Clone, Copy, Debug, Error)]
 pub enum Failure<'a> {
     /// The file has a fault.
     #[error("{0}: {1}")]
     Refused(&'a str, ReadError),
-    /// The file couldn't be opened, read, made or written.
+    /// The file couldn't be opened, created, read or written.
     #[error("{0}: device")]
     Device(&'a str),
-    /// Memory was refused.
+    /// Out of memory.
     #[error("out of memory")]
     Memory,
 }
@@ -55,7 +55,8 @@ pub enum Failure<'a> {
 impl<'a> Failure<'a> {
     /// The failure that an error is, with the path of the file that it is about.
     pub fn of(error: BytesError, files: RetimeFiles<'a>) -> Failure<'a>
-        ensures { outcome_of result ≡ outcome_of_error error }
+        ensures outcome { outcome_of result ≡ outcome_of_error error }
+        ensures failure { result ≡ failure_of error files.entry }
     {
         match error {
             BytesError::Read(ReadError::NoMemory) => Failure::Memory,
@@ -66,7 +67,7 @@ impl<'a> Failure<'a> {
         }
     }
 
-    /// How a line ends with this failure.
+    /// How a run with this failure ends.
     pub fn outcome(self) -> Outcome
         ensures { result ≡ outcome_of self.entry }
     {

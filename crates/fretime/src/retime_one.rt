@@ -8,20 +8,8 @@ use crate::errors::BytesError;
 use crate::retiming::{Retimed, retime};
 use aag_text::{CountedRead, CountedWrite, ReadError, read_aag, write_aag};
 use aig_graph::Circuit;
-use counted_io::{ReadAllError, read_all};
+use counted_io::read_all;
 use std::alloc::Global;
-
-/// All bytes that the reader has left.
-fn gather<R: CountedRead>(alloc: Global, reader: &mut R) -> Result<Vec<u8>, ReadError>
-    ensures ok { IfOk result (λ bytes. ReadsAll (R.input reader.old) (R.input reader.new) bytes.items) }
-    ensures err { IfErr result (λ e. IsReadError (R.input reader.old) (R.input reader.new) e) }
-{
-    match read_all(alloc, reader) {
-        Ok(bytes) => Ok(bytes),
-        Err(ReadAllError::NoMemory) => Err(ReadError::NoMemory),
-        Err(ReadAllError::Device) => Err(ReadError::Device),
-    }
-}
 
 /// The circuit of all bytes that the reader has left.
 fn read_circuit<R: CountedRead>(alloc: Global, reader: &mut R) -> Result<Circuit, ReadError>
@@ -29,7 +17,7 @@ fn read_circuit<R: CountedRead>(alloc: Global, reader: &mut R) -> Result<Circuit
     ensures circuit { IfOk result (λ c. ReadsAs (R.input reader.old) (Ok c)) }
     ensures err { IfErr result (λ e. IsReadError (R.input reader.old) (R.input reader.new) e) }
 {
-    let bytes = gather(alloc, reader)?;
+    let bytes = read_all(alloc, reader)?;
     read_aag(alloc, bytes.as_slice())
 }
 
@@ -40,8 +28,8 @@ fn read_circuit<R: CountedRead>(alloc: Global, reader: &mut R) -> Result<Circuit
 ///
 /// # Errors
 ///
-/// `Read` where a read failed, where memory was refused before there was a circuit, and where the bytes are none;
-/// `Retime` where memory was refused behind that; `Write` where a write failed: a beginning of the text was written then.
+/// `Read` where a read failed, where memory ran out before there was a circuit, and where the bytes are none;
+/// `Retime` where memory ran out after that; `Write` where a write failed: a beginning of the text was written then.
 pub fn retime_one_bytes<R: CountedRead, W: CountedWrite>(
     alloc: Global,
     reader: &mut R,

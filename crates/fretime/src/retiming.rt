@@ -1,14 +1,15 @@
 ghost use Rattle.std.specs.Prelude.{◌≡◌, ◌∷◌, [], IfOk, length};
-ghost use Rattle.aig_graph.specs.Streams.{SameStreams, free_latches};
+ghost use Rattle.aig_graph.specs.Streams.{SameStreams};
 ghost use Rattle.aig_graph.specs.Laws.{all_free};
-ghost use Rattle.aig_graph.specs.Graph.{IsGraph};
+ghost use Rattle.aig_graph.specs.Graph.{IsGraph, free_latches};
 ghost use Rattle.one_gate.specs.OneGate.{Helps, IsFirstHelping, NoneHelps};
+ghost use Rattle.aig_graph.specs.Move.{move_of};
 ghost use Rattle.rebuild.specs.Moved.{moved_of};
 ghost use Rattle.fretime.specs.Retiming.{IsRetimed};
 
 use crate::errors::RetimeError;
-use aig_graph::{Aig, Circuit, ClosedSet, NoMemory, Reset, Sequence};
-use one_gate::{HelpingGate, first_helping_gate, known_latches};
+use aig_graph::{Aig, Circuit, ClosedSet, Keep, NoMemory, Sequence};
+use one_gate::{HelpingGate, first_helping_gate};
 use rebuild::moved;
 use std::alloc::{AllocError, Global};
 
@@ -17,7 +18,7 @@ use std::alloc::{AllocError, Global};
 pub struct FrameReport {
     /// How many latches with a known reset there were.
     pub before: u32,
-    /// How many latches hold their place behind the move.
+    /// How many known latches there are right after the move.
     pub after: u32,
     /// How many gates the latches moved over.
     pub moved: u32,
@@ -36,21 +37,11 @@ pub struct Retimed {
     pub frames: Sequence<FrameReport>,
 }
 
-/// The number of latches whose reset is free.
-fn free_latches(aig: &Aig) -> u32
-    ensures { result ≡ free_latches aig.now }
-{
-    aig.latches()
-        .iter()
-        .filter(|latch| latch.reset == Reset::Free)
-        .count() as u32
-}
-
 /// The places, from 0, of all free latches.
 fn free_places(alloc: Global, aig: &Aig) -> Result<Sequence<u32>, AllocError>
     ensures { IfOk result (λ places. places ≡ all_free aig.now) }
 {
-    let places = (0..free_latches(aig)).collect(alloc)?;
+    let places = (0..aig.free_latches()).collect(alloc)?;
     Ok(Sequence::from_vec(places))
 }
 
@@ -58,13 +49,13 @@ fn free_places(alloc: Global, aig: &Aig) -> Result<Sequence<u32>, AllocError>
 fn moved_over(alloc: Global, circuit: &Circuit, gate: HelpingGate) -> Result<Circuit, NoMemory>
     requires graph { IsGraph circuit.now.aig }
     requires helps { Helps circuit.now gate.var }
-    ensures moved { IfOk result (λ d. d ≡ moved_of circuit.now (gate.var ∷ [])) }
+    ensures moved { IfOk result (λ d. d ≡ moved_of (move_of circuit.now [] (gate.var ∷ []))) }
     ensures streams { IfOk result (λ d. SameStreams circuit.now d (all_free circuit.now.aig)) }
 {
     let Some(set) = ClosedSet::new(vec![in alloc; gate.var]?) else {
         unreachable!();
     };
-    moved(alloc, circuit, &set)
+    moved(alloc, circuit, &set, &Keep::none())
 }
 
 /// The circuit retimed over the gate.
@@ -80,7 +71,7 @@ fn retime_over(
 {
     let read_latches = circuit.aig().latches().len() as u32;
     let report = FrameReport {
-        before: known_latches(circuit.aig()),
+        before: circuit.aig().known_latches(),
         after: gate.count,
         moved: 1,
     };
@@ -107,8 +98,7 @@ fn left_alone(alloc: Global, circuit: Circuit, kept_free: Sequence<u32>) -> Reti
     }
 }
 
-/// Moves latches forward over the first gate over which that makes them fewer; where there is no such gate, nothing
-/// moves.
+/// Retimes forward over the first gate that reduces the number of latches; without one, returns the circuit unchanged.
 pub fn retime(alloc: Global, circuit: Circuit) -> Result<Retimed, RetimeError>
     ensures { IfOk result (IsRetimed circuit) }
 {

@@ -1,2 +1,2 @@
 mod bytes;
-mod lines;
+mod command_line;

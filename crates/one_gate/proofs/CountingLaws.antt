@@ -3,7 +3,7 @@ use Rattle.std.proofs.Common.{ℕ, ◌+◌, ◌<◌, ◌≤◌, ◌≡◌, ◌�
 use Rattle.std.proofs.lemmas.Bool.{cases_eq, eq-eqb, ne_eqb, lt-ltb}
 use Rattle.std.proofs.lemmas.List.Sums.{sum_by-cons}
 use Rattle.std.specs.List.{list_any, count_by}
-use Rattle.aig_graph.specs.Border.{count_below}
+use Rattle.variable_tables.specs.Counting.{count_below}
 use mir.Val.{bool_byte}
 
 abbrev pub bit : Bool → ℕ

@@ -6,12 +6,14 @@ use Rattle.std.proofs.lemmas.Option.{none-some, same_Some, slice_get_within}
 use Rattle.std.specs.List.{count_by, enumerate_from, All}
 use Rattle.aig_graph.specs.declared.graph.Gate.{Gate}
 use Rattle.aig_graph.specs.declared.graph.Latch.{Latch}
-use Rattle.aig_graph.specs.Graph.{Graph, IsGraph, IsGateAt, variable, first_latch, first_gate, variables_end}
+use Rattle.aig_graph.specs.Graph.{Graph, IsGraph, IsGateAt, variable, first_latch, first_gate, variables_end, gate_at, latch_at, is_known}
 use Rattle.aig_graph.specs.Circuits.{Network}
 use Rattle.aig_graph.specs.Streams.{property_literals}
-use Rattle.aig_graph.specs.Folding.{gate_at}
-use Rattle.aig_graph.specs.Closed.{latch_at, is_known, IsHolder, RestsOn}
-use Rattle.aig_graph.specs.Border.{has, reads, is_fan_in, is_read, in_border, border_size, count_below, IsClosedSet}
+use Rattle.aig_graph.specs.Closed.{MayMoveOrIn, RestsOn, IsClosedSet}
+use Rattle.aig_graph.specs.Move.{move_of}
+use Rattle.aig_graph.specs.Border.{reads, is_fan_in, is_read, is_read_outside, in_border, border_size}
+use Rattle.variable_tables.specs.Marking.{has}
+use Rattle.variable_tables.specs.Counting.{count_below}
 use Rattle.aig_graph.proofs.FoldingLaws.{if_some, gate_at-is, gate_at-before}
 use Rattle.aig_graph.proofs.ClosedLaws.{closed_iff_rests}
 use Rattle.one_gate.specs.FanOut.{fan_out_of, IsFanOut}
@@ -69,7 +71,7 @@ abbrev pub other_readers : Network → ℕ → ℕ
 other_readers c v = count_by (λ (latch : Latch). reads v latch.next) c.aig.latches + count_by (reads v) (property_literals c.props)
 
 is_read-count : (c : Network) (s : List ℕ) (v : ℕ) → is_read c s v ≡ nat_lt 0 (gate_readers c s v + other_readers c v)
-unfolding is_read
+unfolding is_read_outside
 is_read-count c s v =
     let gates = list_any-count_by (λ (e : ℕ × Gate). not (has s e.0) && is_fan_in v e.1) (enumerate_from (first_gate c.aig) c.aig.gates) in
     let latches = list_any-count_by (λ (latch : Latch). reads v latch.next) c.aig.latches in
@@ -123,29 +125,29 @@ gate-after_latches g w gate there =
 
 module _ (g : Graph) (valid : IsGraph g) (w : ℕ) (gate : Gate) (there : gate_at g w ≡ Some gate) where
   -- a fan-in's variable is another one, so where it is a holder it is a known latch
-  known-fan_in : (u : ℕ) → u < w → IsHolder g (w ∷ []) u → IsTrue (is_known (latch_at g u))
+  known-fan_in : (u : ℕ) → u < w → MayMoveOrIn g [] (w ∷ []) u → IsTrue (is_known (latch_at g u))
   known-fan_in u below (inl known) = known
   known-fan_in u below (inr (zero, h, e)) = absurd (omega arith)
   known-fan_in u below (inr (suc k, h, e)) = absurd (omega arith)
 
-  pub known-from_closed : IsClosedSet g (w ∷ []) → RestsOnKnownLatches g gate
+  pub known-from_closed : IsClosedSet g [] (w ∷ []) → RestsOnKnownLatches g gate
   unfolding RestsOn
   known-from_closed set =
       let at : IsGateAt w gate = gate_at-is g valid w gate there in
-      let all : All (RestsOn g (w ∷ [])) (w ∷ []) = (closed_iff_rests g valid (w ∷ [])).0 set.closed in
-      let rest : RestsOn g (w ∷ []) w = all 0 w (omega arith) in
+      let all : All (RestsOn g [] (w ∷ [])) (w ∷ []) = (closed_iff_rests g [] valid (w ∷ [])).0 set.closed in
+      let rest : RestsOn g [] (w ∷ []) w = all 0 w (omega arith) in
       let same : rest.0 ≡ gate = same_Some rest.0 gate (sym rest.1 ∙ there) in
-      let holders : IsHolder g (w ∷ []) (variable gate.rhs0) × IsHolder g (w ∷ []) (variable gate.rhs1) =
-      subst (λ (x : Gate). IsHolder g (w ∷ []) (variable x.rhs0) × IsHolder g (w ∷ []) (variable x.rhs1)) same (rest.2, rest.3) in (
+      let holders : MayMoveOrIn g [] (w ∷ []) (variable gate.rhs0) × MayMoveOrIn g [] (w ∷ []) (variable gate.rhs1) =
+      subst (λ (x : Gate). MayMoveOrIn g [] (w ∷ []) (variable x.rhs0) × MayMoveOrIn g [] (w ∷ []) (variable x.rhs1)) same (rest.2, rest.3) in (
         known-fan_in (variable gate.rhs0) (omega arith) holders.0,
         known-fan_in (variable gate.rhs1) (omega arith) holders.1,
       )
 
-  pub closed-from_known : RestsOnKnownLatches g gate → IsClosedSet g (w ∷ [])
+  pub closed-from_known : RestsOnKnownLatches g gate → IsClosedSet g [] (w ∷ [])
   unfolding RestsOn
   closed-from_known known = record {
     rising = λ k h. absurd (omega arith);
-    closed = (closed_iff_rests g valid (w ∷ [])).1 (only (RestsOn g (w ∷ [])) w (gate, there, inl known.0, inl known.1));
+    closed = (closed_iff_rests g [] valid (w ∷ [])).1 (only (RestsOn g [] (w ∷ [])) w (gate, there, inl known.0, inl known.1));
   }
     where
       only : (P : ℕ → Type 0) (x : ℕ) → P x → All P (x ∷ [])
@@ -194,13 +196,13 @@ balance_at false false false n total e p q r = refl
 
 -- the gate's border against that of no set: latches that only the gate reads go, and the gate comes where it is read
 border_size-gate : (c : Network) → IsGraph c.aig → (w : ℕ) (gate : Gate) → gate_at c.aig w ≡ Some gate → RestsOnKnownLatches c.aig gate
-    → border_size c (w ∷ []) + count_below (λ v. is_fan_in v gate && nat_eq (fan_out_of c v) 1) (variables_end c.aig)
-    ≡ border_size c [] + bit (nat_lt 0 (fan_out_of c w))
+    → border_size (move_of c [] (w ∷ [])) + count_below (λ v. is_fan_in v gate && nat_eq (fan_out_of c v) 1) (variables_end c.aig)
+    ≡ border_size (move_of c [] []) + bit (nat_lt 0 (fan_out_of c w))
 unfolding border_size in_border
 border_size-gate c valid w gate there known =
     let after = gate-after_latches c.aig w gate there in
-    let parts = count_below-balance (in_border c (w ∷ [])) (λ v. is_fan_in v gate && nat_eq (fan_out_of c v) 1)
-    (in_border c []) (λ v. nat_eq w v && nat_lt 0 (fan_out_of c v)) (variables_end c.aig)
+    let parts = count_below-balance (in_border (move_of c [] (w ∷ []))) (λ v. is_fan_in v gate && nat_eq (fan_out_of c v) 1)
+    (in_border (move_of c [] [])) (λ v. nat_eq w v && nat_lt 0 (fan_out_of c v)) (variables_end c.aig)
     (λ v h.
     let beside : ReadersBeside c w gate v = is_read-one c w gate there v in
     rw (beside.1, is_read-none c v)
@@ -226,7 +228,7 @@ one_min n = elim (cases_eq n 1) [
 
 -- the border of no set, by the table
 pub border_size-none : (c : Network) (table : List ℕ) (g : Graph) → g ≡ c.aig → IsFanOut c table
-    → count_below (λ v. is_known (latch_at g v) && nat_lt 0 (get_or table v 0)) (length table) ≡ border_size c []
+    → count_below (λ v. is_known (latch_at g v) && nat_lt 0 (get_or table v 0)) (length table) ≡ border_size (move_of c [] [])
 unfolding border_size in_border
 border_size-none c table g same fan_out =
     rw (fan_out.as_long, same) (count_below-same _ _ (variables_end c.aig) (λ v h.
@@ -237,15 +239,15 @@ border_size-none c table g same fan_out =
     or_false true = refl
     or_false false = refl
 
-pub border_size-small : (c : Network) (s : List ℕ) → border_size c s ≤ variables_end c.aig
+pub border_size-small : (c : Network) (s : List ℕ) → border_size (move_of c [] s) ≤ variables_end c.aig
 unfolding border_size
-border_size-small c s = count_below-le (in_border c s) (variables_end c.aig)
+border_size-small c s = count_below-le (in_border (move_of c [] s)) (variables_end c.aig)
 
 -- the gate's border, by the table
 pub border_size-by_table : (c : Network) (table : List ℕ) → IsGraph c.aig → IsFanOut c table
     → (w : ℕ) (gate : Gate) → gate_at c.aig w ≡ Some gate → RestsOnKnownLatches c.aig gate
-    → border_size c (w ∷ []) + count_below (λ v. is_fan_in v gate && nat_eq (get_or table v 0) 1) (length table)
-    ≡ border_size c [] + bit (nat_lt 0 (get_or table w 0))
+    → border_size (move_of c [] (w ∷ [])) + count_below (λ v. is_fan_in v gate && nat_eq (get_or table v 0) 1) (length table)
+    ≡ border_size (move_of c [] []) + bit (nat_lt 0 (get_or table w 0))
 border_size-by_table c table valid fan_out w gate there known =
     let after = gate-after_latches c.aig w gate there in
     let lone : count_below (λ v. is_fan_in v gate && nat_eq (get_or table v 0) 1) (variables_end c.aig) ≡ count_below (λ v. is_fan_in v gate && nat_eq (fan_out_of c v) 1) (variables_end c.aig)

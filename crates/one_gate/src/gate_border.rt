@@ -1,16 +1,17 @@
 ghost use Rattle.std.specs.Prelude.{◌≡◌, ◌<◌, ◌≤◌, ◌↔◌, ◌^◌, ◌==◌, ◌&&◌, ◌∷◌, [], nat_lt, Some, IsTrue, length, slice_index};
 ghost use Rattle.std.specs.Option.{SomeIff};
-ghost use Rattle.aig_graph.specs.Graph.{IsGraph, variable};
-ghost use Rattle.aig_graph.specs.Folding.{gate_at};
-ghost use Rattle.aig_graph.specs.Closed.{latch_at, is_known};
-ghost use Rattle.aig_graph.specs.Border.{IsClosedSet, border_size, count_below, is_fan_in};
+ghost use Rattle.aig_graph.specs.Graph.{IsGraph, variable, gate_at, latch_at, is_known};
+ghost use Rattle.aig_graph.specs.Closed.{IsClosedSet};
+ghost use Rattle.aig_graph.specs.Move.{move_of};
+ghost use Rattle.aig_graph.specs.Border.{border_size, is_fan_in};
+ghost use Rattle.variable_tables.specs.Counting.{count_below};
 ghost use Rattle.one_gate.specs.FanOut.{IsFanOut};
 ghost use Rattle.one_gate.specs.OneGate.{RestsOnKnownLatches};
 
 use aig_graph::{Aig, Circuit, Gate};
 
 /// The number of known latches that something reads.
-#[tactic(auto, unfolding(aig_graph::specs::Border::count_below))]
+#[tactic(auto, unfolding(variable_tables::specs::Counting::count_below))]
 pub(crate) fn read_latches(aig: &Aig, fan_out: &[u8]) -> u32
     requires { length fan_out.now ≤ 2 ^ 28 }
     ensures { result ≡ count_below (λ v. is_known (latch_at aig.now v) && nat_lt 0 (slice_index fan_out.now v)) (length fan_out.now) }
@@ -56,8 +57,8 @@ pub(crate) fn border_of_gate(
     requires graph { IsGraph circuit.now.aig }
     requires gate { gate_at circuit.now.aig var ≡ Some gate.now }
     requires table { IsFanOut circuit.now fan_out.now }
-    requires read_latches { read_latches ≡ border_size circuit.now [] }
-    ensures { SomeIff result (IsClosedSet circuit.now.aig (var ∷ [])) (border_size circuit.now (var ∷ [])) }
+    requires read_latches { read_latches ≡ border_size (move_of circuit.now [] []) }
+    ensures { SomeIff result (IsClosedSet circuit.now.aig [] (var ∷ [])) (border_size (move_of circuit.now [] (var ∷ []))) }
 {
     if !rests_on_known_latches(circuit.aig(), gate) {
         return None;

@@ -4,7 +4,6 @@ ghost use Rattle.one_gate.specs.OneGate.{NoneHelps, IsFirstHelping};
 
 use crate::fan_out::add_all_readers;
 use crate::gate_border::{border_of_gate, read_latches};
-use crate::known::known_latches;
 use aig_graph::{Circuit, NoMemory};
 use std::alloc::Global;
 
@@ -23,7 +22,7 @@ fn first_helping(circuit: &Circuit, fan_out: &[u8]) -> Option<HelpingGate>
     ensures { MatchOption result (NoneHelps circuit.now) (IsFirstHelping circuit.now) }
 {
     let aig = circuit.aig();
-    let known = known_latches(aig);
+    let known = aig.known_latches();
     let gates = aig.gates();
     let first = aig.variables() - gates.len();
     let read = read_latches(aig, fan_out);

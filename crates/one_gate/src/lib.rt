@@ -4,10 +4,8 @@
 mod fan_out;
 mod gate_border;
 mod helping;
-mod known;
 
 pub use helping::{HelpingGate, first_helping_gate};
-pub use known::known_latches;
 
 #[cfg(test)]
 mod tests;

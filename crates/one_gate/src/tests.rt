@@ -1,7 +1,7 @@
 ghost use Rattle.std.specs.Prelude.{◌≡◌, ◌<◌, ◌∷◌, [], All, IfOk};
 ghost use Rattle.aig_graph.specs.Graph.{Graph, variable, variables_end};
 
-use crate::{HelpingGate, first_helping_gate, known_latches};
+use crate::{HelpingGate, first_helping_gate};
 use aig_graph::{Aig, AigBuilder, Circuit, Lit, Props, Reset, Symbols};
 use std::alloc::Global;
 use std::test::Fail;
@@ -46,13 +46,5 @@ fn finds_no_gate_where_a_latch_is_an_output(rt: HostRuntime) -> Result<(), Fail>
         vec![in alloc; Lit::new(5, false), Lit::new(3, false)]?,
     );
     assert_eq!(rt; first_helping_gate(alloc, &circuit)?, None);
-    Ok(())
-}
-
-#[test]
-fn counts_known_latches(rt: HostRuntime) -> Result<(), Fail> {
-    let alloc = rt.alloc();
-    let aig = two_latches(alloc, Reset::Free)?;
-    assert_eq!(rt; known_latches(&aig), 1);
     Ok(())
 }

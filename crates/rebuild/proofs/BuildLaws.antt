@@ -1,55 +1,54 @@
 -- How a moved graph is built, latch by latch and gate by gate.
-use Rattle.std.proofs.Common.{ℕ, ◌+◌, ◌-◌, ◌*◌, ◌<◌, ◌≤◌, ◌≡◌, inl, inr, suc, zero, List, [], ◌∷◌, ◌++◌, length, map, take, Bool, true, false, Some, None, slice_get, get_or, refl, arith, ap, sym, ◌∙◌, add-one, filter, cond}
+use Rattle.std.proofs.Common.{ℕ, ◌+◌, ◌*◌, ◌<◌, ◌≤◌, ◌≡◌, inl, inr, List, [], ◌∷◌, ◌++◌, length, map, take, Bool, true, false, Some, None, slice_get, get_or, refl, arith, ap, sym, ◌∙◌, add-one, filter, cond}
 use Rattle.std.proofs.lemmas.Bool.{cond-true, cond-false, false_from_ne_true}
 use Rattle.std.proofs.lemmas.Option.{none-some, slice_get_read, slice_get_within, cond_some}
-use Rattle.std.proofs.lemmas.List.{map_push, map_more, append_assoc, take_all, get_or_default, append-nil}
+use Rattle.std.proofs.lemmas.List.{map_push, map_more, append_assoc, take_all, append-nil}
+use Rattle.std.proofs.lemmas.List.Elements.{filter_more}
+use Rattle.aig_graph.proofs.FoldingLaws.{gate_at-first_gate}
+use Rattle.aig_graph.proofs.KindLaws.{latch_at-before, latch_at-first_latch, latch_at-gates}
+use Rattle.aig_graph.specs.Building.{gate_of}
+use Rattle.aig_graph.specs.Graph.{Graph, IsGateAt, IsGraph, first_gate, first_latch, gate_at, latch_at, variable, variables_end}
+use Rattle.aig_graph.specs.Move.{Move}
+use Rattle.aig_graph.specs.Value.{reset_to}
 use Rattle.aig_graph.specs.declared.graph.Gate.{Gate}
 use Rattle.aig_graph.specs.declared.graph.Latch.{Latch}
+use Rattle.aig_graph.specs.declared.graph.Reset.{Reset}
 use Rattle.aig_graph.specs.declared.properties.Props.{Props}
 use Rattle.aig_graph.specs.declared.properties.Symbol.{Symbol}
 use Rattle.aig_graph.specs.declared.properties.Symbols.{Symbols}
-use Rattle.aig_graph.specs.Graph.{Graph, IsGraph, IsGateAt, variable, variables_end, first_latch, first_gate}
-use Rattle.aig_graph.specs.Circuits.{Network}
-use Rattle.aig_graph.specs.Folding.{gate_at}
-use Rattle.aig_graph.specs.Closed.{latch_at, IsClosed}
-use Rattle.aig_graph.specs.Building.{gate_of}
-use Rattle.aig_graph.specs.Border.{has, IsClosedSet}
-use Rattle.aig_graph.proofs.FoldingLaws.{gate_at-first_gate}
-use Rattle.rebuild.specs.Places.{places}
-use Rattle.rebuild.specs.Moved.{keeps, is_outer, copy_variable, outside, copied, gate_between, latch_from, latch_for, outer_gate, copied_gate, reset_to, value_at_start, moved_graph, moved_props, moved_symbols, stays, moved_name}
-use Rattle.std.proofs.lemmas.List.Elements.{filter_more}
-use Rattle.rebuild.specs.Tables.{table}
-use Rattle.rebuild.proofs.TableLemmas.{read-table}
-use Rattle.rebuild.proofs.PlacesLemmas.{places-pass, places-fail, places-zero}
-use Rattle.rebuild.proofs.KindLaws.{latch_at-before, latch_at-first_latch, latch_at-gates, GatePlace, gate_place}
-use Rattle.rebuild.proofs.BorderLaws.{kept-cases, outer_where, not_outer_before, not_outer_member, no-member-before, keeps-other}
+use Rattle.rebuild.proofs.BorderLaws.{latched-cases, latched-other, no-member-before, not_outside_before, not_outside_member, outside_where}
+use Rattle.rebuild.proofs.StartLaws.{start_reset-member}
+use Rattle.rebuild.specs.Members.{ArePassable}
+use Rattle.rebuild.specs.Moved.{advanced_literal, copy_for, copy_variable, gate_between, gate_for, gates_below, is_latched, is_outside, latch_for, latch_from, latches_below, moved_graph, moved_literal, moved_name, moved_props, moved_symbols, stays}
+use Rattle.rebuild.specs.Starting.{gate_resets, start_reset, start_value}
+use Rattle.variable_tables.proofs.CountingLemmas.{places-none}
+use Rattle.variable_tables.proofs.PlacesLemmas.{places-fail, places-pass}
+use Rattle.variable_tables.proofs.TableLemmas.{length-table, table-at}
+use Rattle.variable_tables.specs.Counting.{places}
+use Rattle.variable_tables.specs.Marking.{has}
 
 push-place : {A : Type 0} (p : ℕ → Bool) (f : ℕ → A) (v : ℕ) (xs ys : List A) (x : A) → p v ≡ true → xs ≡ map f (places p v) → ys ≡ xs ++ x ∷ [] → x ≡ f v → ys ≡ map f (places p (v + 1))
-push-place {A} p f v xs ys x passes told pushed here =
+push-place {A} p f v xs ys x passes listed pushed here =
     let longer : places p (v + 1) ≡ places p v ++ v ∷ [] = ap (places p) (add-one v) ∙ places-pass p v passes in
-    pushed ∙ ap (λ (zs : List A). zs ++ x ∷ []) told ∙ ap (λ (z : A). map f (places p v) ++ z ∷ []) here ∙ sym (map_push f (places p v) v) ∙ ap (map f) (sym longer)
+    pushed ∙ ap (λ (zs : List A). zs ++ x ∷ []) listed ∙ ap (λ (z : A). map f (places p v) ++ z ∷ []) here ∙ sym (map_push f (places p v) v) ∙ ap (map f) (sym longer)
 
 skip-place : {A : Type 0} (p : ℕ → Bool) (f : ℕ → A) (v : ℕ) (xs : List A) → p v ≡ false → xs ≡ map f (places p v) → xs ≡ map f (places p (v + 1))
-skip-place p f v xs fails told =
+skip-place p f v xs fails listed =
     let same : places p (v + 1) ≡ places p v = ap (places p) (add-one v) ∙ places-fail p v fails in
-    told ∙ ap (map f) (sym same)
-
-no-places : (p : ℕ → Bool) (n : ℕ) → ((v : ℕ) → v < n → p v ≡ false) → places p n ≡ []
-no-places p zero none = places-zero p
-no-places p (suc n) none = places-fail p n (none n (omega arith)) ∙ no-places p n (λ v h. none v (omega arith))
+    listed ∙ ap (map f) (sym same)
 
 -- the same places under another number
 pub places-at : {A : Type 0} (p : ℕ → Bool) (f : ℕ → A) (n m : ℕ) (xs : List A) → n ≤ m → m ≤ n → xs ≡ map f (places p n) → xs ≡ map f (places p m)
-places-at p f n m xs h k told = let same : n ≡ m = omega arith in told ∙ ap (λ (i : ℕ). map f (places p i)) same
+places-at p f n m xs h k listed = let same : n ≡ m = omega arith in listed ∙ ap (λ (i : ℕ). map f (places p i)) same
 
 -- what a loop over the latches or gates reads
 pub latch-there : (g h : Graph) (items : List Latch) (k : ℕ) (x : Latch) → items ≡ h.latches → h ≡ g → k < length items → x ≡ get_or items k x → slice_get g.latches k ≡ Some x
-latch-there g h items k x told same within read =
-    ap (λ (y : Graph). slice_get y.latches k) (sym same) ∙ ap (λ (xs : List Latch). slice_get xs k) (sym told) ∙ slice_get_read items (length items) k x refl within read
+latch-there g h items k x listed same within read =
+    ap (λ (y : Graph). slice_get y.latches k) (sym same) ∙ ap (λ (xs : List Latch). slice_get xs k) (sym listed) ∙ slice_get_read items (length items) k x refl within read
 
 pub gate-there : (g h : Graph) (items : List Gate) (k : ℕ) (x : Gate) → items ≡ h.gates → h ≡ g → k < length items → x ≡ get_or items k x → slice_get g.gates k ≡ Some x
-gate-there g h items k x told same within read =
-    ap (λ (y : Graph). slice_get y.gates k) (sym same) ∙ ap (λ (xs : List Gate). slice_get xs k) (sym told) ∙ slice_get_read items (length items) k x refl within read
+gate-there g h items k x listed same within read =
+    ap (λ (y : Graph). slice_get y.gates k) (sym same) ∙ ap (λ (xs : List Gate). slice_get xs k) (sym listed) ∙ slice_get_read items (length items) k x refl within read
 
 -- a gate's fan-ins are in range
 pub fan-ins_within : (g : Graph) → IsGraph g → (k : ℕ) (gate : Gate) → slice_get g.gates k ≡ Some gate → (variable gate.rhs0 < variables_end g) × (variable gate.rhs1 < variables_end g)
@@ -58,151 +57,140 @@ fan-ins_within g valid k gate there =
     let within : k < length g.gates = slice_get_within g.gates k gate there in
     (omega arith, omega arith)
 
-module _ (c : Network) (s : List ℕ) where
-  pub staying-more : (k : ℕ) (latch : Latch) (xs ys : List Latch) (x : Latch) → slice_get c.aig.latches k ≡ Some latch → keeps c s (first_latch c.aig + k) ≡ true
-      → xs ≡ map (latch_for c s) (places (keeps c s) (first_latch c.aig + k)) → ys ≡ xs ++ x ∷ [] → x ≡ record { next = outside c s latch.next; reset = latch.reset }
-      → ys ≡ map (latch_for c s) (places (keeps c s) (first_latch c.aig + (k + 1)))
-  staying-more k latch xs ys x there kept told pushed made =
-      let v : ℕ = first_latch c.aig + k in
-      let here : latch_at c.aig v ≡ Some latch = latch_at-first_latch c.aig k ∙ there in
-      places-at (keeps c s) (latch_for c s) (v + 1) (first_latch c.aig + (k + 1)) ys (omega arith) (omega arith)
-      (push-place (keeps c s) (latch_for c s) v xs ys x kept told pushed (made ∙ sym (ap (latch_from c s v) here)))
+module _ (m : Move) where
+  pub staying-more : (k : ℕ) (latch : Latch) (xs ys : List Latch) (x : Latch) → slice_get m.circuit.aig.latches k ≡ Some latch → is_latched m (first_latch m.circuit.aig + k) ≡ true
+      → xs ≡ latches_below m (first_latch m.circuit.aig + k) → ys ≡ xs ++ x ∷ [] → x ≡ record { next = moved_literal m latch.next; reset = latch.reset }
+      → ys ≡ latches_below m (first_latch m.circuit.aig + (k + 1))
+  staying-more k latch xs ys x there kept listed pushed made =
+      let v : ℕ = first_latch m.circuit.aig + k in
+      let here : latch_at m.circuit.aig v ≡ Some latch = latch_at-first_latch m.circuit.aig k ∙ there in
+      places-at (is_latched m) (latch_for m) (v + 1) (first_latch m.circuit.aig + (k + 1)) ys (omega arith) (omega arith)
+      (push-place (is_latched m) (latch_for m) v xs ys x kept listed pushed (made ∙ sym (ap (latch_from m v) here)))
 
-  pub staying-skip : (k : ℕ) (xs : List Latch) → keeps c s (first_latch c.aig + k) ≡ false → xs ≡ map (latch_for c s) (places (keeps c s) (first_latch c.aig + k))
-      → xs ≡ map (latch_for c s) (places (keeps c s) (first_latch c.aig + (k + 1)))
-  staying-skip k xs unkept told =
-      let v : ℕ = first_latch c.aig + k in
-      places-at (keeps c s) (latch_for c s) (v + 1) (first_latch c.aig + (k + 1)) xs (omega arith) (omega arith) (skip-place (keeps c s) (latch_for c s) v xs unkept told)
+  pub staying-skip : (k : ℕ) (xs : List Latch) → is_latched m (first_latch m.circuit.aig + k) ≡ false → xs ≡ latches_below m (first_latch m.circuit.aig + k)
+      → xs ≡ latches_below m (first_latch m.circuit.aig + (k + 1))
+  staying-skip k xs unkept listed =
+      let v : ℕ = first_latch m.circuit.aig + k in
+      places-at (is_latched m) (latch_for m) (v + 1) (first_latch m.circuit.aig + (k + 1)) xs (omega arith) (omega arith) (skip-place (is_latched m) (latch_for m) v xs unkept listed)
 
   -- a kept gate is a member
-  pub border-member : (v : ℕ) → first_gate c.aig ≤ v → keeps c s v ≡ true → has s v ≡ true
-  border-member v after kept = elim (kept-cases c s v kept) [
-    | inl old ↦ absurd (none-some old.0 (sym (latch_at-gates c.aig v after) ∙ old.1))
+  pub border-member : (v : ℕ) → first_gate m.circuit.aig ≤ v → is_latched m v ≡ true → has m.set v ≡ true
+  border-member v after kept = elim (latched-cases m v kept) [
+    | inl old ↦ absurd (none-some old.0 (sym (latch_at-gates m.circuit.aig v after) ∙ old.1))
     | inr new ↦ new.1
   ]
 
-  pub border-more : (v : ℕ) (b : Bool) (xs ys : List Latch) (x : Latch) → first_gate c.aig ≤ v → keeps c s v ≡ true → b ≡ value_at_start c.aig v
-      → xs ≡ map (latch_for c s) (places (keeps c s) v) → ys ≡ xs ++ x ∷ [] → x ≡ record { next = 2 * copy_variable c s v; reset = reset_to b }
-      → ys ≡ map (latch_for c s) (places (keeps c s) (v + 1))
-  border-more v b xs ys x after kept value told pushed made =
-      let from : ℕ → Bool → Latch = λ n d. record { next = n; reset = reset_to d } in
-      push-place (keeps c s) (latch_for c s) v xs ys x kept told pushed
-      (made ∙ ap (from (2 * copy_variable c s v)) value ∙ sym (ap (latch_from c s v) (latch_at-gates c.aig v after)))
+  pub border-more : ArePassable m.circuit.aig m.held m.set → (k : ℕ) (r : Reset) (xs ys : List Latch) (x : Latch) → is_latched m (first_gate m.circuit.aig + k) ≡ true
+      → r ≡ start_reset m.circuit.aig m.held (first_gate m.circuit.aig + k) → xs ≡ latches_below m (first_gate m.circuit.aig + k) → ys ≡ xs ++ x ∷ []
+      → x ≡ record { next = 2 * copy_variable m (first_gate m.circuit.aig + k); reset = r } → ys ≡ latches_below m (first_gate m.circuit.aig + (k + 1))
+  border-more passable k r xs ys x kept start listed pushed made =
+      let v : ℕ = first_gate m.circuit.aig + k in
+      let from : Reset → Latch = λ d. record { next = 2 * copy_variable m v; reset = d } in
+      let reset : r ≡ reset_to (start_value m.circuit.aig v) = start ∙ start_reset-member m passable v (border-member v (omega arith) kept) in
+      places-at (is_latched m) (latch_for m) (v + 1) (first_gate m.circuit.aig + (k + 1)) ys (omega arith) (omega arith)
+      (push-place (is_latched m) (latch_for m) v xs ys x kept listed pushed
+      (made ∙ ap from reset ∙ sym (ap (latch_from m v) (latch_at-gates m.circuit.aig v (omega arith)))))
 
-  pub border-skip : (v : ℕ) (xs : List Latch) → keeps c s v ≡ false → xs ≡ map (latch_for c s) (places (keeps c s) v) → xs ≡ map (latch_for c s) (places (keeps c s) (v + 1))
-  border-skip v xs unkept told = skip-place (keeps c s) (latch_for c s) v xs unkept told
+  pub border-skip : (k : ℕ) (xs : List Latch) → is_latched m (first_gate m.circuit.aig + k) ≡ false → xs ≡ latches_below m (first_gate m.circuit.aig + k)
+      → xs ≡ latches_below m (first_gate m.circuit.aig + (k + 1))
+  border-skip k xs unkept listed =
+      let v : ℕ = first_gate m.circuit.aig + k in
+      places-at (is_latched m) (latch_for m) (v + 1) (first_gate m.circuit.aig + (k + 1)) xs (omega arith) (omega arith) (skip-place (is_latched m) (latch_for m) v xs unkept listed)
 
-  pub no-outer : places (is_outer c.aig s) (first_gate c.aig) ≡ []
-  no-outer = no-places (is_outer c.aig s) (first_gate c.aig) (λ v h. not_outer_before c s v h)
+  pub no-outside : gates_below m (first_gate m.circuit.aig) ≡ []
+  no-outside = ap (map (gate_for m)) (places-none (is_outside m) (first_gate m.circuit.aig) (λ v h. not_outside_before m v h))
 
-  pub outer-more : (k : ℕ) (gate : Gate) (xs ys : List Gate) (x : Gate) → slice_get c.aig.gates k ≡ Some gate → has s (first_gate c.aig + k) ≡ false
-      → xs ≡ map (outer_gate c s) (places (is_outer c.aig s) (first_gate c.aig + k)) → ys ≡ xs ++ x ∷ [] → x ≡ gate_of (outside c s gate.rhs0) (outside c s gate.rhs1)
-      → ys ≡ map (outer_gate c s) (places (is_outer c.aig s) (first_gate c.aig + (k + 1)))
-  outer-more k gate xs ys x there other told pushed made =
-      let v : ℕ = first_gate c.aig + k in
-      let here : gate_at c.aig v ≡ Some gate = gate_at-first_gate c.aig k ∙ there in
-      places-at (is_outer c.aig s) (outer_gate c s) (v + 1) (first_gate c.aig + (k + 1)) ys (omega arith) (omega arith)
-      (push-place (is_outer c.aig s) (outer_gate c s) v xs ys x (outer_where c s v (omega arith) other) told pushed (made ∙ sym (ap (gate_between (outside c s)) here)))
+  pub outside-more : (k : ℕ) (gate : Gate) (xs ys : List Gate) (x : Gate) → slice_get m.circuit.aig.gates k ≡ Some gate → has m.set (first_gate m.circuit.aig + k) ≡ false
+      → xs ≡ gates_below m (first_gate m.circuit.aig + k) → ys ≡ xs ++ x ∷ [] → x ≡ gate_of (moved_literal m gate.rhs0) (moved_literal m gate.rhs1)
+      → ys ≡ gates_below m (first_gate m.circuit.aig + (k + 1))
+  outside-more k gate xs ys x there other listed pushed made =
+      let v : ℕ = first_gate m.circuit.aig + k in
+      let here : gate_at m.circuit.aig v ≡ Some gate = gate_at-first_gate m.circuit.aig k ∙ there in
+      places-at (is_outside m) (gate_for m) (v + 1) (first_gate m.circuit.aig + (k + 1)) ys (omega arith) (omega arith)
+      (push-place (is_outside m) (gate_for m) v xs ys x (outside_where m v (omega arith) other) listed pushed (made ∙ sym (ap (gate_between (moved_literal m)) here)))
 
-  pub outer-skip : (k : ℕ) (xs : List Gate) → has s (first_gate c.aig + k) ≡ true → xs ≡ map (outer_gate c s) (places (is_outer c.aig s) (first_gate c.aig + k))
-      → xs ≡ map (outer_gate c s) (places (is_outer c.aig s) (first_gate c.aig + (k + 1)))
-  outer-skip k xs member told =
-      let v : ℕ = first_gate c.aig + k in
-      places-at (is_outer c.aig s) (outer_gate c s) (v + 1) (first_gate c.aig + (k + 1)) xs (omega arith) (omega arith)
-      (skip-place (is_outer c.aig s) (outer_gate c s) v xs (not_outer_member c s v member) told)
+  pub outside-skip : (k : ℕ) (xs : List Gate) → has m.set (first_gate m.circuit.aig + k) ≡ true → xs ≡ gates_below m (first_gate m.circuit.aig + k)
+      → xs ≡ gates_below m (first_gate m.circuit.aig + (k + 1))
+  outside-skip k xs member listed =
+      let v : ℕ = first_gate m.circuit.aig + k in
+      places-at (is_outside m) (gate_for m) (v + 1) (first_gate m.circuit.aig + (k + 1)) xs (omega arith) (omega arith)
+      (skip-place (is_outside m) (gate_for m) v xs (not_outside_member m v member) listed)
 
-  pub copies-more : (i : ℕ) (gate : Gate) (base xs ys : List Gate) (x : Gate) → i < length s → gate_at c.aig (get_or s i 0) ≡ Some gate
-      → xs ≡ base ++ map (copied_gate c s) (take i s) → ys ≡ xs ++ x ∷ [] → x ≡ gate_of (copied c s gate.rhs0) (copied c s gate.rhs1)
-      → ys ≡ base ++ map (copied_gate c s) (take (i + 1) s)
-  copies-more i gate base xs ys x h there told pushed made =
-      let here : x ≡ copied_gate c s (get_or s i 0) = made ∙ sym (ap (gate_between (copied c s)) there) in
-      pushed ∙ ap (λ (zs : List Gate). zs ++ x ∷ []) told ∙ append_assoc base (map (copied_gate c s) (take i s)) (x ∷ [])
-      ∙ ap (λ (z : Gate). base ++ (map (copied_gate c s) (take i s) ++ z ∷ [])) here
-      ∙ ap (λ (zs : List Gate). base ++ zs) (sym (map_more (copied_gate c s) s i 0 h))
+  pub copies-more : (i : ℕ) (gate : Gate) (base xs ys : List Gate) (x : Gate) → i < length m.set → gate_at m.circuit.aig (get_or m.set i 0) ≡ Some gate
+      → xs ≡ base ++ map (copy_for m) (take i m.set) → ys ≡ xs ++ x ∷ [] → x ≡ gate_of (advanced_literal m gate.rhs0) (advanced_literal m gate.rhs1)
+      → ys ≡ base ++ map (copy_for m) (take (i + 1) m.set)
+  copies-more i gate base xs ys x h there listed pushed made =
+      let here : x ≡ copy_for m (get_or m.set i 0) = made ∙ sym (ap (gate_between (advanced_literal m)) there) in
+      pushed ∙ ap (λ (zs : List Gate). zs ++ x ∷ []) listed ∙ append_assoc base (map (copy_for m) (take i m.set)) (x ∷ [])
+      ∙ ap (λ (z : Gate). base ++ (map (copy_for m) (take i m.set) ++ z ∷ [])) here
+      ∙ ap (λ (zs : List Gate). base ++ zs) (sym (map_more (copy_for m) m.set i 0 h))
 
-  pub copies-all : (n : ℕ) (base xs : List Gate) → length s ≤ n → xs ≡ base ++ map (copied_gate c s) (take n s) → xs ≡ base ++ map (copied_gate c s) s
-  copies-all n base xs h told = told ∙ ap (λ (vs : List ℕ). base ++ map (copied_gate c s) vs) (take_all n s h)
+  pub copies-all : (n : ℕ) (base xs : List Gate) → length m.set ≤ n → xs ≡ base ++ map (copy_for m) (take n m.set) → xs ≡ base ++ map (copy_for m) m.set
+  copies-all n base xs h listed = listed ∙ ap (λ (vs : List ℕ). base ++ map (copy_for m) vs) (take_all n m.set h)
 
-  pub graph-is : (inputs : ℕ) (latches : List Latch) (gates : List Gate) → inputs ≡ c.aig.inputs → latches ≡ map (latch_for c s) (places (keeps c s) (variables_end c.aig)) → gates ≡ (moved_graph c s).gates
-      → record { inputs = inputs; latches = latches; gates = gates } ≡ moved_graph c s
+  pub graph-is : (inputs : ℕ) (latches : List Latch) (gates : List Gate) → inputs ≡ m.circuit.aig.inputs → latches ≡ latches_below m (variables_end m.circuit.aig) → gates ≡ (moved_graph m).gates
+      → record { inputs = inputs; latches = latches; gates = gates } ≡ moved_graph m
   unfolding moved_graph
   graph-is inputs latches gates e1 e2 e3 =
-      let kept : List Latch = map (latch_for c s) (places (keeps c s) (variables_end c.aig)) in
+      let kept : List Latch = latches_below m (variables_end m.circuit.aig) in
       let by_inputs : ℕ → Graph = λ n. record { inputs = n; latches = latches; gates = gates } in
-      let by_latches : List Latch → Graph = λ xs. record { inputs = c.aig.inputs; latches = xs; gates = gates } in
-      let by_gates : List Gate → Graph = λ xs. record { inputs = c.aig.inputs; latches = kept; gates = xs } in
+      let by_latches : List Latch → Graph = λ xs. record { inputs = m.circuit.aig.inputs; latches = xs; gates = gates } in
+      let by_gates : List Gate → Graph = λ xs. record { inputs = m.circuit.aig.inputs; latches = kept; gates = xs } in
       ap by_inputs e1 ∙ ap by_latches e2 ∙ ap by_gates e3
 
--- the gate of a member
-pub member-place : (g : Graph) (s : List ℕ) → IsClosedSet g s → (i : ℕ) → i < length s → (gate : Gate) × (gate_at g (get_or s i 0) ≡ Some gate)
-member-place g s set i h = let pass = set.closed.passable (get_or s i 0) (i, h, get_or_default s i (get_or s i 0) 0 h) in (pass.0, pass.1)
-
-pub member-bounds : (g h : Graph) (s vars : List ℕ) → IsClosedSet g s → vars ≡ s → h ≡ g → (i : ℕ) → i < length vars → (first_gate g ≤ get_or vars i 0) × (get_or vars i 0 < variables_end g)
-member-bounds g h s vars set same aig i within =
-    let inside : i < length s = omega (arith, ap (λ (xs : List ℕ). length xs) same) in
-    let there = member-place g s set i inside in
-    let place : GatePlace g (get_or s i 0) there.0 = gate_place g (get_or s i 0) there.0 there.1 in
-    let at : get_or vars i 0 ≡ get_or s i 0 = ap (λ (xs : List ℕ). get_or xs i 0) same in
-    (omega arith, omega arith)
-
-pub copy-there : (g h : Graph) (items : List Gate) (s vars : List ℕ) (i j : ℕ) (x : Gate) → IsClosedSet g s → vars ≡ s → items ≡ h.gates → h ≡ g → i < length vars
-    → j ≡ get_or vars i 0 - first_gate g → x ≡ get_or items j x → gate_at g (get_or s i 0) ≡ Some x
-copy-there g h items s vars i j x set same told aig within place read =
-    let bounds = member-bounds g h s vars set same aig i within in
-    let at : get_or vars i 0 ≡ get_or s i 0 = ap (λ (xs : List ℕ). get_or xs i 0) same in
-    let long : length items ≡ length g.gates = ap (λ (xs : List Gate). length xs) told ∙ ap (λ (y : Graph). length y.gates) aig in
-    let here : get_or s i 0 ≡ first_gate g + j = omega (arith, bounds.0, bounds.1) in
-    ap (gate_at g) here ∙ gate_at-first_gate g j ∙ gate-there g h items j x told aig (omega (arith, bounds.0, bounds.1)) read
-
-pub props-is : (c : Network) (s : List ℕ) (p : Props) (outputs bad constraints : List ℕ) (justice : List (List ℕ)) (fairness : List ℕ) → p ≡ c.props
-    → outputs ≡ map (outside c s) p.outputs → bad ≡ map (outside c s) p.bad → constraints ≡ map (outside c s) p.constraints → justice ≡ map (map (outside c s)) p.justice → fairness ≡ map (outside c s) p.fairness
-    → record { outputs = outputs; bad = bad; constraints = constraints; justice = justice; fairness = fairness } ≡ moved_props c s
+pub props-is : (m : Move) (p : Props) (outputs bad constraints : List ℕ) (justice : List (List ℕ)) (fairness : List ℕ) → p ≡ m.circuit.props
+    → outputs ≡ map (moved_literal m) p.outputs → bad ≡ map (moved_literal m) p.bad → constraints ≡ map (moved_literal m) p.constraints → justice ≡ map (map (moved_literal m)) p.justice → fairness ≡ map (moved_literal m) p.fairness
+    → record { outputs = outputs; bad = bad; constraints = constraints; justice = justice; fairness = fairness } ≡ moved_props m
 unfolding moved_props
-props-is c s p outputs bad constraints justice fairness same e1 e2 e3 e4 e5 = cc
+props-is m p outputs bad constraints justice fairness same e1 e2 e3 e4 e5 = cc
 
--- what is read of a table at a place with another name
-pub read-kept : {A : Type 0} (n : ℕ) (f : ℕ → A) (xs : List A) (i v : ℕ) (r : A) → xs ≡ table n f → i ≡ v → v < n → r ≡ get_or xs i r → r ≡ f v
-read-kept {A} n f xs i v r told same h read = read-table n f xs v r told h (read ∙ ap (λ (k : ℕ). get_or xs k r) same)
+pub staying-none : (m : Move) → ArePassable m.circuit.aig m.held m.set → latches_below m (first_latch m.circuit.aig) ≡ []
+staying-none m passable =
+    ap (map (latch_for m)) (places-none (is_latched m) (first_latch m.circuit.aig) (λ v h. latched-other m v (latch_at-before m.circuit.aig v h) (no-member-before m passable v (omega arith))))
 
-pub first_gate-from : (g h : Graph) (inputs : ℕ) (latches : List Latch) → inputs ≡ h.inputs → latches ≡ h.latches → h ≡ g → 1 + inputs + length latches ≡ first_gate g
-first_gate-from g h inputs latches e1 e2 same =
-    omega (arith, ap (λ (xs : List Latch). length xs) e2, ap (λ (x : Graph). x.inputs) same, ap (λ (x : Graph). length x.latches) same)
-
-pub staying-none : (c : Network) (s : List ℕ) → IsClosed c.aig s → places (keeps c s) (first_latch c.aig) ≡ []
-staying-none c s closed = no-places (keeps c s) (first_latch c.aig) (λ v h. keeps-other c s v (latch_at-before c.aig v h) (no-member-before c s closed v (omega arith)))
-
-pub symbols-is : (c : Network) (s : List ℕ) (old : Symbols) (inputs latches outputs bad constraints justice fairness : List Symbol) → old ≡ c.symbols
-    → inputs ≡ old.inputs → latches ≡ map (moved_name c s) (filter (stays c s) old.latches) → outputs ≡ old.outputs → bad ≡ old.bad → constraints ≡ old.constraints → justice ≡ old.justice → fairness ≡ old.fairness
-    → record { inputs = inputs; latches = latches; outputs = outputs; bad = bad; constraints = constraints; justice = justice; fairness = fairness } ≡ moved_symbols c s
+pub symbols-is : (m : Move) (old : Symbols) (inputs latches outputs bad constraints justice fairness : List Symbol) → old ≡ m.circuit.symbols
+    → inputs ≡ old.inputs → latches ≡ map (moved_name m) (filter (stays m) old.latches) → outputs ≡ old.outputs → bad ≡ old.bad → constraints ≡ old.constraints → justice ≡ old.justice → fairness ≡ old.fairness
+    → record { inputs = inputs; latches = latches; outputs = outputs; bad = bad; constraints = constraints; justice = justice; fairness = fairness } ≡ moved_symbols m
 unfolding moved_symbols
-symbols-is c s old inputs latches outputs bad constraints justice fairness same e1 e2 e3 e4 e5 e6 e7 = cc
+symbols-is m old inputs latches outputs bad constraints justice fairness same e1 e2 e3 e4 e5 e6 e7 = cc
 
 -- one more name of a latch, which stays or not
-pub name-stays : (c : Network) (s : List ℕ) (names : List Symbol) (i : ℕ) (name : Symbol) (copies pushed : List Symbol) (copy : Symbol) (position : ℕ)
-    → i < length names → name ≡ get_or names i name → copies ≡ map (moved_name c s) (filter (stays c s) (take i names))
-    → cond (stays c s name) (Some (moved_name c s name).position) None ≡ Some position → copy ≡ record name { position = position } → pushed ≡ copies ++ copy ∷ []
-    → pushed ≡ map (moved_name c s) (filter (stays c s) (take (i + 1) names))
-name-stays c s names i name copies pushed copy position within read told answer made push =
-    let parts = cond_some (stays c s name) (moved_name c s name).position position answer in
-    let one : cond (stays c s (get_or names i name)) (get_or names i name ∷ []) [] ≡ name ∷ [] =
-    ap (λ (x : Symbol). cond (stays c s x) (x ∷ []) []) (sym read) ∙ cond-true (stays c s name) (name ∷ []) [] parts.0 in
-    let more : filter (stays c s) (take (i + 1) names) ≡ filter (stays c s) (take i names) ++ name ∷ [] =
-    filter_more (stays c s) names i name within ∙ ap (λ (xs : List Symbol). filter (stays c s) (take i names) ++ xs) one in
-    let here : copy ≡ moved_name c s name = made ∙ ap (λ (n : ℕ). symbol_at name n) (sym parts.1) in
-    push ∙ ap (λ (xs : List Symbol). xs ++ copy ∷ []) told ∙ ap (λ (x : Symbol). map (moved_name c s) (filter (stays c s) (take i names)) ++ x ∷ []) here
-    ∙ sym (map_push (moved_name c s) (filter (stays c s) (take i names)) name) ∙ ap (map (moved_name c s)) (sym more)
+pub name-stays : (m : Move) (names : List Symbol) (i : ℕ) (name : Symbol) (copies pushed : List Symbol) (copy : Symbol) (position : ℕ)
+    → i < length names → name ≡ get_or names i name → copies ≡ map (moved_name m) (filter (stays m) (take i names))
+    → cond (stays m name) (Some (moved_name m name).position) None ≡ Some position → copy ≡ record name { position = position } → pushed ≡ copies ++ copy ∷ []
+    → pushed ≡ map (moved_name m) (filter (stays m) (take (i + 1) names))
+name-stays m names i name copies pushed copy position within read listed answer made push =
+    let parts = cond_some (stays m name) (moved_name m name).position position answer in
+    let one : cond (stays m (get_or names i name)) (get_or names i name ∷ []) [] ≡ name ∷ [] =
+    ap (λ (x : Symbol). cond (stays m x) (x ∷ []) []) (sym read) ∙ cond-true (stays m name) (name ∷ []) [] parts.0 in
+    let more : filter (stays m) (take (i + 1) names) ≡ filter (stays m) (take i names) ++ name ∷ [] =
+    filter_more (stays m) names i name within ∙ ap (λ (xs : List Symbol). filter (stays m) (take i names) ++ xs) one in
+    let here : copy ≡ moved_name m name = made ∙ ap (λ (n : ℕ). symbol_at name n) (sym parts.1) in
+    push ∙ ap (λ (xs : List Symbol). xs ++ copy ∷ []) listed ∙ ap (λ (x : Symbol). map (moved_name m) (filter (stays m) (take i names)) ++ x ∷ []) here
+    ∙ sym (map_push (moved_name m) (filter (stays m) (take i names)) name) ∙ ap (map (moved_name m)) (sym more)
   where
     symbol_at : Symbol → ℕ → Symbol
     symbol_at x n = record x { position = n }
 
-pub name-goes : (c : Network) (s : List ℕ) (names : List Symbol) (i : ℕ) (name : Symbol) (copies : List Symbol)
-    → i < length names → name ≡ get_or names i name → copies ≡ map (moved_name c s) (filter (stays c s) (take i names))
-    → cond (stays c s name) (Some (moved_name c s name).position) None ≡ None
-    → copies ≡ map (moved_name c s) (filter (stays c s) (take (i + 1) names))
-name-goes c s names i name copies within read told answer =
-    let gone : stays c s name ≡ false = false_from_ne_true (stays c s name) (λ passes. none-some (moved_name c s name).position (sym answer ∙ cond-true (stays c s name) (Some (moved_name c s name).position) None passes)) in
-    let one : cond (stays c s (get_or names i name)) (get_or names i name ∷ []) [] ≡ [] =
-    ap (λ (x : Symbol). cond (stays c s x) (x ∷ []) []) (sym read) ∙ cond-false (stays c s name) (name ∷ []) [] gone in
-    let same : filter (stays c s) (take (i + 1) names) ≡ filter (stays c s) (take i names) =
-    filter_more (stays c s) names i name within ∙ ap (λ (xs : List Symbol). filter (stays c s) (take i names) ++ xs) one ∙ append-nil (filter (stays c s) (take i names)) in
-    told ∙ ap (map (moved_name c s)) (sym same)
+pub name-goes : (m : Move) (names : List Symbol) (i : ℕ) (name : Symbol) (copies : List Symbol)
+    → i < length names → name ≡ get_or names i name → copies ≡ map (moved_name m) (filter (stays m) (take i names))
+    → cond (stays m name) (Some (moved_name m name).position) None ≡ None
+    → copies ≡ map (moved_name m) (filter (stays m) (take (i + 1) names))
+name-goes m names i name copies within read listed answer =
+    let gone : stays m name ≡ false = false_from_ne_true (stays m name) (λ passes. none-some (moved_name m name).position (sym answer ∙ cond-true (stays m name) (Some (moved_name m name).position) None passes)) in
+    let one : cond (stays m (get_or names i name)) (get_or names i name ∷ []) [] ≡ [] =
+    ap (λ (x : Symbol). cond (stays m x) (x ∷ []) []) (sym read) ∙ cond-false (stays m name) (name ∷ []) [] gone in
+    let same : filter (stays m) (take (i + 1) names) ≡ filter (stays m) (take i names) =
+    filter_more (stays m) names i name within ∙ ap (λ (xs : List Symbol). filter (stays m) (take i names) ++ xs) one ∙ append-nil (filter (stays m) (take i names)) in
+    listed ∙ ap (map (moved_name m)) (sym same)
+
+-- what a loop over the resets of gates reads
+pub resets-within : (g : Graph) (held : List ℕ) (resets : List Reset) (first k : ℕ) → resets ≡ gate_resets g held → first ≡ first_gate g → k < length resets → first + k < variables_end g
+resets-within g held resets first k filled starts within =
+    omega (arith, ap (λ (xs : List Reset). length xs) filled, length-table (first_gate g) (length g.gates) (start_reset g held))
+
+pub reset-there : (g : Graph) (held : List ℕ) (resets : List Reset) (k : ℕ) (d : Reset) → resets ≡ gate_resets g held → k < length resets → get_or resets k d ≡ start_reset g held (first_gate g + k)
+reset-there g held resets k d filled within =
+    ap (λ (xs : List Reset). get_or xs k d) filled
+    ∙ table-at (first_gate g) (length g.gates) (start_reset g held) k d
+    (omega (arith, ap (λ (xs : List Reset). length xs) filled, length-table (first_gate g) (length g.gates) (start_reset g held)))

@@ -1,23 +1,25 @@
 -- How many latches a moved graph has, and which of them are free.
-use Rattle.std.proofs.Common.{ℕ, ◌+◌, ◌-◌, ◌^◌, ◌≤◌, ◌≡◌, inl, inr, suc, zero, List, length, map, take, count_by, Bool, true, false, ◌&&◌, ◌||◌, not, Option, Some, None, refl, arith, ap, sym, ◌∙◌, add-one}
+use Rattle.std.proofs.Common.{ℕ, ◌+◌, ◌-◌, ◌≤◌, ◌≡◌, inl, inr, suc, zero, List, length, map, take, count_by, Bool, true, false, ◌&&◌, ◌||◌, not, Option, Some, None, refl, arith, ap, sym, ◌∙◌, add-one}
 use Rattle.std.proofs.lemmas.Bool.{cases_Bool, and_from, and_left, and_right, or_from, not_from_true, le-leb}
 use Rattle.std.proofs.lemmas.Option.{get_or_from_slice_get}
 use Rattle.std.proofs.lemmas.List.{take-map}
 use Rattle.std.proofs.lemmas.List.Sums.{count_by_more_no, count_by_more_yes}
+use Rattle.aig_graph.proofs.KindLaws.{LatchPlace, element, latch_at-before, latch_at-first_latch, latch_at-gates, latch_place}
+use Rattle.aig_graph.specs.Border.{border_size, in_border, is_read}
+use Rattle.aig_graph.specs.Closed.{IsClosedSet, is_held}
+use Rattle.aig_graph.specs.Graph.{Graph, first_gate, first_latch, free_before, free_latches, is_free, is_known, known_latches, latch_at, variables_end}
+use Rattle.aig_graph.specs.Move.{Move}
+use Rattle.aig_graph.specs.Value.{reset_to}
 use Rattle.aig_graph.specs.declared.graph.Latch.{Latch}
-use Rattle.aig_graph.specs.Graph.{Graph, variables_end, first_latch, first_gate}
-use Rattle.aig_graph.specs.Circuits.{Network}
-use Rattle.aig_graph.specs.Closed.{latch_at, is_known}
-use Rattle.aig_graph.specs.Value.{is_free, free_before}
-use Rattle.aig_graph.specs.Streams.{free_latches}
-use Rattle.aig_graph.specs.Border.{has, is_read, in_border, count_below, border_size, IsClosedSet}
-use Rattle.rebuild.specs.Places.{places}
-use Rattle.rebuild.specs.Moved.{is_free_latch, keeps, is_outer, latch_from, latch_for, reset_to, value_at_start, moved_graph}
-use Rattle.rebuild.proofs.PlacesLemmas.{take-places, count-pass, count-fail}
-use Rattle.rebuild.proofs.CountLaws.{count-same, count-none, count-or, count-split, count_by-places}
-use Rattle.rebuild.proofs.KindLaws.{element, latch_at-before, latch_at-first_latch, latch_at-gates, LatchPlace, latch_place}
-use Rattle.rebuild.proofs.BorderLaws.{no-member-before, not_outer_before, kept_where_free}
-use Rattle.rebuild.proofs.MovedLaws.{length-moved_latches, length-moved_gates, moved-inputs}
+use Rattle.aig_graph.specs.declared.literal.TheConstants.{MAX_VARIABLES}
+use Rattle.rebuild.proofs.BorderLaws.{closed-passable, latched_where_free, no-member-before, not_outside_before}
+use Rattle.rebuild.proofs.MovedLaws.{length-moved_gates, length-moved_latches, moved-inputs}
+use Rattle.rebuild.specs.Moved.{is_free_latch, is_latched, is_outside, latch_for, latch_from, moved_graph}
+use Rattle.rebuild.specs.Starting.{start_value}
+use Rattle.variable_tables.proofs.CountingLemmas.{count-none, count-or, count-split, count_below-same, count_by-places}
+use Rattle.variable_tables.proofs.PlacesLemmas.{count-fail, count-pass, take-places}
+use Rattle.variable_tables.specs.Counting.{count_below, places}
+use Rattle.variable_tables.specs.Marking.{has}
 
 abbrev pub is_free_at : Graph → ℕ → Bool
 is_free_at g v = is_free_latch (latch_at g v)
@@ -56,75 +58,111 @@ free-count_rest g (suc k) =
 pub free-count_all : (g : Graph) → count_below (is_free_at g) (variables_end g) ≡ free_latches g
 free-count_all g = free-count_rest g (length g.gates)
 
-module _ (c : Network) (s : List ℕ) (set : IsClosedSet c.aig s) where
+module _ (m : Move) (set : IsClosedSet m.circuit.aig m.held m.set) where
   -- a free latch isn't in the border
-  free-apart : (v : ℕ) → is_free_at c.aig v ≡ true → in_border c s v ≡ false
+  free-apart : (v : ℕ) → is_free_at m.circuit.aig v ≡ true → in_border m v ≡ false
   unfolding in_border
-  free-apart v free = go (latch_at c.aig v) refl
+  free-apart v free = go (latch_at m.circuit.aig v) refl
     where
-      go : (o : Option Latch) → latch_at c.aig v ≡ o → in_border c s v ≡ false
+      go : (o : Option Latch) → latch_at m.circuit.aig v ≡ o → in_border m v ≡ false
       go None e = let clash : false ≡ true = ap is_free_latch (sym e) ∙ free in absurd (cc)
       go (Some latch) e =
-          let place : LatchPlace c.aig v latch = latch_place c.aig v latch e in
+          let place : LatchPlace m.circuit.aig v latch = latch_place m.circuit.aig v latch e in
           let freed : is_free latch ≡ true = ap is_free_latch (sym e) ∙ free in
-          let unknown : is_known (latch_at c.aig v) ≡ false = ap is_known e ∙ not_from_true (is_free latch) freed in
-          and_left (is_known (latch_at c.aig v) || has s v) (is_read c s v) (or_from (is_known (latch_at c.aig v)) (has s v) unknown (no-member-before c s set.closed v (omega arith)))
+          let unknown : is_known (latch_at m.circuit.aig v) ≡ false = ap is_known e ∙ not_from_true (is_free latch) freed in
+          and_left (is_known (latch_at m.circuit.aig v) || has m.set v) (is_held m.circuit.aig m.held v || is_read m.circuit m.set v) (or_from (is_known (latch_at m.circuit.aig v)) (has m.set v) unknown (no-member-before m (closed-passable m set.closed) v (omega arith)))
 
-  pub count-keeps : count_below (keeps c s) (variables_end c.aig) ≡ free_latches c.aig + border_size c s
-  unfolding keeps border_size
-  count-keeps =
-      let both : count_below (keeps c s) (variables_end c.aig) ≡ count_below (is_free_at c.aig) (variables_end c.aig) + count_below (in_border c s) (variables_end c.aig) =
-      count-or (is_free_at c.aig) (in_border c s) (keeps c s) (variables_end c.aig) (λ v h. refl) (λ v h free. free-apart v free) in
-      both ∙ ap (λ (n : ℕ). n + count_below (in_border c s) (variables_end c.aig)) (free-count_all c.aig)
+  pub count-is_latched : count_below (is_latched m) (variables_end m.circuit.aig) ≡ free_latches m.circuit.aig + border_size m
+  unfolding is_latched border_size
+  count-is_latched =
+      let both : count_below (is_latched m) (variables_end m.circuit.aig) ≡ count_below (is_free_at m.circuit.aig) (variables_end m.circuit.aig) + count_below (in_border m) (variables_end m.circuit.aig) =
+      count-or (is_free_at m.circuit.aig) (in_border m) (is_latched m) (variables_end m.circuit.aig) (λ v h. refl) (λ v h free. free-apart v free) in
+      both ∙ ap (λ (n : ℕ). n + count_below (in_border m) (variables_end m.circuit.aig)) (free-count_all m.circuit.aig)
 
-  pub count-gates : count_below (has s) (variables_end c.aig) + count_below (is_outer c.aig s) (variables_end c.aig) ≡ length c.aig.gates
-  unfolding is_outer
+  pub count-gates : count_below (has m.set) (variables_end m.circuit.aig) + count_below (is_outside m) (variables_end m.circuit.aig) ≡ length m.circuit.aig.gates
+  unfolding is_outside
   count-gates =
-      let split : count_below (has s) (variables_end c.aig) + count_below (is_outer c.aig s) (variables_end c.aig) ≡ variables_end c.aig - first_gate c.aig =
-      count-split (has s) (is_outer c.aig s) (first_gate c.aig) (variables_end c.aig) (omega arith)
-      (λ v h. (no-member-before c s set.closed v h, not_outer_before c s v h))
-      (λ v h. ap (λ (b : Bool). b && not (has s v)) (le-leb (first_gate c.aig) v h)) in
+      let split : count_below (has m.set) (variables_end m.circuit.aig) + count_below (is_outside m) (variables_end m.circuit.aig) ≡ variables_end m.circuit.aig - first_gate m.circuit.aig =
+      count-split (has m.set) (is_outside m) (first_gate m.circuit.aig) (variables_end m.circuit.aig) (omega arith)
+      (λ v h. (no-member-before m (closed-passable m set.closed) v h, not_outside_before m v h))
+      (λ v h. ap (λ (b : Bool). b && not (has m.set v)) (le-leb (first_gate m.circuit.aig) v h)) in
       omega arith
 
   -- the number of gates is unchanged
-  pub moved-gates : length (moved_graph c s).gates ≡ length c.aig.gates
-  moved-gates = omega (arith, length-moved_gates c s set, count-gates)
+  pub moved-gates : length (moved_graph m).gates ≡ length m.circuit.aig.gates
+  moved-gates = omega (arith, length-moved_gates m set, count-gates)
 
-  pub moved-room : 1 + c.aig.inputs + free_latches c.aig + border_size c s + length c.aig.gates ≤ 2 ^ 28 → variables_end (moved_graph c s) ≤ 2 ^ 28
-  moved-room room = omega (arith, moved-inputs c s, moved-gates, length-moved_latches c s, count-keeps)
+  pub moved-room : 1 + m.circuit.aig.inputs + free_latches m.circuit.aig + border_size m + length m.circuit.aig.gates ≤ MAX_VARIABLES → variables_end (moved_graph m) ≤ MAX_VARIABLES
+  moved-room room = omega (arith, moved-inputs m, moved-gates, length-moved_latches m, count-is_latched)
 
   -- what is free after the move was so before
-  same_free : (w : ℕ) → (keeps c s w && is_free (latch_for c s w)) ≡ is_free_at c.aig w
-  same_free w = go (latch_at c.aig w) refl
+  same_free : (w : ℕ) → (is_latched m w && is_free (latch_for m w)) ≡ is_free_at m.circuit.aig w
+  same_free w = go (latch_at m.circuit.aig w) refl
     where
       new_is_known : (b : Bool) (next : ℕ) → is_free (record { next = next; reset = reset_to b }) ≡ false
       new_is_known true next = refl
       new_is_known false next = refl
 
-      go : (o : Option Latch) → latch_at c.aig w ≡ o → (keeps c s w && is_free (latch_for c s w)) ≡ is_free_at c.aig w
+      go : (o : Option Latch) → latch_at m.circuit.aig w ≡ o → (is_latched m w && is_free (latch_for m w)) ≡ is_free_at m.circuit.aig w
       go None e =
-          and_right (keeps c s w) (is_free (latch_for c s w)) (ap (λ (o : Option Latch). is_free (latch_from c s w o)) e ∙ new_is_known (value_at_start c.aig w) (latch_from c s w None).next)
+          and_right (is_latched m w) (is_free (latch_for m w)) (ap (λ (o : Option Latch). is_free (latch_from m w o)) e ∙ new_is_known (start_value m.circuit.aig w) (latch_from m w None).next)
           ∙ sym (ap is_free_latch e)
       go (Some latch) e =
-          let same : is_free (latch_for c s w) ≡ is_free latch = ap (λ (o : Option Latch). is_free (latch_from c s w o)) e in
+          let same : is_free (latch_for m w) ≡ is_free latch = ap (λ (o : Option Latch). is_free (latch_from m w o)) e in
           elim (cases_Bool (is_free latch)) [
-            | inl free ↦ and_from (keeps c s w) (is_free (latch_for c s w)) (kept_where_free c s w latch e free) (same ∙ free) ∙ sym (ap is_free_latch e ∙ free)
-            | inr known ↦ and_right (keeps c s w) (is_free (latch_for c s w)) (same ∙ known) ∙ sym (ap is_free_latch e ∙ known)
+            | inl free ↦ and_from (is_latched m w) (is_free (latch_for m w)) (latched_where_free m w latch e free) (same ∙ free) ∙ sym (ap is_free_latch e ∙ free)
+            | inr known ↦ and_right (is_latched m w) (is_free (latch_for m w)) (same ∙ known) ∙ sym (ap is_free_latch e ∙ known)
           ]
 
-  moved-free_before : (v : ℕ) → v ≤ variables_end c.aig → free_before (moved_graph c s) (count_below (keeps c s) v) ≡ count_below (is_free_at c.aig) v
+  moved-free_before : (v : ℕ) → v ≤ variables_end m.circuit.aig → free_before (moved_graph m) (count_below (is_latched m) v) ≡ count_below (is_free_at m.circuit.aig) v
   unfolding moved_graph
   moved-free_before v h =
-      ap (count_by is_free) (take-map (latch_for c s) (count_below (keeps c s) v) (places (keeps c s) (variables_end c.aig)))
-      ∙ ap (λ (xs : List ℕ). count_by is_free (map (latch_for c s) xs)) (take-places (keeps c s) (variables_end c.aig) v h)
-      ∙ count_by-places is_free (latch_for c s) (keeps c s) v
-      ∙ count-same (λ w. keeps c s w && is_free (latch_for c s w)) (is_free_at c.aig) v (λ w less. same_free w)
+      ap (count_by is_free) (take-map (latch_for m) (count_below (is_latched m) v) (places (is_latched m) (variables_end m.circuit.aig)))
+      ∙ ap (λ (xs : List ℕ). count_by is_free (map (latch_for m) xs)) (take-places (is_latched m) (variables_end m.circuit.aig) v h)
+      ∙ count_by-places is_free (latch_for m) (is_latched m) v
+      ∙ count_below-same (λ w. is_latched m w && is_free (latch_for m w)) (is_free_at m.circuit.aig) v (λ w less. same_free w)
 
   -- as many free latches
-  pub moved-free : free_latches (moved_graph c s) ≡ free_latches c.aig
+  pub moved-free : free_latches (moved_graph m) ≡ free_latches m.circuit.aig
   moved-free =
-      ap (free_before (moved_graph c s)) (length-moved_latches c s) ∙ moved-free_before (variables_end c.aig) (omega arith) ∙ free-count_all c.aig
+      ap (free_before (moved_graph m)) (length-moved_latches m) ∙ moved-free_before (variables_end m.circuit.aig) (omega arith) ∙ free-count_all m.circuit.aig
 
   -- and each at its place among them
-  pub moved-free_at : (j : ℕ) → j ≤ length c.aig.latches → free_before (moved_graph c s) (count_below (keeps c s) (first_latch c.aig + j)) ≡ free_before c.aig j
-  moved-free_at j h = moved-free_before (first_latch c.aig + j) (omega arith) ∙ free-count c.aig j h
+  pub moved-free_at : (j : ℕ) → j ≤ length m.circuit.aig.latches → free_before (moved_graph m) (count_below (is_latched m) (first_latch m.circuit.aig + j)) ≡ free_before m.circuit.aig j
+  moved-free_at j h = moved-free_before (first_latch m.circuit.aig + j) (omega arith) ∙ free-count m.circuit.aig j h
+
+  -- a latch of the moved circuit is known exactly where it is one of the border
+  same_known : (w : ℕ) → (is_latched m w && not (is_free (latch_for m w))) ≡ in_border m w
+  unfolding is_latched
+  same_known w = go (latch_at m.circuit.aig w) refl
+    where
+      new_is_known : (b : Bool) (next : ℕ) → not (is_free (record { next = next; reset = reset_to b })) ≡ true
+      new_is_known true next = refl
+      new_is_known false next = refl
+
+      and_true : (a b : Bool) → b ≡ true → (a && b) ≡ a
+      and_true true b h = h
+      and_true false b h = refl
+
+      go : (o : Option Latch) → latch_at m.circuit.aig w ≡ o → ((is_free_latch (latch_at m.circuit.aig w) || in_border m w) && not (is_free (latch_for m w))) ≡ in_border m w
+      go None e =
+          let known : not (is_free (latch_for m w)) ≡ true = ap (λ (o : Option Latch). not (is_free (latch_from m w o))) e ∙ new_is_known (start_value m.circuit.aig w) (latch_from m w None).next in
+          and_true (is_free_latch (latch_at m.circuit.aig w) || in_border m w) (not (is_free (latch_for m w))) known
+          ∙ ap (λ (o : Option Latch). is_free_latch o || in_border m w) e
+      go (Some latch) e =
+          let same : is_free (latch_for m w) ≡ is_free latch = ap (λ (o : Option Latch). is_free (latch_from m w o)) e in
+          elim (cases_Bool (is_free latch)) [
+            | inl free ↦
+                and_right (is_free_latch (latch_at m.circuit.aig w) || in_border m w) (not (is_free (latch_for m w))) (ap not (same ∙ free))
+                ∙ sym (free-apart w (ap is_free_latch e ∙ free))
+            | inr known ↦
+                and_true (is_free_latch (latch_at m.circuit.aig w) || in_border m w) (not (is_free (latch_for m w))) (ap not (same ∙ known))
+                ∙ ap (λ (b : Bool). b || in_border m w) (ap is_free_latch e ∙ known)
+          ]
+
+  -- as many known latches as the border has
+  pub moved-known : known_latches (moved_graph m) ≡ border_size m
+  unfolding moved_graph border_size
+  moved-known =
+      count_by-places (λ (latch : Latch). not (is_free latch)) (latch_for m) (is_latched m) (variables_end m.circuit.aig)
+      ∙ count_below-same (λ w. is_latched m w && not (is_free (latch_for m w))) (in_border m) (variables_end m.circuit.aig) (λ w less. same_known w)

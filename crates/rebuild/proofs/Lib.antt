@@ -1,9 +1,4 @@
-pub mod PlacesLemmas
-pub mod CountLaws
-pub mod SetPlaces
-pub mod TableLemmas
 pub mod SignLaws
-pub mod KindLaws
 pub mod BorderLaws
 pub mod MovedLaws
 pub mod FreeLaws
@@ -11,7 +6,6 @@ pub mod ReadLaws
 pub mod NameLaws
 pub mod StartLaws
 pub mod StreamLaws
-pub mod KeptLaws
 pub mod PlanLaws
 pub mod BuildLaws
 pub mod Examples

@@ -5,15 +5,17 @@ use Rattle.std.specs.List.Sorted.{IsStrictlyIncreasing}
 use Rattle.std.proofs.lemmas.List.{length-map, get_or-map}
 use Rattle.std.proofs.lemmas.List.Elements.{All-filter, All-map, All-get_or, filter_passes}
 use Rattle.std.proofs.lemmas.List.Kept.{IsStrictlyIncreasing-filter}
-use Rattle.aig_graph.specs.declared.properties.Symbol.{Symbol}
-use Rattle.aig_graph.specs.Graph.{IsGraph, variables_end, first_latch}
-use Rattle.aig_graph.specs.Circuits.{Network, IsNetwork, AreNamesBelow, AreSymbolsOf}
+use Rattle.aig_graph.specs.Circuits.{AreNamesBelow, AreSymbolsOf, IsNetwork}
+use Rattle.aig_graph.specs.Closed.{IsClosedSet}
+use Rattle.aig_graph.specs.Graph.{IsGraph, first_latch, variables_end}
+use Rattle.aig_graph.specs.Move.{Move}
 use Rattle.aig_graph.specs.Streams.{SameShape}
-use Rattle.aig_graph.specs.Border.{IsClosedSet, count_below}
-use Rattle.rebuild.specs.Moved.{keeps, moved_graph, moved_props, moved_symbols, moved_of}
-use Rattle.rebuild.proofs.PlacesLemmas.{count-lt, count-le}
+use Rattle.aig_graph.specs.declared.properties.Symbol.{Symbol}
 use Rattle.rebuild.proofs.MovedLaws.{length-moved_latches}
-use Rattle.rebuild.proofs.ReadLaws.{moved-shape, moved-props}
+use Rattle.rebuild.proofs.ReadLaws.{moved-props, moved-shape}
+use Rattle.rebuild.specs.Moved.{is_latched, moved_graph, moved_of, moved_props, moved_symbols}
+use Rattle.variable_tables.proofs.PlacesLemmas.{count-le, count-lt}
+use Rattle.variable_tables.specs.Counting.{count_below}
 
 module _ (p : ℕ → Bool) (start : ℕ) where
   abbrev pass_at : ℕ → Bool
@@ -62,28 +64,28 @@ module _ (p : ℕ → Bool) (start : ℕ) where
             omega arith);
       }
 
-module _ (c : Network) (s : List ℕ) (valid : IsGraph c.aig) (set : IsClosedSet c.aig s) (network : IsNetwork c) where
+module _ (m : Move) (valid : IsGraph m.circuit.aig) (set : IsClosedSet m.circuit.aig m.held m.set) (network : IsNetwork m.circuit) where
   names-as_many : (n m : ℕ) (names : List Symbol) → m ≡ n → AreNamesBelow n names → AreNamesBelow m names
   names-as_many n m names same names_below = let P : ℕ → Type 0 = λ k. AreNamesBelow k names in subst P (sym same) names_below
 
-  moved-symbols : AreSymbolsOf (moved_graph c s) (moved_props c s) (moved_symbols c s)
+  moved-symbols : AreSymbolsOf (moved_graph m) (moved_props m) (moved_symbols m)
   unfolding moved_symbols
   moved-symbols =
-      let shape : SameShape c (moved_of c s) = moved-shape c s in
+      let shape : SameShape m.circuit (moved_of m) = moved-shape m in
       let names = network.symbols in
       record {
-        inputs = names-as_many c.aig.inputs (moved_graph c s).inputs c.symbols.inputs shape.inputs names.inputs;
-        latches = ranked-names (keeps c s) (first_latch c.aig) (length c.aig.latches) (length (moved_graph c s).latches) c.symbols.latches
-            (omega (arith, length-moved_latches c s, count-le (keeps c s) (first_latch c.aig + length c.aig.latches) (variables_end c.aig) (omega arith))) names.latches;
-        outputs = names-as_many (length c.props.outputs) (length (moved_props c s).outputs) c.symbols.outputs shape.outputs names.outputs;
-        bad = names-as_many (length c.props.bad) (length (moved_props c s).bad) c.symbols.bad shape.bad names.bad;
-        constraints = names-as_many (length c.props.constraints) (length (moved_props c s).constraints) c.symbols.constraints shape.constraints names.constraints;
-        justice = names-as_many (length c.props.justice) (length (moved_props c s).justice) c.symbols.justice (same_lengths c.props.justice (moved_props c s).justice shape.justice) names.justice;
-        fairness = names-as_many (length c.props.fairness) (length (moved_props c s).fairness) c.symbols.fairness shape.fairness names.fairness;
+        inputs = names-as_many m.circuit.aig.inputs (moved_graph m).inputs m.circuit.symbols.inputs shape.inputs names.inputs;
+        latches = ranked-names (is_latched m) (first_latch m.circuit.aig) (length m.circuit.aig.latches) (length (moved_graph m).latches) m.circuit.symbols.latches
+            (omega (arith, length-moved_latches m, count-le (is_latched m) (first_latch m.circuit.aig + length m.circuit.aig.latches) (variables_end m.circuit.aig) (omega arith))) names.latches;
+        outputs = names-as_many (length m.circuit.props.outputs) (length (moved_props m).outputs) m.circuit.symbols.outputs shape.outputs names.outputs;
+        bad = names-as_many (length m.circuit.props.bad) (length (moved_props m).bad) m.circuit.symbols.bad shape.bad names.bad;
+        constraints = names-as_many (length m.circuit.props.constraints) (length (moved_props m).constraints) m.circuit.symbols.constraints shape.constraints names.constraints;
+        justice = names-as_many (length m.circuit.props.justice) (length (moved_props m).justice) m.circuit.symbols.justice (same_lengths m.circuit.props.justice (moved_props m).justice shape.justice) names.justice;
+        fairness = names-as_many (length m.circuit.props.fairness) (length (moved_props m).fairness) m.circuit.symbols.fairness shape.fairness names.fairness;
       }
     where
       same_lengths : (xs ys : List (List ℕ)) → map (length {A = ℕ}) ys ≡ map (length {A = ℕ}) xs → length ys ≡ length xs
       same_lengths xs ys e = sym (length-map ys (length {A = ℕ})) ∙ ap (length {A = ℕ}) e ∙ length-map xs (length {A = ℕ})
 
-  pub IsNetwork-moved : IsNetwork (moved_of c s)
-  IsNetwork-moved = record { props = moved-props c s valid set network; symbols = moved-symbols }
+  pub IsNetwork-moved : IsNetwork (moved_of m)
+  IsNetwork-moved = record { props = moved-props m valid set network; symbols = moved-symbols }

@@ -1,22 +1,89 @@
 -- The tables of a plan.
-use Rattle.std.proofs.Common.{ℕ, ◌+◌, ◌<◌, ◌≤◌, ◌≡◌, ◌^◌, inl, inr, List, length, Bool, true, arith, ap, sym, ◌∙◌, Option, Some, None, refl}
+use Rattle.std.proofs.Common.{subst, ℕ, ◌+◌, ◌-◌, ◌<◌, ◌≤◌, ◌≡◌, inl, inr, List, [], ◌∷◌, ◌++◌, length, Bool, true, false, ◌&&◌, ◌||◌, replicate, arith, ap, sym, ◌∙◌, Option, Some, None, refl}
 use Rattle.std.proofs.lemmas.Bool.{cases_Bool}
-use Rattle.aig_graph.specs.Graph.{Graph, IsGraph, variable, variables_end, first_latch}
+use Rattle.std.proofs.lemmas.List.{length-replicate}
+use Rattle.aig_graph.proofs.KindLaws.{LatchPlace, latch_at-before, latch_place}
+use Rattle.aig_graph.proofs.ReadingLemmas.{is_read_outside-marks}
+use Rattle.aig_graph.specs.Border.{in_border, is_read, is_read_outside}
+use Rattle.aig_graph.specs.Closed.{both, is_held}
+use Rattle.aig_graph.specs.Graph.{Graph, IsGraph, first_latch, is_known, latch_at, latches_and_gates, variable, variables_end}
+use Rattle.aig_graph.specs.Move.{Move}
 use Rattle.aig_graph.specs.declared.graph.Latch.{Latch}
-use Rattle.aig_graph.specs.Circuits.{Network}
-use Rattle.aig_graph.specs.Closed.{latch_at}
-use Rattle.aig_graph.specs.Border.{has, count_below}
-use Rattle.rebuild.specs.Places.{numbered}
-use Rattle.rebuild.specs.Moved.{keeps, is_outer, outer_start, copies_start, outside_variable, copy_variable, next_of}
-use Rattle.rebuild.specs.Tables.{table, tells}
-use Rattle.rebuild.proofs.PlacesLemmas.{count-lt}
-use Rattle.rebuild.proofs.CountLaws.{count-same}
-use Rattle.rebuild.proofs.KindLaws.{LatchPlace, latch_place}
-use Rattle.rebuild.proofs.MovedLaws.{outer_start-is, copies_start-is, copy_variable-is}
-use Rattle.rebuild.proofs.TableLemmas.{table-same, tells-table, length-table, numbered-first, numbered-next, numbered-other}
+use Rattle.aig_graph.specs.declared.literal.TheConstants.{MAX_VARIABLES}
+use Rattle.aig_graph.specs.declared.properties.Props.{Props}
+use Rattle.rebuild.proofs.BorderLaws.{latched-other, new_variable-leaf, no-member-before, not_outside_before}
+use Rattle.rebuild.proofs.MovedLaws.{copies_start-is, copy_variable-is, gates_start-is}
+use Rattle.rebuild.specs.Entries.{by_variable, latched_by}
+use Rattle.rebuild.specs.Members.{ArePassable}
+use Rattle.rebuild.specs.Moved.{copies_start, copy_variable, gates_start, is_free_latch, is_latched, is_outside, moved_literal, new_variable, next_of}
+use Rattle.variable_tables.proofs.MarkingLemmas.{AreAllMarks-table, AreMarks-from_none, Marks-then, mark_at-all, mark_at-covered}
+use Rattle.variable_tables.proofs.PlacesLemmas.{count-lt}
+use Rattle.variable_tables.proofs.TableLemmas.{entry, length-table, numbered-first, numbered-next, numbered-other, table-end, table-none, table-same, whole-table}
+use Rattle.variable_tables.specs.Counting.{count_below, numbered}
+use Rattle.variable_tables.specs.Marking.{AreAllMarks, Marks, has, mark_at}
+use Rattle.variable_tables.specs.Tables.{table}
 
-pub length-told : {A : Type 0} (n : ℕ) (f : ℕ → A) (xs : List A) → xs ≡ table n f → length xs ≡ n
-length-told {A} n f xs told = ap (λ (ys : List A). length ys) told ∙ length-table n f
+-- a table from the first latch on has an entry for each latch and gate
+pub length-by_variable : {A : Type 0} (g : Graph) (f : ℕ → A) (xs : List A) → xs ≡ by_variable g f → first_latch g + length xs ≡ variables_end g
+length-by_variable {A} g f xs filled = omega (arith, ap (λ (ys : List A). length ys) filled, length-table (first_latch g) (latches_and_gates g) f)
+
+-- a table that is filled variable by variable
+pub table-begin : {A : Type 0} (first v : ℕ) (f : ℕ → A) (xs : List A) → xs ≡ [] → v ≡ first → xs ≡ table first (v - first) f
+table-begin {A} first v f xs empty same = let none : v - first ≡ 0 = omega arith in empty ∙ sym (table-none first f) ∙ ap (λ (n : ℕ). table first n f) (sym none)
+
+pub table-next : {A : Type 0} (first v : ℕ) (f : ℕ → A) (xs ys : List A) (x : A) → first ≤ v → xs ≡ table first (v - first) f → ys ≡ xs ++ x ∷ [] → x ≡ f v → ys ≡ table first (v + 1 - first) f
+table-next {A} first v f xs ys x low filled pushed here =
+    let place : first + (v - first) ≡ v = omega arith in
+    let next : v - first + 1 ≡ v + 1 - first = omega arith in
+    entry first (v - first) f xs ys x filled pushed (here ∙ ap f (sym place)) ∙ ap (λ (n : ℕ). table first n f) next
+
+pub table-whole : {A : Type 0} (g : Graph) (v : ℕ) (f : ℕ → A) (xs : List A) → v ≤ variables_end g → variables_end g ≤ v → xs ≡ table (first_latch g) (v - first_latch g) f → xs ≡ by_variable g f
+table-whole g v f xs low high filled = table-end (first_latch g) (v - first_latch g) (latches_and_gates g) f xs (omega arith) (omega arith) filled
+
+-- what a mark says of a test that passes no variable before the latches
+pub marked-at : (g : Graph) (p : ℕ → Bool) (items marks : List Bool) (first v : ℕ) → marks ≡ items → items ≡ by_variable g p → first ≡ first_latch g
+    → ((w : ℕ) → w < first_latch g → p w ≡ false) → v < variables_end g → mark_at first marks v ≡ p v
+marked-at g p items marks first v same filled starts before within =
+    ap (λ (n : ℕ). mark_at n marks v) starts
+    ∙ mark_at-all (first_latch g) marks p v (AreAllMarks-table (first_latch g) (latches_and_gates g) marks p (same ∙ filled) before)
+    (omega (arith, length-by_variable g p marks (same ∙ filled)))
+
+module _ (m : Move) (passable : ArePassable m.circuit.aig m.held m.set) where
+  pub member-before : (v : ℕ) → v < first_latch m.circuit.aig → has m.set v ≡ false
+  member-before v h = no-member-before m passable v (omega arith)
+
+  pub latched-before : (v : ℕ) → v < first_latch m.circuit.aig → is_latched m v ≡ false
+  latched-before v h = latched-other m v (latch_at-before m.circuit.aig v h) (member-before v h)
+
+  pub outside-before : (v : ℕ) → v < first_latch m.circuit.aig → is_outside m v ≡ false
+  outside-before v h = not_outside_before m v (omega arith)
+
+  pub all-members : (marks : List Bool) → marks ≡ by_variable m.circuit.aig (has m.set) → AreAllMarks (first_latch m.circuit.aig) marks (has m.set)
+  all-members marks filled = AreAllMarks-table (first_latch m.circuit.aig) (latches_and_gates m.circuit.aig) marks (has m.set) filled member-before
+
+  pub all-latched : (marks : List Bool) → marks ≡ by_variable m.circuit.aig (is_latched m) → AreAllMarks (first_latch m.circuit.aig) marks (is_latched m)
+  all-latched marks filled = AreAllMarks-table (first_latch m.circuit.aig) (latches_and_gates m.circuit.aig) marks (is_latched m) filled latched-before
+
+  pub all-outside : (marks : List Bool) → marks ≡ by_variable m.circuit.aig (is_outside m) → AreAllMarks (first_latch m.circuit.aig) marks (is_outside m)
+  all-outside marks filled = AreAllMarks-table (first_latch m.circuit.aig) (latches_and_gates m.circuit.aig) marks (is_outside m) filled outside-before
+
+  -- a literal before the latches stays as it is
+  pub literal-leaf : (lit : ℕ) → variable lit < first_latch m.circuit.aig → moved_literal m lit ≡ lit
+  literal-leaf lit h = let same : new_variable m (variable lit) ≡ variable lit = new_variable-leaf m passable (variable lit) h in omega arith
+
+module _ (m : Move) (room : copies_start m + count_below (has m.set) (variables_end m.circuit.aig) ≤ MAX_VARIABLES) where
+  pub variable-small : variables_end m.circuit.aig ≤ MAX_VARIABLES → (v : ℕ) → v < variables_end m.circuit.aig → new_variable m v < MAX_VARIABLES
+  unfolding new_variable
+  variable-small few v h = elim (cases_Bool (is_latched m v)) [
+    | inl kept ↦ omega (arith, numbered-first (is_latched m) (is_outside m) (first_latch m.circuit.aig) (gates_start m) v kept, gates_start-is m, copies_start-is m, count-lt (is_latched m) v (variables_end m.circuit.aig) h kept)
+    | inr other ↦ elim (cases_Bool (is_outside m v)) [
+      | inl outer ↦ omega (arith, numbered-next (is_latched m) (is_outside m) (first_latch m.circuit.aig) (gates_start m) v other outer, copies_start-is m, count-lt (is_outside m) v (variables_end m.circuit.aig) h outer)
+      | inr rest ↦ omega (arith, numbered-other (is_latched m) (is_outside m) (first_latch m.circuit.aig) (gates_start m) v other rest)
+    ]
+  ]
+
+  pub copy-small : (v : ℕ) → v < variables_end m.circuit.aig → has m.set v ≡ true → copy_variable m v < MAX_VARIABLES
+  copy-small v h member = omega (arith, copy_variable-is m v, count-lt (has m.set) v (variables_end m.circuit.aig) h member)
 
 -- the next literal of a latch is in range
 pub next-in_range : (g : Graph) → IsGraph g → (v : ℕ) → variable (next_of (latch_at g v)) < variables_end g
@@ -26,80 +93,85 @@ next-in_range g valid v = go (latch_at g v) refl
     go None e = omega arith
     go (Some latch) e = let place : LatchPlace g v latch = latch_place g v latch e in valid.latches _ latch place.there
 
-module _ (c : Network) (s : List ℕ) (room : copies_start c s + count_below (has s) (variables_end c.aig) ≤ 2 ^ 28) where
-  pub outside-small : variables_end c.aig ≤ 2 ^ 28 → (v : ℕ) → v < variables_end c.aig → outside_variable c s v < 2 ^ 28
-  unfolding outside_variable
-  outside-small few v h = elim (cases_Bool (keeps c s v)) [
-    | inl kept ↦ omega (arith, numbered-first (keeps c s) (is_outer c.aig s) (first_latch c.aig) (outer_start c s) v kept, outer_start-is c s, copies_start-is c s, count-lt (keeps c s) v (variables_end c.aig) h kept)
-    | inr other ↦ elim (cases_Bool (is_outer c.aig s v)) [
-      | inl outer ↦ omega (arith, numbered-next (keeps c s) (is_outer c.aig s) (first_latch c.aig) (outer_start c s) v other outer, copies_start-is c s, count-lt (is_outer c.aig s) v (variables_end c.aig) h outer)
-      | inr rest ↦ omega (arith, numbered-other (keeps c s) (is_outer c.aig s) (first_latch c.aig) (outer_start c s) v other rest)
-    ]
-  ]
+-- the marks of the members
+pub members-table : (g : Graph) (first n : ℕ) (s vars : List ℕ) (items : List Bool) → items ≡ table first n (has vars) → first ≡ first_latch g → n ≡ latches_and_gates g → vars ≡ s
+    → items ≡ by_variable g (has s)
+members-table g first n s vars items filled starts long same =
+    filled ∙ ap (λ (k : ℕ). table k n (has vars)) starts ∙ ap (λ (k : ℕ). table (first_latch g) k (has vars)) long
+    ∙ ap (λ (ws : List ℕ). table (first_latch g) (latches_and_gates g) (has ws)) same
 
-  pub copy-small : (v : ℕ) → v < variables_end c.aig → has s v ≡ true → copy_variable c s v < 2 ^ 28
-  copy-small v h member = omega (arith, copy_variable-is c s v, count-lt (has s) v (variables_end c.aig) h member)
+or_comm : (a b : Bool) → (a || b) ≡ (b || a)
+or_comm true true = refl
+or_comm true false = refl
+or_comm false true = refl
+or_comm false false = refl
 
--- tests that agree up to a place give it one number
-numbered-same : (p q r t : ℕ → Bool) (first next n v : ℕ) → v < n → ((w : ℕ) → w < n → p w ≡ r w) → ((w : ℕ) → w < n → q w ≡ t w) → numbered p q first next v ≡ numbered r t first next v
-numbered-same p q r t first next n v h same_p same_q =
-    let kept : p v ≡ r v = same_p v h in
-    let outer : q v ≡ t v = same_q v h in
-    let kept_count : count_below p v ≡ count_below r v = count-same p r v (λ w less. same_p w (omega arith)) in
-    let outer_count : count_below q v ≡ count_below t v = count-same q t v (λ w less. same_q w (omega arith)) in
-    elim (cases_Bool (p v)) [
-      | inl here ↦ numbered-first p q first next v here ∙ ap (λ (m : ℕ). first + m) kept_count ∙ sym (numbered-first r t first next v (sym kept ∙ here))
-      | inr other ↦ elim (cases_Bool (q v)) [
-        | inl here ↦ numbered-next p q first next v other here ∙ ap (λ (m : ℕ). next + m) outer_count ∙ sym (numbered-next r t first next v (sym kept ∙ other) (sym outer ∙ here))
-        | inr rest ↦ numbered-other p q first next v other rest ∙ sym (numbered-other r t first next v (sym kept ∙ other) (sym outer ∙ rest))
-      ]
-    ]
+-- what is marked as latched
+latched-here : (m : Move) (inside old new latched : List Bool) → ArePassable m.circuit.aig m.held m.set → inside ≡ by_variable m.circuit.aig (has m.set)
+    → old ≡ replicate (latches_and_gates m.circuit.aig) false
+    → Marks (first_latch m.circuit.aig) old new (λ v. is_read_outside m.circuit.aig m.circuit.props (mark_at (first_latch m.circuit.aig) inside) v || is_held m.circuit.aig m.held v)
+    → latched ≡ by_variable m.circuit.aig (latched_by m.circuit.aig inside new) → latched ≡ by_variable m.circuit.aig (is_latched m)
+unfolding is_latched in_border
+latched-here m inside old new latched passable members fresh both filled =
+    let g : Graph = m.circuit.aig in
+    let all = all-members m passable inside members in
+    let long : first_latch g + length inside ≡ variables_end g = length-by_variable g (has m.set) inside members in
+    let marked = AreMarks-from_none (first_latch g) (latches_and_gates g) old new (λ v. is_read_outside g m.circuit.props (mark_at (first_latch g) inside) v || is_held g m.held v) fresh both in
+    let longer : length new ≡ latches_and_gates g = both.as_long ∙ ap (λ (xs : List Bool). length xs) fresh ∙ length-replicate (latches_and_gates g) false in
+    filled
+    ∙ table-same (first_latch g) (latches_and_gates g) (latched_by g inside new) (is_latched m) false (λ v low high.
+    let member : mark_at (first_latch g) inside v ≡ has m.set v = mark_at-all (first_latch g) inside (has m.set) v all (omega arith) in
+    let mark : mark_at (first_latch g) new v ≡ (is_read_outside g m.circuit.props (mark_at (first_latch g) inside) v || is_held g m.held v) =
+    mark_at-covered (first_latch g) new (λ w. is_read_outside g m.circuit.props (mark_at (first_latch g) inside) w || is_held g m.held w) v marked low (omega arith) in
+    let outside : is_read_outside g m.circuit.props (mark_at (first_latch g) inside) v ≡ is_read m.circuit m.set v =
+    is_read_outside-marks g m.circuit.props inside (has m.set) (omega arith) all.each v in
+    ap (λ (b : Bool). is_free_latch (latch_at g v) || ((is_known (latch_at g v) || b) && mark_at (first_latch g) new v)) member
+    ∙ ap (λ (b : Bool). is_free_latch (latch_at g v) || ((is_known (latch_at g v) || has m.set v) && b))
+    (mark ∙ ap (λ (b : Bool). b || is_held g m.held v) outside ∙ or_comm (is_read m.circuit m.set v) (is_held g m.held v)))
 
--- how many marks a table has
-count-told : (n : ℕ) (p : ℕ → Bool) (marks : List Bool) → marks ≡ table n p → count_below (tells marks) (length marks) ≡ count_below p n
-count-told n p marks told =
-    ap (count_below (tells marks)) (length-told n p marks told) ∙ count-same (tells marks) p n (λ v h. ap (λ (xs : List Bool). tells xs v) told ∙ tells-table n p v h)
+-- the same by the graph and the properties that were read of the circuit
+pub latched-table : (m : Move) (g : Graph) (p : Props) (inside old new latched : List Bool) → g ≡ m.circuit.aig → p ≡ m.circuit.props → ArePassable m.circuit.aig m.held m.set
+    → inside ≡ by_variable m.circuit.aig (has m.set) → old ≡ replicate (latches_and_gates g) false
+    → Marks (first_latch g) old new (λ v. is_read_outside g p (mark_at (first_latch g) inside) v || is_held g m.held v)
+    → latched ≡ by_variable g (latched_by g inside new) → latched ≡ by_variable m.circuit.aig (is_latched m)
+latched-table m g p inside old new latched same_graph same_props passable members fresh both filled =
+    let P : Graph → Type 0 = λ h.
+    old ≡ replicate (latches_and_gates h) false → Marks (first_latch h) old new (λ v. is_read_outside h p (mark_at (first_latch h) inside) v || is_held h m.held v)
+    → latched ≡ by_variable h (latched_by h inside new) → latched ≡ by_variable m.circuit.aig (is_latched m) in
+    let Q : Props → Type 0 = λ q. Marks (first_latch m.circuit.aig) old new (λ v. is_read_outside m.circuit.aig q (mark_at (first_latch m.circuit.aig) inside) v || is_held m.circuit.aig m.held v) in
+    subst P (sym same_graph) (λ fresh both filled. latched-here m inside old new latched passable members fresh (subst Q same_props both) filled) fresh both filled
 
-module _ (c : Network) (s : List ℕ) (kept outer marks : List Bool) (first kept_count outer_count : ℕ)
-    (is_kept : kept ≡ table (variables_end c.aig) (keeps c s)) (is_outside : outer ≡ table (variables_end c.aig) (is_outer c.aig s)) (is_member : marks ≡ table (variables_end c.aig) (has s))
-    (starts : first ≡ first_latch c.aig)
-    (counts_kept : kept_count ≡ count_below (tells kept) (length kept)) (counts_outer : outer_count ≡ count_below (tells outer) (length outer)) where
-  pub outer_start-from : first + kept_count ≡ outer_start c s
-  outer_start-from = omega (arith, outer_start-is c s, count-told (variables_end c.aig) (keeps c s) kept is_kept)
+-- the new variables, as they are counted
+pub variables-table : (m : Move) (first count n : ℕ) (numbers : List ℕ) → numbers ≡ table first n (numbered (is_latched m) (is_outside m) first (first + count))
+    → first ≡ first_latch m.circuit.aig → n ≡ latches_and_gates m.circuit.aig → count ≡ count_below (is_latched m) (variables_end m.circuit.aig)
+    → numbers ≡ by_variable m.circuit.aig (new_variable m)
+unfolding new_variable
+variables-table m first count n numbers filled starts long counted =
+    let start : first + count ≡ gates_start m = omega (arith, gates_start-is m) in
+    filled
+    ∙ ap (λ (k : ℕ). table first n (numbered (is_latched m) (is_outside m) first k)) start
+    ∙ ap (λ (k : ℕ). table k n (numbered (is_latched m) (is_outside m) k (gates_start m))) starts
+    ∙ ap (λ (k : ℕ). table (first_latch m.circuit.aig) k (numbered (is_latched m) (is_outside m) (first_latch m.circuit.aig) (gates_start m))) long
 
-  pub copies_start-from : first + kept_count + outer_count ≡ copies_start c s
-  copies_start-from = omega (arith, outer_start-from, copies_start-is c s, count-told (variables_end c.aig) (is_outer c.aig s) outer is_outside)
+pub copies-table : (m : Move) (first start n : ℕ) (numbers : List ℕ) → numbers ≡ table first n (λ v. start + count_below (has m.set) v)
+    → first ≡ first_latch m.circuit.aig → n ≡ latches_and_gates m.circuit.aig → start ≡ copies_start m → numbers ≡ by_variable m.circuit.aig (copy_variable m)
+unfolding copy_variable
+copies-table m first start n numbers filled starts long here =
+    filled
+    ∙ ap (λ (k : ℕ). table first n (λ v. k + count_below (has m.set) v)) here
+    ∙ ap (λ (k : ℕ). table k n (λ v. copies_start m + count_below (has m.set) v)) starts
+    ∙ ap (λ (k : ℕ). table (first_latch m.circuit.aig) k (λ v. copies_start m + count_below (has m.set) v)) long
 
-  pub outside-table : (numbers : List ℕ) → numbers ≡ table (length kept) (numbered (tells kept) (tells outer) first (first + kept_count)) → numbers ≡ table (variables_end c.aig) (outside_variable c s)
-  unfolding outside_variable
-  outside-table numbers told =
-      told
-      ∙ ap (λ (m : ℕ). table m (numbered (tells kept) (tells outer) first (first + kept_count))) (length-told (variables_end c.aig) (keeps c s) kept is_kept)
-      ∙ ap (λ (m : ℕ). table (variables_end c.aig) (numbered (tells kept) (tells outer) m (first + kept_count))) starts
-      ∙ ap (λ (m : ℕ). table (variables_end c.aig) (numbered (tells kept) (tells outer) (first_latch c.aig) m)) outer_start-from
-      ∙ table-same (variables_end c.aig) (numbered (tells kept) (tells outer) (first_latch c.aig) (outer_start c s)) (outside_variable c s) 0 (λ v h.
-      numbered-same (tells kept) (tells outer) (keeps c s) (is_outer c.aig s) (first_latch c.aig) (outer_start c s) (variables_end c.aig) v h
-      (λ w less. ap (λ (xs : List Bool). tells xs w) is_kept ∙ tells-table (variables_end c.aig) (keeps c s) w less)
-      (λ w less. ap (λ (xs : List Bool). tells xs w) is_outside ∙ tells-table (variables_end c.aig) (is_outer c.aig s) w less))
+-- a table as its entries are read
+pub whole-by_variable : {A : Type 0} (g : Graph) (f : ℕ → A) (items xs : List A) (first : ℕ) → xs ≡ items → items ≡ by_variable g f → first ≡ first_latch g → xs ≡ table first (length xs) f
+whole-by_variable {A} g f items xs first same filled starts =
+    whole-table (first_latch g) (latches_and_gates g) f xs items same filled ∙ ap (λ (n : ℕ). table n (length xs) f) (sym starts)
 
-  pub copies-table : (numbers : List ℕ) → numbers ≡ table (length marks) (λ v. first + kept_count + outer_count + count_below (tells marks) v) → numbers ≡ table (variables_end c.aig) (copy_variable c s)
-  unfolding copy_variable
-  copies-table numbers told =
-      told
-      ∙ ap (λ (m : ℕ). table m (λ v. first + kept_count + outer_count + count_below (tells marks) v)) (length-told (variables_end c.aig) (has s) marks is_member)
-      ∙ ap (λ (m : ℕ). table (variables_end c.aig) (λ v. m + count_below (tells marks) v)) copies_start-from
-      ∙ table-same (variables_end c.aig) (λ v. copies_start c s + count_below (tells marks) v) (copy_variable c s) 0 (λ v h.
-      ap (λ (m : ℕ). copies_start c s + m) (count-same (tells marks) (has s) v (λ w less. ap (λ (xs : List Bool). tells xs w) is_member ∙ tells-table (variables_end c.aig) (has s) w (omega arith))))
+-- what is counted of marks from the first latch on is counted of all variables
+pub counted : (m : Move) (p : ℕ → Bool) (marks : List Bool) (count : ℕ) → marks ≡ by_variable m.circuit.aig p → count ≡ count_below p (first_latch m.circuit.aig + length marks)
+    → count ≡ count_below p (variables_end m.circuit.aig)
+counted m p marks count filled here = here ∙ ap (count_below p) (length-by_variable m.circuit.aig p marks filled)
 
-pub few : (g h : Graph) → IsGraph g → g ≡ h → variables_end h ≤ 2 ^ 28
-few g h valid same = omega (arith, valid.small, ap variables_end same)
-
-pub first-from : (g h : Graph) (inputs : ℕ) → inputs ≡ g.inputs → g ≡ h → 1 + inputs ≡ first_latch h
-first-from g h inputs read same = omega (arith, read, ap (λ (x : Graph). x.inputs) same)
-
-pub outer-told : (g h : Graph) (s : List ℕ) (outer items : List Bool) (m n : ℕ) → outer ≡ items → items ≡ table m (is_outer g s) → m ≡ n → g ≡ h → outer ≡ table n (is_outer h s)
-outer-told g h s outer items m n read told long same =
-    read ∙ told ∙ ap (λ (k : ℕ). table k (is_outer g s)) long ∙ ap (λ (x : Graph). table n (is_outer x s)) same
-
-pub members-told : (s : List ℕ) (marks items : List Bool) (n : ℕ) → marks ≡ items → items ≡ table (length items) (has s) → length items ≡ n → marks ≡ table n (has s)
-members-told s marks items n read told long = read ∙ told ∙ ap (λ (k : ℕ). table k (has s)) long
+-- what is marked by two calls in turn
+pub marks_in_turn : (first : ℕ) (xs ys zs : List Bool) (p q : ℕ → Bool) → Marks first xs ys p → Marks first ys zs q → Marks first xs zs (λ v. p v || q v)
+marks_in_turn first xs ys zs p q before after = Marks-then first xs ys zs p q before after

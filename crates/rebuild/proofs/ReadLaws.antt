@@ -4,15 +4,17 @@ use Rattle.std.specs.List.{All, flat_map}
 use Rattle.std.proofs.lemmas.Option.{slice_get-get_or}
 use Rattle.std.proofs.lemmas.List.{map-append, get_or_append_left, get_or-append-add, length-map}
 use Rattle.std.proofs.lemmas.List.Elements.{All-nil, All-cons, All-head, All-tail, All-append, All-map, All-weaker}
-use Rattle.aig_graph.specs.declared.properties.Props.{Props}
+use Rattle.aig_graph.specs.Border.{is_read}
+use Rattle.aig_graph.specs.Circuits.{ArePropsOf, IsNetwork}
+use Rattle.aig_graph.specs.Closed.{IsClosedSet}
 use Rattle.aig_graph.specs.Graph.{IsGraph, IsLiteralOf, variable, variables_end}
-use Rattle.aig_graph.specs.Circuits.{Network, IsNetwork, ArePropsOf}
-use Rattle.aig_graph.specs.Streams.{property_literals, SameShape}
-use Rattle.aig_graph.specs.Border.{is_read, IsClosedSet}
-use Rattle.rebuild.specs.Moved.{outside, outside_variable, moved_props, moved_graph, moved_of}
-use Rattle.rebuild.proofs.SignLaws.{variable-signed_as_twice}
+use Rattle.aig_graph.specs.Move.{Move}
+use Rattle.aig_graph.specs.Streams.{SameShape, property_literals}
+use Rattle.aig_graph.specs.declared.properties.Props.{Props}
 use Rattle.rebuild.proofs.BorderLaws.{read-property}
-use Rattle.rebuild.proofs.MovedLaws.{outside-within, moved-end, moved-inputs}
+use Rattle.rebuild.proofs.MovedLaws.{moved-end, moved-inputs, new_variable-within}
+use Rattle.rebuild.proofs.SignLaws.{variable-signed_as_twice}
+use Rattle.rebuild.specs.Moved.{moved_graph, moved_literal, moved_of, moved_props, new_variable}
 
 All-left : {A : Type 0} (P : A → Type 0) (xs ys : List A) → All P (xs ++ ys) → All P xs
 All-left P xs ys all = λ k d h. subst P (get_or_append_left xs ys d k h) (all k d (omega (arith, length-append xs ys)))
@@ -70,16 +72,16 @@ to_literals P p of_p =
     of_p.fairness
 
 -- a literal in range that is read from outside
-pub record IsReadable (c : Network) (s : List ℕ) (lit : ℕ) : Type 0 where
-  pub read : is_read c s (variable lit) ≡ true
-  pub within : variable lit < variables_end c.aig
+pub record IsReadable (m : Move) (lit : ℕ) : Type 0 where
+  pub read : is_read m.circuit m.set (variable lit) ≡ true
+  pub within : variable lit < variables_end m.circuit.aig
 
-module _ (c : Network) (s : List ℕ) where
-  pub moved-literals : property_literals (moved_props c s) ≡ map (outside c s) (property_literals c.props)
+module _ (m : Move) where
+  pub moved-literals : property_literals (moved_props m) ≡ map (moved_literal m) (property_literals m.circuit.props)
   unfolding moved_props
   moved-literals =
-      let p = c.props in
-      let f = outside c s in
+      let p = m.circuit.props in
+      let f = moved_literal m in
       let flat = flat_map (λ (lits : List ℕ). lits) p.justice in
       let e = flat-map_map f p.justice in
       let e1 = map-append f p.outputs p.bad in
@@ -88,41 +90,41 @@ module _ (c : Network) (s : List ℕ) where
       let e4 = map-append f (p.outputs ++ p.bad ++ p.constraints ++ flat) p.fairness in
       cc
 
-  pub moved-shape : SameShape c (moved_of c s)
+  pub moved-shape : SameShape m.circuit (moved_of m)
   unfolding moved_props
   moved-shape = record {
-    inputs = moved-inputs c s;
-    outputs = length-map c.props.outputs (outside c s);
-    bad = length-map c.props.bad (outside c s);
-    constraints = length-map c.props.constraints (outside c s);
-    justice = map_lengths (outside c s) c.props.justice;
-    fairness = length-map c.props.fairness (outside c s);
+    inputs = moved-inputs m;
+    outputs = length-map m.circuit.props.outputs (moved_literal m);
+    bad = length-map m.circuit.props.bad (moved_literal m);
+    constraints = length-map m.circuit.props.constraints (moved_literal m);
+    justice = map_lengths (moved_literal m) m.circuit.props.justice;
+    fairness = length-map m.circuit.props.fairness (moved_literal m);
   }
 
-module _ (c : Network) (s : List ℕ) (network : IsNetwork c) where
-  pub all-readable : All (λ lit. IsReadable c s lit) (property_literals c.props)
+module _ (m : Move) (network : IsNetwork m.circuit) where
+  pub all-readable : All (λ lit. IsReadable m lit) (property_literals m.circuit.props)
   all-readable =
       let p = network.props in
-      let within : All (λ lit. IsLiteralOf c.aig lit) (property_literals c.props) =
-      to_literals (λ lit. IsLiteralOf c.aig lit) c.props (record { outputs = p.outputs; bad = p.bad; constraints = p.constraints; justice = p.justice; fairness = p.fairness }) in
-      λ k d h. record { read = read-property c s k (get_or (property_literals c.props) k d) (slice_get-get_or (property_literals c.props) k d h); within = within k d h }
+      let within : All (λ lit. IsLiteralOf m.circuit.aig lit) (property_literals m.circuit.props) =
+      to_literals (λ lit. IsLiteralOf m.circuit.aig lit) m.circuit.props (record { outputs = p.outputs; bad = p.bad; constraints = p.constraints; justice = p.justice; fairness = p.fairness }) in
+      λ k d h. record { read = read-property m k (get_or (property_literals m.circuit.props) k d) (slice_get-get_or (property_literals m.circuit.props) k d h); within = within k d h }
 
-module _ (c : Network) (s : List ℕ) (valid : IsGraph c.aig) (set : IsClosedSet c.aig s) where
-  pub outside-literal : (lit : ℕ) → IsReadable c s lit → IsLiteralOf (moved_graph c s) (outside c s lit)
-  outside-literal lit readable =
-      omega (arith, variable-signed_as_twice lit (outside_variable c s (variable lit)), outside-within c s valid set (variable lit) readable.read readable.within, moved-end c s set)
+module _ (m : Move) (valid : IsGraph m.circuit.aig) (set : IsClosedSet m.circuit.aig m.held m.set) where
+  pub moved_literal-readable : (lit : ℕ) → IsReadable m lit → IsLiteralOf (moved_graph m) (moved_literal m lit)
+  moved_literal-readable lit readable =
+      omega (arith, variable-signed_as_twice lit (new_variable m (variable lit)), new_variable-within m valid set (variable lit) readable.read readable.within, moved-end m set)
 
-  pub moved-props : IsNetwork c → ArePropsOf (moved_graph c s) (moved_props c s)
+  pub moved-props : IsNetwork m.circuit → ArePropsOf (moved_graph m) (moved_props m)
   unfolding moved_props
   moved-props network =
-      let P : ℕ → Type 0 = λ lit. IsLiteralOf (moved_graph c s) lit in
-      let readable = of_literals (λ lit. IsReadable c s lit) c.props (all-readable c s network) in
-      let mapped = λ (lits : List ℕ) (all : All (λ lit. IsReadable c s lit) lits). All-map P (outside c s) lits (All-weaker (λ lit. IsReadable c s lit) (λ lit. P (outside c s lit)) outside-literal lits all) in
+      let P : ℕ → Type 0 = λ lit. IsLiteralOf (moved_graph m) lit in
+      let readable = of_literals (λ lit. IsReadable m lit) m.circuit.props (all-readable m network) in
+      let mapped = λ (lits : List ℕ) (all : All (λ lit. IsReadable m lit) lits). All-map P (moved_literal m) lits (All-weaker (λ lit. IsReadable m lit) (λ lit. P (moved_literal m lit)) moved_literal-readable lits all) in
       record {
-        outputs = mapped c.props.outputs readable.outputs;
-        bad = mapped c.props.bad readable.bad;
-        constraints = mapped c.props.constraints readable.constraints;
-        justice = All-map (λ (lits : List ℕ). All P lits) (map (outside c s)) c.props.justice
-            (All-weaker (λ (lits : List ℕ). All (λ lit. IsReadable c s lit) lits) (λ (lits : List ℕ). All P (map (outside c s) lits)) mapped c.props.justice readable.justice);
-        fairness = mapped c.props.fairness readable.fairness;
+        outputs = mapped m.circuit.props.outputs readable.outputs;
+        bad = mapped m.circuit.props.bad readable.bad;
+        constraints = mapped m.circuit.props.constraints readable.constraints;
+        justice = All-map (λ (lits : List ℕ). All P lits) (map (moved_literal m)) m.circuit.props.justice
+            (All-weaker (λ (lits : List ℕ). All (λ lit. IsReadable m lit) lits) (λ (lits : List ℕ). All P (map (moved_literal m) lits)) mapped m.circuit.props.justice readable.justice);
+        fairness = mapped m.circuit.props.fairness readable.fairness;
       }

@@ -1,10 +1,9 @@
 -- Signs of literals, for any values that respect negation.
 use Rattle.std.proofs.Common.{ℕ, ◌+◌, ◌*◌, ◌%◌, ◌<◌, ◌≤◌, ◌≡◌, ◌⊎◌, inl, inr, Bool, true, false, not, ◌&&◌, cond, nat_eq, refl, arith, ap, sym, ◌∙◌}
 use Rattle.std.proofs.lemmas.Bool.{cases_lt, cases_eq}
-use Rattle.aig_graph.specs.Graph.{variable}
-use Rattle.aig_graph.specs.Value.{signed}
 use Rattle.aig_graph.specs.Building.{gate_of}
-use Rattle.rebuild.specs.Moved.{signed_as}
+use Rattle.aig_graph.specs.Graph.{variable}
+use Rattle.aig_graph.specs.Value.{signed, signed_as}
 
 pub IsNegated : (ℕ → Bool) → Type 0
 IsNegated values = (v : ℕ) → values (2 * v + 1) ≡ not (values (2 * v))

@@ -1,24 +1,27 @@
--- What holders hold at step 0 rests on no input and no choice.
-use Rattle.std.proofs.Common.{ℕ, ◌+◌, ◌-◌, ◌*◌, ◌<◌, ◌≡◌, inl, inr, suc, zero, List, Bool, true, false, not, ◌&&◌, Option, Some, None, slice_get, refl, arith, ap, sym, ◌∙◌, [], ◌∷◌, ◌++◌}
+-- The value at step 0 of a passable gate rests on no input and no choice.
+use Rattle.std.proofs.Common.{ℕ, cond, cond, ◌+◌, ◌-◌, ◌*◌, ◌<◌, ◌≡◌, inl, inr, suc, zero, List, Bool, true, false, not, ◌&&◌, Option, Some, None, refl, arith, ap, sym, ◌∙◌}
+use Rattle.std.proofs.lemmas.Bool.{and_parts, cond-true, cond-false}
+use Rattle.aig_graph.proofs.ClosedLaws.{is_settled-gate, movable-latch}
+use Rattle.aig_graph.proofs.FoldingLaws.{fold_gates-leaf, gate_at-before, gate_at-is}
+use Rattle.aig_graph.proofs.KindLaws.{GatePlace, LatchPlace, gate_place, latch_place}
+use Rattle.aig_graph.proofs.SetLaws.{passable_law}
+use Rattle.aig_graph.proofs.SetLemmas.{has_iff_contains}
+use Rattle.aig_graph.proofs.ValueLaws.{value_laws}
+use Rattle.aig_graph.specs.Closed.{IsClosed, IsPassable, both, is_held, is_settled, may_move}
+use Rattle.aig_graph.specs.Graph.{Graph, IsGateAt, IsGraph, first_gate, first_latch, free_before, gate_at, is_free, is_known, latch_at, variable}
+use Rattle.aig_graph.specs.Laws.{MayMoveOrPassable}
+use Rattle.aig_graph.specs.Move.{Move}
+use Rattle.aig_graph.specs.Value.{Choice, Inputs, opening, reset_to, signed, value}
 use Rattle.aig_graph.specs.declared.graph.Gate.{Gate}
 use Rattle.aig_graph.specs.declared.graph.Latch.{Latch}
 use Rattle.aig_graph.specs.declared.graph.Reset.{Reset}
-use Rattle.aig_graph.specs.declared.graph.Reset.TheVariants.{Zero, One, Free}
-use Rattle.aig_graph.specs.Graph.{Graph, IsGraph, IsGateAt, variable, first_latch, first_gate}
-use Rattle.aig_graph.specs.Folding.{gate_at}
-use Rattle.aig_graph.specs.Closed.{latch_at, is_known, IsClosed, IsHolder, RestsOn}
-use Rattle.aig_graph.specs.Value.{Inputs, Choice, value, signed, opening, is_free, free_before}
-use Rattle.aig_graph.specs.Border.{has}
-use Rattle.aig_graph.proofs.FoldingLaws.{gate_at-is}
-use Rattle.aig_graph.proofs.SetLemmas.{has_iff_contains}
-use Rattle.aig_graph.proofs.ValueLaws.{value_laws}
-use Rattle.aig_graph.proofs.ClosedLaws.{rests-from_closed}
-use Rattle.rebuild.specs.Moved.{value_at_start, reset_to}
-use Rattle.std.proofs.lemmas.Bool.{cases_eq}
-use Rattle.rebuild.specs.Tables.{table, tells}
-use Rattle.rebuild.proofs.TableLemmas.{entry, tells-table}
+use Rattle.aig_graph.specs.declared.graph.Reset.TheVariants.{Free, One, Zero}
+use Rattle.rebuild.proofs.BorderLaws.{member-settled}
 use Rattle.rebuild.proofs.SignLaws.{value_signed}
-use Rattle.rebuild.proofs.KindLaws.{LatchPlace, latch_place, GatePlace, gate_place}
+use Rattle.rebuild.specs.Laws.{StartLaw}
+use Rattle.rebuild.specs.Members.{ArePassable}
+use Rattle.rebuild.specs.Starting.{and_reset, literal_start, start_reset, start_value}
+use Rattle.variable_tables.specs.Marking.{has}
 
 -- the value of a latch and of a gate, by its variable
 pub value-latch_start : (g : Graph) → IsGraph g → (x : Inputs) (f : Choice) (v : ℕ) (latch : Latch) → latch_at g v ≡ Some latch
@@ -47,21 +50,40 @@ opening-known Zero next a b known = refl
 opening-known One next a b known = refl
 opening-known Free next a b known = absurd (cc)
 
-module _ (g : Graph) (valid : IsGraph g) (s : List ℕ) (closed : IsClosed g s) (x y : Inputs) (f e : Choice) where
-  same_start : (n v : ℕ) → v < n → IsHolder g s v → value g x f 0 (2 * v) ≡ value g y e 0 (2 * v)
-  unfolding RestsOn
-  same_start zero v h holder = absurd (omega arith)
-  same_start (suc n) v h (inl known) = go (latch_at g v) refl
-    where
-      go : (o : Option Latch) → latch_at g v ≡ o → value g x f 0 (2 * v) ≡ value g y e 0 (2 * v)
-      go None none = let clash : false ≡ true = ap is_known (sym none) ∙ known in absurd (cc)
-      go (Some latch) some =
-          let known_latch : not (is_free latch) ≡ true = ap is_known (sym some) ∙ known in
-          value-latch_start g valid x f v latch some
-          ∙ opening-known latch.reset latch.next (f (free_before g (v - first_latch g))) (e (free_before g (v - first_latch g))) known_latch
-          ∙ sym (value-latch_start g valid y e v latch some)
-  same_start (suc n) v h (inr member) =
-      let rest = rests-from_closed g valid s closed v member in
+-- the value of a gate at step 0, from those of its fan-ins
+start-gate : (g : Graph) → IsGraph g → (v : ℕ) (gate : Gate) → gate_at g v ≡ Some gate
+    → start_value g v ≡ (signed gate.rhs0 (start_value g (variable gate.rhs0)) && signed gate.rhs1 (start_value g (variable gate.rhs1)))
+unfolding start_value
+start-gate g valid v gate e =
+    let x : Inputs = λ t i. false in
+    let f : Choice = λ j. false in
+    let laws = value_laws g valid x f in
+    value-gate g valid x f 0 v gate e
+    ∙ ap (λ (b : Bool). b && value g x f 0 gate.rhs1) (value_signed (value g x f 0) (laws.negation 0) gate.rhs0)
+    ∙ ap (λ (b : Bool). signed gate.rhs0 (value g x f 0 (2 * variable gate.rhs0)) && b) (value_signed (value g x f 0) (laws.negation 0) gate.rhs1)
+
+-- a latch that may move has a known reset
+movable-known : (g : Graph) (held : List ℕ) (v : ℕ) (latch : Latch) → latch_at g v ≡ Some latch → may_move g held v ≡ true → is_free latch ≡ false
+movable-known g held v latch e movable =
+    let parts = and_parts (not (is_held g held v)) (is_known (latch_at g v)) movable in
+    not_true (is_free latch) (ap is_known (sym e) ∙ parts.1)
+  where
+    not_true : (b : Bool) → not b ≡ true → b ≡ false
+    not_true true h = absurd (cc)
+    not_true false h = refl
+
+module _ (g : Graph) (held : List ℕ) (valid : IsGraph g) (x y : Inputs) (f e : Choice) where
+  same_start : (n v : ℕ) → v < n → MayMoveOrPassable g held v → value g x f 0 (2 * v) ≡ value g y e 0 (2 * v)
+  same_start zero v h rests = absurd (omega arith)
+  same_start (suc n) v h (inl movable) =
+      let there = movable-latch g held v movable in
+      let latch : Latch = there.0 in
+      let known : not (is_free latch) ≡ true = ap not (movable-known g held v latch there.1 movable) in
+      value-latch_start g valid x f v latch there.1
+      ∙ opening-known latch.reset latch.next (f (free_before g (v - first_latch g))) (e (free_before g (v - first_latch g))) known
+      ∙ sym (value-latch_start g valid y e v latch there.1)
+  same_start (suc n) v h (inr passable) =
+      let rest = (passable_law g held v valid).0 passable in
       let gate : Gate = rest.0 in
       let at : IsGateAt v gate = gate_at-is g valid v gate rest.1 in
       let first = same_start n (variable gate.rhs0) (omega arith) rest.2 in
@@ -74,65 +96,81 @@ module _ (g : Graph) (valid : IsGraph g) (s : List ℕ) (closed : IsClosed g s) 
       ∙ ap (λ (b : Bool). b && value g x f 0 gate.rhs1) left ∙ ap (λ (b : Bool). value g y e 0 gate.rhs0 && b) right
       ∙ sym (value-gate g valid y e 0 v gate rest.1)
 
--- so a member has its value at step 0 whatever comes in
-pub value-at_start : (g : Graph) → IsGraph g → (s : List ℕ) → IsClosed g s → (x : Inputs) (f : Choice) (v : ℕ) → has s v ≡ true → value_at_start g v ≡ value g x f 0 (2 * v)
-unfolding value_at_start
-value-at_start g valid s closed x f v member =
-    same_start g valid s closed (λ t i. false) x (λ j. false) f (suc v) v (omega arith) (inr ((has_iff_contains s v).0 member))
+-- so a passable gate has its value at step 0 whatever comes in
+pub value-passable : (g : Graph) (held : List ℕ) → IsGraph g → (x : Inputs) (f : Choice) (v : ℕ) → IsPassable g held v → start_value g v ≡ value g x f 0 (2 * v)
+unfolding start_value
+value-passable g held valid x f v passable = same_start g held valid (λ t i. false) x (λ j. false) f (suc v) v (omega arith) (inr passable)
+
+pub start_law : (g : Graph) (held : List ℕ) → IsGraph g → StartLaw g held
+unfolding start_reset
+start_law g held valid = λ v x f passable.
+    cond-true (is_settled g held v) (reset_to (start_value g v)) Free passable.2 ∙ ap reset_to (value-passable g held valid x f v passable)
+
+-- and so has a member of a closed set
+pub value-start_value : (m : Move) → IsGraph m.circuit.aig → IsClosed m.circuit.aig m.held m.set → (x : Inputs) (f : Choice) (v : ℕ) → has m.set v ≡ true
+    → start_value m.circuit.aig v ≡ value m.circuit.aig x f 0 (2 * v)
+value-start_value m valid closed x f v member = value-passable m.circuit.aig m.held valid x f v (closed.passable v ((has_iff_contains m.set v).0 member))
+
+-- its reset is that of its latch
+pub start_reset-member : (m : Move) → ArePassable m.circuit.aig m.held m.set → (v : ℕ) → has m.set v ≡ true
+    → start_reset m.circuit.aig m.held v ≡ reset_to (start_value m.circuit.aig v)
+unfolding start_reset
+start_reset-member m passable v member =
+    cond-true (is_settled m.circuit.aig m.held v) (reset_to (start_value m.circuit.aig v)) Free (member-settled m passable v member)
 
 pub opening-reset_to : (b a : Bool) → opening (reset_to b) a ≡ b
 opening-reset_to true a = refl
 opening-reset_to false a = refl
 
--- the values at step 0, variable by variable
-pub start-leaf : (g : Graph) → IsGraph g → (v : ℕ) → v < first_latch g → value_at_start g v ≡ false
-unfolding value_at_start
-start-leaf g valid v h =
-    let x : Inputs = λ t i. false in
-    let laws = value_laws g valid x (λ j. false) in
-    elim (cases_eq v 0) [
-      | inl same ↦ (let here : 2 * v ≡ 0 = omega arith in ap (value g x (λ j. false) 0) here ∙ laws.constant 0)
-      | inr other ↦ (let here : 2 * v ≡ 2 * (1 + (v - 1)) = omega arith in ap (value g x (λ j. false) 0) here ∙ laws.input 0 (v - 1) (omega arith))
-    ]
+-- the reset of a latch that may move, and of what neither may move nor is a gate
+module _ (g : Graph) (held : List ℕ) where
+  settled-leaf : (v : ℕ) → v < first_gate g → is_settled g held v ≡ may_move g held v
+  unfolding is_settled
+  settled-leaf v h = fold_gates-leaf g (may_move g held) both v (gate_at-before g v h)
 
-pub start-latch : (g : Graph) → IsGraph g → (j : ℕ) (latch : Latch) → slice_get g.latches j ≡ Some latch → value_at_start g (first_latch g + j) ≡ opening latch.reset false
-unfolding value_at_start
-start-latch g valid j latch there = (value_laws g valid (λ t i. false) (λ j. false)).latch_at_start j latch there
+  pub start_reset-unmoved : (v : ℕ) → v < first_gate g → may_move g held v ≡ false → start_reset g held v ≡ Free
+  unfolding start_reset
+  start_reset-unmoved v h unmoved = cond-false (is_settled g held v) (reset_to (start_value g v)) Free (settled-leaf v h ∙ unmoved)
 
-pub start-gate : (g : Graph) → IsGraph g → (k : ℕ) (gate : Gate) → slice_get g.gates k ≡ Some gate
-    → value_at_start g (first_gate g + k) ≡ (signed gate.rhs0 (value_at_start g (variable gate.rhs0)) && signed gate.rhs1 (value_at_start g (variable gate.rhs1)))
-unfolding value_at_start
-start-gate g valid k gate there =
-    let x : Inputs = λ t i. false in
-    let f : Choice = λ j. false in
-    let laws = value_laws g valid x f in
-    laws.gate 0 k gate there
-    ∙ ap (λ (b : Bool). b && value g x f 0 gate.rhs1) (value_signed (value g x f 0) (laws.negation 0) gate.rhs0)
-    ∙ ap (λ (b : Bool). signed gate.rhs0 (value g x f 0 (2 * variable gate.rhs0)) && b) (value_signed (value g x f 0) (laws.negation 0) gate.rhs1)
+  pub start_reset-latch : IsGraph g → (v : ℕ) (latch : Latch) → latch_at g v ≡ Some latch → may_move g held v ≡ true → start_reset g held v ≡ latch.reset
+  unfolding start_reset start_value
+  start_reset-latch valid v latch e movable =
+      let place : LatchPlace g v latch = latch_place g v latch e in
+      cond-true (is_settled g held v) (reset_to (start_value g v)) Free (settled-leaf v place.below ∙ movable)
+      ∙ ap reset_to (value-latch_start g valid (λ t i. false) (λ j. false) v latch e)
+      ∙ known_reset latch.reset latch.next (movable-known g held v latch e movable)
+    where
+      known_reset : (r : Reset) (next : ℕ) → is_free (record { next = next; reset = r }) ≡ false → reset_to (opening r false) ≡ r
+      known_reset Zero next known = refl
+      known_reset One next known = refl
+      known_reset Free next known = absurd (cc)
 
--- one more entry of the table of these values
-pub start-more_leaf : (g : Graph) → IsGraph g → (v : ℕ) (xs ys : List Bool) → v < first_latch g → xs ≡ table v (value_at_start g) → ys ≡ xs ++ false ∷ [] → ys ≡ table (v + 1) (value_at_start g)
-start-more_leaf g valid v xs ys h told pushed = entry v (value_at_start g) xs ys false told pushed (sym (start-leaf g valid v h))
+  -- and of a gate, from those of its fan-ins
+  pub start_reset-gate : IsGraph g → (v : ℕ) (gate : Gate) → gate_at g v ≡ Some gate
+      → start_reset g held v ≡ and_reset (literal_start gate.rhs0 (start_reset g held (variable gate.rhs0))) (literal_start gate.rhs1 (start_reset g held (variable gate.rhs1)))
+  unfolding start_reset
+  start_reset-gate valid v gate e =
+      let first : ℕ = variable gate.rhs0 in
+      let second : ℕ = variable gate.rhs1 in
+      let settled : is_settled g held v ≡ (is_settled g held first && is_settled g held second) = is_settled-gate g held valid v gate e in
+      let value : start_value g v ≡ (signed gate.rhs0 (start_value g first) && signed gate.rhs1 (start_value g second)) = start-gate g valid v gate e in
+      ap (λ (b : Bool). cond b (reset_to (start_value g v)) Free) settled
+      ∙ ap (λ (b : Bool). cond (is_settled g held first && is_settled g held second) (reset_to b) Free) value
+      ∙ go (is_settled g held first) (is_settled g held second) (start_value g first) (start_value g second)
+    where
+      literal-known : (lit : ℕ) (b : Bool) → literal_start lit (reset_to b) ≡ Some (signed lit b)
+      literal-known lit true = refl
+      literal-known lit false = refl
 
-pub start-more_latch : (g : Graph) → IsGraph g → (j : ℕ) (latch : Latch) (b : Bool) (xs ys : List Bool) → slice_get g.latches j ≡ Some latch → b ≡ opening latch.reset false
-    → xs ≡ table (first_latch g + j) (value_at_start g) → ys ≡ xs ++ b ∷ [] → ys ≡ table (first_latch g + (j + 1)) (value_at_start g)
-start-more_latch g valid j latch b xs ys there value told pushed =
-    let place : first_latch g + j + 1 ≡ first_latch g + (j + 1) = omega arith in
-    entry (first_latch g + j) (value_at_start g) xs ys b told pushed (value ∙ sym (start-latch g valid j latch there)) ∙ ap (λ (n : ℕ). table n (value_at_start g)) place
+      none-left : (o : Option Bool) → and_reset None o ≡ Free
+      none-left o = refl
 
-pub start-more_gate : (g : Graph) → IsGraph g → (k : ℕ) (gate : Gate) (b : Bool) (xs ys zs : List Bool) → slice_get g.gates k ≡ Some gate
-    → b ≡ (signed gate.rhs0 (tells zs (variable gate.rhs0)) && signed gate.rhs1 (tells zs (variable gate.rhs1)))
-    → zs ≡ xs → xs ≡ table (first_gate g + k) (value_at_start g) → ys ≡ xs ++ b ∷ [] → ys ≡ table (first_gate g + (k + 1)) (value_at_start g)
-start-more_gate g valid k gate b xs ys zs there value read told pushed =
-    let n : ℕ = first_gate g + k in
-    let at : IsGateAt n gate = valid.gates k gate there in
-    let place : n + 1 ≡ first_gate g + (k + 1) = omega arith in
-    let all : zs ≡ table n (value_at_start g) = read ∙ told in
-    let first : tells zs (variable gate.rhs0) ≡ value_at_start g (variable gate.rhs0) = ap (λ (ws : List Bool). tells ws (variable gate.rhs0)) all ∙ tells-table n (value_at_start g) (variable gate.rhs0) (omega arith) in
-    let second : tells zs (variable gate.rhs1) ≡ value_at_start g (variable gate.rhs1) = ap (λ (ws : List Bool). tells ws (variable gate.rhs1)) all ∙ tells-table n (value_at_start g) (variable gate.rhs1) (omega arith) in
-    entry n (value_at_start g) xs ys b told pushed
-    (value
-    ∙ ap (λ (e : Bool). signed gate.rhs0 e && signed gate.rhs1 (tells zs (variable gate.rhs1))) first
-    ∙ ap (λ (e : Bool). signed gate.rhs0 (value_at_start g (variable gate.rhs0)) && signed gate.rhs1 e) second
-    ∙ sym (start-gate g valid k gate there))
-    ∙ ap (λ (m : ℕ). table m (value_at_start g)) place
+      none-right : (o : Option Bool) → and_reset o None ≡ Free
+      none-right None = refl
+      none-right (Some b) = refl
+
+      go : (a b p q : Bool) → cond (a && b) (reset_to (signed gate.rhs0 p && signed gate.rhs1 q)) Free
+          ≡ and_reset (literal_start gate.rhs0 (cond a (reset_to p) Free)) (literal_start gate.rhs1 (cond b (reset_to q) Free))
+      go true true p q = sym (ap (λ (o : Option Bool). and_reset o (literal_start gate.rhs1 (reset_to q))) (literal-known gate.rhs0 p) ∙ ap (and_reset (Some (signed gate.rhs0 p))) (literal-known gate.rhs1 q))
+      go true false p q = sym (none-right (literal_start gate.rhs0 (reset_to p)))
+      go false b p q = sym (none-left (literal_start gate.rhs1 (cond b (reset_to q) Free)))

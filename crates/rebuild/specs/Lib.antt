@@ -1,3 +1,6 @@
-pub mod Places
-pub mod Tables
+pub mod Starting
 pub mod Moved
+pub mod Members
+pub mod Entries
+pub mod Planned
+pub mod Laws

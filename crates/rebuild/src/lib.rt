@@ -1,18 +1,17 @@
-//! Moving latches forward over a closed set of gates.
+//! Moving latches forward over a closed set of gates, and the resets that the latches get there: the move of Hurst, Mishchenko
+//! and Brayton, 'Fast minimum-register retiming via binary maximum-flow' (2007).
 #![tactic(auto)]
 
 mod graph;
-mod kept;
-mod members;
+mod marks;
 mod moving;
 mod names;
 mod plan;
 mod properties;
-mod start;
-mod tables;
-mod variables;
+mod starting;
 
 pub use moving::moved;
+pub use starting::resets;
 
 #[cfg(test)]
 mod tests;

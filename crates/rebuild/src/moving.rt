@@ -1,32 +1,41 @@
-ghost use Rattle.std.specs.Prelude.{◌≡◌, ◌+◌, ◌≤◌, ◌^◌, IfOk, length};
-ghost use Rattle.std.specs.List.{range_with_len};
-ghost use Rattle.aig_graph.specs.Border.{IsClosedSet, border_size};
-ghost use Rattle.aig_graph.specs.Streams.{free_latches, SameStreams};
-ghost use Rattle.rebuild.specs.Moved.{moved_of};
+ghost use Rattle.std.specs.Prelude.{◌≡◌, ◌≤◌, IfOk};
+ghost use Rattle.aig_graph.specs.declared.literal.TheConstants.{MAX_VARIABLES};
+ghost use Rattle.aig_graph.specs.Graph.{known_latches};
+ghost use Rattle.aig_graph.specs.Closed.{IsClosedSet};
+ghost use Rattle.aig_graph.specs.Move.{move_of};
+ghost use Rattle.aig_graph.specs.Border.{border_size};
+ghost use Rattle.aig_graph.specs.Laws.{all_free};
+ghost use Rattle.aig_graph.specs.Streams.{SameStreams};
+ghost use Rattle.rebuild.specs.Moved.{moved_of, moved_size};
 
-use crate::graph::moved_aig;
-use crate::names::moved_names;
+use crate::graph::moved_graph;
+use crate::marks::MarkedSet;
+use crate::names::moved_symbols;
 use crate::plan::Plan;
-use crate::properties::outside_props;
-use aig_graph::{Circuit, ClosedSet, NoMemory};
+use crate::properties::moved_props;
+use aig_graph::{Circuit, ClosedSet, Keep, NoMemory};
 use std::alloc::Global;
 
-/// The circuit after its latches moved forward over a closed set: each gate of the set's border gets a latch
-/// behind it, and the gates of the set read what the latches before them read. Linear in the circuit.
-///
-/// Every free latch stays at its place among the free ones. Latches of which nothing outside the set reads
-/// the value are left out.
-pub fn moved(alloc: Global, circuit: &Circuit, set: &ClosedSet) -> Result<Circuit, NoMemory>
-    requires closed { IsClosedSet circuit.now.aig set.now }
-    requires room { 1 + circuit.now.aig.inputs + free_latches circuit.now.aig +
-        border_size circuit.now set.now + length circuit.now.aig.gates ≤ 2 ^ 28 }
-    ensures value { IfOk result (λ after. after ≡ moved_of circuit.now set.now) }
-    ensures streams { IfOk result (λ after.
-        SameStreams circuit.now after (range_with_len 0 (free_latches circuit.now.aig))) }
+/// The circuit after its latches moved forward over a closed set (Hurst et al. 2007): each gate of the set's border gets a latch
+/// at its output, with the gate's value at step 0 as reset, and the gates of the set read what the latches before them read.
+/// Every free latch and every held latch stays. A known latch that isn't held is left out where nothing outside the set reads
+/// it. Linear in the circuit; inputs cost nothing.
+pub fn moved(
+    alloc: Global,
+    circuit: &Circuit,
+    set: &ClosedSet,
+    keep: &Keep,
+) -> Result<Circuit, NoMemory>
+    requires closed { IsClosedSet circuit.now.aig keep.now set.now }
+    requires room { moved_size (move_of circuit.now keep.now set.now) ≤ MAX_VARIABLES }
+    ensures value { IfOk result (λ after. after ≡ moved_of (move_of circuit.now keep.now set.now)) }
+    ensures streams { IfOk result (λ after. SameStreams circuit.now after (all_free circuit.now.aig)) }
+    ensures known { IfOk result (λ after. known_latches after.aig ≡ border_size (move_of circuit.now keep.now set.now)) }
 {
-    let plan = Plan::new(alloc, circuit, set)?;
-    let aig = moved_aig(alloc, &plan)?;
-    let props = outside_props(alloc, &plan)?;
-    let symbols = moved_names(alloc, &plan)?;
+    let marks = MarkedSet::new(alloc, circuit, set, keep)?;
+    let plan = Plan::new(alloc, marks)?;
+    let aig = moved_graph(alloc, &plan)?;
+    let props = moved_props(alloc, &plan)?;
+    let symbols = moved_symbols(alloc, &plan)?;
     Ok(Circuit::new(aig, props, symbols))
 }

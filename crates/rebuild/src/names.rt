@@ -1,7 +1,6 @@
-ghost use Rattle.std.specs.Prelude.{◌≡◌, ◌<◌, ◌≤◌, ◌^◌, All, IfOk, length, map, filter};
-ghost use Rattle.aig_graph.specs.Border.{count_below};
-ghost use Rattle.aig_graph.specs.Graph.{first_latch};
+ghost use Rattle.std.specs.Prelude.{◌≡◌, ◌<◌, All, IfOk, length, map, filter};
 ghost use Rattle.rebuild.specs.Moved.{stays, moved_name, moved_symbols};
+ghost use Rattle.rebuild.specs.Planned.{planned};
 
 use crate::plan::Plan;
 use aig_graph::{NoMemory, Sequence, Symbol, Symbols};
@@ -34,10 +33,8 @@ fn staying_names(
     plan: &Plan<'_>,
     names: &[Symbol],
 ) -> Result<Sequence<Symbol>, NoMemory>
-    requires { All (λ name. name.position < length plan.now.circuit.now.aig.latches) names.now }
-    ensures { IfOk result (λ copies. copies ≡
-        map (moved_name plan.now.circuit.now plan.now.members.set.now)
-        (filter (stays plan.now.circuit.now plan.now.members.set.now) names.now)) }
+    requires { All (λ name. name.position < length (planned plan.now).circuit.aig.latches) names.now }
+    ensures { IfOk result (λ copies. copies ≡ map (moved_name (planned plan.now)) (filter (stays (planned plan.now)) names.now)) }
 {
     let mut copies = Vec::new(alloc);
     for name in names {
@@ -49,11 +46,10 @@ fn staying_names(
 }
 
 /// The names after the move.
-pub(crate) fn moved_names(alloc: Global, plan: &Plan<'_>) -> Result<Symbols, NoMemory>
-    ensures { IfOk result (λ symbols. symbols ≡
-        moved_symbols plan.now.circuit.now plan.now.members.set.now) }
+pub(crate) fn moved_symbols(alloc: Global, plan: &Plan<'_>) -> Result<Symbols, NoMemory>
+    ensures { IfOk result (λ symbols. symbols ≡ moved_symbols (planned plan.now)) }
 {
-    let symbols = plan.circuit.symbols();
+    let symbols = plan.marks.circuit.symbols();
     let inputs = copy_names(alloc, symbols.inputs.as_slice())?;
     let latches = staying_names(alloc, plan, symbols.latches.as_slice())?;
     let outputs = copy_names(alloc, symbols.outputs.as_slice())?;

@@ -1,43 +1,37 @@
-ghost use Rattle.std.specs.Prelude.{◌≡◌, ◌+◌, ◌*◌, ◌<◌, ◌≤◌, ◌^◌, IfOk, length, true, if◌then◌else◌, Some, None};
+//! What a move makes of each variable (Hurst et al. 2007): a gate of the border gets a latch at its output, which whatever lies
+//! outside the set reads in its place; and each gate of the set becomes a copy that reads what the latches before it read, so it has at
+//! each step the value that the gate has one step later. Copies come last among the gates, since they may read any other.
+ghost use Rattle.std.specs.Prelude.{◌≡◌, ◌*◌, ◌+◌, ◌<◌, ◌≤◌, IfOk, length, true, if◌then◌else◌, Some, None};
+ghost use Rattle.aig_graph.specs.declared.literal.TheConstants.{MAX_VARIABLES};
 ghost use Rattle.aig_graph.specs.Graph.{IsGraph, variable, variables_end, first_latch};
-ghost use Rattle.aig_graph.specs.Border.{IsClosedSet, has, count_below};
 ghost use Rattle.aig_graph.specs.Building.{gate_of};
-ghost use Rattle.rebuild.specs.Moved.{keeps, outside_variable, copies_start, copy_variable, signed_as, outside, next_of, ahead, copied, reset_to};
-ghost use Rattle.rebuild.specs.Tables.{table};
+ghost use Rattle.aig_graph.specs.Move.{move_of};
+ghost use Rattle.variable_tables.specs.Counting.{count_below};
+ghost use Rattle.variable_tables.specs.Marking.{has};
+ghost use Rattle.rebuild.specs.Moved.{is_latched, copies_start, new_variable, copy_variable, moved_literal, next_of, advanced, advanced_literal, moved_graph};
+ghost use Rattle.rebuild.specs.Entries.{by_variable};
 
-use crate::kept::{kept_marks, latch_of};
-use crate::members::Members;
-use crate::variables::{Variables, new_variables};
-use aig_graph::{Aig, Circuit, ClosedSet, Gate, Latch, Lit, NoMemory, Reset};
+use crate::marks::MarkedSet;
+use aig_graph::{Aig, Gate, Latch, Lit, NoMemory, Reset};
 use std::alloc::Global;
+use variable_tables::{count_marks, entry, number_marks, renumber};
 
-/// What becomes of each variable of a circuit where latches move over a set.
+/// What becomes of each variable of a circuit where latches move over a set. The tables begin at the first latch.
 #[derive(Drop)]
 pub(crate) struct Plan<'a> {
-    pub(crate) circuit: &'a Circuit,
-    pub(crate) members: Members<'a>,
-    /// By variable whether a latch holds it after the move.
-    pub(crate) kept: Vec<bool>,
-    variables: Variables,
-    ghost small: { variables_end circuit.now.aig ≤ 2 ^ 28 },
-    ghost marked: { length members.marks.items ≡ variables_end circuit.now.aig },
-    ghost held: { kept.items ≡ table (variables_end circuit.now.aig) (keeps circuit.now members.set.now) },
-    ghost read: { variables.outside.items ≡
-        table (variables_end circuit.now.aig) (outside_variable circuit.now members.set.now) },
-    ghost numbered: { variables.copies.items ≡
-        table (variables_end circuit.now.aig) (copy_variable circuit.now members.set.now) },
-    ghost room: { copies_start circuit.now members.set.now + count_below (has members.set.now) (variables_end circuit.now.aig) ≤ 2 ^ 28 },
-}
-
-/// The literal `base`, negated where `lit` is.
-fn with_sign(lit: Lit, base: Lit) -> Lit
-    ensures { result ≡ signed_as lit base }
-{
-    Lit::new(base.var(), lit.is_negated() != base.is_negated())
+    pub(crate) marks: MarkedSet<'a>,
+    /// The variable that is read in its place from outside the set.
+    variables: Vec<u32>,
+    /// That of its copy, for a member of the set.
+    copies: Vec<u32>,
+    ghost moved: { IsGraph (moved_graph (move_of marks.circuit.now marks.keep.now marks.set.now)) },
+    ghost room: { copies_start (move_of marks.circuit.now marks.keep.now marks.set.now) + count_below (has marks.set.now) (variables_end marks.circuit.now.aig) ≤ MAX_VARIABLES },
+    ghost variables_are: { variables.items ≡ by_variable marks.circuit.now.aig (new_variable (move_of marks.circuit.now marks.keep.now marks.set.now)) },
+    ghost copies_are: { copies.items ≡ by_variable marks.circuit.now.aig (copy_variable (move_of marks.circuit.now marks.keep.now marks.set.now)) },
 }
 
 /// The next literal of a latch, false where there is none.
-fn next_of_latch(latch: Option<Latch>) -> Lit
+fn next_of(latch: Option<Latch>) -> Lit
     ensures { result ≡ next_of latch }
 {
     match latch {
@@ -46,145 +40,138 @@ fn next_of_latch(latch: Option<Latch>) -> Lit
     }
 }
 
-fn reset_of(value: bool) -> Reset
-    ensures { result ≡ reset_to value }
-{
-    if value { Reset::One } else { Reset::Zero }
-}
-
 impl<'a> Plan<'a> {
-    pub(crate) fn new(
-        alloc: Global,
-        circuit: &'a Circuit,
-        set: &'a ClosedSet,
-    ) -> Result<Plan<'a>, NoMemory>
-        requires closed { IsClosedSet circuit.now.aig set.now }
-        requires room { copies_start circuit.now set.now + count_below (has set.now) (variables_end circuit.now.aig) ≤ 2 ^ 28 }
-        ensures circuit { IfOk result (λ plan. plan.circuit.now ≡ circuit.now) }
-        ensures set { IfOk result (λ plan. plan.members.set.now ≡ set.now) }
+    ghost use Rattle.rebuild.specs.Planned.{marked, planned};
+
+    pub(crate) fn new(alloc: Global, marks: MarkedSet<'a>) -> Result<Plan<'a>, NoMemory>
+        requires moved { IsGraph (moved_graph (marked marks)) }
+        requires room { copies_start (marked marks) + count_below (has (marked marks).set) (variables_end (marked marks).circuit.aig) ≤ MAX_VARIABLES }
+        ensures { IfOk result (λ plan. planned plan ≡ marked marks.entry) }
     {
-        let members = Members::new(alloc, set, circuit.aig().variables())?;
-        let kept = kept_marks(alloc, circuit, &members)?;
-        let variables = new_variables(alloc, circuit, &members, kept.as_slice())?;
+        let first = marks.aig().first_latch();
+        let outside = marks.outside(alloc)?;
+        let gates_start = first + count_marks(marks.latched.as_slice());
+        let copies_start = gates_start + count_marks(outside.as_slice());
+        let variables = renumber(
+            alloc,
+            first,
+            marks.latched.as_slice(),
+            outside.as_slice(),
+            first,
+            gates_start,
+        )?;
+        let copies = number_marks(alloc, marks.members.as_slice(), copies_start)?;
         Ok(Plan {
-            circuit,
-            members,
-            kept,
+            marks,
             variables,
+            copies,
         })
     }
 
+    /// The graph before the move.
     pub(crate) fn aig(&self) -> &Aig
-        ensures value { result.now ≡ self.now.circuit.now.aig }
-        ensures graph { IsGraph self.now.circuit.now.aig }
+        ensures { result.now ≡ (planned self.now).circuit.aig }
     {
-        let aig = self.circuit.aig();
-        let _inputs = aig.inputs();
-        aig
+        self.marks.aig()
     }
 
-    /// What is read from outside the set in the place of a literal.
-    pub(crate) fn outside(&self, lit: Lit) -> Lit
-        requires { variable lit < variables_end self.now.circuit.now.aig }
-        ensures { result ≡ outside self.now.circuit.now self.now.members.set.now lit }
+    /// What is read in the place of a literal from outside the set.
+    pub(crate) fn literal(&self, lit: Lit) -> Lit
+        requires { variable lit < variables_end (planned self.now).circuit.aig }
+        ensures { result ≡ moved_literal (planned self.now) lit }
     {
-        let var = self.variables.outside[lit.var() as usize];
-        with_sign(lit, Lit::new(var, false))
+        let first = self.aig().first_latch();
+        if lit.var() < first {
+            return lit;
+        }
+        let var = entry(self.variables.as_slice(), first, lit.var());
+        Lit::new(var, false).signed_as(lit)
     }
 
     /// The literal of a member's copy.
-    fn copy_of(&self, var: usize) -> Lit
-        requires within { var < variables_end self.now.circuit.now.aig }
-        requires member { has self.now.members.set.now var ≡ true }
-        ensures { result ≡ 2 * copy_variable self.now.circuit.now self.now.members.set.now var }
+    pub(crate) fn copy(&self, var: u32) -> Lit
+        requires within { var < variables_end (planned self.now).circuit.aig }
+        requires member { has (planned self.now).set var ≡ true }
+        ensures { result ≡ 2 * copy_variable (planned self.now) var }
     {
-        Lit::new(self.variables.copies[var], false)
+        let first = self.aig().first_latch();
+        Lit::new(entry(self.copies.as_slice(), first, var), false)
     }
 
-    /// What has at each step the value that the variable has at the next.
-    fn ahead(&self, var: usize) -> Lit
-        requires { var < variables_end self.now.circuit.now.aig }
-        ensures { result ≡ ahead self.now.circuit.now self.now.members.set.now var }
+    /// The literal that has now the value that the variable has one step later: a member's copy, or a latch's next literal.
+    fn advanced(&self, var: u32) -> Lit
+        requires { var < variables_end (planned self.now).circuit.aig }
+        ensures { result ≡ advanced (planned self.now) var }
     {
-        if self.members.has(var) {
-            self.copy_of(var)
+        if self.marks.has(var) {
+            self.copy(var)
         } else {
-            self.outside(next_of_latch(latch_of(self.aig(), var)))
+            self.literal(next_of(self.aig().latch(var)))
         }
     }
 
     /// What copies read in the place of a literal.
-    fn copied(&self, lit: Lit) -> Lit
-        requires { variable lit < variables_end self.now.circuit.now.aig }
-        ensures { result ≡ copied self.now.circuit.now self.now.members.set.now lit }
+    fn advanced_literal(&self, lit: Lit) -> Lit
+        requires { variable lit < variables_end (planned self.now).circuit.aig }
+        ensures { result ≡ advanced_literal (planned self.now) lit }
     {
-        with_sign(lit, self.ahead(lit.var() as usize))
+        self.advanced(lit.var()).signed_as(lit)
     }
 
     /// A gate outside the set, after the move.
-    pub(crate) fn outer_gate(&self, gate: Gate) -> Gate
-        requires first { variable gate.rhs0 < variables_end self.now.circuit.now.aig }
-        requires second { variable gate.rhs1 < variables_end self.now.circuit.now.aig }
-        ensures { result ≡ gate_of
-            (outside self.now.circuit.now self.now.members.set.now gate.rhs0)
-            (outside self.now.circuit.now self.now.members.set.now gate.rhs1) }
+    pub(crate) fn gate(&self, gate: Gate) -> Gate
+        requires first { variable gate.rhs0 < variables_end (planned self.now).circuit.aig }
+        requires second { variable gate.rhs1 < variables_end (planned self.now).circuit.aig }
+        ensures { result ≡ gate_of (moved_literal (planned self.now) gate.rhs0) (moved_literal (planned self.now) gate.rhs1) }
     {
-        Gate::of(self.outside(gate.rhs0), self.outside(gate.rhs1))
+        Gate::of(self.literal(gate.rhs0), self.literal(gate.rhs1))
     }
 
     /// The copy of a gate of the set.
     pub(crate) fn copied_gate(&self, gate: Gate) -> Gate
-        requires first { variable gate.rhs0 < variables_end self.now.circuit.now.aig }
-        requires second { variable gate.rhs1 < variables_end self.now.circuit.now.aig }
-        ensures { result ≡ gate_of
-            (copied self.now.circuit.now self.now.members.set.now gate.rhs0)
-            (copied self.now.circuit.now self.now.members.set.now gate.rhs1) }
+        requires first { variable gate.rhs0 < variables_end (planned self.now).circuit.aig }
+        requires second { variable gate.rhs1 < variables_end (planned self.now).circuit.aig }
+        ensures { result ≡ gate_of (advanced_literal (planned self.now) gate.rhs0) (advanced_literal (planned self.now) gate.rhs1) }
     {
-        Gate::of(self.copied(gate.rhs0), self.copied(gate.rhs1))
+        let first = self.advanced_literal(gate.rhs0);
+        let second = self.advanced_literal(gate.rhs1);
+        Gate::of(first, second)
     }
 
     /// A latch that stays, after the move.
     pub(crate) fn staying_latch(&self, latch: Latch) -> Latch
-        requires { variable latch.next < variables_end self.now.circuit.now.aig }
-        ensures { result ≡ record {
-          next = outside self.now.circuit.now self.now.members.set.now latch.next;
-          reset = latch.reset;
-        } }
+        requires { variable latch.next < variables_end (planned self.now).circuit.aig }
+        ensures { result ≡ record { next = moved_literal (planned self.now) latch.next; reset = latch.reset } }
     {
         Latch {
-            next: self.outside(latch.next),
+            next: self.literal(latch.next),
             reset: latch.reset,
         }
     }
 
-    /// The latch of a border gate that has this value at step 0.
-    pub(crate) fn border_latch(&self, var: usize, value: bool) -> Latch
-        requires within { var < variables_end self.now.circuit.now.aig }
-        requires member { has self.now.members.set.now var ≡ true }
-        ensures { result ≡ record {
-          next = 2 * copy_variable self.now.circuit.now self.now.members.set.now var;
-          reset = reset_to value;
-        } }
+    /// The latch at the output of a border gate, with its reset.
+    pub(crate) fn border_latch(&self, var: u32, reset: Reset) -> Latch
+        requires within { var < variables_end (planned self.now).circuit.aig }
+        requires member { has (planned self.now).set var ≡ true }
+        ensures { result ≡ record { next = 2 * copy_variable (planned self.now) var; reset = reset } }
     {
         Latch {
-            next: self.copy_of(var),
-            reset: reset_of(value),
+            next: self.copy(var),
+            reset,
         }
     }
 
     /// The position after the move of the latch at a position, if it stays.
     pub(crate) fn staying_position(&self, position: u32) -> Option<u32>
-        requires { position < length self.now.circuit.now.aig.latches }
+        requires { position < length (planned self.now).circuit.aig.latches }
         ensures { result ≡
-            (if keeps self.now.circuit.now self.now.members.set.now (first_latch self.now.circuit.now.aig + position)
-            then Some (count_below (keeps self.now.circuit.now self.now.members.set.now)
-            (first_latch self.now.circuit.now.aig + position))
+            (if is_latched (planned self.now) (first_latch (planned self.now).circuit.aig + position)
+            then Some (count_below (is_latched (planned self.now)) (first_latch (planned self.now).circuit.aig + position))
             else None) }
     {
-        let first = 1 + self.aig().inputs();
-        let var = (first + position) as usize;
-        if self.kept[var] {
-            Some(self.variables.outside[var] - first)
+        let first = self.aig().first_latch();
+        if self.marks.is_latched(first + position) {
+            Some(entry(self.variables.as_slice(), first, first + position) - first)
         } else {
             None
         }

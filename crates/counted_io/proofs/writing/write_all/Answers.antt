@@ -1,5 +1,5 @@
 use Rattle.std.proofs.lemmas.Bool.{eqb-true}
-use Rattle.counted_io.proofs.OutputLaws.{all-pieces, part-pieces, all-empty}
+use Rattle.counted_io.proofs.OutputLemmas.{all-pieces, part-pieces, all-empty}
 use Rattle.counted_io.proofs.writing.write_all.Goals as goal
 
 pub loop-rest-preserved : goal.loop-rest-preserved
@@ -9,5 +9,5 @@ loop-rest-preserved g c =
       (λ end sent. c.loop-rest.invariant.1 end (part-pieces _ _ _ _ _ c.in_ok-count.ensures.ok sent)),
     )
 
-pub returns-clause-ok : goal.returns-clause-ok
-returns-clause-ok g c = c.loop-rest.invariant.0 _ (all-empty _ _ (eqb-true _ _ (cc)))
+pub returns : goal.returns
+returns g c = record { ok = c.loop-rest.invariant.0 _ (all-empty _ _ (eqb-true _ _ (cc))); err = tt }

@@ -1,19 +1,5 @@
-use Rattle.std.proofs.Common.{◌++◌, ◌∷◌, [], decimal}
-use Rattle.std.proofs.lemmas.Result.{on_ok_weaker, on_err_weaker}
-use Rattle.std.specs.Prelude.{codes}
-use Rattle.counted_io.specs.Row.{row}
-use Rattle.counted_io.proofs.EmittingLaws.{Emits-then, part-behind, part-longer}
-use Rattle.counted_io.proofs.OutputLaws.{on_err}
+use Rattle.counted_io.proofs.BufferedLemmas.{puts-then}
 use Rattle.fretime.proofs.printing.put_change.Goals as goal
 
-pub returns-in_err-put-clause-err : goal.returns-in_err-put-clause-err
-returns-in_err-put-clause-err g c =
-    on_err c.from_residual.result (part-longer _ _ _ c.args.label.now (decimal c.args.before ++ (codes " to " ++ row (c.args.after ∷ []))) c.in_err-put.ensures.err)
-
-pub returns-clause-ok : goal.returns-clause-ok
-returns-clause-ok g c =
-    (on_ok_weaker c.put_numbers.result (Emits-then _ _ _ _ _ _ c.args.label.now _ c.in_ok-put.ensures.ok) c.put_numbers.ensures.ok)
-
-pub returns-clause-err : goal.returns-clause-err
-returns-clause-err g c =
-    (on_err_weaker c.put_numbers.result (part-behind _ _ _ _ _ c.args.label.now _ c.in_ok-put.ensures.ok) c.put_numbers.ensures.err)
+pub returns : goal.returns
+returns g c = puts-then (puts-then (puts-then c.put_number.ensures c.put.ensures) c.put_number-2.ensures) c.put_byte.ensures

@@ -1,9 +1,10 @@
-use Rattle.std.proofs.Common.{◌≡◌, ◌∙◌, ◌∷◌, []}
+use Rattle.std.proofs.Common.{◌≡◌, ◌∙◌, ◌∷◌, [], arith, ap, ap₂}
+use Rattle.aig_graph.specs.Move.{move_of}
 use Rattle.aig_graph.specs.Border.{border_size}
-use Rattle.fretime.proofs.RoomLaws.{room}
+use Rattle.aig_graph.proofs.GraphLemmas.{room}
 use Rattle.fretime.proofs.retiming.moved_over.Goals as goal
 
 pub moved-requires-clause-room : goal.moved-requires-clause-room
 moved-requires-clause-room c =
     let same : c.in-Some.set ≡ c.args.gate.var ∷ [] = c.in-Some.ensures.1 ∙ c.in_ok-vec.ensures.items in
-    rw same (room c.args.circuit.now.aig (border_size c.args.circuit.now (c.args.gate.var ∷ [])) c.requires.graph c.requires.helps.fewer)
+    rw (same, c.none.ensures) (room c.args.circuit.now.aig (border_size (move_of c.args.circuit.now [] (c.args.gate.var ∷ []))) c.requires.graph (omega (arith, c.requires.helps.fewer)))

@@ -1,6 +1,6 @@
 use Rattle.std.proofs.Common.{ap, sym, ◌∙◌}
 use Rattle.aig_graph.specs.Graph.{Graph, variables_end}
-use Rattle.aig_graph.proofs.MarkingLaws.{gates-within, latches-within}
+use Rattle.aig_graph.proofs.GraphLemmas.{gates-within, latches-within}
 use Rattle.one_gate.proofs.FanOutLaws.{Adds-fan_out_of}
 use Rattle.one_gate.proofs.fan_out.add_all_readers.Goals as goal
 

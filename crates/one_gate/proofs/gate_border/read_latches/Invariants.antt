@@ -1,7 +1,7 @@
 use Rattle.std.proofs.Common.{◌≡◌, ◌≤◌, ◌&&◌, ℕ, nat_lt}
 use Rattle.std.specs.List.{slice_index_or}
-use Rattle.aig_graph.specs.Border.{count_below}
-use Rattle.aig_graph.specs.Closed.{latch_at, is_known}
+use Rattle.aig_graph.specs.Graph.{latch_at, is_known}
+use Rattle.variable_tables.specs.Counting.{count_below}
 use Rattle.one_gate.proofs.gate_border.read_latches.Given as goal
 
 abbrev pub invariant-loop-var : goal.invariant-loop-var

@@ -1,8 +1,7 @@
 use Rattle.std.proofs.Common.{◌≡◌, ◌∙◌, ◌+◌, ◌-◌, List, Some, length, sym, ap, arith, slice_get}
 use Rattle.std.proofs.lemmas.Option.{slice_get-get_or}
 use Rattle.aig_graph.specs.declared.graph.Gate.{Gate}
-use Rattle.aig_graph.specs.Graph.{Graph, first_gate, variables_end}
-use Rattle.aig_graph.specs.Folding.{gate_at}
+use Rattle.aig_graph.specs.Graph.{Graph, first_gate, variables_end, gate_at}
 use Rattle.aig_graph.proofs.FoldingLaws.{gate_at-first_gate}
 use Rattle.one_gate.proofs.OneGateLaws.{border_size-none, none_helps-first_gate, none_helps-from_gates}
 use Rattle.one_gate.proofs.helping.first_helping.Goals as goal

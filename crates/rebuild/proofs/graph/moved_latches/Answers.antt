@@ -1,10 +1,10 @@
-use Rattle.std.proofs.Common.{ap, arith, List, Bool, length}
-use Rattle.aig_graph.specs.Graph.{variables_end}
-use Rattle.rebuild.specs.Moved.{keeps}
-use Rattle.rebuild.proofs.PlanLaws.{length-told}
+use Rattle.std.proofs.Common.{◌∙◌, arith}
+use Rattle.rebuild.proofs.PlanLaws.{length-by_variable}
+use Rattle.rebuild.specs.Moved.{is_latched}
+use Rattle.rebuild.specs.Planned.{marked}
 use Rattle.rebuild.proofs.graph.moved_latches.Goals as goal
 
-pub count_marks-requires : goal.count_marks-requires
-count_marks-requires c =
-    let p = c.args.plan.now in
-    omega (arith, ap (λ (xs : List Bool). length xs) c.as_slice.ensures.value, length-told (variables_end p.circuit.now.aig) (keeps p.circuit.now p.members.set.now) p.kept.items p.held, p.small)
+pub count_marks-count-requires : goal.count_marks-count-requires
+count_marks-count-requires c =
+    let k = c.args.plan.now.marks in
+    omega (arith, length-by_variable k.circuit.now.aig (is_latched (marked k)) c.as_slice.result.now (c.as_slice.ensures.value ∙ k.latched_are), k.graph.small)

@@ -1,69 +1,59 @@
-use Rattle.std.proofs.Common.{◌≡◌, ◌+◌, ◌<◌, ◌∙◌, List, Bool, ap, sym, arith, length, false, Vec, Global, get_or, refl}
+use Rattle.std.proofs.Common.{◌∙◌, ◌≡◌, ◌+◌, ◌*◌, ap, sym, arith, length, List, Vec, Global, get_or, ℕ}
+use Rattle.aig_graph.specs.Graph.{first_gate, variables_end}
 use Rattle.aig_graph.specs.declared.graph.Latch.{Latch}
-use Rattle.aig_graph.specs.Graph.{Graph, first_gate, variables_end}
-use Rattle.rebuild.specs.Moved.{keeps, latch_for, value_at_start}
-use Rattle.rebuild.proofs.TableLemmas.{table-at}
-use Rattle.rebuild.proofs.PlanLaws.{length-told}
-use Rattle.rebuild.proofs.BuildLaws.{places-at, border-more, border-skip, border-member, read-kept}
+use Rattle.aig_graph.specs.declared.graph.Reset.{Reset}
+use Rattle.aig_graph.specs.declared.graph.Reset.TheVariants.{Zero}
+use Rattle.rebuild.proofs.BuildLaws.{border-member, border-more, border-skip, places-at, reset-there, resets-within}
+use Rattle.rebuild.specs.Moved.{copy_variable, is_latched, latch_for}
+use Rattle.rebuild.specs.Planned.{planned}
+use Rattle.rebuild.specs.Starting.{start_reset}
+use Rattle.variable_tables.proofs.TableLemmas.{length-table}
 use Rattle.rebuild.proofs.graph.push_border.Goals as goal
-use Rattle.rebuild.proofs.graph.push_border.Goals.{then-index+in_ok-push, else-index}
+use Rattle.rebuild.proofs.graph.push_border.Goals.{then-is_latched+in_ok-push, else-is_latched}
 
-pub loop-var-init : goal.loop-var-init
-loop-var-init c =
-    let p = c.args.plan.now in
-    let g : Graph = p.circuit.now.aig in
-    let place : 1 + c.inputs.result + length c.latches.result.now ≡ first_gate g =
-    omega (arith, c.inputs.ensures.value, ap (λ (h : Graph). h.inputs) c.aig-aig.ensures.value, ap (λ (xs : List Latch). length xs) c.latches.ensures.value, ap (λ (h : Graph). length h.latches) c.aig-aig.ensures.value) in
-    record {
-      after = omega arith;
-      told = places-at (keeps p.circuit.now p.members.set.now) (latch_for p.circuit.now p.members.set.now) (first_gate g) (1 + c.inputs.result + length c.latches.result.now) c.args.held.now.items (omega arith) (omega arith) c.requires.staying;
-    }
+pub overflow_cast-var : goal.overflow_cast-var
+overflow_cast-var c =
+    let k = c.args.plan.now.marks in
+    omega (arith, resets-within k.circuit.now.aig k.keep.now c.args.resets.now c.first_gate-first.result c.loop-k.k c.requires.resets (c.first_gate-first.ensures.value ∙ ap first_gate c.aig.ensures) c.loop-k-test.true, k.graph.small)
 
-pub index-requires : goal.index-requires
-index-requires c = omega (arith, c.len-var-end.ensures, c.loop-var-test.true)
+pub overflow_add-var : goal.overflow_add-var
+overflow_add-var c =
+    let k = c.args.plan.now.marks in
+    omega (arith, resets-within k.circuit.now.aig k.keep.now c.args.resets.now c.first_gate-first.result c.loop-k.k c.requires.resets (c.first_gate-first.ensures.value ∙ ap first_gate c.aig.ensures) c.loop-k-test.true, k.graph.small)
 
-pub bounds-start-var : goal.bounds-start-var
-bounds-start-var c =
-    let p = c.args.plan.now in
-    omega (
-      arith,
-      c.len-var-end.ensures,
-      c.loop-var-test.true,
-      length-told (variables_end p.circuit.now.aig) (keeps p.circuit.now p.members.set.now) p.kept.items p.held,
-      length-told (variables_end p.circuit.now.aig) (value_at_start p.circuit.now.aig) c.args.start.now c.requires.start,
-    )
+pub is_latched-requires : goal.is_latched-requires
+is_latched-requires c =
+    let k = c.args.plan.now.marks in
+    resets-within k.circuit.now.aig k.keep.now c.args.resets.now c.first_gate-first.result c.loop-k.k c.requires.resets (c.first_gate-first.ensures.value ∙ ap first_gate c.aig.ensures) c.loop-k-test.true
 
 pub border_latch-requires-clause-within : goal.border_latch-requires-clause-within
 border_latch-requires-clause-within c =
-    let p = c.args.plan.now in
-    omega (arith, c.len-var-end.ensures, c.loop-var-test.true, length-told (variables_end p.circuit.now.aig) (keeps p.circuit.now p.members.set.now) p.kept.items p.held)
+    let k = c.args.plan.now.marks in
+    resets-within k.circuit.now.aig k.keep.now c.args.resets.now c.first_gate-first.result c.loop-k.k c.requires.resets (c.first_gate-first.ensures.value ∙ ap first_gate c.aig.ensures) c.loop-k-test.true
 
 pub border_latch-requires-clause-member : goal.border_latch-requires-clause-member
 border_latch-requires-clause-member c =
-    let p = c.args.plan.now in
-    let within : c.loop-var.var < variables_end p.circuit.now.aig = omega (arith, c.len-var-end.ensures, c.loop-var-test.true, length-told (variables_end p.circuit.now.aig) (keeps p.circuit.now p.members.set.now) p.kept.items p.held) in
-    border-member p.circuit.now p.members.set.now c.loop-var.var c.loop-var.invariant.after
-    (sym (read-kept (variables_end p.circuit.now.aig) (keeps p.circuit.now p.members.set.now) p.kept.items c.loop-var.var c.loop-var.var c.index.result.now p.held refl within c.index.ensures) ∙ c.if-index.true)
+    let m = planned c.args.plan.now in
+    border-member m (c.first_gate-first.result + c.loop-k.k) (omega (arith, c.first_gate-first.ensures.value, ap first_gate c.aig.ensures)) (sym c.is_latched.ensures ∙ c.if-is_latched.true)
 
-pub loop-var-preserved : goal.loop-var-preserved
-loop-var-preserved c =
-    let p = c.args.plan.now in
-    let within : c.loop-var.var < variables_end p.circuit.now.aig = omega (arith, c.len-var-end.ensures, c.loop-var-test.true, length-told (variables_end p.circuit.now.aig) (keeps p.circuit.now p.members.set.now) p.kept.items p.held) in
-    let read : c.index.result.now ≡ keeps p.circuit.now p.members.set.now c.loop-var.var =
-    read-kept (variables_end p.circuit.now.aig) (keeps p.circuit.now p.members.set.now) p.kept.items c.loop-var.var c.loop-var.var c.index.result.now p.held refl within c.index.ensures in
-    let value : get_or c.args.start.now c.loop-var.var false ≡ value_at_start p.circuit.now.aig c.loop-var.var =
-    ap (λ (xs : List Bool). get_or xs c.loop-var.var false) c.requires.start ∙ table-at (variables_end p.circuit.now.aig) (value_at_start p.circuit.now.aig) c.loop-var.var false within in
-    record {
-      after = omega (arith, c.loop-var.invariant.after);
-      told = elim c.if-index.branch [
-        | then-index+in_ok-push w ↦ border-more p.circuit.now p.members.set.now c.loop-var.var (get_or c.args.start.now c.loop-var.var false) c.loop-var.held.items c.if-index.held.items w.border_latch.result
-            c.loop-var.invariant.after (sym read ∙ w.if-index.true) value c.loop-var.invariant.told (ap (λ (v : Vec Latch Global). v.items) w.held-is ∙ w.in_ok-push.ensures.items) w.border_latch.ensures
-        | else-index w ↦ ap (λ (v : Vec Latch Global). v.items) w.held-is ∙ border-skip p.circuit.now p.members.set.now c.loop-var.var c.loop-var.held.items (sym read ∙ w.if-index.false) c.loop-var.invariant.told
-      ];
-    }
+pub loop-k-preserved : goal.loop-k-preserved
+loop-k-preserved c =
+    let k = c.args.plan.now.marks in
+    let m = planned c.args.plan.now in
+    let here : c.first_gate-first.result + c.loop-k.k ≡ first_gate m.circuit.aig + c.loop-k.k = ap (λ (n : ℕ). n + c.loop-k.k) (c.first_gate-first.ensures.value ∙ ap first_gate c.aig.ensures) in
+    let read : c.is_latched.result ≡ is_latched m (first_gate m.circuit.aig + c.loop-k.k) = c.is_latched.ensures ∙ ap (is_latched m) here in
+    let reset : Reset = get_or c.args.resets.now c.loop-k.k Zero in
+    let at : ℕ → Latch = λ v. record { next = 2 * copy_variable m v; reset = reset } in
+    elim c.if-is_latched.branch [
+      | then-is_latched+in_ok-push w ↦ border-more m k.passable c.loop-k.k reset c.loop-k.latches.items c.if-is_latched.latches.items w.border_latch.result (sym read ∙ w.if-is_latched.true)
+          (reset-there m.circuit.aig m.held c.args.resets.now c.loop-k.k Zero c.requires.resets c.loop-k-test.true) c.loop-k.invariant
+          (ap (λ (v : Vec Latch Global). v.items) w.latches-is ∙ w.in_ok-push.ensures.items)
+          (w.border_latch.ensures ∙ ap at here)
+      | else-is_latched w ↦ ap (λ (v : Vec Latch Global). v.items) w.latches-is ∙ border-skip m c.loop-k.k c.loop-k.latches.items (sym read ∙ w.if-is_latched.false) c.loop-k.invariant
+    ]
 
 pub returns : goal.returns
 returns c =
-    let p = c.args.plan.now in
-    let long : length p.kept.items ≡ variables_end p.circuit.now.aig = length-told (variables_end p.circuit.now.aig) (keeps p.circuit.now p.members.set.now) p.kept.items p.held in
-    places-at (keeps p.circuit.now p.members.set.now) (latch_for p.circuit.now p.members.set.now) c.loop-var.var (variables_end p.circuit.now.aig) c.loop-var.held.items (omega (arith, c.loop-var.auto.var-end, c.len-var-end.ensures, c.inputs.ensures.value, ap (λ (h : Graph). h.inputs) c.aig-aig.ensures.value, ap (λ (xs : List Latch). length xs) c.latches.ensures.value, ap (λ (h : Graph). length h.latches) c.aig-aig.ensures.value)) (omega (arith, c.len-var-end.ensures, c.loop-var-test.false)) c.loop-var.invariant.told
+    let m = planned c.args.plan.now in
+    let long : length c.args.resets.now ≡ length m.circuit.aig.gates = ap (λ (xs : List Reset). length xs) c.requires.resets ∙ length-table (first_gate m.circuit.aig) (length m.circuit.aig.gates) (start_reset m.circuit.aig m.held) in
+    places-at (is_latched m) (latch_for m) (first_gate m.circuit.aig + c.loop-k.k) (variables_end m.circuit.aig) c.loop-k.latches.items (omega (arith, c.loop-k.auto.k-end)) (omega (arith, c.loop-k-test.false)) c.loop-k.invariant

@@ -1,44 +1,57 @@
-use Rattle.std.proofs.Common.{◌≤◌, ◌^◌, ◌∙◌, sym, arith, subst}
-use Rattle.std.specs.List.{range_with_len}
-use Rattle.aig_graph.specs.Graph.{IsGraph, variables_end}
-use Rattle.aig_graph.specs.Circuits.{Network, IsNetwork}
-use Rattle.aig_graph.specs.Streams.{free_latches, SameStreams}
-use Rattle.rebuild.specs.Moved.{moved_graph}
-use Rattle.rebuild.proofs.MovedLaws.{moved-end, IsGraph-moved}
-use Rattle.rebuild.proofs.FreeLaws.{moved-room}
+use Rattle.std.proofs.Common.{◌≤◌, ◌∙◌, ap, sym, arith, subst}
+use Rattle.aig_graph.specs.Circuits.{IsNetwork, Network}
+use Rattle.aig_graph.specs.Closed.{IsClosedSet}
+use Rattle.aig_graph.specs.Graph.{IsGraph, known_latches}
+use Rattle.aig_graph.specs.Laws.{all_free}
+use Rattle.aig_graph.specs.Move.{Move, move_of}
+use Rattle.aig_graph.specs.Streams.{SameStreams}
+use Rattle.aig_graph.specs.declared.literal.TheConstants.{MAX_VARIABLES}
+use Rattle.rebuild.proofs.FreeLaws.{moved-known, moved-room}
+use Rattle.rebuild.proofs.MovedLaws.{IsGraph-moved, moved-end}
 use Rattle.rebuild.proofs.NameLaws.{IsNetwork-moved}
-use Rattle.rebuild.proofs.StreamLaws.{same_streams, moved-whole, moved-room_along}
+use Rattle.rebuild.proofs.StreamLaws.{moved-whole, same_streams}
+use Rattle.rebuild.specs.Moved.{moved_of, moved_size}
+use Rattle.rebuild.specs.Planned.{marked, planned}
 use Rattle.rebuild.proofs.moving.moved.Goals as goal
 
-pub new-requires-clause-room : goal.new-requires-clause-room
-new-requires-clause-room c =
-    omega (arith, moved-room c.args.circuit.now c.args.set.now c.requires.closed c.requires.room, moved-end c.args.circuit.now c.args.set.now c.requires.closed)
+pub new-requires-2-clause-moved : goal.new-requires-2-clause-moved
+new-requires-2-clause-moved c =
+    let k = c.in_ok-marks.marks in
+    let set = subst (λ (m : Move). IsClosedSet m.circuit.aig m.held m.set) (sym c.in_ok-marks.ensures) c.requires.closed in
+    let room = subst (λ (m : Move). moved_size m ≤ MAX_VARIABLES) (sym c.in_ok-marks.ensures) c.requires.room in
+    IsGraph-moved (marked k) k.graph set (moved-room (marked k) set room)
 
-pub moved_aig-requires-clause-room : goal.moved_aig-requires-clause-room
-moved_aig-requires-clause-room c =
-    moved-room_along c.args.circuit.now c.in_ok-plan.plan.circuit.now c.args.set.now c.in_ok-plan.plan.members.set.now c.in_ok-plan.ensures.circuit c.in_ok-plan.ensures.set
-    (moved-room c.args.circuit.now c.args.set.now c.requires.closed c.requires.room)
+pub new-requires-2-clause-room : goal.new-requires-2-clause-room
+new-requires-2-clause-room c =
+    let k = c.in_ok-marks.marks in
+    let set = subst (λ (m : Move). IsClosedSet m.circuit.aig m.held m.set) (sym c.in_ok-marks.ensures) c.requires.closed in
+    let room = subst (λ (m : Move). moved_size m ≤ MAX_VARIABLES) (sym c.in_ok-marks.ensures) c.requires.room in
+    omega (arith, moved-room (marked k) set room, moved-end (marked k) set)
 
-pub new-requires-2 : goal.new-requires-2
-new-requires-2 c =
-    let d = c.in_ok-plan.plan.circuit.now in
-    let valid : IsGraph c.args.circuit.now.aig = subst (λ (x : Network). IsGraph x.aig) c.in_ok-plan.ensures.circuit c.in_ok-aig.ensures.graph in
-    let network : IsNetwork c.args.circuit.now = subst IsNetwork c.in_ok-plan.ensures.circuit c.in_ok-props.ensures.network in
-    subst IsNetwork
-    (sym (moved-whole c.args.circuit.now d c.args.set.now c.in_ok-plan.plan.members.set.now c.in_ok-aig.aig c.in_ok-props.props c.in_ok-symbols.symbols c.in_ok-plan.ensures.circuit c.in_ok-plan.ensures.set
-    c.in_ok-aig.ensures.value c.in_ok-props.ensures.value c.in_ok-symbols.ensures))
-    (IsNetwork-moved c.args.circuit.now c.args.set.now valid c.requires.closed network)
-
-pub returns-clause-value : goal.returns-clause-value
-returns-clause-value c =
-    c.new-2.ensures
-    ∙ moved-whole c.args.circuit.now c.in_ok-plan.plan.circuit.now c.args.set.now c.in_ok-plan.plan.members.set.now c.in_ok-aig.aig c.in_ok-props.props c.in_ok-symbols.symbols c.in_ok-plan.ensures.circuit c.in_ok-plan.ensures.set
-    c.in_ok-aig.ensures.value c.in_ok-props.ensures.value c.in_ok-symbols.ensures
+pub new-requires-3 : goal.new-requires-3
+new-requires-3 c =
+    let m = move_of c.args.circuit.now c.args.keep.now c.args.set.now in
+    let k = c.in_ok-marks.marks in
+    let same = c.in_ok-plan.ensures ∙ c.in_ok-marks.ensures in
+    let whole = moved-whole (planned c.in_ok-plan.plan) c.in_ok-aig.aig c.in_ok-props.props c.in_ok-symbols.symbols c.in_ok-aig.ensures c.in_ok-props.ensures c.in_ok-symbols.ensures ∙ ap moved_of same in
+    let valid : IsGraph m.circuit.aig = subst (λ (x : Move). IsGraph x.circuit.aig) c.in_ok-marks.ensures k.graph in
+    let network : IsNetwork m.circuit = subst (λ (x : Move). IsNetwork x.circuit) c.in_ok-marks.ensures k.network in
+    subst IsNetwork (sym whole) (IsNetwork-moved m valid c.requires.closed network)
 
 pub returns-clause-streams : goal.returns-clause-streams
 returns-clause-streams c =
-    let valid : IsGraph c.args.circuit.now.aig = subst (λ (x : Network). IsGraph x.aig) c.in_ok-plan.ensures.circuit c.in_ok-aig.ensures.graph in
-    let network : IsNetwork c.args.circuit.now = subst IsNetwork c.in_ok-plan.ensures.circuit c.in_ok-props.ensures.network in
-    let room : variables_end (moved_graph c.args.circuit.now c.args.set.now) ≤ 2 ^ 28 = moved-room c.args.circuit.now c.args.set.now c.requires.closed c.requires.room in
-    subst (λ (x : Network). SameStreams c.args.circuit.now x (range_with_len 0 (free_latches c.args.circuit.now.aig))) (sym (returns-clause-value c))
-    (same_streams c.args.circuit.now c.args.set.now valid network c.requires.closed (IsGraph-moved c.args.circuit.now c.args.set.now valid c.requires.closed room))
+    let m = move_of c.args.circuit.now c.args.keep.now c.args.set.now in
+    let k = c.in_ok-marks.marks in
+    let same = c.in_ok-plan.ensures ∙ c.in_ok-marks.ensures in
+    let whole = moved-whole (planned c.in_ok-plan.plan) c.in_ok-aig.aig c.in_ok-props.props c.in_ok-symbols.symbols c.in_ok-aig.ensures c.in_ok-props.ensures c.in_ok-symbols.ensures ∙ ap moved_of same in
+    let valid : IsGraph m.circuit.aig = subst (λ (x : Move). IsGraph x.circuit.aig) c.in_ok-marks.ensures k.graph in
+    let network : IsNetwork m.circuit = subst (λ (x : Move). IsNetwork x.circuit) c.in_ok-marks.ensures k.network in
+    subst (λ (x : Network). SameStreams c.args.circuit.now x (all_free c.args.circuit.now.aig)) (sym (c.new-3.ensures ∙ whole))
+    (same_streams m valid network c.requires.closed (IsGraph-moved m valid c.requires.closed (moved-room m c.requires.closed c.requires.room)))
+
+pub returns-clause-known : goal.returns-clause-known
+returns-clause-known c =
+    let m = move_of c.args.circuit.now c.args.keep.now c.args.set.now in
+    let same = c.in_ok-plan.ensures ∙ c.in_ok-marks.ensures in
+    let whole = moved-whole (planned c.in_ok-plan.plan) c.in_ok-aig.aig c.in_ok-props.props c.in_ok-symbols.symbols c.in_ok-aig.ensures c.in_ok-props.ensures c.in_ok-symbols.ensures ∙ ap moved_of same in
+    ap (λ (x : Network). known_latches x.aig) (c.new-3.ensures ∙ whole) ∙ moved-known m c.requires.closed

@@ -1,0 +1,26 @@
+-- The latches that names hold.
+use Rattle.std.specs.Prelude.{ℕ, Bool, not, List, map, filter, bytes_eq, Option}
+use Rattle.std.specs.List.{list_any, position}
+use Rattle.aig_graph.specs.declared.properties.Symbol.{Symbol}
+use Rattle.aig_graph.specs.declared.holding.KeepError.{KeepError}
+use Rattle.aig_graph.specs.declared.holding.KeepError.TheVariants.{NoSuchName, NoMemory}
+
+-- whether the symbol's name is one of the names
+abbrev pub is_named : List (List ℕ) → Symbol → Bool
+is_named names symbol = list_any (λ name. bytes_eq symbol.name name) names
+
+-- the positions of the symbols whose name is one of the names
+unfoldable pub held_by : List (List ℕ) → List Symbol → List ℕ
+held_by names symbols = map (λ s. s.position) (filter (is_named names) symbols)
+
+-- whether a symbol has the name
+abbrev pub has_name : List Symbol → List ℕ → Bool
+has_name symbols name = list_any (λ s. bytes_eq name s.name) symbols
+
+-- the place, from 0, of the first name that no symbol has
+unfoldable pub first_missing : List Symbol → List (List ℕ) → Option ℕ
+first_missing symbols names = position (λ name. not (has_name symbols name)) names
+
+abbrev pub keep_error_code : KeepError → ℕ
+keep_error_code (NoSuchName place) = 1
+keep_error_code NoMemory = 2

@@ -1,0 +1,40 @@
+use Rattle.std.proofs.Common.{◌∙◌, ◌≡◌, ◌+◌, ap, sym, arith, Vec, Global, ℕ, Some, slice_get}
+use Rattle.aig_graph.specs.Graph.{first_gate}
+use Rattle.aig_graph.specs.declared.graph.Gate.{Gate}
+use Rattle.rebuild.proofs.BuildLaws.{fan-ins_within, gate-there, no-outside, outside-more, outside-skip, places-at}
+use Rattle.rebuild.specs.Moved.{gate_for, is_outside}
+use Rattle.rebuild.specs.Planned.{planned}
+use Rattle.variable_tables.specs.Marking.{has}
+use Rattle.rebuild.proofs.graph.push_outside.Goals as goal
+use Rattle.rebuild.proofs.graph.push_outside.Goals.{then-not-has+in_ok-push, else-not-has}
+
+pub loop-k-init : goal.loop-k-init
+loop-k-init c =
+    let m = planned c.args.plan.now in
+    places-at (is_outside m) (gate_for m) (first_gate m.circuit.aig) (first_gate m.circuit.aig + 0) c.args.gates.now.items (omega arith) (omega arith) (c.requires ∙ sym (no-outside m))
+
+pub gate-requires-clause-first : goal.gate-requires-clause-first
+gate-requires-clause-first c =
+    let k = c.args.plan.now.marks in
+    (fan-ins_within k.circuit.now.aig k.graph c.loop-k.k c.gate-item.result
+    (gate-there k.circuit.now.aig c.aig-aig.result.now c.gates-gate-items.result.now c.loop-k.k c.gate-item.result c.gates-gate-items.ensures.value c.aig-aig.ensures c.loop-k-test.true c.gate-item.is)).0
+
+pub gate-requires-clause-second : goal.gate-requires-clause-second
+gate-requires-clause-second c =
+    let k = c.args.plan.now.marks in
+    (fan-ins_within k.circuit.now.aig k.graph c.loop-k.k c.gate-item.result
+    (gate-there k.circuit.now.aig c.aig-aig.result.now c.gates-gate-items.result.now c.loop-k.k c.gate-item.result c.gates-gate-items.ensures.value c.aig-aig.ensures c.loop-k-test.true c.gate-item.is)).1
+
+pub loop-k-preserved : goal.loop-k-preserved
+loop-k-preserved c =
+    let m = planned c.args.plan.now in
+    let g = m.circuit.aig in
+    let there : slice_get g.gates c.loop-k.k ≡ Some c.gate-item.result =
+    gate-there g c.aig-aig.result.now c.gates-gate-items.result.now c.loop-k.k c.gate-item.result c.gates-gate-items.ensures.value c.aig-aig.ensures c.loop-k-test.true c.gate-item.is in
+    let here : c.first_gate.result + c.loop-k.k ≡ first_gate g + c.loop-k.k = ap (λ (n : ℕ). n + c.loop-k.k) (c.first_gate.ensures.value ∙ ap first_gate c.aig-aig.ensures) in
+    let read : c.has.result ≡ has m.set (first_gate g + c.loop-k.k) = c.has.ensures ∙ ap (has m.set) here in
+    elim c.if-not-has.branch [
+      | then-not-has+in_ok-push w ↦ outside-more m c.loop-k.k c.gate-item.result c.loop-k.gates.items c.if-not-has.gates.items w.gate.result there (sym read ∙ w.if-not-has.true)
+          c.loop-k.invariant (ap (λ (v : Vec Gate Global). v.items) w.gates-is ∙ w.in_ok-push.ensures.items) w.gate.ensures
+      | else-not-has w ↦ ap (λ (v : Vec Gate Global). v.items) w.gates-is ∙ outside-skip m c.loop-k.k c.loop-k.gates.items (sym read ∙ w.if-not-has.false) c.loop-k.invariant
+    ]

@@ -1,0 +1,5 @@
+pub mod PlacesLemmas
+pub mod CountingLemmas
+pub mod MemberLemmas
+pub mod TableLemmas
+pub mod MarkingLemmas

@@ -1,0 +1,79 @@
+"""Large files whose retimed form follows from how they are made, without a run of any program.
+
+A case names one as `== made FILE GENERATOR NUMBER ..`, and what has to come of it as `== after FILE made GENERATOR ..`.
+"""
+
+
+def make(words):
+    """The bytes of a generated file."""
+    return GENERATORS[words[0]](*(int(word) for word in words[1:])).encode()
+
+
+def header(inputs, latches, outputs, gates):
+    return f'aag {inputs + latches + gates} {inputs} {latches} {outputs} {gates}\n'
+
+
+def chain(gates):
+    """Inputs that are ANDed one after another: each gate reads the one before it and an input of its own, so there is
+    nothing to move, to merge or to drop, and the circuit comes back as it is."""
+    inputs = gates + 1
+    first = 1 + inputs
+    lines = [header(inputs, 0, 1, gates)]
+    lines += [f'{2 * v}\n' for v in range(1, inputs + 1)]
+    lines.append(f'{2 * (first + gates - 1)}\n')
+    for k in range(gates):
+        below = 2 * (first + k - 1) if k else 4
+        other = 2 * (2 + k) if k else 2
+        lines.append(f'{2 * (first + k)} {below} {other}\n')
+    return ''.join(lines)
+
+
+def pair_then_chain(gates):
+    """Two latches that feed a gate, and behind it a chain of further gates over inputs."""
+    inputs = gates + 2
+    first_latch = 1 + inputs
+    first_gate = first_latch + 2
+    lines = [header(inputs, 2, 1, gates + 1)]
+    lines += [f'{2 * v}\n' for v in range(1, inputs + 1)]
+    lines += [f'{2 * first_latch} 2\n', f'{2 * first_latch + 2} 4\n']
+    lines.append(f'{2 * (first_gate + gates)}\n')
+    lines.append(f'{2 * first_gate} {2 * first_latch + 2} {2 * first_latch}\n')
+    lines += [f'{2 * (first_gate + k)} {2 * (first_gate + k - 1)} {2 * (2 + k)}\n' for k in range(1, gates + 1)]
+    return ''.join(lines)
+
+
+def pair_then_chain_moved(gates):
+    """The same with one latch at the gate's output in place of the two: the chain first, then the copy of the gate."""
+    inputs = gates + 2
+    latch = 1 + inputs
+    first_gate = latch + 1
+    copy = first_gate + gates
+    lines = [header(inputs, 1, 1, gates + 1)]
+    lines += [f'{2 * v}\n' for v in range(1, inputs + 1)]
+    lines.append(f'{2 * latch} {2 * copy}\n')
+    lines.append(f'{2 * (first_gate + gates - 1)}\n')
+    lines += [f'{2 * (first_gate + k)} {2 * (first_gate + k - 1) if k else 2 * latch} {2 * (3 + k)}\n' for k in range(gates)]
+    lines.append(f'{2 * copy} 4 2\n')
+    return ''.join(lines)
+
+
+def outputs(count):
+    """One input that is given out many times."""
+    return header(1, 0, count, 0) + '2\n' + '2\n' * count
+
+
+def zeros(count):
+    """The empty circuit's header with a number of many leading zeros."""
+    return f'aag {"0" * count} 0 0 0 0\n'
+
+
+def empty():
+    return header(0, 0, 0, 0)
+
+
+def long_literal(count):
+    """An output whose literal has many leading zeros."""
+    return header(1, 0, 1, 0) + '2\n' + '0' * count + '2\n'
+
+
+GENERATORS = {it.__name__: it for it in (chain, pair_then_chain, pair_then_chain_moved, outputs, zeros, empty, long_literal)}
