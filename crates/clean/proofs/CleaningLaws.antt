@@ -1,0 +1,188 @@
+-- Pass after pass.
+use Rattle.std.proofs.Common.{zero-add, ℕ, ◌+◌, ◌<◌, ◌≤◌, ◌≡◌, ◌≢◌, List, [], ◌∷◌, length, map, Bool, true, get_or, refl, arith, ap, sym, ◌∙◌, subst}
+use Rattle.std.specs.List.{All, range_with_len}
+use Rattle.std.proofs.lemmas.List.{length-map, get_or-map}
+use Rattle.std.proofs.lemmas.List.FromFn.{get_or-range_with_len}
+use Rattle.std.proofs.lemmas.List.Elements.{All-map, All-head, All-tail}
+use Rattle.aig_graph.specs.Graph.{first_latch, first_gate, variables_end, latches_and_gates, free_latches}
+use Rattle.aig_graph.specs.Circuits.{Network}
+use Rattle.aig_graph.specs.Laws.{all_free, composed}
+use Rattle.variable_tables.proofs.PlacesLemmas.{count-bound}
+use Rattle.clean_laws.specs.Merged.{merged_of, stands_of}
+use Rattle.clean_laws.specs.Reached.{stays}
+use Rattle.clean_laws.specs.Trimmed.{trimmed_graph, new_variable, new_position}
+use Rattle.clean_laws.specs.Cleaned.{IsPass, Cleans, unchanged, after_pass}
+use Rattle.clean_laws.proofs.ListLaws.{map-map}
+use Rattle.clean_laws.proofs.MergedLaws.{length-replaced_latches, replaced-first_latch, replaced-first_gate, replaced-end}
+use Rattle.clean_laws.proofs.PickedLaws.{count-all}
+use Rattle.clean_laws.proofs.TrimmedLaws.{trimmed-first_latch, trimmed-first_gate, trimmed-end, new-less, new-from, stays-reached}
+use Rattle.clean_laws.proofs.PassLaws.{IsCircuit, pass-streams, cleans-streams, IsCircuit-pass}
+use Rattle.clean_laws.proofs.UnchangedLaws.{count-full, map-fixed_all, pass-unchanged}
+
+-- composed with all places, a list is itself
+pub composed-all : (n : ℕ) (more : List ℕ) → All (λ place. place < n) more → composed (range_with_len 0 n) more ≡ more
+composed-all n more below = map-fixed_all (λ place. place < n) (λ place. get_or (range_with_len 0 n) place 0) (λ place h. get_or-range_with_len 0 n place 0 h ∙ zero-add place) more below
+
+-- composing twice is composing with the composed
+composed-then : (first second third : List ℕ) → All (λ place. place < length second) third → composed first (composed second third) ≡ composed (composed first second) third
+composed-then first second third below =
+    let f : ℕ → ℕ = λ place. get_or first place 0 in
+    let each : All (λ place. f (get_or second place 0) ≡ get_or (composed first second) place 0) third = λ k d h.
+    sym (get_or-map f second (get_or third k d) 0 0 (below k d h)) in
+    map-map f (λ place. get_or second place 0) third ∙ alike third each
+  where
+    alike : (xs : List ℕ) → All (λ place. get_or first (get_or second place 0) 0 ≡ get_or (composed first second) place 0) xs
+        → map (λ place. get_or first (get_or second place 0) 0) xs ≡ map (λ place. get_or (composed first second) place 0) xs
+    alike [] all = refl
+    alike (x ∷ xs) all =
+        ap (λ (n : ℕ). n ∷ map (λ place. get_or first (get_or second place 0) 0) xs) (All-head (λ (place : ℕ). get_or first (get_or second place 0) 0 ≡ get_or (composed first second) place 0) x xs all)
+        ∙ ap (λ (ys : List ℕ). get_or (composed first second) x 0 ∷ ys) (alike xs (All-tail (λ (place : ℕ). get_or first (get_or second place 0) 0 ≡ get_or (composed first second) place 0) x xs all))
+
+-- the held latches stay in range
+pub still-in_range : (held : List ℕ) (c d : Network) (kept still : List ℕ) → IsPass held c d kept still → All (λ j. j < length c.aig.latches) held → All (λ j. j < length d.aig.latches) still
+still-in_range held c d kept still pass in_range =
+    let m : Network = merged_of held c in
+    let s : ℕ → Bool = pass.reached in
+    let same : length m.aig.latches ≡ length c.aig.latches = length-replaced_latches (stands_of c.aig held) c.aig in
+    let P : Network → Type 0 = λ e. All (λ j. j < length e.aig.latches) still in
+    let Q : List ℕ → Type 0 = λ js. All (λ j. j < length (trimmed_graph m.aig s).latches) js in
+    subst P (sym pass.circuit) (subst Q (sym pass.positions) (All-map (λ j. j < length (trimmed_graph m.aig s).latches) (new_position m.aig s) held (λ k d h.
+    let j : ℕ = get_or held k d in
+    let within : j < length c.aig.latches = in_range k d h in
+    let stayed : stays m.aig s (first_latch m.aig + j) ≡ true = stays-reached m.aig s (first_latch m.aig + j) (pass.are_reached.holds.all_held k d h) in
+    let ranks : new_variable m.aig s (first_latch m.aig + j) < new_variable m.aig s (first_gate m.aig) = new-less m.aig s (first_latch m.aig + j) (first_gate m.aig) stayed (omega arith) in
+    omega (arith, ranks, trimmed-first_gate m.aig s, trimmed-first_latch m.aig s, new-from m.aig s (first_latch m.aig + j) (omega arith)))))
+
+-- a pass that leaves as many latches and gates leaves the circuit, and the positions of held latches
+module _ (held : List ℕ) (c d : Network) (kept still : List ℕ) (valid : IsCircuit c) (in_range : All (λ j. j < length c.aig.latches) held) (pass : IsPass held c d kept still)
+    (many : latches_and_gates c.aig ≤ latches_and_gates d.aig) where
+  abbrev merged : Network
+  merged = merged_of held c
+
+  ends : variables_end merged.aig ≡ variables_end c.aig
+  ends = replaced-end (stands_of c.aig held) c.aig
+
+  full : new_variable merged.aig pass.reached (variables_end merged.aig) ≡ variables_end merged.aig
+  full =
+      let same : latches_and_gates d.aig ≡ latches_and_gates (trimmed_graph merged.aig pass.reached) = ap (λ (e : Network). latches_and_gates e.aig) pass.circuit in
+      omega (
+        arith,
+        many,
+        same,
+        ends,
+        trimmed-end merged.aig pass.reached,
+        trimmed-first_latch merged.aig pass.reached,
+        replaced-first_latch (stands_of c.aig held) c.aig,
+        count-bound (stays merged.aig pass.reached) (variables_end merged.aig),
+      )
+
+  all_stay : (v : ℕ) → v < variables_end merged.aig → stays merged.aig pass.reached v ≡ true
+  all_stay = count-full (stays merged.aig pass.reached) (variables_end merged.aig) full
+
+  new-same : (v : ℕ) → v ≤ variables_end merged.aig → new_variable merged.aig pass.reached v ≡ v
+  new-same v h = count-all (stays merged.aig pass.reached) v (λ w less. all_stay w (omega arith))
+
+  circuit-same : d ≡ c
+  circuit-same =
+      let gate : new_variable merged.aig pass.reached (first_gate merged.aig) ≡ first_gate merged.aig = new-same (first_gate merged.aig) (omega arith) in
+      let latches : length (trimmed_graph merged.aig pass.reached).latches ≡ length c.aig.latches =
+      omega (arith, gate, trimmed-first_gate merged.aig pass.reached, trimmed-first_latch merged.aig pass.reached, length-replaced_latches (stands_of c.aig held) c.aig) in
+      let gates : length (trimmed_graph merged.aig pass.reached).gates ≡ length c.aig.gates =
+      omega (arith, full, trimmed-end merged.aig pass.reached, gate, trimmed-first_gate merged.aig pass.reached, ends, replaced-first_gate (stands_of c.aig held) c.aig) in
+      pass.circuit ∙ pass-unchanged held c valid (λ j h. in_range j 0 h) pass.reached pass.are_reached latches gates
+
+  positions-same : still ≡ held
+  positions-same =
+      pass.positions
+      ∙ map-fixed_all (λ j. j < length c.aig.latches) (new_position merged.aig pass.reached)
+      (λ j h.
+      let at : new_variable merged.aig pass.reached (first_latch merged.aig + j) ≡ first_latch merged.aig + j =
+      new-same (first_latch merged.aig + j) (omega (arith, length-replaced_latches (stands_of c.aig held) c.aig)) in
+      omega (arith, at)) held in_range
+
+  cleans-unchanged : Cleans d held c kept
+  cleans-unchanged =
+      let P : Network → Type 0 = λ e. IsPass held c e kept still in
+      let Q : List ℕ → Type 0 = λ js. IsPass held c c kept js in
+      unchanged held c kept (subst Q positions-same (subst P circuit-same pass)) circuit-same
+
+-- what is left of a circuit after some passes, of which the last had so many latches and gates before it
+pub record Passed (held : List ℕ) (c : Network) (before : ℕ) (d : Network) (kept still : List ℕ) : Type 0 where
+  pub from : Network
+  pub from_held : List ℕ
+  pub from_kept : List ℕ
+  pub first : List ℕ
+  pub valid : IsCircuit from
+  pub in_range : All (λ j. j < length from.aig.latches) from_held
+  pub pass : IsPass from_held from d first still
+  pub size : before ≡ latches_and_gates from.aig
+  pub is : kept ≡ composed from_kept first
+  pub front : (x : Network) (more : List ℕ) → Cleans x from_held from more → Cleans x held c (composed from_kept more)
+
+pub passed-start : (held : List ℕ) (c d : Network) (before : ℕ) (kept still : List ℕ) → IsCircuit c → All (λ j. j < length c.aig.latches) held → IsPass held c d kept still → before ≡ latches_and_gates c.aig
+    → Passed held c before d kept still
+passed-start held c d before kept still valid in_range pass size =
+    let n : ℕ = free_latches c.aig in
+    record {
+      from = c;
+      from_held = held;
+      from_kept = all_free c.aig;
+      first = kept;
+      valid = valid;
+      in_range = in_range;
+      pass = pass;
+      size = size;
+      is = sym (composed-all n kept (pass-streams held c d kept still valid pass).places.below);
+      front = λ x more cleans.
+          let P : List ℕ → Type 0 = λ places. Cleans x held c places in
+          subst P (sym (composed-all n more (cleans-streams x held c more cleans valid).places.below)) cleans;
+    }
+
+module _ (held : List ℕ) (c : Network) (before : ℕ) (d : Network) (kept still : List ℕ) (passed : Passed held c before d kept still) where
+  pub passed-valid : IsCircuit d
+  passed-valid = IsCircuit-pass passed.from_held passed.from d passed.first still passed.valid passed.pass
+
+  pub passed-in_range : All (λ j. j < length d.aig.latches) still
+  passed-in_range = still-in_range passed.from_held passed.from d passed.first still passed.pass passed.in_range
+
+  first-long : length passed.first ≡ free_latches d.aig
+  first-long = (pass-streams passed.from_held passed.from d passed.first still passed.valid passed.pass).places.each
+
+  pub kept-long : length kept ≡ free_latches d.aig
+  kept-long = ap (λ (xs : List ℕ). length xs) passed.is ∙ length-map passed.first (λ place. get_or passed.from_kept place 0) ∙ first-long
+
+  -- one more pass, after one that left fewer latches or gates
+  pub passed-more : (e : Network) (second both still2 : List ℕ) → latches_and_gates d.aig < before → IsPass still d e second still2 → both ≡ composed kept second → Passed held c (latches_and_gates d.aig) e both still2
+  passed-more e second both still2 less pass is = record {
+    from = d;
+    from_held = still;
+    from_kept = kept;
+    first = second;
+    valid = passed-valid;
+    in_range = passed-in_range;
+    pass = pass;
+    size = refl;
+    is = is;
+    front = λ x more cleans.
+        let other : d ≢ passed.from = λ same. omega (arith, less, passed.size, ap (λ (n : Network). latches_and_gates n.aig) same) in
+        let whole = passed.front x (composed passed.first more) (after_pass passed.from_held passed.from d passed.first more still passed.pass other cleans) in
+        let below : All (λ place. place < length passed.first) more = λ k a h.
+        let here : get_or more k a < free_latches d.aig = (cleans-streams x still d more cleans passed-valid).places.below k a h in
+        omega (arith, here, first-long) in
+        let P : List ℕ → Type 0 = λ places. Cleans x held c places in
+        subst P (composed-then passed.from_kept passed.first more below ∙ ap (λ (xs : List ℕ). composed xs more) (sym passed.is)) whole;
+  }
+
+  -- the places that a next pass keeps are among those that are kept
+  pub next-below : (e : Network) (second still2 : List ℕ) → IsPass still d e second still2 → All (λ place. place < length kept) second
+  next-below e second still2 pass = λ k a h.
+      let here : get_or second k a < free_latches d.aig = (pass-streams still d e second still2 passed-valid pass).places.below k a h in
+      omega (arith, here, kept-long)
+
+  -- a pass that left as many latches and gates was the last
+  pub passed-end : before ≤ latches_and_gates d.aig → Cleans d held c kept
+  passed-end many =
+      let last : Cleans d passed.from_held passed.from passed.first =
+      cleans-unchanged passed.from_held passed.from d passed.first still passed.valid passed.in_range passed.pass (omega (arith, many, passed.size)) in
+      let P : List ℕ → Type 0 = λ places. Cleans d held c places in
+      subst P (sym passed.is) (passed.front d passed.first last)

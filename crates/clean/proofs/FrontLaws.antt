@@ -1,0 +1,120 @@
+-- What reaching one variable, and one after another, does.
+use Rattle.std.proofs.Common.{ℕ, ◌+◌, ◌-◌, ◌*◌, ◌<◌, ◌≤◌, ◌≡◌, inl, inr, List, [], ◌∷◌, ◌++◌, length, map, take, Bool, true, false, nat_lt, ◌||◌, ◌&&◌, set, get_or, refl, arith, ap, sym, ◌∙◌}
+use Rattle.std.specs.List.{All, flat_map}
+use Rattle.std.proofs.lemmas.Bool.{cases_Bool, cases_lt, cond-true, cond-false, lt-ltb, le-ltb, le-leb, or_left, or_right}
+use Rattle.std.proofs.lemmas.List.{length-set, take_more, take_all, map_push, flat_map_more}
+use Rattle.aig_graph.specs.Graph.{variable}
+use Rattle.variable_tables.specs.Marking.{mark_at}
+use Rattle.clean.specs.Sweep.{Front, front_end, is_marked, reach, reach_all}
+
+-- the front with one more variable
+abbrev pub reach_new : Front → ℕ → Front
+reach_new r v = record { first = r.first; marks = set r.marks (v - r.first) true; queue = r.queue ++ v ∷ [] }
+
+pub reach-low : (r : Front) (v : ℕ) → v < r.first → reach r v ≡ r
+unfolding reach
+reach-low r v h = cond-true (nat_lt v r.first || is_marked r v) r (reach_new r v) (or_left (nat_lt v r.first) (is_marked r v) (lt-ltb v r.first h))
+
+pub reach-marked : (r : Front) (v : ℕ) → is_marked r v ≡ true → reach r v ≡ r
+unfolding reach
+reach-marked r v e = cond-true (nat_lt v r.first || is_marked r v) r (reach_new r v) (or_right (nat_lt v r.first) (is_marked r v) e)
+
+pub reach-new : (r : Front) (v : ℕ) → r.first ≤ v → is_marked r v ≡ false → reach r v ≡ reach_new r v
+unfolding reach
+reach-new r v h e =
+    cond-false (nat_lt v r.first || is_marked r v) r (reach_new r v) (ap (λ (b : Bool). b || is_marked r v) (le-ltb v r.first h) ∙ e)
+
+pub mark-entry : (r : Front) (v : ℕ) → r.first ≤ v → is_marked r v ≡ get_or r.marks (v - r.first) false
+unfolding mark_at
+mark-entry r v h = ap (λ (b : Bool). b && get_or r.marks (v - r.first) false) (le-leb r.first v h)
+
+-- the variables that have entries stay
+pub record SameReach (r s : Front) : Type 0 where
+  pub first : s.first ≡ r.first
+  pub long : length s.marks ≡ length r.marks
+
+pub reach-same : (r : Front) (v : ℕ) → SameReach r (reach r v)
+reach-same r v = elim (cases_lt v r.first) [
+  | inl low ↦ (let same : reach r v ≡ r = reach-low r v low in record { first = ap (λ (s : Front). s.first) same; long = ap (λ (s : Front). length s.marks) same })
+  | inr from ↦ elim (cases_Bool (is_marked r v)) [
+    | inl marked ↦ (let same : reach r v ≡ r = reach-marked r v marked in record { first = ap (λ (s : Front). s.first) same; long = ap (λ (s : Front). length s.marks) same })
+    | inr fresh ↦ (
+        let same : reach r v ≡ reach_new r v = reach-new r v from fresh in
+        record { first = ap (λ (s : Front). s.first) same; long = ap (λ (s : Front). length s.marks) same ∙ length-set r.marks (v - r.first) true })
+  ]
+]
+
+pub all-nil : (r : Front) → reach_all r [] ≡ r
+unfolding reach_all
+all-nil r = refl
+
+pub all-cons : (r : Front) (lit : ℕ) (lits : List ℕ) → reach_all r (lit ∷ lits) ≡ reach_all (reach r (variable lit)) lits
+unfolding reach_all
+all-cons r lit lits = refl
+
+pub all-same : (lits : List ℕ) (r : Front) → SameReach r (reach_all r lits)
+all-same [] r = rw (all-nil r) (record { first = refl; long = refl })
+all-same (lit ∷ lits) r =
+    let one : SameReach r (reach r (variable lit)) = reach-same r (variable lit) in
+    let rest : SameReach (reach r (variable lit)) (reach_all (reach r (variable lit)) lits) = all-same lits (reach r (variable lit)) in
+    rw (all-cons r lit lits) (record { first = rest.first ∙ one.first; long = rest.long ∙ one.long })
+
+pub all-end : (lits : List ℕ) (r s : Front) → s ≡ reach_all r lits → front_end s ≡ front_end r
+all-end lits r s e =
+    let same : SameReach r (reach_all r lits) = all-same lits r in
+    omega (arith, ap (λ (t : Front). t.first) e, ap (λ (t : Front). length t.marks) e, same.first, same.long)
+
+pub all-append : (xs ys : List ℕ) (r : Front) → reach_all r (xs ++ ys) ≡ reach_all (reach_all r xs) ys
+all-append [] ys r = ap (λ (s : Front). reach_all s ys) (sym (all-nil r))
+all-append (x ∷ xs) ys r =
+    all-cons r x (xs ++ ys) ∙ all-append xs ys (reach r (variable x)) ∙ ap (λ (s : Front). reach_all s ys) (sym (all-cons r x xs))
+
+pub all-one : (r : Front) (lit : ℕ) → reach_all r (lit ∷ []) ≡ reach r (variable lit)
+all-one r lit = all-cons r lit [] ∙ all-nil (reach r (variable lit))
+
+pub all-two : (r : Front) (a b : ℕ) → reach_all r (a ∷ b ∷ []) ≡ reach (reach r (variable a)) (variable b)
+all-two r a b = all-cons r a (b ∷ []) ∙ all-one (reach r (variable a)) b
+
+-- after one part, another
+pub all-then : (xs ys : List ℕ) (r s t : Front) → s ≡ reach_all r xs → t ≡ reach_all s ys → t ≡ reach_all r (xs ++ ys)
+all-then xs ys r s t one two = two ∙ ap (λ (u : Front). reach_all u ys) one ∙ sym (all-append xs ys r)
+
+-- a loop's next turn
+pub all-more : (r s t : Front) (lits : List ℕ) (i lit : ℕ) → i < length lits → lit ≡ get_or lits i lit → s ≡ reach_all r (take i lits) → t ≡ reach s (variable lit) → t ≡ reach_all r (take (i + 1) lits)
+all-more r s t lits i lit h read before step =
+    let longer : take (i + 1) lits ≡ take i lits ++ lit ∷ [] = take_more lits i lit h ∙ ap (λ (n : ℕ). take i lits ++ n ∷ []) (sym read) in
+    all-then (take i lits) (lit ∷ []) r s t before (step ∙ sym (all-one s lit)) ∙ ap (reach_all r) (sym longer)
+
+-- a literal in range is in range of what was reached since
+pub within-since : (lits : List ℕ) (r s : Front) (n : ℕ) → s ≡ reach_all r lits → n < front_end r → n < front_end s
+within-since lits r s n e h = omega (arith, h, all-end lits r s e)
+
+-- nothing more
+pub all-start : (r s : Front) → s ≡ r → s ≡ reach_all r []
+all-start r s e = e ∙ sym (all-nil r)
+
+pub all-whole : (r s : Front) (lits : List ℕ) (i : ℕ) → length lits ≤ i → s ≡ reach_all r (take i lits) → s ≡ reach_all r lits
+all-whole r s lits i h e = e ∙ ap (reach_all r) (take_all i lits h)
+
+pub all-since : (ys lits : List ℕ) (r s : Front) → s ≡ reach_all r ys → All (λ lit. variable lit < front_end r) lits → All (λ lit. variable lit < front_end s) lits
+all-since ys lits r s e all = λ k d h. within-since ys r s (variable (get_or lits k d)) e (all k d h)
+
+pub each-since : (ys : List ℕ) (xss : List (List ℕ)) (r s : Front) → s ≡ reach_all r ys → All (λ lits. All (λ lit. variable lit < front_end r) lits) xss → All (λ lits. All (λ lit. variable lit < front_end s) lits) xss
+each-since ys xss r s e all = λ k d h. all-since ys (get_or xss k d) r s e (all k d h)
+
+-- a loop's next turn over lists
+pub flat-more : (r s t : Front) (xss : List (List ℕ)) (i : ℕ) (xs : List ℕ) → i < length xss → xs ≡ get_or xss i xs → s ≡ reach_all r (flat_map (λ lits. lits) (take i xss)) → t ≡ reach_all s xs
+    → t ≡ reach_all r (flat_map (λ lits. lits) (take (i + 1) xss))
+flat-more r s t xss i xs h read before step =
+    let longer : take (i + 1) xss ≡ take i xss ++ xs ∷ [] = take_more xss i xs h ∙ ap (λ (ys : List ℕ). take i xss ++ ys ∷ []) (sym read) in
+    all-then (flat_map (λ lits. lits) (take i xss)) xs r s t before step
+    ∙ ap (reach_all r) (flat_map_more (λ (lits : List ℕ). lits) [] (take i xss) xs ∙ ap (λ (yss : List (List ℕ)). flat_map (λ (lits : List ℕ). lits) yss) (sym longer))
+
+-- a loop's next turn over positions
+pub held-more : (r s t : Front) (first : ℕ) (held : List ℕ) (i lit : ℕ) → i < length held → lit ≡ 2 * (first + get_or held i 0) → s ≡ reach_all r (map (λ j. 2 * (first + j)) (take i held)) → t ≡ reach s (variable lit)
+    → t ≡ reach_all r (map (λ j. 2 * (first + j)) (take (i + 1) held))
+held-more r s t first held i lit h is before step =
+    let f : ℕ → ℕ = λ j. 2 * (first + j) in
+    let longer : map f (take (i + 1) held) ≡ map f (take i held) ++ lit ∷ [] =
+    ap (map f) (take_more held i 0 h) ∙ map_push f (take i held) (get_or held i 0) ∙ ap (λ (n : ℕ). map f (take i held) ++ n ∷ []) (sym is) in
+    all-then (map f (take i held)) (lit ∷ []) r s t before (step ∙ sym (all-one s lit)) ∙ ap (reach_all r) (sym longer)

@@ -1,0 +1,11 @@
+pub mod MergeSteps
+pub mod SubstitutionLaws
+pub mod FirstsLaws
+pub mod FrontLaws
+pub mod ReadsLaws
+pub mod SweepLaws
+pub mod TrimLaws
+pub mod NamesLaws
+pub mod PassSteps
+pub mod CleaningLaws
+pub mod MappingLaws

@@ -1,0 +1,62 @@
+-- Graphs and properties that are mapped part by part.
+use Rattle.std.proofs.Common.{ℕ, ◌+◌, ◌<◌, ◌≡◌, List, length, map, slice_get, Some, get_or, refl, arith, ap, sym, ◌∙◌, subst}
+use Rattle.std.proofs.lemmas.Option.{slice_get_read, slice_get_within}
+use Rattle.aig_graph.specs.declared.graph.Gate.{Gate}
+use Rattle.aig_graph.specs.declared.graph.Latch.{Latch}
+use Rattle.aig_graph.specs.declared.properties.Props.{Props}
+use Rattle.aig_graph.specs.Graph.{Graph, IsGraph, IsGateAt, IsLiteralOf, variable, variables_end, first_gate}
+use Rattle.aig_graph.specs.Circuits.{ArePropsOf}
+use Rattle.clean_laws.specs.Properties.{OfProps}
+use Rattle.clean_laws.specs.Merged.{mapped_props, replaced_latch, replaced_gate, replaced_graph, stands_of}
+use Rattle.clean_laws.proofs.PropsLaws.{of_literals, literals_within}
+use Rattle.clean_laws.proofs.StandLaws.{length-stands_of}
+
+pub props-is : (f : ℕ → ℕ) (p : Props) (outputs bad constraints : List ℕ) (justice : List (List ℕ)) (fairness : List ℕ) → outputs ≡ map f p.outputs → bad ≡ map f p.bad → constraints ≡ map f p.constraints
+    → justice ≡ map (map f) p.justice → fairness ≡ map f p.fairness
+    → ◌≡◌ {A = Props} (record { outputs = outputs; bad = bad; constraints = constraints; justice = justice; fairness = fairness }) (mapped_props f p)
+unfolding mapped_props
+props-is f p outputs bad constraints justice fairness one two three four five =
+    let first : List ℕ → Props = λ xs. record { outputs = xs; bad = bad; constraints = constraints; justice = justice; fairness = fairness } in
+    let second : List ℕ → Props = λ xs. record { outputs = map f p.outputs; bad = xs; constraints = constraints; justice = justice; fairness = fairness } in
+    let third : List ℕ → Props = λ xs. record { outputs = map f p.outputs; bad = map f p.bad; constraints = xs; justice = justice; fairness = fairness } in
+    let fourth : List (List ℕ) → Props = λ xss. record { outputs = map f p.outputs; bad = map f p.bad; constraints = map f p.constraints; justice = xss; fairness = fairness } in
+    let fifth : List ℕ → Props = λ xs. record { outputs = map f p.outputs; bad = map f p.bad; constraints = map f p.constraints; justice = map (map f) p.justice; fairness = xs } in
+    ap first one ∙ ap second two ∙ ap third three ∙ ap fourth four ∙ ap fifth five
+
+pub graph-is : (inputs : ℕ) (latches other_latches : List Latch) (gates other_gates : List Gate) (n : ℕ) → n ≡ inputs → latches ≡ other_latches → gates ≡ other_gates
+    → ◌≡◌ {A = Graph} (record { inputs = n; latches = latches; gates = gates }) (record { inputs = inputs; latches = other_latches; gates = other_gates })
+graph-is inputs latches other_latches gates other_gates n one two three =
+    let first : ℕ → Graph = λ m. record { inputs = m; latches = latches; gates = gates } in
+    let second : List Latch → Graph = λ ls. record { inputs = inputs; latches = ls; gates = gates } in
+    let third : List Gate → Graph = λ gs. record { inputs = inputs; latches = other_latches; gates = gs } in
+    ap first one ∙ ap second two ∙ ap third three
+
+pub replaced-is : (stands : List ℕ) (g : Graph) (n : ℕ) (latches : List Latch) (gates : List Gate) → n ≡ g.inputs → latches ≡ map (replaced_latch stands) g.latches → gates ≡ map (replaced_gate stands) g.gates
+    → ◌≡◌ {A = Graph} (record { inputs = n; latches = latches; gates = gates }) (replaced_graph stands g)
+unfolding replaced_graph
+replaced-is stands g n latches gates one two three = graph-is g.inputs latches (map (replaced_latch stands) g.latches) gates (map (replaced_gate stands) g.gates) n one two three
+
+-- the literals of properties, within a table by variable
+pub props-within : (g : Graph) (p : Props) (n : ℕ) → ArePropsOf g p → n ≡ variables_end g → OfProps (λ lit. variable lit < n) p
+props-within g p n props long =
+    let P : ℕ → Type 0 = λ m. OfProps (λ lit. variable lit < m) p in
+    subst P (sym long) (of_literals (λ lit. IsLiteralOf g lit) p (literals_within g p props))
+
+pub stands-long : (g : Graph) (held stands : List ℕ) → stands ≡ stands_of g held → length stands ≡ variables_end g
+stands-long g held stands is = ap (λ (xs : List ℕ). length xs) is ∙ length-stands_of g held
+
+-- what a loop over the gates reads is within the table
+pub gate-within : (g : Graph) (items : List Gate) (k n : ℕ) (gate : Gate) → IsGraph g → items ≡ g.gates → k < length items → gate ≡ get_or items k gate → n ≡ variables_end g
+    → (variable gate.rhs0 < n) × (variable gate.rhs1 < n)
+gate-within g items k n gate valid same h read long =
+    let there : slice_get g.gates k ≡ Some gate = ap (λ (xs : List Gate). slice_get xs k) (sym same) ∙ slice_get_read items (length items) k gate refl h read in
+    let at : IsGateAt (first_gate g + k) gate = valid.gates k gate there in
+    let within : k < length g.gates = slice_get_within g.gates k gate there in
+    (omega arith, omega arith)
+
+-- what a loop over the gates reads
+pub gate-there : (g : Graph) (items : List Gate) (k : ℕ) (gate : Gate) → items ≡ g.gates → k < length items → gate ≡ get_or items k gate → slice_get g.gates k ≡ Some gate
+gate-there g items k gate same h read = ap (λ (xs : List Gate). slice_get xs k) (sym same) ∙ slice_get_read items (length items) k gate refl h read
+
+pub latch-there : (g : Graph) (items : List Latch) (k : ℕ) (latch : Latch) → items ≡ g.latches → k < length items → latch ≡ get_or items k latch → slice_get g.latches k ≡ Some latch
+latch-there g items k latch same h read = ap (λ (xs : List Latch). slice_get xs k) (sym same) ∙ slice_get_read items (length items) k latch refl h read

@@ -1,0 +1,34 @@
+-- The names of what stays, one after another.
+use Rattle.std.proofs.Common.{ℕ, ◌+◌, ◌<◌, ◌≡◌, List, [], ◌∷◌, ◌++◌, length, map, filter, take, Bool, true, false, cond, get_or, ap, sym, ◌∙◌}
+use Rattle.std.proofs.lemmas.List.{map_push, append-nil}
+use Rattle.std.proofs.lemmas.List.Elements.{filter_more}
+use Rattle.aig_graph.specs.declared.properties.Symbol.{Symbol}
+use Rattle.aig_graph.specs.declared.properties.Symbols.{Symbols}
+use Rattle.aig_graph.specs.Graph.{Graph, first_latch}
+use Rattle.clean_laws.specs.Trimmed.{new_name, new_position, trimmed_symbols}
+
+module _ (g : Graph) (s : ℕ → Bool) (names : List Symbol) (i : ℕ) (name : Symbol) (h : i < length names) (read : name ≡ get_or names i name) where
+  abbrev kept : Symbol → Bool
+  kept n = s (first_latch g + n.position)
+
+  here : (b : Bool) → kept name ≡ b → filter kept (take (i + 1) names) ≡ filter kept (take i names) ++ cond b (name ∷ []) []
+  here b e =
+      filter_more kept names i name h ∙ ap (λ (n : Symbol). filter kept (take i names) ++ cond (kept n) (n ∷ []) []) (sym read)
+      ∙ ap (λ (c : Bool). filter kept (take i names) ++ cond c (name ∷ []) []) e
+
+  pub name-more : (old new : List Symbol) (copy : Symbol) (position : ℕ) → kept name ≡ true → old ≡ map (new_name g s) (filter kept (take i names)) → new ≡ old ++ copy ∷ []
+      → copy ≡ record name { position = position } → position ≡ new_position g s name.position → new ≡ map (new_name g s) (filter kept (take (i + 1) names))
+  name-more old new copy position stays before pushed is place =
+      let with_position : ℕ → Symbol = λ n. record { position = n; name = name.name } in
+      pushed ∙ ap (λ (xs : List Symbol). xs ++ copy ∷ []) before ∙ ap (λ (n : Symbol). map (new_name g s) (filter kept (take i names)) ++ n ∷ []) (is ∙ ap with_position place)
+      ∙ sym (map_push (new_name g s) (filter kept (take i names)) name) ∙ sym (ap (map (new_name g s)) (here true stays))
+
+  pub name-skip : (old : List Symbol) → kept name ≡ false → old ≡ map (new_name g s) (filter kept (take i names)) → old ≡ map (new_name g s) (filter kept (take (i + 1) names))
+  name-skip old goes before = before ∙ sym (ap (map (new_name g s)) (here false goes ∙ append-nil (filter kept (take i names))))
+
+pub symbols-is : (g : Graph) (s : ℕ → Bool) (old : Symbols) (inputs latches outputs bad constraints justice fairness : List Symbol)
+    → inputs ≡ old.inputs → latches ≡ map (new_name g s) (filter (λ name. s (first_latch g + name.position)) old.latches) → outputs ≡ old.outputs → bad ≡ old.bad → constraints ≡ old.constraints → justice ≡ old.justice
+    → fairness ≡ old.fairness
+    → ◌≡◌ {A = Symbols} (record { inputs = inputs; latches = latches; outputs = outputs; bad = bad; constraints = constraints; justice = justice; fairness = fairness }) (trimmed_symbols g s old)
+unfolding trimmed_symbols
+symbols-is g s old inputs latches outputs bad constraints justice fairness e1 e2 e3 e4 e5 e6 e7 = cc

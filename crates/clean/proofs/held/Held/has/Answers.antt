@@ -1,0 +1,9 @@
+use Rattle.std.proofs.Common.{length, zero-add}
+use Rattle.variable_tables.specs.Marking.{has}
+use Rattle.variable_tables.proofs.TableLemmas.{read-table}
+use Rattle.clean.proofs.held.Held.has.Goals as goal
+
+pub returns : goal.returns
+returns c =
+    read-table 0 (length c.args.self.now.marks.items) (has c.args.self.now.positions.now) c.args.self.now.marks.items c.args.position c.args.position c.index.result.now
+    c.args.self.now.marked c.requires (zero-add c.args.position) c.index.ensures

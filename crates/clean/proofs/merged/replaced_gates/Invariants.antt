@@ -1,0 +1,6 @@
+use Rattle.std.proofs.Common.{◌≡◌, map, take}
+use Rattle.clean_laws.specs.Merged.{replaced_gate}
+use Rattle.clean.proofs.merged.replaced_gates.Given as goal
+
+abbrev pub invariant-loop-gate : goal.invariant-loop-gate
+invariant-loop-gate l = l.gates.items ≡ map (replaced_gate l.stands) (take l.gate-index l.aig.gates)

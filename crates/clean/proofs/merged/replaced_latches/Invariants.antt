@@ -1,0 +1,6 @@
+use Rattle.std.proofs.Common.{◌≡◌, map, take}
+use Rattle.clean_laws.specs.Merged.{replaced_latch}
+use Rattle.clean.proofs.merged.replaced_latches.Given as goal
+
+abbrev pub invariant-loop-latch : goal.invariant-loop-latch
+invariant-loop-latch l = l.latches.items ≡ map (replaced_latch l.stands) (take l.latch-index l.aig.latches)

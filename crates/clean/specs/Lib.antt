@@ -1,0 +1,3 @@
+pub mod Substitutions
+pub mod Firsts
+pub mod Sweep

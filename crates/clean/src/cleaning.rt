@@ -1,0 +1,67 @@
+ghost use Rattle.std.specs.Prelude.{◌≡◌, ◌<◌, All, IfOk, length, map, slice_index};
+ghost use Rattle.aig_graph.specs.Streams.{SameStreams};
+ghost use Rattle.aig_graph.specs.Laws.{composed};
+ghost use Rattle.clean_laws.specs.Cleaned.{Cleans};
+
+use crate::pass::{Pass, run_pass};
+use aig_graph::{Circuit, Keep, NoMemory, Sequence};
+use std::alloc::Global;
+
+/// A cleaned circuit.
+#[derive(Drop)]
+pub struct Cleaned {
+    /// What is left of the circuit.
+    pub circuit: Circuit,
+    /// Of each free latch that stays, its place, from 0, among the free latches of the circuit that was cleaned.
+    pub kept_free: Sequence<u32>,
+}
+
+/// The entries of a first list at the places that a second list names. Where the lists have the places of the free latches
+/// that stay, from one circuit to the next and from that one to a third, the result has those from the first to the third.
+///
+/// # Errors
+///
+/// `NoMemory` where the list is refused.
+pub fn composed(alloc: Global, first: &[u32], second: &[u32]) -> Result<Vec<u32>, NoMemory>
+    requires { All (λ place. place < length first.now) second.now }
+    ensures { IfOk result (λ places. places.items ≡ composed first.now second.now) }
+{
+    let mut places = Vec::with_capacity(alloc, second.len())?;
+    for place in second {
+        places.push(first[*place as usize])?;
+    }
+    Ok(places)
+}
+
+/// A circuit without its redundant latches and gates, cleaned pass after pass until a pass changes nothing.
+///
+/// In a pass a latch that never leaves its reset becomes that constant, and a latch with the next literal and the known
+/// reset of an earlier one becomes that one. Gates come down to constants, to one of their literals, or to an earlier gate
+/// of the same literals. What no property and no held latch rests on goes, and numbers close up. Inputs and properties
+/// always stay, and so do the latches that are held; free latches are never replaced. A latch that stays keeps its name.
+///
+/// A pass is linear in the latches, gates, properties and names, but for the hash table of gates. A circuit of inputs alone
+/// takes kilobytes, however many they are.
+pub fn clean(alloc: Global, circuit: &Circuit, keep: &Keep) -> Result<Cleaned, NoMemory>
+    requires in_range { All (λ j. j < length circuit.now.aig.latches) keep.now }
+    ensures cleaned { IfOk result (λ c. Cleans c.circuit keep.now circuit.now c.kept_free) }
+    ensures streams { IfOk result (λ c. SameStreams circuit.now c.circuit c.kept_free) }
+{
+    let mut before = circuit.aig().latches_and_gates();
+    let mut last = run_pass(alloc, circuit, keep.positions())?;
+    while last.circuit.aig().latches_and_gates() < before {
+        before = last.circuit.aig().latches_and_gates();
+        let next = run_pass(alloc, &last.circuit, last.held.as_slice())?;
+        let kept_free = composed(alloc, last.kept_free.as_slice(), next.kept_free.as_slice())?;
+        last = Pass { kept_free, ..next };
+    }
+    let Pass {
+        circuit,
+        kept_free,
+        ..
+    } = last;
+    Ok(Cleaned {
+        circuit,
+        kept_free: Sequence::from_vec(kept_free),
+    })
+}

@@ -1,0 +1,66 @@
+ghost use Rattle.std.specs.Prelude.{◌≡◌, ◌++◌, ◌∷◌, [], None, OnOk, IfOk};
+ghost use Rattle.std.specs.Map.{lookup};
+ghost use Rattle.clean_laws.specs.Latches.{is_latch};
+ghost use Rattle.clean_laws.specs.Merged.{stand_or_own};
+ghost use Rattle.clean.specs.Firsts.{entries_after};
+
+use aig_graph::{Latch, Lit, NoMemory};
+use indexmap::IndexMap;
+use std::alloc::Global;
+use std::marker::Model;
+
+/// The first latch of each next literal and reset, with its literal.
+#[derive(Drop)]
+pub(crate) struct FirstLatches {
+    literals: IndexMap<Latch, Lit>,
+}
+
+impl Model for FirstLatches {
+    ghost use Rattle.std.specs.Prelude.{List, ℕ};
+    ghost use Rattle.aig_graph.specs.declared.graph.Latch.{Latch};
+
+    ghost Value = { List (Latch × ℕ) };
+
+    ghost view = { λ f. f.literals.entries };
+}
+
+impl FirstLatches {
+    /// No latches.
+    pub(crate) fn new(alloc: Global) -> FirstLatches
+        ensures { result ≡ [] }
+    {
+        FirstLatches {
+            literals: IndexMap::new(alloc),
+        }
+    }
+
+    /// The literal of the latch of this next literal and reset.
+    fn find(&self, latch: &Latch) -> Option<Lit>
+        ensures { result ≡ lookup (is_latch latch.now) self.now }
+    {
+        self.literals.get(latch).copied()
+    }
+
+    /// Adds a latch of another next literal or reset than each one's.
+    fn add(&mut self, latch: Latch, own: Lit) -> Result<(), NoMemory>
+        requires { lookup (is_latch latch) self.old ≡ None }
+        ensures { OnOk result (self.new ≡ self.old ++ (latch, own) ∷ []) }
+    {
+        self.literals.insert(latch, own)?;
+        Ok(())
+    }
+
+    /// The literal of the first latch like this one, which is this one where there is none.
+    pub(crate) fn first_like(&mut self, latch: Latch, own: Lit) -> Result<Lit, NoMemory>
+        ensures literal { IfOk result (λ lit. lit ≡ stand_or_own own (lookup (is_latch latch) self.old)) }
+        ensures entries { OnOk result (self.new ≡ entries_after self.old own latch (lookup (is_latch latch) self.old)) }
+    {
+        match self.find(&latch) {
+            Some(first) => Ok(first),
+            None => {
+                self.add(latch, own)?;
+                Ok(own)
+            }
+        }
+    }
+}

@@ -1,0 +1,81 @@
+ghost use Rattle.std.specs.Prelude.{◌≡◌, ◌+◌, ◌*◌, ◌++◌, ◌∷◌, ◌<◌, ◌^◌, [], None, OnOk, IfOk, length};
+ghost use Rattle.std.specs.Map.{lookup};
+ghost use Rattle.aig_graph.specs.Graph.{variable, first_gate};
+ghost use Rattle.clean_laws.specs.Merged.{is_gate, known_stand, stand_or_own, kept_after, merge_gate, merge_gates};
+
+use crate::kept::KeptGates;
+use crate::substitution::Substitution;
+use aig_graph::{Aig, Gate, Lit, NoMemory};
+use std::alloc::Global;
+
+/// The literal that a gate comes down to, where the kept gates are these.
+fn known_stand(kept: &KeptGates, gate: &Gate) -> Option<Lit>
+    ensures { result ≡ known_stand kept.now gate.now }
+{
+    if gate.rhs1 == Lit::FALSE {
+        Some(Lit::FALSE)
+    } else if gate.rhs1 == Lit::TRUE {
+        Some(gate.rhs0)
+    } else if gate.rhs0 == gate.rhs1 {
+        Some(gate.rhs0)
+    } else if gate.rhs0.var() == gate.rhs1.var() {
+        Some(Lit::FALSE)
+    } else {
+        kept.find(*gate)
+    }
+}
+
+/// Keeps the gate at a variable, and returns its literal.
+fn keep(kept: &mut KeptGates, gate: Gate, var: u32) -> Result<Lit, NoMemory>
+    requires new { lookup (is_gate gate) kept.old ≡ None }
+    requires few { var < 2 ^ 28 }
+    ensures literal { IfOk result (λ lit. lit ≡ 2 * var) }
+    ensures kept { OnOk result (kept.new ≡ kept.old ++ (gate, 2 * var) ∷ []) }
+{
+    let own = Lit::new(var, false);
+    kept.add(gate, own)?;
+    Ok(own)
+}
+
+/// What stands for the gate at a variable, which is kept where it comes down to no literal.
+fn stand_for_gate(kept: &mut KeptGates, gate: Gate, var: u32) -> Result<Lit, NoMemory>
+    requires { var < 2 ^ 28 }
+    ensures literal { IfOk result (λ lit. lit ≡ stand_or_own (2 * var) (known_stand kept.old gate)) }
+    ensures kept { OnOk result (kept.new ≡ kept_after kept.old (2 * var) gate (known_stand kept.old gate)) }
+{
+    match known_stand(kept, &gate) {
+        Some(stand) => Ok(stand),
+        None => keep(kept, gate, var),
+    }
+}
+
+/// One more gate, which comes down to a literal or is kept.
+fn merge_gate(kept: &mut KeptGates, stands: &mut Substitution, gate: Gate) -> Result<(), NoMemory>
+    requires first { variable gate.rhs0 < length stands.old }
+    requires second { variable gate.rhs1 < length stands.old }
+    requires few { length stands.old < 2 ^ 28 }
+    ensures { OnOk result (record { stands = stands.new; kept = kept.new } ≡
+        merge_gate (record { stands = stands.old; kept = kept.old }) gate) }
+{
+    let pair = stands.gate(gate);
+    let stand = stand_for_gate(kept, pair, stands.len())?;
+    stands.push(stand)?;
+    Ok(())
+}
+
+/// What stands for each variable, where `stands` has the variables before the gates.
+pub(crate) fn merge_gates(
+    alloc: Global,
+    aig: &Aig,
+    stands: &mut Substitution,
+) -> Result<(), NoMemory>
+    requires { length stands.old ≡ first_gate aig.now }
+    ensures { OnOk result (stands.new ≡
+        (merge_gates aig.now.gates (record { stands = stands.old; kept = [] })).stands) }
+{
+    let mut kept = KeptGates::new(alloc);
+    for gate in aig.gates() {
+        merge_gate(&mut kept, stands, *gate)?;
+    }
+    Ok(())
+}

@@ -1,0 +1,37 @@
+ghost use Rattle.std.specs.Prelude.{◌≡◌, ◌<◌, IfOk, length};
+ghost use Rattle.variable_tables.specs.Marking.{has};
+ghost use Rattle.variable_tables.specs.Tables.{table};
+
+use std::alloc::Global;
+use variable_tables::{NoMemory, marks_of};
+
+/// The positions of held latches, with a mark for each latch that is held.
+#[derive(Drop)]
+pub(crate) struct Held<'a> {
+    pub(crate) positions: &'a [u32],
+    pub(crate) marks: Vec<bool>,
+    ghost marked: { marks.items ≡ table 0 (length marks.items) (has positions.now) },
+}
+
+impl<'a> Held<'a> {
+    /// The held latches at these positions, among so many latches.
+    pub(crate) fn new(
+        alloc: Global,
+        positions: &'a [u32],
+        latches: usize,
+    ) -> Result<Held<'a>, NoMemory>
+        ensures positions { IfOk result (λ held. held.positions.now ≡ positions.now) }
+        ensures long { IfOk result (λ held. length held.marks.items ≡ latches) }
+    {
+        let marks = marks_of(alloc, 0, latches, positions)?;
+        Ok(Held { positions, marks })
+    }
+
+    /// Whether the latch at a position is held.
+    pub(crate) fn has(&self, position: usize) -> bool
+        requires { position < length self.now.marks.items }
+        ensures { result ≡ has self.now.positions.now position }
+    {
+        self.marks[position]
+    }
+}

@@ -1,0 +1,85 @@
+ghost use Rattle.std.specs.Prelude.{◌≡◌, ◌<◌, ◌+◌, ◌*◌, ◌&&◌, ◌||◌, ◌==◌, not, slice_get, length, Some, OnOk, IfOk};
+ghost use Rattle.aig_graph.specs.Graph.{first_latch, first_gate, is_free};
+ghost use Rattle.variable_tables.specs.Tables.{table};
+ghost use Rattle.clean_laws.specs.Latches.{constant_of, latch_stand, leaf_stand};
+ghost use Rattle.clean.specs.Firsts.{AreFirsts};
+ghost use Rattle.clean.specs.Substitutions.{own_literals};
+
+use crate::firsts::FirstLatches;
+use crate::held::Held;
+use crate::substitution::Substitution;
+use aig_graph::{Aig, Latch, Lit, NoMemory, Reset};
+use std::alloc::Global;
+
+/// The constant of a known reset.
+fn constant_of(reset: Reset) -> Lit
+    ensures { result ≡ constant_of reset }
+{
+    match reset {
+        Reset::Zero => Lit::FALSE,
+        Reset::One => Lit::TRUE,
+        Reset::Free => Lit::FALSE,
+    }
+}
+
+/// Whether the latch is known, isn't held, and reads itself or the constant of its reset.
+fn is_stuck(latch: Latch, own: Lit, is_held: bool) -> bool
+    ensures { result ≡ (not (is_free latch) && not is_held && (latch.next == own || latch.next == constant_of latch.reset)) }
+{
+    latch.reset != Reset::Free
+        && !is_held
+        && (latch.next == own || latch.next == constant_of(latch.reset))
+}
+
+/// The literal of the latch at a place.
+fn own_literal(aig: &Aig, place: usize) -> Lit
+    requires { place < length aig.now.latches }
+    ensures { result ≡ 2 * (first_latch aig.now + place) }
+{
+    Lit::new(aig.first_latch() + place as u32, false)
+}
+
+/// What stands for the latch at a place, where the first latches before it are these.
+fn stand_for_latch(
+    firsts: &mut FirstLatches,
+    aig: &Aig,
+    held: &Held<'_>,
+    place: usize,
+    latch: Latch,
+) -> Result<Lit, NoMemory>
+    requires there { slice_get aig.now.latches place ≡ Some latch }
+    requires held { length held.now.marks.items ≡ length aig.now.latches }
+    requires firsts { AreFirsts aig.now held.now.positions.now place firsts.old }
+    ensures literal { IfOk result (λ lit. lit ≡ latch_stand aig.now held.now.positions.now place (Some latch)) }
+    ensures firsts { OnOk result (AreFirsts aig.now held.now.positions.now (place + 1) firsts.new) }
+{
+    let own = own_literal(aig, place);
+    let is_held = held.has(place);
+    if is_stuck(latch, own, is_held) {
+        return Ok(constant_of(latch.reset));
+    }
+    if latch.reset == Reset::Free {
+        return Ok(own);
+    }
+    let first = firsts.first_like(latch, own)?;
+    if is_held { Ok(own) } else { Ok(first) }
+}
+
+/// What stands for each latch, where `stands` has the variables before them.
+pub(crate) fn latch_stands(
+    alloc: Global,
+    aig: &Aig,
+    held: &Held<'_>,
+    stands: &mut Substitution,
+) -> Result<(), NoMemory>
+    requires held { length held.now.marks.items ≡ length aig.now.latches }
+    requires inputs { stands.old ≡ own_literals (first_latch aig.now) }
+    ensures { OnOk result (stands.new ≡ table 0 (first_gate aig.now) (leaf_stand aig.now held.now.positions.now)) }
+{
+    let mut firsts = FirstLatches::new(alloc);
+    for (place, latch) in aig.latches().iter().enumerate() {
+        let stand = stand_for_latch(&mut firsts, aig, held, place, *latch)?;
+        stands.push(stand)?;
+    }
+    Ok(())
+}

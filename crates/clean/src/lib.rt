@@ -1,0 +1,22 @@
+//! Structural cleaning of circuits: stuck and twin latches, gates that say nothing new, and what no property rests on.
+#![tactic(auto)]
+
+mod cleaning;
+mod firsts;
+mod gates;
+mod held;
+mod kept;
+mod latches;
+mod mapping;
+mod merged;
+mod names;
+mod pass;
+mod reached;
+mod stands;
+mod substitution;
+mod trim;
+
+pub use cleaning::{Cleaned, clean, composed};
+
+#[cfg(test)]
+mod tests;

@@ -1,0 +1,70 @@
+ghost use Rattle.std.specs.Prelude.{◌≡◌, ◌<◌, IfOk, length, map};
+ghost use Rattle.aig_graph.specs.Graph.{variable, variables_end};
+ghost use Rattle.clean_laws.specs.Merged.{stands_of, replaced_latch, replaced_gate, replaced_graph, merged_of};
+
+use crate::held::Held;
+use crate::mapping::mapped_props;
+use crate::stands::stands_of;
+use crate::substitution::Substitution;
+use aig_graph::{Aig, Circuit, Gate, Latch, NoMemory, Props};
+use std::alloc::Global;
+
+/// A circuit in which each literal reads what stands for it.
+#[derive(Drop)]
+pub(crate) struct Merged {
+    pub(crate) aig: Aig,
+    pub(crate) props: Props,
+}
+
+fn replaced_latches(alloc: Global, stands: &Substitution, aig: &Aig) -> Result<Vec<Latch>, NoMemory>
+    requires { length stands.now ≡ variables_end aig.now }
+    ensures { IfOk result (λ latches. latches.items ≡ map (replaced_latch stands.now) aig.now.latches) }
+{
+    let mut latches = Vec::with_capacity(alloc, aig.latches().len())?;
+    for latch in aig.latches() {
+        latches.push(stands.latch(*latch))?;
+    }
+    Ok(latches)
+}
+
+fn replaced_gates(alloc: Global, stands: &Substitution, aig: &Aig) -> Result<Vec<Gate>, NoMemory>
+    requires { length stands.now ≡ variables_end aig.now }
+    ensures { IfOk result (λ gates. gates.items ≡ map (replaced_gate stands.now) aig.now.gates) }
+{
+    let mut gates = Vec::with_capacity(alloc, aig.gates().len())?;
+    for gate in aig.gates() {
+        gates.push(stands.gate(*gate))?;
+    }
+    Ok(gates)
+}
+
+/// The graph, reading what stands for what it reads.
+fn merged_aig(
+    alloc: Global,
+    aig: &Aig,
+    held: &Held<'_>,
+    stands: &Substitution,
+) -> Result<Aig, NoMemory>
+    requires { stands.now ≡ stands_of aig.now held.now.positions.now }
+    ensures { IfOk result (λ after. after ≡ replaced_graph stands.now aig.now) }
+{
+    let latches = replaced_latches(alloc, stands, aig)?;
+    let gates = replaced_gates(alloc, stands, aig)?;
+    Ok(Aig::from_parts(aig.inputs(), latches, gates))
+}
+
+/// The circuit, reading what stands for what it reads.
+pub(crate) fn merged_of(
+    alloc: Global,
+    circuit: &Circuit,
+    held: &Held<'_>,
+) -> Result<Merged, NoMemory>
+    requires { length held.now.marks.items ≡ length circuit.now.aig.latches }
+    ensures aig { IfOk result (λ merged. merged.aig ≡ (merged_of held.now.positions.now circuit.now).aig) }
+    ensures props { IfOk result (λ merged. merged.props ≡ (merged_of held.now.positions.now circuit.now).props) }
+{
+    let stands = stands_of(alloc, circuit.aig(), held)?;
+    let aig = merged_aig(alloc, circuit.aig(), held, &stands)?;
+    let props = mapped_props(alloc, &stands, circuit.props())?;
+    Ok(Merged { aig, props })
+}

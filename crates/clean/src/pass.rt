@@ -1,0 +1,61 @@
+ghost use Rattle.std.specs.Prelude.{◌≡◌, ◌<◌, All, IfOk, length};
+ghost use Rattle.aig_graph.specs.Graph.{IsGraph};
+ghost use Rattle.clean_laws.specs.Merged.{merged_of};
+ghost use Rattle.clean_laws.specs.Reached.{AreReached};
+ghost use Rattle.clean_laws.specs.Cleaned.{IsPass};
+ghost use Rattle.clean.specs.Sweep.{is_marked};
+
+use crate::held::Held;
+use crate::merged::{Merged, merged_of};
+use crate::reached::{Reached, reach_everything};
+use crate::trim::Trim;
+use aig_graph::{Circuit, NoMemory};
+use std::alloc::Global;
+
+/// What a pass leaves of a circuit.
+#[derive(Drop)]
+pub(crate) struct Pass {
+    pub(crate) circuit: Circuit,
+    /// Of each free latch that stays, its place among the free latches before.
+    pub(crate) kept_free: Vec<u32>,
+    /// The new positions of the held latches.
+    pub(crate) held: Vec<u32>,
+}
+
+/// The merged circuit, without what isn't reached.
+fn trimmed(
+    alloc: Global,
+    circuit: &Circuit,
+    held: &[u32],
+    merged: &Merged,
+    reached: &Reached,
+) -> Result<Pass, NoMemory>
+    requires graph { IsGraph circuit.now.aig }
+    requires in_range { All (λ j. j < length circuit.now.aig.latches) held.now }
+    requires aig { merged.now.aig ≡ (merged_of held.now circuit.now).aig }
+    requires props { merged.now.props ≡ (merged_of held.now circuit.now).props }
+    requires reached { AreReached merged.now.aig merged.now.props held.now (is_marked reached.now) }
+    ensures { IfOk result (λ pass. IsPass held.now circuit.now pass.circuit pass.kept_free.items pass.held.items) }
+{
+    let symbols = circuit.symbols();
+    let trim = Trim::new(alloc, &merged.aig, reached)?;
+    let circuit = trim.circuit(alloc, &merged.props, symbols)?;
+    let kept_free = trim.kept_free(alloc)?;
+    let held = trim.new_positions(alloc, held)?;
+    Ok(Pass {
+        circuit,
+        kept_free,
+        held,
+    })
+}
+
+/// One pass over a circuit, with the latches at these positions held.
+pub(crate) fn run_pass(alloc: Global, circuit: &Circuit, held: &[u32]) -> Result<Pass, NoMemory>
+    requires { All (λ j. j < length circuit.now.aig.latches) held.now }
+    ensures { IfOk result (λ pass. IsPass held.now circuit.now pass.circuit pass.kept_free.items pass.held.items) }
+{
+    let marks = Held::new(alloc, held, circuit.aig().latches().len())?;
+    let merged = merged_of(alloc, circuit, &marks)?;
+    let reached = reach_everything(alloc, &merged.aig, &merged.props, held)?;
+    trimmed(alloc, circuit, held, &merged, &reached)
+}

@@ -1,0 +1,21 @@
+ghost use Rattle.std.specs.Prelude.{◌≡◌, IfOk, length};
+ghost use Rattle.clean_laws.specs.Merged.{stands_of};
+
+use crate::gates::merge_gates;
+use crate::held::Held;
+use crate::latches::latch_stands;
+use crate::substitution::Substitution;
+use aig_graph::{Aig, NoMemory};
+use std::alloc::Global;
+
+/// What stands for each variable: for a stuck latch its constant, for a latch or a gate the first one like it, and for a
+/// gate that says nothing new the literal that it comes down to.
+pub(crate) fn stands_of(alloc: Global, aig: &Aig, held: &Held<'_>) -> Result<Substitution, NoMemory>
+    requires { length held.now.marks.items ≡ length aig.now.latches }
+    ensures { IfOk result (λ stands. stands ≡ stands_of aig.now held.now.positions.now) }
+{
+    let mut stands = Substitution::new(alloc, aig.first_latch(), aig.latches_and_gates())?;
+    latch_stands(alloc, aig, held, &mut stands)?;
+    merge_gates(alloc, aig, &mut stands)?;
+    Ok(stands)
+}

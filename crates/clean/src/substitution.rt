@@ -1,0 +1,87 @@
+ghost use Rattle.std.specs.Prelude.{◌≡◌, ◌+◌, ◌<◌, ◌≤◌, ◌^◌, ◌++◌, ◌∷◌, [], IfOk, OnOk, length};
+ghost use Rattle.aig_graph.specs.Graph.{variable};
+ghost use Rattle.clean_laws.specs.Merged.{replaced, replaced_gate, replaced_latch};
+ghost use Rattle.clean.specs.Substitutions.{own_literals};
+
+use aig_graph::{Gate, Latch, Lit, NoMemory};
+use std::alloc::Global;
+use std::marker::Model;
+
+/// A literal for each variable. The variables before the first latch, the constant and the inputs, stand for themselves
+/// and take no room: a circuit may have 2^28 - 1 inputs and nothing else.
+#[derive(Drop)]
+pub(crate) struct Substitution {
+    first: u32,
+    literals: Vec<Lit>,
+}
+
+impl Model for Substitution {
+    ghost use Rattle.std.specs.Prelude.{List, ℕ, ◌+◌, ◌≤◌, ◌^◌, length};
+    ghost use Rattle.clean.specs.Substitutions.{from_first};
+
+    ghost Value = { List ℕ };
+
+    ghost view = { λ s. from_first s.first s.literals.items };
+
+    ghost invariant = { λ s. s.first + length s.literals.items ≤ 2 ^ 28 };
+}
+
+impl Substitution {
+    /// The variables before `first`, with room for `room` more.
+    pub(crate) fn new(alloc: Global, first: u32, room: usize) -> Result<Substitution, NoMemory>
+        requires { first ≤ 2 ^ 28 }
+        ensures { IfOk result (λ s. s ≡ own_literals first) }
+    {
+        let literals = Vec::with_capacity(alloc, room)?;
+        Ok(Substitution { first, literals })
+    }
+
+    /// The number of variables.
+    pub(crate) fn len(&self) -> u32
+        ensures long { result ≡ length self.now }
+        ensures few { result ≤ 2 ^ 28 }
+    {
+        self.first + self.literals.len() as u32
+    }
+
+    /// A literal for the next variable.
+    pub(crate) fn push(&mut self, lit: Lit) -> Result<(), NoMemory>
+        requires { length self.old < 2 ^ 28 }
+        ensures { OnOk result (self.new ≡ self.old ++ lit ∷ []) }
+    {
+        self.literals.push(lit)?;
+        Ok(())
+    }
+
+    /// What stands for a literal.
+    pub(crate) fn literal(&self, lit: Lit) -> Lit
+        requires { variable lit < length self.now }
+        ensures { result ≡ replaced self.now lit }
+    {
+        let var = lit.var();
+        if var < self.first {
+            return lit;
+        }
+        self.literals[(var - self.first) as usize].signed_as(lit)
+    }
+
+    /// The latch that reads what stands for its next literal.
+    pub(crate) fn latch(&self, latch: Latch) -> Latch
+        requires { variable latch.next < length self.now }
+        ensures { result ≡ replaced_latch self.now latch }
+    {
+        Latch {
+            next: self.literal(latch.next),
+            reset: latch.reset,
+        }
+    }
+
+    /// The gate of what stands for a gate's literals.
+    pub(crate) fn gate(&self, gate: Gate) -> Gate
+        requires first { variable gate.rhs0 < length self.now }
+        requires second { variable gate.rhs1 < length self.now }
+        ensures { result ≡ replaced_gate self.now gate }
+    {
+        Gate::of(self.literal(gate.rhs0), self.literal(gate.rhs1))
+    }
+}

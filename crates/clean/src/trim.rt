@@ -1,0 +1,187 @@
+ghost use Rattle.std.specs.Prelude.{◌≡◌, ◌+◌, ◌<◌, ◌≤◌, All, IfOk, Some, length, map, slice_get, if◌then◌else◌};
+ghost use Rattle.aig_graph.specs.Graph.{is_free, IsGraph, IsLiteralOf, first_latch, first_gate};
+ghost use Rattle.aig_graph.specs.Circuits.{IsNetwork};
+ghost use Rattle.clean_laws.specs.Properties.{OfProps};
+ghost use Rattle.clean_laws.specs.Reached.{stays};
+ghost use Rattle.clean_laws.specs.Trimmed.{new_position, picked, renumbered_latch, renumbered_gate, trimmed_graph, trimmed_of, is_kept_free, kept_free};
+ghost use Rattle.clean.specs.Substitutions.{new_literals};
+ghost use Rattle.clean.specs.Sweep.{is_marked};
+
+use crate::mapping::mapped_props;
+use crate::names::trimmed_symbols;
+use crate::reached::Reached;
+use crate::substitution::Substitution;
+use aig_graph::{Aig, Circuit, Gate, Latch, Lit, NoMemory, Props, Reset, Symbols};
+use std::alloc::Global;
+
+/// A graph of which the latches and gates that aren't reached go, with the new literal of each variable.
+#[derive(Drop)]
+pub(crate) struct Trim<'a> {
+    pub(crate) aig: &'a Aig,
+    pub(crate) reached: &'a Reached,
+    literals: Substitution,
+    ghost renumbers: { literals ≡ new_literals aig.now (is_marked reached.now) },
+}
+
+/// The new literals: numbers close up.
+fn new_literals(alloc: Global, aig: &Aig, reached: &Reached) -> Result<Substitution, NoMemory>
+    ensures { IfOk result (λ literals. literals ≡ new_literals aig.now (is_marked reached.now)) }
+{
+    let first = aig.first_latch();
+    let mut literals = Substitution::new(alloc, first, aig.latches_and_gates())?;
+    let mut next = first;
+    for var in first..aig.variables() as u32 {
+        literals.push(Lit::new(next, false))?;
+        next += u32::from(reached.has(var));
+    }
+    Ok(literals)
+}
+
+/// 1 where the latch is free, else 0.
+fn one_if_free(latch: Latch) -> u32
+    ensures value { result ≡ (if is_free latch then 1 else 0) }
+    ensures small { result ≤ 1 }
+{
+    u32::from(latch.reset == Reset::Free)
+}
+
+impl<'a> Trim<'a> {
+    /// The graph without what isn't reached.
+    pub(crate) fn new(
+        alloc: Global,
+        aig: &'a Aig,
+        reached: &'a Reached,
+    ) -> Result<Trim<'a>, NoMemory>
+        ensures aig { IfOk result (λ trim. trim.aig.now ≡ aig.now) }
+        ensures reached { IfOk result (λ trim. trim.reached.now ≡ reached.now) }
+    {
+        let literals = new_literals(alloc, aig, reached)?;
+        Ok(Trim {
+            aig,
+            reached,
+            literals,
+        })
+    }
+
+    /// Whether the latch at a place stays.
+    pub(crate) fn keeps_latch(&self, place: u32) -> bool
+        requires { place < length self.now.aig.now.latches }
+        ensures { result ≡ is_marked self.now.reached.now (first_latch self.now.aig.now + place) }
+    {
+        self.reached.has(self.aig.first_latch() + place)
+    }
+
+    /// The new position of a latch.
+    pub(crate) fn new_position(&self, position: u32) -> u32
+        requires { position < length self.now.aig.now.latches }
+        ensures { result ≡ new_position self.now.aig.now (is_marked self.now.reached.now) position }
+    {
+        let first = self.aig.first_latch();
+        self.literals
+            .literal(Lit::new(first + position, false))
+            .var()
+            - first
+    }
+
+    /// The latches that stay.
+    fn latches(&self, alloc: Global) -> Result<Vec<Latch>, NoMemory>
+        ensures { IfOk result (λ latches. latches.items ≡
+            map (renumbered_latch self.now.aig.now (is_marked self.now.reached.now))
+            (picked (stays self.now.aig.now (is_marked self.now.reached.now)) (first_latch self.now.aig.now) self.now.aig.now.latches)) }
+    {
+        let mut latches = Vec::new(alloc);
+        for (place, latch) in self.aig.latches().iter().enumerate() {
+            if self.keeps_latch(place as u32) {
+                latches.push(self.literals.latch(*latch))?;
+            }
+        }
+        Ok(latches)
+    }
+
+    /// The gates that stay.
+    fn gates(&self, alloc: Global) -> Result<Vec<Gate>, NoMemory>
+        ensures { IfOk result (λ gates. gates.items ≡
+            map (renumbered_gate self.now.aig.now (is_marked self.now.reached.now))
+            (picked (stays self.now.aig.now (is_marked self.now.reached.now)) (first_gate self.now.aig.now) self.now.aig.now.gates)) }
+    {
+        let first = self.aig.first_gate();
+        let mut gates = Vec::new(alloc);
+        for (place, gate) in self.aig.gates().iter().enumerate() {
+            if self.reached.has(first + place as u32) {
+                gates.push(self.literals.gate(*gate))?;
+            }
+        }
+        Ok(gates)
+    }
+
+    /// The graph of what stays.
+    fn graph(&self, alloc: Global) -> Result<Aig, NoMemory>
+        requires { IsGraph (trimmed_graph self.now.aig.now (is_marked self.now.reached.now)) }
+        ensures { IfOk result (λ aig. aig ≡ trimmed_graph self.now.aig.now (is_marked self.now.reached.now)) }
+    {
+        let latches = self.latches(alloc)?;
+        let gates = self.gates(alloc)?;
+        Ok(Aig::from_parts(self.aig.inputs(), latches, gates))
+    }
+
+    /// The circuit of what stays.
+    pub(crate) fn circuit(
+        &self,
+        alloc: Global,
+        props: &Props,
+        symbols: &Symbols,
+    ) -> Result<Circuit, NoMemory>
+        requires graph { IsGraph (trimmed_graph self.now.aig.now (is_marked self.now.reached.now)) }
+        requires props { OfProps (IsLiteralOf self.now.aig.now) props.now }
+        requires names { All (λ name. name.position < length self.now.aig.now.latches) symbols.now.latches }
+        requires network { IsNetwork (trimmed_of
+            (record { aig = self.now.aig.now; props = props.now; symbols = symbols.now }) (is_marked self.now.reached.now)) }
+        ensures { IfOk result (λ circuit. circuit ≡ trimmed_of
+            (record { aig = self.now.aig.now; props = props.now; symbols = symbols.now }) (is_marked self.now.reached.now)) }
+    {
+        let aig = self.graph(alloc)?;
+        let props = mapped_props(alloc, &self.literals, props)?;
+        let symbols = trimmed_symbols(alloc, self, symbols)?;
+        Ok(Circuit::new(aig, props, symbols))
+    }
+
+    /// The new positions of these latches, which stay.
+    pub(crate) fn new_positions(
+        &self,
+        alloc: Global,
+        positions: &[u32],
+    ) -> Result<Vec<u32>, NoMemory>
+        requires { All (λ j. j < length self.now.aig.now.latches) positions.now }
+        ensures { IfOk result (λ new. new.items ≡
+            map (new_position self.now.aig.now (is_marked self.now.reached.now)) positions.now) }
+    {
+        let mut new = Vec::with_capacity(alloc, positions.len())?;
+        for position in positions {
+            new.push(self.new_position(*position))?;
+        }
+        Ok(new)
+    }
+
+    /// Whether the latch at a place is free and stays.
+    fn keeps_free(&self, place: u32, latch: Latch) -> bool
+        requires { slice_get self.now.aig.now.latches place ≡ Some latch }
+        ensures { result ≡ is_kept_free self.now.aig.now (is_marked self.now.reached.now) place }
+    {
+        latch.reset == Reset::Free && self.keeps_latch(place)
+    }
+
+    /// Of each free latch that stays, its place among the free latches.
+    pub(crate) fn kept_free(&self, alloc: Global) -> Result<Vec<u32>, NoMemory>
+        ensures { IfOk result (λ kept. kept.items ≡ kept_free self.now.aig.now (is_marked self.now.reached.now)) }
+    {
+        let mut kept = Vec::new(alloc);
+        let mut free = 0;
+        for (place, latch) in self.aig.latches().iter().enumerate() {
+            if self.keeps_free(place as u32, *latch) {
+                kept.push(free)?;
+            }
+            free += one_if_free(*latch);
+        }
+        Ok(kept)
+    }
+}

@@ -1,0 +1,17 @@
+pub mod SignLaws
+pub mod FreeLaws
+pub mod ListLaws
+pub mod PropsLaws
+pub mod LatchLaws
+pub mod StandLaws
+pub mod MergedLaws
+pub mod PickedLaws
+pub mod TrimmedLaws
+pub mod KeptFreeLaws
+pub mod TrimmedValues
+pub mod TrimmedNames
+pub mod PassLaws
+pub mod CleanedLaws
+pub mod OwnLaws
+pub mod UnchangedLaws
+pub mod Examples

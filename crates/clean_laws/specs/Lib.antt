@@ -1,0 +1,7 @@
+pub mod Properties
+pub mod Latches
+pub mod Merged
+pub mod Reached
+pub mod Trimmed
+pub mod Cleaned
+pub mod Laws

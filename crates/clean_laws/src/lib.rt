@@ -1,0 +1,7 @@
+//! What structural cleaning of a circuit is, and that it keeps the streams: stuck and twin latches, gates that say nothing
+//! new, and what no property rests on.
+#![tactic(auto)]
+
+mod laws;
+
+pub use laws::cleaning_laws;
