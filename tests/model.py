@@ -191,10 +191,11 @@ def first_helping(c):
 
 
 def over_one_gate(c):
+    c = cleaned(c)
     members = first_helping(c)
     if members is None:
         return c, []
-    return moved(c, members), [(c.known_latches(), len(border(c, members)))]
+    return cleaned(moved(c, members)), [(c.known_latches(), len(border(c, members)))]
 
 
 # ---- frames

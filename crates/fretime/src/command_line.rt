@@ -25,7 +25,9 @@ const EXAMPLE: &str = "Example:
 const RETIME_ABOUT: &str = "Moves latches forward over one gate, where that leaves fewer";
 
 const RETIME_LONG_ABOUT: &str =
-    "Reads a circuit, moves latches forward over one gate where that leaves fewer, and writes it.
+    "Reads a circuit, cleans it, moves latches forward over one gate where that leaves fewer, and writes it.
+
+Cleaning merges equal latches and gates, and drops what no output rests on; it comes before the move and after it.
 
 OUT is created once IN has been read and retimed: a circuit that is refused leaves OUT as it was.";
 

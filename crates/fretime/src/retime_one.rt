@@ -21,7 +21,7 @@ fn read_circuit<R: CountedRead>(alloc: Global, reader: &mut R) -> Result<Circuit
     read_aag(alloc, bytes.as_slice())
 }
 
-/// Reads an ASCII circuit to the end of the reader, retimes it over at most one gate, and writes it.
+/// Reads an ASCII circuit to the end of the reader, cleans it, retimes it over at most one gate, and writes it.
 ///
 /// The reader is read to its end before its bytes are looked at, and nothing is written before the whole answer is
 /// there. The cost is linear in the bytes.
@@ -43,7 +43,7 @@ pub fn retime_one_bytes<R: CountedRead, W: CountedWrite>(
         IsBytesError (R.input reader.old) (R.input reader.new) (W.output writer.old) (W.output writer.new) e) }
 {
     let circuit = read_circuit(alloc, reader)?;
-    let retimed = retime(alloc, circuit)?;
+    let retimed = retime(alloc, &circuit)?;
     write_aag(&retimed.circuit, writer)?;
     Ok(retimed)
 }

@@ -1,22 +1,24 @@
 ghost use Rattle.std.specs.Prelude.{◌≡◌, ◌∷◌, [], IfOk, length};
-ghost use Rattle.aig_graph.specs.Streams.{SameStreams};
+ghost use Rattle.aig_graph.specs.Graph.{IsGraph};
 ghost use Rattle.aig_graph.specs.Laws.{all_free};
-ghost use Rattle.aig_graph.specs.Graph.{IsGraph, free_latches};
-ghost use Rattle.one_gate.specs.OneGate.{Helps, IsFirstHelping, NoneHelps};
 ghost use Rattle.aig_graph.specs.Move.{move_of};
+ghost use Rattle.aig_graph.specs.Streams.{SameStreams};
+ghost use Rattle.clean_laws.specs.Cleaned.{Cleans};
+ghost use Rattle.one_gate.specs.OneGate.{Helps, IsFirstHelping, NoneHelps};
 ghost use Rattle.rebuild.specs.Moved.{moved_of};
-ghost use Rattle.fretime.specs.Retiming.{IsRetimed};
+ghost use Rattle.fretime.specs.Retiming.{IsRetimed, moved_over};
 
 use crate::errors::RetimeError;
-use aig_graph::{Aig, Circuit, ClosedSet, Keep, NoMemory, Sequence};
+use aig_graph::{Circuit, ClosedSet, Keep, NoMemory, Sequence};
+use clean::{Cleaned, clean, composed};
 use one_gate::{HelpingGate, first_helping_gate};
 use rebuild::moved;
-use std::alloc::{AllocError, Global};
+use std::alloc::Global;
 
 /// A frame: a move of latches forward over a set of gates.
 #[derive(Clone, Copy, Debug, PartialEq, Eq)]
 pub struct FrameReport {
-    /// How many latches with a known reset there were.
+    /// How many latches with a known reset the cleaned circuit had.
     pub before: u32,
     /// How many known latches there are right after the move.
     pub after: u32,
@@ -24,10 +26,10 @@ pub struct FrameReport {
     pub moved: u32,
 }
 
-/// A retimed circuit, and what was done.
+/// A cleaned and retimed circuit, and what was done.
 #[derive(Drop)]
 pub struct Retimed {
-    /// The circuit with the latches moved.
+    /// The circuit with the latches moved, and cleaned.
     pub circuit: Circuit,
     /// For each free latch its place, from 0, among the free latches of the circuit that was read.
     pub kept_free: Sequence<u32>,
@@ -37,19 +39,11 @@ pub struct Retimed {
     pub frames: Sequence<FrameReport>,
 }
 
-/// The places, from 0, of all free latches.
-fn free_places(alloc: Global, aig: &Aig) -> Result<Sequence<u32>, AllocError>
-    ensures { IfOk result (λ places. places ≡ all_free aig.now) }
-{
-    let places = (0..aig.free_latches()).collect(alloc)?;
-    Ok(Sequence::from_vec(places))
-}
-
 /// The circuit with the latches moved over the gate.
 fn moved_over(alloc: Global, circuit: &Circuit, gate: HelpingGate) -> Result<Circuit, NoMemory>
     requires graph { IsGraph circuit.now.aig }
     requires helps { Helps circuit.now gate.var }
-    ensures moved { IfOk result (λ d. d ≡ moved_of (move_of circuit.now [] (gate.var ∷ []))) }
+    ensures moved { IfOk result (λ d. d ≡ moved_over circuit.now gate) }
     ensures streams { IfOk result (λ d. SameStreams circuit.now d (all_free circuit.now.aig)) }
 {
     let Some(set) = ClosedSet::new(vec![in alloc; gate.var]?) else {
@@ -58,53 +52,77 @@ fn moved_over(alloc: Global, circuit: &Circuit, gate: HelpingGate) -> Result<Cir
     moved(alloc, circuit, &set, &Keep::none())
 }
 
-/// The circuit retimed over the gate.
-fn retime_over(
+/// The circuit with the latches moved over the gate, cleaned.
+fn moved_and_cleaned(
     alloc: Global,
     circuit: &Circuit,
     gate: HelpingGate,
-    kept_free: Sequence<u32>,
-) -> Result<Retimed, RetimeError>
-    requires helps { IsFirstHelping circuit.now gate }
-    requires free { kept_free ≡ all_free circuit.now.aig }
-    ensures { IfOk result (IsRetimed circuit.now) }
+) -> Result<Cleaned, NoMemory>
+    requires graph { IsGraph circuit.now.aig }
+    requires helps { Helps circuit.now gate.var }
+    ensures cleaned { IfOk result (λ d. Cleans d.circuit [] (moved_over circuit.now gate) d.kept_free) }
+    ensures streams { IfOk result (λ d. SameStreams circuit.now d.circuit d.kept_free) }
 {
-    let read_latches = circuit.aig().latches().len() as u32;
+    let after = moved_over(alloc, circuit, gate)?;
+    let cleaned = clean(alloc, &after, &Keep::none())?;
+    Ok(cleaned)
+}
+
+/// The read circuit, which was cleaned, retimed over the gate.
+fn retime_over(
+    alloc: Global,
+    read: &Circuit,
+    cleaned: &Cleaned,
+    gate: HelpingGate,
+) -> Result<Retimed, RetimeError>
+    requires cleaned { Cleans cleaned.now.circuit [] read.now cleaned.now.kept_free }
+    requires streams { SameStreams read.now cleaned.now.circuit cleaned.now.kept_free }
+    requires helps { IsFirstHelping cleaned.now.circuit gate }
+    ensures { IfOk result (IsRetimed read.now) }
+{
     let report = FrameReport {
-        before: circuit.aig().known_latches(),
+        before: cleaned.circuit.aig().known_latches(),
         after: gate.count,
         moved: 1,
     };
+    let after = moved_and_cleaned(alloc, &cleaned.circuit, gate)?;
+    let kept_free = composed(
+        alloc,
+        cleaned.kept_free.as_slice(),
+        after.kept_free.as_slice(),
+    )?;
     Ok(Retimed {
-        circuit: moved_over(alloc, circuit, gate)?,
-        kept_free,
-        read_latches,
+        circuit: after.circuit,
+        kept_free: Sequence::from_vec(kept_free),
+        read_latches: read.aig().latches().len() as u32,
         frames: Sequence::from_vec(vec![in alloc; report]?),
     })
 }
 
-/// The circuit as it is.
-fn left_alone(alloc: Global, circuit: Circuit, kept_free: Sequence<u32>) -> Retimed
-    requires none { NoneHelps circuit }
-    requires free { kept_free ≡ all_free circuit.aig }
-    ensures { IsRetimed circuit result }
+/// The read circuit, cleaned.
+fn left_alone(alloc: Global, read: &Circuit, cleaned: Cleaned) -> Retimed
+    requires cleaned { Cleans cleaned.circuit [] read.now cleaned.kept_free }
+    requires streams { SameStreams read.now cleaned.circuit cleaned.kept_free }
+    requires none { NoneHelps cleaned.circuit }
+    ensures { IsRetimed read.now result }
 {
-    let read_latches = circuit.aig().latches().len() as u32;
+    let read_latches = read.aig().latches().len() as u32;
     Retimed {
-        circuit,
-        kept_free,
+        circuit: cleaned.circuit,
+        kept_free: cleaned.kept_free,
         read_latches,
         frames: Sequence::empty(alloc),
     }
 }
 
-/// Retimes forward over the first gate that reduces the number of latches; without one, returns the circuit unchanged.
-pub fn retime(alloc: Global, circuit: Circuit) -> Result<Retimed, RetimeError>
-    ensures { IfOk result (IsRetimed circuit) }
+/// Cleans the circuit, and retimes it forward over the first gate that reduces the number of latches; it is cleaned again then.
+/// Without such a gate, returns the cleaned circuit.
+pub fn retime(alloc: Global, circuit: &Circuit) -> Result<Retimed, RetimeError>
+    ensures { IfOk result (IsRetimed circuit.now) }
 {
-    let kept_free = free_places(alloc, circuit.aig())?;
-    match first_helping_gate(alloc, &circuit)? {
-        Some(gate) => retime_over(alloc, &circuit, gate, kept_free),
-        None => Ok(left_alone(alloc, circuit, kept_free)),
+    let cleaned = clean(alloc, circuit, &Keep::none())?;
+    match first_helping_gate(alloc, &cleaned.circuit)? {
+        Some(gate) => retime_over(alloc, circuit, &cleaned, gate),
+        None => Ok(left_alone(alloc, circuit, cleaned)),
     }
 }
