@@ -1,0 +1,2 @@
+mod DeltaLemmas
+mod Examples

@@ -1,0 +1,11 @@
+//! The deltas of binary AIGER files: numbers as groups of seven bits, the lowest first. Every byte but a delta's last has
+//! its top bit set. A delta is read byte by byte, so that it may be cut anywhere, and written as briefly as possible.
+#![tactic(auto)]
+
+mod decode;
+mod encode;
+mod laws;
+
+pub use decode::{DeltaError, DeltaReader};
+pub use encode::{DeltaBytes, delta_bytes};
+pub use laws::delta_laws;
