@@ -1,0 +1,16 @@
+pub mod Examples
+pub mod Checks
+pub mod Steps
+pub mod Sections
+pub mod States
+pub mod Apart
+pub mod Conditions
+pub mod Order
+pub mod Faults
+pub mod Files
+pub mod Written
+pub mod Names
+pub mod TextLines
+pub mod Again
+pub mod RoundTrip
+pub mod Pieces
