@@ -1,0 +1,5 @@
+pub mod Rows
+pub mod Open
+pub mod Header
+pub mod Named
+pub mod Symbols
