@@ -1,0 +1,6 @@
+pub mod Examples
+pub mod Faults
+pub mod Steps
+pub mod Items
+pub mod Gates
+pub mod Files

@@ -1,0 +1,15 @@
+-- What holds of reading.
+use Rattle.std.specs.Prelude.{ℕ, ◌≡◌, List, Ok, Err}
+use Rattle.aig_graph.specs.Circuits.{Network}
+use Rattle.aag_format.specs.declared.fault.ReadError.{ReadError}
+use Rattle.aag_file.specs.declared.header.Header.{Header}
+use Rattle.aag_file.specs.Raw.{Raw}
+use Rattle.aig_file.specs.Files.{IsBinaryFile}
+use Rattle.aig_file.specs.Reading.{circuit_of, read_binary, IsFaultOf}
+
+-- reading gives a circuit exactly where the bytes are a file of a raw circuit, and then that one's; else a fault of the bytes
+pub record ReadingLaw (bytes : List ℕ) : Type 0 where
+  pub file : (h : Header) (raw : Raw) → IsBinaryFile bytes h raw → read_binary bytes ≡ Ok (circuit_of h raw)
+  pub read : (c : Network) → read_binary bytes ≡ Ok c → (h : Header) × (raw : Raw) × IsBinaryFile bytes h raw × (c ≡ circuit_of h raw)
+  pub one : (h h' : Header) (raw raw' : Raw) → IsBinaryFile bytes h raw → IsBinaryFile bytes h' raw' → (h ≡ h') × (raw ≡ raw')
+  pub fault : (e : ReadError) → read_binary bytes ≡ Err e → IsFaultOf bytes e

@@ -1,0 +1,5 @@
+pub mod Headers
+pub mod Items
+pub mod Reading
+pub mod Files
+pub mod Laws
