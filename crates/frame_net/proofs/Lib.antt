@@ -1,0 +1,12 @@
+pub mod PassableLaws
+pub mod EdgeLaws
+pub mod FilledLaws
+pub mod EdgeLoops
+pub mod RowsLaws
+pub mod NodeLaws
+pub mod LinkLaws
+pub mod ArcLaws
+pub mod LayoutLaws
+pub mod CapacityLaws
+pub mod BuildLaws
+mod Examples

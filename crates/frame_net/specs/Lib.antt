@@ -1,0 +1,6 @@
+pub mod FlowNet
+pub mod Passable
+pub mod Edges
+pub mod Capacity
+pub mod Links
+pub mod Layout

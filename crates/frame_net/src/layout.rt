@@ -1,0 +1,174 @@
+ghost use Rattle.std.specs.Prelude.{ℕ, Bool, List, ◌≡◌, ◌+◌, ◌-◌, ◌<◌, ◌≤◌, ◌^◌, nat_le, take, length, IfOk, true, if◌then◌else◌};
+ghost use Rattle.std.specs.List.{slice_index_or};
+ghost use Rattle.variable_tables.specs.Counting.{count_below};
+ghost use Rattle.variable_tables.specs.Marking.{AreAllMarks};
+ghost use Rattle.variable_tables.specs.Tables.{table};
+ghost use Rattle.aig_graph.specs.declared.properties.Props.{Props as PropsOf};
+ghost use Rattle.aig_graph.specs.Graph.{Graph, first_latch, first_gate, variables_end, latches_and_gates};
+ghost use Rattle.frame_net.specs.Passable.{IsPassSet};
+ghost use Rattle.frame_net.specs.Edges.{AreLinks};
+ghost use Rattle.frame_net.specs.Capacity.{has_node, leaves, latch_number, before_number, node_total, capacity};
+ghost use Rattle.frame_net.specs.Layout.{IsLayout};
+
+use crate::edges::Link;
+use crate::links::{after_links, gate_links, latch_links};
+use crate::pass_set::PassSet;
+use aig_graph::{Aig, Keep, NoMemory, Props, mark_held, mark_read};
+use arrayvec::ArrayVec;
+use std::alloc::Global;
+use variable_tables::{count_marks, mark_at, marked_variables, number_marks};
+
+/// The tables by which a network is built, from the first latch on: whether a variable's output leaves the frame, and its
+/// number, which is that of the node after a latch, or of the one before a gate if each gate had one node.
+#[derive(Drop)]
+pub struct Layout<'a> {
+    pub aig: &'a Aig,
+    pub leaving: Vec<bool>,
+    pub numbers: Vec<u32>,
+    pub variables: Vec<u32>,
+    pub latches: u32,
+}
+
+/// Marks what is held, or read by a gate that isn't passable, a next literal or a property.
+fn leaving_marks(
+    alloc: Global,
+    aig: &Aig,
+    props: &Props,
+    pass: &PassSet,
+    keep: &Keep,
+) -> Result<Vec<bool>, NoMemory>
+    requires { IsPassSet aig.now keep.now pass.now }
+    ensures { IfOk result (λ marks. marks.items ≡ table (first_latch aig.now) (latches_and_gates aig.now) (leaves aig.now props.now keep.now)) }
+{
+    let mut leaving = vec![in alloc; false; aig.latches_and_gates()]?;
+    let marks = leaving.as_mut_slice();
+    mark_held(marks, aig, keep);
+    mark_read(marks, aig, props, pass.marks());
+    Ok(leaving)
+}
+
+/// Marks the known latches and the passable gates.
+fn node_marks(alloc: Global, aig: &Aig, pass: &PassSet) -> Result<Vec<bool>, NoMemory>
+    ensures { IfOk result (λ marks. (held : List ℕ) → IsPassSet aig.now held pass.now → marks.items ≡ table (first_latch aig.now) (latches_and_gates aig.now) (has_node aig.now held)) }
+{
+    let first = aig.first_latch();
+    let entries = aig.latches_and_gates();
+    let mut marks = Vec::with_capacity(alloc, entries)?;
+    for k in 0..entries {
+        let var = first + k as u32;
+        marks.push(has_node(aig, pass, var))?;
+    }
+    Ok(marks)
+}
+
+#[tactic(auto, unfolding(crate::specs::Capacity::has_node))]
+fn has_node(aig: &Aig, pass: &PassSet, var: u32) -> bool
+    ensures { (held : List ℕ) → IsPassSet aig.now held pass.now → result ≡ has_node aig.now held var }
+{
+    aig.is_known_latch(var) || pass.has(var)
+}
+
+/// The entry of a variable, or 0 where the table has none.
+fn entry_or_zero(entries: &[u32], first: u32, var: u32) -> u32
+    ensures { result ≡ (if nat_le first var then slice_index_or entries.now (var - first) 0 else 0) }
+{
+    if var < first {
+        return 0;
+    }
+    entries.get((var - first) as usize).copied().unwrap_or(0)
+}
+
+/// The number of known latches, by the marks of the variables with nodes.
+fn count_latches(marks: &[bool], latches: usize) -> u32
+    requires among { latches ≤ length marks.now }
+    requires small { latches ≤ 2 ^ 30 }
+    ensures { (first : ℕ) (p : ℕ → Bool) → AreAllMarks first (take latches marks.now) p → result ≡ count_below p (first + latches) }
+{
+    count_marks(&marks[..latches])
+}
+
+impl<'a> Layout<'a> {
+    /// The tables of a graph, its properties and its held latches.
+    pub fn new(
+        alloc: Global,
+        aig: &'a Aig,
+        props: &Props,
+        pass: &PassSet,
+        keep: &Keep,
+    ) -> Result<Layout<'a>, NoMemory>
+        requires { IsPassSet aig.now keep.now pass.now }
+        ensures { IfOk result (λ layout. IsLayout aig.now props.now keep.now layout) }
+    {
+        let first = aig.first_latch();
+        let leaving = leaving_marks(alloc, aig, props, pass, keep)?;
+        let marks = node_marks(alloc, aig, pass)?;
+        let nodes = marks.as_slice();
+        let numbers = number_marks(alloc, nodes, 2)?;
+        let variables = marked_variables(alloc, first, nodes)?;
+        Ok(Layout {
+            aig,
+            leaving,
+            numbers,
+            variables,
+            latches: count_latches(nodes, aig.latches().len()),
+        })
+    }
+
+    /// The links of a node, which isn't the source or the sink, to lower nodes.
+    pub fn links(&self, v: u32) -> ArrayVec<Link, 4>
+        requires { (g : Graph) × (props : PropsOf) × (held : List ℕ) × IsLayout g props held self.now × (2 ≤ v) × (v < node_total g held) }
+        ensures { (g : Graph) (props : PropsOf) (held : List ℕ) → IsLayout g props held self.now → v < node_total g held → AreLinks (capacity g props held) v result.items }
+    {
+        let place = v - 2;
+        if place < self.latches {
+            let var = self.variables[place as usize];
+            return latch_links(self.leaves(var), self.latches + 1);
+        }
+        let side = place - self.latches;
+        let var = self.variables[(self.latches + side / 2) as usize];
+        if side % 2 == 1 {
+            after_links(self.leaves(var), self.latches + 1, v - 1)
+        } else {
+            self.before_links(var)
+        }
+    }
+
+    /// The links of the node before a gate.
+    fn before_links(&self, var: u32) -> ArrayVec<Link, 4>
+        requires { (g : Graph) × (props : PropsOf) × (held : List ℕ) × IsLayout g props held self.now × (first_gate g ≤ var) × (var < variables_end g) × (has_node g held var ≡ true) }
+        ensures { (g : Graph) (props : PropsOf) (held : List ℕ) → IsLayout g props held self.now → first_gate g ≤ var → var < variables_end g → has_node g held var ≡ true
+            → AreLinks (capacity g props held) (before_number g held var) result.items }
+    {
+        match self.aig.gate(var) {
+            Some(gate) => {
+                let first = self.number(gate.rhs1.var());
+                let second = self.number(gate.rhs0.var());
+                gate_links(first, second, self.latches + 2, self.latches + 1)
+            }
+            None => ArrayVec::new(),
+        }
+    }
+
+    /// Whether the variable's output leaves the frame.
+    fn leaves(&self, var: u32) -> bool
+        ensures { (g : Graph) (props : PropsOf) (held : List ℕ) → IsLayout g props held self.now → first_latch g ≤ var → var < variables_end g → result ≡ leaves g props held var }
+    {
+        mark_at(self.leaving.as_slice(), self.aig.first_latch(), var)
+    }
+
+    /// The variable's number.
+    fn number(&self, var: u32) -> u32
+        ensures { (g : Graph) (props : PropsOf) (held : List ℕ) → IsLayout g props held self.now → first_latch g ≤ var → var < variables_end g → result ≡ latch_number g held var }
+    {
+        entry_or_zero(self.numbers.as_slice(), self.aig.first_latch(), var)
+    }
+
+    /// The number of nodes.
+    pub fn nodes(&self) -> u32
+        requires { (g : Graph) × (props : PropsOf) × (held : List ℕ) × IsLayout g props held self.now }
+        ensures { (g : Graph) (props : PropsOf) (held : List ℕ) → IsLayout g props held self.now → result ≡ node_total g held }
+    {
+        let variables = self.variables.len() as u32;
+        2 + self.latches + 2 * (variables - self.latches)
+    }
+}

@@ -1,0 +1,17 @@
+//! The gates over which latches may move, and the flow network of a frame: each set of nodes that no arc of the great
+//! capacity leaves is a closed set, and the arcs that leave it are at least as many as the latches that there are after
+//! the move (Hurst, Mishchenko and Brayton, 2007).
+#![tactic(auto)]
+
+mod build;
+mod edges;
+mod layout;
+mod links;
+mod net;
+mod pass_set;
+
+pub use net::{Net, Point};
+pub use pass_set::{PassSet, passable};
+
+#[cfg(test)]
+mod tests;

@@ -1,0 +1,184 @@
+ghost use Rattle.std.specs.Prelude.{◌≡◌, ℕ, ◌+◌, ◌<◌, ◌≤◌, IfOk, length, slice_index};
+ghost use Rattle.frame_net.specs.Passable.{IsPassSet};
+ghost use Rattle.frame_net.specs.Capacity.{IsNetOf};
+ghost use Rattle.frame_net.specs.FlowNet.{node_count, start, row_len, head, mate, cap_at, point_of, IsFlowNet, IsStartable, HasPoints};
+
+use crate::build::{Rows, fill_rows};
+use crate::layout::Layout;
+use crate::pass_set::PassSet;
+use aig_graph::{Aig, Keep, NoMemory, Props};
+use std::alloc::Global;
+use std::marker::Model;
+use std::ops::Range;
+
+/// Where a node lies: at the output of a latch or a gate (`behind`), or before a gate.
+#[derive(Clone, Copy, Debug, PartialEq, Eq)]
+pub struct Point {
+    pub var: u32,
+    pub behind: bool,
+}
+
+/// A flow network: for each node the arcs with it as tail, by rising number of the head. Each arc has a mate from its
+/// head to its tail. Node 0 is the source and node 1 the sink; then there is a node after each known latch, in latch
+/// order, and for each passable gate, in gate order, one before and one after it.
+#[derive(Drop)]
+pub struct Net {
+    starts: Vec<u32>,
+    heads: Vec<u32>,
+    mates: Vec<u32>,
+    caps: Vec<u32>,
+    latches: u32,
+    variables: Vec<u32>,
+}
+
+impl Model for Net {
+    ghost use Rattle.frame_net.specs.FlowNet.{FlowNet, IsFlowNet, IsStartable, HasPoints};
+
+    ghost Value = { FlowNet };
+
+    ghost view = { λ a. record { starts = a.starts.items; heads = a.heads.items; mates = a.mates.items; caps = a.caps.items; latches = a.latches; variables = a.variables.items } };
+
+    ghost invariant = { λ a. IsFlowNet (record { starts = a.starts.items; heads = a.heads.items; mates = a.mates.items; caps = a.caps.items; latches = a.latches; variables = a.variables.items })
+        × IsStartable (record { starts = a.starts.items; heads = a.heads.items; mates = a.mates.items; caps = a.caps.items; latches = a.latches; variables = a.variables.items })
+        × HasPoints (record { starts = a.starts.items; heads = a.heads.items; mates = a.mates.items; caps = a.caps.items; latches = a.latches; variables = a.variables.items }) };
+}
+
+impl Net {
+    /// The network of a graph with these properties, passable gates and held latches. The passable gates are those of the
+    /// graph and the held latches. Linear in the graph, its properties and the network.
+    pub fn build(
+        alloc: Global,
+        aig: &Aig,
+        props: &Props,
+        pass: &PassSet,
+        keep: &Keep,
+    ) -> Result<Net, NoMemory>
+        requires { IsPassSet aig.now keep.now pass.now }
+        ensures { IfOk result (λ net. IsNetOf aig.now props.now keep.now net) }
+    {
+        let layout = Layout::new(alloc, aig, props, pass, keep)?;
+        let nodes = layout.nodes();
+        let Rows {
+            starts,
+            heads,
+            mates,
+            caps,
+        } = fill_rows(alloc, &layout, nodes)?;
+        let Layout {
+            variables,
+            latches,
+            ..
+        } = layout;
+        Ok(Net {
+            starts,
+            heads,
+            mates,
+            caps,
+            latches,
+            variables,
+        })
+    }
+
+    /// The number of nodes, the source and the sink among them.
+    pub fn nodes(&self) -> u32
+        ensures count { result ≡ node_count self.now }
+        ensures network { IsFlowNet self.now }
+    {
+        (self.starts.len() - 1) as u32
+    }
+
+    /// The number of arcs, the mates among them.
+    pub fn arcs(&self) -> usize
+        ensures count { result ≡ length self.now.heads }
+        ensures startable { IsStartable self.now }
+    {
+        self.heads.len()
+    }
+
+    /// Where a node lies. The source and the sink have no point.
+    pub fn point(&self, v: u32) -> Option<Point>
+        requires { v < node_count self.now }
+        ensures value { result ≡ point_of self.now v }
+        ensures points { HasPoints self.now }
+    {
+        let latches = self.latches;
+        if v < 2 {
+            return None;
+        }
+        let place = v - 2;
+        if place < latches {
+            return Some(Point {
+                var: self.variables[place as usize],
+                behind: true,
+            });
+        }
+        let side = place - latches;
+        Some(Point {
+            var: self.variables[(latches + side / 2) as usize],
+            behind: side % 2 == 1,
+        })
+    }
+
+    /// The first arc with a tail, or, at the number of nodes, the number of arcs.
+    pub fn start(&self, v: u32) -> usize
+        requires { v ≤ node_count self.now }
+        ensures { result ≡ start self.now v }
+    {
+        self.starts[v as usize] as usize
+    }
+
+    /// The arcs with a tail.
+    pub fn row(&self, v: u32) -> Range<u32>
+        requires { v < node_count self.now }
+        ensures start { result.start ≡ start self.now v }
+        ensures end { result.end ≡ start self.now (v + 1) }
+    {
+        self.starts[v as usize]..self.starts[v as usize + 1]
+    }
+
+    /// The heads of the arcs with a tail.
+    pub fn heads(&self, v: u32) -> &[u32]
+        requires { v < node_count self.now }
+        ensures len { length result.now ≡ row_len self.now v }
+        ensures value { (k : ℕ) → k < row_len self.now v → slice_index result.now k ≡ head self.now v k }
+    {
+        let from = self.starts[v as usize] as usize;
+        let to = self.starts[v as usize + 1] as usize;
+        &self.heads[from..to]
+    }
+
+    /// The mates of the arcs with a tail.
+    pub fn mates(&self, v: u32) -> &[u32]
+        requires { v < node_count self.now }
+        ensures len { length result.now ≡ row_len self.now v }
+        ensures value { (k : ℕ) → k < row_len self.now v → slice_index result.now k ≡ mate self.now v k }
+    {
+        let from = self.starts[v as usize] as usize;
+        let to = self.starts[v as usize + 1] as usize;
+        &self.mates[from..to]
+    }
+
+    /// The head of an arc.
+    pub fn head(&self, arc: u32) -> u32
+        requires { arc < length self.now.heads }
+        ensures { result ≡ slice_index self.now.heads arc }
+    {
+        self.heads[arc as usize]
+    }
+
+    /// The mate of an arc: the arc from its head to its tail.
+    pub fn mate(&self, arc: u32) -> u32
+        requires { arc < length self.now.heads }
+        ensures { result ≡ slice_index self.now.mates arc }
+    {
+        self.mates[arc as usize]
+    }
+
+    /// The capacity of an arc, which is 0 for the mate of an arc of the circuit.
+    pub fn cap(&self, arc: u32) -> u32
+        requires { arc < length self.now.heads }
+        ensures { result ≡ cap_at self.now arc }
+    {
+        self.caps[arc as usize]
+    }
+}
