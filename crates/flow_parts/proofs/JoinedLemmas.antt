@@ -1,0 +1,32 @@
+use Rattle.std.proofs.Common.{◌≡◌, ℕ, ◌+◌, ◌-◌, ◌<◌, ◌≤◌, List, ◌∷◌, length, slice_index, get_or, drop, arith, refl, sym, ap, ◌∙◌, subst}
+use Rattle.std.proofs.lemmas.List.{get_or-append_right, length-append}
+use Rattle.std.proofs.Math.ListN.{get_or-append}
+use Rattle.std.specs.List.{flat_map}
+use Rattle.flow_parts.proofs.Left.{left_at}
+
+-- the x-th of all joined values is at a place among those of the parts that are left
+pub record IsAhead {P : Type 0} (values : P → List ℕ) (all rest : List P) (x place : ℕ) : Type 0 where
+  pub inside : place < length (flat_map values rest)
+  pub same : slice_index (flat_map values all) x ≡ slice_index (flat_map values rest) place
+
+pub ahead_first : {P : Type 0} (values : P → List ℕ) (all : List P) (x : ℕ) → x < length (flat_map values all) → IsAhead values all all x x
+ahead_first {P} values all x h = record { inside = h; same = refl }
+
+at_index : {P : Type 0} (values : P → List ℕ) (all : List P) (x place i : ℕ) (p : P) → i < length all → p ≡ get_or all i p → IsAhead values all (drop i all) x place → IsAhead values all (p ∷ drop (i + 1) all) x place
+at_index {P} values all x place i p h e a = subst (λ (rest : List P). IsAhead values all rest x place) (left_at all i p h e) a
+
+pub ahead_next : {P : Type 0} (values : P → List ℕ) (all : List P) (x place i size : ℕ) (p : P) → i < length all → p ≡ get_or all i p → size ≡ length (values p) → size ≤ place → IsAhead values all (drop i all) x place
+    → IsAhead values all (drop (i + 1) all) x (place - size)
+ahead_next {P} values all x place i size p h e sized past a0 =
+    let a = at_index values all x place i p h e a0 in
+    record {
+      inside = omega (arith, a.inside, length-append (values p) (flat_map values (drop (i + 1) all)));
+      same = a.same ∙ get_or-append_right (values p) (flat_map values (drop (i + 1) all)) (length (values p)) place 0 refl (omega arith)
+          ∙ ap (λ (n : ℕ). slice_index (flat_map values (drop (i + 1) all)) (place - n)) (sym sized);
+    }
+
+pub ahead_here : {P : Type 0} (values : P → List ℕ) (all : List P) (x place i : ℕ) (p : P) → i < length all → p ≡ get_or all i p → place < length (values p) → IsAhead values all (drop i all) x place
+    → slice_index (values p) place ≡ slice_index (flat_map values all) x
+ahead_here {P} values all x place i p h e inside a0 =
+    let a = at_index values all x place i p h e a0 in
+    sym (a.same ∙ get_or-append (values p) (flat_map values (drop (i + 1) all)) 0 place inside)

@@ -1,0 +1,13 @@
+pub mod Picks
+pub mod PutLemmas
+pub mod Nodes
+pub mod NodeGives
+pub mod Left
+pub mod Ahead
+pub mod AtPart
+pub mod FlowAhead
+pub mod PushRow
+pub mod Ranges
+pub mod ReadLemmas
+pub mod PartLaws
+pub mod JoinedLemmas

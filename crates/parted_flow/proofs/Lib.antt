@@ -1,0 +1,17 @@
+pub mod Mates
+pub mod Whole
+pub mod WholeRead
+pub mod Step
+pub mod Agreeing
+pub mod Pulsing
+pub mod MarkLemmas
+pub mod Turning
+pub mod ActiveLemmas
+pub mod Running
+pub mod StartLemmas
+pub mod Borders
+pub mod StartState
+pub mod Each
+pub mod Sizes
+pub mod LabelLemmas
+pub mod HoldLemmas

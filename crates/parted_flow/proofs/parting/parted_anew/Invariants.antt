@@ -1,0 +1,11 @@
+use Rattle.std.proofs.Common.{◌≡◌, length, slice_index}
+use Rattle.flow_parts.specs.Parts.{cells_of}
+use Rattle.parted_flow.specs.Start.{border_of, PartsHold}
+use Rattle.parted_flow.proofs.parting.parted_anew.Given as goal
+
+abbrev pub invariant-loop-worker : goal.invariant-loop-worker
+invariant-loop-worker l = record {
+  reached : l.first ≡ border_of l.nodes l.workers l.worker;
+  len : length l.parts.items ≡ l.worker;
+  starts : PartsHold l.net (slice_index (cells_of l.flow).residuals) (slice_index (cells_of l.flow).excess) l.first l.parts.items;
+}

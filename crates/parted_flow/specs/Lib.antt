@@ -1,0 +1,4 @@
+pub mod Runs
+pub mod Marks
+pub mod Start
+pub mod Labels

@@ -1,0 +1,160 @@
+//! Parts for the ranges of a crew: worker i of n has the nodes from i*N/n up to (i+1)*N/n.
+ghost use Rattle.std.specs.Prelude.{◌≡◌, ℕ, ◌+◌, ◌<◌, ◌≤◌, ◌^◌, IfOk, length, slice_index};
+ghost use Rattle.frame_net.specs.FlowNet.{node_count};
+ghost use Rattle.flow_parts.specs.Parts.{AreFlowParts, ArePushParts, PushPartFits, cells_of};
+ghost use Rattle.parted_flow.specs.Start.{border_of, PartHolds, PartsHold};
+
+use flow_parts::{FlowPart, PushPart, excess_at, residual_at};
+use frame_net::Net;
+use std::alloc::{AllocError, Global};
+
+/// The first node of a worker's range.
+pub fn border(nodes: u32, workers: u32, worker: u32) -> u32
+    requires some { 0 < workers }
+    requires worker { worker ≤ workers }
+    ensures value { result ≡ border_of nodes workers worker }
+    ensures within { result ≤ nodes }
+{
+    (u64::from(worker) * u64::from(nodes) / u64::from(workers)) as u32
+}
+
+/// The residuals of `size` arcs from `base` on.
+fn copied_residuals(
+    alloc: Global,
+    flow: &[FlowPart],
+    base: usize,
+    size: usize,
+) -> Result<Vec<u32>, AllocError>
+    requires within { base + size ≤ length (cells_of flow.now).residuals }
+    requires arcs { length (cells_of flow.now).residuals < 2 ^ 32 }
+    ensures len { IfOk result (λ v. length v.items ≡ size) }
+    ensures each { IfOk result (λ v. (i : ℕ) → i < length v.items → slice_index v.items i ≡ slice_index (cells_of flow.now).residuals (base + i)) }
+{
+    let mut residuals = Vec::with_capacity(alloc, size)?;
+    for i in 0..size {
+        residuals.push(residual_at(flow, base + i))?;
+    }
+    Ok(residuals)
+}
+
+/// The excess of `count` nodes from `first` on.
+fn copied_excess(
+    alloc: Global,
+    flow: &[FlowPart],
+    first: u32,
+    count: u32,
+) -> Result<Vec<u32>, AllocError>
+    requires within { first + count ≤ length (cells_of flow.now).excess }
+    requires nodes { length (cells_of flow.now).excess < 2 ^ 32 }
+    ensures len { IfOk result (λ v. length v.items ≡ count) }
+    ensures each { IfOk result (λ v. (i : ℕ) → i < length v.items → slice_index v.items i ≡ slice_index (cells_of flow.now).excess (first + i)) }
+{
+    let mut excess = Vec::with_capacity(alloc, count as usize)?;
+    for i in 0..count {
+        excess.push(excess_at(flow, (first + i) as usize))?;
+    }
+    Ok(excess)
+}
+
+/// The part of the nodes from `first` up to `end`, with the values of other parts.
+fn part_anew(
+    alloc: Global,
+    net: &Net,
+    flow: &[FlowPart],
+    worker: u32,
+    first: u32,
+    end: u32,
+) -> Result<FlowPart, AllocError>
+    requires flow { AreFlowParts net.now 0 flow.now }
+    requires ordered { first ≤ end }
+    requires within { end ≤ node_count net.now }
+    ensures first { IfOk result (λ q. q.first ≡ first) }
+    ensures end { IfOk result (λ q. q.end ≡ end) }
+    ensures holds { IfOk result (λ q. PartHolds net.now (slice_index (cells_of flow.now).residuals) (slice_index (cells_of flow.now).excess) q) }
+{
+    let _nodes = net.nodes();
+    let _arcs = net.arcs();
+    let base = net.start(first);
+    let size = net.start(end) - base;
+    let residuals = copied_residuals(alloc, flow, base, size)?;
+    let excess = copied_excess(alloc, flow, first, end - first)?;
+    let next = vec![in alloc; 0u32; excess.len()]?;
+    Ok(FlowPart {
+        worker,
+        first,
+        end,
+        base,
+        residuals,
+        excess,
+        next,
+    })
+}
+
+/// Parts for so many workers, with the values of other parts.
+pub fn parted_anew(
+    alloc: Global,
+    net: &Net,
+    flow: &[FlowPart],
+    workers: u32,
+) -> Result<Vec<FlowPart>, AllocError>
+    requires flow { AreFlowParts net.now 0 flow.now }
+    requires some { 0 < workers }
+    ensures len { IfOk result (λ v. length v.items ≡ workers) }
+    ensures holds { IfOk result (λ v. PartsHold net.now (slice_index (cells_of flow.now).residuals) (slice_index (cells_of flow.now).excess) (node_count net.now) v.items) }
+{
+    let nodes = net.nodes();
+    let mut parts = Vec::with_capacity(alloc, workers as usize)?;
+    let mut first = 0;
+    for worker in 0..workers {
+        let end = border(nodes, workers, worker + 1);
+        let part = part_anew(alloc, net, flow, worker, first, end)?;
+        parts.push(part)?;
+        first = end;
+    }
+    Ok(parts)
+}
+
+/// The pushes of the nodes from `first` up to `end`, all 0.
+fn push_part(
+    alloc: Global,
+    net: &Net,
+    worker: u32,
+    first: u32,
+    end: u32,
+) -> Result<PushPart, AllocError>
+    requires ordered { first ≤ end }
+    requires within { end ≤ node_count net.now }
+    ensures first { IfOk result (λ p. p.first ≡ first) }
+    ensures end { IfOk result (λ p. p.end ≡ end) }
+    ensures fits { IfOk result (λ p. PushPartFits net.now p) }
+{
+    let _nodes = net.nodes();
+    let base = net.start(first);
+    let size = net.start(end) - base;
+    let values = vec![in alloc; 0u32; size]?;
+    Ok(PushPart {
+        worker,
+        first,
+        end,
+        base,
+        values,
+    })
+}
+
+/// Parts of pushes for so many workers, all 0.
+pub fn push_parts(alloc: Global, net: &Net, workers: u32) -> Result<Vec<PushPart>, AllocError>
+    requires { 0 < workers }
+    ensures len { IfOk result (λ v. length v.items ≡ workers) }
+    ensures parts { IfOk result (λ v. ArePushParts net.now 0 v.items) }
+{
+    let nodes = net.nodes();
+    let mut parts = Vec::with_capacity(alloc, workers as usize)?;
+    let mut first = 0;
+    for worker in 0..workers {
+        let end = border(nodes, workers, worker + 1);
+        let part = push_part(alloc, net, worker, first, end)?;
+        parts.push(part)?;
+        first = end;
+    }
+    Ok(parts)
+}

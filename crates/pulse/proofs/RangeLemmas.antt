@@ -1,0 +1,31 @@
+use Rattle.std.proofs.Common.{ℕ, List, [], ◌∷◌, map}
+use Rattle.frame_net.specs.FlowNet.{FlowNet}
+use Rattle.flow_parts.specs.declared.parts.FlowPart.{FlowPart}
+use Rattle.flow_parts.specs.declared.parts.PushPart.{PushPart}
+use Rattle.flow_parts.specs.Parts.{AreFlowParts, ArePushParts}
+use Rattle.pulse.specs.Values.{AreFlowRanges, ArePushRanges, flow_range, push_range}
+
+-- the ranges of parts say all that makes them parts of a network's flow, or of its pushes
+pub flow_parts : (net : FlowNet) (v : ℕ) (qs : List FlowPart) → AreFlowRanges net v (map flow_range qs) → AreFlowParts net v qs
+flow_parts net v [] cut = cut
+flow_parts net v (q ∷ qs) cut =
+    let fit = cut.1.0 in
+    (cut.0, (record { ordered = fit.ordered; within = fit.within; based = fit.based; sized = fit.sized; nodes = fit.nodes; same = fit.same }, flow_parts net q.end qs cut.1.1))
+
+pub flow_ranges : (net : FlowNet) (v : ℕ) (qs : List FlowPart) → AreFlowParts net v qs → AreFlowRanges net v (map flow_range qs)
+flow_ranges net v [] cut = cut
+flow_ranges net v (q ∷ qs) cut =
+    let fit = cut.1.0 in
+    (cut.0, (record { ordered = fit.ordered; within = fit.within; based = fit.based; sized = fit.sized; nodes = fit.nodes; same = fit.same }, flow_ranges net q.end qs cut.1.1))
+
+pub push_parts : (net : FlowNet) (v : ℕ) (ps : List PushPart) → ArePushRanges net v (map push_range ps) → ArePushParts net v ps
+push_parts net v [] cut = cut
+push_parts net v (p ∷ ps) cut =
+    let fit = cut.1.0 in
+    (cut.0, (record { ordered = fit.ordered; within = fit.within; based = fit.based; sized = fit.sized }, push_parts net p.end ps cut.1.1))
+
+pub push_ranges : (net : FlowNet) (v : ℕ) (ps : List PushPart) → ArePushParts net v ps → ArePushRanges net v (map push_range ps)
+push_ranges net v [] cut = cut
+push_ranges net v (p ∷ ps) cut =
+    let fit = cut.1.0 in
+    (cut.0, (record { ordered = fit.ordered; within = fit.within; based = fit.based; sized = fit.sized }, push_ranges net p.end ps cut.1.1))

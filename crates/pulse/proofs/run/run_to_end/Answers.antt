@@ -1,0 +1,11 @@
+use Rattle.flow_theory.specs.Laws.{started}
+use Rattle.frame_net.specs.FlowNet.{node_count}
+use Rattle.flow_parts.specs.Parts.{pair}
+use Rattle.pulse.specs.Conditions.{state_of}
+use Rattle.pulse.proofs.run.run_to_end.Goals as goal
+use Rattle.pulse.proofs.RunLemmas.{run_from}
+
+pub returns-clause-run : goal.returns-clause-run
+returns-clause-run g c =
+    run_from c.args.net.now c.in_ok-pulses.pulses (started (node_count c.args.net.now) (pair c.args.net.now c.args.net.now.caps)) (state_of c.args.net.now c.in_ok-flow.flow) (state_of c.args.net.now c.run.new.flow)
+    c.in_ok-flow.ensures.agree c.in_ok-pulses.ensures.run

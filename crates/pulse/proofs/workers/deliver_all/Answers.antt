@@ -1,0 +1,23 @@
+use Rattle.std.proofs.Common.{arith, length}
+use Rattle.flow_parts.specs.Parts.{values_of}
+use Rattle.pulse.proofs.workers.deliver_all.Goals as goal
+use Rattle.pulse.proofs.CrewLemmas.{sound_anew, read_anew, labels_ready, all_pulsed}
+
+pub deliver_parts-requires-clause-sound : goal.deliver_parts-requires-clause-sound
+deliver_parts-requires-clause-sound g c κs within =
+    sound_anew c.args.net.now c.args.labels.now c.args.flow.now.items c.part_flow.new.parts.items c.nodes-nodes.ensures.network (c.in_ok-part_flow.ensures.agree c.args.labels.now) c.requires.sound
+
+pub deliver_parts-requires-clause-read : goal.deliver_parts-requires-clause-read
+deliver_parts-requires-clause-read g c κs within =
+    read_anew c.args.net.now c.args.labels.now c.args.flow.now.items c.part_flow.new.parts.items c.args.pushes.now c.nodes-nodes.ensures.network (c.in_ok-part_flow.ensures.agree c.args.labels.now) c.requires.read
+
+pub turn-requires : goal.turn-requires
+turn-requires g c =
+    labels_ready c.args.net.now (length c.args.labels.now) c.args.labels.now (values_of c.args.pushes.now) c.part_flow.new.parts.items c.deliver_parts.new.flow.items c.as_slice.result.now c.requires.labels.each
+    c.in_ok-part_flow.ensures.parts c.in_ok-deliver_parts.ensures.len c.in_ok-deliver_parts.ensures.each c.as_slice.ensures.value
+
+pub returns-clause-ok : goal.returns-clause-ok
+returns-clause-ok g c =
+    all_pulsed c.args.net.now c.args.labels.now c.turn.new.labels c.args.flow.now.items c.part_flow.new.parts.items c.deliver_parts.new.flow.items c.as_slice.result.now c.args.pushes.now c.nodes-nodes.ensures.network
+    c.in_ok-part_flow.ensures.parts (c.in_ok-part_flow.ensures.agree c.args.labels.now) c.requires.sound c.requires.read c.in_ok-deliver_parts.ensures.len c.in_ok-deliver_parts.ensures.each c.as_slice.ensures.value
+    c.requires.labels.each (omega arith) c.turn.ensures

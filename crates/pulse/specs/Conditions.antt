@@ -1,0 +1,71 @@
+-- What it means that a flow and pushes are of a network.
+use Rattle.std.specs.Prelude.{◌≡◌, ℕ, ◌<◌, false, length, slice_index, slice_index_or, Bool}
+use Rattle.flow_theory.specs.Flow.{State, IsPreflow, IsValid, is_active}
+use Rattle.flow_theory.specs.Laws.{started}
+use Rattle.frame_net.specs.FlowNet.{FlowNet, node_count, cap_at, IsFlowNet}
+use Rattle.flow_parts.specs.Parts.{Cells, LabelsFit, IsSound, Agree, pair, pairs}
+use Rattle.parted_flow.specs.Marks.{AllMarked}
+use Rattle.parted_flow.specs.Runs.{IsRun}
+use Rattle.pulse.specs.Values.{FlowState, PushState, RunEnd, AreFlowRanges, ArePushRanges}
+
+pub record CellsFit (net : FlowNet) (c : Cells) : Type 0 where
+  pub residuals : length c.residuals ≡ length net.heads
+  pub excess : length c.excess ≡ node_count net
+  pub next : length c.next ≡ node_count net
+
+-- a flow of the network; of one that is spent the labels and the capacities are left
+pub record IsFlowOf (net : FlowNet) (f : FlowState) : Type 0 where
+  pub ranges : f.spent ≡ false → AreFlowRanges net 0 f.ranges
+  pub sized : f.spent ≡ false → CellsFit net f.cells
+  pub labelled : LabelsFit net f.labels
+  pub marks : length f.delivered ≡ node_count net
+  pub caps_sized : length f.caps ≡ length net.heads
+  pub caps : (arc : ℕ) → arc < length net.heads → slice_index f.caps arc ≡ cap_at net arc
+
+-- pushes over the arcs of the network
+pub record ArePushesOf (net : FlowNet) (p : PushState) : Type 0 where
+  pub ranges : p.spent ≡ false → ArePushRanges net 0 p.ranges
+  pub sized : p.spent ≡ false → length p.values ≡ length net.heads
+
+-- the state on pairs of nodes
+abbrev pub state_of : FlowNet → FlowState → State
+state_of net f = pairs net f.cells f.labels
+
+-- whether node v was delivered since the last turn
+abbrev pub is_marked : FlowState → ℕ → Bool
+is_marked f v = slice_index_or f.delivered v false
+
+abbrev pub NoneDelivered : FlowNet → FlowState → Type 0
+NoneDelivered net f = (v : ℕ) → v < node_count net → is_marked f v ≡ false
+
+-- a flow of the network between two pulses
+pub record IsBetween (net : FlowNet) (f : FlowState) : Type 0 where
+  pub fits : IsFlowOf net f
+  pub unspent : f.spent ≡ false
+  pub none : NoneDelivered net f
+  pub sound : IsSound net (state_of net f)
+
+-- the flow at the start: the arcs out of the source are full
+pub record IsStart (net : FlowNet) (f : FlowState) : Type 0 where
+  pub between : IsBetween net f
+  pub agree : Agree (node_count net) (started (node_count net) (pair net net.caps)) (state_of net f)
+
+-- a flow whose nodes all were delivered, so that its new labels can become its labels
+pub record IsTurnable (f : FlowState) : Type 0 where
+  pub net : FlowNet
+  pub ok : IsFlowNet net
+  pub fits : IsFlowOf net f
+  pub unspent : f.spent ≡ false
+  pub all : AllMarked (node_count net) (is_marked f)
+
+-- a greatest flow of the network, as a preflow: excess that can't reach the sink stays where it is
+pub record IsMaxPreflow (net : FlowNet) (m : RunEnd) : Type 0 where
+  pub fits : IsFlowOf net m.flow
+  pub unspent : m.flow.spent ≡ false
+  pub preflow : IsPreflow (node_count net) (pair net net.caps) (state_of net m.flow)
+  pub valid : IsValid (node_count net) (state_of net m.flow)
+  pub none_active : (v : ℕ) → v < node_count net → is_active (node_count net) (state_of net m.flow) v ≡ false
+
+-- the end of the run from the start, pulse by pulse
+abbrev pub IsRunEnd : FlowNet → RunEnd → Type 0
+IsRunEnd net m = IsRun net m.pulses (started (node_count net) (pair net net.caps)) (state_of net m.flow)

@@ -1,0 +1,78 @@
+-- What contracts see of a flow, of pushes and of a run's end: values by arc and by node, and how the nodes are parted.
+use Rattle.std.specs.Prelude.{◌≡◌, ℕ, ◌+◌, ◌≤◌, Bool, List, length, map}
+use Rattle.frame_net.specs.FlowNet.{FlowNet, node_count, start}
+use Rattle.flow_parts.specs.declared.parts.FlowPart.{FlowPart}
+use Rattle.flow_parts.specs.declared.parts.PushPart.{PushPart}
+use Rattle.flow_parts.specs.Parts.{Cells, IsParted, cells_of, values_of}
+
+-- the nodes from first up to end, their arcs, which are so many from base on, and the numbers of their excesses and new labels
+pub record FlowRange : Type 0 where
+  pub first : ℕ
+  pub end : ℕ
+  pub base : ℕ
+  pub arcs : ℕ
+  pub excesses : ℕ
+  pub labels : ℕ
+
+-- the nodes from first up to end, and their arcs, which are so many from base on
+pub record PushRange : Type 0 where
+  pub first : ℕ
+  pub end : ℕ
+  pub base : ℕ
+  pub arcs : ℕ
+
+abbrev pub flow_range : FlowPart → FlowRange
+flow_range q = record { first = q.first; end = q.end; base = q.base; arcs = length q.residuals.items; excesses = length q.excess.items; labels = length q.next.items }
+
+abbrev pub push_range : PushPart → PushRange
+push_range p = record { first = p.first; end = p.end; base = p.base; arcs = length p.values.items }
+
+pub record FlowRangeFits (net : FlowNet) (r : FlowRange) : Type 0 where
+  pub ordered : r.first ≤ r.end
+  pub within : r.end ≤ node_count net
+  pub based : r.base ≡ start net r.first
+  pub sized : r.arcs + start net r.first ≡ start net r.end
+  pub nodes : r.excesses + r.first ≡ r.end
+  pub same : r.labels ≡ r.excesses
+
+pub record PushRangeFits (net : FlowNet) (r : PushRange) : Type 0 where
+  pub ordered : r.first ≤ r.end
+  pub within : r.end ≤ node_count net
+  pub based : r.base ≡ start net r.first
+  pub sized : r.arcs + start net r.first ≡ start net r.end
+
+-- the ranges hold the nodes from v on, end to end
+abbrev pub AreFlowRanges : FlowNet → ℕ → List FlowRange → Type 0
+AreFlowRanges net v rs = IsParted (FlowRangeFits net) (λ r. r.first) (λ r. r.end) (node_count net) v rs
+
+abbrev pub ArePushRanges : FlowNet → ℕ → List PushRange → Type 0
+ArePushRanges net v rs = IsParted (PushRangeFits net) (λ r. r.first) (λ r. r.end) (node_count net) v rs
+
+-- a flow: residuals by arc, excess and new labels by node (`cells`); the labels; which nodes were delivered since the last turn;
+-- the capacities by arc; and whether a refused delivery has lost the cells
+pub record FlowState : Type 0 where
+  pub ranges : List FlowRange
+  pub cells : Cells
+  pub labels : List ℕ
+  pub delivered : List Bool
+  pub caps : List ℕ
+  pub spent : Bool
+
+-- what is seen of a flow's fields
+abbrev pub flow_state : List FlowPart → List ℕ → List Bool → List ℕ → Bool → FlowState
+flow_state parts labels delivered caps spent =
+    record { ranges = map flow_range parts; cells = cells_of parts; labels = labels; delivered = delivered; caps = caps; spent = spent }
+
+-- pushes by arc, and whether a refused read phase has lost them
+pub record PushState : Type 0 where
+  pub ranges : List PushRange
+  pub values : List ℕ
+  pub spent : Bool
+
+abbrev pub push_state : List PushPart → Bool → PushState
+push_state parts spent = record { ranges = map push_range parts; values = values_of parts; spent = spent }
+
+-- the flow at the end of a run, and the number of its pulses
+pub record RunEnd : Type 0 where
+  pub flow : FlowState
+  pub pulses : ℕ

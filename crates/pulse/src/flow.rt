@@ -1,0 +1,129 @@
+//! The flow of a network, with its labels.
+ghost use Rattle.std.specs.Prelude.{◌≡◌, ℕ, ◌<◌, IfOk, false, length, pos, slice_index, slice_index_or, ◌-ℤ◌};
+ghost use Rattle.frame_net.specs.FlowNet.{cap_at};
+ghost use Rattle.pulse.specs.Conditions.{IsStart, IsTurnable, is_marked};
+ghost use Rattle.pulse.specs.Phases.{Turns};
+
+use crate::marks::{no_marks, unmark};
+use aig_graph::NoMemory;
+use flow_parts::{FlowPart, excess_at, residual_at};
+use frame_net::Net;
+use parted_flow::{start_labels, start_parts, turn};
+use std::alloc::{AllocError, Global};
+use std::marker::Model;
+
+/// The flow of a network: the residuals of its arcs in parts, one for each worker of the last delivery phase, and the excess of its
+/// nodes; and the labels, which are lent to all workers.
+///
+/// A delivery phase that is refused memory leaves the flow spent: its parts are gone, and each later phase is refused.
+#[derive(Drop)]
+pub struct Flow {
+    pub(crate) labels: Vec<u32>,
+    pub(crate) delivered: Vec<bool>,
+    pub(crate) caps: Vec<u32>,
+    pub(crate) parts: Vec<FlowPart>,
+    pub(crate) phase: u32,
+    pub(crate) spent: bool,
+}
+
+impl Model for Flow {
+    ghost use Rattle.pulse.specs.Values.{FlowState, flow_state};
+
+    ghost Value = { FlowState };
+
+    ghost view = { λ f. flow_state f.parts.items f.labels.items f.delivered.items f.caps.items f.spent };
+}
+
+impl Flow {
+    /// The flow at the start: 1 over each arc out of the source, 0 over all others; label N at the source, 0 elsewhere.
+    pub fn start(alloc: Global, net: &Net) -> Result<Flow, NoMemory>
+        ensures { IfOk result (λ f. IsStart net.now f) }
+    {
+        Flow::start_for(alloc, net, 1)
+    }
+
+    /// The flow at the start, in parts for so many workers.
+    pub(crate) fn start_for(alloc: Global, net: &Net, workers: u32) -> Result<Flow, NoMemory>
+        requires { 0 < workers }
+        ensures { IfOk result (λ f. IsStart net.now f) }
+    {
+        let nodes = net.nodes();
+        let _arcs = net.arcs();
+        let labels = start_labels(alloc, net)?;
+        let caps = capacities(alloc, net)?;
+        let delivered = no_marks(alloc, nodes)?;
+        let parts = start_parts(alloc, net, workers)?;
+        Ok(Flow {
+            labels,
+            delivered,
+            caps,
+            parts,
+            phase: 0,
+            spent: false,
+        })
+    }
+
+    /// The label of node `v`, as of the last turn.
+    pub fn label(&self, v: u32) -> u32
+        requires { v < length self.now.labels }
+        ensures { result ≡ slice_index self.now.labels v }
+    {
+        self.labels[v as usize]
+    }
+
+    /// The excess of node `v`, which isn't the source.
+    pub fn excess(&self, v: u32) -> u32
+        requires { v < length self.now.cells.excess }
+        ensures { result ≡ slice_index self.now.cells.excess v }
+    {
+        excess_at(self.parts.as_slice(), v as usize)
+    }
+
+    /// The flow over an arc: its capacity less its residual.
+    pub fn flow(&self, arc: u32) -> i64
+        requires arc { arc < length self.now.cells.residuals }
+        requires cap { arc < length self.now.caps }
+        ensures { result ≡ pos (slice_index self.now.caps arc) -ℤ pos (slice_index self.now.cells.residuals arc) }
+    {
+        let residual = residual_at(self.parts.as_slice(), arc as usize);
+        i64::from(self.caps[arc as usize]) - i64::from(residual)
+    }
+
+    /// Whether node `v` was delivered since the last turn.
+    pub fn is_delivered(&self, v: u32) -> bool
+        requires { v < length self.now.delivered }
+        ensures { result ≡ is_marked self.now v }
+    {
+        self.delivered[v as usize]
+    }
+
+    /// Whether a delivery phase was refused.
+    pub fn is_spent(&self) -> bool
+        ensures { result ≡ self.now.spent }
+    {
+        self.spent
+    }
+
+    /// Ends a pulse once every node was delivered: the new labels become the labels.
+    pub fn turn(&mut self)
+        requires { IsTurnable self.old }
+        ensures { Turns self.old self.new }
+    {
+        turn(self.labels.as_mut_slice(), self.parts.as_slice());
+        unmark(self.delivered.as_mut_slice());
+        self.phase = self.phase.wrapping_add(2);
+    }
+}
+
+/// The capacities of all arcs.
+fn capacities(alloc: Global, net: &Net) -> Result<Vec<u32>, AllocError>
+    ensures len { IfOk result (λ v. length v.items ≡ length net.now.heads) }
+    ensures each { IfOk result (λ v. (arc : ℕ) → arc < length v.items → slice_index v.items arc ≡ cap_at net.now arc) }
+{
+    let arcs = net.arcs();
+    let mut caps = Vec::with_capacity(alloc, arcs)?;
+    for arc in 0..arcs {
+        caps.push(net.cap(arc as u32))?;
+    }
+    Ok(caps)
+}

@@ -1,0 +1,97 @@
+//! The two phases of a pulse, by the workers of a crew.
+ghost use Rattle.std.specs.Prelude.{◌≡◌, ◌⊎◌, OnErr, OnOk, false, true};
+ghost use Rattle.pulse.specs.Conditions.{ArePushesOf, IsFlowOf, NoneDelivered};
+ghost use Rattle.pulse.specs.Phases.{AfterDelivery, AfterRead, IsReadPhase};
+
+use crate::crew::Crew;
+use crate::error::PulseError;
+use crate::flow::Flow;
+use crate::gate::PhaseGate;
+use crate::pushes::Pushes;
+use crate::workers::{deliver_all, read_all};
+use frame_net::Net;
+use std::alloc::Global;
+use std::thread::Threads;
+
+/// The read phase of a pulse: each node writes its row of pushes.
+///
+/// Pushes in parts for another number of workers are parted anew at first. After a refusal the pushes are spent, and the flow is as
+/// it was; a phase over a spent flow or spent pushes is refused.
+pub fn read_phase<G: PhaseGate>(
+    rt: &(impl Threads + Sync),
+    alloc: Global,
+    net: &Net,
+    flow: &Flow,
+    pushes: &mut Pushes,
+    crew: &Crew<G>,
+) -> Result<(), PulseError>
+    requires flow { IsFlowOf net.now flow.now }
+    requires pushes { ArePushesOf net.now pushes.old }
+    requires none { flow.now.spent ≡ false → pushes.old.spent ≡ false → NoneDelivered net.now flow.now }
+    ensures fits { ArePushesOf net.now pushes.new }
+    ensures ok { OnOk result (AfterRead net.now flow.now pushes.old pushes.new) }
+    ensures err { OnErr result ((flow.now.spent ≡ true) ⊎ (pushes.new.spent ≡ true)) }
+{
+    if flow.spent || pushes.spent {
+        return Err(PulseError::NoMemory);
+    }
+    let _nodes = net.nodes();
+    let labels = flow.labels.as_slice();
+    let parts = flow.parts.as_slice();
+    let phase = u64::from(flow.phase);
+    match read_all(
+        rt,
+        alloc,
+        net,
+        labels,
+        parts,
+        &mut pushes.parts,
+        crew,
+        phase,
+    ) {
+        Ok(()) => Ok(()),
+        Err(_) => {
+            pushes.spent = true;
+            Err(PulseError::NoMemory)
+        }
+    }
+}
+
+/// The delivery phase of a pulse: each node writes its row of flow, its excess and its new label, and then the new labels become the
+/// labels.
+///
+/// A flow in parts for another number of workers is parted anew at first. After a refusal the flow is spent; a phase over a spent
+/// flow or spent pushes is refused.
+pub fn deliver_phase<G: PhaseGate>(
+    rt: &(impl Threads + Sync),
+    alloc: Global,
+    net: &Net,
+    flow: &mut Flow,
+    pushes: &Pushes,
+    crew: &Crew<G>,
+) -> Result<(), PulseError>
+    requires flow { IsFlowOf net.now flow.old }
+    requires pushes { ArePushesOf net.now pushes.now }
+    requires read { flow.old.spent ≡ false → pushes.now.spent ≡ false → IsReadPhase net.now flow.old pushes.now }
+    ensures fits { IsFlowOf net.now flow.new }
+    ensures ok { OnOk result (AfterDelivery net.now flow.old flow.new pushes.now) }
+    ensures err { OnErr result ((flow.new.spent ≡ true) ⊎ (pushes.now.spent ≡ true)) }
+{
+    if flow.spent || pushes.spent {
+        return Err(PulseError::NoMemory);
+    }
+    let _nodes = net.nodes();
+    let rows = pushes.parts.as_slice();
+    let phase = u64::from(flow.phase) + 1;
+    let labels = flow.labels.as_mut_slice();
+    match deliver_all(rt, alloc, net, labels, rows, &mut flow.parts, crew, phase) {
+        Ok(()) => {
+            flow.phase = flow.phase.wrapping_add(2);
+            Ok(())
+        }
+        Err(_) => {
+            flow.spent = true;
+            Err(PulseError::NoMemory)
+        }
+    }
+}

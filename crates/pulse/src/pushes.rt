@@ -1,0 +1,66 @@
+//! The pushes of a pulse.
+ghost use Rattle.std.specs.Prelude.{◌≡◌, ◌<◌, IfOk, false, length, slice_index};
+ghost use Rattle.pulse.specs.Conditions.{ArePushesOf};
+
+use aig_graph::NoMemory;
+use flow_parts::{PushPart, push_over};
+use frame_net::Net;
+use parted_flow::push_parts;
+use std::alloc::Global;
+use std::marker::Model;
+
+/// What each node pushes over its arcs in a pulse, in parts, one for each worker of the last read phase.
+///
+/// A read phase that is refused memory leaves the pushes spent: their parts are gone, and each later phase is refused.
+#[derive(Drop)]
+pub struct Pushes {
+    pub(crate) parts: Vec<PushPart>,
+    pub(crate) spent: bool,
+}
+
+impl Model for Pushes {
+    ghost use Rattle.pulse.specs.Values.{PushState, push_state};
+
+    ghost Value = { PushState };
+
+    ghost view = { λ p. push_state p.parts.items p.spent };
+}
+
+impl Pushes {
+    /// Room for the pushes over all arcs of a network.
+    pub fn new(alloc: Global, net: &Net) -> Result<Pushes, NoMemory>
+        ensures fits { IfOk result (λ p. ArePushesOf net.now p) }
+        ensures unspent { IfOk result (λ p. p.spent ≡ false) }
+    {
+        Pushes::new_for(alloc, net, 1)
+    }
+
+    /// Room for the pushes, in parts for so many workers.
+    pub(crate) fn new_for(alloc: Global, net: &Net, workers: u32) -> Result<Pushes, NoMemory>
+        requires { 0 < workers }
+        ensures fits { IfOk result (λ p. ArePushesOf net.now p) }
+        ensures unspent { IfOk result (λ p. p.spent ≡ false) }
+    {
+        let _nodes = net.nodes();
+        let parts = push_parts(alloc, net, workers)?;
+        Ok(Pushes {
+            parts,
+            spent: false,
+        })
+    }
+
+    /// The push over an arc.
+    pub fn push(&self, arc: u32) -> u32
+        requires { arc < length self.now.values }
+        ensures { result ≡ slice_index self.now.values arc }
+    {
+        push_over(self.parts.as_slice(), arc as usize)
+    }
+
+    /// Whether a read phase was refused.
+    pub fn is_spent(&self) -> bool
+        ensures { result ≡ self.now.spent }
+    {
+        self.spent
+    }
+}
