@@ -1,0 +1,11 @@
+use Rattle.std.proofs.Common.{◌-◌}
+use Rattle.frame_net.specs.FlowNet.{node_count}
+use Rattle.pulse.specs.Conditions.{state_of}
+use Rattle.cut_cert.proofs.WalkLaws.{Sweeping}
+use Rattle.cut_cert.proofs.sink_side.sink_side.Given as goal
+
+abbrev pub invariant-loop-w : goal.invariant-loop-w
+invariant-loop-w l = Sweeping (node_count l.net) (state_of l.net l.preflow.flow) l.side l.place
+
+abbrev pub decreases-loop-w : goal.decreases-loop-w
+decreases-loop-w l = node_count l.net - l.place
