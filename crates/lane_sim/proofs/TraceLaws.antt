@@ -1,0 +1,118 @@
+-- Laws of what blocks hold as a trace.
+use Rattle.std.proofs.Common.{ℕ, ◌+◌, ◌*◌, ◌/◌, ◌%◌, ◌<◌, ◌≤◌, ◌≡◌, ◌++◌, ◌∷◌, [], zero, suc, min, refl, arith, sym, ap, ap₂, ◌∙◌, subst, get_or, slice_get, Option, Some, None, List, length, map, take, drop, All}
+use Rattle.std.specs.Option.{option_map, IsSomeAnd}
+use Rattle.std.specs.List.{flat_map, enumerate_from, range_with_len}
+use Rattle.std.proofs.lemmas.Option.{slice_get-map, slice_get_within, get_or_from_slice_get, slice_get_past}
+use Rattle.std.proofs.lemmas.List.{length-take, length-drop}
+use Rattle.std.proofs.lemmas.List.{length-map}
+use Rattle.std.proofs.lemmas.List.Elements.{All-append}
+use Rattle.std.proofs.lemmas.Simd.{get_or-chunk}
+use Rattle.aig_graph.specs.Graph.{IsLiteralOf}
+use Rattle.aig_graph.specs.Circuits.{Network, IsNetwork, AreLiteralsOf}
+use Rattle.aig_graph.specs.Streams.{property_literals}
+use Rattle.lane_sim.specs.declared.stimulus.InputSequence.{InputSequence}
+use Rattle.lane_sim.specs.Lanes.{lane}
+use Rattle.lane_sim.specs.Blocks.{in_lane, row_in, steps_in, IsBlock, block_of, recorded}
+use Rattle.lane_sim.specs.Traces.{row_of, trace, then_at}
+
+-- a list by its places from a on
+by_places : {X Y : Type 0} (f : X → Y) (h : ℕ → Y) (xs : List X) (a n : ℕ) → ((t : ℕ) → t < n → IsSomeAnd (slice_get xs t) (λ x. f x ≡ h (a + t)))
+    → map f (take n xs) ≡ map h (range_with_len a n)
+by_places f h xs a zero each = refl
+by_places f h [] a (suc n) each = absurd (each 0 (omega arith))
+by_places f h (x ∷ xs) a (suc n) each =
+    let here : a + 0 ≡ a = omega arith in
+    ap₂ (λ y ys. y ∷ ys) (each 0 (omega arith) ∙ ap h here) (by_places f h xs (a + 1) n (λ t l.
+    let place : a + suc t ≡ a + 1 + t = omega arith in
+    subst (λ w. IsSomeAnd (slice_get xs t) (λ z. f z ≡ h w)) place (each (suc t) (omega arith))))
+
+-- a list whose elements are numbered from a on
+by_numbers : {X N Y : Type 0} (size : X → N) (f : ℕ → N → Y) (h : X → Y) (xs : List X) (a : ℕ)
+    → ((i : ℕ) (x : X) → slice_get xs i ≡ Some x → f (a + i) (size x) ≡ h x)
+    → map (λ e. f e.0 e.1) (enumerate_from a (map size xs)) ≡ map h xs
+by_numbers size f h [] a each = refl
+by_numbers size f h (x ∷ xs) a each =
+    let here : a + 0 ≡ a = omega arith in
+    ap₂ (λ y ys. y ∷ ys) (ap (λ (w : ℕ). f w (size x)) (sym here) ∙ each 0 x refl) (by_numbers size f h xs (a + 1) (λ i z at.
+    let place : a + 1 + i ≡ a + suc i = omega arith in
+    ap (λ (w : ℕ). f w (size z)) place ∙ each (suc i) z at))
+
+module _ (c : Network) (sequences : List InputSequence) (blocks : List (List (List (List ℕ))))
+    (each : (b : ℕ) → 256 * b < length sequences → IsSomeAnd (slice_get blocks b) (IsBlock c.aig (property_literals c.props) (block_of sequences b))) where
+  -- the rows of a sequence, from its block
+  rows_of : (s : ℕ) (run : InputSequence) → slice_get sequences s ≡ Some run
+      → (o : Option (List (List (List ℕ)))) → slice_get blocks (s / 256) ≡ o → IsSomeAnd o (IsBlock c.aig (property_literals c.props) (block_of sequences (s / 256)))
+      → steps_in blocks s (length run.steps) ≡ map (row_of c run) (range_with_len 0 (length run.steps))
+  rows_of s run at None found h = absurd h
+  rows_of s run at (Some rows) found h =
+      let short = slice_get_within sequences s run at in
+      let place : 256 * (s / 256) + s % 256 ≡ s = omega arith in
+      let empty : InputSequence = record { choice = []; steps = [] } in
+      let here : in_lane (block_of sequences (s / 256)) (s % 256) ≡ run =
+      get_or-chunk (256 * (s / 256)) 256 sequences (s % 256) empty (omega arith) ∙ ap (λ (n : ℕ). get_or sequences n empty) place ∙ get_or_from_slice_get sequences s run empty at in
+      let long : s % 256 < length (block_of sequences (s / 256)) =
+      omega (arith, length-take 256 (drop (256 * (s / 256)) sequences), length-drop (256 * (s / 256)) sequences) in
+      ap (λ rs. map (row_in (s % 256)) (take (length run.steps) rs)) (get_or_from_slice_get blocks (s / 256) rows [] found)
+      ∙ by_places (row_in (s % 256)) (row_of c run) rows 0 (length run.steps) (λ t within.
+      let zeroth : t ≡ 0 + t = omega arith in
+      subst (λ w. IsSomeAnd (slice_get rows t) (λ row. row_in (s % 256) row ≡ row_of c run w)) zeroth
+      (subst (λ (r : InputSequence). t < length r.steps → IsSomeAnd (slice_get rows t) (λ row. row_in (s % 256) row ≡ row_of c r t)) here
+      (h.each (s % 256) t long) within))
+
+  pub recorded-trace : (steps : List ℕ) → steps ≡ map (λ r. length r.steps) sequences → recorded steps blocks ≡ trace c sequences
+  unfolding recorded trace
+  recorded-trace steps lengths =
+      ap (λ ns. map (λ e. steps_in blocks e.0 e.1) (enumerate_from 0 ns)) lengths
+      ∙ by_numbers (λ (r : InputSequence). length r.steps) (steps_in blocks) (λ s. map (row_of c s) (range_with_len 0 (length s.steps))) sequences 0 (λ i run at.
+      let short = slice_get_within sequences i run at in
+      let zeroth : i ≡ 0 + i = omega arith in
+      subst (λ w. steps_in blocks w (length run.steps) ≡ map (row_of c run) (range_with_len 0 (length run.steps))) zeroth
+      (rows_of i run at (slice_get blocks (i / 256)) refl (each (i / 256) (omega arith))))
+
+-- the property literals are literals of the graph
+all_of_lists : (P : ℕ → Type 0) (xss : List (List ℕ)) → All (All P) xss → All P (flat_map (λ xs. xs) xss)
+all_of_lists P [] each = λ k d h. absurd (omega arith)
+all_of_lists P (xs ∷ xss) each = All-append P xs (flat_map (λ ys. ys) xss) (each 0 xs (omega arith)) (all_of_lists P xss (λ k d h. each (suc k) d (omega arith)))
+
+pub property_literals-in : (c : Network) → IsNetwork c → AreLiteralsOf c.aig (property_literals c.props)
+property_literals-in c valid =
+    let p = c.props in
+    let P : ℕ → Type 0 = IsLiteralOf c.aig in
+    let kinds = All-append P (p.outputs ++ p.bad) p.constraints (All-append P p.outputs p.bad valid.props.outputs valid.props.bad) valid.props.constraints in
+    let pieces = flat_map (λ xs. xs) p.justice in
+    All-append P (p.outputs ++ p.bad ++ p.constraints ++ pieces) p.fairness
+    (All-append P (p.outputs ++ p.bad ++ p.constraints) pieces kinds (all_of_lists P p.justice valid.props.justice)) valid.props.fairness
+
+-- ---- what stands at a place
+
+slice_get-take : {X : Type 0} (xs : List X) (n t : ℕ) → t < n → slice_get (take n xs) t ≡ slice_get xs t
+slice_get-take xs zero t h = absurd (omega arith)
+slice_get-take [] (suc n) t h = refl
+slice_get-take (x ∷ xs) (suc n) zero h = refl
+slice_get-take (x ∷ xs) (suc n) (suc t) h = slice_get-take xs n t (omega arith)
+
+-- a step that the lane doesn't have
+pub no_step : (k n t p : ℕ) (rows : List (List (List ℕ))) → min n (length rows) ≤ t → then_at (slice_get (map (row_in k) (take n rows)) t) p ≡ None
+no_step k n t p rows past =
+    ap (λ o. then_at o p) (slice_get_past (map (row_in k) (take n rows)) t (omega (arith, length-map (take n rows) (row_in k), length-take n rows)))
+
+pub in_step : (k n t p : ℕ) (rows : List (List (List ℕ))) (row : List (List ℕ)) → t < n → slice_get rows t ≡ Some row
+    → then_at (slice_get (map (row_in k) (take n rows)) t) p ≡ option_map (λ lanes. lane lanes k) (slice_get row p)
+in_step k n t p rows row within at =
+    ap (λ o. then_at o p) (slice_get-map (row_in k) (take n rows) t ∙ ap (option_map (row_in k)) (slice_get-take rows n t within ∙ at))
+    ∙ slice_get-map (λ lanes. lane lanes k) row p
+
+recorded_from : (blocks : List (List (List (List ℕ)))) (a : ℕ) (steps : List ℕ) (s : ℕ)
+    → slice_get (map (λ e. steps_in blocks e.0 e.1) (enumerate_from a steps)) s ≡ option_map (λ n. steps_in blocks (a + s) n) (slice_get steps s)
+recorded_from blocks a [] s = refl
+recorded_from blocks a (n ∷ steps) zero = let here : a ≡ a + 0 = omega arith in ap (λ (w : ℕ). Some (steps_in blocks w n)) here
+recorded_from blocks a (n ∷ steps) (suc s) =
+    let place : a + 1 + s ≡ a + suc s = omega arith in
+    recorded_from blocks (a + 1) steps s ∙ ap (λ (w : ℕ). option_map (λ m. steps_in blocks w m) (slice_get steps s)) place
+
+pub recorded-at : (steps : List ℕ) (blocks : List (List (List (List ℕ)))) (s : ℕ)
+    → slice_get (recorded steps blocks) s ≡ option_map (λ n. steps_in blocks s n) (slice_get steps s)
+unfolding recorded
+recorded-at steps blocks s =
+    let zeroth : 0 + s ≡ s = omega arith in
+    recorded_from blocks 0 steps s ∙ ap (λ (w : ℕ). option_map (λ m. steps_in blocks w m) (slice_get steps s)) zeroth

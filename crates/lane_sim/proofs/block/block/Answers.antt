@@ -1,0 +1,14 @@
+use Rattle.std.proofs.Common.{ℕ, ◌≡◌, ◌-◌, ◌*◌, ◌∙◌, sym, ap, arith, length, take, drop, min}
+use Rattle.std.proofs.lemmas.List.{take_min}
+use Rattle.std.proofs.lemmas.List.{length-drop, length-take}
+use Rattle.std.proofs.Math.Seq.{take-length}
+use Rattle.lane_sim.proofs.block.block.Goals as goal
+
+pub returns : goal.returns
+returns c =
+    let rest = drop (256 * c.args.number) c.args.sequences.now in
+    let whole : take (length c.args.sequences.now - 256 * c.args.number) rest ≡ rest = ap (λ (n : ℕ). take n rest) (sym (length-drop (256 * c.args.number) c.args.sequences.now)) ∙ take-length rest in
+    record {
+      value = rw whole (ap (λ (n : ℕ). take n rest) (c.min.ensures ∙ ap (λ xs. min 256 (length xs)) whole) ∙ take_min 256 rest);
+      lanes = omega (arith, length-take c.min.result (take (length c.args.sequences.now - 256 * c.args.number) rest), c.min.ensures);
+    }

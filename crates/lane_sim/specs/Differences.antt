@@ -1,0 +1,30 @@
+-- Where two circuits differ under a stimulus.
+use Rattle.std.specs.Prelude.{◌<◌, ◌≡◌, ◌≢◌, ◌⊎◌, Bool, List, Option}
+use Rattle.aig_graph.specs.Circuits.{Network}
+use Rattle.aig_graph.specs.Graph.{free_latches}
+use Rattle.aig_graph.specs.Streams.{SameShape}
+use Rattle.lane_sim.specs.declared.difference.Place.{Place}
+use Rattle.lane_sim.specs.Traces.{at_place}
+
+-- as many inputs, free latches and properties of each kind, and justice properties of the same sizes
+pub record HaveSameShape (c d : Network) : Type 0 where
+  pub shape : SameShape c d
+  pub free : free_latches d.aig ≡ free_latches c.aig
+
+abbrev pub DifferInShape : Network → Network → Type 0
+DifferInShape c d = HaveSameShape c d → ⊥
+
+-- places by sequence, then by step, then by place in the row
+abbrev pub IsBefore : Place → Place → Type 0
+IsBefore p q =
+    (p.sequence < q.sequence)
+    ⊎ ((p.sequence ≡ q.sequence) × ((p.step < q.step) ⊎ ((p.step ≡ q.step) × (p.place < q.place))))
+
+-- what a trace has at a place
+abbrev pub at : List (List (List Bool)) → Place → Option Bool
+at t p = at_place t p.sequence p.step p.place
+
+-- the first place where two traces differ
+pub record IsFirstDifference (s t : List (List (List Bool))) (p : Place) : Type 0 where
+  pub differs : at s p ≢ at t p
+  pub first : (q : Place) → IsBefore q p → at s q ≡ at t q

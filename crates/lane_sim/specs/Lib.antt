@@ -1,0 +1,9 @@
+pub mod Words
+pub mod Lanes
+pub mod Traces
+pub mod Blocks
+pub mod Stimuli
+pub mod Codes
+pub mod Cutting
+pub mod Differences
+pub mod Comparing

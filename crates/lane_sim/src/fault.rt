@@ -1,0 +1,98 @@
+//! Faults.
+ghost use Rattle.std.specs.Prelude.{◌≡◌};
+
+use aig_graph::NoMemory;
+use std::alloc::{AllocError, AllocFailed};
+use thiserror::Error;
+
+/// Why bytes were not read as a stimulus. The number is the offset of the first byte of the line at fault.
+#[derive(Clone, Copy, Debug, PartialEq, Eq, Error)]
+pub enum StimError {
+    /// A line is not a mark and digits, or it is a step before the first sequence.
+    #[error("BadLine at {0}")]
+    BadLine(u64),
+    /// A line has another number of digits than there are free latches or inputs.
+    #[error("Width at {0}")]
+    Width(u64),
+    /// There are more than 2^20 sequences.
+    #[error("TooMany at {0}")]
+    TooMany(u64),
+    /// Memory was refused.
+    #[error("out of memory")]
+    NoMemory,
+}
+
+impl StimError {
+    ghost use Rattle.lane_sim.specs.Codes.{stim_error_code};
+
+    /// The number of the kind of fault.
+    pub fn code(self) -> u8
+        ensures { result ≡ stim_error_code self }
+    {
+        match self {
+            StimError::BadLine(_) => 1,
+            StimError::Width(_) => 2,
+            StimError::TooMany(_) => 3,
+            StimError::NoMemory => 4,
+        }
+    }
+}
+
+impl From<AllocError> for StimError {
+    ghost use Rattle.std.specs.Prelude.{◌≡◌};
+    ghost use Rattle.lane_sim.specs.declared.fault.StimError.TheVariants.{NoMemory};
+
+    ghost from_gives = { λ _ e. e ≡ NoMemory };
+
+    fn from(_error: AllocError) -> StimError {
+        StimError::NoMemory
+    }
+}
+
+impl<T: Drop> From<AllocFailed<T>> for StimError {
+    ghost use Rattle.std.specs.Prelude.{◌≡◌};
+    ghost use Rattle.lane_sim.specs.declared.fault.StimError.TheVariants.{NoMemory};
+
+    ghost from_gives = { λ _ e. e ≡ NoMemory };
+
+    fn from(_error: AllocFailed<T>) -> StimError {
+        StimError::NoMemory
+    }
+}
+
+/// Why two circuits were not compared.
+#[derive(Clone, Copy, Debug, PartialEq, Eq, Error)]
+pub enum SimError {
+    /// The circuits differ in the number of inputs, free latches or properties of a kind, or in the size of a justice
+    /// property.
+    #[error("shapes differ")]
+    Shape,
+    /// Memory was refused.
+    #[error("out of memory")]
+    NoMemory,
+}
+
+impl SimError {
+    ghost use Rattle.lane_sim.specs.Codes.{sim_error_code};
+
+    /// The number of the kind of fault.
+    pub fn code(self) -> u8
+        ensures { result ≡ sim_error_code self }
+    {
+        match self {
+            SimError::Shape => 1,
+            SimError::NoMemory => 2,
+        }
+    }
+}
+
+impl From<NoMemory> for SimError {
+    ghost use Rattle.std.specs.Prelude.{◌≡◌};
+    ghost use Rattle.lane_sim.specs.declared.fault.SimError.TheVariants as sim;
+
+    ghost from_gives = { λ _ e. e ≡ sim.NoMemory };
+
+    fn from(_error: NoMemory) -> SimError {
+        SimError::NoMemory
+    }
+}

@@ -1,0 +1,23 @@
+//! Simulating a circuit under many input sequences at once, 256 of them in each step.
+#![tactic(auto)]
+
+mod block;
+mod difference;
+mod fault;
+mod kernel;
+mod lanes;
+mod read;
+mod shape;
+mod stimulus;
+mod table;
+mod trace;
+
+pub use difference::{Place, first_difference};
+pub use fault::{SimError, StimError};
+pub use kernel::and_lanes;
+pub use read::read_stimulus;
+pub use stimulus::{InputSequence, Stimulus};
+pub use trace::{Trace, simulate};
+
+#[cfg(test)]
+mod tests;

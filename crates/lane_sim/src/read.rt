@@ -1,0 +1,159 @@
+//! Reading a stimulus.
+ghost use Rattle.std.specs.Prelude.{◌≡◌, ◌==◌, ◌++◌, ◌∷◌, [], IfOk, MatchOption, length, position};
+ghost use Rattle.std.specs.List.{list_all};
+ghost use Rattle.lane_sim.specs.Stimuli.{Gives, is_digit, values_of, begin, step};
+ghost use Rattle.lane_sim.specs.Stimuli as stimuli;
+ghost use Rattle.lane_sim.specs.Cutting.{Cuts};
+
+use crate::fault::StimError;
+use crate::stimulus::{InputSequence, Stimulus};
+use aig_graph::Sequence;
+use std::alloc::{AllocError, Global};
+
+/// The sequences that a stimulus may have.
+const MAX_SEQUENCES: usize = 1 << 20;
+
+/// Reads a stimulus for a circuit with this many inputs and free latches.
+///
+/// The text is lines: `=` followed by a digit 0 or 1 for each free latch begins a sequence, and `:` followed by a digit
+/// for each input is its next step. The empty text has no sequence. An error is the first line's with a fault:
+/// `BadLine` for another first byte, a byte that is no digit, or a step before the first sequence; else `Width` for
+/// another number of digits; else `TooMany` for the line that begins sequence number 2^20, from 0. `NoMemory` may come
+/// before it. The time is linear in the bytes.
+pub fn read_stimulus(
+    alloc: Global,
+    bytes: &[u8],
+    inputs: usize,
+    free: usize,
+) -> Result<Stimulus, StimError>
+    ensures { Gives (λ stimulus. stimulus) result (stimuli.read_text inputs free bytes.now) }
+{
+    let mut sequences = Vec::new(alloc);
+    let mut left = bytes;
+    while let Some((line, after)) = next_line(left) {
+        let offset = (bytes.len() - left.len()) as u64;
+        read_line(alloc, &mut sequences, line, inputs, free, offset)?;
+        left = after;
+    }
+    Ok(Stimulus::new(sequences))
+}
+
+// Takes a line.
+fn read_line(
+    alloc: Global,
+    sequences: &mut Vec<InputSequence>,
+    line: &[u8],
+    inputs: usize,
+    free: usize,
+    offset: u64,
+) -> Result<(), StimError>
+    ensures { Gives (λ _. sequences.new.items) result (stimuli.read_line inputs free offset sequences.old.items line.now) }
+{
+    let Some((kind, digits)) = line.split_first() else {
+        return Err(StimError::BadLine(offset));
+    };
+    if !are_digits(digits) {
+        return Err(StimError::BadLine(offset));
+    }
+    match *kind {
+        b'=' => begin_sequence(alloc, sequences, digits, free, offset),
+        b':' => add_step(alloc, sequences, digits, inputs, offset),
+        _ => Err(StimError::BadLine(offset)),
+    }
+}
+
+// Begins a sequence.
+fn begin_sequence(
+    alloc: Global,
+    sequences: &mut Vec<InputSequence>,
+    digits: &[u8],
+    free: usize,
+    offset: u64,
+) -> Result<(), StimError>
+    ensures { Gives (λ _. sequences.new.items) result (begin free offset sequences.old.items digits.now) }
+{
+    if digits.len() != free {
+        return Err(StimError::Width(offset));
+    }
+    if sequences.len() == MAX_SEQUENCES {
+        return Err(StimError::TooMany(offset));
+    }
+    let choice = values(alloc, digits)?;
+    sequences.push(InputSequence {
+        choice,
+        steps: Sequence::empty(alloc),
+    })?;
+    Ok(())
+}
+
+// Adds a step to the last sequence.
+fn add_step(
+    alloc: Global,
+    sequences: &mut Vec<InputSequence>,
+    digits: &[u8],
+    inputs: usize,
+    offset: u64,
+) -> Result<(), StimError>
+    ensures { Gives (λ _. sequences.new.items) result (step inputs offset sequences.old.items digits.now) }
+{
+    let Some(last) = sequences.pop() else {
+        return Err(StimError::BadLine(offset));
+    };
+    if digits.len() != inputs {
+        return Err(StimError::Width(offset));
+    }
+    let row = values(alloc, digits)?;
+    sequences.push(longer(last, row)?)?;
+    Ok(())
+}
+
+// The sequence with one more step.
+fn longer(sequence: InputSequence, row: Sequence<bool>) -> Result<InputSequence, AllocError>
+    ensures { IfOk result (λ more. more ≡ record { choice = sequence.choice; steps = sequence.steps ++ row ∷ [] }) }
+{
+    let InputSequence { choice, steps } = sequence;
+    let mut rows = steps.into_vec();
+    rows.push(row)?;
+    Ok(InputSequence {
+        choice,
+        steps: Sequence::from_vec(rows),
+    })
+}
+
+// Whether each byte is 0 or 1.
+fn are_digits(bytes: &[u8]) -> bool
+    ensures { result ≡ list_all is_digit bytes.now }
+{
+    bytes.iter().all(|byte| *byte == b'0' || *byte == b'1')
+}
+
+// The values that digits spell.
+fn values(alloc: Global, digits: &[u8]) -> Result<Sequence<bool>, AllocError>
+    ensures { IfOk result (λ row. row ≡ values_of digits.now) }
+{
+    let mut values = Vec::new(alloc);
+    for digit in digits {
+        values.push(*digit == b'1')?;
+    }
+    Ok(Sequence::from_vec(values))
+}
+
+/// The first line of the bytes and what follows its newline, or `None` where no byte is left.
+fn next_line(bytes: &[u8]) -> Option<(&[u8], &[u8])>
+    ensures { MatchOption result (bytes.now ≡ []) (λ parts. Cuts bytes.now parts.0.now parts.1.now) }
+{
+    if bytes.is_empty() {
+        return None;
+    }
+    match newline_at(bytes) {
+        Some(end) => Some((&bytes[..end], &bytes[end + 1..])),
+        None => Some((bytes, &bytes[bytes.len()..])),
+    }
+}
+
+// Where the first newline stands.
+fn newline_at(bytes: &[u8]) -> Option<usize>
+    ensures { result ≡ position (λ b. b == 10) bytes.now }
+{
+    bytes.iter().position(|byte| *byte == b'\n')
+}

@@ -1,0 +1,36 @@
+//! Whether two circuits may be compared place by place.
+ghost use Rattle.std.specs.Prelude.{◌≡◌, ◌↔◌, IsTrue, length, map};
+ghost use Rattle.lane_sim.specs.Differences.{HaveSameShape};
+
+use aig_graph::{Circuit, Lit, Sequence};
+
+/// Whether the circuits have as many inputs, free latches and properties of each kind, and justice properties of the same
+/// sizes.
+pub(crate) fn have_same_shape(a: &Circuit, b: &Circuit) -> bool
+    ensures { IsTrue result ↔ HaveSameShape a.now b.now }
+{
+    let p = a.props();
+    let q = b.props();
+    b.aig().inputs() == a.aig().inputs()
+        && b.aig().free_latches() == a.aig().free_latches()
+        && q.outputs.len() == p.outputs.len()
+        && q.bad.len() == p.bad.len()
+        && q.constraints.len() == p.constraints.len()
+        && q.fairness.len() == p.fairness.len()
+        && have_same_sizes(q.justice.as_slice(), p.justice.as_slice())
+}
+
+// Whether the lists have as many literals each.
+fn have_same_sizes(a: &[Sequence<Lit>], b: &[Sequence<Lit>]) -> bool
+    ensures { IsTrue result ↔ (map length a.now ≡ map length b.now) }
+{
+    if a.len() != b.len() {
+        return false;
+    }
+    for k in 0..a.len() {
+        if a[k].len() != b[k].len() {
+            return false;
+        }
+    }
+    true
+}

@@ -1,0 +1,170 @@
+//! A table of lanes by variable: one step of a block.
+ghost use Rattle.std.specs.Prelude.{ℕ, ◌≡◌, ◌+◌, ◌<◌, ◌≤◌, ◌==◌, ◌&&◌, ◌||◌, false, [], length, All, IfOk, map};
+ghost use Rattle.std.specs.List.{slice_index_or};
+ghost use Rattle.aig_graph.specs.Graph.{IsGraph, variable, variables_end, first_latch, first_gate};
+ghost use Rattle.aig_graph.specs.Value.{signed, opening};
+ghost use Rattle.lane_sim.specs.Lanes.{lane, held};
+ghost use Rattle.lane_sim.specs.Blocks.{in_lane, row_in, HoldsState, HoldsBelow};
+ghost use Rattle.lane_sim.specs.Traces.{choice_of};
+
+use crate::lanes::{LANES, Lanes};
+use crate::stimulus::InputSequence;
+use aig_graph::{Aig, Gate, Lit, NoMemory, Reset, Sequence};
+use std::alloc::Global;
+
+// The digit of each sequence for a free latch.
+fn choice_lanes(sequences: &[InputSequence], place: usize) -> Lanes
+    requires { length sequences.now ≤ 256 }
+    ensures { (k : ℕ) → k < 256 → lane result k ≡ choice_of (in_lane sequences.now k) place }
+{
+    let mut lanes = Lanes::none();
+    for (k, sequence) in sequences.iter().enumerate() {
+        let choice = sequence.choice.as_slice();
+        if place < choice.len() {
+            lanes = lanes.with(k, choice[place]);
+        }
+    }
+    lanes
+}
+
+// Puts the digits of a step into a lane of the inputs, where there is none yet.
+fn load_row(table: &mut [Lanes], inputs: usize, row: &[bool], place: usize)
+    requires inputs { inputs < length table.old }
+    requires lane { place < 256 }
+    ensures loaded { (i k : ℕ) → i < inputs → k < 256 → held table.new (1 + i) k ≡ ((k == place && slice_index_or row.now i false) || held table.old (1 + i) k) }
+    ensures constant { slice_index_or table.new 0 [] ≡ slice_index_or table.old 0 [] }
+    ensures after { (v : ℕ) → inputs < v → slice_index_or table.new v [] ≡ slice_index_or table.old v [] }
+{
+    for i in 0..inputs.min(row.len()) {
+        table[1 + i] = table[1 + i].with(place, row[i]);
+    }
+}
+
+// Sets the inputs to false in each lane.
+fn clear_inputs(table: &mut [Lanes], inputs: usize)
+    requires { inputs < length table.old }
+    ensures cleared { (i k : ℕ) → i < inputs → k < 256 → held table.new (1 + i) k ≡ false }
+    ensures constant { slice_index_or table.new 0 [] ≡ slice_index_or table.old 0 [] }
+    ensures after { (v : ℕ) → inputs < v → slice_index_or table.new v [] ≡ slice_index_or table.old v [] }
+{
+    for i in 0..inputs {
+        table[1 + i] = Lanes::none();
+    }
+}
+
+/// Puts the digits of a step into the inputs.
+pub(crate) fn load_inputs(table: &mut [Lanes], aig: &Aig, sequences: &[InputSequence], step: usize)
+    requires variables { length table.old ≡ variables_end aig.now }
+    requires lanes { length sequences.now ≤ 256 }
+    ensures { (k : ℕ) → k < 256 → HoldsState aig.now (in_lane sequences.now k) table.old k step
+        → HoldsBelow aig.now (in_lane sequences.now k) table.new k step (first_gate aig.now) }
+{
+    let inputs = aig.inputs() as usize;
+    clear_inputs(table, inputs);
+    for (k, sequence) in sequences.iter().enumerate() {
+        let steps = sequence.steps.as_slice();
+        if step < steps.len() {
+            load_row(table, inputs, steps[step].as_slice(), k);
+        }
+    }
+}
+
+// The AND of a gate's literals.
+fn gate_lanes(table: &[Lanes], gate: Gate) -> Lanes
+    requires first { variable gate.rhs0 < length table.now }
+    requires second { variable gate.rhs1 < length table.now }
+    ensures { (k : ℕ) → k < 256 → lane result k
+        ≡ (signed gate.rhs0 (held table.now (variable gate.rhs0) k) && signed gate.rhs1 (held table.now (variable gate.rhs1) k)) }
+{
+    let a = table[gate.rhs0.var() as usize];
+    let b = table[gate.rhs1.var() as usize];
+    a.and(b, gate.rhs0.is_negated(), gate.rhs1.is_negated())
+}
+
+/// Computes each gate from the inputs and latches.
+pub(crate) fn evaluate(table: &mut [Lanes], aig: &Aig)
+    requires { length table.old ≡ variables_end aig.now }
+    ensures values { (k t : ℕ) (s : InputSequence) → k < 256 → HoldsBelow aig.now s table.old k t (first_gate aig.now)
+        → HoldsBelow aig.now s table.new k t (variables_end aig.now) }
+    ensures graph { IsGraph aig.now }
+{
+    let first = 1 + aig.inputs() as usize + aig.latches().len();
+    for (place, gate) in aig.gates().iter().enumerate() {
+        table[first + place] = gate_lanes(table, *gate);
+    }
+}
+
+// The value of a literal.
+fn literal_lanes(table: &[Lanes], lit: Lit) -> Lanes
+    requires { variable lit < length table.now }
+    ensures { (k : ℕ) → k < 256 → lane result k ≡ signed lit (held table.now (variable lit) k) }
+{
+    table[lit.var() as usize].signed(lit.is_negated())
+}
+
+/// The values of literals.
+pub(crate) fn read_literals(
+    alloc: Global,
+    table: &[Lanes],
+    literals: &[Lit],
+) -> Result<Sequence<Lanes>, NoMemory>
+    requires { All (λ lit. variable lit < length table.now) literals.now }
+    ensures { IfOk result (λ row. (k : ℕ) → k < 256
+        → row_in k row ≡ map (λ lit. signed lit (held table.now (variable lit) k)) literals.now) }
+{
+    let mut row = Vec::new(alloc);
+    for lit in literals {
+        row.push(literal_lanes(table, *lit))?;
+    }
+    Ok(Sequence::from_vec(row))
+}
+
+/// Moves each latch's next value into the latch. `next` is room for a value of each latch.
+pub(crate) fn advance(table: &mut [Lanes], next: &mut [Lanes], aig: &Aig)
+    requires variables { length table.old ≡ variables_end aig.now }
+    requires latches { length next.old ≡ length aig.now.latches }
+    ensures { (k t : ℕ) (s : InputSequence) → k < 256 → HoldsBelow aig.now s table.old k t (variables_end aig.now)
+        → HoldsState aig.now s table.new k (t + 1) }
+{
+    'read: for (j, latch) in aig.latches().iter().enumerate() {
+        next[j] = literal_lanes(table, latch.next);
+    }
+    let first = 1 + aig.inputs() as usize;
+    'write: for j in 0..next.len() {
+        table[first + j] = next[j];
+    }
+}
+
+// What a latch holds at step 0, where it is the free latch with this place if it is free.
+fn opening_lanes(reset: Reset, sequences: &[InputSequence], place: usize) -> Lanes
+    requires { length sequences.now ≤ 256 }
+    ensures { (k : ℕ) → k < 256 → lane result k ≡ opening reset (choice_of (in_lane sequences.now k) place) }
+{
+    match reset {
+        Reset::Zero => Lanes::none(),
+        Reset::One => Lanes::all(),
+        Reset::Free => choice_lanes(sequences, place),
+    }
+}
+
+/// The table before the first step: the resets of the latches, and the choice for those that are free.
+pub(crate) fn open_table(
+    alloc: Global,
+    aig: &Aig,
+    sequences: &[InputSequence],
+) -> Result<Vec<Lanes>, NoMemory>
+    requires { length sequences.now ≤ 256 }
+    ensures { IfOk result (λ table. (length table.items ≡ variables_end aig.now)
+        × ((k : ℕ) → k < 256 → HoldsState aig.now (in_lane sequences.now k) table.items k 0)) }
+{
+    let mut table = vec![in alloc; Lanes::none(); aig.variables()]?;
+    let first = 1 + aig.inputs() as usize;
+    let mut free = 0;
+    for (j, latch) in aig.latches().iter().enumerate() {
+        table[first + j] = opening_lanes(latch.reset, sequences, free);
+        if let Reset::Free = latch.reset {
+            free += 1;
+        }
+    }
+    Ok(table)
+}
