@@ -22,7 +22,7 @@ pub(crate) fn read_header(line: &[u8]) -> Result<Header, ReadError>
     }
 }
 
-/// The five numbers behind `aag`, and up to four that are 0.
+/// The five numbers after `aag`, and up to four that are 0.
 #[tactic(auto, unfolding(crate::specs::Headers::header_row))]
 fn spelt_header(line: &[u8]) -> Option<Header>
     ensures { result ≡ header_row line.now }

@@ -54,7 +54,7 @@ impl Row {
         Some(row)
     }
 
-    /// Adds the number, or answers `None` where there is none or no room for it.
+    /// Adds the number, or returns `None` where there is none or no room for it.
     fn push(&mut self, number: Option<u32>) -> Option<()>
         ensures { MatchOption result
             (with_number self.old number ≡ None)
@@ -77,7 +77,7 @@ impl Row {
     }
 }
 
-/// The number with one more digit behind it.
+/// The number with one more digit after it.
 fn with_digit(number: u32, digit: u8) -> u32
     ensures { result ≡ clamped (10 * number + digit) }
 {

@@ -16,7 +16,7 @@ use std::alloc::Global;
 ///
 /// Inputs, latches and gates get new variables in this order, each in the order of the file. A variable that a gate
 /// reads has to be defined by an earlier line. Outputs are the only properties: a header that counts others is
-/// `BadHeader`, and symbols or a comment behind the gates are `Trailing`. An error is the first fault of the file, or
+/// `BadHeader`, and symbols or a comment after the gates are `Trailing`. An error is the first fault of the file, or
 /// `NoMemory`, which may come before it, never `Device`. The time is linear in the bytes, and memory in the lines that
 /// were read.
 pub fn read_aag(alloc: Global, bytes: &[u8]) -> Result<Circuit, ReadError>

@@ -34,7 +34,7 @@ impl Variables {
         self.places.len()
     }
 
-    /// Adds the variable behind the others, and answers whether it wasn't here. An `Err` changes nothing.
+    /// Adds the variable after the others, and returns whether it wasn't here. An `Err` changes nothing.
     pub(crate) fn insert(&mut self, variable: u32) -> Result<bool, AllocError>
         ensures added { IfOk result (λ added. added ≡ not (has self.old variable)) }
         ensures after { IfOk result (λ added. self.new ≡ (if added then self.old ++ variable ∷ [] else self.old)) }

@@ -4,7 +4,7 @@ use aig_graph::{Gate, Lit};
 use std::alloc::Global;
 use std::test::Fail;
 
-/// Two inputs, a latch behind each, and a gate that reads both latches.
+/// Two inputs, a latch after each, and a gate that reads both latches.
 const TWO_LATCHES: &[u8] = b"aag 5 2 2 1 1\n2\n4\n6 2\n8 4\n10\n10 6 8\n";
 
 /// The fault of a text, if there is one.

@@ -6,7 +6,7 @@ ghost use Rattle.counted_io.specs.Input.{Input, failures_after_read};
 use std::io;
 use std::io::{Read, Write};
 
-/// A writer that tells its bytes, where it can, and counts its failures.
+/// A writer whose contents are known, where they can be, and that counts its failures.
 pub trait CountedWrite {
     ghost output: { Self → Output };
 
@@ -24,7 +24,7 @@ pub trait CountedWrite {
         ensures { result ≡ (output self.now).failures };
 }
 
-/// A reader that tells the bytes that it has left, where it can, and counts its failures.
+/// A reader whose remaining bytes are known, where they can be, and that counts its failures.
 pub trait CountedRead {
     ghost input: { Self → Input };
 
