@@ -37,7 +37,7 @@ one_gate = codes "aig 1 0 0 0 1\n"
 accepted : AreRead (
     (two_latches ++ 2 ∷ 2 ∷ [], codes "aag 5 2 2 1 1\n2\n4\n6 2\n8 4\n10\n10 8 6\n")
     ∷ (two_latches ++ 130 ∷ 0 ∷ 2 ∷ [], codes "aag 5 2 2 1 1\n2\n4\n6 2\n8 4\n10\n10 8 6\n")
-    ∷ (one_gate ++ 2 ∷ 0 ∷ [], codes "aag 1 0 0 0 1\n2 0 0\n")
+    ∷ (one_gate ++ 2 ∷ 0 ∷ [], codes "aag 1 0 0 0 1\n2 0 0\n") ∷ (one_gate ++ 130 ∷ 128 ∷ 128 ∷ 128 ∷ 0 ∷ 0 ∷ [], codes "aag 1 0 0 0 1\n2 0 0\n")
     ∷ (
       codes "aig 5 2 2 1 1 1 1 2 1\n2 1\n4 8\n10\n10\n3\n2\n0\n11\n4\n2\n" ++ 2 ∷ 2 ∷ codes "f0 fair\ni0 x\nl0 a\nc0 inv\nj1 none\nc\ntext",
       codes "aag 5 2 2 1 1 1 1 2 1\n2\n4\n6 2 1\n8 4 8\n10\n10\n3\n2\n0\n11\n4\n2\n10 8 6\ni0 x\nl0 a\nc0 inv\nj1 none\nf0 fair\n",
@@ -50,6 +50,7 @@ accepted = refl
 refused : AreRefused (
     (one_gate ++ 128 ∷ [], Truncated 14) ∷ (one_gate ++ 0 ∷ [], BadDelta 14) ∷ (one_gate ++ 3 ∷ [], BadDelta 14) ∷ (one_gate ++ 130 ∷ 128 ∷ 128 ∷ 128 ∷ 128 ∷ 0 ∷ 0 ∷ [], BadDelta 14)
     ∷ (one_gate ++ 2 ∷ [], Truncated 15) ∷ (one_gate ++ 1 ∷ 2 ∷ [], BadDelta 15) ∷ (one_gate ++ 130 ∷ 128 ∷ 128 ∷ 128 ∷ [], Truncated 14) ∷ (one_gate ++ 2 ∷ 0 ∷ 10 ∷ [], Trailing 16)
+    ∷ (one_gate ++ 2 ∷ 128 ∷ [], Truncated 15) ∷ (one_gate ++ 2 ∷ 128 ∷ 128 ∷ 128 ∷ 128 ∷ 128 ∷ [], BadDelta 15)
     ∷ (codes "aig 268435456 268435456 0 0 0\n", TooLarge 0) ∷ (codes "aig 268435455 0 268435455 0 0\n", Truncated 30)
     ∷ (codes "aig 5 2 2 1 1\n2\n4\n10", Truncated 20) ∷ (two_latches, Truncated 21) ∷ (two_latches ++ 2 ∷ [], Truncated 22) ∷ (two_latches ++ 130 ∷ [], Truncated 21)
     ∷ ([], BadHeader 0) ∷ (codes "aag 0 0 0 0 0\n", BadHeader 0) ∷ (codes "aig 2 1 0 0 0\n", MaxIndex 0) ∷ (codes "aig 1 0 1 0 0\n4\n", MaxIndex 14) ∷ (codes "aig 1 0 1 0 0\n2 3\n", BadReset 14)

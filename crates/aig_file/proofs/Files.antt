@@ -1,5 +1,5 @@
 -- Reading gives a raw circuit exactly where the bytes are a file of it.
-use Rattle.std.proofs.Common.{ℕ, suc, zero, ◌+◌, ◌<◌, ◌≤◌, ◌≡◌, ◌≢◌, ◌⊎◌, inl, inr, List, [], ◌∷◌, ◌++◌, length, Option, Some, Result, Ok, Err, Bool, true, false, cond, ◌&&◌, refl, sym, ap, ap₂, subst, ◌∙◌, arith}
+use Rattle.std.proofs.Common.{ℕ, suc, zero, ◌+◌, ◌<◌, ◌≡◌, ◌≢◌, ◌⊎◌, inl, inr, List, [], ◌∷◌, length, Some, Result, Ok, Err, Bool, true, false, cond, ◌&&◌, refl, sym, ap, ap₂, subst, ◌∙◌, arith}
 use Rattle.std.proofs.lemmas.Bool.{and_parts, and_from, cond-true, cond-false}
 use Rattle.aig_graph.specs.Circuits.{Network}
 use Rattle.aag_format.specs.declared.fault.ReadError.{ReadError}
@@ -12,10 +12,10 @@ use Rattle.aag_file.specs.Items.{Item, InputItem, LatchItem, SafetyItem, SizeIte
 use Rattle.aag_file.specs.Reading.{◌>>=◌, with_item, is_symbols}
 use Rattle.aag_file.proofs.Checks.{same_ok}
 use Rattle.aag_file.proofs.Steps.{bind_ok}
-use Rattle.aig_file.specs.Headers.{header_of, IsHeaderWithin}
-use Rattle.aig_file.specs.Items.{next_section, item_in, first_line, after_line}
-use Rattle.aig_file.specs.Reading.{State, AtHeader, InLine, InFirst, InComment, is_gates, before_item, read_header, end_header, read_line, end_line, feed, complete, finish, read_raw, circuit_of, read_binary}
-use Rattle.aig_file.specs.Files.{IsLine, IsGate, IsItem, AreItems, with_items, IsBinaryFile}
+use Rattle.aig_file.specs.Headers.{header_of}
+use Rattle.aig_file.specs.Items.{next_section, first_line, after_line}
+use Rattle.aig_file.specs.Reading.{State, InLine, InFirst, InComment, is_gates, before_item, read_header, end_header, read_line, end_line, feed, finish, read_raw, circuit_of, read_binary}
+use Rattle.aig_file.specs.Files.{IsLine, IsItem, AreItems, with_items, IsBinaryFile}
 use Rattle.aig_file.specs.Laws.{ReadingLaw}
 use Rattle.aig_file.proofs.Faults.{fault_of_bytes}
 use Rattle.aig_file.proofs.Steps.{line_fed, header_fed, comment_fed, after_line_shorter}

@@ -1,5 +1,5 @@
 -- The two deltas of a gate.
-use Rattle.std.proofs.Common.{ℕ, ◌+◌, ◌*◌, ◌-◌, ◌<◌, ◌≤◌, ◌≡◌, List, [], ◌∷◌, ◌++◌, length, Result, Ok, Err, Bool, true, false, cond, nat_eq, nat_lt, ◌||◌, refl, sym, ap, ap₂, subst, ◌∙◌, append_assoc, arith}
+use Rattle.std.proofs.Common.{ℕ, ◌+◌, ◌-◌, ◌<◌, ◌≤◌, ◌≡◌, List, [], ◌∷◌, ◌++◌, length, Result, Ok, true, nat_eq, nat_lt, ◌||◌, refl, sym, ap, ap₂, ◌∙◌, arith}
 use Rattle.std.proofs.lemmas.Bool.{cond-true, ltb-false, le-ltb, eqb-false, ne_eqb, or_parts, or_from}
 use Rattle.std.proofs.lemmas.List.{length-append}
 use Rattle.aag_format.specs.declared.fault.ReadError.{ReadError}
@@ -15,7 +15,7 @@ use Rattle.aag_file.proofs.Checks.{unless_ok, unless_passes, same_ok}
 use Rattle.aig_file.specs.Items.{next_section, next_gate}
 use Rattle.aig_file.specs.Reading.{State, InLine, InFirst, InSecond, is_gates, before_item, end_first, end_second, feed, finish}
 use Rattle.aig_file.specs.Files.{IsGate}
-use Rattle.aig_file.proofs.Steps.{DeltaRead, delta_fed, delta_was_fed}
+use Rattle.aig_file.proofs.Steps.{delta_fed, delta_was_fed}
 
 pub before_gate : (h : Header) (raw : Raw) (at : ℕ) → is_gates (next_section h raw) ≡ true → before_item h raw at ≡ InFirst h raw at []
 before_gate h raw at here = cond-true (is_gates (next_section h raw)) (InFirst h raw at []) (InLine h raw at []) here

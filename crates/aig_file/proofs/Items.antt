@@ -1,5 +1,5 @@
 -- Headers and lines that spell what fits.
-use Rattle.std.proofs.Common.{ℕ, ◌+◌, ◌-◌, ◌^◌, ◌≤◌, ◌≡◌, List, [], ◌∷◌, length, Option, Some, None, Result, Ok, Err, Bool, true, false, not, cond, nat_eq, nat_lt, ◌&&◌, refl, sym, ap, subst, ◌∙◌}
+use Rattle.std.proofs.Common.{ℕ, ◌+◌, ◌-◌, ◌^◌, ◌≡◌, List, [], ◌∷◌, length, Option, Some, None, Result, Ok, false, nat_eq, ◌&&◌, refl, sym, ap, subst, ◌∙◌}
 use Rattle.std.specs.Option.{option_and_then}
 use Rattle.std.proofs.lemmas.Bool.{ltb-false, le-ltb, eqb-true, eq-eqb, not-false, not_from_true, cond-false}
 use Rattle.aag_format.specs.declared.fault.ReadError.{ReadError}
@@ -8,14 +8,14 @@ use Rattle.aag_file.specs.declared.header.Header.{Header}
 use Rattle.aag_file.specs.declared.raw.Section.{Section}
 use Rattle.aag_file.specs.declared.raw.Section.TheVariants.{Inputs, Latches, Safety, Sizes, Liveness, Gates, Symbols}
 use Rattle.aag_file.specs.Raw.{Raw}
-use Rattle.aag_file.specs.Items.{Item, InputItem, LatchItem, SafetyItem, SizeItem, LivenessItem, GateItem, SymbolItem, section_of, item_of, symbol_of, begins_comment}
-use Rattle.aag_file.specs.Reading.{◌>>=◌, unless, with_item, malformed, is_symbols}
+use Rattle.aag_file.specs.Items.{Item, InputItem, LatchItem, SafetyItem, SizeItem, LivenessItem, GateItem, SymbolItem, section_of, item_of, begins_comment}
+use Rattle.aag_file.specs.Reading.{◌>>=◌, with_item, malformed, is_symbols}
 use Rattle.aag_file.proofs.Checks as ascii
 use Rattle.aag_file.proofs.Checks.{Passes, unless_ok, unless_passes, same_ok, passes_where_reset, reset_where_it_passes}
-use Rattle.aag_file.proofs.Steps.{bind_ok, section_is, no_comment}
+use Rattle.aag_file.proofs.Steps.{section_is, no_comment}
 use Rattle.aig_file.specs.Headers.{header_of, header_checks, IsHeaderWithin}
 use Rattle.aig_file.specs.Items.{next_section, next_latch, latch_in, item_in}
-use Rattle.aig_file.specs.Reading.{State, InComment, before_item, checked_header, read_header, line_checks, take_item, read_line, end_line}
+use Rattle.aig_file.specs.Reading.{InComment, before_item, checked_header, read_header, line_checks, take_item, read_line, end_line}
 use Rattle.aig_file.specs.Files.{Fits}
 
 -- ---- the header
@@ -96,7 +96,7 @@ fits_where_passes h raw at (SymbolItem symbol) has passes = ascii.fits_where_pas
 same_some : (a b : Item) → ◌≡◌ {A = Option Item} (Some a) (Some b) → a ≡ b
 same_some a b e = cc
 
-latch_section : (current : ℕ) (found : Option (List ℕ)) (item : Item) → option_and_then (latch_in current) found ≡ Some item → section_of item ≡ Latches
+pub latch_section : (current : ℕ) (found : Option (List ℕ)) (item : Item) → option_and_then (latch_in current) found ≡ Some item → section_of item ≡ Latches
 latch_section current None item e = absurd cc
 latch_section current (Some []) item e = absurd cc
 latch_section current (Some (a ∷ [])) item e = ap section_of (sym (same_some (LatchItem (record { current = current; next = a; reset = 0 })) item e))

@@ -4,3 +4,5 @@ pub mod Steps
 pub mod Items
 pub mod Gates
 pub mod Files
+pub mod Pieces
+pub mod Counts

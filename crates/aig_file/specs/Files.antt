@@ -1,10 +1,9 @@
 -- What it means that bytes are a binary file.
-use Rattle.std.specs.Prelude.{ℕ, ◌+◌, ◌*◌, ◌^◌, ◌<◌, ◌≤◌, ◌≡◌, ◌≢◌, ◌⊎◌, true, false, List, [], ◌∷◌, ◌++◌, length, Option, Some}
+use Rattle.std.specs.Prelude.{ℕ, ◌+◌, ◌*◌, ◌^◌, ◌<◌, ◌≤◌, ◌≡◌, ◌≢◌, ◌⊎◌, true, false, List, [], ◌∷◌, ◌++◌, length, Some}
 use Rattle.std.specs.List.{list_any, sum}
 use Rattle.deltas.specs.Deltas.{is_delta, delta_value}
 use Rattle.aag_file.specs.declared.header.Header.{Header}
 use Rattle.aag_file.specs.declared.raw.RawGate.{RawGate}
-use Rattle.aag_file.specs.declared.raw.Section.{Section}
 use Rattle.aag_file.specs.declared.raw.Section.TheVariants.{Gates, Symbols}
 use Rattle.aag_file.specs.Raw.{Raw, nothing_yet, count_of}
 use Rattle.aag_file.specs.Items.{Item, InputItem, LatchItem, SafetyItem, SizeItem, LivenessItem, GateItem, SymbolItem, begins_comment}

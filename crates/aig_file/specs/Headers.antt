@@ -1,5 +1,5 @@
 -- The first line of a binary file.
-use Rattle.std.specs.Prelude.{ℕ, ◌+◌, ◌-◌, ◌^◌, ◌≡◌, ◌<◌, ◌≤◌, ◌==◌, nat_eq, nat_lt, Bool, not, List, [], ◌∷◌, drop, Option, Some, None, if◌then◌else◌, codes}
+use Rattle.std.specs.Prelude.{ℕ, ◌+◌, ◌-◌, ◌^◌, ◌≡◌, ◌≤◌, ◌==◌, nat_eq, nat_lt, Bool, not, List, [], ◌∷◌, drop, Option, None, if◌then◌else◌, codes}
 use Rattle.std.specs.List.{starts_with}
 use Rattle.std.specs.Option.{option_and_then}
 use Rattle.aag_format.specs.declared.fault.ReadError.{ReadError}

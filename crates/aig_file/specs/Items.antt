@@ -1,9 +1,8 @@
 -- The items of a binary file. Inputs aren't listed, and latches and gates have their variables by their positions.
-use Rattle.std.specs.Prelude.{ℕ, ◌+◌, ◌*◌, ◌-◌, ◌==◌, List, [], ◌∷◌, length, Option, Some, None, if◌then◌else◌}
+use Rattle.std.specs.Prelude.{ℕ, ◌+◌, ◌*◌, ◌==◌, List, [], ◌∷◌, length, Option, Some, None, if◌then◌else◌}
 use Rattle.std.specs.Option.{option_and_then}
 use Rattle.aag_format.specs.Lines.{numbers_of}
 use Rattle.aag_file.specs.declared.header.Header.{Header}
-use Rattle.aag_file.specs.declared.raw.RawGate.{RawGate}
 use Rattle.aag_file.specs.declared.raw.Section.{Section}
 use Rattle.aag_file.specs.declared.raw.Section.TheVariants.{Inputs, Latches, Gates}
 use Rattle.aag_file.specs.Raw.{Raw}

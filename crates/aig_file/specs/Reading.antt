@@ -1,5 +1,5 @@
 -- The first fault of a binary file, byte by byte, and what is read where there is none.
-use Rattle.std.specs.Prelude.{ℕ, ◌≡◌, ◌+◌, ◌-◌, ◌*◌, ◌==◌, ◌||◌, ◌&&◌, Bool, true, false, nat_lt, List, [], ◌∷◌, ◌++◌, length, map, Option, Some, None, Result, Ok, Err, if◌then◌else◌}
+use Rattle.std.specs.Prelude.{ℕ, ◌≡◌, ◌+◌, ◌-◌, ◌==◌, ◌||◌, ◌&&◌, Bool, true, false, nat_lt, List, [], ◌∷◌, ◌++◌, length, map, Option, Some, None, Result, Ok, Err, if◌then◌else◌}
 use Rattle.aig_graph.specs.Circuits.{Network}
 use Rattle.aag_format.specs.declared.fault.ReadError.{ReadError}
 use Rattle.aag_format.specs.declared.fault.ReadError.TheVariants.{BadHeader, MaxIndex, BadReset, BadDelta, Truncated}
@@ -13,7 +13,7 @@ use Rattle.aag_file.specs.Items.{Item, LatchItem, GateItem, begins_comment}
 use Rattle.aag_file.specs.Meaning.{reset_of, props_of, symbols_of}
 use Rattle.aag_file.specs.Reading.{◌>>=◌, unless, past_greatest, is_bad_reset, checks, with_item, malformed, is_symbols}
 use Rattle.aig_file.specs.Headers.{header_of, header_checks}
-use Rattle.aig_file.specs.Items.{next_section, next_latch, next_gate, item_in}
+use Rattle.aig_file.specs.Items.{next_section, next_gate, item_in}
 
 -- where a reader stands. After the header: the raw circuit so far, the offset of the item that has begun, and its bytes
 pub data State : Type 0 where

@@ -4,4 +4,4 @@
 
 mod laws;
 
-pub use laws::reading_law;
+pub use laws::{counts_law, pieces_law, reading_law};
