@@ -114,7 +114,7 @@ reset_again v Free low =
     cond-false (nat_eq (2 * v) 0) Zero (cond (nat_eq (2 * v) 1) One Free) (ne_eqb (2 * v) 0 (λ e. absurd (omega (arith, e, low)))) ∙ cond-false (nat_eq (2 * v) 1) One Free (ne_eqb (2 * v) 1 (λ e. absurd (omega (arith, e))))
 
 -- latches with their own literals
-latches_again : (f : ℕ → ℕ) (xs : List Latch) (first : ℕ) → 1 ≤ first → ((k : ℕ) (latch : Latch) → slice_get xs k ≡ Some latch → f latch.next ≡ latch.next)
+pub latches_again : (f : ℕ → ℕ) (xs : List Latch) (first : ℕ) → 1 ≤ first → ((k : ℕ) (latch : Latch) → slice_get xs k ≡ Some latch → f latch.next ≡ latch.next)
     → map (λ (latch : RawLatch). record { next = f latch.next; reset = reset_of latch.reset }) (map written_latch (enumerate_from first xs)) ≡ xs
 latches_again f [] first low same = refl
 latches_again f (x ∷ xs) first low same =
@@ -171,7 +171,7 @@ split_again (lits ∷ lists) rest =
     assoc [] = refl
     assoc (x ∷ xs) = ap (λ (ys : List ℕ). x ∷ ys) (assoc xs)
 
-props_again : (c : Network) → props_of (written_header c) (written c).safety (written c).sizes (written c).liveness ≡ c.props
+pub props_again : (c : Network) → props_of (written_header c) (written c).safety (written c).sizes (written c).liveness ≡ c.props
 unfolding props_of
 props_again c =
     let p = c.props in
@@ -190,11 +190,11 @@ props_again c =
 -- ---- the circuit
 
 -- what is made of the parts of a value is that value
-graph_is : (g : Graph) (inputs : ℕ) (latches : List Latch) (gates : List Gate) → inputs ≡ g.inputs → latches ≡ g.latches → gates ≡ g.gates → record { inputs = inputs; latches = latches; gates = gates } ≡ g
+pub graph_is : (g : Graph) (inputs : ℕ) (latches : List Latch) (gates : List Gate) → inputs ≡ g.inputs → latches ≡ g.latches → gates ≡ g.gates → record { inputs = inputs; latches = latches; gates = gates } ≡ g
 graph_is g inputs latches gates p q r =
     ap₂ (λ (n : ℕ) (ls : List Latch). record { inputs = n; latches = ls; gates = gates }) p q ∙ ap (λ (gs : List Gate). record { inputs = g.inputs; latches = g.latches; gates = gs }) r
 
-network_is : (c : Network) (aig : Graph) (props : Props) (symbols : Symbols) → aig ≡ c.aig → props ≡ c.props → symbols ≡ c.symbols → record { aig = aig; props = props; symbols = symbols } ≡ c
+pub network_is : (c : Network) (aig : Graph) (props : Props) (symbols : Symbols) → aig ≡ c.aig → props ≡ c.props → symbols ≡ c.symbols → record { aig = aig; props = props; symbols = symbols } ≡ c
 network_is c aig props symbols p q r =
     ap₂ (λ (g : Graph) (ps : Props). record { aig = g; props = ps; symbols = symbols }) p q ∙ ap (λ (names : Symbols). record { aig = c.aig; props = c.props; symbols = names }) r
 

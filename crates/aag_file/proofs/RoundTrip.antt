@@ -10,6 +10,7 @@ use Rattle.aig_graph.specs.declared.properties.Symbols.{Symbols}
 use Rattle.aig_graph.specs.Graph.{IsGraph, variables_end}
 use Rattle.aig_graph.specs.Circuits.{Network, IsNetwork}
 use Rattle.gate_order.proofs.CycleLaws.{exists_law}
+use Rattle.aag_format.specs.Lines.{numbers_of}
 use Rattle.aag_format.specs.Text.{without_last_zeros, header_row, text}
 use Rattle.aag_format.proofs.Decimals.{lacks, AreSmall, row_line, numbers_of-row_line}
 use Rattle.aag_file.specs.declared.header.Header.{Header}
@@ -78,9 +79,9 @@ header_in-is m i l o a b c j f more short at =
     same : (p q r s : ℕ) → p ≡ b → q ≡ c → r ≡ j → s ≡ f → Some (header_with m i l o a p q r s) ≡ Some (header_with m i l o a b c j f)
     same p q r s e1 e2 e3 e4 = rw (e1, e2, e3, e4) refl
 
-header_spelt : (c : Network) → IsGraph c.aig → IsWithinLimits c → header_of (codes "aag " ++ row_line (header_row c)) ≡ Some (written_header c)
-unfolding header_of
-header_spelt c graph within =
+-- what follows the letters
+pub header_numbers : (c : Network) → IsGraph c.aig → IsWithinLimits c → option_and_then header_in (numbers_of (row_line (header_row c))) ≡ Some (written_header c)
+header_numbers c graph within =
     let g = c.aig in
     let few : variables_end g ≤ 2 ^ 28 = graph.small in
     let last : List ℕ = length c.props.bad ∷ length c.props.constraints ∷ length c.props.justice ∷ length c.props.fairness ∷ [] in
@@ -102,6 +103,10 @@ header_spelt c graph within =
     ))
     ∙ header_in-is (variables_end g - 1) g.inputs (length g.latches) (length c.props.outputs) (length g.gates) (length c.props.bad) (length c.props.constraints) (length c.props.justice) (length c.props.fairness)
     (without_last_zeros last) (trimmed-length last) (trimmed-at last)
+
+header_spelt : (c : Network) → IsGraph c.aig → IsWithinLimits c → header_of (codes "aag " ++ row_line (header_row c)) ≡ Some (written_header c)
+unfolding header_of
+header_spelt c graph within = header_numbers c graph within
 
 -- ---- the numbers and names
 
@@ -169,7 +174,7 @@ latch-small most latch low small (range, reset) = (omega (arith, range.0, small)
     by_case (inr (inl one)) = omega (arith, one)
     by_case (inr (inr own)) = omega (arith, own, range.0, small)
 
-written-small : (c : Network) → IsGraph c.aig → IsNetwork c → IsWithinLimits c → AllByRecursion IsSmall (items_of (written c))
+pub written-small : (c : Network) → IsGraph c.aig → IsNetwork c → IsWithinLimits c → AllByRecursion IsSmall (items_of (written c))
 written-small c graph network within =
     let raw = written c in
     let range = written-in_range c graph network in

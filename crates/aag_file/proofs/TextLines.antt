@@ -26,7 +26,7 @@ use Rattle.aag_file.proofs.Written.{written_input, reset_number, written_latch, 
 
 -- ---- the line of an item
 
-abbrev reset_numbers : ℕ → List ℕ
+abbrev pub reset_numbers : ℕ → List ℕ
 reset_numbers n = cond (nat_eq n 0) [] (n ∷ [])
 
 abbrev letter_of : SymbolKind → ℕ
@@ -38,7 +38,7 @@ letter_of Constraint = 99
 letter_of Justice = 106
 letter_of Fairness = 102
 
-abbrev item_text : Item → List ℕ
+abbrev pub item_text : Item → List ℕ
 item_text (InputItem lit) = line (lit ∷ [])
 item_text (LatchItem latch) = line (latch.current ∷ latch.next ∷ reset_numbers latch.reset)
 item_text (SafetyItem lit) = line (lit ∷ [])
@@ -56,7 +56,7 @@ item_line (LivenessItem lit) = row_line (lit ∷ [])
 item_line (GateItem gate) = row_line (gate.lhs ∷ gate.rhs0 ∷ gate.rhs1 ∷ [])
 item_line (SymbolItem symbol) = letter_of symbol.kind ∷ (decimal symbol.position ++ 32 ∷ symbol.name)
 
-is_line : (item : Item) → item_text item ≡ item_line item ++ 10 ∷ []
+pub is_line : (item : Item) → item_text item ≡ item_line item ++ 10 ∷ []
 unfolding symbol_line
 is_line (InputItem lit) = row-is_line (lit ∷ [])
 is_line (LatchItem latch) = row-is_line (latch.current ∷ latch.next ∷ reset_numbers latch.reset)
@@ -96,7 +96,7 @@ letter-kind Constraint = refl
 letter-kind Justice = refl
 letter-kind Fairness = refl
 
-line-lacks : (item : Item) → IsSmall item → lacks 10 (item_line item) ≡ true
+pub line-lacks : (item : Item) → IsSmall item → lacks 10 (item_line item) ≡ true
 line-lacks (InputItem lit) small = row_line-lacks_newline (lit ∷ [])
 line-lacks (LatchItem latch) small = row_line-lacks_newline (latch.current ∷ latch.next ∷ reset_numbers latch.reset)
 line-lacks (SafetyItem lit) small = row_line-lacks_newline (lit ∷ [])
@@ -159,11 +159,11 @@ mapped : {X : Type 0} (make : X → Item) (xs : List X) (rest : List Item) → f
 mapped make [] rest = refl
 mapped make (x ∷ xs) rest = ap (λ (more : List ℕ). item_text (make x) ++ more) (mapped make xs rest) ∙ sym (append_assoc (item_text (make x)) (flat_map (λ y. item_text (make y)) xs) (flat_map item_text rest))
 
-flat_map-map : {X Y A : Type 0} (f : Y → List A) (g : X → Y) (xs : List X) → flat_map f (map g xs) ≡ flat_map (λ x. f (g x)) xs
+pub flat_map-map : {X Y A : Type 0} (f : Y → List A) (g : X → Y) (xs : List X) → flat_map f (map g xs) ≡ flat_map (λ x. f (g x)) xs
 flat_map-map f g [] = refl
 flat_map-map f g (x ∷ xs) = ap (λ (more : List _). f (g x) ++ more) (flat_map-map f g xs)
 
-reset-row : (v : ℕ) (reset : Reset) → 1 ≤ v → reset_numbers (reset_number v reset) ≡ reset_row v reset
+pub reset-row : (v : ℕ) (reset : Reset) → 1 ≤ v → reset_numbers (reset_number v reset) ≡ reset_row v reset
 reset-row v Zero low = refl
 reset-row v One low = refl
 reset-row v Free low = cond-false (nat_eq (2 * v) 0) [] (2 * v ∷ []) (ne_eqb (2 * v) 0 (λ e. absurd (omega (arith, e, low))))
@@ -190,7 +190,7 @@ named_text kind (x ∷ names) rest =
     ap (λ (more : List ℕ). symbol_line (letter_of kind) x ++ more) (named_text kind names rest)
     ∙ sym (append_assoc (symbol_line (letter_of kind) x) (symbol_lines (letter_of kind) names) (flat_map (λ y. item_text (SymbolItem y)) rest))
 
-symbols_text : (s : Symbols) → flat_map (λ x. item_text (SymbolItem x)) (written_symbols s) ≡ all_symbols s
+pub symbols_text : (s : Symbols) → flat_map (λ x. item_text (SymbolItem x)) (written_symbols s) ≡ all_symbols s
 symbols_text s =
     named_text Input s.inputs _ ∙ ap (λ (more : List ℕ). symbol_lines 105 s.inputs ++ more)
     (named_text LatchKind s.latches _ ∙ ap (λ (more : List ℕ). symbol_lines 108 s.latches ++ more)
@@ -211,7 +211,7 @@ seven : (a b c d e f g p q r s t u : List ℕ) → p ≡ b ++ q → q ≡ c ++ r
 seven a b c d e f g p q r s t u e1 e2 e3 e4 e5 e6 = rw (e1, e2, e3, e4, e5, e6) refl
 
 module _ (c : Network) where
-  properties_text : (symbols : List ℕ) (gates : List ℕ)
+  pub properties_text : (symbols : List ℕ) (gates : List ℕ)
       → single_rows (written c).safety ++ (single_rows (written c).sizes ++ (single_rows (written c).liveness ++ (gates ++ symbols))) ≡ property_rows c.props ++ (gates ++ symbols)
   properties_text symbols gates =
       ap₂ (λ (one other : List ℕ). one ++ (single_rows (map length c.props.justice) ++ (other ++ (gates ++ symbols))))

@@ -1,3 +1,4 @@
 pub mod RowLaws
 pub mod HeaderLaws
 pub mod SymbolLaws
+pub mod WithinLaws

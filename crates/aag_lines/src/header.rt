@@ -1,6 +1,8 @@
-ghost use Rattle.std.specs.Prelude.{◌≡◌, ◌≤◌, ◌^◌, ◌||◌, nat_lt, length, get_or};
+ghost use Rattle.std.specs.Prelude.{◌≡◌, ◌≤◌, ◌^◌, ◌||◌, ◌∷◌, [], nat_lt, length, get_or, Ok};
 ghost use Rattle.aag_file.specs.Headers as headers;
-ghost use Rattle.aag_file.specs.Reading.{checked_header};
+ghost use Rattle.aag_file.specs.Reading.{unless};
+ghost use Rattle.aag_format.specs.declared.fault.ReadError.TheVariants.{MaxIndex};
+ghost use Rattle.aag_lines.specs.Limits.{limited, is_past};
 
 use crate::numbers::NumberLine;
 use aag_file::Header;
@@ -12,29 +14,36 @@ const MAX_VARIABLES: u32 = (1 << 28) - 1;
 /// The greatest number of outputs, bad states, constraints, justice properties and fairness constraints, each.
 const MAX_PROPERTIES: u32 = 1 << 24;
 
-/// What the first line begins with.
-const LETTERS: [u8; 4] = *b"aag ";
+/// How many letters the first line begins with.
+const LETTERS: usize = 4;
 
-/// The first line, which comes in pieces: the letters and then the numbers.
+/// The first line, which comes in pieces: four letters and then the numbers.
 #[derive(Clone, Copy)]
 pub struct HeaderLine {
+    /// What the line has to begin with.
+    letters: [u8; LETTERS],
     /// How many of the letters have come.
-    letters: usize,
+    count: usize,
     line: NumberLine,
-    ghost begun: { letters ≤ 4 },
+    ghost begun: { count ≤ 4 },
+    ghost four: { length letters ≡ 4 },
 }
 
 impl HeaderLine {
-    ghost use Rattle.std.specs.Prelude.{ℕ, List, [], ◌∷◌, ◌++◌, ◌≡◌};
+    ghost use Rattle.std.specs.Prelude.{ℕ, List, [], ◌∷◌, ◌++◌, ◌≡◌, IfOk, codes};
+    ghost use Rattle.std.specs.Option.{option_and_then};
+    ghost use Rattle.aag_file.specs.Headers as headers;
     ghost use Rattle.aag_file.specs.Reading as reading;
     ghost use Rattle.aag_lines.specs.Header.{header_row, header_with};
+    ghost use Rattle.aag_lines.specs.Limits.{limited};
 
-    /// A line of which no byte has come.
-    pub fn new() -> HeaderLine
-        ensures { (rest : List ℕ) → header_with result rest ≡ header_row rest }
+    /// A line of which no byte has come, and which is to begin with these letters.
+    pub fn new(letters: [u8; LETTERS]) -> HeaderLine
+        ensures { (rest : List ℕ) → header_with result rest ≡ header_row letters rest }
     {
         HeaderLine {
-            letters: 0,
+            letters,
+            count: 0,
             line: NumberLine::new(),
         }
     }
@@ -48,28 +57,44 @@ impl HeaderLine {
         }
     }
 
-    /// The header that the line spells, of which all bytes have come.
+    /// The header of an ASCII file that the line spells, of which all bytes have come.
     pub fn header(&mut self) -> Result<Header, ReadError>
-        ensures { (line : List ℕ) → header_with self.old [] ≡ header_row line → result ≡ reading.read_header line }
+        ensures value { (line : List ℕ) → header_with self.old [] ≡ header_row (codes "aag ") line → result ≡ reading.read_header line }
+        ensures within { IfOk result (λ header. headers.IsHeaderWithin header) }
     {
-        if self.letters < LETTERS.len() {
+        match self.limited() {
+            Ok(header) => with_variables(header),
+            Err(fault) => Err(fault),
+        }
+    }
+
+    /// The header that the line spells, of which all bytes have come. A number past `u32::MAX` is `u32::MAX`, and whether
+    /// there are as many variables as the file's form wants isn't looked at.
+    ///
+    /// # Errors
+    ///
+    /// `BadHeader` where the line is no header, `TooLarge` where one of its numbers is past its limit.
+    pub fn limited(&mut self) -> Result<Header, ReadError>
+        ensures { result ≡ limited (option_and_then headers.header_in (header_with self.old [])) }
+    {
+        if self.count < LETTERS {
             return Err(ReadError::BadHeader(0));
         }
         match self.line.numbers() {
-            Some(numbers) => checked(header_in(numbers)),
-            None => checked(None),
+            Some(numbers) => within_limits(header_in(numbers)),
+            None => Err(ReadError::BadHeader(0)),
         }
     }
 
     fn take_byte(&mut self, byte: u8)
         ensures { (rest : List ℕ) → header_with self.new rest ≡ header_with self.old (byte ∷ rest) }
     {
-        if self.letters == LETTERS.len() {
+        if self.count == LETTERS {
             self.line.take_byte(byte);
-        } else if byte == LETTERS[self.letters] {
-            self.letters += 1;
+        } else if byte == self.letters[self.count] {
+            self.count += 1;
         } else {
-            self.letters = LETTERS.len();
+            self.count = LETTERS;
             self.line.refuse();
         }
     }
@@ -118,9 +143,9 @@ fn is_any_past(header: &Header) -> bool
         || header.fairness > MAX_PROPERTIES
 }
 
-/// The header, where it is one and within the limits.
-fn checked(header: Option<Header>) -> Result<Header, ReadError>
-    ensures { result ≡ checked_header header }
+/// The header, where it is one and each of its numbers is within its limit.
+fn within_limits(header: Option<Header>) -> Result<Header, ReadError>
+    ensures { result ≡ limited header }
 {
     let Some(header) = header else {
         return Err(ReadError::BadHeader(0));
@@ -128,6 +153,13 @@ fn checked(header: Option<Header>) -> Result<Header, ReadError>
     if header.greatest > MAX_VARIABLES || is_any_past(&header) {
         return Err(ReadError::TooLarge(0));
     }
+    Ok(header)
+}
+
+/// The header, where it counts no more variables than its greatest.
+fn with_variables(header: Header) -> Result<Header, ReadError>
+    ensures { result ≡ unless ((is_past header, MaxIndex 0) ∷ []) (Ok header) }
+{
     let variables = u64::from(header.inputs) + u64::from(header.latches) + u64::from(header.gates);
     if variables > u64::from(header.greatest) {
         return Err(ReadError::MaxIndex(0));

@@ -5,7 +5,7 @@ use std::test::Fail;
 
 /// The greatest variable of a header that comes in two pieces.
 fn greatest(first: &[u8], second: &[u8]) -> Option<u32> {
-    let mut line = HeaderLine::new();
+    let mut line = HeaderLine::new(*b"aag ");
     line.extend(first);
     line.extend(second);
     match line.header() {

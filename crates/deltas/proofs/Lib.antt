@@ -1,2 +1,2 @@
-mod DeltaLemmas
+pub mod DeltaLemmas
 mod Examples

@@ -1,4 +1,4 @@
-ghost use Rattle.std.specs.Prelude.{◌≡◌, ◌+◌, ◌<◌, ◌≤◌, ◌^◌, ◌++◌, ◌∷◌, [], length, IsTrue, Ok, Err, Some, None};
+ghost use Rattle.std.specs.Prelude.{◌≡◌, ◌+◌, ◌<◌, ◌≤◌, ◌^◌, ◌++◌, ◌∷◌, [], length, nat_eq, IsTrue, Ok, Err, Some, None};
 ghost use Rattle.deltas.specs.Deltas.{delta_value, is_delta};
 ghost use Rattle.deltas.specs.declared.decode.DeltaError.TheVariants.{TooLong};
 
@@ -55,12 +55,20 @@ impl DeltaReader {
         }
     }
 
+    /// Whether no byte of a delta has come.
+    pub fn is_new(&self) -> bool
+        ensures { result ≡ nat_eq (length self.now) 0 }
+    {
+        self.begun.is_empty()
+    }
+
     /// Takes the next byte: the number, where this is a delta's last byte; `None`, where more bytes follow.
     ///
     /// # Errors
     ///
     /// At a fifth byte with its top bit set.
     pub fn push(&mut self, byte: u8) -> Result<Option<u64>, DeltaError>
+        ensures few { length self.old ≤ 4 }
         ensures form { byte < 128 → IsTrue (is_delta (self.old ++ byte ∷ [])) }
         ensures last { byte < 128 → (result ≡ Ok (Some (delta_value (self.old ++ byte ∷ [])))) × (self.new ≡ []) }
         ensures more { 128 ≤ byte → length self.old < 4 → (result ≡ Ok None) × (self.new ≡ self.old ++ byte ∷ []) }

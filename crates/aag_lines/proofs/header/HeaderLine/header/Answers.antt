@@ -1,22 +1,24 @@
-use Rattle.std.proofs.Common.{ℕ, List, Option, sym, ap, ◌∙◌, arith}
+use Rattle.std.proofs.Common.{[], ◌∷◌, Result, Ok, sym, ap, ◌∙◌}
+use Rattle.aag_format.specs.declared.fault.ReadError.{ReadError}
+use Rattle.aag_format.specs.declared.fault.ReadError.TheVariants.{MaxIndex}
+use Rattle.aag_file.specs.declared.header.Header.{Header}
 use Rattle.std.specs.Option.{option_and_then}
 use Rattle.aag_file.specs.Headers.{header_in}
-use Rattle.aag_file.specs.Reading.{checked_header}
-use Rattle.aag_lines.proofs.HeaderLaws.{read-header, none_yet, all_letters}
+use Rattle.aag_file.specs.Reading.{◌>>=◌, unless}
+use Rattle.aag_lines.specs.Header.{header_with}
+use Rattle.aag_lines.specs.Limits.{is_past}
+use Rattle.aag_lines.proofs.HeaderLaws.{read-header}
+use Rattle.aag_lines.proofs.WithinLaws.{within}
 use Rattle.aag_lines.proofs.header.HeaderLine.header.Goals as goal
 
-pub returns-then-self-lt4 : goal.returns-then-self-lt4
-returns-then-self-lt4 c line e =
-    ap (λ (o : Option (List ℕ)). checked_header (option_and_then header_in o)) (sym (none_yet c.args.self.now.line c.args.self.now.letters c.if-self-lt4.true) ∙ e) ∙ read-header line
+abbrev total : Result Header ReadError → Result Header ReadError
+total r = r >>= λ h. unless ((is_past h, MaxIndex 0) ∷ []) (Ok h)
 
-pub returns-in-Some : goal.returns-in-Some
-returns-in-Some c line e =
-    c.checked.ensures ∙ ap checked_header c.header_in.ensures
-    ∙ ap (λ (o : Option (List ℕ)). checked_header (option_and_then header_in o)) (sym c.in-Some.ensures ∙ sym (all_letters c.args.self.now.line c.args.self.now.letters (omega (arith, c.if-self-lt4.false, c.args.self.now.begun))) ∙ e)
-    ∙ read-header line
+pub returns-in-Ok-clause-value : goal.returns-in-Ok-clause-value
+returns-in-Ok-clause-value c line e = c.with_variables.ensures ∙ ap total (sym c.in-Ok.is ∙ c.limited.ensures) ∙ read-header _ line e
 
-pub returns-in-None : goal.returns-in-None
-returns-in-None c line e =
-    c.checked-in-None.ensures
-    ∙ ap (λ (o : Option (List ℕ)). checked_header (option_and_then header_in o)) (sym c.in-None.ensures ∙ sym (all_letters c.args.self.now.line c.args.self.now.letters (omega (arith, c.if-self-lt4.false, c.args.self.now.begun))) ∙ e)
-    ∙ read-header line
+pub returns-in-Err-clause-value : goal.returns-in-Err-clause-value
+returns-in-Err-clause-value c line e = ap total (sym c.in-Err.is ∙ c.limited.ensures) ∙ read-header _ line e
+
+pub returns-in-Ok-clause-within : goal.returns-in-Ok-clause-within
+returns-in-Ok-clause-within c = within (option_and_then header_in (header_with c.args.self.now [])) c.in-Ok.header (sym c.limited.ensures ∙ c.in-Ok.is) c.with_variables.result c.with_variables.ensures
