@@ -1,0 +1,7 @@
+pub mod AnsweringLaws
+pub mod CountLaws
+pub mod KeepLaws
+pub mod ClampLaws
+pub mod LineLaws
+pub mod PlaceLaws
+pub mod TakeLaws

@@ -1,0 +1,4 @@
+pub mod Answering
+pub mod Items
+pub mod Standing
+pub mod Taking
