@@ -1,0 +1,4 @@
+pub mod Answering
+pub mod Numbering
+pub mod Arranging
+pub mod Resolving
