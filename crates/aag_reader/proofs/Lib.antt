@@ -1,0 +1,6 @@
+pub mod CutLaws
+pub mod TakingLaws
+pub mod FeedingLaws
+pub mod FinishingLaws
+pub mod BeginningLaws
+pub mod ReaderLaws

@@ -1,0 +1,5 @@
+pub mod Cutting
+pub mod Lines
+pub mod Standing
+pub mod Beginning
+pub mod Readers
