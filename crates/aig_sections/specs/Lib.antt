@@ -1,0 +1,4 @@
+pub mod Contents
+pub mod Kept
+pub mod Taking
+pub mod Items

@@ -1,0 +1,40 @@
+-- What a call that takes an item leaves and answers, beside what reading gives.
+use Rattle.std.specs.Prelude.{ℕ, ◌≡◌, ◌-◌, ◌==◌, ◌||◌, nat_lt, [], ◌∷◌, Result, Ok, Err, if◌then◌else◌}
+use Rattle.aig_graph.specs.Circuits.{Network}
+use Rattle.aag_format.specs.declared.fault.ReadError.{ReadError}
+use Rattle.aag_format.specs.declared.fault.ReadError.TheVariants.{NoMemory, BadDelta, Truncated}
+use Rattle.aag_file.specs.declared.header.Header.{Header}
+use Rattle.aag_file.specs.Raw.{Raw}
+use Rattle.aag_file.specs.Items.{GateItem}
+use Rattle.aag_file.specs.Reading.{unless, with_item, is_symbols}
+use Rattle.aig_file.specs.Items.{next_section, next_gate}
+use Rattle.aig_file.specs.Reading.{circuit_of}
+use Rattle.aig_sections.specs.Contents.{Contents, IsAt}
+
+-- The error is the fault that reading gives, unless memory ran out.
+abbrev pub Fails : {Y : Type 0} → ReadError → Result Y ReadError → Type 0
+Fails NoMemory read = Unit {0}
+Fails error read = read ≡ Err error
+
+-- What a function returned, seen by view, is what reading gives, unless memory ran out.
+abbrev pub Gives : {X Y : Type 0} → (X → Y) → Result X ReadError → Result Y ReadError → Type 0
+Gives view (Ok x) read = read ≡ Ok (view x)
+Gives view (Err error) read = Fails error read
+
+-- After Ok the contents are those of the raw circuit that reading gives; an error is the fault of reading, unless memory ran out.
+abbrev pub Takes : {X : Type 0} → Header → Contents → Result X ReadError → Result Raw ReadError → Type 0
+Takes h new (Ok x) read = (raw : Raw) × (read ≡ Ok raw) × IsAt new h raw
+Takes h new (Err error) read = Fails error read
+
+-- the first fan-in of the next gate, by its delta at an offset
+abbrev pub read_first : Header → Raw → ℕ → ℕ → Result ℕ ReadError
+read_first h raw at delta = unless (((delta == 0) || nat_lt (next_gate h raw) delta, BadDelta at) ∷ []) (Ok (next_gate h raw - delta))
+
+-- the raw circuit with the next gate, by its first fan-in and its second delta at an offset
+abbrev pub read_second : Header → Raw → ℕ → ℕ → ℕ → Result Raw ReadError
+read_second h raw at rhs0 delta =
+    unless ((nat_lt rhs0 delta, BadDelta at) ∷ []) (Ok (with_item raw (GateItem (record { lhs = next_gate h raw; rhs0 = rhs0; rhs1 = rhs0 - delta }))))
+
+-- what an input of this length gives, where it ends after these items
+abbrev pub circuit_at_end : ℕ → Header → Raw → Result Network ReadError
+circuit_at_end end h raw = if is_symbols (next_section h raw) then Ok (circuit_of h raw) else Err (Truncated end)

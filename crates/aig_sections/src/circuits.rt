@@ -1,0 +1,49 @@
+use crate::sections::Sections;
+use aag_file::Section;
+use aag_format::ReadError;
+use aig_graph::{Aig, Circuit};
+use std::alloc::Global;
+
+impl Sections {
+    ghost use Rattle.std.specs.Prelude.{ℕ, ◌≡◌, Ok};
+    ghost use Rattle.aag_file.specs.declared.header.Header.{Header};
+    ghost use Rattle.aag_file.specs.declared.raw.Section.TheVariants.{Symbols};
+    ghost use Rattle.aag_file.specs.Raw.{Raw};
+    ghost use Rattle.aig_sections.specs.Contents.{IsAt, section_of, network_of};
+    ghost use Rattle.aig_sections.specs.Taking.{Gives, circuit_at_end};
+
+    /// The circuit of all that was read of an input of this length.
+    ///
+    /// # Errors
+    ///
+    /// `Truncated` where an item is missing; `NoMemory`.
+    pub fn finish(self, alloc: Global, end: u64) -> Result<Circuit, ReadError>
+        ensures { (h : Header) (raw : Raw) → IsAt self h raw → Gives (λ c. c) result (circuit_at_end end h raw) }
+    {
+        match self.section() {
+            Section::Symbols => self.into_circuit(alloc),
+            _ => Err(ReadError::Truncated(end)),
+        }
+    }
+
+    fn into_circuit(self, alloc: Global) -> Result<Circuit, ReadError>
+        requires { section_of self ≡ Symbols }
+        ensures { Gives (λ c. c) result (Ok (network_of self)) }
+    {
+        let Sections {
+            header,
+            latches,
+            properties,
+            gates,
+            names,
+        } = self;
+        let Ok(props) = properties.into_props(alloc, &header) else {
+            return Err(ReadError::NoMemory);
+        };
+        let Ok(symbols) = names.into_symbols(alloc) else {
+            return Err(ReadError::NoMemory);
+        };
+        let aig = Aig::from_parts(header.inputs, latches, gates);
+        Ok(Circuit::new(aig, props, symbols))
+    }
+}
