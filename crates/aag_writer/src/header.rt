@@ -1,6 +1,7 @@
 ghost use Rattle.std.specs.Prelude.{◌≡◌, ◌≤◌, length, take};
 ghost use Rattle.counted_io.specs.Buffered.{Puts};
-ghost use Rattle.aag_format.specs.Text.{without_last_zeros};
+ghost use Rattle.counted_io.specs.Line.{line};
+ghost use Rattle.aag_format.specs.Text.{header_row, without_last_zeros};
 ghost use Rattle.aag_writer.specs.Header.{header_counts, header_text};
 
 use aig_graph::Circuit;
@@ -45,12 +46,20 @@ fn used(counts: &[u64]) -> usize
     used
 }
 
+/// Puts what follows the letters of the first line, with its newline. The counts of bad states, constraints, justice
+/// properties and fairness constraints stand up to the last one that isn't 0.
+pub fn put_counts<W: CountedWrite>(out: &mut Buffered<'_, W>, circuit: &Circuit)
+    ensures { Puts W.output out.old out.new (line (header_row circuit.now)) }
+{
+    let counts = counts(circuit);
+    let len = LEAST + used(&counts[LEAST..]);
+    out.put_line(&counts[..len]);
+}
+
 /// Puts the first line.
 pub(crate) fn put_header<W: CountedWrite>(out: &mut Buffered<'_, W>, circuit: &Circuit)
     ensures { Puts W.output out.old out.new (header_text circuit.now) }
 {
-    let counts = counts(circuit);
-    let len = LEAST + used(&counts[LEAST..]);
     out.put(b"aag ");
-    out.put_line(&counts[..len]);
+    put_counts(out, circuit);
 }
