@@ -1,0 +1,5 @@
+use Rattle.spellings.proofs.SpellingLemmas.{the_spelling_law}
+use Rattle.spellings.proofs.laws.spelling_law.Goals as goal
+
+pub returns : goal.returns
+returns c = the_spelling_law
