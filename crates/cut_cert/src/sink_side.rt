@@ -28,12 +28,11 @@ impl Model for SinkSide {
 }
 
 /// Whether an arc has a residual above 0.
-fn has_residual(net: &Net, preflow: &MaxPreflow, arc: u32) -> bool
-    requires preflow { IsMaxPreflow net.now preflow.now }
-    requires arc { arc < length net.now.heads }
+fn has_residual(preflow: &MaxPreflow, arc: u32) -> bool
+    requires { arc < length preflow.now.flow.cells.residuals }
     ensures { result ≡ nat_lt 0 (slice_index preflow.now.flow.cells.residuals arc) }
 {
-    preflow.flow(arc) < i64::from(net.cap(arc))
+    preflow.residual(arc) > 0
 }
 
 impl SinkSide {
@@ -70,7 +69,7 @@ impl SinkSide {
         let heads = net.heads(w);
         let mates = net.mates(w);
         for k in 0..heads.len() {
-            if has_residual(net, preflow, mates[k]) {
+            if has_residual(preflow, mates[k]) {
                 self.reach(heads[k])?;
             }
         }

@@ -7,7 +7,6 @@ pub mod Pulsing
 pub mod MarkLemmas
 pub mod Turning
 pub mod ActiveLemmas
-pub mod Running
 pub mod StartLemmas
 pub mod Borders
 pub mod StartState

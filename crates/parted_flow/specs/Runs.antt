@@ -1,21 +1,17 @@
-use Rattle.std.specs.Prelude.{◌≡◌, ℕ, suc, zero, ◌*◌, ◌<◌, ◌≤◌, ◌||◌, ◌&&◌, ◌-◌, nat_lt, slice_index, Bool, true, false, List}
+use Rattle.std.specs.Prelude.{◌≡◌, ℕ, suc, zero, ◌<◌, ◌≤◌, ◌||◌, ◌&&◌, ◌-◌, nat_lt, slice_index, Bool, true, false, List}
 use Rattle.flow_theory.specs.Flow.{State, pulse, is_active}
 use Rattle.frame_net.specs.FlowNet.{FlowNet, node_count}
 use Rattle.flow_parts.specs.declared.parts.FlowPart.{FlowPart}
 use Rattle.flow_parts.specs.declared.parts.PushPart.{PushPart}
 use Rattle.flow_parts.specs.Delivering.{HoldPushes}
-use Rattle.flow_parts.specs.Parts.{AreFlowParts, ArePushParts, LabelsFit, pairs, cells_of, values_of, Agree, IsSound}
+use Rattle.flow_parts.specs.Parts.{AreFlowParts, ArePushParts, LabelsFit, pairs, cells_of, values_of, Agree}
 
 -- some number below n passes
 abbrev pub any_below : ℕ → (ℕ → Bool) → Bool
 any_below zero p = false
 any_below (suc n) p = any_below n p || p n
 
--- the state after k pulses
-abbrev pub pulses : ℕ → ℕ → State → State
-pulses n zero s = s
-pulses n (suc k) s = pulse n (pulses n k s)
-
+-- some node is active
 abbrev pub any_active : ℕ → State → Bool
 any_active n s = any_below n (is_active n s)
 
@@ -45,11 +41,3 @@ pub record ArePulsed (net : FlowNet) (labels next : List ℕ) (qs us : List Flow
   pub flow : AreFlowParts net 0 us
   pub labelled : LabelsFit net next
   pub agree : Agree (node_count net) (pulse (node_count net) (pairs net (cells_of qs) labels)) (pairs net (cells_of us) next)
-
--- the end of a run of k pulses: the first state without an active node
-pub record IsRun (net : FlowNet) (k : ℕ) (s t : State) : Type 0 where
-  pub state : Agree (node_count net) (pulses (node_count net) k s) t
-  pub sound : IsSound net t
-  pub ended : (v : ℕ) → v < node_count net → is_active (node_count net) t v ≡ false
-  pub not_before : (j : ℕ) → j < k → any_active (node_count net) (pulses (node_count net) j s) ≡ true
-  pub bounded : k ≤ 2 * (node_count net * node_count net)

@@ -5,4 +5,5 @@ pub mod CrewLemmas
 pub mod EventLemmas
 pub mod TurnLemmas
 pub mod PhaseLemmas
-pub mod RunLemmas
+pub mod RelabelLemmas
+pub mod StepLemmas

@@ -5,7 +5,7 @@ use Rattle.flow_theory.specs.Laws.{started}
 use Rattle.frame_net.specs.FlowNet.{FlowNet, node_count, cap_at, IsFlowNet}
 use Rattle.flow_parts.specs.Parts.{Cells, LabelsFit, IsSound, Agree, pair, pairs}
 use Rattle.parted_flow.specs.Marks.{AllMarked}
-use Rattle.parted_flow.specs.Runs.{IsRun}
+use Rattle.exact_labels.specs.Runs.{IsRun}
 use Rattle.pulse.specs.Values.{FlowState, PushState, RunEnd, AreFlowRanges, ArePushRanges}
 
 pub record CellsFit (net : FlowNet) (c : Cells) : Type 0 where
@@ -58,14 +58,18 @@ pub record IsTurnable (f : FlowState) : Type 0 where
   pub unspent : f.spent ≡ false
   pub all : AllMarked (node_count net) (is_marked f)
 
+-- no node is active
+abbrev pub NoneActive : FlowNet → FlowState → Type 0
+NoneActive net f = (v : ℕ) → v < node_count net → is_active (node_count net) (state_of net f) v ≡ false
+
 -- a greatest flow of the network, as a preflow: excess that can't reach the sink stays where it is
 pub record IsMaxPreflow (net : FlowNet) (m : RunEnd) : Type 0 where
   pub fits : IsFlowOf net m.flow
   pub unspent : m.flow.spent ≡ false
   pub preflow : IsPreflow (node_count net) (pair net net.caps) (state_of net m.flow)
   pub valid : IsValid (node_count net) (state_of net m.flow)
-  pub none_active : (v : ℕ) → v < node_count net → is_active (node_count net) (state_of net m.flow) v ≡ false
+  pub none_active : NoneActive net m.flow
 
--- the end of the run from the start, pulse by pulse
+-- the end of the run from the start, pulse by pulse, with exact labels after every N-th pulse that leaves a node active
 abbrev pub IsRunEnd : FlowNet → RunEnd → Type 0
 IsRunEnd net m = IsRun net m.pulses (started (node_count net) (pair net net.caps)) (state_of net m.flow)

@@ -9,25 +9,32 @@
 //! Contracts speak of the state on pairs of nodes (`flow_theory`).
 #![tactic(auto)]
 
+mod active;
 mod crew;
 mod error;
+mod fast_run;
 mod flow;
 mod gate;
 mod marks;
+mod max_preflow;
 mod phases;
 mod pushes;
 mod ranges;
+mod relabel;
 mod run;
+mod steps;
 mod workers;
 
 pub use crew::Crew;
 pub use error::PulseError;
+pub use fast_run::run_with_global_relabeling;
 pub use flow::Flow;
 pub use gate::{OpenGate, PhaseGate};
+pub use max_preflow::MaxPreflow;
 pub use phases::{deliver_phase, read_phase};
 pub use pushes::Pushes;
 pub use ranges::{deliver_range, read_range};
-pub use run::{MaxPreflow, run_to_end};
+pub use run::run_to_end;
 
 #[cfg(test)]
 mod tests;

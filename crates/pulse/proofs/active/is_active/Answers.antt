@@ -5,7 +5,7 @@ use Rattle.flow_parts.specs.Parts.{cells_of, pairs}
 use Rattle.parted_flow.specs.Runs.{any_active}
 use Rattle.pulse.specs.Values.{FlowState}
 use Rattle.pulse.specs.Conditions.{state_of}
-use Rattle.pulse.proofs.run.is_active.Goals as goal
+use Rattle.pulse.proofs.active.is_active.Goals as goal
 use Rattle.pulse.proofs.FlowLemmas.{flow_unspent, parts_seen}
 
 pub any_active_node-requires-clause-parts : goal.any_active_node-requires-clause-parts

@@ -1,0 +1,4 @@
+pub mod ArcLaws
+pub mod WalkLaws
+pub mod DistanceLaws
+pub mod RunLaws

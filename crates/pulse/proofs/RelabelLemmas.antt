@@ -1,0 +1,80 @@
+use Rattle.std.proofs.Common.{◌≡◌, ℕ, ◌%◌, ◌==◌, ◌&&◌, Bool, true, false, List, length, slice_index, refl, sym, ap, ◌∙◌, subst}
+use Rattle.std.proofs.lemmas.Bool.{eq-eqb, ne_eqb, false≢true}
+use Rattle.flow_theory.specs.Flow.{State}
+use Rattle.flow_theory.specs.Laws.{IsDistance}
+use Rattle.frame_net.specs.FlowNet.{FlowNet, node_count, IsFlowNet}
+use Rattle.flow_parts.specs.declared.parts.FlowPart.{FlowPart}
+use Rattle.flow_parts.specs.Parts.{Agree, cells_of, pairs}
+use Rattle.parted_flow.specs.Runs.{any_active}
+use Rattle.parted_flow.proofs.Agreeing.{agree_self, sound_same}
+use Rattle.exact_labels.specs.Distances.{exact}
+use Rattle.exact_labels.specs.Runs.{after_pulse}
+use Rattle.exact_labels.proofs.DistanceLaws.{exact_is}
+use Rattle.exact_labels.proofs.RunLaws.{exact_sound, after-due, after-not}
+use Rattle.pulse.specs.Values.{FlowState, flow_state}
+use Rattle.pulse.specs.Conditions.{IsBetween, state_of}
+use Rattle.pulse.proofs.FlowLemmas.{parts_of, flow_unspent, flow_with}
+
+-- a flow whose labels have become exact
+pub record IsRelabelled (net : FlowNet) (old new : FlowState) : Type 0 where
+  pub between : IsBetween net new
+  pub agree : Agree (node_count net) (exact (node_count net) (state_of net old)) (state_of net new)
+
+relabelled_of : (net : FlowNet) (qs : List FlowPart) (ls next : List ℕ) (ds : List Bool) (cs : List ℕ) → IsFlowNet net → IsBetween net (flow_state qs ls ds cs false) → length next ≡ length ls
+    → IsDistance (node_count net) (pairs net (cells_of qs) ls) (slice_index next) → IsRelabelled net (flow_state qs ls ds cs false) (flow_state qs next ds cs false)
+relabelled_of net qs ls next ds cs ok old size far = record {
+  between = record {
+    fits = flow_with net (flow_state qs ls ds cs false) qs next ds ok old.fits (parts_of net (flow_state qs ls ds cs false) qs ls ds cs false refl refl old.fits)
+        (record { each = size ∙ old.fits.labelled.each; small = far.small }) old.fits.marks;
+    unspent = refl;
+    none = old.none;
+    sound = sound_same net (exact (node_count net) (pairs net (cells_of qs) ls)) (pairs net (cells_of qs) next) ok agree (exact_sound net (pairs net (cells_of qs) ls) ok old.sound);
+  };
+  agree = agree;
+}
+  where
+    agree : Agree (node_count net) (exact (node_count net) (pairs net (cells_of qs) ls)) (pairs net (cells_of qs) next)
+    agree = exact_is (node_count net) (pairs net (cells_of qs) ls) (pairs net (cells_of qs) next) (λ v w h l. refl) (λ v h. refl) far
+
+pub relabelled : (net : FlowNet) (f : FlowState) (qs seen : List FlowPart) (ls lseen next lnow : List ℕ) (ds : List Bool) (cs : List ℕ) (b : Bool) → IsFlowNet net → flow_state qs ls ds cs b ≡ f
+    → seen ≡ qs → lseen ≡ ls → lnow ≡ next → length next ≡ length lseen → IsBetween net f
+    → IsDistance (node_count net) (pairs net (cells_of seen) lseen) (slice_index next) → IsRelabelled net f (flow_state qs lnow ds cs b)
+relabelled net f qs seen ls lseen next lnow ds cs b ok ef es el en size between far =
+    let eb : b ≡ false = flow_unspent f qs ls ds cs b ef between.unspent in
+    let here : flow_state qs ls ds cs false ≡ f = ap (λ (x : Bool). flow_state qs ls ds cs x) (sym eb) ∙ ef in
+    let old : IsBetween net (flow_state qs ls ds cs false) = subst (λ (g : FlowState). IsBetween net g) (sym here) between in
+    let far' : IsDistance (node_count net) (pairs net (cells_of qs) ls) (slice_index next) =
+    subst (λ (x : List ℕ). IsDistance (node_count net) (pairs net (cells_of qs) x) (slice_index next)) el
+    (subst (λ (x : List FlowPart). IsDistance (node_count net) (pairs net (cells_of x) lseen) (slice_index next)) es far) in
+    let done : IsRelabelled net (flow_state qs ls ds cs false) (flow_state qs next ds cs false) = relabelled_of net qs ls next ds cs ok old (size ∙ ap length el) far' in
+    subst (λ (g : FlowState). IsRelabelled net g (flow_state qs lnow ds cs b)) here
+    (subst (λ (x : Bool). IsRelabelled net (flow_state qs ls ds cs false) (flow_state qs lnow ds cs x)) (sym eb)
+    (subst (λ (x : List ℕ). IsRelabelled net (flow_state qs ls ds cs false) (flow_state qs x ds cs false)) (sym en) done))
+
+-- ---- whether exact labels are due
+
+and_both : (a b : Bool) → a ≡ true → b ≡ true → a && b ≡ true
+and_both true b p q = q
+and_both false b p q = absurd (false≢true p)
+
+and_first : (a b : Bool) → a ≡ false → a && b ≡ false
+and_first false b p = refl
+and_first true b p = absurd (false≢true (sym p))
+
+and_second : (a b : Bool) → b ≡ false → a && b ≡ false
+and_second true b q = q
+and_second false b q = refl
+
+pub when_due : (n k m : ℕ) (s t : State) → m ≡ n → k % m ≡ 0 → true ≡ any_active n s → Agree n (exact n s) t → Agree n (after_pulse n k s) t
+when_due n k m s t em due on agree =
+    let e : k % n == 0 ≡ true = eq-eqb (k % n) 0 (ap (λ (x : ℕ). k % x) (sym em) ∙ due) in
+    subst (λ (x : State). Agree n x t) (sym (after-due n k s (and_both (k % n == 0) (any_active n s) e (sym on)))) agree
+
+pub when_not_due : (n k m : ℕ) (s : State) → m ≡ n → (k % m ≡ 0 → ⊥) → Agree n (after_pulse n k s) s
+when_not_due n k m s em other =
+    let e : k % n == 0 ≡ false = ne_eqb (k % n) 0 (λ h. other (ap (λ (x : ℕ). k % x) em ∙ h)) in
+    subst (λ (x : State). Agree n x s) (sym (after-not n k s (and_first (k % n == 0) (any_active n s) e))) (agree_self n s)
+
+pub when_ended : (n k : ℕ) (s : State) → false ≡ any_active n s → Agree n (after_pulse n k s) s
+when_ended n k s off =
+    subst (λ (x : State). Agree n x s) (sym (after-not n k s (and_second (k % n == 0) (any_active n s) (sym off)))) (agree_self n s)

@@ -1,0 +1,19 @@
+use Rattle.std.proofs.Common.{◌≡◌, false, cond}
+use Rattle.flow_theory.specs.Flow.{is_active, sum_below}
+use Rattle.frame_net.specs.FlowNet.{node_count}
+use Rattle.parted_flow.proofs.ActiveLemmas.{work}
+use Rattle.exact_labels.proofs.RunLaws.{Paid}
+use Rattle.pulse.specs.Conditions.{ArePushesOf, IsBetween, state_of}
+use Rattle.pulse.proofs.fast_run.run.Given as goal
+
+abbrev pub invariant-pulses : goal.invariant-pulses
+invariant-pulses g l = record {
+  between : IsBetween l.net l.flow;
+  pushes : ArePushesOf l.net l.pushes;
+  usable : l.pushes.spent ≡ false;
+  paid : Paid l.net l.count (state_of l.net l.flow);
+  counted : l.active.nodes ≡ sum_below (node_count l.net) (λ v. cond (is_active (node_count l.net) (state_of l.net l.flow) v) 1 0);
+}
+
+abbrev pub decreases-pulses : goal.decreases-pulses
+decreases-pulses g l = work (node_count l.net) (state_of l.net l.flow)

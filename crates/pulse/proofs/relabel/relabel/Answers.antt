@@ -1,0 +1,27 @@
+use Rattle.std.proofs.Common.{arith, ap, ◌∙◌, length}
+use Rattle.std.specs.Vec.{with_items}
+use Rattle.std.proofs.lemmas.List.{with_items_is}
+use Rattle.pulse.specs.Values.{FlowState}
+use Rattle.pulse.proofs.FlowLemmas.{flow_unspent, parts_seen}
+use Rattle.pulse.proofs.RelabelLemmas.{relabelled}
+use Rattle.pulse.proofs.relabel.relabel.Goals as goal
+
+pub exact_labels-requires-clause-parts : goal.exact_labels-requires-clause-parts
+exact_labels-requires-clause-parts c =
+    parts_seen c.args.net.now c.args.flow.now c.flow.inside.parts.items c.as_slice.result.now c.flow.inside.labels.items c.flow.inside.delivered.items c.flow.inside.caps.items c.flow.inside.spent c.flow.view_is
+    c.as_slice.ensures.value (flow_unspent c.args.flow.now c.flow.inside.parts.items c.flow.inside.labels.items c.flow.inside.delivered.items c.flow.inside.caps.items c.flow.inside.spent c.flow.view_is c.requires.flow.unspent) c.requires.flow.fits
+
+pub exact_labels-requires-clause-labels : goal.exact_labels-requires-clause-labels
+exact_labels-requires-clause-labels c = ap length c.as_mut_slice.ensures.value ∙ ap (λ (f : FlowState). length f.labels) c.flow.view_is ∙ c.requires.flow.fits.labelled.each
+
+pub returns-clause-flow : goal.returns-clause-flow
+returns-clause-flow c =
+    (relabelled c.args.net.now c.args.flow.now c.flow.inside.parts.items c.as_slice.result.now c.flow.inside.labels.items c.as_mut_slice.result.now c.exact_labels.new.labels (with_items c.flow.inside.labels c.exact_labels.new.labels).items
+    c.flow.inside.delivered.items c.flow.inside.caps.items c.flow.inside.spent c.nodes-nodes.ensures.network c.flow.view_is c.as_slice.ensures.value c.as_mut_slice.ensures.value
+    (with_items_is c.flow.inside.labels c.exact_labels.new.labels (omega arith)) (omega arith) c.requires.flow c.exact_labels.ensures).between
+
+pub returns-clause-exact : goal.returns-clause-exact
+returns-clause-exact c =
+    (relabelled c.args.net.now c.args.flow.now c.flow.inside.parts.items c.as_slice.result.now c.flow.inside.labels.items c.as_mut_slice.result.now c.exact_labels.new.labels (with_items c.flow.inside.labels c.exact_labels.new.labels).items
+    c.flow.inside.delivered.items c.flow.inside.caps.items c.flow.inside.spent c.nodes-nodes.ensures.network c.flow.view_is c.as_slice.ensures.value c.as_mut_slice.ensures.value
+    (with_items_is c.flow.inside.labels c.exact_labels.new.labels (omega arith)) (omega arith) c.requires.flow c.exact_labels.ensures).agree

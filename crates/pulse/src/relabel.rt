@@ -1,0 +1,49 @@
+//! Exact labels between two pulses: global relabeling.
+ghost use Rattle.std.specs.Prelude.{◌≡◌, IfOk, length};
+ghost use Rattle.frame_net.specs.FlowNet.{node_count};
+ghost use Rattle.flow_parts.specs.Parts.{Agree};
+ghost use Rattle.exact_labels.specs.Distances.{exact};
+ghost use Rattle.exact_labels.specs.Runs.{after_pulse};
+ghost use Rattle.pulse.specs.Conditions.{IsBetween, state_of};
+
+use crate::active::is_active;
+use crate::flow::Flow;
+use exact_labels::exact_labels;
+use frame_net::Net;
+use std::alloc::{AllocError, Global};
+
+/// Room for all nodes, for the walks that find exact labels.
+pub(crate) fn queue_for(alloc: Global, net: &Net) -> Result<Vec<u32>, AllocError>
+    ensures { IfOk result (λ queue. length queue.items ≡ node_count net.now) }
+{
+    vec![in alloc; 0u32; net.nodes() as usize]
+}
+
+/// Each label becomes the residual distance to the sink, or the number of nodes where there is none.
+pub(crate) fn relabel(net: &Net, flow: &mut Flow, queue: &mut [u32])
+    requires flow { IsBetween net.now flow.old }
+    requires queue { length queue.old ≡ node_count net.now }
+    ensures flow { IsBetween net.now flow.new }
+    ensures exact { Agree (node_count net.now) (exact (node_count net.now) (state_of net.now flow.old)) (state_of net.now flow.new) }
+{
+    let _nodes = net.nodes();
+    exact_labels(
+        net,
+        flow.parts.as_slice(),
+        flow.labels.as_mut_slice(),
+        queue,
+    );
+}
+
+/// What follows pulse number `count` of a run: after every N-th pulse for N nodes that leaves a node active the labels become exact.
+pub(crate) fn relabel_when_due(net: &Net, flow: &mut Flow, queue: &mut [u32], count: u64)
+    requires flow { IsBetween net.now flow.old }
+    requires queue { length queue.old ≡ node_count net.now }
+    ensures flow { IsBetween net.now flow.new }
+    ensures after { Agree (node_count net.now) (after_pulse (node_count net.now) count (state_of net.now flow.old)) (state_of net.now flow.new) }
+{
+    let nodes = u64::from(net.nodes());
+    if count % nodes == 0 && is_active(net, flow) {
+        relabel(net, flow, queue);
+    }
+}
