@@ -1,0 +1,4 @@
+pub mod Names
+pub mod Frames
+pub mod Retiming
+pub mod Laws

@@ -1,0 +1,8 @@
+//! Frames, one after another, and their laws: what a circuit is retimed to is one, and the latches that names hold stay.
+#![tactic(auto)]
+
+mod laws;
+mod report;
+
+pub use laws::{held_laws, retiming_law};
+pub use report::{FrameReport, Retimed};
