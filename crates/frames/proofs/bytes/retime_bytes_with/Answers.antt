@@ -1,0 +1,4 @@
+use Rattle.frames.proofs.bytes.retime_bytes_with.Goals as goal
+
+pub returns-clause-answer : goal.returns-clause-answer
+returns-clause-answer g c = record { spelt = c.in_ok-spelt.spelt; read = c.in_ok-spelt.ensures.circuit; written = c.in_ok-retimed.ensures.ok }

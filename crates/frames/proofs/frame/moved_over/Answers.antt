@@ -1,0 +1,53 @@
+use Rattle.std.proofs.Common.{ℕ, List, ◌≤◌, ◌≡◌, ◌∙◌, None, arith, ap, sym, subst}
+use Rattle.aig_graph.specs.declared.literal.TheConstants.{MAX_VARIABLES}
+use Rattle.aig_graph.specs.Circuits.{Network}
+use Rattle.aig_graph.specs.Keep.{first_missing}
+use Rattle.aig_graph.specs.Move.{move_of}
+use Rattle.aig_graph.proofs.GraphLemmas.{room}
+use Rattle.rebuild.specs.Moved.{moved_of, moved_size}
+use Rattle.frame_laws.specs.Names.{held_latches}
+use Rattle.frame_laws.specs.Frames.{CleansIn, count_in, moved_in}
+use Rattle.frame_laws.proofs.HeldLaws.{moving-keeps}
+use Rattle.frame_laws.proofs.NameLaws.{names-stay}
+use Rattle.frames.specs.Named.{names_in}
+use Rattle.frames.proofs.FrameLaws.{streams-through}
+use Rattle.frames.proofs.frame.moved_over.Goals as goal
+
+pub moved-requires-clause-room : goal.moved-requires-clause-room
+moved-requires-clause-room c =
+    let before = c.args.circuit.now in
+    let set = c.args.set.now in
+    let P : List ℕ → Type 0 = λ held. moved_size (move_of before held set) ≤ MAX_VARIABLES in
+    subst P (sym c.requires.keep) (room before.aig (count_in (names_in c.args.options.now) before set) c.requires.graph (omega (arith, c.requires.helps.fewer)))
+
+pub held-requires : goal.held-requires
+held-requires c =
+    let names = names_in c.args.options.now in
+    let before = c.args.circuit.now in
+    let set = c.args.set.now in
+    let P : Network → Type 0 = λ d. first_missing d.symbols.latches names ≡ None in
+    let same : c.in_ok-after.after ≡ moved_in names before set = c.in_ok-after.ensures.value ∙ ap (λ (held : List ℕ). moved_of (move_of before held set)) c.requires.keep in
+    subst P (sym same) (names-stay names before (moved_in names before set) (moving-keeps names before set c.aig-aig.ensures.network) c.requires.names)
+
+pub returns-clause-cleaned : goal.returns-clause-cleaned
+returns-clause-cleaned c =
+    let names = names_in c.args.options.now in
+    let before = c.args.circuit.now in
+    let set = c.args.set.now in
+    let d = c.in_ok-left.left in
+    let same : c.in_ok-after.after ≡ moved_in names before set = c.in_ok-after.ensures.value ∙ ap (λ (held : List ℕ). moved_of (move_of before held set)) c.requires.keep in
+    let P : Network → Type 0 = λ e. CleansIn names e d.circuit d.kept_free in
+    subst P same c.in_ok-left.ensures.cleaned
+
+pub returns-clause-streams : goal.returns-clause-streams
+returns-clause-streams c =
+    let d = c.in_ok-left.left in
+    streams-through c.args.circuit.now c.in_ok-after.after d.circuit d.kept_free c.in_ok-after.ensures.streams c.in_ok-left.ensures.streams
+
+pub returns-clause-held : goal.returns-clause-held
+returns-clause-held c =
+    let names = names_in c.args.options.now in
+    let before = c.args.circuit.now in
+    let set = c.args.set.now in
+    let same : c.in_ok-after.after ≡ moved_in names before set = c.in_ok-after.ensures.value ∙ ap (λ (held : List ℕ). moved_of (move_of before held set)) c.requires.keep in
+    c.in_ok-left.ensures.held ∙ ap (held_latches names) same ∙ moving-keeps names before set c.aig-aig.ensures.network

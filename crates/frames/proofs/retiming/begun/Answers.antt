@@ -1,0 +1,18 @@
+use Rattle.std.proofs.Common.{length, List, [], ap, sym, subst, ◌∙◌}
+use Rattle.aig_graph.specs.Graph.{Graph}
+use Rattle.frame_laws.specs.declared.report.FrameReport.{FrameReport}
+use Rattle.frame_laws.specs.Frames.{AfterFrames, cleaned}
+use Rattle.frames.specs.Named.{names_in}
+use Rattle.frames.proofs.retiming.begun.Goals as goal
+
+pub returns : goal.returns
+returns c =
+    let names = names_in c.args.options.now in
+    let d = c.in_ok-start.start in
+    let P : List FrameReport → Type 0 = λ reports. AfterFrames names c.args.circuit.now 0 d.circuit d.kept_free reports in
+    record {
+      frames = subst P (sym c.empty.ensures) (cleaned d.circuit d.kept_free c.in_ok-start.ensures.cleaned);
+      read_latches = ap length (c.latches.ensures.value ∙ ap (λ (g : Graph). g.latches) c.aig.ensures.value);
+      streams = c.in_ok-start.ensures.streams;
+      held = c.in_ok-start.ensures.held;
+    }

@@ -1,0 +1,37 @@
+use Rattle.std.proofs.Common.{◌+◌, ◌≡◌, Option, None, suc, arith, subst, ℕ}
+use Rattle.std.specs.Option.{MatchOption}
+use Rattle.frame_laws.specs.Frames.{NoneSmaller}
+use Rattle.frame_laws.proofs.NameLaws.{names-stay}
+use Rattle.frames.specs.declared.frame.Frame.{Frame}
+use Rattle.frames.specs.Found.{Moves}
+use Rattle.frames.specs.Named.{names_in}
+use Rattle.frames.specs.Underway.{IsUnderway}
+use Rattle.frames.proofs.FrameLaws.{ended}
+use Rattle.frames.proofs.retiming.retime_held.Goals as goal
+
+pub loop-init : goal.loop-init
+loop-init g c = c.in_ok-retimed.ensures
+
+pub next_frame-requires-after_bounds : goal.next_frame-requires-after_bounds
+next_frame-requires-after_bounds g c κs within = names-stay (names_in c.args.options.now) c.args.circuit.now c.loop.retimed.circuit c.loop.invariant.held c.requires.names
+
+pub after_frame-requires-clause-underway : goal.after_frame-requires-clause-underway
+after_frame-requires-clause-underway g c = (c.args.circuit.now, c.loop.counter, c.loop.invariant)
+
+pub returns-in-None : goal.returns-in-None
+returns-in-None g c =
+    let names = names_in c.args.options.now in
+    let P : Option Frame → Type 0 = λ found. MatchOption found (NoneSmaller names c.loop.retimed.circuit) (Moves names c.loop.retimed.circuit) in
+    let none : NoneSmaller names c.loop.retimed.circuit = subst P c.in-None.is c.in_ok-frame.ensures in
+    ended names c.args.circuit.now c.loop.counter c.args.options.now.max_frames c.loop.retimed c.loop.invariant c.loop.auto.counter-end (λ less. none)
+
+pub loop-preserved : goal.loop-preserved
+loop-preserved g c =
+    let P : ℕ → Type 0 = λ n. IsUnderway (names_in c.args.options.now) c.args.circuit.now n c.in_ok-retimed-in-Some.retimed in
+    let next : suc c.loop.counter ≡ c.loop.counter + 1 = omega arith in
+    subst P next (c.in_ok-retimed-in-Some.ensures c.args.circuit.now c.loop.counter c.loop.invariant)
+
+pub returns : goal.returns
+returns g c =
+    ended (names_in c.args.options.now) c.args.circuit.now c.loop.counter c.args.options.now.max_frames c.loop.retimed c.loop.invariant c.loop.auto.counter-end
+    (λ less. absurd (omega (arith, c.loop-test.false, less)))

@@ -1,0 +1,61 @@
+-- What becomes of a reader's bytes: the retimed circuit of those bytes, whose text is written, or an error.
+use Rattle.std.specs.Prelude.{ℕ, ◌≡◌, List, Some, unwrap_or}
+use Rattle.counted_io.specs.Input.{Input}
+use Rattle.counted_io.specs.Output.{Output, WritesAll, WritesPart}
+use Rattle.aig_graph.specs.Keep.{first_missing}
+use Rattle.spellings.specs.Spellings.{text_in}
+use Rattle.piece_reading.specs.declared.reading.SpeltCircuit.{SpeltCircuit}
+use Rattle.piece_reading.specs.Ending.{ReadsToEnd, Spells, IsReadError}
+use Rattle.frame_laws.specs.declared.report.Retimed.{Retimed}
+use Rattle.frame_laws.specs.Retiming.{IsRetimed}
+use Rattle.frames.specs.declared.errors.BytesError.{BytesError}
+use Rattle.frames.specs.declared.errors.BytesError.TheVariants.{Read, Retime, Write}
+use Rattle.frames.specs.declared.errors.RetimeError.TheVariants.{NoMemory, NoSuchName}
+use Rattle.frames.specs.declared.options.Options.{Options}
+use Rattle.frames.specs.Named.{NoneMissing, names_in}
+
+-- the text of a retimed circuit in the chosen spelling, else in that of the circuit that was read
+abbrev pub text_for : Options → SpeltCircuit → Retimed → List ℕ
+text_for options spelt r = text_in (unwrap_or options.spelling spelt.spelling) r.circuit
+
+-- the circuit that was read has latches of all names, and this is it retimed
+pub record IsAnswer (options : Options) (spelt : SpeltCircuit) (r : Retimed) : Type 0 where
+  pub names : NoneMissing options spelt.circuit
+  pub retimed : IsRetimed spelt.circuit (names_in options) options.max_frames r
+
+-- the text of the answer was written whole, and nothing else
+pub record IsWritten (options : Options) (spelt : SpeltCircuit) (old new : Output) (r : Retimed) : Type 0 where
+  pub answer : IsAnswer options spelt r
+  pub writes : WritesAll old new (text_for options spelt r)
+
+-- a write failed behind a beginning of the answer
+pub record StopsWriting (options : Options) (spelt : SpeltCircuit) (old new : Output) : Type 0 where
+  pub retimed : Retimed
+  pub answer : IsAnswer options spelt retimed
+  pub writes : WritesPart old new (text_for options spelt retimed)
+
+-- why the circuit that was read wasn't retimed and written; nothing is written before the answer is whole
+abbrev pub IsStop : Options → SpeltCircuit → Output → Output → BytesError → Type 0
+IsStop options spelt old new (Read e) = ⊥
+IsStop options spelt old new (Retime NoMemory) = new ≡ old
+IsStop options spelt old new (Retime (NoSuchName place)) = (new ≡ old) × (first_missing spelt.circuit.symbols.latches (names_in options) ≡ Some place)
+IsStop options spelt old new (Write e) = StopsWriting options spelt old new
+
+-- the bytes that were left are those of a circuit in a spelling, and its answer was written
+pub record IsAnswered (input : Input) (old new : Output) (options : Options) (r : Retimed) : Type 0 where
+  pub spelt : SpeltCircuit
+  pub read : Spells input spelt
+  pub written : IsWritten options spelt old new r
+
+-- the bytes were read to their end, and are those of a circuit in a spelling, but there is no whole answer
+pub record IsStopped (options : Options) (old new : Input) (before after : Output) (e : BytesError) : Type 0 where
+  pub read : ReadsToEnd old new
+  pub spelt : SpeltCircuit
+  pub spells : Spells old spelt
+  pub stop : IsStop options spelt before after e
+
+-- why there is no answer
+abbrev pub IsBytesError : Options → Input → Input → Output → Output → BytesError → Type 0
+IsBytesError options old new before after (Read e) = IsReadError old new e × (after ≡ before)
+IsBytesError options old new before after (Retime e) = IsStopped options old new before after (Retime e)
+IsBytesError options old new before after (Write e) = IsStopped options old new before after (Write e)

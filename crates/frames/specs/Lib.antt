@@ -1,0 +1,5 @@
+pub mod Codes
+pub mod Named
+pub mod Found
+pub mod Underway
+pub mod Answering

@@ -1,0 +1,76 @@
+//! From a reader's bytes to a writer's.
+ghost use Rattle.std.specs.Prelude.{◌≡◌, [], IfOk, OnOk, IfErr};
+ghost use Rattle.piece_reading.specs.Ending.{ReadsToEnd};
+ghost use Rattle.counted_io.specs.Output.{Writes};
+ghost use Rattle.frames.specs.Answering.{IsAnswered, IsBytesError, IsStop, IsWritten, text_for};
+
+use crate::errors::BytesError;
+use crate::options::Options;
+use crate::retiming::retime;
+use counted_io::{CountedRead, CountedWrite, WriteError};
+use frame_laws::Retimed;
+use piece_reading::{CircuitReader, SpeltCircuit, read_circuit};
+use pulse::{Crew, PhaseGate};
+use spellings::write;
+use std::alloc::Global;
+use std::thread::Threads;
+
+/// Writes the retimed circuit in the chosen spelling, else in that of the circuit that was read.
+fn write_answer<W: CountedWrite>(
+    retimed: &Retimed,
+    spelt: &SpeltCircuit,
+    writer: &mut W,
+    options: &Options,
+) -> Result<(), WriteError>
+    ensures { Writes (W.output writer.old) (W.output writer.new) result (text_for options.now spelt.now retimed.now) }
+{
+    let spelling = options.spelling.unwrap_or(spelt.spelling);
+    write(&retimed.circuit, spelling, writer)
+}
+
+/// Retimes the circuit that was read, and writes it.
+fn retime_spelt<W: CountedWrite, G: PhaseGate>(
+    rt: &(impl Threads + Sync),
+    alloc: Global,
+    spelt: &SpeltCircuit,
+    writer: &mut W,
+    options: &Options,
+    crew: &Crew<G>,
+) -> Result<Retimed, BytesError>
+    ensures ok { IfOk result (IsWritten options.now spelt.now (W.output writer.old) (W.output writer.new)) }
+    ensures err { IfErr result (IsStop options.now spelt.now (W.output writer.old) (W.output writer.new)) }
+{
+    let retimed = retime(rt, alloc, &spelt.circuit, options, crew)?;
+    write_answer(&retimed, spelt, writer, options)?;
+    Ok(retimed)
+}
+
+/// Reads a circuit to the end of the reader, by a reader of circuits that has been fed nothing yet, retimes it, and writes it in
+/// the chosen spelling, else in that of the bytes.
+///
+/// The reader is read to its end in pieces of at most 65536 bytes, also after a fault of the bytes, and no copy of them is kept.
+/// Nothing is written before the whole answer is there. The text that is written rests on the bytes and the options alone.
+///
+/// # Errors
+///
+/// `Read` where a read failed, where memory ran out before there was a circuit, and where the bytes are none; `Retime` where a
+/// name is that of no latch of the circuit, or memory ran out after that; `Write` where a write failed: a beginning of the text
+/// was written then.
+pub fn retime_bytes_with<R: CountedRead, W: CountedWrite, C: CircuitReader, G: PhaseGate>(
+    rt: &(impl Threads + Sync),
+    alloc: Global,
+    reader: &mut R,
+    circuits: &mut C,
+    writer: &mut W,
+    options: &Options,
+    crew: &Crew<G>,
+) -> Result<Retimed, BytesError>
+    requires { C.holds circuits.old [] }
+    ensures read { OnOk result (ReadsToEnd (R.input reader.old) (R.input reader.new)) }
+    ensures answer { IfOk result (IsAnswered (R.input reader.old) (W.output writer.old) (W.output writer.new) options.now) }
+    ensures err { IfErr result (IsBytesError options.now (R.input reader.old) (R.input reader.new) (W.output writer.old) (W.output writer.new)) }
+{
+    let spelt = read_circuit(reader, circuits)?;
+    let retimed = retime_spelt(rt, alloc, &spelt, writer, options, crew)?;
+    Ok(retimed)
+}

@@ -1,0 +1,113 @@
+ghost use Rattle.std.specs.Prelude.{◌≡◌};
+
+use aag_format::ReadError;
+use aig_graph::{KeepError, NoMemory};
+use counted_io::WriteError;
+use thiserror::Error;
+
+/// Why a circuit wasn't retimed.
+#[derive(Clone, Copy, Debug, PartialEq, Eq, Error)]
+pub enum RetimeError {
+    /// Out of memory.
+    #[error("out of memory")]
+    NoMemory,
+    /// The name at this place, from 0, of those whose latches are to be held is the first that no latch has.
+    #[error("no latch has name {0}")]
+    NoSuchName(usize),
+}
+
+impl RetimeError {
+    ghost use Rattle.frames.specs.Codes.{retime_error_code};
+
+    /// The number of the error.
+    pub fn code(self) -> u8
+        ensures { result ≡ retime_error_code self }
+    {
+        match self {
+            RetimeError::NoMemory => 1,
+            RetimeError::NoSuchName(_) => 2,
+        }
+    }
+}
+
+impl From<NoMemory> for RetimeError {
+    ghost use Rattle.frames.specs.declared.errors.RetimeError.TheVariants as errors;
+
+    ghost from_gives = { λ _ e. e ≡ errors.NoMemory };
+
+    fn from(_error: NoMemory) -> RetimeError {
+        RetimeError::NoMemory
+    }
+}
+
+impl From<KeepError> for RetimeError {
+    ghost use Rattle.frames.specs.Codes.{of_keep_error};
+
+    ghost from_gives = { λ error e. e ≡ of_keep_error error };
+
+    fn from(error: KeepError) -> RetimeError {
+        match error {
+            KeepError::NoMemory => RetimeError::NoMemory,
+            KeepError::NoSuchName(place) => RetimeError::NoSuchName(place),
+        }
+    }
+}
+
+/// Why a reader's bytes weren't retimed and written.
+#[derive(Clone, Copy, Debug, PartialEq, Eq, Error)]
+pub enum BytesError {
+    /// The bytes are no circuit, or can't be read.
+    #[error("{0}")]
+    Read(ReadError),
+    /// The circuit wasn't retimed.
+    #[error("{0}")]
+    Retime(RetimeError),
+    /// The text wasn't written whole.
+    #[error("{0}")]
+    Write(WriteError),
+}
+
+impl From<ReadError> for BytesError {
+    ghost use Rattle.frames.specs.declared.errors.BytesError.TheVariants.{Read};
+
+    ghost from_gives = { λ error e. e ≡ Read error };
+
+    fn from(error: ReadError) -> BytesError {
+        BytesError::Read(error)
+    }
+}
+
+impl From<RetimeError> for BytesError {
+    ghost use Rattle.frames.specs.declared.errors.BytesError.TheVariants.{Retime};
+
+    ghost from_gives = { λ error e. e ≡ Retime error };
+
+    fn from(error: RetimeError) -> BytesError {
+        BytesError::Retime(error)
+    }
+}
+
+impl From<WriteError> for BytesError {
+    ghost use Rattle.frames.specs.declared.errors.BytesError.TheVariants.{Write};
+
+    ghost from_gives = { λ error e. e ≡ Write error };
+
+    fn from(error: WriteError) -> BytesError {
+        BytesError::Write(error)
+    }
+}
+
+impl BytesError {
+    ghost use Rattle.frames.specs.Codes.{bytes_error_code};
+
+    /// The number of the kind of error.
+    pub fn code(self) -> u8
+        ensures { result ≡ bytes_error_code self }
+    {
+        match self {
+            BytesError::Read(_) => 1,
+            BytesError::Retime(_) => 2,
+            BytesError::Write(_) => 3,
+        }
+    }
+}

@@ -1,0 +1,74 @@
+//! One frame: the latches of a cleaned circuit move over its greatest least set, and the circuit is cleaned again.
+ghost use Rattle.std.specs.Prelude.{◌≡◌, IfOk, MatchOption};
+ghost use Rattle.aig_graph.specs.Graph.{IsGraph};
+ghost use Rattle.aig_graph.specs.Streams.{SameStreams};
+ghost use Rattle.frame_laws.specs.Frames.{CleansIn, IsHelpingSet, NoneSmaller, moved_in};
+ghost use Rattle.frame_laws.specs.Names.{held_in, held_latches};
+ghost use Rattle.frames.specs.Found.{Moves};
+ghost use Rattle.frames.specs.Named.{NoneMissing, names_in};
+
+use crate::helping::helping_set;
+use crate::holding::{cleaned, held};
+use crate::options::Options;
+use aig_graph::{Circuit, ClosedSet, Keep, NoMemory};
+use clean::Cleaned;
+use frame_laws::FrameReport;
+use pulse::{Crew, PhaseGate};
+use rebuild::moved;
+use std::alloc::Global;
+use std::thread::Threads;
+
+/// The circuit that a frame makes, and its report.
+#[derive(Drop)]
+pub(crate) struct Frame {
+    pub cleaned: Cleaned,
+    pub report: FrameReport,
+}
+
+/// The circuit with its latches moved over the set, cleaned.
+fn moved_over(
+    alloc: Global,
+    circuit: &Circuit,
+    keep: &Keep,
+    set: &ClosedSet,
+    options: &Options,
+) -> Result<Cleaned, NoMemory>
+    requires keep { keep.now ≡ held_in (names_in options.now) circuit.now }
+    requires names { NoneMissing options.now circuit.now }
+    requires graph { IsGraph circuit.now.aig }
+    requires helps { IsHelpingSet (names_in options.now) circuit.now set.now }
+    ensures cleaned { IfOk result (λ d. CleansIn (names_in options.now) (moved_in (names_in options.now) circuit.now set.now) d.circuit d.kept_free) }
+    ensures streams { IfOk result (λ d. SameStreams circuit.now d.circuit d.kept_free) }
+    ensures held { IfOk result (λ d. held_latches (names_in options.now) d.circuit ≡ held_latches (names_in options.now) circuit.now) }
+{
+    let _aig = circuit.aig();
+    let after = moved(alloc, circuit, set, keep)?;
+    let still_held = held(alloc, &after, options)?;
+    let left = cleaned(alloc, &after, &still_held, options)?;
+    Ok(left)
+}
+
+/// The frame of a circuit, where one makes fewer latches.
+pub(crate) fn next_frame<G: PhaseGate>(
+    rt: &(impl Threads + Sync),
+    alloc: Global,
+    circuit: &Circuit,
+    options: &Options,
+    crew: &Crew<G>,
+) -> Result<Option<Frame>, NoMemory>
+    requires { NoneMissing options.now circuit.now }
+    ensures { IfOk result (λ found. MatchOption found (NoneSmaller (names_in options.now) circuit.now) (Moves (names_in options.now) circuit.now)) }
+{
+    let _aig = circuit.aig();
+    let keep = held(alloc, circuit, options)?;
+    match helping_set(rt, alloc, circuit, &keep, options, crew)? {
+        Some(found) => {
+            let cleaned = moved_over(alloc, circuit, &keep, &found.set, options)?;
+            Ok(Some(Frame {
+                cleaned,
+                report: found.report,
+            }))
+        }
+        None => Ok(None),
+    }
+}

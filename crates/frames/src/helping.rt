@@ -1,0 +1,70 @@
+//! The greatest least set of a circuit, where it needs fewer latches.
+ghost use Rattle.std.specs.Prelude.{◌≡◌, IfOk, MatchOption};
+ghost use Rattle.aig_graph.specs.Border.{IsGreatestLeast};
+ghost use Rattle.frame_laws.specs.Frames.{NoneSmaller};
+ghost use Rattle.frame_laws.specs.Names.{held_in};
+ghost use Rattle.frames.specs.Found.{Helps};
+ghost use Rattle.frames.specs.Named.{names_in};
+
+use crate::options::Options;
+use aig_graph::{Circuit, ClosedSet, Keep, NoMemory, count};
+use cut_cert::greatest_cut;
+use frame_laws::FrameReport;
+use frame_net::{Net, passable};
+use pulse::{Crew, PhaseGate, PulseError, run_to_end};
+use std::alloc::Global;
+use std::thread::Threads;
+
+/// A closed set over which a circuit has fewer latches, and what its frame is reported as.
+#[derive(Drop)]
+pub(crate) struct Helping {
+    pub set: ClosedSet,
+    pub report: FrameReport,
+}
+
+/// The greatest least set. What was made to find it is dropped.
+fn greatest_least<G: PhaseGate>(
+    rt: &(impl Threads + Sync),
+    alloc: Global,
+    circuit: &Circuit,
+    keep: &Keep,
+    crew: &Crew<G>,
+) -> Result<ClosedSet, NoMemory>
+    ensures { IfOk result (IsGreatestLeast circuit.now keep.now) }
+{
+    let pass = passable(alloc, circuit.aig(), keep)?;
+    let net = Net::build(alloc, circuit.aig(), circuit.props(), &pass, keep)?;
+    // That a network has a point for each side of a gate is what its reader ensures.
+    let _nodes = net.nodes();
+    let _source = net.point(0);
+    match run_to_end(rt, alloc, &net, crew) {
+        Ok(preflow) => greatest_cut(alloc, &net, &preflow),
+        Err(PulseError::NoMemory) => Err(NoMemory),
+    }
+}
+
+/// The greatest least set, with its report, where it counts less than the circuit has known latches.
+pub(crate) fn helping_set<G: PhaseGate>(
+    rt: &(impl Threads + Sync),
+    alloc: Global,
+    circuit: &Circuit,
+    keep: &Keep,
+    options: &Options,
+    crew: &Crew<G>,
+) -> Result<Option<Helping>, NoMemory>
+    requires { keep.now ≡ held_in (names_in options.now) circuit.now }
+    ensures { IfOk result (λ found. MatchOption found (NoneSmaller (names_in options.now) circuit.now) (Helps (names_in options.now) circuit.now)) }
+{
+    let set = greatest_least(rt, alloc, circuit, keep, crew)?;
+    let _aig = circuit.aig();
+    let report = FrameReport {
+        before: circuit.aig().known_latches(),
+        after: count(alloc, circuit, &set, keep)?,
+        moved: set.vars().len() as u32,
+    };
+    if report.after < report.before {
+        Ok(Some(Helping { set, report }))
+    } else {
+        Ok(None)
+    }
+}

@@ -1,0 +1,20 @@
+//! Minimum-register forward retiming, frame after frame: the latches of a cleaned circuit move over its greatest least set, and
+//! the circuit is cleaned again, until no closed set needs fewer latches (Hurst, Mishchenko and Brayton, 2007).
+#![tactic(auto)]
+
+mod bytes;
+mod errors;
+mod frame;
+mod helping;
+mod holding;
+mod options;
+mod retiming;
+
+pub use bytes::retime_bytes_with;
+pub use errors::{BytesError, RetimeError};
+pub use frame_laws::{FrameReport, Retimed};
+pub use options::Options;
+pub use retiming::retime;
+
+#[cfg(test)]
+mod tests;

@@ -1,0 +1,12 @@
+use spellings::Spelling;
+
+/// How a circuit is retimed.
+#[derive(Drop)]
+pub struct Options {
+    /// The spelling of the text that is written; none is that of the bytes that were read.
+    pub spelling: Option<Spelling>,
+    /// How many frames are taken at most; 0 takes none, and the circuit is cleaned alone.
+    pub max_frames: u32,
+    /// The latches whose symbol has one of these names are held: they stay, with their resets and names.
+    pub keep: Vec<Vec<u8>>,
+}

@@ -1,0 +1,135 @@
+//! Frame after frame.
+ghost use Rattle.std.specs.Prelude.{ℕ, ◌≡◌, ◌++◌, ◌∷◌, [], suc, IfOk, OnOk, IsErrOf, None, Some};
+ghost use Rattle.aig_graph.specs.Circuits.{Network};
+ghost use Rattle.aig_graph.specs.Keep.{first_missing};
+ghost use Rattle.frame_laws.specs.Names.{held_in};
+ghost use Rattle.frame_laws.specs.Retiming.{IsRetimed};
+ghost use Rattle.frames.specs.Found.{Moves};
+ghost use Rattle.frames.specs.Named.{NoneMissing, names_in};
+ghost use Rattle.frames.specs.Underway.{IsUnderway};
+ghost use Rattle.frames.specs.declared.errors.RetimeError.TheVariants.{NoSuchName};
+
+use crate::errors::RetimeError;
+use crate::frame::{Frame, next_frame};
+use crate::holding::cleaned;
+use crate::options::Options;
+use aig_graph::{Circuit, Keep, NoMemory, Sequence, keep_of};
+use clean::{Cleaned, composed};
+use frame_laws::{FrameReport, Retimed};
+use pulse::{Crew, PhaseGate};
+use std::alloc::Global;
+use std::thread::Threads;
+
+/// The circuit before any frame: cleaned.
+fn begun(
+    alloc: Global,
+    circuit: &Circuit,
+    keep: &Keep,
+    options: &Options,
+) -> Result<Retimed, NoMemory>
+    requires { keep.now ≡ held_in (names_in options.now) circuit.now }
+    ensures { IfOk result (IsUnderway (names_in options.now) circuit.now 0) }
+{
+    let read_latches = circuit.aig().latches().len() as u32;
+    let start = cleaned(alloc, circuit, keep, options)?;
+    let Cleaned {
+        circuit: left,
+        kept_free,
+    } = start;
+    Ok(Retimed {
+        circuit: left,
+        kept_free,
+        read_latches,
+        frames: Sequence::empty(alloc),
+    })
+}
+
+/// The reports, and one more.
+fn with_report(
+    frames: Sequence<FrameReport>,
+    report: FrameReport,
+) -> Result<Sequence<FrameReport>, NoMemory>
+    ensures { IfOk result (λ all. all ≡ frames ++ report ∷ []) }
+{
+    let mut all = frames.into_vec();
+    all.push(report)?;
+    Ok(Sequence::from_vec(all))
+}
+
+/// What one more frame makes of a retimed circuit.
+fn after_frame(
+    alloc: Global,
+    retimed: Retimed,
+    frame: Frame,
+    options: &Options,
+) -> Result<Retimed, NoMemory>
+    requires underway { (c : Network) × (n : ℕ) × IsUnderway (names_in options.now) c n retimed }
+    requires moves { Moves (names_in options.now) retimed.circuit frame }
+    ensures { IfOk result (λ after. (c : Network) (n : ℕ) → IsUnderway (names_in options.now) c n retimed → IsUnderway (names_in options.now) c (suc n) after) }
+{
+    let Frame { cleaned, report } = frame;
+    let Retimed {
+        kept_free,
+        read_latches,
+        frames,
+        ..
+    } = retimed;
+    let left = composed(alloc, kept_free.as_slice(), cleaned.kept_free.as_slice())?;
+    let frames = with_report(frames, report)?;
+    Ok(Retimed {
+        circuit: cleaned.circuit,
+        kept_free: Sequence::from_vec(left),
+        read_latches,
+        frames,
+    })
+}
+
+/// The circuit cleaned, and then retimed frame by frame.
+fn retime_held<G: PhaseGate>(
+    rt: &(impl Threads + Sync),
+    alloc: Global,
+    circuit: &Circuit,
+    keep: &Keep,
+    options: &Options,
+    crew: &Crew<G>,
+) -> Result<Retimed, NoMemory>
+    requires keep { keep.now ≡ held_in (names_in options.now) circuit.now }
+    requires names { NoneMissing options.now circuit.now }
+    ensures { IfOk result (IsRetimed circuit.now (names_in options.now) options.now.max_frames) }
+{
+    let mut retimed = begun(alloc, circuit, keep, options)?;
+    for _ in 0..options.max_frames {
+        match next_frame(rt, alloc, &retimed.circuit, options, crew)? {
+            Some(frame) => retimed = after_frame(alloc, retimed, frame, options)?,
+            None => return Ok(retimed),
+        }
+    }
+    Ok(retimed)
+}
+
+/// Cleans a circuit and retimes it forward, frame by frame: the latches move over the greatest least set of the circuit, and the
+/// circuit is cleaned again. It ends where no closed set needs fewer latches than there are, or at the limit of frames. The
+/// latches whose names the options have stay. The answer is the same for every crew.
+///
+/// A frame costs what its maximum flow costs, and is linear in the circuit but for that; what it made is dropped before the next
+/// one begins.
+///
+/// # Errors
+///
+/// `NoSuchName` where a name that the options have is that of no latch of the circuit, which is found first; `NoMemory` where
+/// memory is refused.
+pub fn retime<G: PhaseGate>(
+    rt: &(impl Threads + Sync),
+    alloc: Global,
+    circuit: &Circuit,
+    options: &Options,
+    crew: &Crew<G>,
+) -> Result<Retimed, RetimeError>
+    ensures retimed { IfOk result (IsRetimed circuit.now (names_in options.now) options.now.max_frames) }
+    ensures none_missing { OnOk result (NoneMissing options.now circuit.now) }
+    ensures missing { (place : ℕ) → IsErrOf result (NoSuchName place) → first_missing circuit.now.symbols.latches (names_in options.now) ≡ Some place }
+{
+    let keep = keep_of(alloc, circuit, options.keep.as_slice())?;
+    let retimed = retime_held(rt, alloc, circuit, &keep, options, crew)?;
+    Ok(retimed)
+}
