@@ -1,10 +1,11 @@
 -- Laws of what blocks hold as a trace.
-use Rattle.std.proofs.Common.{ℕ, ◌+◌, ◌*◌, ◌/◌, ◌%◌, ◌<◌, ◌≤◌, ◌≡◌, ◌++◌, ◌∷◌, [], zero, suc, min, refl, arith, sym, ap, ap₂, ◌∙◌, subst, get_or, slice_get, Option, Some, None, List, length, map, take, drop, All}
+use Rattle.std.proofs.Common.{ℕ, ◌+◌, ◌*◌, ◌/◌, ◌%◌, ◌<◌, ◌≤◌, ◌≡◌, ◌++◌, ◌∷◌, [], Bool, zero, suc, min, refl, arith, sym, ap, ap₂, ◌∙◌, subst, get_or, slice_get, Option, Some, None, unwrap_or, List, length, map, take, drop, All}
 use Rattle.std.specs.Option.{option_map, IsSomeAnd}
 use Rattle.std.specs.List.{flat_map, enumerate_from, range_with_len}
-use Rattle.std.proofs.lemmas.Option.{slice_get-map, slice_get_within, get_or_from_slice_get, slice_get_past}
-use Rattle.std.proofs.lemmas.List.{length-take, length-drop}
+use Rattle.std.proofs.lemmas.Option.{slice_get-map, slice_get_within, get_or_from_slice_get, slice_get_past, unwrap_or-slice_get}
+use Rattle.std.proofs.lemmas.List.{length-take, length-drop, get_or-map, get_or-take}
 use Rattle.std.proofs.lemmas.List.{length-map}
+use Rattle.std.proofs.lemmas.List.FromFn.{length-enumerate_from}
 use Rattle.std.proofs.lemmas.List.Elements.{All-append}
 use Rattle.std.proofs.lemmas.Simd.{get_or-chunk}
 use Rattle.aig_graph.specs.Graph.{IsLiteralOf}
@@ -116,3 +117,53 @@ unfolding recorded
 recorded-at steps blocks s =
     let zeroth : 0 + s ≡ s = omega arith in
     recorded_from blocks 0 steps s ∙ ap (λ (w : ℕ). option_map (λ m. steps_in blocks w m) (slice_get steps s)) zeroth
+
+-- ---- the sizes of a trace
+
+pub recorded-length : (steps : List ℕ) (blocks : List (List (List (List ℕ)))) → length (recorded steps blocks) ≡ length steps
+unfolding recorded
+recorded-length steps blocks = length-map (enumerate_from 0 steps) (λ e. steps_in blocks e.0 e.1) ∙ length-enumerate_from 0 steps
+
+-- the steps of a sequence, from its block
+pub recorded-steps : (steps : List ℕ) (blocks : List (List (List (List ℕ)))) (s n : ℕ) → slice_get steps s ≡ Some n
+    → get_or (recorded steps blocks) s [] ≡ steps_in blocks s n
+recorded-steps steps blocks s n at =
+    get_or_from_slice_get (recorded steps blocks) s (steps_in blocks s n) [] (recorded-at steps blocks s ∙ ap (option_map (λ m. steps_in blocks s m)) at)
+
+-- none of a sequence that there isn't
+recorded-none : (steps : List ℕ) (blocks : List (List (List (List ℕ)))) (s : ℕ) → slice_get steps s ≡ None → get_or (recorded steps blocks) s [] ≡ []
+recorded-none steps blocks s none =
+    sym (unwrap_or-slice_get (recorded steps blocks) s [])
+    ∙ ap (λ o. unwrap_or o []) (recorded-at steps blocks s ∙ ap (option_map (λ m. steps_in blocks s m)) none)
+
+pub recorded-past : (steps : List ℕ) (blocks : List (List (List (List ℕ)))) (s : ℕ) → length steps ≤ s → get_or (recorded steps blocks) s [] ≡ []
+recorded-past steps blocks s past = recorded-none steps blocks s (slice_get_past steps s past)
+
+pub steps_in-length : (blocks : List (List (List (List ℕ)))) (s n : ℕ) → length (steps_in blocks s n) ≡ min n (length (get_or blocks (s / 256) []))
+steps_in-length blocks s n = length-map (take n (get_or blocks (s / 256) [])) (row_in (s % 256)) ∙ length-take n (get_or blocks (s / 256) [])
+
+-- a step that a sequence has, in its block
+pub record InBlock (blocks : List (List (List (List ℕ)))) (s t : ℕ) (row : List Bool) : Type 0 where
+  pub within : t < length (get_or blocks (s / 256) [])
+  pub row_is : row ≡ row_in (s % 256) (get_or (get_or blocks (s / 256) []) t [])
+
+in_block : (blocks : List (List (List (List ℕ)))) (s t n : ℕ) → t < length (steps_in blocks s n) → InBlock blocks s t (get_or (steps_in blocks s n) t [])
+in_block blocks s t n h =
+    let rows = get_or blocks (s / 256) [] in
+    let short = steps_in-length blocks s n in
+    record {
+      within = omega (arith, short, h);
+      row_is = get_or-map (row_in (s % 256)) (take n rows) t [] [] (omega (arith, short, h, length-take n rows)) ∙ ap (row_in (s % 256)) (get_or-take n rows t [] (omega (arith, short, h)));
+    }
+
+in_block_of : (steps : List ℕ) (blocks : List (List (List (List ℕ)))) (s t : ℕ) (o : Option ℕ) → slice_get steps s ≡ o → t < length (get_or (recorded steps blocks) s [])
+    → InBlock blocks s t (get_or (get_or (recorded steps blocks) s []) t [])
+in_block_of steps blocks s t None at h =
+    absurd (omega (arith, h, ap length (recorded-none steps blocks s at)))
+in_block_of steps blocks s t (Some n) at h =
+    let here = recorded-steps steps blocks s n at in
+    subst (λ (rows : List (List Bool)). InBlock blocks s t (get_or rows t [])) (sym here) (in_block blocks s t n (omega (arith, h, ap length here)))
+
+pub recorded-row : (steps : List ℕ) (blocks : List (List (List (List ℕ)))) (s t : ℕ) → t < length (get_or (recorded steps blocks) s [])
+    → InBlock blocks s t (get_or (get_or (recorded steps blocks) s []) t [])
+recorded-row steps blocks s t h = in_block_of steps blocks s t (slice_get steps s) refl h

@@ -38,6 +38,38 @@ impl Trace {
         let rows = rows_of(self.blocks.as_slice(), sequence / LANES);
         value_in_block(rows, sequence % LANES, steps, step, place)
     }
+
+    /// The number of sequences.
+    pub fn sequences(&self) -> usize
+        ensures { result ≡ length self.now }
+    {
+        self.steps.as_slice().len()
+    }
+
+    /// The number of steps of a sequence, and 0 for a number that no sequence has.
+    pub fn steps(&self, sequence: usize) -> usize
+        ensures { result ≡ length (slice_index_or self.now sequence []) }
+    {
+        let Some(steps) = self.steps.get(sequence) else {
+            return 0;
+        };
+        let rows = rows_of(self.blocks.as_slice(), sequence / LANES);
+        rows.len().min(*steps)
+    }
+
+    /// The number of places of a step of a sequence, and 0 where the trace has no such step.
+    pub fn places(&self, sequence: usize, step: usize) -> usize
+        ensures { result ≡ length (slice_index_or (slice_index_or self.now sequence []) step []) }
+    {
+        if step >= self.steps(sequence) {
+            return 0;
+        }
+        let rows = rows_of(self.blocks.as_slice(), sequence / LANES);
+        match rows.get(step) {
+            Some(row) => row.as_slice().len(),
+            None => 0,
+        }
+    }
 }
 
 // The rows of a block, and none of a block that there isn't.

@@ -1,0 +1,3 @@
+pub mod Traces
+pub mod Differences
+pub mod Counts
