@@ -54,12 +54,32 @@ network = record {
   symbols = no_symbols;
 }
 
+-- an input, a free latch and a known one, and the gate of the input and the free latch, 4; an output reads each
+reads_input : Network
+reads_input = record {
+  aig = record {
+    inputs = 1;
+    latches = record { next = 2; reset = Free } ∷ record { next = 8; reset = Zero } ∷ [];
+    gates = record { rhs0 = 4; rhs1 = 2 } ∷ [];
+  };
+  props = outputs_alone (2 ∷ 4 ∷ 6 ∷ 8 ∷ []);
+  symbols = no_symbols;
+}
+
 counts :
     (border_size (move_of network [] []) ≡ 4) × (border_size (move_of network [] (9 ∷ [])) ≡ 5) × (border_size (move_of network [] (9 ∷ 10 ∷ [])) ≡ 5)
     × (border_size (move_of network [] (9 ∷ 11 ∷ [])) ≡ 5) × (border_size (move_of network [] (9 ∷ 10 ∷ 11 ∷ [])) ≡ 5)
     × (border_size (move_of network [] (9 ∷ 10 ∷ 11 ∷ 12 ∷ [])) ≡ 4)
 unfolding border_size in_border is_read_outside count_below network
 counts = (refl, refl, refl, refl, refl, refl)
+
+-- of a list that is no closed set the gates count, as 10 without 9, on which it rests; the constant, inputs and free latches don't
+counts_of_other_lists :
+    (border_size (move_of network [] (10 ∷ [])) ≡ 4) × (border_size (move_of network [] (12 ∷ [])) ≡ 5) × (border_size (move_of network [] (10 ∷ 11 ∷ 12 ∷ 13 ∷ [])) ≡ 3)
+    × (border_size (move_of network [] (0 ∷ 1 ∷ [])) ≡ 4) × (border_size (move_of reads_input [] []) ≡ 1) × (border_size (move_of reads_input [] (1 ∷ 2 ∷ 3 ∷ [])) ≡ 1)
+    × (border_size (move_of reads_input [] (4 ∷ [])) ≡ 2) × (border_size (move_of reads_input [] (1 ∷ 4 ∷ 5 ∷ [])) ≡ 2)
+unfolding border_size in_border is_read_outside count_below network reads_input
+counts_of_other_lists = (refl, refl, refl, refl, refl, refl, refl, refl)
 
 -- with the first latch, 5, held, gate 9 and what rests on it aren't passable; with the third, 7, gate 10 isn't
 passable_beside_held_latches :

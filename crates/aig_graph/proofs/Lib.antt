@@ -3,11 +3,14 @@ pub mod ValueLaws
 pub mod Examples
 pub mod GraphLemmas
 pub mod KindLaws
+pub mod FreeLaws
 pub mod SignLaws
+pub mod PropsLaws
 pub mod ClosedLaws
 pub mod SetLemmas
 pub mod ReadingLemmas
 pub mod BorderLemmas
 pub mod HoldingLemmas
+pub mod ClosedBorder
 pub mod SetLaws
 pub mod StreamLaws

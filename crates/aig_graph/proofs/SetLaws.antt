@@ -8,10 +8,11 @@ use Rattle.std.proofs.lemmas.List.Kept.{AllPairs-from_increasing}
 use Rattle.aig_graph.specs.declared.graph.Gate.{Gate}
 use Rattle.aig_graph.specs.Graph.{Graph, IsGraph, variable, variables_end, latch_at, is_known}
 use Rattle.aig_graph.specs.Circuits.{Network}
-use Rattle.aig_graph.specs.Closed.{is_held, is_settled}
-use Rattle.aig_graph.specs.Border.{in_border, is_read, border_size}
+use Rattle.aig_graph.specs.Closed.{is_held, is_settled, IsClosedSet}
+use Rattle.aig_graph.specs.Border.{is_read}
 use Rattle.aig_graph.specs.Laws.{MayMoveOrPassable, PassableLaw, EmptySetLaws, AtMostOne}
 use Rattle.aig_graph.proofs.ClosedLaws.{settled_where, is_settled-gate, and_true, and_left, and_right}
+use Rattle.aig_graph.proofs.ClosedBorder.{closed-border_size}
 use Rattle.variable_tables.proofs.CountingLemmas.{count_below-same}
 use Rattle.variable_tables.proofs.MarkingLemmas.{or_false}
 
@@ -40,17 +41,20 @@ passable_law g held v valid = (
       )),
 )
 
-pub empty_set_laws : (c : Network) (held : List ℕ) → EmptySetLaws c held
-unfolding border_size in_border
-empty_set_laws c held = record {
+pub empty-closed : (g : Graph) (held : List ℕ) → IsClosedSet g held []
+empty-closed g held = record {
+  rising = λ i h. absurd (omega arith);
   closed = record {
-    rising = λ i h. absurd (omega arith);
-    closed = record {
-      passable = λ v member. absurd (omega (arith, member.1));
-      fan_ins = λ v gate member e. absurd (omega (arith, member.1));
-    };
+    passable = λ v member. absurd (omega (arith, member.1));
+    fan_ins = λ v gate member e. absurd (omega (arith, member.1));
   };
-  count = count_below-same _ _ (variables_end c.aig) (λ v h. ap (λ b. b && (is_held c.aig held v || is_read c [] v)) (or_false (is_known (latch_at c.aig v))));
+}
+
+pub empty_set_laws : (c : Network) (held : List ℕ) → EmptySetLaws c held
+empty_set_laws c held = record {
+  closed = empty-closed c.aig held;
+  count = closed-border_size c held [] (empty-closed c.aig held)
+      ∙ count_below-same _ _ (variables_end c.aig) (λ v h. ap (λ b. b && (is_held c.aig held v || is_read c [] v)) (or_false (is_known (latch_at c.aig v))));
 }
 
 contains_head : (x : ℕ) (xs : List ℕ) → Contains (x ∷ xs) x

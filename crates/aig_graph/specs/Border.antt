@@ -1,11 +1,11 @@
--- The border of a closed set, and least sets.
-use Rattle.std.specs.Prelude.{ℕ, ◌≤◌, ◌==◌, ◌||◌, ◌&&◌, Bool, not, List, Contains}
+-- The border of a set, and least sets.
+use Rattle.std.specs.Prelude.{ℕ, ◌≤◌, ◌==◌, ◌||◌, ◌&&◌, Bool, not, List, is_some, Contains}
 use Rattle.std.specs.List.{list_any, enumerate_from}
 use Rattle.variable_tables.specs.Counting.{count_below}
 use Rattle.variable_tables.specs.Marking.{has, mark_at}
 use Rattle.aig_graph.specs.declared.graph.Gate.{Gate}
 use Rattle.aig_graph.specs.declared.properties.Props.{Props}
-use Rattle.aig_graph.specs.Graph.{Graph, variable, first_latch, first_gate, variables_end, latch_at, is_known}
+use Rattle.aig_graph.specs.Graph.{Graph, variable, first_latch, first_gate, variables_end, latch_at, gate_at, is_known}
 use Rattle.aig_graph.specs.Circuits.{Network}
 use Rattle.aig_graph.specs.Closed.{is_held, IsClosedSet}
 use Rattle.aig_graph.specs.Move.{Move, move_of}
@@ -28,13 +28,17 @@ is_read_outside g props inside v =
 abbrev pub is_read : Network → List ℕ → ℕ → Bool
 is_read c s = is_read_outside c.aig c.props (has s)
 
--- whether the variable is a known latch or in the set, and is held or read from outside
+-- whether the variable is a gate, and in s
+abbrev pub is_gate_in : Graph → List ℕ → ℕ → Bool
+is_gate_in g s v = is_some (gate_at g v) && has s v
+
+-- whether the variable is a known latch or a gate of the set, and is held or read from outside; any other member adds nothing
 unfoldable pub in_border : Move → ℕ → Bool
-in_border m v = (is_known (latch_at m.circuit.aig v) || has m.set v) && (is_held m.circuit.aig m.held v || is_read m.circuit m.set v)
+in_border m v = (is_known (latch_at m.circuit.aig v) || is_gate_in m.circuit.aig m.set v) && (is_held m.circuit.aig m.held v || is_read m.circuit m.set v)
 
 -- the same by marks, from the first latch on: of the set, and of what is held or read from outside
 unfoldable pub is_counted : Graph → List Bool → List Bool → ℕ → Bool
-is_counted g inside marks v = mark_at (first_latch g) marks v && (mark_at (first_latch g) inside v || is_known (latch_at g v))
+is_counted g inside marks v = mark_at (first_latch g) marks v && ((is_some (gate_at g v) && mark_at (first_latch g) inside v) || is_known (latch_at g v))
 
 -- the size of the border
 unfoldable pub border_size : Move → ℕ

@@ -41,6 +41,11 @@ gate_at g v = if nat_le (first_gate g) v then slice_get g.gates (v - first_gate 
 abbrev pub is_free : Latch → Bool
 is_free latch = elim latch.reset [ Zero ↦ false | One ↦ false | Free ↦ true ]
 
+-- whether there is a latch, and its reset is free
+abbrev pub is_free_latch : Option Latch → Bool
+is_free_latch None = false
+is_free_latch (Some latch) = is_free latch
+
 -- whether there is a latch, and its reset is known
 abbrev pub is_known : Option Latch → Bool
 is_known None = false

@@ -2,6 +2,7 @@
 use Rattle.std.specs.Prelude.{ℕ, ◌+◌, ◌*◌, ◌<◌, ◌≡◌, ◌↔◌, ◌⊎◌, false, not, ◌&&◌, ◌||◌, List, [], map, slice_get, slice_index, Some, IsTrue}
 use Rattle.std.specs.List.{range_with_len}
 use Rattle.variable_tables.specs.Counting.{count_below}
+use Rattle.variable_tables.specs.Marking.{has}
 use Rattle.aig_graph.specs.declared.graph.Gate.{Gate}
 use Rattle.aig_graph.specs.declared.graph.Latch.{Latch}
 use Rattle.aig_graph.specs.Graph.{Graph, variable, first_latch, first_gate, variables_end, latch_at, gate_at, is_known, free_before, free_latches}
@@ -10,7 +11,7 @@ use Rattle.aig_graph.specs.Circuits.{Network}
 use Rattle.aig_graph.specs.Streams.{SameStreams}
 use Rattle.aig_graph.specs.Closed.{is_held, may_move, IsPassable, IsClosedSet}
 use Rattle.aig_graph.specs.Move.{move_of}
-use Rattle.aig_graph.specs.Border.{is_read, border_size, IsGreatestLeast, IsSmallestLeast}
+use Rattle.aig_graph.specs.Border.{is_read, in_border, border_size, IsGreatestLeast, IsSmallestLeast}
 
 pub record ValueLaws (g : Graph) (x : Inputs) (f : Choice) : Type 0 where
   pub constant : (t : ℕ) → value g x f t 0 ≡ false
@@ -51,6 +52,11 @@ pub record EmptySetLaws (c : Network) (held : List ℕ) : Type 0 where
   pub closed : IsClosedSet c.aig held []
   pub count : border_size (move_of c held [])
       ≡ count_below (λ v. is_known (latch_at c.aig v) && (is_held c.aig held v || is_read c [] v)) (variables_end c.aig)
+
+-- the border of a closed set: the known latches and the members, that are held or read from outside
+abbrev pub ClosedBorderLaw : Network → List ℕ → List ℕ → ℕ → Type 0
+ClosedBorderLaw c held s v =
+    IsClosedSet c.aig held s → in_border (move_of c held s) v ≡ ((is_known (latch_at c.aig v) || has s v) && (is_held c.aig held v || is_read c s v))
 
 pub record AtMostOne (c : Network) (held s r : List ℕ) : Type 0 where
   pub greatest : IsGreatestLeast c held s → IsGreatestLeast c held r → s ≡ r

@@ -3,6 +3,7 @@ pub mod Folding
 pub mod Value
 pub mod Circuits
 pub mod Streams
+pub mod Mapped
 pub mod Closed
 pub mod Move
 pub mod Border

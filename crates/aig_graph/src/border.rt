@@ -1,6 +1,6 @@
 ghost use Rattle.std.specs.Prelude.{◌≡◌, ◌==◌, ◌-◌, ◌&&◌, is_some, IfOk};
 ghost use Rattle.aig_graph.specs.Graph.{first_latch, variables_end, latch_at};
-ghost use Rattle.aig_graph.specs.Closed.{is_held, IsClosedSet};
+ghost use Rattle.aig_graph.specs.Closed.{is_held};
 ghost use Rattle.aig_graph.specs.Move.{move_of};
 ghost use Rattle.aig_graph.specs.Border.{border_size, is_counted};
 ghost use Rattle.variable_tables.specs.Counting.{count_below};
@@ -34,16 +34,17 @@ pub fn mark_held(marks: &mut [bool], aig: &Aig, keep: &Keep)
     }
 }
 
-/// Whether the variable is marked, and inside or a known latch.
+/// Whether the variable is marked, and a gate inside or a known latch.
 #[tactic(auto, unfolding(crate::specs::Border::is_counted))]
 fn is_counted(aig: &Aig, inside: &[bool], marks: &[bool], var: u32) -> bool
     ensures { result ≡ is_counted aig.now inside.now marks.now var }
 {
     let first = aig.first_latch();
-    mark_at(marks, first, var) && (mark_at(inside, first, var) || aig.is_known_latch(var))
+    mark_at(marks, first, var)
+        && ((aig.gate(var).is_some() && mark_at(inside, first, var)) || aig.is_known_latch(var))
 }
 
-/// The number of known latches and variables inside that are marked.
+/// The number of known latches and gates inside that are marked.
 fn count_marked(aig: &Aig, inside: &[bool], marks: &[bool]) -> u32
     ensures { result ≡ count_below (is_counted aig.now inside.now marks.now) (variables_end aig.now) }
 {
@@ -56,15 +57,15 @@ fn count_marked(aig: &Aig, inside: &[bool], marks: &[bool]) -> u32
     total
 }
 
-/// The size of the border of a closed set: how many known latches the circuit has right after latches have moved over the
-/// set. Linear in the circuit; no table has an entry for an input.
+/// The size of a set's border: how many of the known latches and the set's gates are held or read from outside. So many
+/// known latches a circuit has right after latches have moved over a closed set. Members that are no gates add nothing.
+/// Linear in the circuit; no table has an entry for an input.
 pub fn count(
     alloc: Global,
     circuit: &Circuit,
     set: &ClosedSet,
     keep: &Keep,
 ) -> Result<u32, NoMemory>
-    requires { IsClosedSet circuit.now.aig keep.now set.now }
     ensures { IfOk result (λ n. n ≡ border_size (move_of circuit.now keep.now set.now)) }
 {
     let aig = circuit.aig();

@@ -2,7 +2,7 @@ ghost use Rattle.std.specs.Prelude.{ℕ, List};
 ghost use Rattle.aig_graph.specs.Graph.{Graph, IsGraph};
 ghost use Rattle.aig_graph.specs.Circuits.{Network};
 ghost use Rattle.aig_graph.specs.Value.{Inputs, Choice};
-ghost use Rattle.aig_graph.specs.Laws.{ValueLaws, IsReflexive, IsTransitive, EmptySetLaws, AtMostOne, PassableLaw};
+ghost use Rattle.aig_graph.specs.Laws.{ValueLaws, IsReflexive, IsTransitive, EmptySetLaws, ClosedBorderLaw, AtMostOne, PassableLaw};
 
 /// What the value of a literal is, by what its variable is: a constant, an input, a latch at step 0 and at a later step, a
 /// gate, and the negation of each.
@@ -18,10 +18,12 @@ pub fn stream_laws()
 {}
 
 /// A gate is passable exactly where each of its fan-ins' variables is a known latch that isn't held, or a passable gate.
-/// The empty set is closed, and its border is the known latches that are held or read. There is at most one greatest and
-/// at most one smallest least set.
+/// The empty set is closed, and its border is the known latches that are held or read. The border of a closed set is the
+/// known latches and the members that are held or read from outside. There is at most one greatest and at most one smallest
+/// least set.
 pub fn set_laws()
     ensures passable { (g : Graph) (held : List ℕ) (v : ℕ) → IsGraph g → PassableLaw g held v }
     ensures empty { (c : Network) (held : List ℕ) → EmptySetLaws c held }
+    ensures border { (c : Network) (held s : List ℕ) (v : ℕ) → ClosedBorderLaw c held s v }
     ensures one { (c : Network) (held s r : List ℕ) → AtMostOne c held s r }
 {}

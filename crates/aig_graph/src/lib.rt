@@ -11,6 +11,7 @@ mod holding;
 mod keep;
 mod laws;
 mod literal;
+mod names;
 mod properties;
 mod reading;
 mod rising;

@@ -4,8 +4,8 @@ ghost use Rattle.aig_graph.specs.Graph.{first_latch, variables_end, IsLiteralOf}
 
 use crate::{
     Aig, AigBuilder, BuildError, Circuit, ClosedSet, Gate, Keep, KeepError, Latch, Lit, NoMemory,
-    Props, Reset, Symbols, count, is_closed, keep_of, reset_value, set_laws, stream_laws,
-    value_laws,
+    Props, Reset, Sequence, Symbol, Symbols, count, is_closed, keep_of, reset_value, set_laws,
+    stream_laws, value_laws,
 };
 use std::alloc::Global;
 use std::test::Fail;
@@ -104,6 +104,27 @@ fn counts_the_border_of_a_gate(rt: HostRuntime) -> Result<(), Fail> {
 fn refuses_a_list_that_does_not_rise(rt: HostRuntime) -> Result<(), Fail> {
     let vars = Vec::from_array(rt.alloc(), [5, 5])?;
     assert!(rt; ClosedSet::new(vars).is_none());
+    Ok(())
+}
+
+/// Whether a copy with one name of a latch has that name, at the position that it was given.
+fn has_the_name_it_was_given(alloc: Global) -> Result<bool, NoMemory> {
+    let name = Symbol {
+        position: 1,
+        name: Sequence::from_vec(Vec::from_array(alloc, [b'a'])?),
+    };
+    let latches = Vec::from_array(alloc, [name.at(alloc, 0)?])?;
+    let names = Symbols::none(alloc).with_latches(alloc, Sequence::from_vec(latches))?;
+    Ok(
+        names.inputs.is_empty()
+            && names.latches.as_slice().first().is_some_and(|latch| latch.position == 0
+                && latch.name.as_slice() == b"a".as_slice()),
+    )
+}
+
+#[test]
+fn copies_names(rt: HostRuntime) -> Result<(), Fail> {
+    assert!(rt; has_the_name_it_was_given(rt.alloc())?);
     Ok(())
 }
 

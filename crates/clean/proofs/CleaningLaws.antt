@@ -12,7 +12,7 @@ use Rattle.clean_laws.specs.Merged.{merged_of, stands_of}
 use Rattle.clean_laws.specs.Reached.{stays}
 use Rattle.clean_laws.specs.Trimmed.{trimmed_graph, new_variable, new_position}
 use Rattle.clean_laws.specs.Cleaned.{IsPass, Cleans, unchanged, after_pass}
-use Rattle.clean_laws.proofs.ListLaws.{map-map}
+use Rattle.variable_tables.proofs.ListLaws.{map-map}
 use Rattle.clean_laws.proofs.MergedLaws.{length-replaced_latches, replaced-first_latch, replaced-first_gate, replaced-end}
 use Rattle.clean_laws.proofs.PickedLaws.{count-all}
 use Rattle.clean_laws.proofs.TrimmedLaws.{trimmed-first_latch, trimmed-first_gate, trimmed-end, new-less, new-from, stays-reached}

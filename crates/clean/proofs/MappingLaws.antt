@@ -6,22 +6,10 @@ use Rattle.aig_graph.specs.declared.graph.Latch.{Latch}
 use Rattle.aig_graph.specs.declared.properties.Props.{Props}
 use Rattle.aig_graph.specs.Graph.{Graph, IsGraph, IsGateAt, IsLiteralOf, variable, variables_end, first_gate}
 use Rattle.aig_graph.specs.Circuits.{ArePropsOf}
-use Rattle.clean_laws.specs.Properties.{OfProps}
-use Rattle.clean_laws.specs.Merged.{mapped_props, replaced_latch, replaced_gate, replaced_graph, stands_of}
-use Rattle.clean_laws.proofs.PropsLaws.{of_literals, literals_within}
+use Rattle.aig_graph.specs.Mapped.{OfProps}
+use Rattle.clean_laws.specs.Merged.{replaced_latch, replaced_gate, replaced_graph, stands_of}
+use Rattle.aig_graph.proofs.PropsLaws.{of_literals, literals_within}
 use Rattle.clean_laws.proofs.StandLaws.{length-stands_of}
-
-pub props-is : (f : ℕ → ℕ) (p : Props) (outputs bad constraints : List ℕ) (justice : List (List ℕ)) (fairness : List ℕ) → outputs ≡ map f p.outputs → bad ≡ map f p.bad → constraints ≡ map f p.constraints
-    → justice ≡ map (map f) p.justice → fairness ≡ map f p.fairness
-    → ◌≡◌ {A = Props} (record { outputs = outputs; bad = bad; constraints = constraints; justice = justice; fairness = fairness }) (mapped_props f p)
-unfolding mapped_props
-props-is f p outputs bad constraints justice fairness one two three four five =
-    let first : List ℕ → Props = λ xs. record { outputs = xs; bad = bad; constraints = constraints; justice = justice; fairness = fairness } in
-    let second : List ℕ → Props = λ xs. record { outputs = map f p.outputs; bad = xs; constraints = constraints; justice = justice; fairness = fairness } in
-    let third : List ℕ → Props = λ xs. record { outputs = map f p.outputs; bad = map f p.bad; constraints = xs; justice = justice; fairness = fairness } in
-    let fourth : List (List ℕ) → Props = λ xss. record { outputs = map f p.outputs; bad = map f p.bad; constraints = map f p.constraints; justice = xss; fairness = fairness } in
-    let fifth : List ℕ → Props = λ xs. record { outputs = map f p.outputs; bad = map f p.bad; constraints = map f p.constraints; justice = map (map f) p.justice; fairness = xs } in
-    ap first one ∙ ap second two ∙ ap third three ∙ ap fourth four ∙ ap fifth five
 
 pub graph-is : (inputs : ℕ) (latches other_latches : List Latch) (gates other_gates : List Gate) (n : ℕ) → n ≡ inputs → latches ≡ other_latches → gates ≡ other_gates
     → ◌≡◌ {A = Graph} (record { inputs = n; latches = latches; gates = gates }) (record { inputs = inputs; latches = other_latches; gates = other_gates })

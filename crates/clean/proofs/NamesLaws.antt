@@ -1,5 +1,5 @@
 -- The names of what stays, one after another.
-use Rattle.std.proofs.Common.{ℕ, ◌+◌, ◌<◌, ◌≡◌, List, [], ◌∷◌, ◌++◌, length, map, filter, take, Bool, true, false, cond, get_or, ap, sym, ◌∙◌}
+use Rattle.std.proofs.Common.{ℕ, ◌+◌, ◌<◌, ◌≡◌, List, [], ◌∷◌, ◌++◌, length, map, filter, take, Bool, true, false, cond, get_or, Result, IfOk, ap, sym, ◌∙◌, subst}
 use Rattle.std.proofs.lemmas.List.{map_push, append-nil}
 use Rattle.std.proofs.lemmas.List.Elements.{filter_more}
 use Rattle.aig_graph.specs.declared.properties.Symbol.{Symbol}
@@ -26,9 +26,8 @@ module _ (g : Graph) (s : ℕ → Bool) (names : List Symbol) (i : ℕ) (name : 
   pub name-skip : (old : List Symbol) → kept name ≡ false → old ≡ map (new_name g s) (filter kept (take i names)) → old ≡ map (new_name g s) (filter kept (take (i + 1) names))
   name-skip old goes before = before ∙ sym (ap (map (new_name g s)) (here false goes ∙ append-nil (filter kept (take i names))))
 
-pub symbols-is : (g : Graph) (s : ℕ → Bool) (old : Symbols) (inputs latches outputs bad constraints justice fairness : List Symbol)
-    → inputs ≡ old.inputs → latches ≡ map (new_name g s) (filter (λ name. s (first_latch g + name.position)) old.latches) → outputs ≡ old.outputs → bad ≡ old.bad → constraints ≡ old.constraints → justice ≡ old.justice
-    → fairness ≡ old.fairness
-    → ◌≡◌ {A = Symbols} (record { inputs = inputs; latches = latches; outputs = outputs; bad = bad; constraints = constraints; justice = justice; fairness = fairness }) (trimmed_symbols g s old)
+-- a copy with the names of the latches that stay
+pub symbols-are : {E : Type 0} (g : Graph) (s : ℕ → Bool) (old : Symbols) (latches : List Symbol) (r : Result Symbols E) → latches ≡ map (new_name g s) (filter (λ name. s (first_latch g + name.position)) old.latches)
+    → IfOk r (λ copy. copy ≡ record old { latches = latches }) → IfOk r (λ copy. copy ≡ trimmed_symbols g s old)
 unfolding trimmed_symbols
-symbols-is g s old inputs latches outputs bad constraints justice fairness e1 e2 e3 e4 e5 e6 e7 = cc
+symbols-are g s old latches r same made = subst (λ (names : List Symbol). IfOk r (λ copy. copy ≡ record old { latches = names })) same made

@@ -5,11 +5,11 @@ use Rattle.aig_graph.specs.declared.properties.Props.{Props}
 use Rattle.aig_graph.specs.declared.properties.Symbols.{Symbols}
 use Rattle.aig_graph.specs.Graph.{Graph, IsGraph, IsLiteralOf}
 use Rattle.aig_graph.specs.Circuits.{Network, IsNetwork}
-use Rattle.clean_laws.specs.Properties.{OfProps}
+use Rattle.aig_graph.specs.Mapped.{OfProps}
 use Rattle.clean_laws.specs.Merged.{merged_of, stands_of}
 use Rattle.clean_laws.specs.Reached.{AreReached}
 use Rattle.clean_laws.specs.Trimmed.{trimmed_graph, trimmed_of}
-use Rattle.clean_laws.proofs.PropsLaws.{of_literals, literals_within}
+use Rattle.aig_graph.proofs.PropsLaws.{of_literals, literals_within}
 use Rattle.clean_laws.proofs.MergedLaws.{IsGraph-merged, IsNetwork-merged, length-replaced_latches}
 use Rattle.clean_laws.proofs.TrimmedLaws.{IsGraph-trimmed}
 use Rattle.clean_laws.proofs.TrimmedNames.{IsNetwork-trimmed}

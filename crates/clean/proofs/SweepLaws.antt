@@ -15,8 +15,8 @@ use Rattle.variable_tables.specs.Marking.{mark_at}
 use Rattle.variable_tables.proofs.PlacesLemmas.{slice_get_push, slice_get-append_left, slice_get-append_right}
 use Rattle.clean_laws.specs.Reached.{stays, HoldsReads, AreReached}
 use Rattle.clean_laws.proofs.TrimmedLaws.{stays-past, stays-low, stays-reached}
-use Rattle.clean_laws.specs.Properties.{OfProps}
-use Rattle.clean_laws.proofs.PropsLaws.{to_literals}
+use Rattle.aig_graph.specs.Mapped.{OfProps}
+use Rattle.aig_graph.proofs.PropsLaws.{to_literals}
 use Rattle.clean.specs.Sweep.{Front, front_end, no_front, is_marked, reach, reach_all, reads_of, ReadsMarked, Waits, Sweeps, IsOwed}
 use Rattle.clean.proofs.ReadsLaws.{to-reads, from-gate, from-latch, reads-within}
 use Rattle.clean.proofs.FrontLaws.{reach_new, reach-low, reach-marked, reach-new, mark-entry, all-nil, all-cons}

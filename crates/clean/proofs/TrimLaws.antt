@@ -17,13 +17,14 @@ use Rattle.variable_tables.specs.Counting.{count_below, places}
 use Rattle.variable_tables.specs.Tables.{table}
 use Rattle.variable_tables.proofs.TableLemmas.{length-table, table-at, table-same, entry}
 use Rattle.variable_tables.proofs.PlacesLemmas.{count-bound, places-zero, places-pass, places-fail}
-use Rattle.clean_laws.specs.Properties.{OfProps}
+use Rattle.aig_graph.specs.Mapped.{OfProps, mapped_props}
 use Rattle.clean_laws.specs.Reached.{stays}
-use Rattle.clean_laws.specs.Merged.{replaced, replaced_latch, replaced_gate, mapped_props}
+use Rattle.clean_laws.specs.Merged.{replaced, replaced_latch, replaced_gate}
 use Rattle.clean_laws.specs.Trimmed.{new_variable, renumbered, picked, renumbered_latch, renumbered_gate, trimmed_graph, trimmed_of, trimmed_symbols, is_kept_free, kept_free}
-use Rattle.clean_laws.proofs.ListLaws.{map-same}
+use Rattle.variable_tables.proofs.ListLaws.{map-same}
 use Rattle.clean_laws.proofs.TrimmedLaws.{stays-past, new-low, renumbered-variable}
-use Rattle.clean.proofs.MappingLaws.{props-is, graph-is}
+use Rattle.aig_graph.proofs.PropsLaws.{mapped-is}
+use Rattle.clean.proofs.MappingLaws.{graph-is}
 use Rattle.clean.specs.Substitutions.{own_literals, new_literals}
 
 -- those that pass, of one more
@@ -92,7 +93,7 @@ module _ (g : Graph) (s : ℕ → Bool) where
       let h : ℕ → ℕ = renumbered g s in
       let same : (lit : ℕ) → IsLiteralOf g lit → f lit ≡ h lit = λ lit inside. replaced-new literals lit is inside in
       let each : (lits : List ℕ) → All (λ lit. IsLiteralOf g lit) lits → map f lits ≡ map h lits = λ lits all. map-same (λ lit. IsLiteralOf g lit) f h same lits all in
-      props-is h p (map f p.outputs) (map f p.bad) (map f p.constraints) (map (map f) p.justice) (map f p.fairness) (each p.outputs within.outputs) (each p.bad within.bad) (each p.constraints within.constraints)
+      mapped-is h p (map f p.outputs) (map f p.bad) (map f p.constraints) (map (map f) p.justice) (map f p.fairness) (each p.outputs within.outputs) (each p.bad within.bad) (each p.constraints within.constraints)
       (map-same (λ lits. All (λ lit. IsLiteralOf g lit) lits) (map f) (map h) each p.justice within.justice) (each p.fairness within.fairness)
 
   -- one more new literal

@@ -1,7 +1,7 @@
 ghost use Rattle.std.specs.Prelude.{◌≡◌, ◌+◌, ◌<◌, ◌≤◌, All, IfOk, Some, length, map, slice_get, if◌then◌else◌};
 ghost use Rattle.aig_graph.specs.Graph.{is_free, IsGraph, IsLiteralOf, first_latch, first_gate};
 ghost use Rattle.aig_graph.specs.Circuits.{IsNetwork};
-ghost use Rattle.clean_laws.specs.Properties.{OfProps};
+ghost use Rattle.aig_graph.specs.Mapped.{OfProps};
 ghost use Rattle.clean_laws.specs.Reached.{stays};
 ghost use Rattle.clean_laws.specs.Trimmed.{new_position, picked, renumbered_latch, renumbered_gate, trimmed_graph, trimmed_of, is_kept_free, kept_free};
 ghost use Rattle.clean.specs.Substitutions.{new_literals};

@@ -7,7 +7,8 @@ use Rattle.variable_tables.specs.Marking.{has}
 use Rattle.variable_tables.specs.Counting.{count_below, places}
 use Rattle.variable_tables.specs.Tables.{table}
 use Rattle.clean_laws.specs.Latches.{leaf_stand, first_where}
-use Rattle.clean_laws.specs.Merged.{merge_gates, stands_of, replaced_graph, mapped_props, merged_of}
+use Rattle.aig_graph.specs.Mapped.{mapped_props}
+use Rattle.clean_laws.specs.Merged.{merge_gates, stands_of, replaced_graph, merged_of}
 use Rattle.clean_laws.specs.Trimmed.{picked, trimmed_graph, trimmed_symbols, trimmed_of, kept_free}
 
 abbrev with_outputs : Graph → List ℕ → Network

@@ -7,14 +7,14 @@ use Rattle.std.proofs.lemmas.Option.{slice_get_within, slice_get-get_or, get_or_
 use Rattle.std.proofs.lemmas.List.{length-map, get_or-map, get_or_default}
 use Rattle.std.proofs.lemmas.List.Sums.{count_by_more_no, count_by_more_yes}
 use Rattle.aig_graph.specs.declared.graph.Latch.{Latch}
-use Rattle.aig_graph.specs.Graph.{Graph, first_latch, first_gate, latch_at, is_free, free_before, free_latches}
+use Rattle.aig_graph.specs.Graph.{Graph, first_latch, first_gate, latch_at, is_free, free_before, free_latches, is_free_latch}
 use Rattle.aig_graph.specs.Circuits.{Network}
 use Rattle.aig_graph.specs.Streams.{AreKept}
 use Rattle.variable_tables.specs.Counting.{count_below, places}
-use Rattle.clean_laws.specs.Trimmed.{is_free_latch, new_variable, renumbered_latch, trimmed_graph, trimmed_of, is_kept_free, kept_free}
+use Rattle.clean_laws.specs.Trimmed.{new_variable, renumbered_latch, trimmed_graph, trimmed_of, is_kept_free, kept_free}
 use Rattle.variable_tables.proofs.PlacesLemmas.{count-pass, count-fail, count-zero, count-le, count-lt, length-places, at_rank, Ranks, rank_at}
 use Rattle.aig_graph.proofs.KindLaws.{element, latch_at-first_latch}
-use Rattle.clean_laws.proofs.FreeLaws.{is_free_at, free-count}
+use Rattle.aig_graph.proofs.FreeLaws.{is_free_at, free-count}
 use Rattle.clean_laws.specs.Reached.{stays}
 use Rattle.clean_laws.proofs.TrimmedLaws.{stays-past, stays-reached, new-low, new-from, latch_in, trimmed-first_latch, trimmed-first_gate}
 

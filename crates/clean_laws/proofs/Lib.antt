@@ -1,7 +1,3 @@
-pub mod SignLaws
-pub mod FreeLaws
-pub mod ListLaws
-pub mod PropsLaws
 pub mod LatchLaws
 pub mod StandLaws
 pub mod MergedLaws

@@ -11,11 +11,12 @@ use Rattle.aig_graph.specs.Value.{Inputs, Choice, value, signed, opening}
 use Rattle.aig_graph.specs.Streams.{property_literals}
 use Rattle.aig_graph.specs.Laws.{ValueLaws}
 use Rattle.aig_graph.proofs.ValueLaws.{value_laws}
-use Rattle.clean_laws.proofs.SignLaws.{value_signed, value-gate_of, gate_of-ordered, gate_of-below}
+use Rattle.aig_graph.proofs.SignLaws.{value_signed, value-gate_of, gate_of-ordered, gate_of-below}
 use Rattle.aig_graph.proofs.KindLaws.{kind_of, is_constant, is_input, is_latch, is_gate}
-use Rattle.clean_laws.specs.Merged.{replaced, replaced_gate, replaced_latch, replaced_graph, mapped_props, stands_of, merged_of}
-use Rattle.clean_laws.proofs.ListLaws.{slice_get-map_some, from_map, map-map, map-same, count_by-take_map}
-use Rattle.clean_laws.proofs.PropsLaws.{mapped-literals, mapped-props, literals_within}
+use Rattle.aig_graph.specs.Mapped.{mapped_props}
+use Rattle.clean_laws.specs.Merged.{replaced, replaced_gate, replaced_latch, replaced_graph, stands_of, merged_of}
+use Rattle.variable_tables.proofs.ListLaws.{slice_get-map_some, from_map, map-map, map-same, count_by-take_map}
+use Rattle.aig_graph.proofs.PropsLaws.{mapped-literals, mapped-props, literals_within}
 use Rattle.clean_laws.proofs.StandLaws.{replaced-within, replaced_literal-value}
 
 module _ (stands : List ℕ) (g : Graph) where

@@ -10,7 +10,7 @@ use Rattle.clean_laws.specs.Merged.{replaced, merged_of, stands_of, replaced_gra
 use Rattle.clean_laws.specs.Reached.{AreReached}
 use Rattle.clean_laws.specs.Trimmed.{trimmed_of, kept_free}
 use Rattle.clean_laws.specs.Cleaned.{IsPass, Cleans, unchanged, after_pass}
-use Rattle.clean_laws.proofs.PropsLaws.{mapped-shape}
+use Rattle.aig_graph.proofs.PropsLaws.{mapped-shape}
 use Rattle.clean_laws.proofs.MergedLaws.{IsGraph-merged, IsNetwork-merged, merged-properties, replaced-inputs, length-replaced_latches, replaced-free_before}
 use Rattle.clean_laws.proofs.TrimmedLaws.{IsGraph-trimmed}
 use Rattle.clean_laws.proofs.TrimmedValues.{trimmed-streams}

@@ -10,7 +10,7 @@ use Rattle.aig_graph.specs.Value.{Inputs, Choice, value, signed}
 use Rattle.aig_graph.specs.Laws.{ValueLaws}
 use Rattle.aig_graph.proofs.ValueLaws.{value_laws}
 use Rattle.variable_tables.proofs.TableLemmas.{length-table, table-at}
-use Rattle.clean_laws.proofs.SignLaws.{value_signed, value_signed_as, variable-signed_as, value-gate_of, gate_of-below}
+use Rattle.aig_graph.proofs.SignLaws.{value_signed, value_signed_as, variable-signed_as, value-gate_of, gate_of-below}
 use Rattle.clean_laws.specs.Latches.{leaf_stand}
 use Rattle.clean_laws.specs.Merged.{Merging, replaced, replaced_gate, is_gate, known_stand, with_stand, merge_gate, merge_gates, merging_start, stands_of}
 use Rattle.clean_laws.proofs.LatchLaws.{leaf_stand-value, leaf_stand-below}

@@ -9,11 +9,11 @@ use Rattle.aig_graph.specs.Circuits.{Network}
 use Rattle.variable_tables.specs.Counting.{count_below}
 use Rattle.aig_graph.proofs.FoldingLaws.{gate_at-first_gate}
 use Rattle.variable_tables.proofs.PlacesLemmas.{count-le, count-lt, count-bound}
-use Rattle.clean_laws.proofs.SignLaws.{variable-signed_as_twice, gate_of-ordered, gate_of-below}
+use Rattle.aig_graph.proofs.SignLaws.{variable-signed_as_twice, gate_of-ordered, gate_of-below}
 use Rattle.aig_graph.proofs.KindLaws.{latch_at-first_latch}
 use Rattle.clean_laws.specs.Reached.{stays, HoldsReads}
 use Rattle.clean_laws.specs.Trimmed.{new_variable, renumbered, renumbered_latch, renumbered_gate, picked, trimmed_graph}
-use Rattle.clean_laws.proofs.ListLaws.{slice_get-map_some, from_map}
+use Rattle.variable_tables.proofs.ListLaws.{slice_get-map_some, from_map}
 use Rattle.clean_laws.proofs.PickedLaws.{count-all, length-picked, picked-at, WasAt, was_at}
 
 module _ (g : Graph) (s : ℕ → Bool) where

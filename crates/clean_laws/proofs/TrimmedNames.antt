@@ -8,10 +8,10 @@ use Rattle.std.proofs.lemmas.List.Kept.{IsStrictlyIncreasing-filter}
 use Rattle.aig_graph.specs.declared.properties.Symbol.{Symbol}
 use Rattle.aig_graph.specs.Graph.{Graph, IsGraph, IsLiteralOf, variable, first_latch, first_gate}
 use Rattle.aig_graph.specs.Circuits.{Network, IsNetwork, AreNamesBelow}
-use Rattle.clean_laws.specs.Merged.{mapped_props}
+use Rattle.aig_graph.specs.Mapped.{mapped_props}
 use Rattle.clean_laws.specs.Reached.{stays, HoldsReads}
 use Rattle.clean_laws.specs.Trimmed.{new_variable, new_position, renumbered, new_name, trimmed_graph, trimmed_symbols, trimmed_of}
-use Rattle.clean_laws.proofs.PropsLaws.{mapped-props, literals_within}
+use Rattle.aig_graph.proofs.PropsLaws.{mapped-props, literals_within}
 use Rattle.clean_laws.proofs.TrimmedLaws.{stays-reached, new-from, new-less, renumbered-within, trimmed-inputs, trimmed-first_latch, trimmed-first_gate}
 
 module _ (g : Graph) (s : ℕ → Bool) where

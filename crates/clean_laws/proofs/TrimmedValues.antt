@@ -10,12 +10,12 @@ use Rattle.aig_graph.specs.Value.{Inputs, Choice, value, signed, opening}
 use Rattle.aig_graph.specs.Streams.{property_literals, chosen, SameStreams}
 use Rattle.aig_graph.specs.Laws.{ValueLaws}
 use Rattle.aig_graph.proofs.ValueLaws.{value_laws}
-use Rattle.clean_laws.proofs.SignLaws.{value_signed, value_signed_as, value-gate_of}
+use Rattle.aig_graph.proofs.SignLaws.{value_signed, value_signed_as, value-gate_of}
 use Rattle.aig_graph.proofs.KindLaws.{kind_of, is_constant, is_input, is_latch, is_gate}
 use Rattle.clean_laws.specs.Reached.{stays, HoldsReads}
 use Rattle.clean_laws.specs.Trimmed.{new_variable, renumbered, renumbered_latch, renumbered_gate, trimmed_graph, trimmed_of, kept_free}
-use Rattle.clean_laws.proofs.ListLaws.{map-map, map-same}
-use Rattle.clean_laws.proofs.PropsLaws.{mapped-literals, mapped-shape, literals_within}
+use Rattle.variable_tables.proofs.ListLaws.{map-map, map-same}
+use Rattle.aig_graph.proofs.PropsLaws.{mapped-literals, mapped-shape, literals_within}
 use Rattle.clean_laws.proofs.TrimmedLaws.{stays-past, new-low, new-from, new-rises, trimmed-inputs, trimmed-first_latch, trimmed-first_gate, latch_in, gate_in, next-reached, fan_ins-reached, IsGraph-trimmed}
 use Rattle.clean_laws.proofs.KeptFreeLaws.{free-rank, kept_free-at, are_kept}
 

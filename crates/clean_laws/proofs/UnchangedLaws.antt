@@ -19,11 +19,11 @@ use Rattle.aig_graph.proofs.SetLemmas.{has_iff_contains}
 use Rattle.aig_graph.specs.Value.{signed_as}
 use Rattle.variable_tables.proofs.PlacesLemmas.{count-pass, count-fail, count-bound}
 use Rattle.aig_graph.proofs.KindLaws.{LatchPlace, latch_place, GatePlace, gate_place}
-use Rattle.clean_laws.specs.Merged.{replaced, replaced_gate, replaced_latch, replaced_graph, mapped_props, stands_of, replaced_circuit, merged_of}
+use Rattle.clean_laws.specs.Merged.{replaced, replaced_gate, replaced_latch, replaced_graph, stands_of, replaced_circuit, merged_of}
 use Rattle.clean_laws.specs.Reached.{stays, HoldsReads, AreReached}
-use Rattle.clean_laws.specs.Properties.{OfProps}
+use Rattle.aig_graph.specs.Mapped.{OfProps, mapped_props}
 use Rattle.clean_laws.specs.Trimmed.{new_variable, new_position, renumbered, renumbered_latch, renumbered_gate, picked, new_name, trimmed_graph, trimmed_symbols, trimmed_of}
-use Rattle.clean_laws.proofs.PropsLaws.{of_literals, literals_within, mapped-literals}
+use Rattle.aig_graph.proofs.PropsLaws.{of_literals, literals_within, mapped-literals}
 use Rattle.clean_laws.proofs.PassLaws.{IsCircuit, IsCircuit-merged}
 use Rattle.clean_laws.proofs.PickedLaws.{count-all}
 use Rattle.clean_laws.proofs.OwnLaws.{stands-own, stands-low, stands-held}

@@ -1,4 +1,3 @@
-pub mod Properties
 pub mod Latches
 pub mod Merged
 pub mod Reached

@@ -4,11 +4,11 @@ use Rattle.std.specs.List.{slice_index_or}
 use Rattle.std.specs.Map.{lookup}
 use Rattle.aig_graph.specs.declared.graph.Gate.{Gate}
 use Rattle.aig_graph.specs.declared.graph.Latch.{Latch}
-use Rattle.aig_graph.specs.declared.properties.Props.{Props}
 use Rattle.aig_graph.specs.Graph.{Graph, variable, first_gate}
 use Rattle.aig_graph.specs.Circuits.{Network}
 use Rattle.aig_graph.specs.Building.{gate_of}
 use Rattle.aig_graph.specs.Value.{signed_as}
+use Rattle.aig_graph.specs.Mapped.{mapped_props}
 use Rattle.variable_tables.specs.Tables.{table}
 use Rattle.clean_laws.specs.Latches.{leaf_stand}
 
@@ -78,10 +78,6 @@ replaced_graph stands g = record {
   latches = map (replaced_latch stands) g.latches;
   gates = map (replaced_gate stands) g.gates;
 }
-
--- each property literal as f gives it
-unfoldable pub mapped_props : (ℕ → ℕ) → Props → Props
-mapped_props f p = record { outputs = map f p.outputs; bad = map f p.bad; constraints = map f p.constraints; justice = map (map f) p.justice; fairness = map f p.fairness }
 
 -- the circuit, reading what stands for what it read
 abbrev pub replaced_circuit : List ℕ → Network → Network

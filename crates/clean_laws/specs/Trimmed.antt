@@ -1,15 +1,15 @@
 -- A circuit without the latches and gates outside a set of variables.
-use Rattle.std.specs.Prelude.{Option, Some, None, ℕ, ◌+◌, ◌-◌, ◌*◌, ◌&&◌, Bool, false, List, [], ◌∷◌, length, map, filter, suc, if◌then◌else◌}
+use Rattle.std.specs.Prelude.{ℕ, ◌+◌, ◌-◌, ◌*◌, ◌&&◌, Bool, List, [], ◌∷◌, length, map, filter, suc, if◌then◌else◌}
 use Rattle.aig_graph.specs.declared.graph.Gate.{Gate}
 use Rattle.aig_graph.specs.declared.graph.Latch.{Latch}
 use Rattle.aig_graph.specs.declared.properties.Symbol.{Symbol}
 use Rattle.aig_graph.specs.declared.properties.Symbols.{Symbols}
-use Rattle.aig_graph.specs.Graph.{is_free, Graph, variable, first_latch, first_gate, latch_at, free_before}
+use Rattle.aig_graph.specs.Graph.{is_free_latch, Graph, variable, first_latch, first_gate, latch_at, free_before}
 use Rattle.aig_graph.specs.Circuits.{Network}
 use Rattle.aig_graph.specs.Building.{gate_of}
 use Rattle.variable_tables.specs.Counting.{count_below, places}
 use Rattle.aig_graph.specs.Value.{signed_as}
-use Rattle.clean_laws.specs.Merged.{mapped_props}
+use Rattle.aig_graph.specs.Mapped.{mapped_props}
 use Rattle.clean_laws.specs.Reached.{stays}
 
 -- numbers close up: the new variable is the number of those before that stay
@@ -50,10 +50,6 @@ trimmed_symbols g s names = record names { latches = map (new_name g s) (filter 
 
 abbrev pub trimmed_of : Network → (ℕ → Bool) → Network
 trimmed_of c s = record { aig = trimmed_graph c.aig s; props = mapped_props (renumbered c.aig s) c.props; symbols = trimmed_symbols c.aig s c.symbols }
-
-abbrev pub is_free_latch : Option Latch → Bool
-is_free_latch None = false
-is_free_latch (Some latch) = is_free latch
 
 -- whether latch j is free and stays
 abbrev pub is_kept_free : Graph → (ℕ → Bool) → ℕ → Bool

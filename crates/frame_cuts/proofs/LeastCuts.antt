@@ -8,11 +8,13 @@ use Rattle.variable_tables.specs.Counting.{count_below}
 use Rattle.variable_tables.specs.Marking.{has}
 use Rattle.variable_tables.proofs.PlacesLemmas.{count-fail}
 use Rattle.aig_graph.specs.declared.graph.Latch.{Latch}
-use Rattle.aig_graph.specs.Graph.{Graph, first_gate, variables_end, latch_at, is_known}
+use Rattle.aig_graph.specs.Graph.{first_gate, variables_end, latch_at, is_known}
 use Rattle.aig_graph.specs.Circuits.{Network}
 use Rattle.aig_graph.specs.Closed.{IsClosedSet}
 use Rattle.aig_graph.specs.Move.{move_of}
-use Rattle.aig_graph.specs.Border.{in_border, border_size, IsLeast, IsGreatestLeast}
+use Rattle.aig_graph.specs.Border.{border_size, IsLeast, IsGreatestLeast}
+use Rattle.aig_graph.proofs.ClosedBorder.{closed-border_size}
+use Rattle.aig_graph.proofs.SetLaws.{empty-closed}
 use Rattle.aig_graph.proofs.KindLaws.{latch_at-gates}
 use Rattle.aig_graph.proofs.SetLemmas.{has_iff_contains}
 use Rattle.frame_net.specs.FlowNet.{FlowNet, node_count, capacity_between}
@@ -33,21 +35,14 @@ count-front p q m (suc n) h only = elim (cases_eq m (suc n)) [
   ]
 ]
 
-empty-closed : (g : Graph) (held : List ℕ) → IsClosedSet g held []
-empty-closed g held = record {
-  rising = λ k h. absurd (omega (arith, h));
-  closed = record { passable = λ v m. absurd (omega (arith, m.1)); fan_ins = λ v gate m. absurd (omega (arith, m.1)) };
-}
-
 -- the border of the empty set has at most the known latches
 empty-border : (c : Network) (held : List ℕ) → border_size (move_of c held []) ≤ latch_count c.aig held
-unfolding border_size in_border
-empty-border c held = count-front (at_border c.aig c.props held []) (has_node c.aig held) (first_gate c.aig) (variables_end c.aig) (omega arith) (λ v e.
+empty-border c held = subst (λ (n : ℕ). n ≤ latch_count c.aig held) (sym (closed-border_size c held [] (empty-closed c.aig held))) (count-front (at_border c.aig c.props held []) (has_node c.aig held) (first_gate c.aig) (variables_end c.aig) (omega arith) (λ v e.
     let known : is_known (latch_at c.aig v) ≡ true = first (is_known (latch_at c.aig v)) _ e in
     elim (cases_lt v (first_gate c.aig)) [
       | inl low ↦ (low, has_node-latch c.aig held v low ∙ known)
       | inr high ↦ absurd (true_false (sym known ∙ ap (λ (o : Option Latch). is_known o) (latch_at-gates c.aig v high)))
-    ])
+    ]))
   where
     first : (a r : Bool) → ((a || false) && r) ≡ true → a ≡ true
     first true r e = refl

@@ -8,7 +8,8 @@ use Rattle.aig_graph.specs.Graph.{Graph, first_gate, variables_end}
 use Rattle.aig_graph.specs.Circuits.{Network}
 use Rattle.aig_graph.specs.Closed.{IsClosedSet}
 use Rattle.aig_graph.specs.Move.{move_of}
-use Rattle.aig_graph.specs.Border.{in_border, border_size}
+use Rattle.aig_graph.specs.Border.{border_size}
+use Rattle.aig_graph.proofs.ClosedBorder.{closed-border_size}
 use Rattle.frame_net.specs.declared.net.Point.{Point}
 use Rattle.frame_net.specs.Passable.{is_passable}
 use Rattle.frame_net.specs.FlowNet.{FlowNet, Node, node_at, node_point, node_count, point_of, capacity_between}
@@ -84,11 +85,13 @@ module _ (c : Network) (held : List ℕ) (net : FlowNet) (is : IsNetwork c held 
         let node : has_node c.aig held v ≡ true = has_node-gate c.aig held v from ∙ passes in
         (gates.each v).1 (before_number c.aig held v, (omega (arith, nodes, rank-gate c.aig held v from, rank-below c.aig held v node below), (on, point-of-before v node from below)))
 
+    closed-gates : IsClosedSet c.aig held s
+    closed-gates = record { rising = gates.rising; closed = closed c.aig c.props held is.valid side cut no-great s members members' }
+
     pub cut-closed : IsClosedSet c.aig held s × (border_size (move_of c held s) ≤ leaving net side)
-    unfolding border_size in_border
     cut-closed = (
-      record { rising = gates.rising; closed = closed c.aig c.props held is.valid side cut no-great s members members' },
-      omega (arith, border-below c.aig c.props held is.valid side cut no-great s members members', leaving-is side),
+      closed-gates,
+      omega (arith, closed-border_size c held s closed-gates, border-below c.aig c.props held is.valid side cut no-great s members members', leaving-is side),
     )
 
 pub cuts_are_closed-law : CutsAreClosed

@@ -11,7 +11,8 @@ use Rattle.aig_graph.specs.declared.graph.Latch.{Latch}
 use Rattle.aig_graph.specs.declared.properties.Props.{Props}
 use Rattle.aig_graph.specs.Graph.{Graph, IsGraph, IsGateAt, variable, first_gate, variables_end, latch_at, gate_at, is_known}
 use Rattle.aig_graph.specs.Closed.{is_held, may_move, is_settled, IsLatchOrIn, IsClosedSet}
-use Rattle.aig_graph.specs.Border.{is_fan_in, is_read_outside, in_border, border_size}
+use Rattle.aig_graph.specs.Border.{is_fan_in, is_read_outside}
+use Rattle.aig_graph.proofs.ClosedBorder.{closed-border_size}
 use Rattle.aig_graph.proofs.FoldingLaws.{gate_at-is}
 use Rattle.aig_graph.proofs.KindLaws.{latch_at-gates}
 use Rattle.aig_graph.proofs.ClosedLaws.{is_settled-gate}
@@ -217,7 +218,6 @@ module _ (g : Graph) (props : Props) (held : List ℕ) (valid : IsGraph g) (s : 
       ∙ count_below-same (crosses g held (side_at g props held s)) (at_border g props held s) (variables_end g) crosses-border
 
 pub closed_sets_are_cuts-law : ClosedSetsAreCuts
-unfolding border_size in_border
 closed_sets_are_cuts-law c held net s is set = (
   side_at c.aig c.props held s,
   record {
@@ -249,6 +249,6 @@ closed_sets_are_cuts-law c held net s is set = (
             sym (ap (λ (n : ℕ). side_at c.aig c.props held s n) p.1 ∙ ap (λ (x : Node). side_of c.aig c.props held s x) (at-before c.aig held v node range.0 range.1)) ∙ t.1.1.0),
       );
     };
-    count = leaving-is c held net is (side_at c.aig c.props held s) ∙ side-counts c.aig c.props held is.valid s set;
+    count = leaving-is c held net is (side_at c.aig c.props held s) ∙ side-counts c.aig c.props held is.valid s set ∙ sym (closed-border_size c held s set);
   },
 )

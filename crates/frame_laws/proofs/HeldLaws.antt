@@ -6,12 +6,12 @@ use Rattle.std.proofs.lemmas.Option.{slice_get-get_or, slice_get_cases}
 use Rattle.std.proofs.lemmas.List.Elements.{All-head, All-tail}
 use Rattle.aig_graph.specs.declared.graph.Latch.{Latch}
 use Rattle.aig_graph.specs.declared.properties.Symbol.{Symbol}
-use Rattle.aig_graph.specs.Graph.{Graph, first_latch, latch_at, is_free, is_known}
+use Rattle.aig_graph.specs.Graph.{Graph, first_latch, latch_at, is_free, is_known, is_free_latch}
 use Rattle.aig_graph.specs.Circuits.{Network, IsNetwork}
 use Rattle.aig_graph.specs.Closed.{is_held}
 use Rattle.aig_graph.specs.Keep.{is_named, held_by}
 use Rattle.aig_graph.specs.Move.{Move}
-use Rattle.aig_graph.specs.Border.{in_border, is_read}
+use Rattle.aig_graph.specs.Border.{in_border, is_gate_in, is_read}
 use Rattle.aig_graph.proofs.KindLaws.{latch_at-first_latch}
 use Rattle.aig_graph.proofs.SetLemmas.{has_iff_contains}
 use Rattle.variable_tables.specs.Marking.{has}
@@ -19,10 +19,10 @@ use Rattle.clean_laws.specs.Merged.{merged_of, stands_of, replaced_graph, replac
 use Rattle.clean_laws.specs.Reached.{AreReached}
 use Rattle.clean_laws.specs.Trimmed.{new_variable, new_position, new_name, trimmed_symbols, trimmed_of}
 use Rattle.clean_laws.specs.Cleaned.{IsPass, Cleans, unchanged, after_pass}
-use Rattle.clean_laws.proofs.ListLaws.{slice_get-map_some, map-map}
+use Rattle.variable_tables.proofs.ListLaws.{slice_get-map_some, map-map}
 use Rattle.clean_laws.proofs.PassLaws.{IsCircuit, IsCircuit-pass}
 use Rattle.clean_laws.proofs.TrimmedLaws.{latch_in as trimmed-latch, new-from}
-use Rattle.rebuild.specs.Moved.{is_latched, is_free_latch, latch_from, latch_for, moved_graph, moved_name, moved_symbols, stays}
+use Rattle.rebuild.specs.Moved.{is_latched, latch_from, latch_for, moved_graph, moved_name, moved_symbols, stays}
 use Rattle.rebuild.proofs.MovedLaws.{latch_in}
 use Rattle.frame_laws.specs.Names.{held_in, reset_of, held_latch, held_latches}
 use Rattle.frame_laws.specs.Frames.{move_in, moved_in, CleansIn}
@@ -163,8 +163,8 @@ module _ (names : List (List ℕ)) (c : Network) (set : List ℕ) (network : IsN
             let place : v - first_latch c.aig ≡ j = omega arith in
             let by_keep : is_held c.aig (held_in names c) v ≡ true = and_from (has (held_in names c) (v - first_latch c.aig)) (is_some (latch_at c.aig v)) (ap (has (held_in names c)) place ∙ here) (ap is_some at) in
             or_right (is_free_latch (latch_at c.aig v)) (in_border move v)
-            (and_from (is_known (latch_at c.aig v) || has set v) (is_held c.aig (held_in names c) v || is_read c set v)
-            (or_left (is_known (latch_at c.aig v)) (has set v) (ap is_known at ∙ ap not known)) (or_left (is_held c.aig (held_in names c) v) (is_read c set v) by_keep)))
+            (and_from (is_known (latch_at c.aig v) || is_gate_in c.aig set v) (is_held c.aig (held_in names c) v || is_read c set v)
+            (or_left (is_known (latch_at c.aig v)) (is_gate_in c.aig set v) (ap is_known at ∙ ap not known)) (or_left (is_held c.aig (held_in names c) v) (is_read c set v) by_keep)))
       ]
 
   moved-entry : (x : Symbol) → x.position < length c.aig.latches → holds x.position → (stays move x ≡ true) × (held_latch (moved_graph move) (moved_name move x) ≡ held_latch c.aig x)

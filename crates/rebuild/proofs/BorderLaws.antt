@@ -4,17 +4,18 @@ use Rattle.std.specs.List.{list_any, enumerate_from}
 use Rattle.std.proofs.lemmas.Bool.{cases_Bool, and_from, and_parts, and_left, and_right, or_left, or_right, or_from, le-leb, lt-leb, eq-eqb, false_from_ne_true, cond-true, cond-false, both_ways, leb-true}
 use Rattle.std.proofs.lemmas.Option.{none-some, same_Some, slice_get_within, get_or_from_slice_get}
 use Rattle.std.proofs.lemmas.List.Folds.{list_any_at}
+use Rattle.aig_graph.proofs.ClosedBorder.{is_gate_in-same}
 use Rattle.aig_graph.proofs.KindLaws.{GatePlace, gate_place, latch_at-before, latch_at-gates}
 use Rattle.aig_graph.proofs.SetLemmas.{has_iff_contains}
-use Rattle.aig_graph.specs.Border.{in_border, is_fan_in, is_read, is_read_outside, reads}
+use Rattle.aig_graph.specs.Border.{in_border, is_gate_in, is_fan_in, is_read, is_read_outside, reads}
 use Rattle.aig_graph.specs.Closed.{IsClosed, IsPassable, is_held, is_settled}
-use Rattle.aig_graph.specs.Graph.{first_gate, first_latch, gate_at, is_free, is_known, latch_at, variable}
+use Rattle.aig_graph.specs.Graph.{first_gate, first_latch, gate_at, is_free, is_known, latch_at, variable, is_free_latch}
 use Rattle.aig_graph.specs.Move.{Move}
 use Rattle.aig_graph.specs.Streams.{property_literals}
 use Rattle.aig_graph.specs.declared.graph.Gate.{Gate}
 use Rattle.aig_graph.specs.declared.graph.Latch.{Latch}
 use Rattle.rebuild.specs.Members.{ArePassable}
-use Rattle.rebuild.specs.Moved.{gates_start, is_free_latch, is_latched, is_outside, new_variable}
+use Rattle.rebuild.specs.Moved.{gates_start, is_latched, is_outside, new_variable}
 use Rattle.variable_tables.specs.Counting.{count_below, numbered}
 use Rattle.variable_tables.specs.Marking.{has}
 
@@ -67,10 +68,10 @@ module _ (m : Move) where
   pub read-second : (v : ℕ) (gate : Gate) → gate_at m.circuit.aig v ≡ Some gate → has m.set v ≡ false → is_read m.circuit m.set (variable gate.rhs1) ≡ true
   read-second v gate e other = read_by_gate v (variable gate.rhs1) gate e other (or_right (reads (variable gate.rhs1) gate.rhs0) (nat_eq (variable gate.rhs1) (variable gate.rhs1)) (eq-eqb (variable gate.rhs1) (variable gate.rhs1) refl))
 
-  -- a known latch or member that is read has a latch
-  pub latched_where_read : (v : ℕ) → is_read m.circuit m.set v ≡ true → (is_known (latch_at m.circuit.aig v) || has m.set v) ≡ true → is_latched m v ≡ true
+  -- a known latch or gate of the set that is read has a latch
+  pub latched_where_read : (v : ℕ) → is_read m.circuit m.set v ≡ true → (is_known (latch_at m.circuit.aig v) || is_gate_in m.circuit.aig m.set v) ≡ true → is_latched m v ≡ true
   unfolding is_latched in_border
-  latched_where_read v read held = or_right (is_free_latch (latch_at m.circuit.aig v)) (in_border m v) (and_from (is_known (latch_at m.circuit.aig v) || has m.set v) (is_held m.circuit.aig m.held v || is_read m.circuit m.set v) held (or_right (is_held m.circuit.aig m.held v) (is_read m.circuit m.set v) read))
+  latched_where_read v read held = or_right (is_free_latch (latch_at m.circuit.aig v)) (in_border m v) (and_from (is_known (latch_at m.circuit.aig v) || is_gate_in m.circuit.aig m.set v) (is_held m.circuit.aig m.held v || is_read m.circuit m.set v) held (or_right (is_held m.circuit.aig m.held v) (is_read m.circuit m.set v) read))
 
   free_or_known : (latch : Latch) → (is_free latch ≡ true) ⊎ (is_known (Some latch) ≡ true)
   free_or_known latch = elim (cases_Bool (is_free latch)) [ inl free ↦ inl free | inr other ↦ inr (ap not other) ]
@@ -83,19 +84,21 @@ module _ (m : Move) where
   pub latched-latch : (v : ℕ) (latch : Latch) → latch_at m.circuit.aig v ≡ Some latch → is_read m.circuit m.set v ≡ true → is_latched m v ≡ true
   latched-latch v latch e read = elim (free_or_known latch) [
     | inl free ↦ latched_where_free v latch e free
-    | inr known ↦ latched_where_read v read (or_left (is_known (latch_at m.circuit.aig v)) (has m.set v) (ap is_known e ∙ known))
+    | inr known ↦ latched_where_read v read (or_left (is_known (latch_at m.circuit.aig v)) (is_gate_in m.circuit.aig m.set v) (ap is_known e ∙ known))
   ]
 
-  -- and a member of the set
-  pub latched-member : (v : ℕ) → has m.set v ≡ true → is_read m.circuit m.set v ≡ true → is_latched m v ≡ true
-  latched-member v member read = latched_where_read v read (or_right (is_known (latch_at m.circuit.aig v)) (has m.set v) member)
+  -- and a gate of the set
+  pub latched-member : (v : ℕ) (gate : Gate) → gate_at m.circuit.aig v ≡ Some gate → has m.set v ≡ true → is_read m.circuit m.set v ≡ true → is_latched m v ≡ true
+  latched-member v gate here member read =
+      latched_where_read v read (or_right (is_known (latch_at m.circuit.aig v)) (is_gate_in m.circuit.aig m.set v) (and_from (is_some (gate_at m.circuit.aig v)) (has m.set v) (ap is_some here) member))
 
   -- what is no latch and no member has none
   pub latched-other : (v : ℕ) → latch_at m.circuit.aig v ≡ None → has m.set v ≡ false → is_latched m v ≡ false
   unfolding is_latched in_border
   latched-other v no_latch other =
       or_from (is_free_latch (latch_at m.circuit.aig v)) (in_border m v) (ap is_free_latch no_latch)
-      (and_left (is_known (latch_at m.circuit.aig v) || has m.set v) (is_held m.circuit.aig m.held v || is_read m.circuit m.set v) (or_from (is_known (latch_at m.circuit.aig v)) (has m.set v) (ap is_known no_latch) other))
+      (and_left (is_known (latch_at m.circuit.aig v) || is_gate_in m.circuit.aig m.set v) (is_held m.circuit.aig m.held v || is_read m.circuit m.set v)
+      (or_from (is_known (latch_at m.circuit.aig v)) (is_gate_in m.circuit.aig m.set v) (ap is_known no_latch) (and_right (is_some (gate_at m.circuit.aig v)) (has m.set v) other)))
 
   -- what has a latch is a latch or in the set
   pub latched-cases : (v : ℕ) → is_latched m v ≡ true → ((latch : Latch) × (latch_at m.circuit.aig v ≡ Some latch)) ⊎ ((latch_at m.circuit.aig v ≡ None) × (has m.set v ≡ true))
@@ -151,6 +154,9 @@ module _ (m : Move) (passable : ArePassable m.circuit.aig m.held m.set) where
 
   pub member-settled : (v : ℕ) → has m.set v ≡ true → is_settled m.circuit.aig m.held v ≡ true
   member-settled v member = (and_parts (is_some (gate_at m.circuit.aig v)) (is_settled m.circuit.aig m.held v) (passable v member)).1
+
+  pub gates-members : (v : ℕ) → is_gate_in m.circuit.aig m.set v ≡ has m.set v
+  gates-members v = is_gate_in-same m.circuit.aig m.set (λ w member. (and_parts (is_some (gate_at m.circuit.aig w)) (is_settled m.circuit.aig m.held w) (passable w member)).0) v
 
   pub no-member-before : (v : ℕ) → v < first_gate m.circuit.aig → has m.set v ≡ false
   no-member-before v before = false_from_ne_true (has m.set v) (λ member.

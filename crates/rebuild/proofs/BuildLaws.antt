@@ -1,5 +1,5 @@
 -- How a moved graph is built, latch by latch and gate by gate.
-use Rattle.std.proofs.Common.{ℕ, ◌+◌, ◌*◌, ◌<◌, ◌≤◌, ◌≡◌, inl, inr, List, [], ◌∷◌, ◌++◌, length, map, take, Bool, true, false, Some, None, slice_get, get_or, refl, arith, ap, sym, ◌∙◌, add-one, filter, cond}
+use Rattle.std.proofs.Common.{ℕ, ◌+◌, ◌*◌, ◌<◌, ◌≤◌, ◌≡◌, inl, inr, List, [], ◌∷◌, ◌++◌, length, map, take, Bool, true, false, Some, None, slice_get, get_or, refl, arith, ap, sym, ◌∙◌, subst, add-one, filter, cond, Result, IfOk}
 use Rattle.std.proofs.lemmas.Bool.{cond-true, cond-false, false_from_ne_true}
 use Rattle.std.proofs.lemmas.Option.{none-some, slice_get_read, slice_get_within, cond_some}
 use Rattle.std.proofs.lemmas.List.{map_push, map_more, append_assoc, take_all, append-nil}
@@ -13,13 +13,12 @@ use Rattle.aig_graph.specs.Value.{reset_to}
 use Rattle.aig_graph.specs.declared.graph.Gate.{Gate}
 use Rattle.aig_graph.specs.declared.graph.Latch.{Latch}
 use Rattle.aig_graph.specs.declared.graph.Reset.{Reset}
-use Rattle.aig_graph.specs.declared.properties.Props.{Props}
 use Rattle.aig_graph.specs.declared.properties.Symbol.{Symbol}
 use Rattle.aig_graph.specs.declared.properties.Symbols.{Symbols}
 use Rattle.rebuild.proofs.BorderLaws.{latched-cases, latched-other, no-member-before, not_outside_before, not_outside_member, outside_where}
 use Rattle.rebuild.proofs.StartLaws.{start_reset-member}
 use Rattle.rebuild.specs.Members.{ArePassable}
-use Rattle.rebuild.specs.Moved.{advanced_literal, copy_for, copy_variable, gate_between, gate_for, gates_below, is_latched, is_outside, latch_for, latch_from, latches_below, moved_graph, moved_literal, moved_name, moved_props, moved_symbols, stays}
+use Rattle.rebuild.specs.Moved.{advanced_literal, copy_for, copy_variable, gate_between, gate_for, gates_below, is_latched, is_outside, latch_for, latch_from, latches_below, moved_graph, moved_literal, moved_name, moved_symbols, stays}
 use Rattle.rebuild.specs.Starting.{gate_resets, start_reset, start_value}
 use Rattle.variable_tables.proofs.CountingLemmas.{places-none}
 use Rattle.variable_tables.proofs.PlacesLemmas.{places-fail, places-pass}
@@ -138,21 +137,17 @@ module _ (m : Move) where
       let by_gates : List Gate → Graph = λ xs. record { inputs = m.circuit.aig.inputs; latches = kept; gates = xs } in
       ap by_inputs e1 ∙ ap by_latches e2 ∙ ap by_gates e3
 
-pub props-is : (m : Move) (p : Props) (outputs bad constraints : List ℕ) (justice : List (List ℕ)) (fairness : List ℕ) → p ≡ m.circuit.props
-    → outputs ≡ map (moved_literal m) p.outputs → bad ≡ map (moved_literal m) p.bad → constraints ≡ map (moved_literal m) p.constraints → justice ≡ map (map (moved_literal m)) p.justice → fairness ≡ map (moved_literal m) p.fairness
-    → record { outputs = outputs; bad = bad; constraints = constraints; justice = justice; fairness = fairness } ≡ moved_props m
-unfolding moved_props
-props-is m p outputs bad constraints justice fairness same e1 e2 e3 e4 e5 = cc
-
 pub staying-none : (m : Move) → ArePassable m.circuit.aig m.held m.set → latches_below m (first_latch m.circuit.aig) ≡ []
 staying-none m passable =
     ap (map (latch_for m)) (places-none (is_latched m) (first_latch m.circuit.aig) (λ v h. latched-other m v (latch_at-before m.circuit.aig v h) (no-member-before m passable v (omega arith))))
 
-pub symbols-is : (m : Move) (old : Symbols) (inputs latches outputs bad constraints justice fairness : List Symbol) → old ≡ m.circuit.symbols
-    → inputs ≡ old.inputs → latches ≡ map (moved_name m) (filter (stays m) old.latches) → outputs ≡ old.outputs → bad ≡ old.bad → constraints ≡ old.constraints → justice ≡ old.justice → fairness ≡ old.fairness
-    → record { inputs = inputs; latches = latches; outputs = outputs; bad = bad; constraints = constraints; justice = justice; fairness = fairness } ≡ moved_symbols m
+-- a copy with the names of the latches that stay
+pub symbols-are : {E : Type 0} (m : Move) (old : Symbols) (latches : List Symbol) (r : Result Symbols E) → old ≡ m.circuit.symbols → latches ≡ map (moved_name m) (filter (stays m) old.latches)
+    → IfOk r (λ copy. copy ≡ record old { latches = latches }) → IfOk r (λ copy. copy ≡ moved_symbols m)
 unfolding moved_symbols
-symbols-is m old inputs latches outputs bad constraints justice fairness same e1 e2 e3 e4 e5 e6 e7 = cc
+symbols-are m old latches r same listed made =
+    subst (λ (s : Symbols). IfOk r (λ copy. copy ≡ record s { latches = map (moved_name m) (filter (stays m) s.latches) })) same
+    (subst (λ (names : List Symbol). IfOk r (λ copy. copy ≡ record old { latches = names })) listed made)
 
 -- one more name of a latch, which stays or not
 pub name-stays : (m : Move) (names : List Symbol) (i : ℕ) (name : Symbol) (copies pushed : List Symbol) (copy : Symbol) (position : ℕ)

@@ -5,6 +5,7 @@ use Rattle.aig_graph.specs.declared.properties.Symbol.{Symbol}
 use Rattle.aig_graph.specs.Graph.{Graph}
 use Rattle.aig_graph.specs.Circuits.{Network}
 use Rattle.aig_graph.specs.Closed.{is_settled}
+use Rattle.aig_graph.specs.Mapped.{mapped_props}
 use Rattle.aig_graph.specs.Move.{move_of}
 use Rattle.aig_graph.specs.Border.{in_border, is_read_outside}
 use Rattle.aig_graph.specs.Value.{value, latch_value}
@@ -12,7 +13,7 @@ use Rattle.aig_graph.specs.Folding.{fold_gates, fold_to_depth}
 use Rattle.variable_tables.specs.Counting.{count_below, places, numbered}
 use Rattle.variable_tables.specs.Tables.{table}
 use Rattle.rebuild.specs.Starting.{start_value, start_reset, gate_resets}
-use Rattle.rebuild.specs.Moved.{moved_of, is_latched, is_outside, gates_start, copies_start, new_variable, copy_variable, advanced, moved_graph, moved_props, moved_symbols}
+use Rattle.rebuild.specs.Moved.{moved_of, is_latched, is_outside, gates_start, copies_start, new_variable, copy_variable, advanced, moved_graph, moved_symbols}
 
 abbrev with_outputs : Graph → List ℕ → Network
 with_outputs g outputs = record {
@@ -34,18 +35,18 @@ both_negated = record both_plain { gates = record { rhs0 = 9; rhs1 = 7 } ∷ [] 
 
 moved_plain : moved_of (move_of (with_outputs both_plain (10 ∷ [])) [] (5 ∷ []))
     ≡ with_outputs (record { inputs = 2; latches = record { next = 8; reset = Zero } ∷ []; gates = record { rhs0 = 4; rhs1 = 2 } ∷ [] }) (6 ∷ [])
-unfolding moved_graph moved_props moved_symbols is_latched is_outside gates_start copies_start new_variable copy_variable advanced start_value places numbered in_border is_read_outside count_below value latch_value fold_gates fold_to_depth
+unfolding moved_graph mapped_props moved_symbols is_latched is_outside gates_start copies_start new_variable copy_variable advanced start_value places numbered in_border is_read_outside count_below value latch_value fold_gates fold_to_depth
 moved_plain = refl
 
 moved_negated : moved_of (move_of (with_outputs both_negated (10 ∷ [])) [] (5 ∷ []))
     ≡ with_outputs (record { inputs = 2; latches = record { next = 8; reset = One } ∷ []; gates = record { rhs0 = 5; rhs1 = 3 } ∷ [] }) (6 ∷ [])
-unfolding moved_graph moved_props moved_symbols is_latched is_outside gates_start copies_start new_variable copy_variable advanced start_value places numbered in_border is_read_outside count_below value latch_value fold_gates fold_to_depth
+unfolding moved_graph mapped_props moved_symbols is_latched is_outside gates_start copies_start new_variable copy_variable advanced start_value places numbered in_border is_read_outside count_below value latch_value fold_gates fold_to_depth
 moved_negated = refl
 
 -- its fan-out is shared
 moved_shared : moved_of (move_of (with_outputs both_plain (10 ∷ 10 ∷ 10 ∷ 10 ∷ 10 ∷ [])) [] (5 ∷ []))
     ≡ with_outputs (record { inputs = 2; latches = record { next = 8; reset = Zero } ∷ []; gates = record { rhs0 = 4; rhs1 = 2 } ∷ [] }) (6 ∷ 6 ∷ 6 ∷ 6 ∷ 6 ∷ [])
-unfolding moved_graph moved_props moved_symbols is_latched is_outside gates_start copies_start new_variable copy_variable advanced start_value places numbered in_border is_read_outside count_below value latch_value fold_gates fold_to_depth
+unfolding moved_graph mapped_props moved_symbols is_latched is_outside gates_start copies_start new_variable copy_variable advanced start_value places numbered in_border is_read_outside count_below value latch_value fold_gates fold_to_depth
 moved_shared = refl
 
 -- a free latch beside the two, which reads the first input, and which an output reads negated: it stays, before the gate's latch
@@ -59,7 +60,7 @@ moved_beside_free : moved_of (move_of (with_outputs (record {
       latches = record { next = 2; reset = Free } ∷ record { next = 10; reset = Zero } ∷ [];
       gates = record { rhs0 = 4; rhs1 = 2 } ∷ [];
     }) (7 ∷ 8 ∷ [])
-unfolding moved_graph moved_props moved_symbols is_latched is_outside gates_start copies_start new_variable copy_variable advanced start_value places numbered in_border is_read_outside count_below value latch_value fold_gates fold_to_depth
+unfolding moved_graph mapped_props moved_symbols is_latched is_outside gates_start copies_start new_variable copy_variable advanced start_value places numbered in_border is_read_outside count_below value latch_value fold_gates fold_to_depth
 moved_beside_free = refl
 
 -- a gate of the second latch alone: the first latch, which nothing reads, goes
@@ -68,7 +69,7 @@ one_read = record both_plain { gates = record { rhs0 = 8; rhs1 = 8 } ∷ [] }
 
 moved_unread : moved_of (move_of (with_outputs one_read (10 ∷ [])) [] (5 ∷ []))
     ≡ with_outputs (record { inputs = 2; latches = record { next = 8; reset = Zero } ∷ []; gates = record { rhs0 = 4; rhs1 = 4 } ∷ [] }) (6 ∷ [])
-unfolding moved_graph moved_props moved_symbols is_latched is_outside gates_start copies_start new_variable copy_variable advanced start_value places numbered in_border is_read_outside count_below value latch_value fold_gates fold_to_depth
+unfolding moved_graph mapped_props moved_symbols is_latched is_outside gates_start copies_start new_variable copy_variable advanced start_value places numbered in_border is_read_outside count_below value latch_value fold_gates fold_to_depth
 moved_unread = refl
 
 -- unless it is held
@@ -78,7 +79,7 @@ moved_held : moved_of (move_of (with_outputs one_read (10 ∷ [])) (0 ∷ []) (5
       latches = record { next = 2; reset = Zero } ∷ record { next = 10; reset = Zero } ∷ [];
       gates = record { rhs0 = 4; rhs1 = 4 } ∷ [];
     }) (8 ∷ [])
-unfolding moved_graph moved_props moved_symbols is_latched is_outside gates_start copies_start new_variable copy_variable advanced start_value places numbered in_border is_read_outside count_below value latch_value fold_gates fold_to_depth
+unfolding moved_graph mapped_props moved_symbols is_latched is_outside gates_start copies_start new_variable copy_variable advanced start_value places numbered in_border is_read_outside count_below value latch_value fold_gates fold_to_depth
 moved_held = refl
 
 abbrev named : ℕ → List Symbol
@@ -95,7 +96,7 @@ moved_with_all_kinds : moved_of (move_of (record {
       props = record { outputs = 6 ∷ []; bad = 7 ∷ []; constraints = 3 ∷ []; justice = (7 ∷ 4 ∷ []) ∷ [] ∷ []; fairness = 6 ∷ 2 ∷ [] };
       symbols = record { inputs = named 0; latches = []; outputs = named 0; bad = named 0; constraints = named 0; justice = named 1; fairness = named 1 };
     }
-unfolding moved_graph moved_props moved_symbols is_latched is_outside gates_start copies_start new_variable copy_variable advanced start_value places numbered in_border is_read_outside count_below value latch_value fold_gates fold_to_depth
+unfolding moved_graph mapped_props moved_symbols is_latched is_outside gates_start copies_start new_variable copy_variable advanced start_value places numbered in_border is_read_outside count_below value latch_value fold_gates fold_to_depth
 moved_with_all_kinds = refl
 
 resets_negated : gate_resets both_negated [] ≡ One ∷ []

@@ -1,62 +1,26 @@
 -- How many latches a moved graph has, and which of them are free.
-use Rattle.std.proofs.Common.{ℕ, ◌+◌, ◌-◌, ◌≤◌, ◌≡◌, inl, inr, suc, zero, List, length, map, take, count_by, Bool, true, false, ◌&&◌, ◌||◌, not, Option, Some, None, refl, arith, ap, sym, ◌∙◌, add-one}
+use Rattle.std.proofs.Common.{ℕ, ◌+◌, ◌-◌, ◌≤◌, ◌≡◌, inl, inr, List, length, map, count_by, Bool, true, false, ◌&&◌, ◌||◌, not, Option, Some, None, is_some, refl, arith, ap, sym, ◌∙◌}
 use Rattle.std.proofs.lemmas.Bool.{cases_Bool, and_from, and_left, and_right, or_from, not_from_true, le-leb}
-use Rattle.std.proofs.lemmas.Option.{get_or_from_slice_get}
 use Rattle.std.proofs.lemmas.List.{take-map}
-use Rattle.std.proofs.lemmas.List.Sums.{count_by_more_no, count_by_more_yes}
-use Rattle.aig_graph.proofs.KindLaws.{LatchPlace, element, latch_at-before, latch_at-first_latch, latch_at-gates, latch_place}
-use Rattle.aig_graph.specs.Border.{border_size, in_border, is_read}
+use Rattle.aig_graph.proofs.FreeLaws.{free-count, free-count_all, is_free_at}
+use Rattle.aig_graph.proofs.KindLaws.{LatchPlace, latch_place}
+use Rattle.aig_graph.proofs.FoldingLaws.{gate_at-before}
+use Rattle.aig_graph.specs.Border.{border_size, in_border, is_gate_in, is_read}
 use Rattle.aig_graph.specs.Closed.{IsClosedSet, is_held}
-use Rattle.aig_graph.specs.Graph.{Graph, first_gate, first_latch, free_before, free_latches, is_free, is_known, known_latches, latch_at, variables_end}
+use Rattle.aig_graph.specs.Graph.{first_gate, first_latch, free_before, free_latches, is_free, is_free_latch, is_known, known_latches, latch_at, variables_end}
 use Rattle.aig_graph.specs.Move.{Move}
 use Rattle.aig_graph.specs.Value.{reset_to}
+use Rattle.aig_graph.specs.declared.graph.Gate.{Gate}
 use Rattle.aig_graph.specs.declared.graph.Latch.{Latch}
 use Rattle.aig_graph.specs.declared.literal.TheConstants.{MAX_VARIABLES}
 use Rattle.rebuild.proofs.BorderLaws.{closed-passable, latched_where_free, no-member-before, not_outside_before}
 use Rattle.rebuild.proofs.MovedLaws.{length-moved_gates, length-moved_latches, moved-inputs}
-use Rattle.rebuild.specs.Moved.{is_free_latch, is_latched, is_outside, latch_for, latch_from, moved_graph}
+use Rattle.rebuild.specs.Moved.{is_latched, is_outside, latch_for, latch_from, moved_graph}
 use Rattle.rebuild.specs.Starting.{start_value}
-use Rattle.variable_tables.proofs.CountingLemmas.{count-none, count-or, count-split, count_below-same, count_by-places}
-use Rattle.variable_tables.proofs.PlacesLemmas.{count-fail, count-pass, take-places}
+use Rattle.variable_tables.proofs.CountingLemmas.{count-or, count-split, count_below-same, count_by-places}
+use Rattle.variable_tables.proofs.PlacesLemmas.{take-places}
 use Rattle.variable_tables.specs.Counting.{count_below, places}
 use Rattle.variable_tables.specs.Marking.{has}
-
-abbrev pub is_free_at : Graph → ℕ → Bool
-is_free_at g v = is_free_latch (latch_at g v)
-
--- the free latches before a latch, counted by variables
-pub free-count : (g : Graph) (j : ℕ) → j ≤ length g.latches → count_below (is_free_at g) (first_latch g + j) ≡ free_before g j
-free-count g zero h =
-    let none : count_below (is_free_at g) (first_latch g) ≡ 0 = count-none (is_free_at g) (first_latch g) (λ v less. ap is_free_latch (latch_at-before g v less)) in
-    let place : first_latch g + 0 ≡ first_latch g = omega arith in
-    ap (count_below (is_free_at g)) place ∙ none
-free-count g (suc j) h =
-    let before : count_below (is_free_at g) (first_latch g + j) ≡ free_before g j = free-count g j (omega arith) in
-    let there = element g.latches j (omega arith) in
-    let here : is_free_at g (first_latch g + j) ≡ is_free there.0 = ap is_free_latch (latch_at-first_latch g j ∙ there.1) in
-    let place : first_latch g + suc j ≡ suc (first_latch g + j) = omega arith in
-    let next : suc j ≡ j + 1 = sym (add-one j) in
-    let read = get_or_from_slice_get g.latches j there.0 there.0 there.1 in
-    elim (cases_Bool (is_free there.0)) [
-      | inl free ↦ (
-          let more : count_by is_free (take (j + 1) g.latches) ≡ count_by is_free (take j g.latches) + 1 = count_by_more_yes is_free g.latches j there.0 (omega arith) (ap is_free read ∙ free) in
-          ap (count_below (is_free_at g)) place ∙ count-pass (is_free_at g) (first_latch g + j) (here ∙ free) ∙ ap (λ (n : ℕ). n + 1) before ∙ sym more ∙ ap (free_before g) (sym next))
-      | inr known ↦ (
-          let more : count_by is_free (take (j + 1) g.latches) ≡ count_by is_free (take j g.latches) = count_by_more_no is_free g.latches j there.0 (omega arith) (ap is_free read ∙ known) in
-          ap (count_below (is_free_at g)) place ∙ count-fail (is_free_at g) (first_latch g + j) (here ∙ known) ∙ before ∙ sym more ∙ ap (free_before g) (sym next))
-    ]
-
--- no more of them among the gates
-free-count_rest : (g : Graph) (k : ℕ) → count_below (is_free_at g) (first_gate g + k) ≡ free_latches g
-free-count_rest g zero =
-    let place : first_gate g + 0 ≡ first_latch g + length g.latches = omega arith in
-    ap (count_below (is_free_at g)) place ∙ free-count g (length g.latches) (omega arith)
-free-count_rest g (suc k) =
-    let place : first_gate g + suc k ≡ suc (first_gate g + k) = omega arith in
-    ap (count_below (is_free_at g)) place ∙ count-fail (is_free_at g) (first_gate g + k) (ap is_free_latch (latch_at-gates g (first_gate g + k) (omega arith))) ∙ free-count_rest g k
-
-pub free-count_all : (g : Graph) → count_below (is_free_at g) (variables_end g) ≡ free_latches g
-free-count_all g = free-count_rest g (length g.gates)
 
 module _ (m : Move) (set : IsClosedSet m.circuit.aig m.held m.set) where
   -- a free latch isn't in the border
@@ -70,7 +34,9 @@ module _ (m : Move) (set : IsClosedSet m.circuit.aig m.held m.set) where
           let place : LatchPlace m.circuit.aig v latch = latch_place m.circuit.aig v latch e in
           let freed : is_free latch ≡ true = ap is_free_latch (sym e) ∙ free in
           let unknown : is_known (latch_at m.circuit.aig v) ≡ false = ap is_known e ∙ not_from_true (is_free latch) freed in
-          and_left (is_known (latch_at m.circuit.aig v) || has m.set v) (is_held m.circuit.aig m.held v || is_read m.circuit m.set v) (or_from (is_known (latch_at m.circuit.aig v)) (has m.set v) unknown (no-member-before m (closed-passable m set.closed) v (omega arith)))
+          let no_gate : is_gate_in m.circuit.aig m.set v ≡ false = ap (λ (o : Option Gate). is_some o && has m.set v) (gate_at-before m.circuit.aig v (omega arith)) in
+          and_left (is_known (latch_at m.circuit.aig v) || is_gate_in m.circuit.aig m.set v) (is_held m.circuit.aig m.held v || is_read m.circuit m.set v)
+          (or_from (is_known (latch_at m.circuit.aig v)) (is_gate_in m.circuit.aig m.set v) unknown no_gate)
 
   pub count-is_latched : count_below (is_latched m) (variables_end m.circuit.aig) ≡ free_latches m.circuit.aig + border_size m
   unfolding is_latched border_size

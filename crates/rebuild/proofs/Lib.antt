@@ -1,4 +1,3 @@
-pub mod SignLaws
 pub mod BorderLaws
 pub mod MovedLaws
 pub mod FreeLaws

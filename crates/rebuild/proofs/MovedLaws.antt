@@ -2,7 +2,7 @@
 use Rattle.std.proofs.Common.{ℕ, ◌+◌, ◌-◌, ◌*◌, ◌<◌, ◌≤◌, ◌≡◌, ◌⊎◌, inl, inr, suc, zero, List, [], ◌∷◌, ◌++◌, length, map, Bool, true, false, cond, Option, Some, slice_get, get_or, refl, arith, ap, sym, ◌∙◌, subst, length-append}
 use Rattle.std.specs.List.{All}
 use Rattle.std.proofs.lemmas.Bool.{cases_Bool, leb-true}
-use Rattle.std.proofs.lemmas.Option.{none-some, same_Some, slice_get_within}
+use Rattle.std.proofs.lemmas.Option.{slice_get_within}
 use Rattle.std.proofs.lemmas.List.{length-map, get_or_default}
 use Rattle.aig_graph.proofs.FoldingLaws.{gate_at-first_gate, gate_at-is}
 use Rattle.aig_graph.proofs.KindLaws.{GatePlace, KindOf, LatchPlace, gate_place, is_constant, is_gate, is_input, is_latch, kind_of, latch_at-first_latch, latch_place}
@@ -16,22 +16,13 @@ use Rattle.aig_graph.specs.declared.graph.Gate.{Gate}
 use Rattle.aig_graph.specs.declared.graph.Latch.{Latch}
 use Rattle.aig_graph.specs.declared.literal.TheConstants.{MAX_VARIABLES}
 use Rattle.rebuild.proofs.BorderLaws.{closed-passable, latched-cases, latched-latch, latched-member, member-gate, outside_parts, outside_where, new_variable-latched, new_variable-leaf, new_variable-outside, read-first, read-next, read-second}
-use Rattle.rebuild.proofs.SignLaws.{gate_of-below, gate_of-ordered, variable-signed_as, variable-signed_as_twice}
+use Rattle.aig_graph.proofs.SignLaws.{gate_of-below, gate_of-ordered, variable-signed_as, variable-signed_as_twice}
 use Rattle.rebuild.specs.Moved.{advanced, advanced_literal, copies_start, copy_for, copy_variable, gate_between, gate_for, gates_start, is_latched, is_outside, latch_for, latch_from, moved_graph, moved_literal, new_variable, next_of}
+use Rattle.variable_tables.proofs.ListLaws.{from_map, slice_get-map_some}
 use Rattle.variable_tables.proofs.MemberLemmas.{places-members}
 use Rattle.variable_tables.proofs.PlacesLemmas.{Ranks, at_rank, count-lt, length-places, rank_at, slice_get-append_left, slice_get-append_right}
 use Rattle.variable_tables.specs.Counting.{count_below, places}
 use Rattle.variable_tables.specs.Marking.{has}
-
-slice_get-map_some : {A B : Type 0} (f : A → B) (xs : List A) (k : ℕ) (x : A) → slice_get xs k ≡ Some x → slice_get (map f xs) k ≡ Some (f x)
-slice_get-map_some f [] k x e = absurd (none-some x e)
-slice_get-map_some f (y ∷ ys) zero x e = let same : y ≡ x = same_Some y x e in cc
-slice_get-map_some f (y ∷ ys) (suc k) x e = slice_get-map_some f ys k x e
-
-from_map : {A B : Type 0} (f : A → B) (xs : List A) (k : ℕ) (y : B) → slice_get (map f xs) k ≡ Some y → (x : A) × (slice_get xs k ≡ Some x) × (y ≡ f x)
-from_map f [] k y e = absurd (none-some y e)
-from_map f (x ∷ xs) zero y e = (x, refl, sym (same_Some (f x) y e))
-from_map f (x ∷ xs) (suc k) y e = from_map f xs k y e
 
 from_append : {A : Type 0} (xs ys : List A) (k : ℕ) (x : A) → slice_get (xs ++ ys) k ≡ Some x → (slice_get xs k ≡ Some x) ⊎ ((j : ℕ) × (k ≡ length xs + j) × (slice_get ys j ≡ Some x))
 from_append [] ys k x e = inr (k, omega arith, e)
@@ -154,7 +145,7 @@ module _ (m : Move) (valid : IsGraph m.circuit.aig) (set : IsClosedSet m.circuit
     | is_latch j latch there e ↦
         latch_below v bound less within (latched-latch m v latch (ap (latch_at m.circuit.aig) e ∙ latch_at-first_latch m.circuit.aig j ∙ there) read)
     | is_gate k gate there e ↦ elim (cases_Bool (has m.set v)) [
-      | inl member ↦ latch_below v bound less within (latched-member m v member read)
+      | inl member ↦ latch_below v bound less within (latched-member m v gate (ap (gate_at m.circuit.aig) e ∙ gate_at-first_gate m.circuit.aig k ∙ there) member read)
       | inr other ↦ (
           let outer : is_outside m v ≡ true = outside_where m v (omega arith) other in
           rw (new_variable-outside m (closed-passable m set.closed) v outer) (omega (arith, count-lt (is_outside m) v bound less outer)))

@@ -4,18 +4,18 @@ use Rattle.std.proofs.lemmas.Bool.{cases_Bool}
 use Rattle.std.proofs.lemmas.List.{length-replicate}
 use Rattle.aig_graph.proofs.KindLaws.{LatchPlace, latch_at-before, latch_place}
 use Rattle.aig_graph.proofs.ReadingLemmas.{is_read_outside-marks}
-use Rattle.aig_graph.specs.Border.{in_border, is_read, is_read_outside}
+use Rattle.aig_graph.specs.Border.{in_border, is_gate_in, is_read, is_read_outside}
 use Rattle.aig_graph.specs.Closed.{both, is_held}
-use Rattle.aig_graph.specs.Graph.{Graph, IsGraph, first_latch, is_known, latch_at, latches_and_gates, variable, variables_end}
+use Rattle.aig_graph.specs.Graph.{Graph, IsGraph, first_latch, is_known, latch_at, latches_and_gates, variable, variables_end, is_free_latch}
 use Rattle.aig_graph.specs.Move.{Move}
 use Rattle.aig_graph.specs.declared.graph.Latch.{Latch}
 use Rattle.aig_graph.specs.declared.literal.TheConstants.{MAX_VARIABLES}
 use Rattle.aig_graph.specs.declared.properties.Props.{Props}
-use Rattle.rebuild.proofs.BorderLaws.{latched-other, new_variable-leaf, no-member-before, not_outside_before}
+use Rattle.rebuild.proofs.BorderLaws.{gates-members, latched-other, new_variable-leaf, no-member-before, not_outside_before}
 use Rattle.rebuild.proofs.MovedLaws.{copies_start-is, copy_variable-is, gates_start-is}
 use Rattle.rebuild.specs.Entries.{by_variable, latched_by}
 use Rattle.rebuild.specs.Members.{ArePassable}
-use Rattle.rebuild.specs.Moved.{copies_start, copy_variable, gates_start, is_free_latch, is_latched, is_outside, moved_literal, new_variable, next_of}
+use Rattle.rebuild.specs.Moved.{copies_start, copy_variable, gates_start, is_latched, is_outside, moved_literal, new_variable, next_of}
 use Rattle.variable_tables.proofs.MarkingLemmas.{AreAllMarks-table, AreMarks-from_none, Marks-then, mark_at-all, mark_at-covered}
 use Rattle.variable_tables.proofs.PlacesLemmas.{count-lt}
 use Rattle.variable_tables.proofs.TableLemmas.{entry, length-table, numbered-first, numbered-next, numbered-other, table-end, table-none, table-same, whole-table}
@@ -125,8 +125,8 @@ latched-here m inside old new latched passable members fresh both filled =
     mark_at-covered (first_latch g) new (λ w. is_read_outside g m.circuit.props (mark_at (first_latch g) inside) w || is_held g m.held w) v marked low (omega arith) in
     let outside : is_read_outside g m.circuit.props (mark_at (first_latch g) inside) v ≡ is_read m.circuit m.set v =
     is_read_outside-marks g m.circuit.props inside (has m.set) (omega arith) all.each v in
-    ap (λ (b : Bool). is_free_latch (latch_at g v) || ((is_known (latch_at g v) || b) && mark_at (first_latch g) new v)) member
-    ∙ ap (λ (b : Bool). is_free_latch (latch_at g v) || ((is_known (latch_at g v) || has m.set v) && b))
+    ap (λ (b : Bool). is_free_latch (latch_at g v) || ((is_known (latch_at g v) || b) && mark_at (first_latch g) new v)) (member ∙ sym (gates-members m passable v))
+    ∙ ap (λ (b : Bool). is_free_latch (latch_at g v) || ((is_known (latch_at g v) || is_gate_in g m.set v) && b))
     (mark ∙ ap (λ (b : Bool). b || is_held g m.held v) outside ∙ or_comm (is_read m.circuit m.set v) (is_held g m.held v)))
 
 -- the same by the graph and the properties that were read of the circuit

@@ -17,7 +17,7 @@ use Rattle.aig_graph.specs.declared.graph.Latch.{Latch}
 use Rattle.aig_graph.specs.declared.graph.Reset.{Reset}
 use Rattle.aig_graph.specs.declared.graph.Reset.TheVariants.{Free, One, Zero}
 use Rattle.rebuild.proofs.BorderLaws.{member-settled}
-use Rattle.rebuild.proofs.SignLaws.{value_signed}
+use Rattle.aig_graph.proofs.SignLaws.{value_signed}
 use Rattle.rebuild.specs.Laws.{StartLaw}
 use Rattle.rebuild.specs.Members.{ArePassable}
 use Rattle.rebuild.specs.Starting.{and_reset, literal_start, start_reset, start_value}

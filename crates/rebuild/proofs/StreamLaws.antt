@@ -1,9 +1,8 @@
 -- A moved circuit has the streams of the circuit.
-use Rattle.std.proofs.Common.{ℕ, ◌+◌, ◌-◌, ◌*◌, ◌<◌, ◌≡◌, inl, inr, suc, zero, List, [], ◌∷◌, map, Bool, true, false, ◌&&◌, cond, Option, Some, None, get_or, refl, arith, ap, sym, ◌∙◌, subst, add-one}
+use Rattle.std.proofs.Common.{ℕ, ◌+◌, ◌-◌, ◌*◌, ◌<◌, ◌≡◌, inl, inr, suc, zero, map, Bool, true, false, ◌&&◌, cond, Option, Some, None, get_or, refl, arith, ap, sym, ◌∙◌, subst, add-one}
 use Rattle.std.specs.List.{All, range_with_len}
 use Rattle.std.specs.List.Sorted.{IsStrictlyIncreasing}
 use Rattle.std.proofs.lemmas.Bool.{cases_Bool}
-use Rattle.std.proofs.lemmas.List.Elements.{All-head, All-tail}
 use Rattle.std.proofs.lemmas.List.FromFn.{length-range_with_len, get_or-range_with_len}
 use Rattle.aig_graph.proofs.FoldingLaws.{gate_at-first_gate, gate_at-is}
 use Rattle.aig_graph.proofs.KindLaws.{GatePlace, LatchPlace, gate_place, is_constant, is_gate, is_input, is_latch, kind_of, latch_at-first_latch, latch_place}
@@ -13,7 +12,7 @@ use Rattle.aig_graph.specs.Border.{is_read}
 use Rattle.aig_graph.specs.Building.{gate_of}
 use Rattle.aig_graph.specs.Circuits.{IsNetwork, Network}
 use Rattle.aig_graph.specs.Closed.{IsClosedSet, IsLatchOrIn}
-use Rattle.aig_graph.specs.Graph.{Graph, IsGateAt, IsGraph, first_gate, first_latch, free_before, free_latches, gate_at, is_free, latch_at, variable, variables_end}
+use Rattle.aig_graph.specs.Graph.{Graph, IsGateAt, IsGraph, first_gate, first_latch, free_before, free_latches, gate_at, is_free, latch_at, variable, variables_end, is_free_latch}
 use Rattle.aig_graph.specs.Laws.{ValueLaws}
 use Rattle.aig_graph.specs.Move.{Move}
 use Rattle.aig_graph.specs.Streams.{SameStreams, chosen, property_literals}
@@ -25,14 +24,16 @@ use Rattle.aig_graph.specs.declared.graph.Reset.TheVariants.{Free, One, Zero}
 use Rattle.aig_graph.specs.declared.properties.Props.{Props}
 use Rattle.aig_graph.specs.declared.properties.Symbols.{Symbols}
 use Rattle.rebuild.proofs.BorderLaws.{closed-passable, latched-cases, latched-latch, latched-member, member-gate, outside_where, new_variable-latched, new_variable-leaf, new_variable-outside, read-first, read-next, read-second}
-use Rattle.rebuild.proofs.FreeLaws.{free-count, free-count_all, is_free_at, moved-free, moved-free_at}
+use Rattle.aig_graph.proofs.FreeLaws.{free-count, free-count_all, is_free_at}
+use Rattle.rebuild.proofs.FreeLaws.{moved-free, moved-free_at}
 use Rattle.rebuild.proofs.MovedLaws.{copies_start-is, copy_in, copy_variable-is, latch_in, moved-first_gate, moved-first_latch, moved-inputs, gate_in}
 use Rattle.rebuild.proofs.ReadLaws.{IsReadable, all-readable, moved-literals, moved-shape}
-use Rattle.rebuild.proofs.SignLaws.{value-gate_of, value_signed, value_signed_as}
+use Rattle.aig_graph.proofs.SignLaws.{value-gate_of, value_signed, value_signed_as}
 use Rattle.rebuild.proofs.StartLaws.{opening-reset_to, value-gate, value-latch_later, value-latch_start, value-start_value}
-use Rattle.rebuild.specs.Moved.{advanced, advanced_literal, copy_for, copy_variable, gate_between, gate_for, is_free_latch, is_latched, is_outside, latch_for, latch_from, moved_graph, moved_literal, moved_of, moved_props, moved_symbols, new_variable, next_of}
+use Rattle.rebuild.specs.Moved.{advanced, advanced_literal, copy_for, copy_variable, gate_between, gate_for, is_latched, is_outside, latch_for, latch_from, moved_graph, moved_literal, moved_of, moved_props, moved_symbols, new_variable, next_of}
 use Rattle.rebuild.specs.Starting.{start_value}
 use Rattle.variable_tables.proofs.PlacesLemmas.{count-lt}
+use Rattle.variable_tables.proofs.ListLaws.{map-map, map-same}
 use Rattle.variable_tables.specs.Counting.{count_below}
 use Rattle.variable_tables.specs.Marking.{has}
 
@@ -40,17 +41,6 @@ opening-same : (r : Reset) (next : ℕ) (a b : Bool) → (is_free (record { next
 opening-same Zero next a b same = refl
 opening-same One next a b same = refl
 opening-same Free next a b same = same refl
-
-map-same : {A B : Type 0} (P : A → Type 0) (f g : A → B) → ((x : A) → P x → f x ≡ g x) → (xs : List A) → All P xs → map f xs ≡ map g xs
-map-same P f g same [] all = refl
-map-same P f g same (x ∷ xs) all =
-    let here : f x ≡ g x = same x (All-head P x xs all) in
-    let rest : map f xs ≡ map g xs = map-same P f g same xs (All-tail P x xs all) in
-    cc
-
-map-map : {A B C : Type 0} (f : B → C) (g : A → B) (xs : List A) → map f (map g xs) ≡ map (λ x. f (g x)) xs
-map-map f g [] = refl
-map-map {A} {B} {C} f g (x ∷ xs) = ap (λ (ys : List C). f (g x) ∷ ys) (map-map f g xs)
 
 module _ (m : Move) (valid : IsGraph m.circuit.aig) (set : IsClosedSet m.circuit.aig m.held m.set) (moved : IsGraph (moved_graph m)) (x : Inputs) (f : Choice) where
   abbrev before : ℕ → ℕ → Bool
@@ -89,7 +79,7 @@ module _ (m : Move) (valid : IsGraph m.circuit.aig) (set : IsClosedSet m.circuit
     | is_latch j latch there e ↦
         latches v within (latched-latch m v latch (ap (latch_at m.circuit.aig) e ∙ latch_at-first_latch m.circuit.aig j ∙ there) read)
     | is_gate k gate there e ↦ elim (cases_Bool (has m.set v)) [
-      | inl member ↦ latches v within (latched-member m v member read)
+      | inl member ↦ latches v within (latched-member m v gate (ap (gate_at m.circuit.aig) e ∙ gate_at-first_gate m.circuit.aig k ∙ there) member read)
       | inr other ↦ (
           let here : gate_at m.circuit.aig v ≡ Some gate = ap (gate_at m.circuit.aig) e ∙ gate_at-first_gate m.circuit.aig k ∙ there in
           let at : IsGateAt v gate = gate_at-is m.circuit.aig valid v gate here in

@@ -1,23 +1,20 @@
 -- A circuit whose latches have moved forward over a closed set of gates.
-use Rattle.std.specs.Prelude.{ℕ, ◌+◌, ◌*◌, ◌++◌, ◌||◌, ◌&&◌, nat_le, not, Bool, false, List, length, map, filter, Option, Some, None, if◌then◌else◌}
+use Rattle.std.specs.Prelude.{ℕ, ◌+◌, ◌*◌, ◌++◌, ◌||◌, ◌&&◌, nat_le, not, Bool, List, length, map, filter, Option, Some, None, if◌then◌else◌}
 use Rattle.aig_graph.specs.declared.graph.Gate.{Gate}
 use Rattle.aig_graph.specs.declared.graph.Latch.{Latch}
 use Rattle.aig_graph.specs.declared.properties.Props.{Props}
 use Rattle.aig_graph.specs.declared.properties.Symbol.{Symbol}
 use Rattle.aig_graph.specs.declared.properties.Symbols.{Symbols}
-use Rattle.aig_graph.specs.Graph.{Graph, variable, first_latch, first_gate, variables_end, latch_at, gate_at, is_free, free_latches}
+use Rattle.aig_graph.specs.Graph.{Graph, variable, first_latch, first_gate, variables_end, latch_at, gate_at, is_free_latch, free_latches}
 use Rattle.aig_graph.specs.Circuits.{Network}
 use Rattle.aig_graph.specs.Value.{signed_as, reset_to}
 use Rattle.aig_graph.specs.Building.{gate_of}
 use Rattle.aig_graph.specs.Move.{Move}
+use Rattle.aig_graph.specs.Mapped.{mapped_props}
 use Rattle.aig_graph.specs.Border.{in_border, border_size}
 use Rattle.variable_tables.specs.Counting.{count_below, places, numbered}
 use Rattle.variable_tables.specs.Marking.{has}
 use Rattle.rebuild.specs.Starting.{start_value}
-
-abbrev pub is_free_latch : Option Latch → Bool
-is_free_latch None = false
-is_free_latch (Some latch) = is_free latch
 
 -- whether the moved circuit has a latch for the variable: it is a free latch, or in the border
 unfoldable pub is_latched : Move → ℕ → Bool
@@ -92,14 +89,8 @@ moved_graph m = record {
   gates = gates_below m (variables_end m.circuit.aig) ++ map (copy_for m) m.set;
 }
 
-unfoldable pub moved_props : Move → Props
-moved_props m = record {
-  outputs = map (moved_literal m) m.circuit.props.outputs;
-  bad = map (moved_literal m) m.circuit.props.bad;
-  constraints = map (moved_literal m) m.circuit.props.constraints;
-  justice = map (map (moved_literal m)) m.circuit.props.justice;
-  fairness = map (moved_literal m) m.circuit.props.fairness;
-}
+abbrev pub moved_props : Move → Props
+moved_props m = mapped_props (moved_literal m) m.circuit.props
 
 -- whether the latch with this position stays
 abbrev pub stays : Move → Symbol → Bool

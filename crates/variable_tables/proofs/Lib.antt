@@ -3,3 +3,4 @@ pub mod CountingLemmas
 pub mod MemberLemmas
 pub mod TableLemmas
 pub mod MarkingLemmas
+pub mod ListLaws

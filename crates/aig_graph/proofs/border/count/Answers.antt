@@ -25,7 +25,7 @@ returns c =
     let marked = Marks-then (first_latch g) _ _ _ (is_read_outside g props (mark_at (first_latch g) inside)) (is_held g held)
     (Marks-same _ _ _ _ _ c.mark_read.ensures (λ v. ap (λ (xs : List Bool). is_read_outside g props (mark_at (first_latch g) xs) v) (c.as_slice.ensures.value ∙ sym c.as_slice-2.ensures.value))) c.mark_held.ensures in
     c.count_marked.ensures
-    ∙ border_size-is c.args.circuit.now held s g props inside _ c.aig-aig.ensures.value c.props.ensures.value c.requires
+    ∙ border_size-is c.args.circuit.now held s g props inside _ c.aig-aig.ensures.value c.props.ensures.value
     (ap length filled ∙ length-table _ n _ ∙ c.latches_and_gates-entries.ensures.value)
     (marked.as_long ∙ ap length fresh ∙ length-replicate n false ∙ c.latches_and_gates-entries.ensures.value)
     (AreMarks-table (first_latch g) n inside (has s) filled)

@@ -1,6 +1,6 @@
 use Rattle.clean_laws.specs.Merged.{replaced}
-use Rattle.clean.proofs.MappingLaws.{props-is}
+use Rattle.aig_graph.proofs.PropsLaws.{mapped-is}
 use Rattle.clean.proofs.mapping.mapped_props.Goals as goal
 
 pub returns : goal.returns
-returns c = props-is (replaced c.args.stands.now) c.args.props.now _ _ _ _ _ c.in_ok-outputs.ensures c.in_ok-bad.ensures c.in_ok-constraints.ensures c.in_ok-justice.ensures c.in_ok-fairness.ensures
+returns c = mapped-is (replaced c.args.stands.now) c.args.props.now _ _ _ _ _ c.in_ok-outputs.ensures c.in_ok-bad.ensures c.in_ok-constraints.ensures c.in_ok-justice.ensures c.in_ok-fairness.ensures

@@ -1,7 +1,7 @@
 use Rattle.std.proofs.Common.{◌≡◌, ◌<◌, ◌∙◌, ap, sym, subst, length, List, ℕ}
 use Rattle.aig_graph.specs.Graph.{Graph, variable, variables_end}
 use Rattle.aig_graph.specs.declared.properties.Props.{Props}
-use Rattle.clean_laws.specs.Properties.{OfProps}
+use Rattle.aig_graph.specs.Mapped.{OfProps}
 use Rattle.clean_laws.specs.Merged.{stands_of}
 use Rattle.clean.proofs.MappingLaws.{stands-long, props-within}
 use Rattle.clean.proofs.merged.merged_of.Goals as goal

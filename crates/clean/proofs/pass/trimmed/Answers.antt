@@ -4,7 +4,7 @@ use Rattle.aig_graph.specs.declared.properties.Symbol.{Symbol}
 use Rattle.aig_graph.specs.declared.properties.Symbols.{Symbols}
 use Rattle.aig_graph.specs.Graph.{Graph, IsGraph, IsLiteralOf}
 use Rattle.aig_graph.specs.Circuits.{Network, IsNetwork}
-use Rattle.clean_laws.specs.Properties.{OfProps}
+use Rattle.aig_graph.specs.Mapped.{OfProps}
 use Rattle.clean_laws.specs.Merged.{merged_of}
 use Rattle.clean_laws.specs.Trimmed.{trimmed_of, kept_free, new_position}
 use Rattle.clean.specs.Sweep.{Front, is_marked}

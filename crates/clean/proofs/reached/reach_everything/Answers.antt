@@ -3,7 +3,7 @@ use Rattle.std.specs.List.{All}
 use Rattle.std.proofs.lemmas.Option.{slice_get_within}
 use Rattle.std.proofs.lemmas.List.{length-replicate}
 use Rattle.aig_graph.specs.Graph.{Graph, variable, first_latch, variables_end}
-use Rattle.clean_laws.specs.Properties.{OfProps}
+use Rattle.aig_graph.specs.Mapped.{OfProps}
 use Rattle.clean.specs.Sweep.{Front, front_end, no_front, reach_all, reads_of}
 use Rattle.clean.proofs.FrontLaws.{all-end}
 use Rattle.clean.proofs.ReadsLaws.{reads-within}

@@ -2,7 +2,7 @@ use Rattle.std.proofs.Common.{◌≡◌, ◌<◌, ◌∙◌, ap, sym, subst, ℕ
 use Rattle.aig_graph.specs.Graph.{Graph, variable, variables_end}
 use Rattle.clean.specs.Sweep.{is_marked}
 use Rattle.aig_graph.specs.Circuits.{Network, IsNetwork}
-use Rattle.clean_laws.specs.Properties.{OfProps}
+use Rattle.aig_graph.specs.Mapped.{OfProps}
 use Rattle.clean.proofs.TrimLaws.{length-new_literals, props-new, network-is}
 use Rattle.clean.proofs.trim.Trim.circuit.Goals as goal
 

@@ -3,12 +3,11 @@ use Rattle.std.proofs.Common.{ℕ, ◌+◌, ◌≤◌, ◌≡◌, inl, inr, suc,
 use Rattle.std.proofs.lemmas.Bool.{cases_Bool}
 use Rattle.std.proofs.lemmas.Option.{get_or_from_slice_get}
 use Rattle.std.proofs.lemmas.List.Sums.{count_by_more_no, count_by_more_yes}
-use Rattle.aig_graph.specs.Graph.{Graph, first_latch, latch_at, is_free, free_before}
+use Rattle.aig_graph.specs.Graph.{Graph, first_latch, first_gate, variables_end, latch_at, is_free, is_free_latch, free_before, free_latches}
 use Rattle.variable_tables.specs.Counting.{count_below}
 use Rattle.variable_tables.proofs.PlacesLemmas.{count-pass, count-fail}
 use Rattle.variable_tables.proofs.CountingLemmas.{count-none}
-use Rattle.aig_graph.proofs.KindLaws.{element, latch_at-before, latch_at-first_latch}
-use Rattle.clean_laws.specs.Trimmed.{is_free_latch}
+use Rattle.aig_graph.proofs.KindLaws.{element, latch_at-before, latch_at-first_latch, latch_at-gates}
 
 abbrev pub is_free_at : Graph → ℕ → Bool
 is_free_at g v = is_free_latch (latch_at g v)
@@ -34,3 +33,15 @@ free-count g (suc j) h =
           let more : count_by is_free (take (j + 1) g.latches) ≡ count_by is_free (take j g.latches) = count_by_more_no is_free g.latches j there.0 (omega arith) (ap is_free read ∙ known) in
           ap (count_below (is_free_at g)) place ∙ count-fail (is_free_at g) (first_latch g + j) (here ∙ known) ∙ before ∙ sym more ∙ ap (free_before g) (sym next))
     ]
+
+-- no more of them among the gates
+free-count_rest : (g : Graph) (k : ℕ) → count_below (is_free_at g) (first_gate g + k) ≡ free_latches g
+free-count_rest g zero =
+    let place : first_gate g + 0 ≡ first_latch g + length g.latches = omega arith in
+    ap (count_below (is_free_at g)) place ∙ free-count g (length g.latches) (omega arith)
+free-count_rest g (suc k) =
+    let place : first_gate g + suc k ≡ suc (first_gate g + k) = omega arith in
+    ap (count_below (is_free_at g)) place ∙ count-fail (is_free_at g) (first_gate g + k) (ap is_free_latch (latch_at-gates g (first_gate g + k) (omega arith))) ∙ free-count_rest g k
+
+pub free-count_all : (g : Graph) → count_below (is_free_at g) (variables_end g) ≡ free_latches g
+free-count_all g = free-count_rest g (length g.gates)

@@ -7,8 +7,7 @@ use Rattle.aig_graph.specs.declared.properties.Props.{Props}
 use Rattle.aig_graph.specs.Graph.{Graph, IsLiteralOf}
 use Rattle.aig_graph.specs.Circuits.{Network, ArePropsOf}
 use Rattle.aig_graph.specs.Streams.{property_literals, SameShape}
-use Rattle.clean_laws.specs.Merged.{mapped_props}
-use Rattle.clean_laws.specs.Properties.{OfProps}
+use Rattle.aig_graph.specs.Mapped.{OfProps, mapped_props}
 
 All-left : {A : Type 0} (P : A → Type 0) (xs ys : List A) → All P (xs ++ ys) → All P xs
 All-left P xs ys all = λ k d h. subst P (get_or_append_left xs ys d k h) (all k d (omega (arith, length-append xs ys)))
@@ -67,6 +66,19 @@ mapped-literals f p =
     let e3 = map-append f (p.outputs ++ p.bad ++ p.constraints) flat in
     let e4 = map-append f (p.outputs ++ p.bad ++ p.constraints ++ flat) p.fairness in
     cc
+
+-- what is mapped kind by kind
+pub mapped-is : (f : ℕ → ℕ) (p : Props) (outputs bad constraints : List ℕ) (justice : List (List ℕ)) (fairness : List ℕ) → outputs ≡ map f p.outputs → bad ≡ map f p.bad → constraints ≡ map f p.constraints
+    → justice ≡ map (map f) p.justice → fairness ≡ map f p.fairness
+    → ◌≡◌ {A = Props} (record { outputs = outputs; bad = bad; constraints = constraints; justice = justice; fairness = fairness }) (mapped_props f p)
+unfolding mapped_props
+mapped-is f p outputs bad constraints justice fairness one two three four five =
+    let first : List ℕ → Props = λ xs. record { outputs = xs; bad = bad; constraints = constraints; justice = justice; fairness = fairness } in
+    let second : List ℕ → Props = λ xs. record { outputs = map f p.outputs; bad = xs; constraints = constraints; justice = justice; fairness = fairness } in
+    let third : List ℕ → Props = λ xs. record { outputs = map f p.outputs; bad = map f p.bad; constraints = xs; justice = justice; fairness = fairness } in
+    let fourth : List (List ℕ) → Props = λ xss. record { outputs = map f p.outputs; bad = map f p.bad; constraints = map f p.constraints; justice = xss; fairness = fairness } in
+    let fifth : List ℕ → Props = λ xs. record { outputs = map f p.outputs; bad = map f p.bad; constraints = map f p.constraints; justice = map (map f) p.justice; fairness = xs } in
+    ap first one ∙ ap second two ∙ ap third three ∙ ap fourth four ∙ ap fifth five
 
 pub mapped-shape : (f : ℕ → ℕ) (c d : Network) → d.aig.inputs ≡ c.aig.inputs → d.props ≡ mapped_props f c.props → SameShape c d
 unfolding mapped_props
