@@ -16,10 +16,10 @@ use Rattle.aag_file.specs.declared.raw.RawLatch.{RawLatch}
 use Rattle.aag_file.specs.Raw.{RawSymbol}
 use Rattle.aag_file.specs.Meaning.{gate_reads}
 use Rattle.aag_file.specs.Reading.{is_resolved, resolve}
+use Rattle.aag_file.specs.Answering.{Fails, Gives}
 use Rattle.file_parts.specs.Parts.{AreNamesWithin}
 use Rattle.file_parts.proofs.PartLaws.{within}
 use Rattle.aag_circuit.specs.declared.lists.RawLists.{RawLists}
-use Rattle.aag_circuit.specs.Answering.{Fails, Gives}
 use Rattle.aag_circuit.specs.Numbering.{has_place, is_placed, placed, placed_latch, placed_gate, is_gate_placed, placed_lists, PlacedLists, if_known}
 use Rattle.aag_circuit.specs.Arranging.{IsBelow, IsGateBelow, order_or_cycle}
 use Rattle.aag_circuit.specs.Resolving.{raw_of, AreRead, IsConsistent, ArePlaced, IsOrdered, arranged, placed_reads}

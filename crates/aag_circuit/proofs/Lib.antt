@@ -2,7 +2,6 @@ pub mod CollectingLaws
 pub mod GraphLaws
 pub mod ArrangeLaws
 pub mod PositionLaws
-pub mod AnsweringLaws
 pub mod MeaningLaws
 pub mod ResolveLaws
 pub mod AnswerLaws

@@ -26,11 +26,11 @@ use Rattle.aag_file.specs.Files.{DefinesApart}
 use Rattle.aag_file.specs.Meaning as meaning
 use Rattle.aag_file.specs.Meaning.{gate_place, gate_reads, with_gates_at, in_order, literal_in, reset_of, props_of, symbols_of, circuit_of}
 use Rattle.aag_file.specs.Reading.{◌>>=◌, is_known_among, is_resolved, circuit_in_order, resolve}
-use Rattle.aag_circuit.specs.Answering.{Fails}
+use Rattle.aag_file.specs.Answering.{Fails}
+use Rattle.aag_file.proofs.AnsweringLaws.{Fails-same, Fails-err, Fails-ok}
 use Rattle.aag_circuit.specs.Numbering.{is_placed, placed, if_known, placed_lists, PlacedLists}
 use Rattle.aag_circuit.specs.Arranging.{AreRanks, gate_read, reads_of, moved, moved_latch, moved_gate, no_gate, order_or_cycle}
 use Rattle.aag_circuit.specs.Resolving.{arranged}
-use Rattle.aag_circuit.proofs.AnsweringLaws.{Fails-same, Fails-err, Fails-ok}
 use Rattle.aag_circuit.proofs.GraphLaws.{distinct, ranked}
 use Rattle.aag_circuit.proofs.PositionLaws.{IsReordered}
 use Rattle.aag_circuit.proofs.MeaningLaws.{known_same, number_same, read_same, moved_same}

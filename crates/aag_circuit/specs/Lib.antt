@@ -1,4 +1,3 @@
-pub mod Answering
 pub mod Numbering
 pub mod Arranging
 pub mod Resolving

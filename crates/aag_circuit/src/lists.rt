@@ -23,7 +23,7 @@ impl RawLists {
     ghost use Rattle.std.specs.List.{sum};
     ghost use Rattle.aag_file.specs.Raw.{safety_count};
     ghost use Rattle.aag_file.specs.Headers.{IsHeaderWithin};
-    ghost use Rattle.aag_circuit.specs.Answering.{Gives};
+    ghost use Rattle.aag_file.specs.Answering.{Gives};
     ghost use Rattle.aag_circuit.specs.Numbering.{placed_lists};
     ghost use Rattle.aag_circuit.specs.Resolving.{IsConsistent};
 

@@ -1,7 +1,7 @@
 //! Literals by the places of their variables.
 ghost use Rattle.std.specs.Prelude.{◌≡◌, ◌<◌, ◌^◌, Some, None, if◌then◌else◌};
 ghost use Rattle.aag_file.specs.Meaning as meaning;
-ghost use Rattle.aag_circuit.specs.Answering.{Gives};
+ghost use Rattle.aag_file.specs.Answering.{Gives};
 ghost use Rattle.aag_circuit.specs.Numbering.{is_placed, is_gate_placed, placed, placed_gate, placed_literals, placed_latches, placed_gates};
 
 use aag_file::{RawGate, RawLatch};

@@ -1,7 +1,7 @@
 //! The order of the gates.
 ghost use Rattle.std.specs.Prelude.{◌≡◌, ◌<◌, ◌≤◌, ◌^◌, length, map, All, IfOk};
 ghost use Rattle.gate_order.specs.Order.{ordered, IsOrder, AreReadsInFile};
-ghost use Rattle.aag_circuit.specs.Answering.{Gives};
+ghost use Rattle.aag_file.specs.Answering.{Gives};
 ghost use Rattle.aag_circuit.specs.Arranging as arranging;
 ghost use Rattle.aag_circuit.specs.Arranging.{gate_read, order_or_cycle, AreRanks, AreDistinct, IsGateBelow};
 

@@ -1,5 +1,5 @@
 ghost use Rattle.std.specs.Prelude.{◌<◌, ◌^◌};
-ghost use Rattle.aag_circuit.specs.Answering.{Gives};
+ghost use Rattle.aag_file.specs.Answering.{Gives};
 ghost use Rattle.aag_circuit.specs.Numbering.{placed_lists};
 
 use crate::numbering;

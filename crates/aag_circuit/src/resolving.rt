@@ -4,8 +4,8 @@ ghost use Rattle.aag_file.specs.Raw.{RawSymbol};
 ghost use Rattle.aag_file.specs.Headers.{IsHeaderWithin};
 ghost use Rattle.aag_file.specs.Meaning.{props_of};
 ghost use Rattle.aag_file.specs.Reading as reading;
+ghost use Rattle.aag_file.specs.Answering.{Fails, Gives};
 ghost use Rattle.file_parts.specs.Parts.{AreNamesWithin};
-ghost use Rattle.aag_circuit.specs.Answering.{Fails, Gives};
 ghost use Rattle.aag_circuit.specs.Arranging.{AreRanks, graph_in_order, moved, order_or_cycle};
 ghost use Rattle.aag_circuit.specs.Resolving.{AreRead, ArePlaced, IsArranged, IsConsistent, IsOrdered, placed_reads, raw_of};
 

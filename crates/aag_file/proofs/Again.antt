@@ -19,7 +19,7 @@ use Rattle.aig_graph.specs.Circuits.{Network, IsNetwork}
 use Rattle.gate_order.specs.declared.reads.Reads.{Reads}
 use Rattle.gate_order.specs.Order.{IsOrder, IsInOrder, ReadsBelow}
 use Rattle.gate_order.proofs.OrderLaws.{at_most_one, keeps_order}
-use Rattle.aag_format.proofs.Ranges.{range-literal, enumerated_at}
+use Rattle.aag_file.proofs.Ranges.{range-literal, enumerated_at}
 use Rattle.aag_file.specs.declared.raw.RawLatch.{RawLatch}
 use Rattle.aag_file.specs.declared.raw.RawGate.{RawGate}
 use Rattle.aag_file.specs.Raw.{Raw, defined}

@@ -35,13 +35,14 @@ accepted : AreRewritten (
     ∷ (codes "aag 1 1 0 0 0 1 0 0 0\n2\n2\n", codes "aag 1 1 0 0 0 1\n2\n2\n")
     ∷ (codes "aag 0 0 0 0 0\ncn text\n", codes "aag 0 0 0 0 0\n")
     ∷ (codes "aag 2 2 0 0 0\n2\n4\ni1 b\ni0 \nc", codes "aag 2 2 0 0 0\n2\n4\ni0 \ni1 b\n")
+    ∷ (codes "aag 4 1 3 1 0\n2\n4 2 4\n6 2 1\n8 4 0\n9\n", codes "aag 4 1 3 1 0\n2\n4 2 4\n6 2 1\n8 4\n9\n") ∷ (codes "aag 268435455 0 0 0 0", codes "aag 0 0 0 0 0\n")
     ∷ (codes "aag 01 1 0 1 0\n2\n02", codes "aag 1 1 0 1 0\n2\n2\n") ∷ [])
 unfolding read_bytes take_lines read_line read_header next_section is_resolved lines pieces numbers_of header_of item_of begins_comment circuit_of props_of symbols_of may_follow first_below order_from text latch_row gate_row symbol_line line spaced digits
 accepted = refl
 
 -- files with a fault each
 refused : AreRefused (
-    ([], BadHeader 0) ∷ (codes "aag 0 0 0 0\n", BadHeader 0) ∷ (codes "aig 0 0 0 0 0\n", BadHeader 0) ∷ (codes "aag 0 0 0 0 0 0 0 0 0 0\n", BadHeader 0)
+    ([], BadHeader 0) ∷ (codes "aag 1 1  0 1 0\n", BadHeader 0) ∷ (codes "aag 1 1 0 1 0 \n", BadHeader 0) ∷ (codes "aag 2 2 0 0 0\n2\n\n", BadLine 16) ∷ (codes "aag 0 0 0 0\n", BadHeader 0) ∷ (codes "aig 0 0 0 0 0\n", BadHeader 0) ∷ (codes "aag 0 0 0 0 0 0 0 0 0 0\n", BadHeader 0)
     ∷ (codes "aag 1 0 0 1 1\n2\n2 2 3\n", Cycle) ∷ (codes "aag 2 1 0 1 0\n2\n4\n", Undefined) ∷ (codes "aag 2 2 0 0 0\n2\n2\n", DefinedTwice 16)
     ∷ (codes "aag 1 0 1 0 0\n2 0 3\n", BadReset 14) ∷ (codes "aag 1 1 0 1 0\n2\n4\n", MaxIndex 16) ∷ (codes "aag 1 1 1 0 0\n", MaxIndex 0) ∷ (codes "aag 1 1 0 0 0\n3\n", BadLiteral 14)
     ∷ (codes "aag 1 1 0 1 0\n2\n", Truncated 16) ∷ (codes "aag 0 0 0 0 0\nx\n", Trailing 14) ∷ (codes "aag 0 0 0 0 0\n\n", Trailing 14) ∷ (codes "aag 0 0 0 0 0\ni0 a\n", BadSymbol 14)

@@ -8,9 +8,11 @@ pub mod Conditions
 pub mod Order
 pub mod Faults
 pub mod Files
+pub mod Ranges
 pub mod Written
 pub mod Names
 pub mod TextLines
 pub mod Again
 pub mod RoundTrip
 pub mod Pieces
+pub mod AnsweringLaws

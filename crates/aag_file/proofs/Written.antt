@@ -14,7 +14,7 @@ use Rattle.aig_graph.specs.declared.properties.Symbol.{Symbol}
 use Rattle.aig_graph.specs.declared.properties.Symbols.{Symbols}
 use Rattle.aig_graph.specs.Graph.{Graph, IsGraph, IsGateAt, IsLiteralOf, variable, first_latch, first_gate, variables_end}
 use Rattle.aig_graph.specs.Circuits.{Network, IsNetwork, AreLiteralsOf}
-use Rattle.aag_format.proofs.Ranges.{range-append, range-apart, range-knows, names-enumerated, all_enumerated, all_range}
+use Rattle.aag_file.proofs.Ranges.{range-append, range-apart, range-knows, names-enumerated, all_enumerated, all_range}
 use Rattle.aag_file.specs.declared.header.Header.{Header}
 use Rattle.aag_file.specs.declared.raw.RawLatch.{RawLatch}
 use Rattle.aag_file.specs.declared.raw.RawGate.{RawGate}

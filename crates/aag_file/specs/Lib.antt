@@ -6,3 +6,4 @@ pub mod Reading
 pub mod Files
 pub mod Laws
 pub mod Pieces
+pub mod Answering

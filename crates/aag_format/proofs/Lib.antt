@@ -1,16 +1,2 @@
 pub mod Examples
-pub mod Sections
-pub mod Checks
-pub mod Items
-pub mod Steps
-pub mod Apart
-pub mod Headers
-pub mod Conditions
-pub mod Resolved
-pub mod Faults
-pub mod Files
 pub mod Decimals
-pub mod Ranges
-pub mod Written
-pub mod Meaning
-pub mod Texts

@@ -5,11 +5,11 @@ use Rattle.aag_format.specs.declared.fault.ReadError.TheVariants.{NoMemory}
 use Rattle.aag_file.specs.Raw.{RawSymbol}
 use Rattle.aag_file.specs.Reading.{◌>>=◌, State, AtHeader, is_complete, take_line, take_lines}
 use Rattle.aag_file.specs.Pieces.{ended_lines, open_line, fed}
+use Rattle.aag_file.specs.Answering.{Fails}
 use Rattle.aag_file.proofs.Pieces.{part_taken, end_taken, take_lines-append, the_pieces_law}
+use Rattle.aag_file.proofs.AnsweringLaws.{Fails-same}
 use Rattle.aag_sections.specs.declared.sections.Sections.{Sections}
-use Rattle.aag_sections.specs.Answering.{Fails}
 use Rattle.aag_sections.specs.Taking.{raw_of}
-use Rattle.aag_sections.proofs.AnsweringLaws.{Fails-same}
 use Rattle.aag_reader.specs.declared.lines.OpenLine.{OpenLine}
 use Rattle.aag_reader.specs.declared.items.Items.{Items}
 use Rattle.aag_reader.specs.Cutting.{HasNoNewline, Cuts}

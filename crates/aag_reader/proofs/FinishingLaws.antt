@@ -5,10 +5,10 @@ use Rattle.aag_format.specs.declared.fault.ReadError.{ReadError}
 use Rattle.aag_file.specs.Reading.{◌>>=◌, State, is_complete, take_line, finish, read_bytes}
 use Rattle.aag_file.specs.Raw.{RawSymbol}
 use Rattle.aag_file.specs.Pieces.{open_line, fed, with_last_line, closed}
+use Rattle.aag_file.specs.Answering.{Fails, Gives}
 use Rattle.aag_file.proofs.Pieces.{the_pieces_law}
+use Rattle.aag_file.proofs.AnsweringLaws.{Fails-same, Fails-bind, Gives-same}
 use Rattle.aag_sections.specs.declared.sections.Sections.{Sections}
-use Rattle.aag_sections.specs.Answering.{Fails, Gives}
-use Rattle.aag_sections.proofs.AnsweringLaws.{Fails-same, Fails-bind, Gives-same}
 use Rattle.aag_reader.specs.declared.lines.OpenLine.{OpenLine}
 use Rattle.aag_reader.specs.declared.lines.OpenLine.TheVariants.{Numbers, Symbol, Comment}
 use Rattle.aag_reader.specs.declared.items.Items.{Items}

@@ -5,8 +5,8 @@ use Rattle.aig_graph.specs.Circuits.{Network}
 use Rattle.aag_format.specs.declared.fault.ReadError.TheVariants.{NoMemory}
 use Rattle.aag_file.specs.Reading.{read_bytes, IsFaultOf}
 use Rattle.aag_file.proofs.Faults.{fault_of_bytes}
-use Rattle.aag_sections.specs.Answering.{Fails, Gives}
 use Rattle.aag_file.specs.Pieces.{fed}
+use Rattle.aag_file.specs.Answering.{Fails, Gives}
 use Rattle.aag_reader.specs.declared.reader.Phase.{Phase}
 use Rattle.aag_reader.specs.declared.reader.Phase.TheVariants.{Header, Items, Failed}
 use Rattle.aag_reader.specs.Standing.{Follows}

@@ -7,13 +7,13 @@ use Rattle.aag_file.specs.Raw.{Raw, RawSymbol}
 use Rattle.aag_file.specs.declared.raw.SymbolKind.{SymbolKind}
 use Rattle.aag_file.specs.Items.{Item, InputItem, LatchItem, SafetyItem, SizeItem, LivenessItem, GateItem, SymbolItem, begins_comment, symbol_of, kind_of}
 use Rattle.aag_file.specs.Reading.{◌>>=◌, State, InItems, InComment, is_complete, is_symbols, next_section, read_line, take_line}
+use Rattle.aag_file.specs.Answering.{Fails}
+use Rattle.aag_file.proofs.AnsweringLaws.{Fails-same, Fails-bind}
 use Rattle.aag_lines.specs.declared.symbols.SymbolText.{SymbolText}
 use Rattle.aag_lines.specs.declared.symbols.SymbolText.TheVariants as text
 use Rattle.aag_lines.specs.Symbols.{unnamed, text_without, text_of, text_of_item}
 use Rattle.aag_sections.specs.declared.sections.Sections.{Sections}
-use Rattle.aag_sections.specs.Answering.{Fails}
 use Rattle.aag_sections.specs.Taking.{raw_of, IsAt, GoesOn}
-use Rattle.aag_sections.proofs.AnsweringLaws.{Fails-same, Fails-bind}
 use Rattle.aag_reader.specs.declared.lines.OpenLine.{OpenLine}
 use Rattle.aag_reader.specs.declared.lines.OpenLine.TheVariants.{Numbers, Symbol, Comment}
 use Rattle.aag_reader.specs.Lines.{IsOpen, is_comment}

@@ -2,9 +2,9 @@
 use Rattle.std.specs.Prelude.{ℕ, ◌≡◌, List, ◌++◌, Option, Some, None, Result, Ok, Err, codes}
 use Rattle.aag_format.specs.declared.fault.ReadError.{ReadError}
 use Rattle.aag_file.specs.Pieces.{fed}
+use Rattle.aag_file.specs.Answering.{Fails}
 use Rattle.aag_lines.specs.declared.header.HeaderLine.{HeaderLine}
 use Rattle.aag_lines.specs.Header.{header_row, header_with}
-use Rattle.aag_sections.specs.Answering.{Fails}
 use Rattle.aag_reader.specs.declared.items.Items.{Items}
 use Rattle.aag_reader.specs.Cutting.{HasNoNewline}
 use Rattle.aag_reader.specs.Standing.{Hold}

@@ -4,7 +4,7 @@ use Rattle.aig_graph.specs.Circuits.{Network}
 use Rattle.aag_format.specs.declared.fault.ReadError.{ReadError}
 use Rattle.aag_format.specs.declared.fault.ReadError.TheVariants.{BadHeader}
 use Rattle.aag_file.specs.Pieces.{fed}
-use Rattle.aag_sections.specs.Answering.{Fails}
+use Rattle.aag_file.specs.Answering.{Fails}
 use Rattle.aag_reader.specs.declared.reader.AagReader.{AagReader}
 use Rattle.aag_reader.specs.declared.reader.Phase.{Phase}
 use Rattle.aag_reader.specs.declared.reader.Phase.TheVariants.{Header, Items, Failed}

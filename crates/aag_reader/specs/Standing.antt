@@ -4,8 +4,8 @@ use Rattle.aag_format.specs.declared.fault.ReadError.{ReadError}
 use Rattle.aag_file.specs.Raw.{RawSymbol}
 use Rattle.aag_file.specs.Reading.{State, InItems, InComment, is_complete}
 use Rattle.aag_file.specs.Pieces.{open_line, fed}
+use Rattle.aag_file.specs.Answering.{Fails}
 use Rattle.aag_sections.specs.declared.sections.Sections.{Sections}
-use Rattle.aag_sections.specs.Answering.{Fails}
 use Rattle.aag_sections.specs.Taking.{raw_of, IsAt}
 use Rattle.aag_reader.specs.declared.lines.OpenLine.{OpenLine}
 use Rattle.aag_reader.specs.declared.items.Items.{Items}

@@ -1,7 +1,7 @@
 ghost use Rattle.std.specs.Prelude.{List, ◌≡◌, true};
 ghost use Rattle.aag_file.specs.Raw.{RawSymbol};
 ghost use Rattle.aag_file.specs.Reading as reading;
-ghost use Rattle.aag_sections.specs.Answering.{Gives};
+ghost use Rattle.aag_file.specs.Answering.{Gives};
 ghost use Rattle.aag_sections.specs.Taking.{raw_of, IsAt};
 
 use aag_circuit::RawLists;

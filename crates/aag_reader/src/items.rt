@@ -1,7 +1,7 @@
 ghost use Rattle.std.specs.Prelude.{ℕ, List, ◌≡◌, Bool, true};
 ghost use Rattle.aag_file.specs.Raw.{RawSymbol};
 ghost use Rattle.aag_file.specs.Reading as reading;
-ghost use Rattle.aag_sections.specs.Answering.{Gives};
+ghost use Rattle.aag_file.specs.Answering.{Gives};
 ghost use Rattle.aag_sections.specs.Taking.{raw_of, IsAt};
 ghost use Rattle.aag_reader.specs.Standing.{state_of};
 
@@ -32,10 +32,10 @@ impl Items {
     ghost use Rattle.aag_file.specs.Headers.{IsHeaderWithin};
     ghost use Rattle.aag_file.specs.Pieces.{fed};
     ghost use Rattle.aag_file.specs.Reading as reading;
+    ghost use Rattle.aag_file.specs.Answering.{Gives};
     ghost use Rattle.aag_lines.specs.Rows.{row_of};
     ghost use Rattle.aag_lines.specs.Open.{numbers_with};
     ghost use Rattle.aag_lines.specs.Symbols.{text_of, text_with};
-    ghost use Rattle.aag_sections.specs.Answering.{Gives};
     ghost use Rattle.aag_sections.specs.Taking.{raw_of, IsAt};
     ghost use Rattle.aag_reader.specs.Standing.{StandAt, Leads, Follows, Hold};
 

@@ -1,7 +1,7 @@
 ghost use Rattle.std.specs.Prelude.{◌≡◌, ◌⊎◌, Ok, IfOk, IfErr};
 ghost use Rattle.aag_format.specs.declared.fault.ReadError.TheVariants.{NoMemory};
 ghost use Rattle.aag_file.specs.Reading as reading;
-ghost use Rattle.aag_sections.specs.Answering.{Gives};
+ghost use Rattle.aag_file.specs.Answering.{Gives};
 
 use crate::reader::AagReader;
 use aag_format::ReadError;

@@ -1,7 +1,7 @@
 ghost use Rattle.std.specs.Prelude.{ℕ, List, ◌≡◌, ◌+◌, length, MatchResult};
 ghost use Rattle.aag_format.specs.declared.fault.ReadError.TheVariants.{NoMemory};
 ghost use Rattle.aag_file.specs.Reading as reading;
-ghost use Rattle.aag_sections.specs.Answering.{Gives};
+ghost use Rattle.aag_file.specs.Answering.{Gives};
 ghost use Rattle.aag_reader.specs.Readers.{PhaseHolds, phase_standing};
 
 use crate::header::begin;
@@ -37,7 +37,7 @@ impl AagReader {
     ghost use Rattle.aag_format.specs.declared.fault.ReadError.{ReadError};
     ghost use Rattle.aag_file.specs.Reading as reading;
     ghost use Rattle.aag_file.specs.Pieces.{fed};
-    ghost use Rattle.aag_sections.specs.Answering.{Gives};
+    ghost use Rattle.aag_file.specs.Answering.{Gives};
     ghost use Rattle.aag_reader.specs.Standing.{Follows};
     ghost use Rattle.aag_reader.specs.Readers.{Reads, Holds, standing, after_finish};
 
@@ -81,6 +81,7 @@ impl AagReader {
     pub fn finish(&mut self) -> Result<Circuit, ReadError>
         ensures gives { (bytes : List ℕ) → Holds self.old bytes → Gives (λ circuit. circuit) result (reading.read_bytes bytes) }
         ensures after { standing self.new ≡ Err (after_finish result) }
+        ensures again { (fault : ReadError) → standing self.old ≡ Err fault → result ≡ Err fault }
         ensures stays { (fault : ReadError) → standing self.old ≡ Err fault → standing self.new ≡ Err fault }
     {
         let phase = mem::replace(&mut self.phase, Phase::Failed(ReadError::BadHeader(0)));

@@ -1,4 +1,5 @@
 use crate::{AagReader, read_aag};
+use aag_format::ReadError;
 use std::alloc::Global;
 use std::test::Fail;
 
@@ -25,6 +26,11 @@ fn has_counts(alloc: Global, text: &[u8], inputs: u32, gates: usize) -> bool {
     }
 }
 
+/// The fault of the text, if it has one.
+fn fault(alloc: Global, text: &str) -> Option<ReadError> {
+    read_aag(alloc, text.as_bytes()).err()
+}
+
 #[test]
 fn goes_on_with_a_number_in_the_next_piece(rt: HostRuntime) -> Result<(), Fail> {
     assert!(rt; is_empty(rt.alloc(), b"aag 1", b"1 0 0 0 0\n"));
@@ -35,4 +41,28 @@ fn goes_on_with_a_number_in_the_next_piece(rt: HostRuntime) -> Result<(), Fail> 
 fn reads_two_latches(rt: HostRuntime) -> Result<(), Fail> {
     assert!(rt; has_counts(rt.alloc(), TWO_LATCHES, 2, 1));
     Ok(())
+}
+
+#[test]
+fn answers_the_first_fault(rt: HostRuntime) {
+    let table = [
+        ("", Some(ReadError::BadHeader(0))),
+        ("aag 268435456 0 0 0 0\n", Some(ReadError::TooLarge(0))),
+        ("aag 1 1 0 1 0\n2\n4\n", Some(ReadError::MaxIndex(16))),
+        ("aag 1 1 0 0 0\n3\n", Some(ReadError::BadLiteral(14))),
+        ("aag 2 2 0 0 0\n2\n2\n", Some(ReadError::DefinedTwice(16))),
+        ("aag 1 0 1 0 0\n2 0 3\n", Some(ReadError::BadReset(14))),
+        ("aag 1 1 0 1 0\n2\n", Some(ReadError::Truncated(16))),
+        ("aag 0 0 0 0 0\nx\n", Some(ReadError::Trailing(14))),
+        ("aag 2 1 0 1 0\n2\n4\n", Some(ReadError::Undefined)),
+        ("aag 1 0 0 1 1\n2\n2 2 3\n", Some(ReadError::Cycle)),
+        (
+            "aag 1 1 0 0 0\n2\ni0 a\ni0 b\n",
+            Some(ReadError::BadSymbol(21)),
+        ),
+        ("aag 268435455 1 0 0 0\n536870910", None),
+    ];
+    for (text, want) in table {
+        assert_eq!(rt; fault(rt.alloc(), text), want, "{text:?}");
+    }
 }

@@ -1,4 +1,3 @@
-pub mod AnsweringLaws
 pub mod CountLaws
 pub mod KeepLaws
 pub mod ClampLaws

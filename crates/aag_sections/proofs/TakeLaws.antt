@@ -10,13 +10,13 @@ use Rattle.aag_file.specs.declared.header.Header.{Header}
 use Rattle.aag_file.specs.Raw.{Raw, RawSymbol, defined}
 use Rattle.aag_file.specs.Items.{Item, section_of}
 use Rattle.aag_file.specs.Reading.{◌>>=◌, unless, past_greatest, is_undefinable, checks, definition_checks, with_item, take_item, next_section}
+use Rattle.aag_file.specs.Answering.{Fails}
 use Rattle.aag_file.proofs.Checks.{Passes, unless_ok, unless_passes, Fits, passes_where_fits}
+use Rattle.aag_file.proofs.AnsweringLaws.{Fails-same, Fails-bind, Fails-is}
 use Rattle.file_parts.specs.Names.{AreNamesOf}
 use Rattle.aag_sections.specs.declared.sections.Sections.{Sections}
-use Rattle.aag_sections.specs.Answering.{Fails}
 use Rattle.aag_sections.specs.Standing.{IsRead}
 use Rattle.aag_sections.specs.Taking.{raw_of, ArePlacesOf, IsAt, GoesOn, Takes}
-use Rattle.aag_sections.proofs.AnsweringLaws.{Fails-same, Fails-bind, Fails-is}
 use Rattle.aag_sections.proofs.KeepLaws.{variables_of, defines, reads}
 
 -- ---- checks, and what follows them

@@ -1,4 +1,3 @@
-pub mod Answering
 pub mod Items
 pub mod Standing
 pub mod Taking

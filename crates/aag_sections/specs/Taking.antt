@@ -2,11 +2,11 @@
 use Rattle.std.specs.Prelude.{ℕ, ◌≡◌, ◌==◌, List, Result, Ok, Err, position}
 use Rattle.aag_format.specs.declared.fault.ReadError.{ReadError}
 use Rattle.aag_file.specs.Raw.{Raw, RawSymbol, defined}
+use Rattle.aag_file.specs.Answering.{Fails}
 use Rattle.variable_places.specs.declared.places.Places.{Places}
 use Rattle.variable_places.specs.Places.{place_of}
 use Rattle.file_parts.specs.Names.{AreNamesOf}
 use Rattle.aag_sections.specs.declared.sections.Sections.{Sections}
-use Rattle.aag_sections.specs.Answering.{Fails}
 use Rattle.aag_sections.specs.Standing.{IsRead}
 
 -- what has been taken, with these symbols

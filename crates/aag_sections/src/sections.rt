@@ -38,7 +38,7 @@ impl Sections {
     ghost use Rattle.aig_graph.specs.Graph.{variable};
     ghost use Rattle.aag_format.specs.declared.fault.ReadError.TheVariants.{BadLine, BadSymbol};
     ghost use Rattle.aag_file.specs.declared.raw.Section.TheVariants.{Inputs, Latches, Safety, Sizes, Liveness, Gates, Symbols};
-    ghost use Rattle.aag_file.specs.Raw.{RawSymbol, nothing_yet, defined, count_of};
+    ghost use Rattle.aag_file.specs.Raw.{RawSymbol, nothing_yet, defined};
     ghost use Rattle.aag_file.specs.Items.{SymbolItem, begins_comment};
     ghost use Rattle.aag_file.specs.Reading as reading;
     ghost use Rattle.aag_file.specs.Files.{IsCountedBy};
@@ -249,28 +249,13 @@ impl Sections {
         ensures { (symbols : List RawSymbol) → IsAt self.old symbols → reading.next_section self.old.header (raw_of self.old symbols) ≡ Symbols
             → Takes self.old self.new result (reading.take_item self.old.header (raw_of self.old symbols) at (BadSymbol at) (Some (SymbolItem (symbol_at kind position name)))) }
     {
-        if position >= self.count_of(kind) {
+        if position >= self.header.count_of(kind) {
             return Err(ReadError::BadSymbol(at));
         }
         match self.names.insert(kind, position, name) {
             Ok(true) => Ok(()),
             Ok(false) => Err(ReadError::BadSymbol(at)),
             Err(_) => Err(ReadError::NoMemory),
-        }
-    }
-
-    /// How many things of a kind a symbol may name.
-    fn count_of(&self, kind: SymbolKind) -> u32
-        ensures { result ≡ count_of self.now.header kind }
-    {
-        match kind {
-            SymbolKind::Input => self.header.inputs,
-            SymbolKind::Latch => self.header.latches,
-            SymbolKind::Output => self.header.outputs,
-            SymbolKind::Bad => self.header.bad,
-            SymbolKind::Constraint => self.header.constraints,
-            SymbolKind::Justice => self.header.justice,
-            SymbolKind::Fairness => self.header.fairness,
         }
     }
 

@@ -6,13 +6,14 @@ use Rattle.aag_format.specs.declared.fault.ReadError.TheVariants.{BadDelta}
 use Rattle.aag_file.specs.declared.header.Header.{Header}
 use Rattle.aag_file.specs.Raw.{Raw}
 use Rattle.aag_file.specs.Reading.{◌>>=◌}
+use Rattle.aag_file.specs.Answering.{Fails}
 use Rattle.aag_file.proofs.Checks.{unless_ok, same_ok}
+use Rattle.aag_file.proofs.AnsweringLaws.{Fails-as, Fails-bind, Fails-with}
 use Rattle.deltas.specs.Deltas.{delta_value}
 use Rattle.aig_file.specs.Items.{next_gate}
 use Rattle.aig_file.specs.Reading.{InSecond, before_item, end_first, end_second}
-use Rattle.aig_sections.specs.Taking.{Fails, read_first, read_second}
+use Rattle.aig_sections.specs.Taking.{read_first, read_second}
 use Rattle.aig_sections.proofs.GateLaws.{end_first_is, end_second_is}
-use Rattle.aig_reader.proofs.FailLaws.{fails_as, fails_then, fails_with}
 
 -- a first fan-in is below the gate's literal
 pub first_falls : (h : Header) (raw : Raw) (at delta rhs0 : ℕ) → Ok rhs0 ≡ read_first h raw at delta → rhs0 < next_gate h raw
@@ -34,7 +35,7 @@ module _ (h : Header) (raw : Raw) (at after number : ℕ) (delta : List ℕ) (va
   first_done rhs0 e = first_ends ∙ ap (λ (r : Result ℕ ReadError). r >>= λ rhs0. Ok (InSecond h raw after rhs0 [])) (sym e)
 
   pub first_failed : (fault : ReadError) → Err fault ≡ read_first h raw at number → Fails fault (end_first h raw at delta)
-  first_failed fault e = fails_with fault (end_first h raw at delta) (first_ends ∙ ap (λ (r : Result ℕ ReadError). r >>= λ rhs0. Ok (InSecond h raw after rhs0 [])) (sym e))
+  first_failed fault e = Fails-with fault (end_first h raw at delta) (first_ends ∙ ap (λ (r : Result ℕ ReadError). r >>= λ rhs0. Ok (InSecond h raw after rhs0 [])) (sym e))
 
   second_ends : (rhs0 : ℕ) → end_second h raw at rhs0 delta ≡ (read_second h raw at rhs0 number >>= λ more. Ok (before_item h more after))
   second_ends rhs0 =
@@ -45,4 +46,4 @@ module _ (h : Header) (raw : Raw) (at after number : ℕ) (delta : List ℕ) (va
   second_done rhs0 more e = second_ends rhs0 ∙ ap (λ (r : Result Raw ReadError). r >>= λ more. Ok (before_item h more after)) e
 
   pub second_failed : (rhs0 : ℕ) (fault : ReadError) → Fails fault (read_second h raw at rhs0 number) → Fails fault (end_second h raw at rhs0 delta)
-  second_failed rhs0 fault fails = fails_as fault _ (end_second h raw at rhs0 delta) (second_ends rhs0) (fails_then fault (read_second h raw at rhs0 number) (λ more. Ok (before_item h more after)) fails)
+  second_failed rhs0 fault fails = Fails-as fault _ (end_second h raw at rhs0 delta) (second_ends rhs0) (Fails-bind fault (read_second h raw at rhs0 number) (λ more. Ok (before_item h more after)) fails)

@@ -6,14 +6,14 @@ use Rattle.aag_file.specs.declared.header.Header.{Header}
 use Rattle.aag_file.specs.Raw.{Raw}
 use Rattle.aag_file.specs.Items.{begins_comment}
 use Rattle.aag_file.specs.Reading.{◌>>=◌, is_symbols}
+use Rattle.aag_file.specs.Answering.{Fails}
+use Rattle.aag_file.proofs.AnsweringLaws.{Fails-bind, Fails-as}
 use Rattle.aag_lines.specs.declared.numbers.NumberLine.{NumberLine}
 use Rattle.aag_lines.specs.declared.symbols.SymbolLine.{SymbolLine}
 use Rattle.aig_file.specs.Items.{next_section}
 use Rattle.aig_file.specs.Reading.{State, InLine, InComment, before_item, read_line, end_line, step}
 use Rattle.aig_sections.specs.Contents.{Contents}
-use Rattle.aig_sections.specs.Taking.{Fails}
 use Rattle.aig_reader.specs.Opened.{IsInNumbers, IsInSymbol}
-use Rattle.aig_reader.proofs.FailLaws.{fails_then, fails_as}
 
 pub item_line : (h : Header) (raw : Raw) (at : ℕ) (line : List ℕ) → (is_symbols (next_section h raw) && begins_comment line) ≡ false
     → end_line h raw at line ≡ (read_line h raw at line >>= λ more. Ok (before_item h more (at + length line + 1)))
@@ -49,7 +49,7 @@ module _ (h : Header) (raw more : Raw) (at offset after : ℕ) (line : List ℕ)
 failed : (h : Header) (raw : Raw) (at offset : ℕ) (line : List ℕ) (state : State) (e : ReadError) → state ≡ InLine h raw at line → at + length line ≡ offset → (is_symbols (next_section h raw) && begins_comment line) ≡ false
     → Fails e (read_line h raw at line) → Fails e (step state 10)
 failed h raw at offset line state e is place item fails =
-    fails_as e _ (step state 10) (ended h raw at offset line state is place item) (fails_then e (read_line h raw at line) (λ more. Ok (before_item h more (offset + 1))) fails)
+    Fails-as e _ (step state 10) (ended h raw at offset line state is place item) (Fails-bind e (read_line h raw at line) (λ more. Ok (before_item h more (offset + 1))) fails)
 
 -- of a line of numbers
 module _ (c : Contents) (at offset : ℕ) (line : NumberLine) (state : State) (is : IsInNumbers c at offset line state) where

@@ -6,6 +6,8 @@ use Rattle.aag_format.specs.declared.fault.ReadError.{ReadError}
 use Rattle.aag_file.specs.declared.header.Header.{Header}
 use Rattle.aag_file.specs.Raw.{Raw}
 use Rattle.aag_file.specs.Reading.{◌>>=◌}
+use Rattle.aag_file.specs.Answering.{Fails}
+use Rattle.aag_file.proofs.AnsweringLaws.{Fails-bind, Fails-as}
 use Rattle.aag_lines.specs.declared.numbers.NumberLine.{NumberLine}
 use Rattle.aag_lines.specs.declared.symbols.SymbolLine.{SymbolLine}
 use Rattle.aag_lines.specs.Rows.{row_of}
@@ -15,14 +17,12 @@ use Rattle.deltas.specs.Deltas.{delta_value}
 use Rattle.aig_file.specs.Reading.{State, InLine, InComment, end_line, step, feed}
 use Rattle.aig_file.proofs.Steps.{comment_fed}
 use Rattle.aig_sections.specs.Contents.{Contents}
-use Rattle.aig_sections.specs.Taking.{Fails}
 use Rattle.aig_reader.specs.declared.items.Items.{Items}
 use Rattle.aig_reader.specs.declared.opened.Opened.{Opened}
 use Rattle.aig_reader.specs.declared.opened.Opened.TheVariants.{Comment}
 use Rattle.aig_reader.specs.Cutting.{HasNoNewline, IsTaken}
 use Rattle.aig_reader.specs.Opened.{IsInNumbers, IsInSymbol, IsInComment, IsOpened}
 use Rattle.aig_reader.specs.Standing.{Stands, IsFed}
-use Rattle.aig_reader.proofs.FailLaws.{fails_then, fails_as}
 
 -- bytes of a line
 module _ (state : List ℕ → State) (steps : (line : List ℕ) (b : ℕ) → nat_eq b 10 ≡ false → step (state line) b ≡ Ok (state (line ++ b ∷ []))) where
@@ -50,7 +50,7 @@ after_end new end after state piece left read fed place reached =
     record { next = reached.0; offset = after; stands = reached.2; place = place; fed = fed ∙ ap (λ (r : Result State ReadError). r >>= λ s. feed s left) reached.1 }
 
 pub fault_at_end : (e : ReadError) (state : State) (piece left : List ℕ) (read : Result State ReadError) → feed state piece ≡ (read >>= λ s. feed s left) → Fails e read → Fails e (feed state piece)
-fault_at_end e state piece left read fed fails = fails_as e (read >>= λ s. feed s left) (feed state piece) fed (fails_then e read (λ s. feed s left) fails)
+fault_at_end e state piece left read fed fails = Fails-as e (read >>= λ s. feed s left) (feed state piece) fed (Fails-bind e read (λ s. feed s left) fails)
 
 -- nothing of the piece is left
 pub none_left : (piece : List ℕ) → take (length piece - length piece) (drop (length piece) piece) ≡ []

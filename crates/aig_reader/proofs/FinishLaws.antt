@@ -10,14 +10,15 @@ use Rattle.aag_file.specs.declared.raw.Section.TheVariants.{Inputs, Latches, Saf
 use Rattle.aag_file.specs.Raw.{Raw}
 use Rattle.aag_file.specs.Items.{begins_comment}
 use Rattle.aag_file.specs.Reading.{◌>>=◌, is_symbols}
+use Rattle.aag_file.specs.Answering.{Gives, Fails}
+use Rattle.aag_file.proofs.AnsweringLaws.{Fails-as, Fails-bind}
 use Rattle.aig_file.specs.Items.{next_section}
 use Rattle.aig_file.specs.Reading.{State, InLine, InFirst, InSecond, InComment, is_gates, before_item, complete, finish, end_line, read_line, circuit_of}
-use Rattle.aig_sections.specs.Taking.{Gives, Fails, circuit_at_end}
+use Rattle.aig_sections.specs.Taking.{circuit_at_end}
 use Rattle.aig_sections.specs.Contents.{Contents, IsAt}
 use Rattle.aig_reader.specs.Opened.{TakesText}
 use Rattle.aig_reader.specs.Standing.{circuit_at}
 use Rattle.aig_reader.proofs.EndLaws.{item_line, comment_line, right_false, both_true}
-use Rattle.aig_reader.proofs.FailLaws.{fails_as, fails_then}
 
 abbrev pub circuit : Result (Header × Raw) ReadError → Result Network ReadError
 circuit r = r >>= λ all. Ok (circuit_of all.0 all.1)
@@ -69,7 +70,7 @@ module _ (end : ℕ) (h : Header) (raw : Raw) (at : ℕ) (bytes : List ℕ) (sta
   item_done more item read = item_read item ∙ ap (λ (r : Result Raw ReadError). r >>= λ more. circuit_at_end end h more) read
 
   pub item_failed : (e : ReadError) → (is_symbols (next_section h raw) && begins_comment bytes) ≡ false → Fails e (read_line h raw at bytes) → Fails e (circuit_at end state)
-  item_failed e item fails = fails_as e _ (circuit_at end state) (item_read item) (fails_then e (read_line h raw at bytes) (λ more. circuit_at_end end h more) fails)
+  item_failed e item fails = Fails-as e _ (circuit_at end state) (item_read item) (Fails-bind e (read_line h raw at bytes) (λ more. circuit_at_end end h more) fails)
 
   pub comment_ends : next_section h raw ≡ Symbols → begins_comment bytes ≡ true → circuit_at end state ≡ circuit_at_end end h raw
   comment_ends here begins =

@@ -6,17 +6,18 @@ use Rattle.aag_format.specs.declared.fault.ReadError.{ReadError}
 use Rattle.aag_file.specs.declared.header.Header.{Header}
 use Rattle.aag_file.specs.Raw.{nothing_yet}
 use Rattle.aag_file.specs.Reading.{◌>>=◌}
+use Rattle.aag_file.specs.Answering.{Fails}
+use Rattle.aag_file.proofs.AnsweringLaws.{Fails-as, Fails-bind, Fails-where, Fails-with}
 use Rattle.aag_lines.specs.declared.header.HeaderLine.{HeaderLine}
 use Rattle.aag_lines.specs.Header.{header_row, header_with}
 use Rattle.aig_file.specs.Headers.{header_of}
 use Rattle.aig_file.specs.Reading.{State, AtHeader, before_item, end_header, read_header, step, feed, finish, complete, read_raw, read_binary}
 use Rattle.aig_file.proofs.Pieces.{the_pieces_law}
-use Rattle.aig_sections.specs.Taking.{Fails, circuit_at_end}
+use Rattle.aig_sections.specs.Taking.{circuit_at_end}
 use Rattle.aig_reader.specs.declared.items.Items.{Items}
 use Rattle.aig_reader.specs.Cutting.{HasNoNewline}
 use Rattle.aig_reader.specs.Standing.{Stands, circuit_at}
 use Rattle.aig_reader.specs.Stages.{HoldsHeader, HoldsItems}
-use Rattle.aig_reader.proofs.FailLaws.{fails_as, fails_then, fails_where, fails_with}
 use Rattle.aig_reader.proofs.FeedLaws.{line_fed, all_fed}
 use Rattle.aig_reader.proofs.FinishLaws.{circuit, before_end}
 
@@ -28,7 +29,7 @@ pub then_fed : (bytes piece : List ℕ) (state : State) → feed (AtHeader []) b
 then_fed bytes piece state reading = joined bytes piece ∙ ap (λ (r : Result State ReadError). r >>= λ s. feed s piece) reading
 
 pub fault_stays : (fault : ReadError) (bytes piece : List ℕ) → Fails fault (feed (AtHeader []) bytes) → Fails fault (feed (AtHeader []) (bytes ++ piece))
-fault_stays fault bytes piece fails = fails_as fault _ (feed (AtHeader []) (bytes ++ piece)) (joined bytes piece) (fails_then fault (feed (AtHeader []) bytes) (λ s. feed s piece) fails)
+fault_stays fault bytes piece fails = Fails-as fault _ (feed (AtHeader []) (bytes ++ piece)) (joined bytes piece) (Fails-bind fault (feed (AtHeader []) bytes) (λ s. feed s piece) fails)
 
 -- items after a piece
 pub items_held : (new : Items) (bytes piece : List ℕ) (end : ℕ) (state : State) → feed (AtHeader []) bytes ≡ Ok state → length bytes + length piece ≡ end → (next : State) × (feed state piece ≡ Ok next) × Stands new end next
@@ -40,7 +41,7 @@ items_held new bytes piece end state reading place reached = record {
 }
 
 pub items_failed : (fault : ReadError) (bytes piece : List ℕ) (state : State) → feed (AtHeader []) bytes ≡ Ok state → Fails fault (feed state piece) → Fails fault (feed (AtHeader []) (bytes ++ piece))
-items_failed fault bytes piece state reading fails = fails_as fault (feed state piece) (feed (AtHeader []) (bytes ++ piece)) (then_fed bytes piece state reading) fails
+items_failed fault bytes piece state reading fails = Fails-as fault (feed state piece) (feed (AtHeader []) (bytes ++ piece)) (then_fed bytes piece state reading) fails
 
 -- ---- the first line
 
@@ -68,7 +69,7 @@ module _ (bytes part left piece : List ℕ) (reading : feed (AtHeader []) bytes 
 
   pub header_failed : (fault : ReadError) → Err fault ≡ read_header (bytes ++ part) → Fails fault (feed (AtHeader []) (bytes ++ piece))
   header_failed fault e =
-      fails_with fault (feed (AtHeader []) (bytes ++ piece))
+      Fails-with fault (feed (AtHeader []) (bytes ++ piece))
       (header_ended ∙ ap (λ (r : Result Header ReadError). (r >>= λ h. Ok (before_item h nothing_yet (length (bytes ++ part) + 1))) >>= λ s. feed s left) (sym e))
 
 module _ (bytes part : List ℕ) (reading : feed (AtHeader []) bytes ≡ Ok (AtHeader bytes)) (none : HasNoNewline part) where
@@ -96,7 +97,7 @@ read_at bytes state reading = ap (λ (r : Result State ReadError). circuit (r >>
 
 pub read_failed : (fault : ReadError) (bytes : List ℕ) → Fails fault (feed (AtHeader []) bytes) → Fails fault (read_binary bytes)
 unfolding read_binary read_raw
-read_failed fault bytes fails = fails_where fault (feed (AtHeader []) bytes) (read_binary bytes) (λ e. ap (λ (r : Result State ReadError). circuit (r >>= finish (length bytes))) e) fails
+read_failed fault bytes fails = Fails-where fault (feed (AtHeader []) bytes) (read_binary bytes) (λ e. ap (λ (r : Result State ReadError). circuit (r >>= finish (length bytes))) e) fails
 
 header_at_end : (end : ℕ) (line : List ℕ) → circuit_at end (AtHeader line) ≡ (read_header line >>= λ h. circuit_at_end end h nothing_yet)
 unfolding read_header header_of
@@ -113,5 +114,5 @@ module _ (bytes : List ℕ) (reading : feed (AtHeader []) bytes ≡ Ok (AtHeader
 
   pub header_alone_failed : (fault : ReadError) → Err fault ≡ read_header bytes → Fails fault (read_binary bytes)
   header_alone_failed fault e =
-      fails_with fault (read_binary bytes)
+      Fails-with fault (read_binary bytes)
       (read_at bytes (AtHeader bytes) reading ∙ header_at_end (length bytes) bytes ∙ ap (λ (r : Result Header ReadError). r >>= λ h. circuit_at_end (length bytes) h nothing_yet) (sym e))

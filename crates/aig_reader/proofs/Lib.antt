@@ -1,9 +1,9 @@
 pub mod HeaderLaws
 pub mod CuttingLaws
 pub mod TextLaws
-pub mod FailLaws
 pub mod EndLaws
 pub mod FeedLaws
 pub mod DeltaLaws
 pub mod FinishLaws
 pub mod HoldLaws
+pub mod ReaderLaws

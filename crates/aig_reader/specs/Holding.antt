@@ -1,14 +1,15 @@
 -- The bytes that were fed to a reader.
-use Rattle.std.specs.Prelude.{ℕ, ◌≡◌, List, [], length, Option, Result, Ok, Err}
+use Rattle.std.specs.Prelude.{ℕ, ◌≡◌, List, [], length, Option, None, Result, Ok, Err}
 use Rattle.aag_format.specs.declared.fault.ReadError.{ReadError}
+use Rattle.aag_file.specs.Answering.{Fails}
 use Rattle.aig_file.specs.Reading.{State, AtHeader, feed}
-use Rattle.aig_sections.specs.Taking.{Fails}
 use Rattle.aig_reader.specs.declared.reader.AigReader.{AigReader}
 use Rattle.aig_reader.specs.Stages.{HoldsStage, failure}
 
--- these bytes were fed, in whatever pieces, and the reader stands where reading does after them, or has failed with their fault, or memory ran out
+-- these bytes were fed, in whatever pieces, and the reader stands where reading does after them, or has failed with their fault, or memory ran out;
+-- unless it has failed, its offset is that of their end
 pub record Holds (reader : AigReader) (bytes : List ℕ) : Type 0 where
-  pub count : length bytes ≡ reader.offset
+  pub count : failure reader.stage ≡ None → length bytes ≡ reader.offset
   pub stage : HoldsStage reader.stage bytes
 
 -- on Ok the bytes have no fault so far; an error is their fault, unless memory ran out

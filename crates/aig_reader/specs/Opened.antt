@@ -6,6 +6,7 @@ use Rattle.aag_file.specs.declared.raw.Section.TheVariants.{Gates, Symbols}
 use Rattle.aag_file.specs.Raw.{Raw}
 use Rattle.aag_file.specs.Items.{begins_comment}
 use Rattle.aag_file.specs.Reading.{is_symbols}
+use Rattle.aag_file.specs.Answering.{Fails}
 use Rattle.aag_lines.specs.declared.numbers.NumberLine.{NumberLine}
 use Rattle.aag_lines.specs.declared.symbols.SymbolLine.{SymbolLine}
 use Rattle.aag_lines.specs.Rows.{row_of}
@@ -14,7 +15,7 @@ use Rattle.aag_lines.specs.Symbols.{text_of, text_with}
 use Rattle.aig_file.specs.Items.{next_section, next_gate}
 use Rattle.aig_file.specs.Reading.{State, InLine, InFirst, InSecond, InComment, read_line}
 use Rattle.aig_sections.specs.Contents.{Contents, IsAt}
-use Rattle.aig_sections.specs.Taking.{Fails, Takes}
+use Rattle.aig_sections.specs.Taking.{Takes}
 use Rattle.aig_reader.specs.declared.opened.Opened.{Opened}
 use Rattle.aig_reader.specs.declared.opened.Opened.TheVariants.{Numbers, Symbol, First, Second, Comment}
 

@@ -1,10 +1,10 @@
 -- What a reader holds of the bytes that were fed.
 use Rattle.std.specs.Prelude.{ℕ, ◌≡◌, List, [], ◌++◌, length, Option, Some, None, Result, Ok, Err, codes}
 use Rattle.aag_format.specs.declared.fault.ReadError.{ReadError}
+use Rattle.aag_file.specs.Answering.{Fails}
 use Rattle.aag_lines.specs.declared.header.HeaderLine.{HeaderLine}
 use Rattle.aag_lines.specs.Header.{header_row, header_with}
 use Rattle.aig_file.specs.Reading.{State, AtHeader, feed}
-use Rattle.aig_sections.specs.Taking.{Fails}
 use Rattle.aig_reader.specs.declared.items.Items.{Items}
 use Rattle.aig_reader.specs.declared.stage.Stage.{Stage}
 use Rattle.aig_reader.specs.declared.stage.Stage.TheVariants as stage

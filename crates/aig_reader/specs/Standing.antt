@@ -4,8 +4,8 @@ use Rattle.std.specs.Borrow.{Bor}
 use Rattle.aig_graph.specs.Circuits.{Network}
 use Rattle.aag_format.specs.declared.fault.ReadError.{ReadError}
 use Rattle.aag_file.specs.Reading.{◌>>=◌}
+use Rattle.aag_file.specs.Answering.{Fails}
 use Rattle.aig_file.specs.Reading.{State, feed, finish, circuit_of}
-use Rattle.aig_sections.specs.Taking.{Fails}
 use Rattle.aig_reader.specs.declared.items.Items.{Items}
 use Rattle.aig_reader.specs.Opened.{IsOpened}
 

@@ -1,6 +1,6 @@
 ghost use Rattle.std.specs.Prelude.{ℕ, ◌≡◌, ◌+◌, length};
+ghost use Rattle.aag_file.specs.Answering.{Gives};
 ghost use Rattle.aig_file.specs.Reading.{State};
-ghost use Rattle.aig_sections.specs.Taking.{Gives};
 ghost use Rattle.aig_reader.specs.Opened.{IsInNumbers, IsInSymbol};
 ghost use Rattle.aig_reader.specs.Standing.{circuit_at};
 
@@ -30,12 +30,12 @@ impl Items {
     ghost use Rattle.aag_file.specs.declared.header.Header.{Header};
     ghost use Rattle.aag_file.specs.declared.raw.Section.TheVariants.{Gates};
     ghost use Rattle.aag_file.specs.Raw.{Raw, nothing_yet};
+    ghost use Rattle.aag_file.specs.Answering.{Gives};
     ghost use Rattle.deltas.specs.Deltas.{delta_value};
     ghost use Rattle.aig_file.specs.Headers.{IsHeaderWithin};
     ghost use Rattle.aig_file.specs.Items.{next_section, next_gate};
     ghost use Rattle.aig_file.specs.Reading.{State, before_item, step, feed, end_first, end_second};
     ghost use Rattle.aig_sections.specs.Contents.{IsAt};
-    ghost use Rattle.aig_sections.specs.Taking.{Gives};
     ghost use Rattle.aig_reader.specs.Opened.{IsInNumbers, IsInSymbol, IsInFirst, IsInSecond};
     ghost use Rattle.aig_reader.specs.Standing.{Stands, Reaches, Feeds, circuit_at};
 

@@ -1,6 +1,6 @@
 ghost use Rattle.std.specs.Prelude.{◌≡◌};
+ghost use Rattle.aag_file.specs.Answering.{Gives};
 ghost use Rattle.aig_file.specs.Reading.{read_binary};
-ghost use Rattle.aig_sections.specs.Taking.{Gives};
 
 use crate::stage::Stage;
 use aag_format::ReadError;
@@ -20,11 +20,11 @@ pub struct AigReader {
 }
 
 impl AigReader {
-    ghost use Rattle.std.specs.Prelude.{ℕ, List, ◌≡◌, ◌+◌, ◌^◌, ◌<◌, ◌++◌, [], length, Err, Some, None, OnOk, IfErr};
+    ghost use Rattle.std.specs.Prelude.{ℕ, List, ◌≡◌, ◌++◌, [], Err, Some, None, OnOk, IfErr};
     ghost use Rattle.aag_format.specs.declared.fault.ReadError.{ReadError};
     ghost use Rattle.aag_format.specs.declared.fault.ReadError.TheVariants.{BadHeader};
+    ghost use Rattle.aag_file.specs.Answering.{Gives};
     ghost use Rattle.aig_file.specs.Reading.{read_binary};
-    ghost use Rattle.aig_sections.specs.Taking.{Gives};
     ghost use Rattle.aig_reader.specs.Holding.{Holds, Answers, fault_of};
 
     /// A reader to which nothing was fed. Takes no memory.
@@ -43,15 +43,19 @@ impl AigReader {
     ///
     /// # Errors
     ///
-    /// The first fault of the bytes so far, as soon as its last byte has come, with its offset from the first piece on;
-    /// `NoMemory`. Every later call answers the same.
+    /// The first fault of the bytes so far, as soon as its last byte has come, with its offset from the first piece on; or
+    /// `NoMemory`, also where the pieces come to `2^64` bytes, since no offset is that great. Every later call answers the same.
     pub fn feed(&mut self, piece: &[u8]) -> Result<(), ReadError>
-        ensures held { (bytes : List ℕ) → Holds self.old bytes → length bytes + length piece.now < 2 ^ 64 → Holds self.new (bytes ++ piece.now) × Answers result (bytes ++ piece.now) }
+        ensures held { (bytes : List ℕ) → Holds self.old bytes → Holds self.new (bytes ++ piece.now) × Answers result (bytes ++ piece.now) }
         ensures fails { IfErr result (λ fault. fault_of self.new ≡ Some fault) }
         ensures stays { (fault : ReadError) → fault_of self.old ≡ Some fault → result ≡ Err fault }
     {
-        let end = self.offset.saturating_add(piece.len() as u64);
         let stage = mem::replace(&mut self.stage, Stage::Failed(ReadError::NoMemory));
+        let Some(end) = self.offset.checked_add(piece.len() as u64) else {
+            let fault = stage.refusal();
+            self.stage = Stage::Failed(fault);
+            return Err(fault);
+        };
         self.offset = end;
         match stage.feed(self.alloc, end, piece) {
             Ok(stage) => {

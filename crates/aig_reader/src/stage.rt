@@ -1,9 +1,9 @@
 ghost use Rattle.std.specs.Prelude.{ℕ, List, ◌≡◌, ◌+◌, ◌++◌, [], length, Ok};
 ghost use Rattle.aag_file.specs.Raw.{nothing_yet};
+ghost use Rattle.aag_file.specs.Answering.{Gives};
 ghost use Rattle.aig_file.specs.Headers.{IsHeaderWithin};
 ghost use Rattle.aig_file.specs.Reading.{State, feed, before_item, read_binary};
 ghost use Rattle.aig_file.specs.Reading as reading;
-ghost use Rattle.aig_sections.specs.Taking.{Gives};
 ghost use Rattle.aig_reader.specs.Standing.{Stands};
 ghost use Rattle.aig_reader.specs.Stages.{HoldsHeader, HoldsResult};
 
@@ -29,15 +29,16 @@ pub(crate) enum Stage {
 }
 
 impl Stage {
-    ghost use Rattle.std.specs.Prelude.{ℕ, List, ◌≡◌, ◌+◌, ◌++◌, length, Err, Some};
+    ghost use Rattle.std.specs.Prelude.{ℕ, List, [], ◌≡◌, ◌+◌, ◌++◌, length, Err, Some, None};
     ghost use Rattle.aag_format.specs.declared.fault.ReadError.{ReadError};
+    ghost use Rattle.aag_file.specs.Answering.{Fails, Gives};
     ghost use Rattle.aig_file.specs.Reading.{read_binary};
-    ghost use Rattle.aig_sections.specs.Taking.{Gives};
+    ghost use Rattle.aig_file.specs.Reading as reading;
     ghost use Rattle.aig_reader.specs.Stages.{HoldsStage, HoldsResult, failure};
 
     /// Takes a piece that ends at the offset.
     pub(crate) fn feed(self, alloc: Global, end: u64, piece: &[u8]) -> Result<Stage, ReadError>
-        ensures held { (bytes : List ℕ) → HoldsStage self bytes → length bytes + length piece.now ≡ end → HoldsResult result (bytes ++ piece.now) }
+        ensures held { (bytes : List ℕ) → HoldsStage self bytes → (failure self ≡ None → length bytes + length piece.now ≡ end) → HoldsResult result (bytes ++ piece.now) }
         ensures stays { (fault : ReadError) → failure self ≡ Some fault → result ≡ Err fault }
     {
         match self {
@@ -49,13 +50,25 @@ impl Stage {
 
     /// The circuit of an input that ends here, at the offset.
     pub(crate) fn finish(self, alloc: Global, end: u64) -> Result<Circuit, ReadError>
-        ensures circuit { (bytes : List ℕ) → HoldsStage self bytes → length bytes ≡ end → Gives (λ c. c) result (read_binary bytes) }
+        ensures circuit { (bytes : List ℕ) → HoldsStage self bytes → (failure self ≡ None → length bytes ≡ end) → Gives (λ c. c) result (read_binary bytes) }
         ensures stays { (fault : ReadError) → failure self ≡ Some fault → result ≡ Err fault }
     {
         match self {
             Stage::Header(line) => finish_header(alloc, line, end),
             Stage::Items(items) => items.finish(alloc, end),
             Stage::Failed(fault) => Err(fault),
+        }
+    }
+
+    /// Why a piece is refused whose end has no offset.
+    pub(crate) fn refusal(self) -> ReadError
+        ensures held { (bytes more : List ℕ) → HoldsStage self bytes → Fails result (reading.feed (reading.AtHeader []) (bytes ++ more)) }
+        ensures stays { (fault : ReadError) → failure self ≡ Some fault → result ≡ fault }
+    {
+        match self {
+            Stage::Header(_line) => ReadError::NoMemory,
+            Stage::Items(_items) => ReadError::NoMemory,
+            Stage::Failed(fault) => fault,
         }
     }
 }

@@ -1,12 +1,13 @@
 -- What a call that takes an item answers, by the contents with that item.
-use Rattle.std.proofs.Common.{◌≡◌, Result, Ok, Err, sym, subst, ◌∙◌}
+use Rattle.std.proofs.Common.{◌≡◌, Result, Ok, Err, subst, ◌∙◌}
 use Rattle.aag_format.specs.declared.fault.ReadError.{ReadError}
 use Rattle.aag_format.specs.declared.fault.ReadError.TheVariants.{NoMemory}
 use Rattle.aag_file.specs.declared.header.Header.{Header}
 use Rattle.aag_file.specs.Raw.{Raw}
+use Rattle.aag_file.specs.Answering.{Fails, Gives}
 use Rattle.aig_file.specs.Headers.{IsHeaderWithin}
 use Rattle.aig_sections.specs.Contents.{Contents, IsAt}
-use Rattle.aig_sections.specs.Taking.{Fails, Gives, Takes}
+use Rattle.aig_sections.specs.Taking.{Takes}
 
 -- the contents with one item more are those that reading gives, or the fault is
 abbrev pub Agrees : Header → Result Contents ReadError → Result Raw ReadError → Type 0
@@ -21,14 +22,6 @@ pub given_takes : {X : Type 0} (h : Header) (new : Contents) (r : Result X ReadE
     → Gives (λ _. new) r taken → Agrees h taken read → Takes h new r read
 given_takes h new (Ok x) taken read gives agrees = subst (λ (t : Result Contents ReadError). Agrees h t read) gives agrees
 given_takes h new (Err error) taken read gives agrees = taken_fails h error taken read gives agrees
-
-pub Fails-same : {Y : Type 0} (e : ReadError) (a b : Result Y ReadError) → a ≡ b → Fails e a → Fails e b
-Fails-same NoMemory a b same fails = tt
-Fails-same e a b same fails = sym same ∙ fails
-
-pub Gives-same : {X Y : Type 0} (view : X → Y) (r : Result X ReadError) (a b : Result Y ReadError) → a ≡ b → Gives view r a → Gives view r b
-Gives-same view (Ok x) a b same gives = sym same ∙ gives
-Gives-same view (Err e) a b same gives = Fails-same e a b same gives
 
 -- the limits of the header of a raw circuit whose contents these are
 pub header_within : (b c : Contents) (h : Header) (raw : Raw) → b ≡ c → IsAt c h raw → IsHeaderWithin b.header → IsHeaderWithin h

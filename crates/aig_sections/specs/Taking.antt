@@ -2,24 +2,15 @@
 use Rattle.std.specs.Prelude.{ℕ, ◌≡◌, ◌-◌, ◌==◌, ◌||◌, nat_lt, [], ◌∷◌, Result, Ok, Err, if◌then◌else◌}
 use Rattle.aig_graph.specs.Circuits.{Network}
 use Rattle.aag_format.specs.declared.fault.ReadError.{ReadError}
-use Rattle.aag_format.specs.declared.fault.ReadError.TheVariants.{NoMemory, BadDelta, Truncated}
+use Rattle.aag_format.specs.declared.fault.ReadError.TheVariants.{BadDelta, Truncated}
 use Rattle.aag_file.specs.declared.header.Header.{Header}
 use Rattle.aag_file.specs.Raw.{Raw}
 use Rattle.aag_file.specs.Items.{GateItem}
 use Rattle.aag_file.specs.Reading.{unless, with_item, is_symbols}
+use Rattle.aag_file.specs.Answering.{Fails}
 use Rattle.aig_file.specs.Items.{next_section, next_gate}
 use Rattle.aig_file.specs.Reading.{circuit_of}
 use Rattle.aig_sections.specs.Contents.{Contents, IsAt}
-
--- The error is the fault that reading gives, unless memory ran out.
-abbrev pub Fails : {Y : Type 0} → ReadError → Result Y ReadError → Type 0
-Fails NoMemory read = Unit {0}
-Fails error read = read ≡ Err error
-
--- What a function returned, seen by view, is what reading gives, unless memory ran out.
-abbrev pub Gives : {X Y : Type 0} → (X → Y) → Result X ReadError → Result Y ReadError → Type 0
-Gives view (Ok x) read = read ≡ Ok (view x)
-Gives view (Err error) read = Fails error read
 
 -- After Ok the contents are those of the raw circuit that reading gives; an error is the fault of reading, unless memory ran out.
 abbrev pub Takes : {X : Type 0} → Header → Contents → Result X ReadError → Result Raw ReadError → Type 0

@@ -9,8 +9,9 @@ impl Sections {
     ghost use Rattle.aag_file.specs.declared.header.Header.{Header};
     ghost use Rattle.aag_file.specs.declared.raw.Section.TheVariants.{Symbols};
     ghost use Rattle.aag_file.specs.Raw.{Raw};
+    ghost use Rattle.aag_file.specs.Answering.{Gives};
     ghost use Rattle.aig_sections.specs.Contents.{IsAt, section_of, network_of};
-    ghost use Rattle.aig_sections.specs.Taking.{Gives, circuit_at_end};
+    ghost use Rattle.aig_sections.specs.Taking.{circuit_at_end};
 
     /// The circuit of all that was read of an input of this length.
     ///
@@ -37,12 +38,8 @@ impl Sections {
             gates,
             names,
         } = self;
-        let Ok(props) = properties.into_props(alloc, &header) else {
-            return Err(ReadError::NoMemory);
-        };
-        let Ok(symbols) = names.into_symbols(alloc) else {
-            return Err(ReadError::NoMemory);
-        };
+        let props = properties.into_props(alloc, &header)?;
+        let symbols = names.into_symbols(alloc)?;
         let aig = Aig::from_parts(header.inputs, latches, gates);
         Ok(Circuit::new(aig, props, symbols))
     }

@@ -8,10 +8,11 @@ impl Sections {
     ghost use Rattle.aag_file.specs.declared.header.Header.{Header};
     ghost use Rattle.aag_file.specs.declared.raw.Section.TheVariants.{Gates};
     ghost use Rattle.aag_file.specs.Raw.{Raw};
+    ghost use Rattle.aag_file.specs.Answering.{Gives};
     ghost use Rattle.aig_file.specs.Items.{next_section, next_gate};
     ghost use Rattle.aig_sections.specs.Contents.{IsAt, section_of, gate_literal};
     ghost use Rattle.aig_sections.specs.Items.{with_gate};
-    ghost use Rattle.aig_sections.specs.Taking.{Gives, Takes, read_first, read_second};
+    ghost use Rattle.aig_sections.specs.Taking.{Takes, read_first, read_second};
 
     /// The first fan-in of the next gate, by its delta, which begins at the offset.
     ///

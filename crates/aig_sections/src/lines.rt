@@ -13,12 +13,13 @@ impl Sections {
     ghost use Rattle.aag_file.specs.declared.raw.Section.TheVariants as section;
     ghost use Rattle.aag_file.specs.Raw.{Raw};
     ghost use Rattle.aag_file.specs.Reading.{is_symbols};
+    ghost use Rattle.aag_file.specs.Answering.{Gives};
     ghost use Rattle.aag_lines.specs.Rows.{row_of};
     ghost use Rattle.aig_file.specs.Items.{next_section};
     ghost use Rattle.aig_file.specs.Reading.{read_line};
     ghost use Rattle.aig_sections.specs.Contents.{IsAt, section_of, latch_literal};
     ghost use Rattle.aig_sections.specs.Items.{latch_taken, safety_taken, size_taken, liveness_taken};
-    ghost use Rattle.aig_sections.specs.Taking.{Gives, Takes};
+    ghost use Rattle.aig_sections.specs.Taking.{Takes};
 
     /// Takes the line of the next item, which begins at the offset, by its numbers, or by `None` where it isn't at most
     /// nine numbers with one space between. `u32::MAX` stands for each greater number. The section isn't that of symbols;
@@ -74,9 +75,8 @@ impl Sections {
     {
         let number = only_number(at, numbers)?;
         let lit = literal_within(&self.header, at, number)?;
-        self.properties
-            .push_safety(lit)
-            .map_err(|_| ReadError::NoMemory)
+        self.properties.push_safety(lit)?;
+        Ok(())
     }
 
     fn take_size(&mut self, at: u64, numbers: &[u32]) -> Result<(), ReadError>
@@ -87,9 +87,8 @@ impl Sections {
         if size > MAX_SIZES - self.properties.size_sum() {
             return Err(ReadError::TooLarge(at));
         }
-        self.properties
-            .push_size(size)
-            .map_err(|_| ReadError::NoMemory)
+        self.properties.push_size(size)?;
+        Ok(())
     }
 
     fn take_liveness(&mut self, at: u64, numbers: &[u32]) -> Result<(), ReadError>
@@ -98,8 +97,7 @@ impl Sections {
     {
         let number = only_number(at, numbers)?;
         let lit = literal_within(&self.header, at, number)?;
-        self.properties
-            .push_liveness(lit)
-            .map_err(|_| ReadError::NoMemory)
+        self.properties.push_liveness(lit)?;
+        Ok(())
     }
 }

@@ -1,26 +1,8 @@
-ghost use Rattle.std.specs.Prelude.{◌≡◌};
-ghost use Rattle.aag_file.specs.Raw.{count_of};
-
 use crate::sections::Sections;
-use aag_file::{Header, SymbolKind};
+use aag_file::SymbolKind;
 use aag_format::ReadError;
 use aag_lines::SymbolText;
 use aig_graph::Sequence;
-
-/// How many things of a kind a symbol may name.
-fn count_of(header: &Header, kind: SymbolKind) -> u32
-    ensures { result ≡ count_of header.now kind }
-{
-    match kind {
-        SymbolKind::Input => header.inputs,
-        SymbolKind::Latch => header.latches,
-        SymbolKind::Output => header.outputs,
-        SymbolKind::Bad => header.bad,
-        SymbolKind::Constraint => header.constraints,
-        SymbolKind::Justice => header.justice,
-        SymbolKind::Fairness => header.fairness,
-    }
-}
 
 impl Sections {
     ghost use Rattle.std.specs.Prelude.{ℕ, List, ◌≡◌, false};
@@ -29,13 +11,14 @@ impl Sections {
     ghost use Rattle.aag_file.specs.Raw.{Raw, RawSymbol};
     ghost use Rattle.aag_file.specs.Items.{begins_comment};
     ghost use Rattle.aag_file.specs.Meaning.{symbols_of};
+    ghost use Rattle.aag_file.specs.Answering.{Gives};
     ghost use Rattle.aag_lines.specs.Symbols.{text_of};
     ghost use Rattle.aig_file.specs.Items.{next_section};
     ghost use Rattle.aig_file.specs.Reading.{read_line};
     ghost use Rattle.file_parts.specs.Names.{symbol_at};
     ghost use Rattle.aig_sections.specs.Contents.{IsAt};
     ghost use Rattle.aig_sections.specs.Items.{symbol_taken};
-    ghost use Rattle.aig_sections.specs.Taking.{Gives, Takes};
+    ghost use Rattle.aig_sections.specs.Taking.{Takes};
 
     /// Takes a symbol's line, which begins at the offset. All other sections are full, and the line isn't that of a comment.
     ///
@@ -66,7 +49,7 @@ impl Sections {
         ensures { (symbols : List RawSymbol) → self.old.names ≡ symbols_of symbols
             → Gives (λ _. self.new) result (symbol_taken self.old symbols at (symbol_at kind position name)) }
     {
-        if position >= count_of(&self.header, kind) {
+        if position >= self.header.count_of(kind) {
             return Err(ReadError::BadSymbol(at));
         }
         match self.names.insert(kind, position, name) {

@@ -7,7 +7,7 @@ use Rattle.aig_graph.specs.Graph.{IsGraph, IsGateAt, variable, first_latch, firs
 use Rattle.aig_graph.specs.Circuits.{Network, IsNetwork}
 use Rattle.counted_io.specs.Line.{line}
 use Rattle.aag_format.specs.Text.{single_rows}
-use Rattle.aag_format.proofs.Ranges.{all_enumerated}
+use Rattle.aag_file.proofs.Ranges.{all_enumerated}
 use Rattle.aag_file.specs.declared.header.Header.{Header}
 use Rattle.aag_file.specs.declared.raw.RawLatch.{RawLatch}
 use Rattle.aag_file.specs.declared.raw.RawGate.{RawGate}

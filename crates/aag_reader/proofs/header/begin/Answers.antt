@@ -1,7 +1,7 @@
 use Rattle.std.proofs.Common.{ℕ, List, ◌++◌, ◌-◌, length, refl, ap, ◌∙◌, subst}
 use Rattle.std.proofs.lemmas.Result.{err_from_is_err_and}
 use Rattle.aag_file.specs.Pieces.{fed}
-use Rattle.aag_sections.specs.Answering.{Fails}
+use Rattle.aag_file.specs.Answering.{Fails}
 use Rattle.aag_reader.specs.Standing.{Hold}
 use Rattle.aag_reader.proofs.BeginningLaws.{awaits_more, to_line_end, whole_piece, header_fails, items_begin}
 use Rattle.aag_reader.proofs.header.begin.Goals as goal

@@ -1,6 +1,6 @@
-use Rattle.std.proofs.Common.{[], arith}
+use Rattle.std.proofs.Common.{[]}
 use Rattle.aig_reader.proofs.HoldLaws.{read_failed}
 use Rattle.aig_reader.proofs.reader.read_aig.Goals as goal
 
 pub returns : goal.returns
-returns c = read_failed c.in-Err.fault c.args.bytes.now (c.in-Err.ensures.held [] c.new-reader.ensures.holds (omega arith)).1
+returns c = read_failed c.in-Err.fault c.args.bytes.now (c.in-Err.ensures.held [] c.new-reader.ensures.holds).1

@@ -1,7 +1,7 @@
 use Rattle.std.proofs.Common.{ℕ, List, sym, subst}
 use Rattle.std.proofs.lemmas.Result.{err_from_is_err_and}
 use Rattle.aag_file.specs.Reading.{State, finish}
-use Rattle.aag_sections.specs.Answering.{Gives}
+use Rattle.aag_file.specs.Answering.{Gives}
 use Rattle.aag_reader.specs.declared.lines.OpenLine.{OpenLine}
 use Rattle.aag_reader.specs.declared.items.Items.{Items}
 use Rattle.aag_reader.specs.Standing.{StandAt}

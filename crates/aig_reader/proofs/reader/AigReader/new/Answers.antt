@@ -4,4 +4,4 @@ use Rattle.aig_reader.proofs.reader.AigReader.new.Goals as goal
 
 pub returns-clause-holds : goal.returns-clause-holds
 unfolding feed
-returns-clause-holds c = record { count = refl; stage = record { reading = refl; line_is = c.new.ensures } }
+returns-clause-holds c = record { count = λ sound. refl; stage = record { reading = refl; line_is = c.new.ensures } }

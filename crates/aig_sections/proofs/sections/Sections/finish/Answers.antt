@@ -1,5 +1,5 @@
 use Rattle.std.proofs.Common.{sym}
-use Rattle.aig_sections.proofs.TakingLaws.{Gives-same}
+use Rattle.aag_file.proofs.AnsweringLaws.{Gives-same}
 use Rattle.aig_sections.proofs.CircuitLaws.{ended}
 use Rattle.aig_sections.proofs.sections.Sections.finish.Goals as goal
 

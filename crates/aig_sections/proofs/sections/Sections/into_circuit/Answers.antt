@@ -7,4 +7,4 @@ pub from_parts-aig-requires : goal.from_parts-aig-requires
 from_parts-aig-requires c = graph_kept _ c.self.invariant (ap section_of c.self.view_is ∙ c.requires)
 
 pub new-requires : goal.new-requires
-new-requires c = rw (c.from_parts-aig.ensures, c.in-Ok.ensures, c.in-Ok-into_symbols.ensures) (network_kept _ c.self.invariant (ap section_of c.self.view_is ∙ c.requires))
+new-requires c = rw (c.from_parts-aig.ensures, c.in_ok-props.ensures, c.in_ok-symbols.ensures) (network_kept _ c.self.invariant (ap section_of c.self.view_is ∙ c.requires))

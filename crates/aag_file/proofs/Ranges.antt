@@ -1,14 +1,13 @@
 -- Variables that are numbered from 1 on keep their numbers.
-use Rattle.std.proofs.Common.{ℕ, suc, zero, ◌+◌, ◌-◌, ◌<◌, ◌≤◌, ◌≡◌, inl, inr, List, [], ◌∷◌, ◌++◌, length, map, take, get_or, slice_get, position, unwrap_or, Contains, Option, Some, None, true, cond, nat_lt, nat_eq, refl, sym, ap, ap₂, subst, ◌∙◌, arith}
+use Rattle.std.proofs.Common.{ℕ, suc, zero, ◌+◌, ◌-◌, ◌<◌, ◌≤◌, ◌≡◌, inl, inr, List, [], ◌∷◌, ◌++◌, length, map, get_or, slice_get, position, unwrap_or, Contains, Option, Some, None, true, cond, nat_lt, nat_eq, refl, sym, ap, ap₂, subst, ◌∙◌, arith}
 use Rattle.std.specs.List.{range_with_len, enumerate_from, position_or_len, AllByRecursion}
 use Rattle.std.proofs.lemmas.Option.{same_Some}
 use Rattle.std.proofs.lemmas.Bool.{cases_eq, lt-ltb, eq-eqb, ne_eqb, cond-true, cond-false}
-use Rattle.std.proofs.lemmas.List.{map-id}
-use Rattle.std.proofs.lemmas.List.FromFn.{length-range_with_len, get_or-range_with_len, take-map-range_with_len}
+use Rattle.std.proofs.lemmas.List.FromFn.{length-range_with_len, get_or-range_with_len}
 use Rattle.aig_graph.specs.Graph.{variable}
-use Rattle.aag_format.specs.Raw.{IsKnownAmong}
-use Rattle.aag_format.specs.Meaning.{renumbered, literal_in}
-use Rattle.aag_format.proofs.Apart.{AreApart}
+use Rattle.aag_file.specs.Files.{IsKnownAmong}
+use Rattle.aag_file.specs.Meaning.{renumbered, literal_in}
+use Rattle.aag_file.proofs.Apart.{AreApart}
 
 -- numbers, and those that come next
 pub range-append : (m a n : ℕ) → range_with_len a m ++ range_with_len (a + m) n ≡ range_with_len a (m + n)
@@ -17,10 +16,6 @@ range-append (suc m) a n =
     let start : a + suc m ≡ a + 1 + m = omega arith in
     let all : suc m + n ≡ suc (m + n) = omega arith in
     rw (start, all) (ap (λ (vs : List ℕ). a ∷ vs) (range-append m (a + 1) n))
-
--- the first of the numbers
-pub range-take : (a n k : ℕ) → k ≤ n → take k (range_with_len a n) ≡ range_with_len a k
-range-take a n k within = ap (take k) (sym (map-id (range_with_len a n))) ∙ take-map-range_with_len (λ v. v) a n k within ∙ map-id (range_with_len a k)
 
 -- no number stands twice
 pub range-apart : (a n : ℕ) → AreApart (range_with_len a n)
