@@ -1,0 +1,47 @@
+-- Where a reader of either spelling stands.
+use Rattle.std.specs.Prelude.{ℕ, ◌≡◌, ◌<◌, List, length, Option, Some, None, Result, Ok, Err}
+use Rattle.aag_format.specs.declared.fault.ReadError.{ReadError}
+use Rattle.aag_format.specs.declared.fault.ReadError.TheVariants.{BadHeader}
+use Rattle.aag_reader.specs.Readers as ascii
+use Rattle.aig_reader.specs.Holding as binary
+use Rattle.spellings.specs.declared.form.Spelling.{Spelling}
+use Rattle.spellings.specs.declared.form.Spelling.TheVariants.{Ascii, Binary}
+use Rattle.spellings.specs.Spellings.{spelling_of}
+use Rattle.aig_binary.specs.declared.any_reader.AnyReader.{AnyReader}
+use Rattle.aig_binary.specs.declared.any_reader.Phase.{Phase}
+use Rattle.aig_binary.specs.declared.any_reader.Phase.TheVariants.{Letters, InAscii, InBinary, Neither}
+
+-- these bytes have come: fewer than three, or such as the reader of their spelling holds, or neither spelling's
+abbrev pub PhaseHolds : Phase → List ℕ → Type 0
+PhaseHolds (Letters letters) bytes = (letters.items ≡ bytes) × (length bytes < 3)
+PhaseHolds (InAscii reader) bytes = (spelling_of bytes ≡ Some Ascii) × ascii.Holds reader bytes
+PhaseHolds (InBinary reader) bytes = (spelling_of bytes ≡ Some Binary) × binary.Holds reader bytes
+PhaseHolds Neither bytes = (spelling_of bytes ≡ None) × (2 < length bytes)
+
+abbrev pub Holds : AnyReader → List ℕ → Type 0
+Holds reader bytes = PhaseHolds reader.phase bytes
+
+-- the error of a result, if it is one
+abbrev pub fault_in : Result (Unit {0}) ReadError → Option ReadError
+fault_in (Ok x) = None
+fault_in (Err fault) = Some fault
+
+-- what each further call answers, where the file has a fault, or has ended
+abbrev pub phase_fault : Phase → Option ReadError
+phase_fault (Letters letters) = None
+phase_fault (InAscii reader) = fault_in (ascii.standing reader)
+phase_fault (InBinary reader) = binary.fault_of reader
+phase_fault Neither = Some (BadHeader 0)
+
+abbrev pub fault_of : AnyReader → Option ReadError
+fault_of reader = phase_fault reader.phase
+
+-- the spelling that was read of the first three bytes
+abbrev pub phase_spelling : Phase → Option Spelling
+phase_spelling (Letters letters) = None
+phase_spelling (InAscii reader) = Some Ascii
+phase_spelling (InBinary reader) = Some Binary
+phase_spelling Neither = None
+
+abbrev pub spelling_read : AnyReader → Option Spelling
+spelling_read reader = phase_spelling reader.phase

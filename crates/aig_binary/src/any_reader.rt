@@ -1,0 +1,109 @@
+use crate::begin::{Begun, begin};
+use crate::letters::Letters;
+use aag_format::ReadError;
+use aag_reader::AagReader;
+use aig_graph::Circuit;
+use aig_reader::AigReader;
+use arrayvec::ArrayVec;
+use spellings::Spelling;
+use std::alloc::Global;
+
+/// How far a file has come.
+#[derive(Drop)]
+pub(crate) enum Phase {
+    /// Fewer than three bytes have come.
+    Letters(Letters),
+    InAscii(AagReader),
+    InBinary(AigReader),
+    /// The first three bytes are neither spelling's, or the file has ended before them.
+    Neither,
+}
+
+/// A reader of a file of either spelling that comes in pieces, however cut. The first three bytes say which it is.
+#[derive(Drop)]
+pub struct AnyReader {
+    alloc: Global,
+    phase: Phase,
+}
+
+impl AnyReader {
+    ghost use Rattle.std.specs.Prelude.{ℕ, List, [], ◌≡◌, ◌++◌, Err, Some, None, OnOk, IfErr};
+    ghost use Rattle.aag_format.specs.declared.fault.ReadError.{ReadError};
+    ghost use Rattle.aag_format.specs.declared.fault.ReadError.TheVariants.{BadHeader};
+    ghost use Rattle.aag_file.specs.Answering.{Gives};
+    ghost use Rattle.spellings.specs.Spellings.{spelling_of, read_any};
+    ghost use Rattle.aig_binary.specs.Fed.{fed_any};
+    ghost use Rattle.aig_binary.specs.Readers.{Holds, fault_of, spelling_read};
+
+    /// A reader to which no byte has come. Takes no memory.
+    pub fn new(alloc: Global) -> AnyReader
+        ensures holds { Holds result [] }
+        ensures sound { fault_of result ≡ None }
+    {
+        AnyReader {
+            alloc,
+            phase: Phase::Letters(ArrayVec::new()),
+        }
+    }
+
+    /// The spelling that the first three bytes have named; `None` before the third, or where they are neither's. Takes no
+    /// memory, and answers the same after the end of the file.
+    pub fn spelling(&self) -> Option<Spelling>
+        ensures read { result ≡ spelling_read self.now }
+        ensures named { (bytes : List ℕ) → Holds self.now bytes → result ≡ spelling_of bytes }
+    {
+        match &self.phase {
+            Phase::InAscii(_) => Some(Spelling::Ascii),
+            Phase::InBinary(_) => Some(Spelling::Binary),
+            Phase::Letters(_) | Phase::Neither => None,
+        }
+    }
+
+    /// Takes the next bytes. The fault of a line or delta is answered by the call that brings its last byte.
+    ///
+    /// # Errors
+    ///
+    /// `BadHeader` at 0 with the third byte, where the first three are neither spelling's; else the first fault of the
+    /// bytes so far, with its offset from the first piece on, or `NoMemory`. Then each further call answers that same one.
+    pub fn feed(&mut self, piece: &[u8]) -> Result<(), ReadError>
+        ensures holds { (bytes : List ℕ) → Holds self.old bytes → Holds self.new (bytes ++ piece.now) }
+        ensures fed { (bytes : List ℕ) → Holds self.old bytes → Gives (λ u. u) result (fed_any (bytes ++ piece.now)) }
+        ensures fails { IfErr result (λ fault. fault_of self.new ≡ Some fault) }
+        ensures stays { (fault : ReadError) → fault_of self.old ≡ Some fault → result ≡ Err fault }
+    {
+        match &mut self.phase {
+            Phase::Letters(letters) => {
+                let Begun { phase, answer } = begin(self.alloc, letters.as_slice(), piece);
+                self.phase = phase;
+                answer
+            }
+            Phase::InAscii(reader) => reader.feed(piece),
+            Phase::InBinary(reader) => reader.feed(piece),
+            Phase::Neither => Err(ReadError::BadHeader(0)),
+        }
+    }
+
+    /// The circuit of all bytes that have come.
+    ///
+    /// # Errors
+    ///
+    /// The first fault of the bytes, or `NoMemory`, and then each further call answers that same one. After a circuit each
+    /// further call answers `BadHeader` at 0.
+    pub fn finish(&mut self) -> Result<Circuit, ReadError>
+        ensures gives { (bytes : List ℕ) → Holds self.old bytes → Gives (λ circuit. circuit) result (read_any bytes) }
+        ensures ends { OnOk result (fault_of self.new ≡ Some (BadHeader 0)) }
+        ensures fails { IfErr result (λ fault. fault_of self.new ≡ Some fault) }
+        ensures stays { (fault : ReadError) → fault_of self.old ≡ Some fault → result ≡ Err fault }
+        ensures spelling { spelling_read self.new ≡ spelling_read self.old }
+    {
+        match &mut self.phase {
+            Phase::InAscii(reader) => reader.finish(),
+            Phase::InBinary(reader) => reader.finish(),
+            Phase::Letters(_) => {
+                self.phase = Phase::Neither;
+                Err(ReadError::BadHeader(0))
+            }
+            Phase::Neither => Err(ReadError::BadHeader(0)),
+        }
+    }
+}

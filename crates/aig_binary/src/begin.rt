@@ -1,0 +1,75 @@
+ghost use Rattle.std.specs.Prelude.{◌≡◌, ◌++◌, Some, IfErr};
+ghost use Rattle.aag_file.specs.Answering.{Gives};
+ghost use Rattle.spellings.specs.declared.form.Spelling.TheVariants.{Ascii, Binary};
+ghost use Rattle.spellings.specs.Spellings.{spelling_of};
+ghost use Rattle.aig_binary.specs.Fed.{fed_any};
+ghost use Rattle.aig_binary.specs.Readers.{PhaseHolds, phase_fault};
+
+use crate::any_reader::Phase;
+use crate::letters::{LETTERS, first_letters};
+use aag_format::ReadError;
+use aag_reader::AagReader;
+use aig_reader::AigReader;
+use spellings::{Spelling, spelling};
+use std::alloc::Global;
+
+/// How far a file has come with a piece, and what the piece answers.
+#[derive(Drop)]
+pub(crate) struct Begun {
+    pub phase: Phase,
+    pub answer: Result<(), ReadError>,
+}
+
+/// The letters go to the reader as they came: if they ran it out of memory, it answers that again with the piece.
+fn begin_ascii(alloc: Global, begun: &[u8], piece: &[u8]) -> Begun
+    requires { spelling_of (begun.now ++ piece.now) ≡ Some Ascii }
+    ensures holds { PhaseHolds result.phase (begun.now ++ piece.now) }
+    ensures fed { Gives (λ u. u) result.answer (fed_any (begun.now ++ piece.now)) }
+    ensures fails { IfErr result.answer (λ fault. phase_fault result.phase ≡ Some fault) }
+{
+    let mut ascii = AagReader::new(alloc);
+    let _ = ascii.feed(begun);
+    let answer = ascii.feed(piece);
+    Begun {
+        phase: Phase::InAscii(ascii),
+        answer,
+    }
+}
+
+fn begin_binary(alloc: Global, begun: &[u8], piece: &[u8]) -> Begun
+    requires { spelling_of (begun.now ++ piece.now) ≡ Some Binary }
+    ensures holds { PhaseHolds result.phase (begun.now ++ piece.now) }
+    ensures fed { Gives (λ u. u) result.answer (fed_any (begun.now ++ piece.now)) }
+    ensures fails { IfErr result.answer (λ fault. phase_fault result.phase ≡ Some fault) }
+{
+    let mut binary = AigReader::new(alloc);
+    let _ = binary.feed(begun);
+    let answer = binary.feed(piece);
+    Begun {
+        phase: Phase::InBinary(binary),
+        answer,
+    }
+}
+
+/// Takes a piece after fewer than three bytes.
+pub(crate) fn begin(alloc: Global, begun: &[u8], piece: &[u8]) -> Begun
+    ensures holds { PhaseHolds result.phase (begun.now ++ piece.now) }
+    ensures fed { Gives (λ u. u) result.answer (fed_any (begun.now ++ piece.now)) }
+    ensures fails { IfErr result.answer (λ fault. phase_fault result.phase ≡ Some fault) }
+{
+    let letters = first_letters(begun, piece);
+    if letters.len() < LETTERS {
+        return Begun {
+            phase: Phase::Letters(letters),
+            answer: Ok(()),
+        };
+    }
+    match spelling(letters.as_slice()) {
+        Some(Spelling::Ascii) => begin_ascii(alloc, begun, piece),
+        Some(Spelling::Binary) => begin_binary(alloc, begun, piece),
+        None => Begun {
+            phase: Phase::Neither,
+            answer: Err(ReadError::BadHeader(0)),
+        },
+    }
+}

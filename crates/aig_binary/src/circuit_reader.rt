@@ -1,0 +1,23 @@
+use crate::any_reader::AnyReader;
+use aag_format::ReadError;
+use aig_graph::Circuit;
+use piece_reading::CircuitReader;
+use spellings::Spelling;
+
+impl CircuitReader for AnyReader {
+    ghost use Rattle.aig_binary.specs.Readers.{Holds};
+
+    ghost holds = { Holds };
+
+    fn feed(&mut self, piece: &[u8]) -> Result<(), ReadError> {
+        AnyReader::feed(self, piece)
+    }
+
+    fn finish(&mut self) -> Result<Circuit, ReadError> {
+        AnyReader::finish(self)
+    }
+
+    fn spelling(&self) -> Option<Spelling> {
+        AnyReader::spelling(self)
+    }
+}

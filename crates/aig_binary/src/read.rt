@@ -1,0 +1,23 @@
+ghost use Rattle.aag_file.specs.Answering.{Gives};
+ghost use Rattle.spellings.specs.Spellings.{read_any};
+
+use crate::any_reader::AnyReader;
+use aag_format::ReadError;
+use aig_graph::Circuit;
+use std::alloc::Global;
+
+/// The circuit of a file of either spelling, all of whose bytes are there.
+///
+/// # Errors
+///
+/// `BadHeader` at 0 where the first three bytes are neither spelling's; else the first fault of the bytes, or `NoMemory`,
+/// which may come before it. Never `Device`.
+pub fn read_any(alloc: Global, bytes: &[u8]) -> Result<Circuit, ReadError>
+    ensures { Gives (λ circuit. circuit) result (read_any bytes.now) }
+{
+    let mut reader = AnyReader::new(alloc);
+    match reader.feed(bytes) {
+        Ok(()) => reader.finish(),
+        Err(fault) => Err(fault),
+    }
+}
