@@ -14,7 +14,7 @@ mod places;
 mod reading;
 
 pub use delivering::deliver_part;
-pub use joined::{excess_at, push_over, residual_at};
+pub use joined::{excess_at, next_at, push_over, residual_at};
 pub use parts::{FlowPart, PushPart};
-pub use places::part_of;
+pub use places::{part_of, push_row};
 pub use reading::read_part;

@@ -7,3 +7,5 @@ pub mod TurnLemmas
 pub mod PhaseLemmas
 pub mod RelabelLemmas
 pub mod StepLemmas
+pub mod ListLemmas
+pub mod ListPulse

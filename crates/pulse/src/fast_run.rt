@@ -4,6 +4,7 @@ ghost use Rattle.frame_net.specs.FlowNet.{node_count};
 ghost use Rattle.flow_parts.specs.Parts.{Agree};
 ghost use Rattle.exact_labels.specs.Distances.{exact};
 ghost use Rattle.pulse.specs.Conditions.{ArePushesOf, IsBetween, IsMaxPreflow, NoneActive, state_of};
+ghost use Rattle.pulse.specs.Lists.{HasAll};
 
 use crate::active::count_active;
 use crate::crew::Crew;
@@ -14,6 +15,7 @@ use crate::max_preflow::MaxPreflow;
 use crate::pushes::Pushes;
 use crate::relabel::{queue_for, relabel};
 use crate::steps::one_pulse;
+use crate::worklist::Worklist;
 use frame_net::Net;
 use std::alloc::Global;
 use std::thread::Threads;
@@ -23,8 +25,9 @@ use std::thread::Threads;
 /// a quarter of the network's arcs. It ends with a maximum preflow for every crew, after at most `2 * N * N` pulses for N nodes.
 ///
 /// Each pulse is the one that `run_to_end` makes, but the labels are exact at other times, so flow, labels and the number of pulses
-/// may differ from that run's. A pulse is handed to the crew where at least 4096 nodes or a quarter of all are active, and else is made
-/// by the calling thread. Memory is asked for at the start, and for each phase that is handed to a crew of two or more.
+/// may differ from that run's. A pulse is handed to the crew where at least a quarter of all nodes are active. Else the calling thread
+/// makes it, and visits only nodes that are active, were so in the last pulse, or are pushed to. Memory is asked for at the start, and
+/// for each phase that is handed to a crew of two or more.
 pub fn run_with_global_relabeling<G: PhaseGate>(
     rt: &(impl Threads + Sync),
     alloc: Global,
@@ -34,9 +37,10 @@ pub fn run_with_global_relabeling<G: PhaseGate>(
     ensures greatest { IfOk result (λ m. IsMaxPreflow net.now m) }
     ensures bounded { IfOk result (λ m. m.pulses ≤ 2 * (node_count net.now * node_count net.now)) }
 {
-    let mut flow = Flow::start_for(alloc, net, crew.workers())?;
-    let mut pushes = Pushes::new_for(alloc, net, crew.workers())?;
+    let mut flow = Flow::start(alloc, net)?;
+    let mut pushes = Pushes::new(alloc, net)?;
     let mut queue = queue_for(alloc, net)?;
+    let mut list = Worklist::new(alloc, net)?;
     let pulses = run(
         rt,
         alloc,
@@ -44,6 +48,7 @@ pub fn run_with_global_relabeling<G: PhaseGate>(
         &mut flow,
         &mut pushes,
         queue.as_mut_slice(),
+        &mut list,
         crew,
     )?;
     Ok(MaxPreflow { flow, pulses })
@@ -71,12 +76,14 @@ fn run<R: Threads + Sync, G: PhaseGate>(
     flow: &mut Flow,
     pushes: &mut Pushes,
     queue: &mut [u32],
+    list: &mut Worklist,
     crew: &Crew<G>,
 ) -> Result<u64, PulseError>
     requires flow { IsBetween net.now flow.old }
     requires pushes { ArePushesOf net.now pushes.old }
     requires usable { pushes.old.spent ≡ false }
     requires queue { length queue.old ≡ node_count net.now }
+    requires list { HasAll (node_count net.now) list.old.nodes.items }
     ensures flow { IfOk result (λ k. IsBetween net.now flow.new) }
     ensures ended { IfOk result (λ k. NoneActive net.now flow.new) }
     ensures bounded { IfOk result (λ k. k ≤ 2 * (node_count net.now * node_count net.now)) }
@@ -85,12 +92,12 @@ fn run<R: Threads + Sync, G: PhaseGate>(
     relabel(net, flow, queue);
     let mut count = 0;
     let mut walked: usize = 0;
-    let mut active = count_active(net, flow);
+    let mut active = count_active(net, flow, list.nodes.as_slice());
     'pulses: while active.nodes > 0 {
-        one_pulse(rt, alloc, net, flow, pushes, crew, active.nodes)?;
+        one_pulse(rt, alloc, net, flow, pushes, crew, list, active.nodes)?;
         count += 1;
         walked = relabel_after_walks(net, flow, queue, walked.saturating_add(active.arcs));
-        active = count_active(net, flow);
+        active = count_active(net, flow, list.nodes.as_slice());
     }
     Ok(count)
 }

@@ -15,6 +15,7 @@ mod error;
 mod fast_run;
 mod flow;
 mod gate;
+mod listed;
 mod marks;
 mod max_preflow;
 mod phases;
@@ -24,6 +25,7 @@ mod relabel;
 mod run;
 mod steps;
 mod workers;
+mod worklist;
 
 pub use crew::Crew;
 pub use error::PulseError;

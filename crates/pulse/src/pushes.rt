@@ -1,9 +1,11 @@
 //! The pushes of a pulse.
-ghost use Rattle.std.specs.Prelude.{◌≡◌, ◌<◌, IfOk, false, length, slice_index};
+ghost use Rattle.std.specs.Prelude.{◌≡◌, ℕ, ◌<◌, IfOk, false, length, slice_index};
+ghost use Rattle.frame_net.specs.FlowNet.{node_count, row_len};
+ghost use Rattle.flow_parts.specs.Delivering.{own};
 ghost use Rattle.pulse.specs.Conditions.{ArePushesOf};
 
 use aig_graph::NoMemory;
-use flow_parts::{PushPart, push_over};
+use flow_parts::{PushPart, push_over, push_row};
 use frame_net::Net;
 use parted_flow::push_parts;
 use std::alloc::Global;
@@ -55,6 +57,17 @@ impl Pushes {
         ensures { result ≡ slice_index self.now.values arc }
     {
         push_over(self.parts.as_slice(), arc as usize)
+    }
+
+    /// The pushes over the arcs of node `v`.
+    pub(crate) fn row(&self, net: &Net, v: u32) -> &[u32]
+        requires fits { ArePushesOf net.now self.now }
+        requires usable { self.now.spent ≡ false }
+        requires v { v < node_count net.now }
+        ensures len { length result.now ≡ row_len net.now v }
+        ensures value { (k : ℕ) → k < row_len net.now v → slice_index result.now k ≡ own net.now self.now.values v k }
+    {
+        push_row(self.parts.as_slice(), net, v)
     }
 
     /// Whether a read phase was refused.

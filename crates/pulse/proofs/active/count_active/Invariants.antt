@@ -1,5 +1,5 @@
-use Rattle.pulse.proofs.StepLemmas.{Counted}
+use Rattle.pulse.proofs.ListLemmas.{CountedListed}
 use Rattle.pulse.proofs.active.count_active.Given as goal
 
-abbrev pub invariant-loop-v : goal.invariant-loop-v
-invariant-loop-v l = Counted l.net l.flow l.v l.active.nodes l.active.arcs
+abbrev pub invariant-loop-i : goal.invariant-loop-i
+invariant-loop-i l = CountedListed l.net l.flow l.list l.i l.active.nodes

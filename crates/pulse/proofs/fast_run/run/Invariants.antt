@@ -1,9 +1,10 @@
-use Rattle.std.proofs.Common.{◌≡◌, false, cond}
-use Rattle.flow_theory.specs.Flow.{is_active, sum_below}
+use Rattle.std.proofs.Common.{◌≡◌, ◌<◌, false, true}
 use Rattle.frame_net.specs.FlowNet.{node_count}
+use Rattle.parted_flow.specs.Runs.{any_active}
 use Rattle.parted_flow.proofs.ActiveLemmas.{work}
 use Rattle.exact_labels.proofs.RunLaws.{Paid}
-use Rattle.pulse.specs.Conditions.{ArePushesOf, IsBetween, state_of}
+use Rattle.pulse.specs.Conditions.{ArePushesOf, IsBetween, NoneActive, state_of}
+use Rattle.pulse.specs.Lists.{Covers}
 use Rattle.pulse.proofs.fast_run.run.Given as goal
 
 abbrev pub invariant-pulses : goal.invariant-pulses
@@ -12,7 +13,9 @@ invariant-pulses g l = record {
   pushes : ArePushesOf l.net l.pushes;
   usable : l.pushes.spent ≡ false;
   paid : Paid l.net l.count (state_of l.net l.flow);
-  counted : l.active.nodes ≡ sum_below (node_count l.net) (λ v. cond (is_active (node_count l.net) (state_of l.net l.flow) v) 1 0);
+  covers : Covers l.net l.flow l.pushes l.list.nodes.items;
+  none : l.active.nodes ≡ 0 → NoneActive l.net l.flow;
+  some : 0 < l.active.nodes → any_active (node_count l.net) (state_of l.net l.flow) ≡ true;
 }
 
 abbrev pub decreases-pulses : goal.decreases-pulses
