@@ -1,9 +1,10 @@
 -- What becomes of a reader's bytes: the retimed circuit of those bytes, whose text is written, or an error.
-use Rattle.std.specs.Prelude.{ℕ, ◌≡◌, List, Some, unwrap_or}
+use Rattle.std.specs.Prelude.{ℕ, ◌≡◌, List, Some, Ok, unwrap_or}
 use Rattle.counted_io.specs.Input.{Input}
 use Rattle.counted_io.specs.Output.{Output, WritesAll, WritesPart}
 use Rattle.aig_graph.specs.Keep.{first_missing}
-use Rattle.spellings.specs.Spellings.{text_in}
+use Rattle.aag_file.specs.Laws.{IsWithinLimits}
+use Rattle.spellings.specs.Spellings.{read_any, text_in}
 use Rattle.piece_reading.specs.declared.reading.SpeltCircuit.{SpeltCircuit}
 use Rattle.piece_reading.specs.Ending.{ReadsToEnd, Spells, IsReadError}
 use Rattle.frame_laws.specs.declared.report.Retimed.{Retimed}
@@ -23,10 +24,15 @@ pub record IsAnswer (options : Options) (spelt : SpeltCircuit) (r : Retimed) : T
   pub names : NoneMissing options spelt.circuit
   pub retimed : IsRetimed spelt.circuit (names_in options) options.max_frames r
 
--- the text of the answer was written whole, and nothing else
+-- the text of a retimed circuit is read as that circuit
+abbrev pub ReadsBack : Options → SpeltCircuit → Retimed → Type 0
+ReadsBack options spelt r = read_any (text_for options spelt r) ≡ Ok r.circuit
+
+-- the text of the answer was written whole, and nothing else; where the circuit was within the limits of a header, the text is read as the answer
 pub record IsWritten (options : Options) (spelt : SpeltCircuit) (old new : Output) (r : Retimed) : Type 0 where
   pub answer : IsAnswer options spelt r
   pub writes : WritesAll old new (text_for options spelt r)
+  pub reads_back : IsWithinLimits spelt.circuit → ReadsBack options spelt r
 
 -- a write failed behind a beginning of the answer
 pub record StopsWriting (options : Options) (spelt : SpeltCircuit) (old new : Output) : Type 0 where
@@ -41,11 +47,17 @@ IsStop options spelt old new (Retime NoMemory) = new ≡ old
 IsStop options spelt old new (Retime (NoSuchName place)) = (new ≡ old) × (first_missing spelt.circuit.symbols.latches (names_in options) ≡ Some place)
 IsStop options spelt old new (Write e) = StopsWriting options spelt old new
 
--- the bytes that were left are those of a circuit in a spelling, and its answer was written
+-- the bytes that were left are those of a circuit in a spelling, its answer was written, and what was written is read as that answer
 pub record IsAnswered (input : Input) (old new : Output) (options : Options) (r : Retimed) : Type 0 where
   pub spelt : SpeltCircuit
   pub read : Spells input spelt
   pub written : IsWritten options spelt old new r
+  pub reads_back : (left : List ℕ) → input.bytes ≡ Some left → ReadsBack options spelt r
+
+-- of the same bytes by the same options there is one answer, and one text of it
+abbrev pub IsOneAnswer : List ℕ → Options → Type 0
+IsOneAnswer bytes options = (input other : Input) (old new before after : Output) (r s : Retimed) → input.bytes ≡ Some bytes → other.bytes ≡ Some bytes
+    → (p : IsAnswered input old new options r) (q : IsAnswered other before after options s) → (r ≡ s) × (text_for options p.spelt r ≡ text_for options q.spelt s)
 
 -- the bytes were read to their end, and are those of a circuit in a spelling, but there is no whole answer
 pub record IsStopped (options : Options) (old new : Input) (before after : Output) (e : BytesError) : Type 0 where

@@ -2,11 +2,15 @@
 ghost use Rattle.std.specs.Prelude.{◌≡◌, [], IfOk, OnOk, IfErr};
 ghost use Rattle.piece_reading.specs.Ending.{ReadsToEnd};
 ghost use Rattle.counted_io.specs.Output.{Writes};
+ghost use Rattle.aig_graph.specs.Circuits.{IsNetwork};
+ghost use Rattle.aig_graph.specs.Graph.{IsGraph};
 ghost use Rattle.frames.specs.Answering.{IsAnswered, IsBytesError, IsStop, IsWritten, text_for};
 
 use crate::errors::BytesError;
 use crate::options::Options;
 use crate::retiming::retime;
+use aig_binary::AnyReader;
+use aig_graph::Circuit;
 use counted_io::{CountedRead, CountedWrite, WriteError};
 use frame_laws::Retimed;
 use piece_reading::{CircuitReader, SpeltCircuit, read_circuit};
@@ -28,6 +32,14 @@ fn write_answer<W: CountedWrite>(
     write(&retimed.circuit, spelling, writer)
 }
 
+/// What a circuit's readers ensure: its literals and its names are in range.
+fn in_range(circuit: &Circuit)
+    ensures graph { IsGraph circuit.now.aig }
+    ensures network { IsNetwork circuit.now }
+{
+    let _aig = circuit.aig();
+}
+
 /// Retimes the circuit that was read, and writes it.
 fn retime_spelt<W: CountedWrite, G: PhaseGate>(
     rt: &(impl Threads + Sync),
@@ -41,21 +53,40 @@ fn retime_spelt<W: CountedWrite, G: PhaseGate>(
     ensures err { IfErr result (IsStop options.now spelt.now (W.output writer.old) (W.output writer.new)) }
 {
     let retimed = retime(rt, alloc, &spelt.circuit, options, crew)?;
+    in_range(&retimed.circuit);
     write_answer(&retimed, spelt, writer, options)?;
     Ok(retimed)
 }
 
-/// Reads a circuit to the end of the reader, by a reader of circuits that has been fed nothing yet, retimes it, and writes it in
-/// the chosen spelling, else in that of the bytes.
+/// Reads a circuit of either spelling to the end of the reader, retimes it, and writes it in the chosen spelling, else in that of the
+/// bytes.
 ///
 /// The reader is read to its end in pieces of at most 65536 bytes, also after a fault of the bytes, and no copy of them is kept.
-/// Nothing is written before the whole answer is there. The text that is written rests on the bytes and the options alone.
+/// Nothing is written before the whole answer is there. The text that is written rests on the bytes and the options alone, and is
+/// read as the circuit that is returned.
 ///
 /// # Errors
 ///
 /// `Read` where a read failed, where memory ran out before there was a circuit, and where the bytes are none; `Retime` where a
 /// name is that of no latch of the circuit, or memory ran out after that; `Write` where a write failed: a beginning of the text
 /// was written then.
+pub fn retime_bytes<R: CountedRead, W: CountedWrite, G: PhaseGate>(
+    rt: &(impl Threads + Sync),
+    alloc: Global,
+    reader: &mut R,
+    writer: &mut W,
+    options: &Options,
+    crew: &Crew<G>,
+) -> Result<Retimed, BytesError>
+    ensures read { OnOk result (ReadsToEnd (R.input reader.old) (R.input reader.new)) }
+    ensures answer { IfOk result (IsAnswered (R.input reader.old) (W.output writer.old) (W.output writer.new) options.now) }
+    ensures err { IfErr result (IsBytesError options.now (R.input reader.old) (R.input reader.new) (W.output writer.old) (W.output writer.new)) }
+{
+    let mut circuits = AnyReader::new(alloc);
+    retime_bytes_with(rt, alloc, reader, &mut circuits, writer, options, crew)
+}
+
+/// [`retime_bytes`] over a reader of circuits that has been fed nothing yet.
 pub fn retime_bytes_with<R: CountedRead, W: CountedWrite, C: CircuitReader, G: PhaseGate>(
     rt: &(impl Threads + Sync),
     alloc: Global,

@@ -1,17 +1,15 @@
 //! The greatest least set of a circuit, where it needs fewer latches.
 ghost use Rattle.std.specs.Prelude.{◌≡◌, IfOk, MatchOption};
-ghost use Rattle.aig_graph.specs.Border.{IsGreatestLeast};
 ghost use Rattle.frame_laws.specs.Frames.{NoneSmaller};
 ghost use Rattle.frame_laws.specs.Names.{held_in};
 ghost use Rattle.frames.specs.Found.{Helps};
 ghost use Rattle.frames.specs.Named.{names_in};
 
+use crate::least_set::greatest_least;
 use crate::options::Options;
 use aig_graph::{Circuit, ClosedSet, Keep, NoMemory, count};
-use cut_cert::greatest_cut;
 use frame_laws::FrameReport;
-use frame_net::{Net, passable};
-use pulse::{Crew, PhaseGate, PulseError, run_to_end};
+use pulse::{Crew, PhaseGate};
 use std::alloc::Global;
 use std::thread::Threads;
 
@@ -20,27 +18,6 @@ use std::thread::Threads;
 pub(crate) struct Helping {
     pub set: ClosedSet,
     pub report: FrameReport,
-}
-
-/// The greatest least set. What was made to find it is dropped.
-fn greatest_least<G: PhaseGate>(
-    rt: &(impl Threads + Sync),
-    alloc: Global,
-    circuit: &Circuit,
-    keep: &Keep,
-    crew: &Crew<G>,
-) -> Result<ClosedSet, NoMemory>
-    ensures { IfOk result (IsGreatestLeast circuit.now keep.now) }
-{
-    let pass = passable(alloc, circuit.aig(), keep)?;
-    let net = Net::build(alloc, circuit.aig(), circuit.props(), &pass, keep)?;
-    // That a network has a point for each side of a gate is what its reader ensures.
-    let _nodes = net.nodes();
-    let _source = net.point(0);
-    match run_to_end(rt, alloc, &net, crew) {
-        Ok(preflow) => greatest_cut(alloc, &net, &preflow),
-        Err(PulseError::NoMemory) => Err(NoMemory),
-    }
 }
 
 /// The greatest least set, with its report, where it counts less than the circuit has known latches.

@@ -7,12 +7,15 @@ mod errors;
 mod frame;
 mod helping;
 mod holding;
+mod laws;
+mod least_set;
 mod options;
 mod retiming;
 
-pub use bytes::retime_bytes_with;
+pub use bytes::{retime_bytes, retime_bytes_with};
 pub use errors::{BytesError, RetimeError};
 pub use frame_laws::{FrameReport, Retimed};
+pub use laws::answer_law;
 pub use options::Options;
 pub use retiming::retime;
 

@@ -3,6 +3,9 @@ ghost use Rattle.std.specs.Prelude.{◌≡◌, ◌∷◌, [], IfOk};
 ghost use Rattle.aig_graph.specs.Building.{without_gates};
 ghost use Rattle.aig_graph.specs.Graph.{variables_end};
 
+mod texts;
+mod workers;
+
 use crate::{FrameReport, Options, RetimeError, Retimed, retime};
 use aig_graph::{Aig, AigBuilder, BuildError, Circuit, Gate, Latch, Lit, Props, Reset, Symbols};
 use pulse::{Crew, OpenGate};

@@ -1,0 +1,35 @@
+-- An answer rests on the bytes and the options alone.
+use Rattle.std.proofs.Common.{ℕ, ◌≡◌, List, Option, Some, Result, Ok, ap, ap₂, sym, subst, ◌∙◌}
+use Rattle.counted_io.specs.Input.{Input}
+use Rattle.counted_io.specs.Output.{Output}
+use Rattle.aig_graph.specs.Circuits.{Network}
+use Rattle.aag_format.specs.declared.fault.ReadError.{ReadError}
+use Rattle.spellings.specs.declared.form.Spelling.{Spelling}
+use Rattle.piece_reading.specs.declared.reading.SpeltCircuit.{SpeltCircuit}
+use Rattle.piece_reading.specs.Ending.{Spells}
+use Rattle.frame_laws.specs.declared.report.Retimed.{Retimed}
+use Rattle.frame_laws.specs.Retiming.{IsRetimed}
+use Rattle.frame_laws.proofs.RunLaws.{retiming-one}
+use Rattle.frames.specs.declared.options.Options.{Options}
+use Rattle.frames.specs.Named.{names_in}
+use Rattle.frames.specs.Answering.{text_for, IsAnswered, IsOneAnswer}
+
+same_circuit : (c d : Network) → ◌≡◌ {A = Result Network ReadError} (Ok c) (Ok d) → c ≡ d
+same_circuit c d e = cc
+
+same_spelling : (a b : Spelling) → ◌≡◌ {A = Option Spelling} (Some a) (Some b) → a ≡ b
+same_spelling a b e = cc
+
+-- the bytes are those of one circuit, in one spelling
+one-spelt : (bytes : List ℕ) (input other : Input) (a b : SpeltCircuit) → input.bytes ≡ Some bytes → other.bytes ≡ Some bytes → Spells input a → Spells other b → a ≡ b
+one-spelt bytes input other a b first second p q =
+    let circuit : a.circuit ≡ b.circuit = same_circuit a.circuit b.circuit (sym (p.circuit.bytes bytes first) ∙ q.circuit.bytes bytes second) in
+    let spelling : a.spelling ≡ b.spelling = same_spelling a.spelling b.spelling (sym (p.spelling bytes first) ∙ q.spelling bytes second) in
+    λ i. record { circuit = circuit i; spelling = spelling i }
+
+pub one-answer : (bytes : List ℕ) (options : Options) → IsOneAnswer bytes options
+one-answer bytes options input other old new before after r s first second p q =
+    let spelt : p.spelt ≡ q.spelt = one-spelt bytes input other p.spelt q.spelt first second p.read q.read in
+    let P : SpeltCircuit → Type 0 = λ a. IsRetimed a.circuit (names_in options) options.max_frames r in
+    let same : r ≡ s = retiming-one q.spelt.circuit (names_in options) options.max_frames r s (subst P spelt p.written.answer.retimed) q.written.answer.retimed in
+    (same, ap₂ (text_for options) spelt same)

@@ -1,0 +1,5 @@
+pub mod NameLists
+pub mod StayLaws
+pub mod LineLaws
+pub mod PropsLaws
+pub mod ReadLaws
