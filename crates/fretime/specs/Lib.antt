@@ -1,5 +1,2 @@
-pub mod Codes
-pub mod Retiming
-pub mod Answering
-pub mod Outcomes
 pub mod Printing
+pub mod Comparing

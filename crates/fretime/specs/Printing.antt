@@ -1,21 +1,28 @@
--- What is printed of a retimed circuit.
-use Rattle.std.specs.Prelude.{ℕ, List, [], ◌∷◌, ◌++◌, length, decimal, codes}
-use Rattle.counted_io.specs.Line.{numbered_lines}
-use Rattle.fretime.specs.declared.retiming.FrameReport.{FrameReport}
-use Rattle.fretime.specs.declared.retiming.Retimed.{Retimed}
+-- What a run may have given standard output, by how it ended.
+use Rattle.std.specs.Prelude.{ℕ, ◌≡◌, List, Result, Ok, Err, MatchResult}
+use Rattle.counted_io.specs.Output.{Output, WritesAll, WritesPart}
+use Rattle.reports.specs.Differences.{shapes_text}
+use Rattle.circuit_files.specs.Outcomes.{outcome_of}
+use Rattle.circuit_files.specs.declared.outcome.Outcome.{Outcome}
+use Rattle.circuit_files.specs.declared.outcome.Outcome.TheVariants.{Done, Refused, ShapesDiffer, CommandLine, Device, Memory, Differ}
+use Rattle.circuit_files.specs.declared.outcome.Failure.{Failure}
 
--- two numbers with "to" between, which end a line
-abbrev pub change : ℕ → ℕ → List ℕ
-change before after = decimal before ++ codes " to " ++ decimal after ++ 10 ∷ []
+-- how the run of a command ends
+abbrev pub ending : Result Outcome Failure → Outcome
+ending (Ok outcome) = outcome
+ending (Err failure) = outcome_of failure
 
--- the line of the frame with this number
-abbrev pub frame_line : ℕ → FrameReport → List ℕ
-frame_line number frame = codes "frame " ++ decimal number ++ codes ": " ++ change frame.before frame.after
+-- all of the text is printed and the run ends so, or a beginning of it, and standard output has failed
+abbrev pub EndsPrinting : Outcome → List ℕ → Output → Output → Result Outcome Failure → Type 0
+EndsPrinting outcome text old new result =
+    MatchResult result (λ ended. (ended ≡ outcome) × WritesAll old new text) (λ failure. (outcome_of failure ≡ Device) × WritesPart old new text)
 
--- a line for each frame, which are numbered from 1 on
-abbrev pub frame_lines : List FrameReport → List ℕ
-frame_lines frames = numbered_lines frame_line 1 frames
-
--- a line for each frame, and the numbers of all latches that were read and that are left
-abbrev pub report_text : Retimed → List ℕ
-report_text r = frame_lines r.frames ++ codes "latches " ++ change r.read_latches (length r.circuit.aig.latches)
+-- a command prints once all else is done: nothing is printed where it failed before that
+abbrev pub Prints : Outcome → Output → Output → Type 0
+Prints Done old new = Unit {0}
+Prints Differ old new = Unit {0}
+Prints Device old new = Unit {0}
+Prints ShapesDiffer old new = WritesAll old new shapes_text
+Prints Refused old new = new ≡ old
+Prints CommandLine old new = new ≡ old
+Prints Memory old new = new ≡ old

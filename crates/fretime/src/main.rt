@@ -1,15 +1,14 @@
-//! The program `fretime`: reads an ASCII AIGER circuit, moves latches forward over a gate so that fewer are left, and
-//! writes it.
+//! The program `fretime`: reads AIGER circuits, moves latches forward over gates so that fewer are left, simulates,
+//! compares and converts.
 #![tactic(auto)]
 
-mod command_line;
-mod errors;
-mod lazy_file;
-mod outcome;
-mod printing;
-mod retime_one;
+mod comparison;
+mod conversion;
+mod ended;
 mod retiming;
 mod run;
+mod simulation;
+mod statistics;
 
 use counted_io::Counted;
 use run::{report_unreadable_arguments, run_words};

@@ -1,38 +1,45 @@
-ghost use Rattle.std.specs.Prelude.{◌≡◌, ◌⊎◌, ◌≤◌, IfErr};
-ghost use Rattle.fretime.specs.Outcomes.{outcome_of, IsQuiet};
+ghost use Rattle.std.specs.Prelude.{◌≡◌, ◌⊎◌, ◌≤◌};
+ghost use Rattle.counted_io.specs.Output.{WritesAll};
+ghost use Rattle.reports.specs.Differences.{shapes_text};
+ghost use Rattle.circuit_files.specs.Outcomes.{outcome_of};
+ghost use Rattle.circuit_files.specs.declared.outcome.Outcome.TheVariants.{Done, CommandLine, Memory};
+ghost use Rattle.fretime.specs.Printing.{Prints, ending};
 
-use crate::command_line::{RetimeFiles, parse_arguments};
-use crate::lazy_file::LazyFile;
-use crate::outcome::{Failure, Outcome};
-use crate::printing::print_report;
-use crate::retime_one::retime_one_bytes;
+use crate::comparison::print_comparison;
+use crate::conversion::convert_file;
+use crate::retiming::print_retimed;
+use crate::simulation::print_simulation;
+use crate::statistics::print_statistics;
+use circuit_files::{Failure, Outcome};
 use clap::Error;
 use clap::error::ErrorKind;
-use counted_io::{Buffered, Counted, CountedWrite};
+use command_line::{Task, parse_arguments};
+use counted_io::{Buffered, CountedWrite};
 use std::alloc::Global;
 use std::fmt::Write;
-use std::fs::File;
 use std::io;
 use std::rt::Files;
+use std::thread::Threads;
 
-/// Reads one file, writes the other, and prints what was done. A failure leaves standard output as it was, unless it is
-/// the failure of standard output itself.
-fn retime_files<'a, R: Files, O: CountedWrite>(
+/// Does what the command line asks for.
+fn run_task<'a, R: Files + Threads + Sync, O: CountedWrite>(
     rt: &R,
     alloc: Global,
-    files: RetimeFiles<'a>,
+    task: &Task<'a>,
     out: &mut O,
-) -> Result<(), Failure<'a>>
-    ensures { IfErr result (λ failure. IsQuiet (outcome_of failure) (O.output out.old) (O.output out.new)) }
+) -> Result<Outcome, Failure<'a>>
+    ensures { Prints (ending result) (O.output out.old) (O.output out.new) }
 {
-    let Ok(input) = File::open(rt, files.input) else {
-        return Err(Failure::Device(files.input));
-    };
-    let mut reader = Counted::new(input);
-    let mut writer = Counted::new(LazyFile::new(rt, files.output));
-    match retime_one_bytes(alloc, &mut reader, &mut writer) {
-        Ok(retimed) => print_report(&retimed, out).map_err(|_| Failure::Device("stdout")),
-        Err(error) => Err(Failure::of(error, files)),
+    match task {
+        Task::Retime(retiming) => print_retimed(rt, alloc, retiming, out),
+        Task::Stat(input) => print_statistics(rt, alloc, input, out),
+        Task::Convert(input, output, spelling) => {
+            convert_file(rt, alloc, input, output, *spelling).map(|_| Outcome::Done)
+        }
+        Task::Sim(input, stimulus) => print_simulation(rt, alloc, input, stimulus, out),
+        Task::Same(first, second, stimulus) => {
+            print_comparison(rt, alloc, first, second, stimulus, out)
+        }
     }
 }
 
@@ -48,7 +55,9 @@ fn report_failure<E: CountedWrite>(failure: Failure<'_>, err: &mut E) -> Outcome
 
 /// Prints help, the version, or what is wrong with the arguments, and returns how the run ends. A failed write changes
 /// nothing.
-fn report_usage<E: CountedWrite>(error: &Error, err: &mut E) -> Outcome {
+fn report_usage<E: CountedWrite>(error: &Error, err: &mut E) -> Outcome
+    ensures { (result ≡ Done) ⊎ (result ≡ CommandLine) ⊎ (result ≡ Memory) }
+{
     if error.kind() == ErrorKind::OutOfMemory {
         return report_failure(Failure::Memory, err);
     }
@@ -77,38 +86,39 @@ pub fn report_unreadable_arguments<E: CountedWrite>(error: &io::Error, err: &mut
 }
 
 /// Does what the arguments ask for, and returns how the run ends.
-fn run_command<R: Files, O: CountedWrite, E: CountedWrite>(
+fn run_command<R: Files + Threads + Sync, O: CountedWrite, E: CountedWrite>(
     rt: &R,
     alloc: Global,
     words: &[String],
     out: &mut O,
     err: &mut E,
 ) -> Outcome
-    ensures { IsQuiet result (O.output out.old) (O.output out.new) }
+    ensures { Prints result (O.output out.old) (O.output out.new) }
 {
     match parse_arguments(alloc, words) {
-        Ok(files) => match retime_files(rt, alloc, files, out) {
-            Ok(()) => Outcome::Done,
+        Ok(task) => match run_task(rt, alloc, &task, out) {
+            Ok(outcome) => outcome,
             Err(failure) => report_failure(failure, err),
         },
         Err(error) => report_usage(&error, err),
     }
 }
 
-/// Runs the program on these arguments, its own name first, and returns the exit status: 0 done, 1 refused file,
-/// 2 command line, 3 device, 4 memory.
+/// Runs the program on these arguments, its own name first, and returns the exit status: 0 done, 1 a file that is refused, or
+/// circuits that can't be compared, 2 command line, 3 device, 4 memory, 5 circuits that differ.
 ///
 /// What was done is printed to `out` once the file is written. Why nothing was done goes to `err`, and so do help and
 /// the version; a failed write to `err` doesn't change the status. The texts on `err` are only tested.
-pub fn run_words<R: Files, O: CountedWrite, E: CountedWrite>(
+pub fn run_words<R: Files + Threads + Sync, O: CountedWrite, E: CountedWrite>(
     rt: &R,
     alloc: Global,
     words: &[String],
     out: &mut O,
     err: &mut E,
 ) -> u8
-    ensures status { result ≤ 4 }
-    ensures quiet { (result ≡ 0) ⊎ (result ≡ 3) ⊎ (O.output out.new ≡ O.output out.old) }
+    ensures status { result ≤ 5 }
+    ensures refused { (result ≡ 1) → (O.output out.new ≡ O.output out.old) ⊎ WritesAll (O.output out.old) (O.output out.new) shapes_text }
+    ensures quiet { (result ≡ 2) ⊎ (result ≡ 4) → O.output out.new ≡ O.output out.old }
 {
     run_command(rt, alloc, words, out, err).status()
 }

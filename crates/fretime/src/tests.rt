@@ -1,2 +1,1 @@
-mod bytes;
-mod command_line;
+mod statuses;

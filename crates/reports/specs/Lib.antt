@@ -1,3 +1,4 @@
 pub mod Traces
 pub mod Differences
 pub mod Counts
+pub mod Retimings

@@ -1,0 +1,33 @@
+-- How a run ends, by why its command failed.
+use Rattle.std.specs.Prelude.{◌≡◌, ◌⊎◌, List, ℕ}
+use Rattle.std.specs.Borrow.{Bor}
+use Rattle.counted_io.specs.Output.{Output}
+use Rattle.aag_format.specs.declared.fault.ReadError.{ReadError}
+use Rattle.aag_format.specs.declared.fault.ReadError.TheVariants as reading
+use Rattle.lane_sim.specs.declared.fault.StimError.{StimError}
+use Rattle.lane_sim.specs.declared.fault.StimError.TheVariants as stimuli
+use Rattle.circuit_files.specs.declared.outcome.Outcome.{Outcome}
+use Rattle.circuit_files.specs.declared.outcome.Outcome.TheVariants as ends
+use Rattle.circuit_files.specs.declared.outcome.Failure.{Failure}
+use Rattle.circuit_files.specs.declared.outcome.Failure.TheVariants as fails
+
+abbrev pub outcome_of : Failure → Outcome
+outcome_of (fails.Refused path fault) = ends.Refused
+outcome_of (fails.RefusedStimulus path fault) = ends.Refused
+outcome_of (fails.NoSuchName path name) = ends.Refused
+outcome_of (fails.Device path) = ends.Device
+outcome_of fails.Memory = ends.Memory
+
+-- the failure that an error of reading a circuit or a stimulus is, with the file's path
+abbrev pub failure_of_reading : ReadError → Bor (List ℕ) → Failure
+failure_of_reading reading.NoMemory path = fails.Memory
+failure_of_reading reading.Device path = fails.Device path
+failure_of_reading fault path = fails.Refused path fault
+
+abbrev pub failure_of_stimulus : StimError → Bor (List ℕ) → Failure
+failure_of_stimulus stimuli.NoMemory path = fails.Memory
+failure_of_stimulus fault path = fails.RefusedStimulus path fault
+
+-- nothing is printed, unless all was done, circuits were compared, or a device failed
+abbrev pub IsQuiet : Outcome → Output → Output → Type 0
+IsQuiet outcome old new = (outcome ≡ ends.Done) ⊎ (outcome ≡ ends.ShapesDiffer) ⊎ (outcome ≡ ends.Differ) ⊎ (outcome ≡ ends.Device) ⊎ (new ≡ old)

@@ -1,0 +1,98 @@
+ghost use Rattle.std.specs.Prelude.{◌≡◌};
+ghost use Rattle.circuit_files.specs.Outcomes.{outcome_of, failure_of_reading, failure_of_stimulus};
+
+use aag_format::ReadError;
+use lane_sim::StimError;
+use thiserror::Error;
+
+/// How a run ended.
+#[derive(Clone, Copy, Debug, PartialEq, Eq)]
+pub enum Outcome {
+    /// All was done.
+    Done,
+    /// A file isn't what it should be.
+    Refused,
+    /// Two circuits can't be compared.
+    ShapesDiffer,
+    /// The arguments are no command of the program.
+    CommandLine,
+    /// A file couldn't be opened, created, read or written.
+    Device,
+    /// Out of memory.
+    Memory,
+    /// Two circuits differ.
+    Differ,
+}
+
+impl Outcome {
+    ghost use Rattle.circuit_files.specs.Codes.{status_of};
+
+    /// The exit status.
+    pub fn status(self) -> u8
+        ensures { result ≡ status_of self }
+    {
+        match self {
+            Outcome::Done => 0,
+            Outcome::Refused | Outcome::ShapesDiffer => 1,
+            Outcome::CommandLine => 2,
+            Outcome::Device => 3,
+            Outcome::Memory => 4,
+            Outcome::Differ => 5,
+        }
+    }
+}
+
+/// Why a command failed, with the path of the file. Its `Display` is the message on standard error, without a newline.
+#[derive(Clone, Copy, Debug, Error)]
+pub enum Failure<'a> {
+    /// The circuit has a fault.
+    #[error("{0}: {1}")]
+    Refused(&'a str, ReadError),
+    /// The stimulus has a fault.
+    #[error("{0}: {1}")]
+    RefusedStimulus(&'a str, StimError),
+    /// No latch of the circuit has the name.
+    #[error("{0}: NoSuchName {1}")]
+    NoSuchName(&'a str, &'a str),
+    /// The file couldn't be opened, created, read or written.
+    #[error("{0}: device")]
+    Device(&'a str),
+    /// Out of memory.
+    #[error("out of memory")]
+    Memory,
+}
+
+impl<'a> Failure<'a> {
+    /// The failure that an error of reading a circuit is, with the file's path.
+    pub fn of_reading(error: ReadError, path: &'a str) -> Failure<'a>
+        ensures { result ≡ failure_of_reading error path.entry }
+    {
+        match error {
+            ReadError::NoMemory => Failure::Memory,
+            ReadError::Device => Failure::Device(path),
+            fault => Failure::Refused(path, fault),
+        }
+    }
+
+    /// The failure that an error of reading a stimulus is, with the file's path.
+    pub fn of_stimulus(error: StimError, path: &'a str) -> Failure<'a>
+        ensures { result ≡ failure_of_stimulus error path.entry }
+    {
+        match error {
+            StimError::NoMemory => Failure::Memory,
+            fault => Failure::RefusedStimulus(path, fault),
+        }
+    }
+
+    /// How a run with this failure ends.
+    pub fn outcome(self) -> Outcome
+        ensures { result ≡ outcome_of self.entry }
+    {
+        match self {
+            Failure::Refused(_, _) | Failure::RefusedStimulus(_, _) | Failure::NoSuchName(_, _) =>
+                Outcome::Refused,
+            Failure::Device(_) => Outcome::Device,
+            Failure::Memory => Outcome::Memory,
+        }
+    }
+}

@@ -1,0 +1,12 @@
+//! What the words of a command line ask for, read by `clap`.
+#![tactic(auto)]
+
+mod parse;
+mod program;
+mod task;
+
+pub use parse::parse_arguments;
+pub use task::{Retiming, Task};
+
+#[cfg(test)]
+mod tests;

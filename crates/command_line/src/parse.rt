@@ -1,0 +1,92 @@
+use crate::program::program;
+use crate::task::{Retiming, Task};
+use clap::error::ErrorKind;
+use clap::{ArgMatches, Error};
+use spellings::Spelling;
+use std::alloc::{AllocError, Global};
+
+/// The spelling that a flag chooses.
+fn spelling(matches: &ArgMatches<'_>) -> Option<Spelling> {
+    if matches.get_flag("ascii") {
+        Some(Spelling::Ascii)
+    } else if matches.get_flag("binary") {
+        Some(Spelling::Binary)
+    } else {
+        None
+    }
+}
+
+/// The names of the latches that are held.
+fn keep<'a>(alloc: Global, matches: &ArgMatches<'a>) -> Result<Vec<&'a str>, AllocError> {
+    let mut names = Vec::new(alloc);
+    for name in matches.get_strs("keep").unwrap_or(&[]) {
+        names.push(*name)?;
+    }
+    Ok(names)
+}
+
+fn retiming<'a>(
+    alloc: Global,
+    matches: &ArgMatches<'a>,
+) -> Result<Option<Retiming<'a>>, AllocError> {
+    let (Some(input), Some(output)) = (matches.get_str("IN"), matches.get_str("OUT")) else {
+        return Ok(None);
+    };
+    Ok(Some(Retiming {
+        input,
+        output,
+        spelling: spelling(matches),
+        workers: matches.get_one("workers").unwrap_or(1),
+        frames: matches.get_one("frames").unwrap_or(1 << 28),
+        keep: keep(alloc, matches)?,
+    }))
+}
+
+fn conversion<'a>(matches: &ArgMatches<'a>) -> Option<Task<'a>> {
+    let input = matches.get_str("IN")?;
+    let output = matches.get_str("OUT")?;
+    Some(Task::Convert(input, output, spelling(matches)))
+}
+
+fn simulation<'a>(matches: &ArgMatches<'a>) -> Option<Task<'a>> {
+    Some(Task::Sim(matches.get_str("IN")?, matches.get_str("STIM")?))
+}
+
+fn comparison<'a>(matches: &ArgMatches<'a>) -> Option<Task<'a>> {
+    let first = matches.get_str("A")?;
+    let second = matches.get_str("B")?;
+    Some(Task::Same(first, second, matches.get_str("STIM")?))
+}
+
+/// What the matches of a subcommand ask for.
+fn task<'a>(
+    alloc: Global,
+    name: &str,
+    matches: &ArgMatches<'a>,
+) -> Result<Option<Task<'a>>, AllocError> {
+    let task = match name {
+        "retime" => retiming(alloc, matches)?.map(|retiming| Task::Retime(retiming)),
+        "stat" => matches.get_str("IN").map(|input| Task::Stat(input)),
+        "convert" => conversion(matches),
+        "sim" => simulation(matches),
+        "same" => comparison(matches),
+        _ => None,
+    };
+    Ok(task)
+}
+
+/// What the command-line arguments ask for, the program's name first.
+///
+/// # Errors
+///
+/// They ask for help or the version, or are no command of the program, or there is no memory.
+pub fn parse_arguments<'a>(alloc: Global, words: &'a [String]) -> Result<Task<'a>, Error> {
+    let mut program = program(alloc)?;
+    let matches = program.try_get_matches_from_mut(words)?;
+    if let Some((name, matches)) = matches.subcommand() {
+        if let Some(task) = task(alloc, name, matches)? {
+            return Ok(task);
+        }
+    }
+    Err(program.error(ErrorKind::MissingSubcommand, "there is nothing to do")?)
+}

@@ -1,0 +1,165 @@
+use clap::builder::ValueParser;
+use clap::{Arg, ArgAction, Command};
+use std::alloc::{AllocError, Global};
+
+const ABOUT: &str = "Moves the latches of a sequential circuit forward so that fewer are left";
+
+const LONG_ABOUT: &str = "Moves the latches of a sequential circuit forward so that fewer are left.
+
+Circuits are files in the formats of AIGER 1.9, ASCII (aag) or binary (aig).";
+
+const EXAMPLE: &str = "Example:
+  fretime retime counter.aag smaller.aag
+
+'fretime help COMMAND' says more.";
+
+const RETIME_ABOUT: &str = "Moves latches forward over gates, frame by frame, until none helps";
+
+const RETIME_LONG_ABOUT: &str =
+    "Reads a circuit, cleans it, moves latches forward over gates, frame by frame, as long as that leaves fewer, and writes it.
+
+Only latches with a known reset (0 or 1) move. A netlist from RTL without initial values has none, and nothing moves then:
+give the registers initial values, or, where the reset sequence makes that right, set them to zero
+(`setundef -init -zero` in Yosys, before `write_aiger`).
+
+OUT is created once IN has been read and retimed: a circuit that is refused leaves OUT as it was.";
+
+const RETIME_EXAMPLE: &str = "Example:
+  fretime retime counter.aag smaller.aag
+
+It prints a line for each frame that was taken, and then the numbers of all latches:
+  frame 1: 2 to 1
+  latches 2 to 1
+
+Exit status: 0 done, 1 IN is no circuit, 2 command line, 3 device, 4 out of memory.";
+
+const STAT_EXAMPLE: &str =
+    "Latches are free where they have no known reset; free latches never move.
+
+Exit status: 0 done, 1 IN is no circuit, 2 command line, 3 device, 4 out of memory.";
+
+const SIM_EXAMPLE: &str =
+    "A stimulus is lines: '=' with a digit for each free latch begins a sequence, ':' with a digit for each input is its next step.
+
+Exit status: 0 done, 1 a file is refused, 2 command line, 3 device, 4 out of memory.";
+
+const SAME_EXAMPLE: &str =
+    "It prints 'same', or the first sequence, step and place, from 0, at which the circuits differ.
+
+Exit status: 0 same, 1 a file is refused or shapes differ, 2 command line, 3 device, 4 out of memory, 5 they differ.";
+
+/// A path that has to be given.
+fn path<'a>(alloc: Global, id: &'a str, help: &'a str) -> Arg<'a> {
+    Arg::new(alloc, id).required(true).help(help)
+}
+
+/// The flag that chooses a spelling of the written file.
+fn flag<'a>(alloc: Global, id: &'a str, help: &'a str) -> Arg<'a> {
+    Arg::new(alloc, id)
+        .long(id)
+        .action(ArgAction::SetTrue)
+        .help(help)
+}
+
+/// An option whose value is a number within bounds.
+fn number<'a>(alloc: Global, id: &'a str, most: u64, default: &'a str, help: &'a str) -> Arg<'a> {
+    Arg::new(alloc, id)
+        .long(id)
+        .value_name("n")
+        .value_parser(ValueParser::unsigned(1, most))
+        .default_value(default)
+        .help(help)
+}
+
+fn names<'a>(alloc: Global) -> Arg<'a> {
+    Arg::new(alloc, "keep")
+        .long("keep")
+        .value_name("NAME")
+        .action(ArgAction::Append)
+        .help("Hold each latch with this name in its place; may be given more than once")
+}
+
+fn with_files<'a>(alloc: Global, command: Command<'a>) -> Result<Command<'a>, AllocError> {
+    command
+        .arg(path(alloc, "IN", "The AIGER file to read"))?
+        .arg(path(alloc, "OUT", "The AIGER file to write"))
+}
+
+fn with_spelling<'a>(alloc: Global, command: Command<'a>) -> Result<Command<'a>, AllocError> {
+    let ascii = flag(alloc, "ascii", "Write ASCII").conflicts_with("binary")?;
+    command
+        .arg(ascii)?
+        .arg(flag(alloc, "binary", "Write binary"))
+}
+
+fn with_limits<'a>(alloc: Global, command: Command<'a>) -> Result<Command<'a>, AllocError> {
+    command
+        .arg(number(alloc, "workers", 64, "1", "Threads that work on the flow"))?
+        .arg(number(
+            alloc,
+            "frames",
+            1 << 28,
+            "268435456",
+            "The most frames to take",
+        ))?
+        .arg(names(alloc))
+}
+
+fn retime<'a>(alloc: Global) -> Result<Command<'a>, AllocError> {
+    let command = Command::new(alloc, "retime")
+        .about(RETIME_ABOUT)
+        .long_about(RETIME_LONG_ABOUT)
+        .after_help(RETIME_EXAMPLE)
+        .arg_required_else_help(true);
+    with_limits(alloc, with_spelling(alloc, with_files(alloc, command)?)?)
+}
+
+fn stat<'a>(alloc: Global) -> Result<Command<'a>, AllocError> {
+    Command::new(alloc, "stat")
+        .about("Counts what a circuit has, as it was read")
+        .after_help(STAT_EXAMPLE)
+        .arg_required_else_help(true)
+        .arg(path(alloc, "IN", "The AIGER file to read"))
+}
+
+fn convert<'a>(alloc: Global) -> Result<Command<'a>, AllocError> {
+    let command = Command::new(alloc, "convert")
+        .about("Writes a circuit as it was read; without a flag in the other spelling")
+        .arg_required_else_help(true);
+    with_spelling(alloc, with_files(alloc, command)?)
+}
+
+fn sim<'a>(alloc: Global) -> Result<Command<'a>, AllocError> {
+    Command::new(alloc, "sim")
+        .about("Prints the values of all properties under a stimulus")
+        .after_help(SIM_EXAMPLE)
+        .arg_required_else_help(true)
+        .arg(path(alloc, "IN", "The AIGER file to read"))?
+        .arg(path(alloc, "STIM", "The stimulus"))
+}
+
+fn same<'a>(alloc: Global) -> Result<Command<'a>, AllocError> {
+    Command::new(alloc, "same")
+        .about("Finds the first difference of two circuits under a stimulus")
+        .after_help(SAME_EXAMPLE)
+        .arg_required_else_help(true)
+        .arg(path(alloc, "A", "The first AIGER file"))?
+        .arg(path(alloc, "B", "The second AIGER file"))?
+        .arg(path(alloc, "STIM", "The stimulus, with the widths of A"))
+}
+
+/// The program's commands.
+pub(crate) fn program<'a>(alloc: Global) -> Result<Command<'a>, AllocError> {
+    Command::new(alloc, "fretime")
+        .version("0.1.0")
+        .about(ABOUT)
+        .long_about(LONG_ABOUT)
+        .after_help(EXAMPLE)
+        .subcommand_required(true)
+        .arg_required_else_help(true)
+        .subcommand(retime(alloc)?)?
+        .subcommand(stat(alloc)?)?
+        .subcommand(convert(alloc)?)?
+        .subcommand(sim(alloc)?)?
+        .subcommand(same(alloc)?)
+}

@@ -1,0 +1,33 @@
+use spellings::Spelling;
+
+/// What `retime` is to do.
+#[derive(Drop)]
+pub struct Retiming<'a> {
+    /// The path of the file that is read.
+    pub input: &'a str,
+    /// The path of the file that is written.
+    pub output: &'a str,
+    /// The spelling of the written file; `None` is that of the read one.
+    pub spelling: Option<Spelling>,
+    /// The number of workers of the flow, from 1 to 64.
+    pub workers: u32,
+    /// The most frames that are taken.
+    pub frames: u32,
+    /// The names of the latches that are held in their places.
+    pub keep: Vec<&'a str>,
+}
+
+/// What a command line asks for. Each text is a path, as it was given.
+#[derive(Drop)]
+pub enum Task<'a> {
+    /// Retime a circuit.
+    Retime(Retiming<'a>),
+    /// Count what a circuit has.
+    Stat(&'a str),
+    /// Write a circuit in a spelling; `None` is the one that wasn't read.
+    Convert(&'a str, &'a str, Option<Spelling>),
+    /// Simulate a circuit under a stimulus.
+    Sim(&'a str, &'a str),
+    /// Compare two circuits under a stimulus.
+    Same(&'a str, &'a str, &'a str),
+}

@@ -1,8 +1,0 @@
-use Rattle.std.specs.Prelude.{codes}
-use Rattle.counted_io.proofs.BufferedLemmas.{puts-then}
-use Rattle.fretime.proofs.printing.put_report.Goals as goal
-
-pub returns : goal.returns
-returns g c =
-    rw (c.as_slice.ensures, c.from.ensures, c.latches.ensures.value, c.aig.ensures.value) at
-    (puts-then (puts-then {ys = codes "latches "} c.put_frames.ensures c.put.ensures) c.put_change.ensures)

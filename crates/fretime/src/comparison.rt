@@ -1,0 +1,90 @@
+//! The command `same`.
+ghost use Rattle.std.specs.Prelude.{◌≡◌, IfOk};
+ghost use Rattle.fretime.specs.Comparing.{IsFinding, finding_text, outcome_of_finding};
+ghost use Rattle.fretime.specs.Printing.{EndsPrinting, Prints, ending};
+
+use crate::ended::ended;
+use aig_graph::Circuit;
+use circuit_files::{Failure, Outcome, circuit_at, stimulus_at};
+use counted_io::CountedWrite;
+use lane_sim::{Place, SimError, Stimulus, first_difference};
+use reports::{print_difference, print_shapes_differ};
+use std::alloc::Global;
+use std::rt::Files;
+use std::thread::Threads;
+
+/// What comparing two circuits finds.
+#[derive(Clone, Copy)]
+enum Finding {
+    Same,
+    /// They differ first at this place.
+    Differ(Place),
+    /// They can't be compared.
+    ShapesDiffer,
+}
+
+fn compare<'a, R: Threads + Sync>(
+    rt: &R,
+    alloc: Global,
+    first: &Circuit,
+    second: &Circuit,
+    stimulus: &Stimulus,
+) -> Result<Finding, Failure<'a>>
+    ensures { IfOk result (IsFinding first.now second.now stimulus.now) }
+{
+    match first_difference(rt, alloc, first, second, stimulus) {
+        Ok(None) => Ok(Finding::Same),
+        Ok(Some(place)) => Ok(Finding::Differ(place)),
+        Err(SimError::Shape) => Ok(Finding::ShapesDiffer),
+        Err(SimError::NoMemory) => Err(Failure::Memory),
+    }
+}
+
+/// Compares the first circuit with that of a file.
+fn compared_with<'a, R: Files + Threads + Sync>(
+    rt: &R,
+    alloc: Global,
+    first: &Circuit,
+    second: &'a str,
+    stimulus: &'a str,
+) -> Result<Finding, Failure<'a>> {
+    let second = circuit_at(rt, alloc, second)?.circuit;
+    let stimulus = stimulus_at(rt, alloc, stimulus, first)?;
+    compare(rt, alloc, first, &second, &stimulus)
+}
+
+fn compared<'a, R: Files + Threads + Sync>(
+    rt: &R,
+    alloc: Global,
+    first: &'a str,
+    second: &'a str,
+    stimulus: &'a str,
+) -> Result<Finding, Failure<'a>> {
+    let first = circuit_at(rt, alloc, first)?.circuit;
+    compared_with(rt, alloc, &first, second, stimulus)
+}
+
+fn print_finding<'a, O: CountedWrite>(finding: Finding, out: &mut O) -> Result<Outcome, Failure<'a>>
+    ensures { EndsPrinting (outcome_of_finding finding) (finding_text finding) (O.output out.old) (O.output out.new) result }
+{
+    match finding {
+        Finding::Same => ended(print_difference(None, out), Outcome::Done),
+        Finding::Differ(place) => ended(print_difference(Some(place), out), Outcome::Differ),
+        Finding::ShapesDiffer => ended(print_shapes_differ(out), Outcome::ShapesDiffer),
+    }
+}
+
+/// Prints the first difference of two files' circuits under the stimulus of a third, which has the widths of the first.
+pub fn print_comparison<'a, R: Files + Threads + Sync, O: CountedWrite>(
+    rt: &R,
+    alloc: Global,
+    first: &'a str,
+    second: &'a str,
+    stimulus: &'a str,
+    out: &mut O,
+) -> Result<Outcome, Failure<'a>>
+    ensures { Prints (ending result) (O.output out.old) (O.output out.new) }
+{
+    let found = compared(rt, alloc, first, second, stimulus)?;
+    print_finding(found, out)
+}

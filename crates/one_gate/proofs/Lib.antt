@@ -1,3 +1,0 @@
-pub mod FanOutLaws
-pub mod CountingLaws
-pub mod OneGateLaws

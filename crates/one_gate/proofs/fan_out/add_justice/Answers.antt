@@ -1,5 +1,0 @@
-use Rattle.std.proofs.lemmas.List.{take_all}
-use Rattle.one_gate.proofs.fan_out.add_justice.Goals as goal
-
-pub returns : goal.returns
-returns c = simp (take_all _ _ c.loop-lits-test.false) at c.loop-lits.invariant

@@ -1,2 +1,0 @@
-pub mod FanOut
-pub mod OneGate
