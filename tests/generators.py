@@ -2,11 +2,18 @@
 
 A case names one as `== made FILE GENERATOR NUMBER ..`, and what has to come of it as `== after FILE made GENERATOR ..`.
 """
+import functools
 
 
 def make(words):
     """The bytes of a generated file."""
-    return GENERATORS[words[0]](*(int(word) for word in words[1:])).encode()
+    return made(*words)
+
+
+@functools.lru_cache(maxsize=4)
+def made(name, *numbers):
+    text = GENERATORS[name](*map(int, numbers))
+    return text if isinstance(text, bytes) else text.encode()
 
 
 def header(inputs, latches, outputs, gates):
@@ -62,6 +69,39 @@ def outputs(count):
     return header(1, 0, count, 0) + '2\n' + '2\n' * count
 
 
+def delta(number):
+    groups = []
+    while number > 127:
+        groups.append(128 | number & 127)
+        number >>= 7
+    return bytes([*groups, number])
+
+
+def chain_in_binary(gates):
+    """The chain in binary: each gate reads the one before it, and an input."""
+    inputs = gates + 1
+    first = 1 + inputs
+    text = [f'aig {inputs + gates} {inputs} 0 1 {gates}\n{2 * (first + gates - 1)}\n'.encode()]
+    for k in range(gates):
+        below, other = (2 * (first + k - 1), 2 * (2 + k)) if k else (4, 2)
+        text.append(delta(2 * (first + k) - below) + delta(below - other))
+    return b''.join(text)
+
+
+def backward(gates, last):
+    """Gates each of which reads the next line's twice; the last reads a given literal twice. Literal 2 is the one input."""
+    lines = [header(1, 0, 1, gates), '2\n4\n']
+    for k in range(gates):
+        below = 2 * (k + 3) if k + 1 < gates else last
+        lines.append(f'{2 * (k + 2)} {below} {below}\n')
+    return ''.join(lines)
+
+
+def refused_early(lines):
+    """A file whose second line is none of an input, and many lines behind it."""
+    return header(1, 0, 0, 0) + 'x\n' * lines
+
+
 def zeros(count):
     """The empty circuit's header with a number of many leading zeros."""
     return f'aag {"0" * count} 0 0 0 0\n'
@@ -76,4 +116,26 @@ def long_literal(count):
     return header(1, 0, 1, 0) + '2\n' + '0' * count + '2\n'
 
 
-GENERATORS = {it.__name__: it for it in (chain, pair_then_chain, pair_then_chain_moved, outputs, zeros, empty, long_literal)}
+def alternating_stimulus(sequences):
+    """For one free latch and one input: sequence k has the digit k mod 2, and k mod 3 steps with input 1."""
+    return ''.join(f'={k % 2}\n' + ':1\n' * (k % 3) for k in range(sequences))
+
+
+def alternating_trace(sequences):
+    """What a free latch that takes the input gives then: its digit, and 1 from the next step on."""
+    return ''.join('=\n' + ''.join([f':{k % 2}\n', ':1\n'][: k % 3]) for k in range(sequences))
+
+
+def sequences(count):
+    """A stimulus of sequences without a step, for one free latch."""
+    return '=0\n' * count
+
+
+def bare_sequences(count):
+    return '=\n' * count
+
+
+GENERATORS = {it.__name__: it for it in (
+    chain, chain_in_binary, pair_then_chain, pair_then_chain_moved, backward, refused_early, outputs, zeros, empty, long_literal,
+    alternating_stimulus, alternating_trace, sequences, bare_sequences,
+)}

@@ -1,259 +1,146 @@
-"""The rules of retiming once more, plainly and slowly, for small circuits: read off the definitions, not off the program.
+#!/usr/bin/env python3
+"""Compares the program with the plain model on random circuits: what is printed, what is written, the exit status.
 
-A circuit is a `Circuit`; literals are AIGER numbers. `python3 tests/model.py PROGRAM [COUNT] [SEED]` compares the program with
-the model on random circuits; the last line is 'N passed, M failed'.
+usage: tests/model.py PROGRAM [COUNT] [SEED]
+
+Of COUNT circuits (300 where it isn't given) some are small, with all sections in both spellings, some are pipelines of
+several frames, and some files are damaged; a small circuit of each family of bench/families.py comes first. The last line is
+'N passed, M failed', a comparison each.
 """
-import itertools
+import contextlib
 import os
+import pathlib
 import random
 import subprocess
 import sys
 import tempfile
 
-FREE = None
+import random_files
+from plain import program as model
+from plain.circuit import ordered
+from plain.reading import Fault, read
+from plain.retiming import greatest_least_by_flow, greatest_least_of_all, held_latches, passable
+
+BENCH = pathlib.Path(__file__).resolve().parent.parent / 'bench'
+WORKERS = [1, 2, 7, 64]
+FAMILIES = ['products 6', 'multiplier 5', 'adder_tree 8 4', 'delay_lines 16 4', 'rounds 8 4', 'gates 300 40']
 
 
-class Circuit:
-    """Inputs are 1..inputs, then latches (next literal, reset), then gates (two literals, the larger first)."""
+class Comparison:
+    """One program against the model, and how often they agreed."""
 
-    def __init__(self, inputs, latches, gates, outputs):
-        self.inputs, self.latches, self.gates, self.outputs = inputs, latches, gates, outputs
+    def __init__(self, program):
+        self.program, self.passed, self.failed = program, 0, 0
 
-    def first_latch(self):
-        return 1 + self.inputs
+    def count(self, well, what):
+        self.passed, self.failed = self.passed + well, self.failed + (not well)
+        if not well:
+            print(f'FAILED {what}')
 
-    def first_gate(self):
-        return self.first_latch() + len(self.latches)
-
-    def end(self):
-        return self.first_gate() + len(self.gates)
-
-    def latch(self, var):
-        k = var - self.first_latch()
-        return self.latches[k] if 0 <= k < len(self.latches) else None
-
-    def gate(self, var):
-        k = var - self.first_gate()
-        return self.gates[k] if 0 <= k < len(self.gates) else None
-
-    def is_known(self, var):
-        return self.latch(var) is not None and self.latch(var)[1] is not FREE
-
-    def known_latches(self):
-        return sum(reset is not FREE for _, reset in self.latches)
-
-    def text(self):
-        lines = [f'aag {self.end() - 1} {self.inputs} {len(self.latches)} {len(self.outputs)} {len(self.gates)}']
-        lines += [str(2 * v) for v in range(1, 1 + self.inputs)]
-        for k, (following, reset) in enumerate(self.latches):
-            lit = 2 * (self.first_latch() + k)
-            lines.append(f'{lit} {following}' + {0: '', 1: ' 1', FREE: f' {lit}'}[reset])
-        lines += [str(lit) for lit in self.outputs]
-        lines += [f'{2 * (self.first_gate() + k)} {a} {b}' for k, (a, b) in enumerate(self.gates)]
-        return ''.join(f'{line}\n' for line in lines)
+    def run(self, words, files):
+        """Runs both on the same words; OUT stands for a file of its own for each."""
+        for name, data in files.items():
+            write(name, data)
+        wanted = model.run(['model.out' if word == 'OUT' else word for word in words])
+        ran = subprocess.run([self.program, *('program.out' if word == 'OUT' else word for word in words)],
+                             capture_output=True, timeout=60, check=False)
+        got = ran.returncode, ran.stdout.decode('latin-1'), ran.stderr.decode('latin-1')
+        same = got == wanted and content('program.out') == content('model.out')
+        self.count(same, f'{words} on {files}\nwanted {wanted} {content("model.out")}\ngot {got} {content("program.out")}')
+        written = content('model.out')
+        for name in ('model.out', 'program.out'):
+            with contextlib.suppress(FileNotFoundError):
+                os.remove(name)
+        return written
 
 
-def ordered(a, b):
-    return (a, b) if a >= b else (b, a)
+def write(name, data):
+    with open(name, 'wb') as file:
+        file.write(data)
 
 
-# ---- cleaning
-
-def replacements(c):
-    """The literal that stands for each variable in one pass, and the gates that are kept."""
-    stands = {v: 2 * v for v in range(c.end())}
-    firsts = {}
-    for k, (following, reset) in enumerate(c.latches):
-        var = c.first_latch() + k
-        if reset is FREE:
-            continue
-        if following in (2 * var, reset):
-            stands[var] = reset
-        else:
-            stands[var] = 2 * firsts.setdefault((following, reset), var)
-    kept = {}
-    for k, gate in enumerate(c.gates):
-        var = c.first_gate() + k
-        a, b = ordered(*(stands[lit // 2] ^ (lit & 1) for lit in gate))
-        if b == 0:
-            stands[var] = 0
-        elif b == 1 or a == b:
-            stands[var] = a
-        elif a == b ^ 1:
-            stands[var] = 0
-        elif (a, b) in kept:
-            stands[var] = 2 * kept[a, b]
-        else:
-            kept[a, b] = var
-    return stands, {var: pair for pair, var in kept.items()}
+def content(name):
+    if not os.path.exists(name):
+        return None
+    with open(name, 'rb') as file:
+        return file.read()
 
 
-def cleaned_once(c):
-    stands, kept = replacements(c)
-    put = lambda lit: stands[lit // 2] ^ (lit & 1)
-    following = {c.first_latch() + k: put(latch[0]) for k, latch in enumerate(c.latches)}
-    reached, todo = set(), [put(lit) // 2 for lit in c.outputs]
-    while todo:
-        var = todo.pop()
-        if var < c.first_latch() or var in reached:
-            continue
-        reached.add(var)
-        todo += [following[var] // 2] if var in following else [lit // 2 for lit in kept[var]]
-    order = list(range(c.first_latch())) + [v for v in range(c.first_latch(), c.end()) if v in reached]
-    number = {var: k for k, var in enumerate(order)}
-    mapped = lambda lit: 2 * number[lit // 2] + (lit & 1)
-    return Circuit(
-        c.inputs,
-        [(mapped(following[v]), c.latch(v)[1]) for v in order if c.latch(v)],
-        [ordered(*map(mapped, kept[v])) for v in order if c.gate(v)],
-        [mapped(put(lit)) for lit in c.outputs],
-    )
+def options(rng, c):
+    """A number of workers, and at random a spelling, a limit of frames, and names of latches, one of which may be missing."""
+    words = ['--workers', str(rng.choice(WORKERS))] + rng.choice([[], [], ['--ascii'], ['--binary']])
+    words += rng.choice([[], [], ['--frames', str(rng.randint(1, 3))]])
+    names = sorted({name for name in c.symbols['l'].values() if name.isascii()})
+    if rng.random() < 0.4:
+        names = rng.sample(names, rng.randint(0, len(names))) + ([b'no latch'] if rng.random() < 0.1 else [])
+        words += ['--keep=' + name.decode() for name in names]
+    return words
 
 
-def cleaned(c):
-    while True:
-        d = cleaned_once(c)
-        if (len(d.latches), len(d.gates)) == (len(c.latches), len(c.gates)):
-            return d
-        c = d
+def both_least_sets_agree(c):
+    """Every closed set tried, against augmenting paths."""
+    held = set() if len(c.latches) % 2 else held_latches(c, list(c.symbols['l'].values())[:1])
+    return len(passable(c)) > 8 or greatest_least_of_all(c, held) == greatest_least_by_flow(c, held)
 
 
-# ---- closed sets
-
-def passable(c):
-    found = set()
-    for k, gate in enumerate(c.gates):
-        if all(c.is_known(lit // 2) or lit // 2 in found for lit in gate):
-            found.add(c.first_gate() + k)
-    return sorted(found)
-
-
-def closed_sets(c):
-    gates = passable(c)
-    for size in range(len(gates) + 1):
-        for chosen in itertools.combinations(gates, size):
-            members = set(chosen)
-            if all(c.latch(lit // 2) or lit // 2 in members for v in members for lit in c.gate(v)):
-                yield members
+def small(rng, comparison):
+    c = random_files.tree(rng) if rng.random() < 0.6 else random_files.circuit(rng, 3, 5, 9)
+    data = random_files.any_file(rng, c)
+    comparison.count(both_least_sets_agree(c), f'least sets of {data}')
+    retimed = comparison.run(['retime', 'in', 'OUT', *options(rng, c)], {'in': data})
+    comparison.run(['convert', 'in', 'OUT', *rng.choice([[], ['--ascii'], ['--binary']])], {'in': data})
+    comparison.run(['stat', 'in'], {'in': data})
+    stim = random_files.stimulus(rng, c, rng.choice([0, 1, 3, 70]), 4)
+    comparison.run(['sim', 'in', 'stim'], {'in': data, 'stim': stim})
+    if retimed:
+        comparison.run(['same', 'in', 'other', 'stim'], {'in': data, 'other': retimed, 'stim': stim})
 
 
-def border(c, members):
-    read = {lit // 2 for k, gate in enumerate(c.gates) if c.first_gate() + k not in members for lit in gate}
-    read |= {following // 2 for following, _ in c.latches} | {lit // 2 for lit in c.outputs}
-    return [v for v in range(c.first_latch(), c.end()) if v in read and (c.is_known(v) or v in members)]
+def different(rng, comparison):
+    """Two circuits of one shape, which mostly differ somewhere."""
+    c = random_files.circuit(rng, 3, 5, 9)
+    gates = [ordered(a ^ (rng.random() < 0.2), b) for a, b in c.gates]
+    d = c.with_parts(c.latches, gates, lambda lit: lit, {})
+    stim = random_files.stimulus(rng, c, rng.choice([1, 3, 300]), 5)
+    files = {'a': random_files.any_file(rng, c), 'b': random_files.any_file(rng, d), 'stim': stim}
+    comparison.run(['same', 'a', 'b', 'stim'], files)
+    comparison.run(['sim', 'a', 'stim'], {'stim': random_files.damaged(rng, stim)})
 
 
-def greatest_least(c):
-    sets = [(len(border(c, members)), members) for members in closed_sets(c)]
-    least = min(count for count, _ in sets)
-    return least, set().union(*(members for count, members in sets if count == least))
+def damage(rng, comparison):
+    data = random_files.damaged(rng, random_files.any_file(rng, random_files.circuit(rng, 3, 3, 4)))
+    with contextlib.suppress(Fault):
+        if read(data)[0].inputs > 1000:
+            return
+    comparison.run(rng.choice([['retime', 'in', 'OUT'], ['convert', 'in', 'OUT'], ['stat', 'in']]), {'in': data})
 
 
-def value_at_start(c, lit):
-    var = lit // 2
-    if c.gate(var):
-        value = all(value_at_start(c, it) for it in c.gate(var))
-    else:
-        value = bool(c.latch(var) and c.latch(var)[1])
-    return value ^ (lit & 1)
+def staged(rng, comparison):
+    """A pipeline of some hundred gates: every number of workers gives the bytes of the model."""
+    c = random_files.pipeline(rng, rng.choice([4, 8, 16, 24]), rng.randint(1, 5))
+    with_each_crew(comparison, random_files.any_file(rng, c))
 
 
-def moved(c, members):
-    kept = set(border(c, members))
-    staying = [v for v in range(c.first_latch(), c.first_gate()) if v in kept or c.latch(v)[1] is FREE]
-    new = [v for v in sorted(members) if v in kept]
-    outer = [v for v in range(c.first_gate(), c.end()) if v not in members]
-    holders, start = staying + new, c.first_latch()
-    outside = {v: v for v in range(start)}
-    outside.update({v: start + k for k, v in enumerate(holders)})
-    outside.update({v: start + len(holders) + k for k, v in enumerate(outer) if v not in outside})
-    copies = {v: start + len(holders) + len(outer) + k for k, v in enumerate(sorted(members))}
-    out = lambda lit: 2 * outside[lit // 2] + (lit & 1)
-    ahead = lambda lit: (2 * copies[lit // 2] if lit // 2 in members else out(c.latch(lit // 2)[0])) ^ (lit & 1)
-    return Circuit(
-        c.inputs,
-        [(out(c.latch(v)[0]), c.latch(v)[1]) for v in staying]
-        + [(2 * copies[v], int(value_at_start(c, 2 * v))) for v in new],
-        [ordered(*map(out, c.gate(v))) for v in outer]
-        + [ordered(*map(ahead, c.gate(v))) for v in sorted(members)],
-        [out(lit) for lit in c.outputs],
-    )
-
-
-# ---- the run of today: one gate at most
-
-def first_helping(c):
-    for v in passable(c):
-        members = {v}
-        if all(c.latch(lit // 2) for lit in c.gate(v)) and len(border(c, members)) < c.known_latches():
-            return members
-    return None
-
-
-def over_one_gate(c):
-    c = cleaned(c)
-    members = first_helping(c)
-    if members is None:
-        return c, []
-    return cleaned(moved(c, members)), [(c.known_latches(), len(border(c, members)))]
-
-
-# ---- frames
-
-def over_frames(c, most=None):
-    frames, c = [], cleaned(c)
-    while most is None or len(frames) < most:
-        count, members = greatest_least(c)
-        if count >= c.known_latches():
-            break
-        frames.append((c.known_latches(), count))
-        c = cleaned(moved(c, members))
-    return c, frames
-
-
-def report(c, d, frames):
-    lines = [f'frame {k + 1}: {before} to {after}' for k, (before, after) in enumerate(frames)]
-    return ''.join(f'{line}\n' for line in [*lines, f'latches {len(c.latches)} to {len(d.latches)}'])
-
-
-# ---- random circuits
-
-def random_circuit(rng):
-    inputs, latches, gates = rng.randint(0, 3), rng.randint(0, 5), rng.randint(0, 9)
-    first_gate = 1 + inputs + latches
-    lit = lambda end: rng.randrange(0 if rng.random() < 0.1 else min(2, 2 * end - 1), 2 * end)
-    near = lambda end: rng.randrange(2 * (1 + inputs), 2 * end) if latches and rng.random() < 0.7 else lit(end)
-    pairs = [ordered(near(first_gate + k), near(first_gate + k)) for k in range(gates)]
-    end = first_gate + gates
-    resets = [rng.choice([0, 0, 0, 1, 1, FREE]) for _ in range(latches)]
-    return Circuit(inputs, [(lit(end), reset) for reset in resets], pairs, [near(end) for _ in range(rng.randint(0, 4))])
-
-
-def compare(program, count, seed, run):
-    """Runs the program on so many random circuits, and prints each that it retimes otherwise than the model."""
-    rng, passed, failed = random.Random(seed), 0, 0
-    with tempfile.TemporaryDirectory(prefix='fretime-model-') as room:
-        path, out = os.path.join(room, 'in.aag'), os.path.join(room, 'out.aag')
-        for _ in range(count):
-            c = random_circuit(rng)
-            d, frames = run(c)
-            with open(path, 'w', encoding='ascii') as file:
-                file.write(c.text())
-            ran = subprocess.run([program, 'retime', path, out], capture_output=True, text=True, timeout=20, check=False)
-            written = open(out, encoding='ascii').read() if os.path.exists(out) else ''
-            well = (ran.returncode, ran.stderr) == (0, '') and ran.stdout == report(c, d, frames) and written == d.text()
-            passed, failed = passed + well, failed + (not well)
-            if not well:
-                print(f'FAILED on\n{c.text()}wanted\n{report(c, d, frames)}{d.text()}got\n{ran.stdout}{ran.stderr}{written}')
-    return passed, failed
+def with_each_crew(comparison, data):
+    for workers in WORKERS:
+        comparison.run(['retime', 'in', 'OUT', '--workers', str(workers)], {'in': data})
 
 
 def main(words):
+    program = os.path.abspath(words[0])
     count = int(words[1]) if len(words) > 1 else 300
-    seed = int(words[2]) if len(words) > 2 else 1
-    passed, failed = compare(os.path.abspath(words[0]), count, seed, over_one_gate)
-    print(f'{passed} passed, {failed} failed')
-    return 1 if failed else 0
+    rng = random.Random(int(words[2]) if len(words) > 2 else 1)
+    comparison = Comparison(program)
+    with tempfile.TemporaryDirectory(prefix='fretime-model-') as room:
+        os.chdir(room)
+        for family in FAMILIES:
+            made = subprocess.run([BENCH / 'families.py', *family.split()], capture_output=True, check=True)
+            with_each_crew(comparison, made.stdout)
+        for k in range(count):
+            (staged if k % 10 == 9 else rng.choice([small, small, different, damage]))(rng, comparison)
+        os.chdir('/')
+    print(f'{comparison.passed} passed, {comparison.failed} failed')
+    return 1 if comparison.failed else 0
 
 
 if __name__ == '__main__':

@@ -1,0 +1,128 @@
+"""The commands over files: what is printed, what is written, and the exit status."""
+import os
+
+from plain.circuit import text
+from plain.reading import Fault, read
+from plain.retiming import NoSuchName, passable, retimed
+from plain.simulation import difference_text, read_stimulus, trace, trace_text
+
+PATHS = {'retime': 2, 'stat': 1, 'convert': 2, 'sim': 2, 'same': 3}
+OPTIONS = {'retime': {'--ascii', '--binary', '--workers', '--frames', '--keep'}, 'convert': {'--ascii', '--binary'}}
+GREATEST = {'--workers': 64, '--frames': 2**28}
+
+
+class Ends(Exception):
+    """A run that ends early: its status, and the line on standard error."""
+
+
+def parsed(words):
+    """The command, its paths and its options; each option has the list of its values."""
+    command, paths, options = words[0] if words else None, [], {}
+    if any(not os.fsencode(word).decode(errors='replace') == word for word in words):
+        raise Ends(2, 'error: an argument is not UTF-8')
+    if command not in PATHS:
+        raise Ends(2, 'error: no command')
+    rest = iter(words[1:])
+    for word in rest:
+        if not word.startswith('-'):
+            paths.append(word)
+            continue
+        name, _, value = word.partition('=')
+        if name not in OPTIONS.get(command, ()) or (name in options and name != '--keep'):
+            raise Ends(2, f'error: {word}')
+        if name in ('--workers', '--frames', '--keep') and '=' not in word:
+            value = next(rest, '-')
+            if value.startswith('-'):
+                raise Ends(2, f'error: {word} without a value')
+        if name in GREATEST and not (value.isdigit() and 1 <= int(value) <= GREATEST[name]):
+            raise Ends(2, f'error: {name} {value}')
+        options.setdefault(name, []).append(value)
+    if len(paths) != PATHS[command] or {'--ascii', '--binary'} <= set(options):
+        raise Ends(2, 'error: wrong arguments')
+    return command, paths, options
+
+
+def bytes_of(path):
+    try:
+        with open(path, 'rb') as file:
+            return file.read()
+    except OSError as error:
+        raise Ends(3, f'{path}: device') from error
+
+
+def circuit_of(path):
+    try:
+        return read(bytes_of(path))
+    except Fault as fault:
+        raise Ends(1, f'{path}: {fault}') from fault
+
+
+def stimulus_of(path, c):
+    try:
+        return read_stimulus(bytes_of(path), c.inputs, c.free_latches())
+    except Fault as fault:
+        raise Ends(1, f'{path}: {fault}') from fault
+
+
+def write(path, data):
+    try:
+        with open(path, 'wb') as file:
+            file.write(data)
+    except OSError as error:
+        raise Ends(3, f'{path}: device') from error
+
+
+def letters_of(options, otherwise):
+    return 'aag' if '--ascii' in options else 'aig' if '--binary' in options else otherwise
+
+
+def retime(paths, options):
+    c, letters = circuit_of(paths[0])
+    most = int(options['--frames'][0]) if '--frames' in options else None
+    try:
+        d, frames = retimed(c, most, [os.fsencode(name) for name in options.get('--keep', [])])
+    except NoSuchName as missing:
+        raise Ends(1, f'{paths[0]}: NoSuchName {os.fsdecode(missing.args[0])}') from missing
+    write(paths[1], text(d, letters_of(options, letters)))
+    lines = [f'frame {k + 1}: {before} to {after}\n' for k, (before, after) in enumerate(frames)]
+    return 0, ''.join(lines) + f'latches {len(c.latches)} to {len(d.latches)}\n'
+
+
+def stat(paths, _):
+    c, _ = circuit_of(paths[0])
+    counts = {
+        'inputs': c.inputs, 'latches': len(c.latches), 'free': c.free_latches(), 'gates': len(c.gates), 'outputs': len(c.outputs),
+        'bad': len(c.bad), 'constraints': len(c.constraints), 'justice': len(c.justice), 'fairness': len(c.fairness),
+        'passable': len(passable(c)),
+    }
+    return 0, ''.join(f'{name} {count}\n' for name, count in counts.items())
+
+
+def convert(paths, options):
+    c, letters = circuit_of(paths[0])
+    write(paths[1], text(c, letters_of(options, 'aig' if letters == 'aag' else 'aag')))
+    return 0, ''
+
+
+def sim(paths, _):
+    c, _ = circuit_of(paths[0])
+    return 0, trace_text(trace(c, stimulus_of(paths[1], c)))
+
+
+def same(paths, _):
+    c, d = circuit_of(paths[0])[0], circuit_of(paths[1])[0]
+    said = difference_text(c, d, stimulus_of(paths[2], c))
+    return {'same\n': 0, 'shapes differ\n': 1}.get(said, 5), said
+
+
+COMMANDS = {'retime': retime, 'stat': stat, 'convert': convert, 'sim': sim, 'same': same}
+
+
+def run(words):
+    """The status, and the texts of standard output and standard error."""
+    try:
+        command, paths, options = parsed(words)
+        status, out = COMMANDS[command](paths, options)
+        return status, out, ''
+    except Ends as end:
+        return end.args[0], '', end.args[1] + '\n'

@@ -1,0 +1,65 @@
+"""What a circuit does: stimuli, traces and differences."""
+import re
+
+from plain.circuit import FREE
+from plain.reading import Fault
+
+MOST_SEQUENCES = 2**20
+
+
+def read_stimulus(data, inputs, free):
+    """Sequences: the digits of the free latches, and those of the inputs at each step."""
+    sequences, offset = [], 0
+    lines = data.split(b'\n')
+    if lines[-1] == b'':
+        lines.pop()
+    for line in lines:
+        if not re.fullmatch(rb'[=:][01]*', line) or (line[:1] == b':' and not sequences):
+            raise Fault('BadLine', offset)
+        digits = [byte == 49 for byte in line[1:]]
+        if len(digits) != (free if line[:1] == b'=' else inputs):
+            raise Fault('Width', offset)
+        if line[:1] == b'=':
+            if len(sequences) == MOST_SEQUENCES:
+                raise Fault('TooMany', offset)
+            sequences.append((digits, []))
+        else:
+            sequences[-1][1].append(digits)
+        offset += len(line) + 1
+    return sequences
+
+
+def steps(c, choice, rows):
+    """The values of the properties at each step of one sequence."""
+    choice = iter(choice)
+    state = [bool(next(choice)) if reset is FREE else bool(reset) for _, reset in c.latches]
+    for row in rows:
+        values = [False, *row, *state]
+        value = lambda lit: values[lit // 2] != bool(lit & 1)
+        for a, b in c.gates:
+            values.append(value(a) and value(b))
+        yield [value(lit) for lit in c.properties()]
+        state = [value(following) for following, _ in c.latches]
+
+
+def trace(c, sequences):
+    return [list(steps(c, choice, rows)) for choice, rows in sequences]
+
+
+def trace_text(rows_of_sequences):
+    lines = []
+    for rows in rows_of_sequences:
+        lines.append('=\n')
+        lines += [':' + ''.join('01'[bit] for bit in row) + '\n' for row in rows]
+    return ''.join(lines)
+
+
+def difference_text(c, d, sequences):
+    if c.shape() != d.shape():
+        return 'shapes differ\n'
+    for s, (one, other) in enumerate(zip(trace(c, sequences), trace(d, sequences))):
+        for t, (row, another) in enumerate(zip(one, other)):
+            for p, bits in enumerate(zip(row, another)):
+                if bits[0] != bits[1]:
+                    return f'differ at sequence {s}, step {t}, place {p}\n'
+    return 'same\n'

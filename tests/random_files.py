@@ -1,0 +1,155 @@
+"""Random circuits, the files that spell them, stimuli, and files that are damaged."""
+from plain.circuit import FREE, KINDS, Circuit, delta, header, joined, ordered, property_lines, reset_of, symbol_lines
+
+NAMES = [b'', b'a', b'b', b'a b', b'c0', b'\xff\x01', b'x' * 40]
+
+
+def literal(rng, end, first_inner=None):
+    """A literal below a variable; seldom a constant, mostly of a latch or gate where there are some."""
+    if rng.random() < 0.03 or end == 1:
+        return rng.randrange(2)
+    low = first_inner if first_inner and first_inner < end and rng.random() < 0.8 else 1
+    return rng.randrange(2 * low, 2 * end)
+
+
+def symbols(rng, counts):
+    names = {kind: {} for kind in KINDS}
+    for kind, count in zip(KINDS, counts):
+        for position in range(count):
+            if rng.random() < 0.4:
+                names[kind][position] = rng.choice(NAMES)
+    return names
+
+
+def circuit(rng, inputs, latches, gates):
+    """A circuit of up to so many parts, with all sections; one in three has no free latch."""
+    inputs, latches, gates = rng.randint(0, inputs), rng.randint(0, latches), rng.randint(0, gates)
+    resets = [0, 0, 0, 1, 1] + rng.choice([[], [FREE], [FREE]])
+    first_latch, first_gate = 1 + inputs, 1 + inputs + latches
+    end = first_gate + gates
+    pick = lambda at: literal(rng, at, first_latch)
+    several = lambda most: [pick(end) for _ in range(max(0, rng.randint(-2, most)))]
+    outputs, bad, constraints, fairness = several(3), several(2), several(2), several(2)
+    justice = [several(3) for _ in range(max(0, rng.randint(-2, 2)))]
+    counts = (inputs, latches, len(outputs), len(bad), len(constraints), len(justice), len(fairness))
+    return Circuit(
+        inputs, [(literal(rng, end), rng.choice(resets)) for _ in range(latches)],
+        [ordered(pick(first_gate + k), pick(first_gate + k)) for k in range(gates)],
+        outputs, bad, constraints, justice, fairness, symbols(rng, counts),
+    )
+
+
+def pipeline(rng, width, stages):
+    """Latches in stages with a layer of gates behind each: frame after frame helps."""
+    inputs, layers = width, []
+    latches, gates, first_gate = [], [], 1 + width + width * stages
+    sources = list(range(1, 1 + width))
+    for stage in range(stages):
+        first = 1 + inputs + len(latches)
+        latches += [(2 * v + rng.randrange(2), rng.choice([0, 0, 1])) for v in sources]
+        sources = list(range(first, first + len(sources)))
+        for _ in range(rng.randint(1, 3)):
+            for k in range(0, len(sources) - 1, 2):
+                pair = ordered(*(2 * v + rng.randrange(2) for v in sources[k : k + 2]))
+                gates.append(pair)
+            new = list(range(first_gate + len(gates) - len(sources) // 2, first_gate + len(gates)))
+            sources = new + sources[len(sources) // 2 * 2 :]
+        sources += [rng.choice(sources) for _ in range(width - len(sources))]
+        layers.append(sources)
+    missing = first_gate - 1 - inputs - len(latches)
+    shift = lambda lit: lit - 2 * missing if lit // 2 >= first_gate else lit
+    outputs = [2 * v for v in layers[-1][: max(1, width // 4)]]
+    return Circuit(inputs, [(shift(n), r) for n, r in latches], [tuple(map(shift, g)) for g in gates], map(shift, outputs))
+
+
+def tree(rng):
+    """Few inputs and several latches, whose gates each read what isn't read yet where there is such: often a frame helps."""
+    inputs, latches = rng.randint(1, 3), rng.randint(2, 6)
+    first_latch, first_gate = 1 + inputs, 1 + inputs + latches
+    unread, gates = list(range(first_latch, first_gate)), []
+    for k in range(rng.randint(1, latches + 2)):
+        fan_ins = [rng.choice(unread) if unread and rng.random() < 0.9 else rng.randrange(1, first_gate + k) for _ in range(2)]
+        gates.append(ordered(*(2 * v + rng.randrange(2) for v in fan_ins)))
+        unread = [v for v in unread if v not in fan_ins] + [first_gate + k]
+    end = first_gate + len(gates)
+    following = [2 * rng.randrange(1, first_latch if rng.random() < 0.6 else end) + rng.randrange(2) for _ in range(latches)]
+    free = rng.random() < 0.3
+    resets = [FREE if free and rng.random() < 0.3 else rng.randrange(2) for _ in range(latches)]
+    outputs = [2 * v + rng.randrange(2) for v in unread if v >= first_gate]
+    counts = (inputs, latches, len(outputs), 0, 0, 0, 0)
+    return Circuit(inputs, list(zip(following, resets)), gates, outputs, symbols=symbols(rng, counts))
+
+
+def shuffled_symbols(rng, c):
+    lines = symbol_lines(c)
+    rng.shuffle(lines)
+    return joined(lines) + rng.choice([b'', b'', b'c\nany text\n\n', b'cx'])
+
+
+def ascii_file(rng, c):
+    """A file of a circuit with other variables, gates in any order, symbols in any order, and perhaps a comment."""
+    holes = rng.randint(0, 3)
+    numbers = [0, *rng.sample(range(1, c.end() + holes), c.end() - 1)]
+    new = lambda lit: 2 * numbers[lit // 2] + (lit & 1)
+    lines = [header(c, 'aag').replace(f'aag {c.end() - 1}', f'aag {c.end() - 1 + holes}', 1)]
+    lines += [str(new(2 * v)) for v in range(1, 1 + c.inputs)]
+    for k, (following, reset) in enumerate(c.latches):
+        lit = new(2 * (c.first_latch() + k))
+        lines.append(f'{lit} {new(following)}{reset_of(lit, reset)}')
+    mapped = c.with_parts(c.latches, c.gates, new, c.symbols['l'])
+    lines += property_lines(mapped)
+    gates = [(2 * (c.first_gate() + k), *rng.sample(gate, 2)) for k, gate in enumerate(c.gates)]
+    if rng.random() < 0.5:
+        rng.shuffle(gates)
+    lines += [' '.join(str(new(lit)) for lit in gate) for gate in gates]
+    return joined(lines) + shuffled_symbols(rng, c)
+
+
+def longer(rng, number):
+    """The bytes of a delta, now and then more than it needs."""
+    found = delta(number)
+    if rng.random() < 0.1 and len(found) < 5:
+        found = found[:-1] + bytes([found[-1] | 128]) + b'\x80' * rng.randint(0, 4 - len(found)) + b'\0'
+    return found
+
+
+def binary_file(rng, c):
+    lines = [header(c, 'aig')]
+    for k, (following, reset) in enumerate(c.latches):
+        lines.append(f'{following}{reset_of(2 * (c.first_latch() + k), reset)}')
+    deltas = [longer(rng, 2 * (c.first_gate() + k) - a) + longer(rng, a - b) for k, (a, b) in enumerate(c.gates)]
+    return joined(lines + property_lines(c)) + b''.join(deltas) + shuffled_symbols(rng, c)
+
+
+def any_file(rng, c):
+    return rng.choice([ascii_file, binary_file])(rng, c)
+
+
+def damaged(rng, data):
+    """The bytes with a few changed, put in, left out, or cut off."""
+    data = bytearray(data)
+    for _ in range(rng.randint(1, 2)):
+        at = rng.randint(0 if rng.random() < 0.2 else min(14, len(data)), len(data))
+        byte = rng.choice(b'0123456789 \nilobcjf\x80\xff') if rng.random() < 0.8 else rng.randrange(256)
+        kind = rng.randrange(4)
+        if kind == 0:
+            data.insert(at, byte)
+        elif kind == 1:
+            del data[at : at + rng.randint(1, 3)]
+        elif kind == 2:
+            data[at : at + 1] = bytes([byte])
+        else:
+            del data[at:]
+    return bytes(data)
+
+
+def digits(rng, count):
+    return ''.join(rng.choice('01') for _ in range(count))
+
+
+def stimulus(rng, c, sequences, steps):
+    lines = []
+    for _ in range(sequences):
+        lines.append('=' + digits(rng, c.free_latches()))
+        lines += [':' + digits(rng, c.inputs) for _ in range(rng.randint(0, steps))]
+    return ''.join(f'{line}\n' for line in lines).encode()
