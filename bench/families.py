@@ -1,0 +1,185 @@
+#!/usr/bin/env python3
+"""Families of circuits by size, as binary AIGER files.
+
+usage: bench/families.py FAMILY SIZE .. > FILE
+       bench/families.py --list
+
+The same words give the same bytes.
+"""
+import random
+import sys
+
+
+class Builder:
+    """Nodes in any order; `file` numbers inputs first, then latches, then gates. A literal is twice a node, and 1 more where it
+    is negated."""
+
+    def __init__(self):
+        self.inputs, self.latches, self.gates, self.outputs = [], [], [], []
+        self.nodes = 1
+        self.following = {}
+        self.fan_ins = {}
+
+    def node(self, kind):
+        kind.append(self.nodes)
+        self.nodes += 1
+        return 2 * (self.nodes - 1)
+
+    def input(self):
+        return self.node(self.inputs)
+
+    def latch(self, following):
+        """A latch with reset 0."""
+        lit = self.node(self.latches)
+        self.following[lit // 2] = following
+        return lit
+
+    def land(self, a, b):
+        if a == 0 or b == 0 or a == b ^ 1:
+            return 0
+        if a == 1 or a == b:
+            return b
+        if b == 1:
+            return a
+        lit = self.node(self.gates)
+        self.fan_ins[lit // 2] = (a, b)
+        return lit
+
+    def lor(self, a, b):
+        return self.land(a ^ 1, b ^ 1) ^ 1
+
+    def xor(self, a, b):
+        return self.land(self.land(a, b) ^ 1, self.lor(a, b))
+
+    def add(self, a, b):
+        """The sum of two numbers, bit by bit from the lowest, one bit longer than the longer."""
+        total, carry = [], 0
+        for k in range(max(len(a), len(b))):
+            one, other = a[k] if k < len(a) else 0, b[k] if k < len(b) else 0
+            half = self.xor(one, other)
+            total.append(self.xor(half, carry))
+            carry = self.lor(self.land(one, other), self.land(half, carry))
+        return total + [carry]
+
+    def word(self, bits):
+        return [self.input() for _ in range(bits)]
+
+    def held(self, word):
+        """The word one step later."""
+        return [self.latch(bit) if bit > 1 else bit for bit in word]
+
+    def file(self):
+        number = {0: 0}
+        for node in self.inputs + self.latches + self.gates:
+            number[node] = len(number)
+        new = lambda lit: 2 * number[lit // 2] + (lit & 1)
+        sizes = (len(self.inputs), len(self.latches), len(self.outputs), len(self.gates))
+        lines = [f'aig {sum(sizes) - sizes[2]} {sizes[0]} {sizes[1]} {sizes[2]} {sizes[3]}']
+        lines += [str(new(self.following[node])) for node in self.latches] + [str(new(lit)) for lit in self.outputs]
+        deltas = bytearray()
+        for node in self.gates:
+            low, high = sorted(map(new, self.fan_ins[node]))
+            put_delta(deltas, 2 * number[node] - high)
+            put_delta(deltas, high - low)
+        return ''.join(f'{line}\n' for line in lines).encode() + deltas
+
+
+def put_delta(deltas, value):
+    while value > 127:
+        deltas.append(128 | value & 127)
+        value >>= 7
+    deltas.append(value)
+
+
+def products(bits):
+    """A multiplier with a register behind each partial product: all of them can move to the sum in one frame."""
+    c = Builder()
+    a, b = c.word(bits), c.word(bits)
+    rows = [c.held([c.land(x, y) for x in a]) for y in b]
+    total = rows[0]
+    for k, row in enumerate(rows[1:], 1):
+        total = total[:k] + c.add(total[k:], row)
+    c.outputs = total[: 2 * bits]
+    return c
+
+
+def multiplier(bits):
+    """A multiplier with registers before and behind each of its rows, operands included: a pipeline of many frames."""
+    c = Builder()
+    a, b, total = c.held(c.word(bits)), c.held(c.word(bits)), []
+    for k in range(bits):
+        row = [c.land(x, b[k]) for x in a]
+        total = total[:k] + (c.add(total[k:], row) if k else row)
+        a, b, total = c.held(a), b[: k + 1] + c.held(b[k + 1 :]), c.held(total)
+    c.outputs = total[: 2 * bits]
+    return c
+
+
+def adder_tree(words, bits):
+    """The sum of many words, each in a register: the registers can move to the sum."""
+    c = Builder()
+    rows = [c.held(c.word(bits)) for _ in range(words)]
+    while len(rows) > 1:
+        rows = [c.add(*rows[k : k + 2]) if k + 1 < len(rows) else rows[k] for k in range(0, len(rows), 2)]
+    c.outputs = rows[0]
+    return c
+
+
+def delay_lines(width, length):
+    """Lines of latches before a tree of gates: a frame for each place in a line."""
+    c = Builder()
+    row = c.word(width)
+    for _ in range(length):
+        row = c.held(row)
+    while len(row) > 1:
+        row = [c.land(*row[k : k + 2]) if k + 1 < len(row) else row[k] for k in range(0, len(row), 2)]
+    c.outputs = row
+    return c
+
+
+def rounds(bits, count):
+    """A round function of rotations, AND and XOR, unrolled, with the two words and all keys in registers."""
+    c = Builder()
+    x, y = c.held(c.word(bits)), c.held(c.word(bits))
+    turned = lambda word, by: word[-by:] + word[:-by]
+    for key in [c.held(c.word(bits)) for _ in range(count)]:
+        mixed = [c.xor(c.land(p, q), r) for p, q, r in zip(turned(x, 1), turned(x, 8), turned(x, 2))]
+        x, y = [c.xor(c.xor(p, q), k) for p, q, k in zip(y, mixed, key)], x
+    c.outputs = x + y
+    return c
+
+
+def gates(count, latches):
+    """Random gates, most of which read something near; one latch in four takes an input."""
+    rng = random.Random(count)
+    c = Builder()
+    inputs = c.word(max(8, latches // 8))
+    state = [c.latch(0) for _ in range(latches)]
+    known = inputs + state
+    among = lambda last: known[rng.randrange(max(0, len(known) - last), len(known))] ^ rng.randrange(2)
+    while len(c.gates) < count:
+        last = max(200, latches) if rng.random() < 0.9 else len(known)
+        known.append(c.land(among(last), among(last)))
+    for lit in state:
+        c.following[lit // 2] = rng.choice(inputs) if rng.random() < 0.25 else among(count)
+    c.outputs = [among(count) for _ in range(32)]
+    return c
+
+
+FAMILIES = {it.__name__: it for it in (products, multiplier, adder_tree, delay_lines, rounds, gates)}
+
+
+def main(words):
+    if words[:1] == ['--list']:
+        for name, family in FAMILIES.items():
+            print(f'{name}: {family.__doc__}')
+        return 0
+    if not words or words[0] not in FAMILIES:
+        print(__doc__, file=sys.stderr)
+        return 2
+    sys.stdout.buffer.write(FAMILIES[words[0]](*map(int, words[1:])).file())
+    return 0
+
+
+if __name__ == '__main__':
+    sys.exit(main(sys.argv[1:]))
