@@ -1,6 +1,7 @@
 -- What one line says, by the section in which it stands.
 use Rattle.std.specs.Prelude.{ℕ, ◌==◌, ◌&&◌, Bool, false, not, List, [], ◌∷◌, ◌++◌, map, Option, Some, None, if◌then◌else◌}
 use Rattle.std.specs.Char.{is_ascii_digit}
+use Rattle.std.specs.Str.{byte}
 use Rattle.std.specs.Option.{option_and_then, option_map}
 use Rattle.aag_format.specs.Lines.{is_number, digits_value, numbers_of}
 use Rattle.aag_file.specs.declared.raw.RawLatch.{RawLatch}
@@ -50,11 +51,11 @@ abbrev pub gate_in : List ℕ → Option Item
 gate_in (lhs ∷ rhs0 ∷ rhs1 ∷ []) = Some (GateItem (record { lhs = lhs; rhs0 = rhs0; rhs1 = rhs1 }))
 gate_in _ = None
 
--- the kind that a symbol's first byte stands for: i l o b c j f
+-- the kind that a symbol's first byte stands for
 abbrev pub kind_of : ℕ → Option SymbolKind
 kind_of letter =
-    if letter == 105 then Some Input else (if letter == 108 then Some Latch else (if letter == 111 then Some Output else (if letter == 98 then Some Bad
-    else (if letter == 99 then Some Constraint else (if letter == 106 then Some Justice else (if letter == 102 then Some Fairness else None))))))
+    if letter == byte "i" then Some Input else (if letter == byte "l" then Some Latch else (if letter == byte "o" then Some Output else (if letter == byte "b" then Some Bad
+    else (if letter == byte "c" then Some Constraint else (if letter == byte "j" then Some Justice else (if letter == byte "f" then Some Fairness else None))))))
 
 -- what stands before the first space, and what after it
 abbrev pub cut_at_space : List ℕ → Option (List ℕ × List ℕ)
@@ -82,5 +83,5 @@ item_of Symbols line = symbol_of line
 -- whether a line begins the comment: the letter c alone, or followed by anything but a digit
 unfoldable pub begins_comment : List ℕ → Bool
 begins_comment [] = false
-begins_comment (letter ∷ []) = letter == 99
-begins_comment (letter ∷ second ∷ bytes) = (letter == 99) && not (is_ascii_digit second)
+begins_comment (letter ∷ []) = letter == byte "c"
+begins_comment (letter ∷ second ∷ bytes) = (letter == byte "c") && not (is_ascii_digit second)

@@ -1,5 +1,6 @@
 -- The text of a circuit.
 use Rattle.std.specs.Prelude.{ℕ, ◌-◌, ◌*◌, ◌==◌, List, [], ◌∷◌, ◌++◌, length, decimal, codes, map, if◌then◌else◌}
+use Rattle.std.specs.Str.{byte}
 use Rattle.std.specs.List.{flat_map, enumerate_from, list_all, range_with_len}
 use Rattle.aig_graph.specs.declared.graph.Gate.{Gate}
 use Rattle.aig_graph.specs.declared.graph.Latch.{Latch}
@@ -59,11 +60,11 @@ symbol_line letter symbol = letter ∷ (decimal symbol.position ++ 32 ∷ symbol
 abbrev pub symbol_lines : ℕ → List Symbol → List ℕ
 symbol_lines letter symbols = flat_map (symbol_line letter) symbols
 
--- the symbols of all kinds: i l o b c j f
+-- the symbols of all kinds
 abbrev pub all_symbols : Symbols → List ℕ
 all_symbols s =
-    symbol_lines 105 s.inputs ++ symbol_lines 108 s.latches ++ symbol_lines 111 s.outputs ++ symbol_lines 98 s.bad
-    ++ symbol_lines 99 s.constraints ++ symbol_lines 106 s.justice ++ symbol_lines 102 s.fairness
+    symbol_lines (byte "i") s.inputs ++ symbol_lines (byte "l") s.latches ++ symbol_lines (byte "o") s.outputs ++ symbol_lines (byte "b") s.bad
+    ++ symbol_lines (byte "c") s.constraints ++ symbol_lines (byte "j") s.justice ++ symbol_lines (byte "f") s.fairness
 
 -- the ASCII text of a circuit
 unfoldable pub text : Network → List ℕ
