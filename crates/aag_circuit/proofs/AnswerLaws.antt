@@ -1,5 +1,5 @@
 -- What is answered of the lists that reading left.
-use Rattle.std.proofs.Common.{ℕ, ◌+◌, ◌^◌, ◌<◌, ◌≤◌, ◌≡◌, List, length, map, get_or, Bool, true, false, cond, ◌||◌, ◌&&◌, nat_eq, Option, Some, None, Result, Ok, Err, IfOk, IfErr, IsTrue, unwrap_or, refl, sym, ap, ap₂, subst, ◌∙◌, inl, inr, arith}
+use Rattle.std.proofs.Common.{ℕ, ◌+◌, ◌^◌, ◌<◌, ◌≤◌, ◌≡◌, List, length, map, get_or, Bool, true, false, cond, ◌||◌, ◌&&◌, nat_eq, Option, Some, None, Result, Ok, Err, IfOk, IfErr, IsTrue, unwrap_or, sym, ap, ap₂, subst, ◌∙◌, inl, inr, arith}
 use Rattle.std.specs.List.{list_all, sum}
 use Rattle.std.proofs.lemmas.Bool.{cases_Bool, cond-true, cond-false, ltb-true}
 use Rattle.std.proofs.lemmas.List.{length-map}
@@ -23,7 +23,7 @@ use Rattle.aag_circuit.specs.declared.lists.RawLists.{RawLists}
 use Rattle.aag_circuit.specs.Numbering.{has_place, is_placed, placed, placed_latch, placed_gate, is_gate_placed, placed_lists, PlacedLists, if_known}
 use Rattle.aag_circuit.specs.Arranging.{IsBelow, IsGateBelow, order_or_cycle}
 use Rattle.aag_circuit.specs.Resolving.{raw_of, AreRead, IsConsistent, ArePlaced, IsOrdered, arranged, placed_reads}
-use Rattle.aag_circuit.proofs.ResolveLaws.{placed_is, placing_fails, known_value, length-defined, known_at, by_parts, as_placed, by_position, reads_are, circuit_is, resolved_is, ordering_fails}
+use Rattle.aag_circuit.proofs.ResolveLaws.{both_left, both_right, placed_is, placing_fails, known_value, length-defined, known_at, by_parts, as_placed, by_position, reads_are, circuit_is, resolved_is, ordering_fails}
 
 -- ---- lists of a reader are consistent
 
@@ -58,14 +58,6 @@ placed_below places count lit known = elim (cases_Bool (nat_eq (variable lit) 0)
     by_place None there = absurd (cc)
     by_place (Some p) there = ltb-true p count there
 
-left : (a b : Bool) → (a && b) ≡ true → a ≡ true
-left true b e = refl
-left false b e = e
-
-right : (a b : Bool) → (a && b) ≡ true → b ≡ true
-right true b e = e
-right false b e = absurd (cc)
-
 placed_parts : (l : RawLists) → IsConsistent l → 1 + length l.inputs.items + length l.latches.items + length l.gates.items ≤ 2 ^ 28 → (sizes : List ℕ) → sizes ≡ l.properties.sizes
     → list_all (λ (latch : RawLatch). is_placed l.places (length l.inputs.items + length l.latches.items + length l.gates.items) latch.next) l.latches.items ≡ true
     → list_all (is_placed l.places (length l.inputs.items + length l.latches.items + length l.gates.items)) l.properties.safety ≡ true
@@ -94,8 +86,8 @@ placed_parts l is small sizes same a b d g =
       gates_below = All-map (IsGateBelow (1 + l.header.inputs + l.header.latches + length (map (placed_gate l.places) l.gates.items))) (placed_gate l.places) l.gates.items
           (λ k e less.
           let both = known_at (is_gate_placed l.places (length l.inputs.items + length l.latches.items + length l.gates.items)) l.gates.items g k e less in (
-            subst (λ (n : ℕ). variable (placed l.places (get_or l.gates.items k e).rhs0) < n) end (placed_below l.places (length l.inputs.items + length l.latches.items + length l.gates.items) (get_or l.gates.items k e).rhs0 (left (is_placed l.places (length l.inputs.items + length l.latches.items + length l.gates.items) (get_or l.gates.items k e).rhs0) (is_placed l.places (length l.inputs.items + length l.latches.items + length l.gates.items) (get_or l.gates.items k e).rhs1) both)),
-            subst (λ (n : ℕ). variable (placed l.places (get_or l.gates.items k e).rhs1) < n) end (placed_below l.places (length l.inputs.items + length l.latches.items + length l.gates.items) (get_or l.gates.items k e).rhs1 (right (is_placed l.places (length l.inputs.items + length l.latches.items + length l.gates.items) (get_or l.gates.items k e).rhs0) (is_placed l.places (length l.inputs.items + length l.latches.items + length l.gates.items) (get_or l.gates.items k e).rhs1) both)),
+            subst (λ (n : ℕ). variable (placed l.places (get_or l.gates.items k e).rhs0) < n) end (placed_below l.places (length l.inputs.items + length l.latches.items + length l.gates.items) (get_or l.gates.items k e).rhs0 (both_left (is_placed l.places (length l.inputs.items + length l.latches.items + length l.gates.items) (get_or l.gates.items k e).rhs0) (is_placed l.places (length l.inputs.items + length l.latches.items + length l.gates.items) (get_or l.gates.items k e).rhs1) both)),
+            subst (λ (n : ℕ). variable (placed l.places (get_or l.gates.items k e).rhs1) < n) end (placed_below l.places (length l.inputs.items + length l.latches.items + length l.gates.items) (get_or l.gates.items k e).rhs1 (both_right (is_placed l.places (length l.inputs.items + length l.latches.items + length l.gates.items) (get_or l.gates.items k e).rhs0) (is_placed l.places (length l.inputs.items + length l.latches.items + length l.gates.items) (get_or l.gates.items k e).rhs1) both)),
           ));
     }
 
@@ -109,10 +101,10 @@ are_placed l is small sizes same p ok =
     let g = list_all (is_gate_placed l.places (length l.inputs.items + length l.latches.items + length l.gates.items)) l.gates.items in
     let parts = known_value (((a && b) && d) && g) (as_placed (map (placed_latch l.places) l.latches.items) (map (placed l.places) l.properties.safety) (map (placed l.places) l.properties.liveness) (map (placed_gate l.places) l.gates.items)) p
     (sym (by_parts a b d g (map (placed_latch l.places) l.latches.items) (map (placed l.places) l.properties.safety) (map (placed l.places) l.properties.liveness) (map (placed_gate l.places) l.gates.items)) ∙ ok) in
-    let three = left ((a && b) && d) g parts.0 in
-    let two = left (a && b) d three in
+    let three = both_left ((a && b) && d) g parts.0 in
+    let two = both_left (a && b) d three in
     subst (ArePlaced l.header sizes) parts.1
-    (placed_parts l is small sizes same (left a b two) (right a b two) (right (a && b) d three) (right ((a && b) && d) g parts.0))
+    (placed_parts l is small sizes same (both_left a b two) (both_right a b two) (both_right (a && b) d three) (both_right ((a && b) && d) g parts.0))
 
 -- ---- the answer
 

@@ -35,19 +35,21 @@ use Rattle.aag_circuit.proofs.GraphLaws.{distinct, ranked}
 use Rattle.aag_circuit.proofs.PositionLaws.{IsReordered}
 use Rattle.aag_circuit.proofs.MeaningLaws.{known_same, number_same, read_same, moved_same}
 
+-- ---- what two tests together pass
+
+pub both_left : (a b : Bool) → (a && b) ≡ true → a ≡ true
+both_left true b e = refl
+both_left false b e = e
+
+pub both_right : (a b : Bool) → (a && b) ≡ true → b ≡ true
+both_right true b e = e
+both_right false b e = absurd (cc)
+
 -- ---- lists
 
 map_known : {X Y : Type 0} (known : X → Bool) (f g : X → Y) → ((x : X) → known x ≡ true → f x ≡ g x) → (xs : List X) → list_all known xs ≡ true → map f xs ≡ map g xs
 map_known known f g same [] all = refl
-map_known known f g same (x ∷ xs) all = ap₂ (λ y ys. y ∷ ys) (same x (left (known x) (list_all known xs) all)) (map_known known f g same xs (right (known x) (list_all known xs) all))
-  where
-    left : (a b : Bool) → (a && b) ≡ true → a ≡ true
-    left true b e = refl
-    left false b e = e
-
-    right : (a b : Bool) → (a && b) ≡ true → b ≡ true
-    right true b e = e
-    right false b e = absurd (cc)
+map_known known f g same (x ∷ xs) all = ap₂ (λ y ys. y ∷ ys) (same x (both_left (known x) (list_all known xs) all)) (map_known known f g same xs (both_right (known x) (list_all known xs) all))
 
 map_at : {X Y : Type 0} (f g : X → Y) (xs : List X) → ((k : ℕ) (d : X) → k < length xs → f (get_or xs k d) ≡ g (get_or xs k d)) → map f xs ≡ map g xs
 map_at f g [] same = refl
@@ -55,16 +57,8 @@ map_at f g (x ∷ xs) same = ap₂ (λ y ys. y ∷ ys) (same 0 x (omega arith)) 
 
 pub known_at : {X : Type 0} (known : X → Bool) (xs : List X) → list_all known xs ≡ true → (k : ℕ) (d : X) → k < length xs → known (get_or xs k d) ≡ true
 known_at known [] all k d less = absurd (omega (arith, less))
-known_at known (x ∷ xs) all zero d less = left (known x) (list_all known xs) all
-  where
-    left : (a b : Bool) → (a && b) ≡ true → a ≡ true
-    left true b e = refl
-    left false b e = e
-known_at known (x ∷ xs) all (suc k) d less = known_at known xs (right (known x) (list_all known xs) all) k d (omega (arith, less))
-  where
-    right : (a b : Bool) → (a && b) ≡ true → b ≡ true
-    right true b e = e
-    right false b e = absurd (cc)
+known_at known (x ∷ xs) all zero d less = both_left (known x) (list_all known xs) all
+known_at known (x ∷ xs) all (suc k) d less = known_at known xs (both_right (known x) (list_all known xs) all) k d (omega (arith, less))
 
 place_mapped : {X : Type 0} (f : X → ℕ) (xs : List X) (v : ℕ) → position_or_len (λ x. f x == v) xs ≡ position_or_len (λ w. w == v) (map f xs)
 place_mapped f [] v = refl
@@ -179,14 +173,6 @@ length-front raw =
       length-map raw.inputs variable,
       length-map raw.latches (λ (latch : RawLatch). variable latch.current),
     )
-
-both_left : (a b : Bool) → (a && b) ≡ true → a ≡ true
-both_left true b e = refl
-both_left false b e = e
-
-both_right : (a b : Bool) → (a && b) ≡ true → b ≡ true
-both_right true b e = e
-both_right false b e = absurd (cc)
 
 record AllKnown (raw : Raw) : Type 0 where
   latches : latches_known raw ≡ true

@@ -7,11 +7,11 @@ use Rattle.aag_format.specs.declared.fault.ReadError.TheVariants.{NoMemory}
 use Rattle.aag_file.specs.declared.header.Header.{Header}
 use Rattle.aag_file.specs.Headers.{header_of}
 use Rattle.aag_file.specs.Raw.{Raw, nothing_yet}
-use Rattle.aag_file.specs.Reading.{◌>>=◌, State, AtHeader, InItems, read_header, take_line, take_lines, finish, read_bytes}
+use Rattle.aag_file.specs.Reading.{◌>>=◌, AtHeader, InItems, read_header, take_line, take_lines, finish, read_bytes}
 use Rattle.aag_file.specs.Pieces.{ended_lines, open_line, fed, with_last_line}
 use Rattle.aag_file.specs.Answering.{Fails, Gives}
 use Rattle.aag_file.proofs.Pieces.{part_taken, end_taken, the_pieces_law}
-use Rattle.aag_file.proofs.AnsweringLaws.{Fails-same, Gives-same}
+use Rattle.aag_file.proofs.AnsweringLaws.{Gives-same}
 use Rattle.aag_lines.specs.declared.header.HeaderLine.{HeaderLine}
 use Rattle.aag_lines.specs.Header.{header_row, header_with}
 use Rattle.aag_sections.specs.declared.sections.Sections.{Sections}

@@ -1,5 +1,5 @@
 -- Where the first newline stands.
-use Rattle.std.proofs.Common.{ℕ, ◌+◌, ◌<◌, ◌≤◌, ◌≡◌, suc, zero, length, List, [], ◌∷◌, ◌++◌, take, drop, Option, Some, None, refl, arith, Bool, true, false, not, ◌&&◌, ◌==◌, nat_eq, cond, ap, sym, ◌∙◌, get_or, position, add-one}
+use Rattle.std.proofs.Common.{ℕ, ◌+◌, ◌<◌, ◌≤◌, ◌≡◌, suc, zero, length, List, [], ◌∷◌, ◌++◌, take, drop, Some, None, refl, arith, Bool, true, false, not, ◌&&◌, ◌==◌, nat_eq, cond, ap, get_or, position, add-one}
 use Rattle.std.proofs.lemmas.Bool.{eqb-true, ltb-false}
 use Rattle.std.proofs.lemmas.List.Quantifiers.{position-Some}
 use Rattle.std.proofs.lemmas.List.Sums.{fails_before_first}

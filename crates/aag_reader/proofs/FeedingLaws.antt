@@ -1,8 +1,7 @@
 -- Bytes more.
-use Rattle.std.proofs.Common.{ℕ, ◌≡◌, ◌+◌, ◌-◌, ◌≤◌, Bool, true, false, List, [], ◌∷◌, ◌++◌, length, Result, Ok, Err, refl, ap, ap₂, sym, ◌∙◌, subst, arith, append_assoc, append-nil, length-append}
+use Rattle.std.proofs.Common.{ℕ, ◌≡◌, ◌+◌, ◌-◌, Bool, List, [], ◌∷◌, ◌++◌, length, Result, Ok, Err, refl, ap, sym, ◌∙◌, subst, arith, append_assoc, append-nil, length-append}
 use Rattle.aag_format.specs.declared.fault.ReadError.{ReadError}
 use Rattle.aag_format.specs.declared.fault.ReadError.TheVariants.{NoMemory}
-use Rattle.aag_file.specs.Raw.{RawSymbol}
 use Rattle.aag_file.specs.Reading.{◌>>=◌, State, AtHeader, is_complete, take_line, take_lines}
 use Rattle.aag_file.specs.Pieces.{ended_lines, open_line, fed}
 use Rattle.aag_file.specs.Answering.{Fails}

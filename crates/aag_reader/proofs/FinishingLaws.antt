@@ -1,5 +1,5 @@
 -- The end of the bytes.
-use Rattle.std.proofs.Common.{ℕ, Bool, true, ◌≡◌, ◌+◌, ◌<◌, ◌≤◌, List, [], ◌∷◌, length, Result, Ok, Err, refl, ap, sym, ◌∙◌, subst, arith}
+use Rattle.std.proofs.Common.{ℕ, Bool, true, ◌≡◌, ◌+◌, ◌<◌, ◌≤◌, List, [], ◌∷◌, length, Result, Ok, refl, ap, sym, ◌∙◌, arith}
 use Rattle.aig_graph.specs.Circuits.{Network}
 use Rattle.aag_format.specs.declared.fault.ReadError.{ReadError}
 use Rattle.aag_file.specs.Reading.{◌>>=◌, State, is_complete, take_line, finish, read_bytes}

@@ -1,5 +1,5 @@
 -- A reader by its phase.
-use Rattle.std.proofs.Common.{ℕ, ◌≡◌, ◌⊎◌, inl, inr, IfErr, List, ◌++◌, Result, Ok, Err, IsOk, refl, sym, ◌∙◌, subst}
+use Rattle.std.proofs.Common.{ℕ, ◌≡◌, ◌⊎◌, inl, inr, IfErr, List, Result, Ok, Err, IsOk, refl, sym, subst}
 use Rattle.aag_format.specs.declared.fault.ReadError.{ReadError}
 use Rattle.aig_graph.specs.Circuits.{Network}
 use Rattle.aag_format.specs.declared.fault.ReadError.TheVariants.{NoMemory}

@@ -1,5 +1,5 @@
 -- A line more.
-use Rattle.std.proofs.Common.{ℕ, ◌≡◌, ◌+◌, Bool, true, false, List, [], length, Result, Ok, Err, cond, ◌&&◌, Option, Some, None, ◌∷◌, refl, ap, ap₂, sym, ◌∙◌, subst}
+use Rattle.std.proofs.Common.{ℕ, ◌≡◌, ◌+◌, Bool, true, false, List, [], length, Result, Ok, cond, ◌&&◌, Option, Some, None, ◌∷◌, refl, ap, ap₂, sym, ◌∙◌, subst}
 use Rattle.aag_format.specs.declared.fault.ReadError.{ReadError}
 use Rattle.aag_file.specs.declared.header.Header.{Header}
 use Rattle.aag_file.specs.declared.raw.Section.{Section}
@@ -9,13 +9,12 @@ use Rattle.aag_file.specs.Items.{Item, InputItem, LatchItem, SafetyItem, SizeIte
 use Rattle.aag_file.specs.Reading.{◌>>=◌, State, InItems, InComment, is_complete, is_symbols, next_section, read_line, take_line}
 use Rattle.aag_file.specs.Answering.{Fails}
 use Rattle.aag_file.proofs.AnsweringLaws.{Fails-same, Fails-bind}
-use Rattle.aag_lines.specs.declared.symbols.SymbolText.{SymbolText}
 use Rattle.aag_lines.specs.declared.symbols.SymbolText.TheVariants as text
 use Rattle.aag_lines.specs.Symbols.{unnamed, text_without, text_of, text_of_item}
 use Rattle.aag_sections.specs.declared.sections.Sections.{Sections}
 use Rattle.aag_sections.specs.Taking.{raw_of, IsAt, GoesOn}
 use Rattle.aag_reader.specs.declared.lines.OpenLine.{OpenLine}
-use Rattle.aag_reader.specs.declared.lines.OpenLine.TheVariants.{Numbers, Symbol, Comment}
+use Rattle.aag_reader.specs.declared.lines.OpenLine.TheVariants.{Comment}
 use Rattle.aag_reader.specs.Lines.{IsOpen, is_comment}
 use Rattle.aag_reader.specs.Standing.{state_of, StandAt}
 

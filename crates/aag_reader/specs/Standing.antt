@@ -1,5 +1,5 @@
 -- Where the items stand that have been read.
-use Rattle.std.specs.Prelude.{ℕ, ◌≡◌, ◌+◌, Bool, true, false, List, [], ◌++◌, length, Result, Ok, Err}
+use Rattle.std.specs.Prelude.{ℕ, ◌≡◌, ◌+◌, Bool, true, false, List, ◌++◌, length, Result, Ok, Err}
 use Rattle.aag_format.specs.declared.fault.ReadError.{ReadError}
 use Rattle.aag_file.specs.Raw.{RawSymbol}
 use Rattle.aag_file.specs.Reading.{State, InItems, InComment, is_complete}

@@ -177,26 +177,26 @@ module _ (c : Contents) (h : Header) (raw : Raw) (at : ℕ) (line : List ℕ) (i
   in_section : (section : Section) → section_of c ≡ section → next_section h raw ≡ section
   in_section section here = sym (section_is c h raw is) ∙ here
 
+  -- a line of a section whose items have the form
+  by_form : (section : Section) (form : List ℕ → Option Item) (taken : Contents → ℕ → List ℕ → Result Contents ReadError) (ns : List ℕ) → section_of c ≡ section → row_of line ≡ Some ns
+      → by_section h raw at line section ≡ take_item h raw at (BadLine at) (option_and_then form (numbers_of line))
+      → ((all : List ℕ) → Agrees h (taken (contents_of h raw) at (map clamped all)) (take_item h raw at (BadLine at) (form all))) → Agrees h (taken c at ns) (by_section h raw at line (next_section h raw))
+  by_form section form taken ns here row formed agrees =
+      subst (λ (d : Contents). Agrees h (taken d at ns) (by_section h raw at line (next_section h raw))) (sym is)
+      (subst (λ (s : Section). Agrees h (taken (contents_of h raw) at ns) (by_section h raw at line s)) (sym (in_section section here))
+      (subst (Agrees h (taken (contents_of h raw) at ns)) (sym formed) (by_numbers h raw at line ns form taken row agrees)))
+
   pub line_safety : (ns : List ℕ) → section_of c ≡ Safety → row_of line ≡ Some ns → Agrees h (safety_taken c at ns) (read_line h raw at line)
   unfolding read_line item_of
-  line_safety ns here row =
-      subst (λ (d : Contents). Agrees h (safety_taken d at ns) (by_section h raw at line (next_section h raw))) (sym is)
-      (subst (λ (s : Section). Agrees h (safety_taken (contents_of h raw) at ns) (by_section h raw at line s)) (sym (in_section Safety here))
-      (by_numbers h raw at line ns (single SafetyItem) safety_taken row (safety_agrees h at small raw)))
+  line_safety ns here row = by_form Safety (single SafetyItem) safety_taken ns here row refl (safety_agrees h at small raw)
 
   pub line_liveness : (ns : List ℕ) → section_of c ≡ Liveness → row_of line ≡ Some ns → Agrees h (liveness_taken c at ns) (read_line h raw at line)
   unfolding read_line item_of
-  line_liveness ns here row =
-      subst (λ (d : Contents). Agrees h (liveness_taken d at ns) (by_section h raw at line (next_section h raw))) (sym is)
-      (subst (λ (s : Section). Agrees h (liveness_taken (contents_of h raw) at ns) (by_section h raw at line s)) (sym (in_section Liveness here))
-      (by_numbers h raw at line ns (single LivenessItem) liveness_taken row (liveness_agrees h at small raw)))
+  line_liveness ns here row = by_form Liveness (single LivenessItem) liveness_taken ns here row refl (liveness_agrees h at small raw)
 
   pub line_size : (ns : List ℕ) → section_of c ≡ Sizes → row_of line ≡ Some ns → Agrees h (size_taken c at ns) (read_line h raw at line)
   unfolding read_line item_of
-  line_size ns here row =
-      subst (λ (d : Contents). Agrees h (size_taken d at ns) (by_section h raw at line (next_section h raw))) (sym is)
-      (subst (λ (s : Section). Agrees h (size_taken (contents_of h raw) at ns) (by_section h raw at line s)) (sym (in_section Sizes here))
-      (by_numbers h raw at line ns (single SizeItem) size_taken row (size_agrees h at small raw)))
+  line_size ns here row = by_form Sizes (single SizeItem) size_taken ns here row refl (size_agrees h at small raw)
 
   pub line_latch : (ns : List ℕ) → section_of c ≡ Latches → row_of line ≡ Some ns → Agrees h (latch_taken c at ns) (read_line h raw at line)
   unfolding read_line
@@ -209,9 +209,7 @@ module _ (c : Contents) (h : Header) (raw : Raw) (at : ℕ) (line : List ℕ) (i
       let latches : c.header.latches ≡ h.latches = ap (λ (g : Header). g.latches) header in
       let inputs : c.header.inputs ≡ h.inputs = ap (λ (g : Header). g.inputs) header in
       let fits : next_latch h raw < 2 ^ 30 = omega (arith, room, literal, latches, inputs, total, most) in
-      subst (λ (d : Contents). Agrees h (latch_taken d at ns) (by_section h raw at line (next_section h raw))) (sym is)
-      (subst (λ (s : Section). Agrees h (latch_taken (contents_of h raw) at ns) (by_section h raw at line s)) (sym (in_section Latches here))
-      (by_numbers h raw at line ns (latch_in (next_latch h raw)) latch_taken row (λ all. latch_agrees h at small raw all fits)))
+      by_form Latches (latch_in (next_latch h raw)) latch_taken ns here row refl (λ all. latch_agrees h at small raw all fits)
 
 -- a line that isn't at most nine numbers
 module _ (h : Header) (raw : Raw) (at : ℕ) (line : List ℕ) where

@@ -10,7 +10,7 @@ use Rattle.aag_file.specs.declared.raw.Section.TheVariants.{Symbols}
 use Rattle.aag_file.specs.declared.raw.SymbolKind.{SymbolKind}
 use Rattle.aag_file.specs.declared.raw.SymbolKind.TheVariants.{Input, Latch, Output, Bad, Constraint, Justice, Fairness}
 use Rattle.aag_file.specs.Raw.{Raw, RawSymbol, count_of}
-use Rattle.aag_file.specs.Items.{Item, InputItem, LatchItem, SafetyItem, SizeItem, LivenessItem, GateItem, SymbolItem, section_of, kind_of, symbol_of, item_of, begins_comment}
+use Rattle.aag_file.specs.Items.{Item, InputItem, LatchItem, SafetyItem, SizeItem, LivenessItem, GateItem, SymbolItem, kind_of, symbol_of, item_of, begins_comment}
 use Rattle.aag_file.specs.Reading.{is_of_same, with_item, malformed_symbol, malformed}
 use Rattle.aag_file.proofs.Steps.{section_is}
 use Rattle.aag_lines.specs.declared.symbols.SymbolText.{SymbolText}
@@ -92,30 +92,12 @@ module _ (h : Header) (within : IsHeaderWithin h) (raw : Raw) (at : ℕ) where
   unfolding item_of
   item_agrees line None e = without_item line
   item_agrees line (Some (SymbolItem symbol)) e = symbol_agrees symbol
-  item_agrees line (Some (InputItem lit)) e = absurd (other (section_is Symbols line (InputItem lit) e))
-    where
-      other : section_of (InputItem lit) ≡ Symbols → ⊥
-      other same = cc
-  item_agrees line (Some (LatchItem latch)) e = absurd (other (section_is Symbols line (LatchItem latch) e))
-    where
-      other : section_of (LatchItem latch) ≡ Symbols → ⊥
-      other same = cc
-  item_agrees line (Some (SafetyItem lit)) e = absurd (other (section_is Symbols line (SafetyItem lit) e))
-    where
-      other : section_of (SafetyItem lit) ≡ Symbols → ⊥
-      other same = cc
-  item_agrees line (Some (SizeItem size)) e = absurd (other (section_is Symbols line (SizeItem size) e))
-    where
-      other : section_of (SizeItem size) ≡ Symbols → ⊥
-      other same = cc
-  item_agrees line (Some (LivenessItem lit)) e = absurd (other (section_is Symbols line (LivenessItem lit) e))
-    where
-      other : section_of (LivenessItem lit) ≡ Symbols → ⊥
-      other same = cc
-  item_agrees line (Some (GateItem gate)) e = absurd (other (section_is Symbols line (GateItem gate) e))
-    where
-      other : section_of (GateItem gate) ≡ Symbols → ⊥
-      other same = cc
+  item_agrees line (Some (InputItem lit)) e = let other = section_is Symbols line (InputItem lit) e in absurd cc
+  item_agrees line (Some (LatchItem latch)) e = let other = section_is Symbols line (LatchItem latch) e in absurd cc
+  item_agrees line (Some (SafetyItem lit)) e = let other = section_is Symbols line (SafetyItem lit) e in absurd cc
+  item_agrees line (Some (SizeItem size)) e = let other = section_is Symbols line (SizeItem size) e in absurd cc
+  item_agrees line (Some (LivenessItem lit)) e = let other = section_is Symbols line (LivenessItem lit) e in absurd cc
+  item_agrees line (Some (GateItem gate)) e = let other = section_is Symbols line (GateItem gate) e in absurd cc
 
   -- the line of a symbol, or one that isn't
   pub line_text : (line : List ℕ) (text : SymbolText) → next_section h raw ≡ Symbols → begins_comment line ≡ false → text ≡ text_of line → TextAgrees h raw at text (read_line h raw at line)

@@ -1,4 +1,3 @@
-use Rattle.std.proofs.Common.{arith}
 use Rattle.aag_sections.proofs.CountLaws.{counted}
 use Rattle.aag_sections.specs.Taking.{raw_of}
 use Rattle.aag_reader.proofs.circuit.resolve.Goals as goal

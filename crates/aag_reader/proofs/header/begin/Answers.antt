@@ -1,4 +1,4 @@
-use Rattle.std.proofs.Common.{ℕ, List, ◌++◌, ◌-◌, length, refl, ap, ◌∙◌, subst}
+use Rattle.std.proofs.Common.{ℕ, List, ◌-◌, length, refl, ap, ◌∙◌, subst}
 use Rattle.std.proofs.lemmas.Result.{err_from_is_err_and}
 use Rattle.aag_file.specs.Pieces.{fed}
 use Rattle.aag_file.specs.Answering.{Fails}

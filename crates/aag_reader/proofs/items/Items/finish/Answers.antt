@@ -1,10 +1,6 @@
-use Rattle.std.proofs.Common.{ℕ, List, sym, subst}
+use Rattle.std.proofs.Common.{subst}
 use Rattle.std.proofs.lemmas.Result.{err_from_is_err_and}
-use Rattle.aag_file.specs.Reading.{State, finish}
-use Rattle.aag_file.specs.Answering.{Gives}
-use Rattle.aag_reader.specs.declared.lines.OpenLine.{OpenLine}
 use Rattle.aag_reader.specs.declared.items.Items.{Items}
-use Rattle.aag_reader.specs.Standing.{StandAt}
 use Rattle.aag_reader.proofs.FinishingLaws.{Closes, open_fails, open_closes, none_closes}
 use Rattle.aag_reader.proofs.items.Items.finish.Goals as goal
 use Rattle.aag_reader.proofs.items.Items.finish.Goals.{then-items-end+in_ok-take_line, else-items-end}

@@ -1,7 +1,6 @@
-use Rattle.std.proofs.Common.{◌≡◌, Bool, true, false, ◌&&◌, List, ℕ, Option, Some, None, MatchOption, ap, subst, ◌∙◌, refl}
-use Rattle.std.proofs.lemmas.Result.{err_from_is_err_and}
+use Rattle.std.proofs.Common.{◌≡◌, Bool, ◌&&◌, List, ℕ, Option, Some, None, MatchOption, ap, subst}
 use Rattle.aag_file.specs.Items.{begins_comment}
-use Rattle.aag_reader.proofs.TakingLaws.{line_fails, line_taken}
+use Rattle.aag_reader.proofs.TakingLaws.{line_taken}
 use Rattle.aag_reader.proofs.items.Items.take_numbers.Goals as goal
 
 pub returns : goal.returns

@@ -1,8 +1,6 @@
-use Rattle.std.proofs.Common.{◌≡◌, ◌+◌, ◌&&◌, true, false, List, ℕ, Bool, length, ap₂, ◌∙◌}
+use Rattle.std.proofs.Common.{◌≡◌, ◌+◌, ◌&&◌, false, Bool, length, ap₂, ◌∙◌}
 use Rattle.std.proofs.lemmas.Result.{err_from_is_err_and}
 use Rattle.aag_file.specs.Items.{begins_comment}
-use Rattle.aag_lines.specs.declared.symbols.SymbolText.{SymbolText}
-use Rattle.aag_lines.specs.declared.symbols.SymbolText.TheVariants.{Comment}
 use Rattle.aag_lines.specs.Symbols.{text_of}
 use Rattle.aag_reader.proofs.TakingLaws.{line_fails, line_taken, comment_taken, is_comment_text, no_comment_text}
 use Rattle.aag_reader.proofs.items.Items.take_symbol.Goals as goal
