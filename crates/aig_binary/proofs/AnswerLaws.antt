@@ -7,7 +7,7 @@ use Rattle.aag_format.specs.declared.fault.ReadError.{ReadError}
 use Rattle.aag_format.specs.declared.fault.ReadError.TheVariants.{BadHeader}
 use Rattle.aag_file.specs.Reading.{◌>>=◌, read_bytes}
 use Rattle.aag_file.specs.Pieces.{fed}
-use Rattle.aag_file.specs.Answering.{Fails, Gives}
+use Rattle.aag_file.specs.Answering.{Gives}
 use Rattle.aag_reader.specs.Standing.{Follows}
 use Rattle.aig_file.specs.Reading.{State, AtHeader, feed, read_binary}
 use Rattle.aig_reader.specs.Holding.{Answers}

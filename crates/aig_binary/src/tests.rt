@@ -1,5 +1,8 @@
-use crate::{AnyReader, read_any};
+use crate::{AnyReader, Spelling, read_any, write};
 use aag_format::ReadError;
+use aig_graph::Circuit;
+use counted_io::{Counted, CountedRead, FailAfter, Failure, OneByte};
+use piece_reading::{SpeltCircuit, read_circuit};
 use std::alloc::Global;
 use std::test::Fail;
 
@@ -8,6 +11,9 @@ const TWO_LATCHES: &[u8] = b"aag 5 2 2 1 1\n2\n4\n6 2\n8 4\n10\n10 6 8\n";
 
 /// The same circuit as a binary file.
 const BINARY: &[u8] = b"aig 5 2 2 1 1\n2\n4\n10\n\x02\x02";
+
+/// It with a first delta of two bytes.
+const LONG_DELTA: &[u8] = b"aig 5 2 2 1 1\n2\n4\n10\n\x82\x00\x02";
 
 /// The fault of so many bytes of the file of two latches, if there is one.
 fn fault_of_beginning(len: usize) -> Option<ReadError> {
@@ -21,13 +27,68 @@ fn fault_of_beginning(len: usize) -> Option<ReadError> {
     }
 }
 
-/// Whether a reader gives the circuit, and then no other.
-fn ends_after_circuit(alloc: Global, bytes: &[u8]) -> bool {
+/// Whether it is the circuit of two latches.
+fn is_two_latches(alloc: Global, circuit: &Circuit) -> bool {
+    let mut out = Counted::new(Vec::new(alloc));
+    let written = write(circuit, Spelling::Binary, &mut out);
+    let text = out.into_inner();
+    written.is_ok() && text.as_slice() == BINARY
+}
+
+/// The circuit of two pieces of a binary file, if the reader takes them and names the spelling.
+fn circuit_of_pieces(reader: &mut AnyReader, first: &[u8], second: &[u8]) -> Option<Circuit> {
+    let taken = reader.feed(first).is_ok() && reader.feed(second).is_ok();
+    if taken && reader.spelling() == Some(Spelling::Binary) {
+        reader.finish().ok()
+    } else {
+        None
+    }
+}
+
+fn read_two_pieces(alloc: Global, first: &[u8], second: &[u8]) -> Option<Circuit> {
     let mut reader = AnyReader::new(alloc);
+    circuit_of_pieces(&mut reader, first, second)
+}
+
+/// Whether a reader gives the circuit, and then no other.
+fn ends_after(reader: &mut AnyReader, bytes: &[u8]) -> bool {
     reader.feed(bytes).is_ok()
         && reader.finish().is_ok()
         && reader.finish().err() == Some(ReadError::BadHeader(0))
         && reader.feed(b"\n") == Err(ReadError::BadHeader(0))
+}
+
+fn ends_after_circuit(alloc: Global, bytes: &[u8]) -> bool {
+    let mut reader = AnyReader::new(alloc);
+    ends_after(&mut reader, bytes)
+}
+
+/// What is read of a device that gives one byte a read and fails from a number of reads on, and how many reads failed.
+fn read_failing(
+    alloc: Global,
+    bytes: &[u8],
+    reads: usize,
+) -> (Result<SpeltCircuit, ReadError>, u64) {
+    let device = FailAfter::new(OneByte::new(bytes), reads as u64, Failure::Error);
+    let mut reader = Counted::new(device);
+    let mut circuits = AnyReader::new(alloc);
+    let spelt = read_circuit(&mut reader, &mut circuits);
+    (spelt, CountedRead::failures(&reader))
+}
+
+/// Whether the reading ends at the first read that fails, and answers that failure.
+fn stops_at_read(alloc: Global, bytes: &[u8], reads: usize) -> bool {
+    let (spelt, failures) = read_failing(alloc, bytes, reads);
+    spelt.err() == Some(ReadError::Device) && failures == 1
+}
+
+/// Whether the circuit of two latches is read where reads fail only after the one that finds the end.
+fn reads_to_end(alloc: Global, bytes: &[u8]) -> bool {
+    let (spelt, failures) = read_failing(alloc, bytes, bytes.len() + 1);
+    match spelt {
+        Ok(spelt) => is_two_latches(alloc, &spelt.circuit) && failures == 0,
+        Err(_) => false,
+    }
 }
 
 #[test]
@@ -40,9 +101,33 @@ fn answers_each_beginning(rt: HostRuntime) -> Result<(), Fail> {
 }
 
 #[test]
+fn reads_a_delta_in_two_pieces(rt: HostRuntime) -> Result<(), Fail> {
+    let (first, second) = LONG_DELTA.split_at(22);
+    let circuit = read_two_pieces(rt.alloc(), first, second);
+    assert!(rt; circuit.is_some_and(|circuit| is_two_latches(rt.alloc(), &circuit)));
+    Ok(())
+}
+
+#[test]
 fn ends_after_a_circuit(rt: HostRuntime) -> Result<(), Fail> {
     assert!(rt;
         ends_after_circuit(rt.alloc(), TWO_LATCHES) && ends_after_circuit(rt.alloc(), BINARY)
     );
+    Ok(())
+}
+
+#[test]
+fn stops_at_each_failed_read(rt: HostRuntime) -> Result<(), Fail> {
+    for bytes in [TWO_LATCHES, LONG_DELTA] {
+        for reads in 0..=bytes.len() {
+            assert!(rt; stops_at_read(rt.alloc(), bytes, reads), "{reads}");
+        }
+    }
+    Ok(())
+}
+
+#[test]
+fn reads_byte_after_byte(rt: HostRuntime) -> Result<(), Fail> {
+    assert!(rt; reads_to_end(rt.alloc(), TWO_LATCHES) && reads_to_end(rt.alloc(), LONG_DELTA));
     Ok(())
 }
