@@ -1,7 +1,9 @@
-use Rattle.std.proofs.Common.{◌≡◌, ℕ, ◌+◌, ◌-◌, ◌<◌, ◌≤◌, List, ◌∷◌, length, slice_index, get_or, drop, arith, refl, sym, ap, ◌∙◌, subst}
-use Rattle.std.proofs.lemmas.List.{get_or-append_right, length-append}
+use Rattle.std.proofs.Common.{◌≡◌, ℕ, ◌+◌, ◌-◌, ◌<◌, ◌≤◌, ◌^◌, min, List, ◌∷◌, length, slice_index, get_or, drop, arith, refl, sym, ap, ◌∙◌, subst}
+use Rattle.std.proofs.lemmas.List.{drop_all, get_or-append_right, length-append}
 use Rattle.std.proofs.Math.ListN.{get_or-append}
 use Rattle.std.specs.List.{flat_map}
+use Rattle.flow_parts.specs.declared.parts.PushPart.{PushPart}
+use Rattle.flow_parts.specs.Parts.{rows_walked}
 use Rattle.flow_parts.proofs.Left.{left_at}
 
 -- the x-th of all joined values is at a place among those of the parts that are left
@@ -30,3 +32,17 @@ pub ahead_here : {P : Type 0} (values : P → List ℕ) (all : List P) (x place 
 ahead_here {P} values all x place i p h e inside a0 =
     let a = at_index values all x place i p h e a0 in
     sym (a.same ∙ get_or-append (values p) (flat_map values (drop (i + 1) all)) 0 place inside)
+
+-- ---- counts of rows walked
+
+pub walked_next : (all : List PushPart) (i count next : ℕ) (p : PushPart) → i < length all → p ≡ get_or all i p → next ≡ min (count + p.walked) (2 ^ 32 - 1)
+    → min (count + rows_walked (drop i all)) (2 ^ 32 - 1) ≡ min (rows_walked all) (2 ^ 32 - 1) → min (next + rows_walked (drop (i + 1) all)) (2 ^ 32 - 1) ≡ min (rows_walked all) (2 ^ 32 - 1)
+walked_next all i count next p h e en c =
+    let rest : rows_walked (drop i all) ≡ p.walked + rows_walked (drop (i + 1) all) = ap rows_walked (left_at all i p h e) in
+    omega (arith, rest, en, c)
+
+pub walked_end : (all : List PushPart) (i count : ℕ) → length all ≤ i → count ≤ 2 ^ 32 - 1 → min (count + rows_walked (drop i all)) (2 ^ 32 - 1) ≡ min (rows_walked all) (2 ^ 32 - 1)
+    → count ≡ min (rows_walked all) (2 ^ 32 - 1)
+walked_end all i count h few c =
+    let none : rows_walked (drop i all) ≡ 0 = ap rows_walked (drop_all i all h) in
+    omega (arith, none, few, c)

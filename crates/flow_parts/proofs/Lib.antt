@@ -10,4 +10,11 @@ pub mod PushRow
 pub mod Ranges
 pub mod ReadLemmas
 pub mod PartLaws
+pub mod WalkLemmas
+pub mod ClearLemmas
+pub mod WholeLemmas
+pub mod ListedLemmas
 pub mod JoinedLemmas
+pub mod Lists
+pub mod Gathered
+pub mod Visits

@@ -1,3 +1,5 @@
+pub mod Listing
 pub mod Parts
 pub mod Reading
 pub mod Delivering
+pub mod Visiting

@@ -5,6 +5,7 @@ use Rattle.arc_rows.specs.Rows.{sparse}
 use Rattle.frame_net.specs.FlowNet.{FlowNet, node_count, start, row_len, head}
 use Rattle.flow_parts.specs.declared.parts.FlowPart.{FlowPart}
 use Rattle.flow_parts.specs.declared.parts.PushPart.{PushPart}
+use Rattle.flow_parts.specs.Listing.{ListsPushing}
 
 -- ---- parts
 
@@ -24,6 +25,7 @@ pub record PushPartFits (net : FlowNet) (p : PushPart) : Type 0 where
   pub within : p.end ≤ node_count net
   pub based : p.base ≡ start net p.first
   pub sized : length p.values.items + start net p.first ≡ start net p.end
+  pub lists : ListsPushing net p
 
 pub record FlowPartFits (net : FlowNet) (q : FlowPart) : Type 0 where
   pub ordered : q.first ≤ q.end
@@ -41,6 +43,11 @@ AreFlowParts net v qs = IsParted (FlowPartFits net) (λ q. q.first) (λ q. q.end
 
 abbrev pub values_of : List PushPart → List ℕ
 values_of ps = flat_map (λ p. p.values.items) ps
+
+-- how many rows were walked for pushes, over all parts
+abbrev pub rows_walked : List PushPart → ℕ
+rows_walked [] = 0
+rows_walked (p ∷ ps) = p.walked + rows_walked ps
 
 -- what Deliver writes: rows of residuals by arc, excess and new labels by node
 pub record Cells : Type 0 where

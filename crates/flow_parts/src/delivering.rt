@@ -85,7 +85,7 @@ fn deliver_node(
 }
 
 /// Deliver of node `v` into cells that begin with arc `base` and node `first`.
-fn deliver_at(
+pub(crate) fn deliver_at(
     net: &Net,
     labels: &[u32],
     parts: &[PushPart],

@@ -1,6 +1,6 @@
 //! Values by arc and by node over the joined parts, for readers that have no network.
-ghost use Rattle.std.specs.Prelude.{◌≡◌, ◌<◌, length, slice_index};
-ghost use Rattle.flow_parts.specs.Parts.{cells_of, values_of};
+ghost use Rattle.std.specs.Prelude.{◌≡◌, ◌-◌, ◌<◌, ◌^◌, min, length, slice_index};
+ghost use Rattle.flow_parts.specs.Parts.{cells_of, rows_walked, values_of};
 
 use crate::parts::{FlowPart, PushPart};
 
@@ -66,4 +66,15 @@ pub fn push_over(parts: &[PushPart], arc: usize) -> u32
         place -= size;
     }
     unreachable!()
+}
+
+/// How many rows were walked for pushes, over all parts; `u32::MAX` stands for all greater numbers.
+pub fn walked_over(parts: &[PushPart]) -> u32
+    ensures { result ≡ min (rows_walked parts.now) (2 ^ 32 - 1) }
+{
+    let mut walked: u32 = 0;
+    for part in parts {
+        walked = walked.saturating_add(part.walked);
+    }
+    walked
 }

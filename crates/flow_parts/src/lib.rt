@@ -7,14 +7,23 @@
 //! Contracts speak of the joined values of all parts, by arc and by node.
 #![tactic(auto)]
 
+mod clearing;
 mod delivering;
+mod gathering;
 mod joined;
+mod node_list;
 mod parts;
 mod places;
 mod reading;
+mod walking;
+mod whole;
 
 pub use delivering::deliver_part;
-pub use joined::{excess_at, next_at, push_over, residual_at};
+pub use gathering::is_active;
+pub use joined::{excess_at, next_at, push_over, residual_at, walked_over};
+pub use node_list::NodeList;
 pub use parts::{FlowPart, PushPart};
 pub use places::{part_of, push_row};
 pub use reading::read_part;
+pub use walking::read_whole;
+pub use whole::deliver_whole;

@@ -1,7 +1,9 @@
 //! The parts that own the rows of a worker's nodes.
 
+use crate::node_list::NodeList;
+
 /// The flow at the nodes from `first` up to `end`, whose rows begin with arc `base`: the residuals of their arcs, and their excess.
-/// `next` is for their new labels.
+/// `next` is for their new labels. `active` lists the nodes that may be active, where it is complete; `spare` is room for the next list.
 #[derive(Drop)]
 pub struct FlowPart {
     pub worker: u32,
@@ -11,9 +13,12 @@ pub struct FlowPart {
     pub residuals: Vec<u32>,
     pub excess: Vec<u32>,
     pub next: Vec<u32>,
+    pub active: NodeList,
+    pub spare: NodeList,
 }
 
-/// The pushes over the arcs of the nodes from `first` up to `end`, whose rows begin with arc `base`.
+/// The pushes over the arcs of the nodes from `first` up to `end`, whose rows begin with arc `base`. `pushing` lists the nodes whose row
+/// isn't all 0, where it is complete. `walked` counts the rows that were walked for pushes, up to the greatest count of its type.
 #[derive(Drop)]
 pub struct PushPart {
     pub worker: u32,
@@ -21,4 +26,6 @@ pub struct PushPart {
     pub end: u32,
     pub base: usize,
     pub values: Vec<u32>,
+    pub pushing: NodeList,
+    pub walked: u32,
 }

@@ -5,6 +5,7 @@ use Rattle.flow_theory.proofs.Sums.{sum_below-le_const, term-le-sum_below, great
 use Rattle.flow_theory.proofs.Measure.{potential_falls}
 use Rattle.frame_net.specs.FlowNet.{FlowNet, node_count}
 use Rattle.flow_parts.specs.declared.parts.FlowPart.{FlowPart}
+use Rattle.flow_parts.specs.Listing.{active_by, ListActive, ListsActive}
 use Rattle.flow_parts.specs.Parts.{FlowPartFits, AreFlowParts, cells_of, pairs, Agree}
 use Rattle.parted_flow.specs.Runs.{any_below, any_active, HasActive, LacksActive}
 use Rattle.flow_parts.proofs.Left.{Left, left_all, left_more, left_here, left_at}
@@ -117,6 +118,21 @@ loud net labels all i p nodes en h e t0 has =
     let fit : FlowPartFits net p = t.left.cut.1.0 in
     any_from (node_count net) (is_active (node_count net) (pairs net (cells_of all) labels)) has.node (omega (arith, fit.within, has.high))
     (here_active net labels all p (drop (i + 1) all) nodes true en t has.node has.low has.high has.active)
+
+-- the part's list, for the number of nodes as it was read
+pub lists_next : (net : FlowNet) (labels : List ℕ) (all : List FlowPart) (i : ℕ) (p : FlowPart) (nodes : ℕ) → nodes ≡ node_count net → i < length all → p ≡ get_or all i p → ListActive (node_count net) labels all
+    → ListsActive nodes labels p
+lists_next net labels all i p nodes en h e lists =
+    subst (λ (n : ℕ). ListsActive n labels p) (sym en) (subst (λ (q : FlowPart). ListsActive (node_count net) labels q) (sym e) (lists i p h))
+
+-- where no listed node of a part is active none is
+pub lacks_listed : (nodes : ℕ) (labels : List ℕ) (q : FlowPart) → ListsActive nodes labels q → q.active.complete ≡ true
+    → ((i : ℕ) → i < length q.active.nodes.items → active_by nodes (slice_index q.active.nodes.items i) (slice_index q.excess.items (slice_index q.active.nodes.items i - q.first)) (slice_index labels (slice_index q.active.nodes.items i)) ≡ false)
+    → LacksActive nodes labels q
+lacks_listed nodes labels q lists done none v lo hi = elim (lists.rest done v lo hi) [
+  | inl at ↦ subst (λ (w : ℕ). active_by nodes w (slice_index q.excess.items (w - q.first)) (slice_index labels w) ≡ false) at.there (none at.place at.inside)
+  | inr off ↦ off
+]
 
 -- ---- runs
 

@@ -1,8 +1,8 @@
 use Rattle.std.proofs.Common.{◌≡◌, ℕ, suc, ◌+◌, ◌-◌, ◌<◌, ◌≤◌, List, [], ◌∷◌, length, slice_index, get_or, arith, ap, sym, ◌∙◌, subst, ◌⊎◌}
 use Rattle.frame_net.specs.FlowNet.{FlowNet, node_count, start, row_len, IsFlowNet}
 use Rattle.flow_parts.specs.declared.parts.PushPart.{PushPart}
-use Rattle.flow_parts.specs.Parts.{Cells, PushPartFits, ArePushParts, values_of}
-use Rattle.flow_parts.specs.Reading.{PartRead, PartsRead, cells_push}
+use Rattle.flow_parts.specs.Parts.{Cells, PushPartFits, ArePushParts, rows_walked, values_of}
+use Rattle.flow_parts.specs.Reading.{PartRead, PartsRead, WholeRead, WholesRead, active_below, cells_push}
 use Rattle.flow_parts.specs.Delivering.{own}
 use Rattle.flow_parts.proofs.Left.{left_all, Holds, find_part, part_fits, whole_at}
 use Rattle.flow_parts.proofs.Ahead.{rising, push_piece}
@@ -14,6 +14,7 @@ fits_read net labels first end c p r fit g = record {
   within = omega (arith, g.same_end, fit.within);
   based = g.same_base ∙ (fit.based ∙ ap (λ (x : ℕ). start net x) (sym g.same_first));
   sized = omega (arith, g.same_size, fit.sized, ap (λ (x : ℕ). start net x) g.same_first, ap (λ (x : ℕ). start net x) g.same_end);
+  lists = g.lists;
 }
 
 pub cut_after_read : (net : FlowNet) (labels : List ℕ) (first end v : ℕ) (c : Cells) (ps rs : List PushPart) → ArePushParts net v ps → length rs ≡ length ps → PartsRead net labels first end c ps rs → ArePushParts net v rs
@@ -65,3 +66,19 @@ whole_unread net labels first end c ps rs ok cut len reads v k vn out kl =
     let e : PushPart = pick ps h.index h.lt in
     row_after net labels first end c ps rs v k h.index e ok cut len reads h.lt (h.low e) (h.high e) kl
     ∙ ((reads h.index e h.lt).kept v k out (h.low e) (h.high e) kl ∙ sym (row_at net ps v k h.index e ok cut h.lt (h.low e) (h.high e) kl))
+
+-- ---- Read of all
+
+pub wholes_read : (net : FlowNet) (labels : List ℕ) (c : Cells) (ps rs : List PushPart) → WholesRead net labels c ps rs → PartsRead net labels 0 (node_count net) c ps rs
+wholes_read net labels c ps rs reads = λ i e h. (reads i e h).is_read
+
+-- the parts' counts of rows walked add up to the number of active nodes
+pub wholes_walked : (net : FlowNet) (labels : List ℕ) (v : ℕ) (c : Cells) (ps rs : List PushPart) → ArePushParts net v ps → length rs ≡ length ps → WholesRead net labels c ps rs
+    → rows_walked rs + active_below net labels c v ≡ active_below net labels c (node_count net)
+wholes_walked net labels v c [] [] cut len reads = let e : active_below net labels c v ≡ active_below net labels c (node_count net) = ap (λ (x : ℕ). active_below net labels c x) cut in omega (arith, e)
+wholes_walked net labels v c [] (r ∷ rs) cut len reads = absurd (omega (arith, len))
+wholes_walked net labels v c (p ∷ ps) [] cut len reads = absurd (omega (arith, len))
+wholes_walked net labels v c (p ∷ ps) (r ∷ rs) cut len reads =
+    let one : WholeRead net labels c p r = reads 0 p (omega arith) in
+    let rest = wholes_walked net labels p.end c ps rs cut.1.1 (omega (arith, len)) (λ i e h. reads (suc i) e (omega arith)) in
+    omega (arith, one.walked, rest, ap (λ (x : ℕ). active_below net labels c x) cut.0)

@@ -16,5 +16,5 @@ pub use active::any_active_node;
 pub use labels::{start_labels, turn};
 pub use laws::{parting_law, range_laws, start_law};
 pub use parting::{border, parted_anew, push_parts};
-pub use phases::{deliver_each, read_each};
+pub use phases::{deliver_each, deliver_every, read_each, read_every};
 pub use starting::start_parts;

@@ -4,7 +4,7 @@ ghost use Rattle.frame_net.specs.FlowNet.{node_count};
 ghost use Rattle.flow_parts.specs.Parts.{AreFlowParts, ArePushParts, PushPartFits, cells_of};
 ghost use Rattle.parted_flow.specs.Start.{border_of, PartHolds, PartsHold};
 
-use flow_parts::{FlowPart, PushPart, excess_at, residual_at};
+use flow_parts::{FlowPart, NodeList, PushPart, excess_at, residual_at};
 use frame_net::Net;
 use std::alloc::{AllocError, Global};
 
@@ -79,6 +79,8 @@ fn part_anew(
     let residuals = copied_residuals(alloc, flow, base, size)?;
     let excess = copied_excess(alloc, flow, first, end - first)?;
     let next = vec![in alloc; 0u32; excess.len()]?;
+    let active = NodeList::with_room(alloc, excess.len())?;
+    let spare = NodeList::with_room(alloc, excess.len())?;
     Ok(FlowPart {
         worker,
         first,
@@ -87,6 +89,8 @@ fn part_anew(
         residuals,
         excess,
         next,
+        active,
+        spare,
     })
 }
 
@@ -132,12 +136,15 @@ fn push_part(
     let base = net.start(first);
     let size = net.start(end) - base;
     let values = vec![in alloc; 0u32; size]?;
+    let pushing = NodeList::with_room(alloc, (end - first) as usize)?;
     Ok(PushPart {
         worker,
         first,
         end,
         base,
         values,
+        pushing,
+        walked: 0,
     })
 }
 

@@ -1,10 +1,13 @@
 //! The events of a range of nodes over all parts, on the calling thread.
-ghost use Rattle.std.specs.Prelude.{◌≡◌, length};
+ghost use Rattle.std.specs.Prelude.{◌≡◌, true, length};
+ghost use Rattle.frame_net.specs.FlowNet.{node_count};
+ghost use Rattle.flow_parts.specs.Listing.{ListActive};
+ghost use Rattle.flow_parts.specs.Visiting.{WholesDelivered};
 ghost use Rattle.flow_parts.specs.Parts.{AreFlowParts, ArePushParts, LabelsFit, cells_of, values_of};
-ghost use Rattle.flow_parts.specs.Reading.{PartsRead};
+ghost use Rattle.flow_parts.specs.Reading.{PartsRead, WholesRead};
 ghost use Rattle.flow_parts.specs.Delivering.{PartsDelivered, PartsSafe};
 
-use flow_parts::{FlowPart, PushPart, deliver_part, read_part};
+use flow_parts::{FlowPart, PushPart, deliver_part, deliver_whole, read_part, read_whole};
 use frame_net::Net;
 
 /// Read of the nodes from `first` up to `end`.
@@ -27,6 +30,26 @@ pub fn read_each(
     }
 }
 
+/// Read of all nodes, which walks the rows of the active ones alone. Where `listed`, the flow's parts list the active nodes.
+pub fn read_every(
+    net: &Net,
+    labels: &[u32],
+    flow: &[FlowPart],
+    parts: &mut [PushPart],
+    listed: bool,
+)
+    requires labels { LabelsFit net.now labels.now }
+    requires flow { AreFlowParts net.now 0 flow.now }
+    requires parts { ArePushParts net.now 0 parts.old }
+    requires listed { listed ≡ true → ListActive (node_count net.now) labels.now flow.now }
+    ensures len { length parts.new ≡ length parts.old }
+    ensures each { WholesRead net.now labels.now (cells_of flow.now) parts.old parts.new }
+{
+    for i in 0..parts.len() {
+        read_whole(net, labels, flow, &mut parts[i], listed);
+    }
+}
+
 /// Deliver of the nodes from `first` up to `end`.
 pub fn deliver_each(
     net: &Net,
@@ -45,5 +68,27 @@ pub fn deliver_each(
 {
     for i in 0..parts.len() {
         deliver_part(net, labels, pushes, &mut parts[i], first, end);
+    }
+}
+
+/// Deliver of all nodes, which visits those alone that have something to do where lists name them. `listed` is whether the parts' lists
+/// are of this flow and these labels.
+pub fn deliver_every(
+    net: &Net,
+    labels: &[u32],
+    pushes: &[PushPart],
+    parts: &mut [FlowPart],
+    listed: bool,
+)
+    requires pushes { ArePushParts net.now 0 pushes.now }
+    requires labels { LabelsFit net.now labels.now }
+    requires parts { AreFlowParts net.now 0 parts.old }
+    requires safe { PartsSafe net.now (values_of pushes.now) 0 (node_count net.now) parts.old }
+    requires lists { listed ≡ true → ListActive (node_count net.now) labels.now parts.old }
+    ensures len { length parts.new ≡ length parts.old }
+    ensures each { WholesDelivered net.now labels.now (values_of pushes.now) parts.old parts.new }
+{
+    for i in 0..parts.len() {
+        deliver_whole(net, labels, pushes, &mut parts[i], listed);
     }
 }

@@ -4,7 +4,7 @@ ghost use Rattle.frame_net.specs.FlowNet.{node_count};
 ghost use Rattle.parted_flow.specs.Start.{start_res, start_excess, PartHolds, PartsHold};
 
 use crate::parting::border;
-use flow_parts::FlowPart;
+use flow_parts::{FlowPart, NodeList};
 use frame_net::Net;
 use std::alloc::{AllocError, Global};
 
@@ -92,6 +92,8 @@ fn start_part(
     let residuals = start_residuals(alloc, net, base as u32, size as u32)?;
     let excess = start_excesses(alloc, net, first, end - first)?;
     let next = vec![in alloc; 0u32; excess.len()]?;
+    let active = NodeList::with_room(alloc, excess.len())?;
+    let spare = NodeList::with_room(alloc, excess.len())?;
     Ok(FlowPart {
         worker,
         first,
@@ -100,6 +102,8 @@ fn start_part(
         residuals,
         excess,
         next,
+        active,
+        spare,
     })
 }
 

@@ -5,6 +5,7 @@ use Rattle.std.proofs.lemmas.List.{get_or-append_right, length-append}
 use Rattle.std.proofs.Math.ListN.{get_or-append}
 use Rattle.flow_theory.specs.Flow.{is_active}
 use Rattle.frame_net.specs.FlowNet.{FlowNet, node_count, start, row_len, head, IsFlowNet}
+use Rattle.flow_parts.specs.Listing.{IsListed}
 use Rattle.flow_parts.specs.Parts.{IsSound, pairs}
 use Rattle.flow_parts.specs.Reading.{arc_admissible, cells_push}
 use Rattle.flow_parts.specs.Delivering.{HoldPushes, NodeKept, own}
@@ -14,7 +15,7 @@ use Rattle.parted_flow.proofs.ActiveLemmas.{any_from}
 use Rattle.pulse.specs.Values.{FlowState, PushState}
 use Rattle.pulse.specs.Conditions.{ArePushesOf, IsBetween, IsFlowOf, is_marked, state_of}
 use Rattle.pulse.specs.Phases.{RangeRead, RangeDelivered}
-use Rattle.pulse.specs.Lists.{AreNodes, Covers, DeliversMore, IsListed, IsUnderway}
+use Rattle.pulse.specs.Lists.{AreNodes, Covers, DeliversMore, IsUnderway}
 use Rattle.pulse.proofs.MarkLemmas.{range_in, range_out, range_below}
 use Rattle.pulse.proofs.StepLemmas.{none_so_far}
 

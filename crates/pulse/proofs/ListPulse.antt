@@ -7,6 +7,7 @@ use Rattle.flow_theory.proofs.Sums.{sum_below-same, sum_below-zero}
 use Rattle.flow_theory.proofs.Pushes.{Active, active, is_active-true}
 use Rattle.flow_theory.proofs.Exact.{exact-rises}
 use Rattle.frame_net.specs.FlowNet.{FlowNet, node_count, start, row_len, head, HasMate, IsFlowNet}
+use Rattle.flow_parts.specs.Listing.{IsListed}
 use Rattle.flow_parts.specs.Parts.{Agree, IsSound}
 use Rattle.flow_parts.specs.Delivering.{NodeDelivered, NodeKept, back, delivered_relabel, own, row_inflow, row_outflow}
 use Rattle.parted_flow.specs.Marks.{DeliveredSoFar}
@@ -17,7 +18,7 @@ use Rattle.exact_labels.proofs.DistanceLaws.{distance_is}
 use Rattle.pulse.specs.Values.{FlowState, PushState}
 use Rattle.pulse.specs.Conditions.{IsBetween, IsFlowOf, NoneActive, is_marked, state_of}
 use Rattle.pulse.specs.Phases.{AfterPulse, RangeRead}
-use Rattle.pulse.specs.Lists.{AreDelivered, AreNodes, Covers, DeliversMore, HasAll, IsListed, TurnsListed, turned_at}
+use Rattle.pulse.specs.Lists.{AreDelivered, AreNodes, Covers, DeliversMore, HasAll, TurnsListed, turned_at}
 use Rattle.pulse.proofs.ListLemmas.{act_same, and_off, idle_push}
 use Rattle.pulse.proofs.StepLemmas.{none_so_far, whole_read}
 use Rattle.pulse.proofs.TurnLemmas.{labels_after}

@@ -1,11 +1,14 @@
-use Rattle.std.proofs.Common.{◌≡◌, ℕ, Bool, true, false, List, sym, ap, ◌∙◌, subst}
-use Rattle.frame_net.specs.FlowNet.{FlowNet, IsFlowNet}
+use Rattle.std.proofs.Common.{◌≡◌, ℕ, ◌-◌, ◌^◌, min, Bool, true, false, List, length, arith, sym, ap, ◌∙◌, subst}
+use Rattle.frame_net.specs.FlowNet.{FlowNet, node_count, IsFlowNet}
 use Rattle.flow_parts.specs.declared.parts.FlowPart.{FlowPart}
 use Rattle.flow_parts.specs.declared.parts.PushPart.{PushPart}
-use Rattle.flow_parts.specs.Parts.{LabelsFit}
+use Rattle.flow_parts.specs.Listing.{ListActive}
+use Rattle.flow_parts.specs.Parts.{LabelsFit, cells_of, rows_walked}
+use Rattle.flow_parts.specs.Reading.{active_below}
+use Rattle.flow_parts.proofs.WalkLemmas.{active_few}
 use Rattle.parted_flow.specs.Runs.{AreRead, ArePulsed}
 use Rattle.pulse.specs.Values.{FlowState, PushState, flow_state, push_state}
-use Rattle.pulse.specs.Conditions.{IsFlowOf, ArePushesOf, IsBetween}
+use Rattle.pulse.specs.Conditions.{IsFlowOf, ArePushesOf, IsBetween, active_count}
 use Rattle.pulse.specs.Phases.{AfterPulse, AfterDelivery, IsReadPhase}
 use Rattle.pulse.proofs.FlowLemmas.{flow_spent, pushes_with}
 use Rattle.pulse.proofs.RangeLemmas.{push_parts}
@@ -13,6 +16,22 @@ use Rattle.pulse.proofs.TurnLemmas.{after_pulse}
 
 pub read_fits : (net : FlowNet) (labels : List ℕ) (qs : List FlowPart) (rs : List PushPart) (s : Bool) → IsFlowNet net → s ≡ false → AreRead net labels qs rs → ArePushesOf net (push_state rs s)
 read_fits net labels qs rs s ok es r = subst (λ (x : Bool). ArePushesOf net (push_state rs x)) (sym es) (pushes_with net rs ok r.cut)
+
+-- the rows that a phase walked are the active nodes'
+pub read_walked : (net : FlowNet) (f : FlowState) (qs seen : List FlowPart) (ls lseen : List ℕ) (ds : List Bool) (cs : List ℕ) (b : Bool) (rs : List PushPart) → IsFlowNet net → flow_state qs ls ds cs b ≡ f → seen ≡ qs → lseen ≡ ls
+    → rows_walked rs ≡ active_below net lseen (cells_of seen) (node_count net) → min (rows_walked rs) (2 ^ 32 - 1) ≡ active_count net f
+read_walked net f qs seen ls lseen ds cs b rs ok ef es el sum =
+    let there : active_below net ls (cells_of qs) (node_count net) ≡ active_count net f = ap (active_count net) ef in
+    let parts : active_below net lseen (cells_of seen) (node_count net) ≡ active_below net lseen (cells_of qs) (node_count net) = ap (λ (x : List FlowPart). active_below net lseen (cells_of x) (node_count net)) es in
+    let labels : active_below net lseen (cells_of qs) (node_count net) ≡ active_below net ls (cells_of qs) (node_count net) = ap (λ (x : List ℕ). active_below net x (cells_of qs) (node_count net)) el in
+    omega (arith, sum, parts, labels, there, active_few net ls (cells_of qs) (node_count net), ok.short)
+
+-- what a flow's parts list, over slices
+pub listed_seen : (net : FlowNet) (f : FlowState) (qs seen : List FlowPart) (ls lseen : List ℕ) (ds : List Bool) (cs : List ℕ) (b listed : Bool) → flow_state qs ls ds cs b ≡ f → seen ≡ qs → lseen ≡ ls → IsFlowOf net f
+    → (listed ≡ true → ListActive (length ls) ls qs) → listed ≡ true → ListActive (node_count net) lseen seen
+listed_seen net f qs seen ls lseen ds cs b listed ef es el fits lists on =
+    let size : length ls ≡ node_count net = (subst (λ (g : FlowState). IsFlowOf net g) (sym ef) fits).labelled.each in
+    subst (λ (x : List FlowPart). ListActive (node_count net) lseen x) (sym es) (subst (λ (x : List ℕ). ListActive (node_count net) x qs) (sym el) (subst (λ (n : ℕ). ListActive n ls qs) size (lists on)))
 
 fields : (net : FlowNet) (f : FlowState) (p : PushState) (qs : List FlowPart) (ls : List ℕ) (ds : List Bool) (cs : List ℕ) (b : Bool) (ps : List PushPart) (s : Bool) → flow_state qs ls ds cs b ≡ f → push_state ps s ≡ p
     → IsReadPhase net f p → IsReadPhase net (flow_state qs ls ds cs b) (push_state ps s)

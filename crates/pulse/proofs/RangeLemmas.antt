@@ -22,10 +22,10 @@ pub push_parts : (net : FlowNet) (v : ℕ) (ps : List PushPart) → ArePushRange
 push_parts net v [] cut = cut
 push_parts net v (p ∷ ps) cut =
     let fit = cut.1.0 in
-    (cut.0, (record { ordered = fit.ordered; within = fit.within; based = fit.based; sized = fit.sized }, push_parts net p.end ps cut.1.1))
+    (cut.0, (record { ordered = fit.ordered; within = fit.within; based = fit.based; sized = fit.sized; lists = record { within = fit.listed; rest = fit.rest } }, push_parts net p.end ps cut.1.1))
 
 pub push_ranges : (net : FlowNet) (v : ℕ) (ps : List PushPart) → ArePushParts net v ps → ArePushRanges net v (map push_range ps)
 push_ranges net v [] cut = cut
 push_ranges net v (p ∷ ps) cut =
     let fit = cut.1.0 in
-    (cut.0, (record { ordered = fit.ordered; within = fit.within; based = fit.based; sized = fit.sized }, push_ranges net p.end ps cut.1.1))
+    (cut.0, (record { ordered = fit.ordered; within = fit.within; based = fit.based; sized = fit.sized; listed = fit.lists.within; rest = fit.lists.rest }, push_ranges net p.end ps cut.1.1))

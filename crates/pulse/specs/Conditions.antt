@@ -1,6 +1,6 @@
 -- What it means that a flow and pushes are of a network.
-use Rattle.std.specs.Prelude.{◌≡◌, ℕ, ◌<◌, false, length, slice_index, slice_index_or, Bool}
-use Rattle.flow_theory.specs.Flow.{State, IsPreflow, IsValid, is_active}
+use Rattle.std.specs.Prelude.{◌≡◌, ℕ, ◌<◌, false, cond, length, slice_index, slice_index_or, Bool}
+use Rattle.flow_theory.specs.Flow.{State, IsPreflow, IsValid, is_active, sum_below}
 use Rattle.flow_theory.specs.Laws.{started}
 use Rattle.frame_net.specs.FlowNet.{FlowNet, node_count, cap_at, IsFlowNet}
 use Rattle.flow_parts.specs.Parts.{Cells, LabelsFit, IsSound, Agree, pair, pairs}
@@ -61,6 +61,10 @@ pub record IsTurnable (f : FlowState) : Type 0 where
 -- no node is active
 abbrev pub NoneActive : FlowNet → FlowState → Type 0
 NoneActive net f = (v : ℕ) → v < node_count net → is_active (node_count net) (state_of net f) v ≡ false
+
+-- how many nodes are active
+abbrev pub active_count : FlowNet → FlowState → ℕ
+active_count net f = sum_below (node_count net) (λ v. cond (is_active (node_count net) (state_of net f) v) 1 0)
 
 -- a greatest flow of the network, as a preflow: excess that can't reach the sink stays where it is
 pub record IsMaxPreflow (net : FlowNet) (m : RunEnd) : Type 0 where

@@ -2,16 +2,12 @@
 use Rattle.std.specs.Prelude.{◌≡◌, ℕ, ◌<◌, ◌⊎◌, true, false, List, length, slice_index, slice_set}
 use Rattle.flow_theory.specs.Flow.{is_active}
 use Rattle.frame_net.specs.FlowNet.{FlowNet, node_count, row_len}
+use Rattle.flow_parts.specs.Listing.{IsListed}
 use Rattle.flow_parts.specs.Parts.{Cells}
 use Rattle.flow_parts.specs.Delivering.{own}
 use Rattle.parted_flow.specs.Marks.{DeliveredSoFar, IsPartlyDelivered}
 use Rattle.pulse.specs.Values.{FlowState, PushState}
 use Rattle.pulse.specs.Conditions.{IsFlowOf, is_marked, state_of}
-
-pub record IsListed (list : List ℕ) (v : ℕ) : Type 0 where
-  pub place : ℕ
-  pub inside : place < length list
-  pub there : slice_index list place ≡ v
 
 abbrev pub AreNodes : FlowNet → List ℕ → Type 0
 AreNodes net list = (i : ℕ) → i < length list → slice_index list i < node_count net

@@ -1,9 +1,10 @@
 -- What contracts see of a flow, of pushes and of a run's end: values by arc and by node, and how the nodes are parted.
-use Rattle.std.specs.Prelude.{◌≡◌, ℕ, ◌+◌, ◌≤◌, Bool, List, length, map}
-use Rattle.frame_net.specs.FlowNet.{FlowNet, node_count, start}
+use Rattle.std.specs.Prelude.{◌≡◌, ℕ, ◌+◌, ◌-◌, ◌<◌, ◌≤◌, ◌⊎◌, ◌^◌, min, Bool, true, List, length, slice_index, map}
+use Rattle.frame_net.specs.FlowNet.{FlowNet, node_count, start, row_len}
 use Rattle.flow_parts.specs.declared.parts.FlowPart.{FlowPart}
 use Rattle.flow_parts.specs.declared.parts.PushPart.{PushPart}
-use Rattle.flow_parts.specs.Parts.{Cells, IsParted, cells_of, values_of}
+use Rattle.flow_parts.specs.Listing.{AreWithin, IsListed}
+use Rattle.flow_parts.specs.Parts.{Cells, IsParted, cells_of, rows_walked, values_of}
 
 -- the nodes from first up to end, their arcs, which are so many from base on, and the numbers of their excesses and new labels
 pub record FlowRange : Type 0 where
@@ -14,18 +15,20 @@ pub record FlowRange : Type 0 where
   pub excesses : ℕ
   pub labels : ℕ
 
--- the nodes from first up to end, and their arcs, which are so many from base on
+-- the nodes from first up to end, the pushes over their arcs, which lie from base on, and the list of the nodes that push
 pub record PushRange : Type 0 where
   pub first : ℕ
   pub end : ℕ
   pub base : ℕ
-  pub arcs : ℕ
+  pub values : List ℕ
+  pub pushing : List ℕ
+  pub complete : Bool
 
 abbrev pub flow_range : FlowPart → FlowRange
 flow_range q = record { first = q.first; end = q.end; base = q.base; arcs = length q.residuals.items; excesses = length q.excess.items; labels = length q.next.items }
 
 abbrev pub push_range : PushPart → PushRange
-push_range p = record { first = p.first; end = p.end; base = p.base; arcs = length p.values.items }
+push_range p = record { first = p.first; end = p.end; base = p.base; values = p.values.items; pushing = p.pushing.nodes.items; complete = p.pushing.complete }
 
 pub record FlowRangeFits (net : FlowNet) (r : FlowRange) : Type 0 where
   pub ordered : r.first ≤ r.end
@@ -39,7 +42,9 @@ pub record PushRangeFits (net : FlowNet) (r : PushRange) : Type 0 where
   pub ordered : r.first ≤ r.end
   pub within : r.end ≤ node_count net
   pub based : r.base ≡ start net r.first
-  pub sized : r.arcs + start net r.first ≡ start net r.end
+  pub sized : length r.values + start net r.first ≡ start net r.end
+  pub listed : r.complete ≡ true → AreWithin r.first r.end r.pushing
+  pub rest : r.complete ≡ true → (v : ℕ) → r.first ≤ v → v < r.end → IsListed r.pushing v ⊎ ((k : ℕ) → k < row_len net v → slice_index r.values (start net v + k - r.base) ≡ 0)
 
 -- the ranges hold the nodes from v on, end to end
 abbrev pub AreFlowRanges : FlowNet → ℕ → List FlowRange → Type 0
@@ -63,14 +68,16 @@ abbrev pub flow_state : List FlowPart → List ℕ → List Bool → List ℕ �
 flow_state parts labels delivered caps spent =
     record { ranges = map flow_range parts; cells = cells_of parts; labels = labels; delivered = delivered; caps = caps; spent = spent }
 
--- pushes by arc, and whether a refused read phase has lost them
+-- pushes by arc; whether a refused read phase has lost them; and how many rows were walked for pushes since the last read phase began,
+-- up to the greatest count of 32 bits
 pub record PushState : Type 0 where
   pub ranges : List PushRange
   pub values : List ℕ
   pub spent : Bool
+  pub walked : ℕ
 
 abbrev pub push_state : List PushPart → Bool → PushState
-push_state parts spent = record { ranges = map push_range parts; values = values_of parts; spent = spent }
+push_state parts spent = record { ranges = map push_range parts; values = values_of parts; spent = spent; walked = min (rows_walked parts) (2 ^ 32 - 1) }
 
 -- the flow at the end of a run, and the number of its pulses
 pub record RunEnd : Type 0 where

@@ -10,14 +10,19 @@ use crate::flow::Flow;
 use frame_net::Net;
 use parted_flow::any_active_node;
 
-/// Whether some node is active.
+/// Whether some node is active. After a delivery phase the nodes that it listed are visited, and no others.
 pub(crate) fn is_active(net: &Net, flow: &Flow) -> bool
     requires flow { IsFlowOf net.now flow.now }
     requires unspent { flow.now.spent ≡ false }
     ensures { result ≡ any_active (node_count net.now) (state_of net.now flow.now) }
 {
     let _nodes = net.nodes();
-    any_active_node(net, flow.labels.as_slice(), flow.parts.as_slice())
+    any_active_node(
+        net,
+        flow.labels.as_slice(),
+        flow.parts.as_slice(),
+        flow.listed,
+    )
 }
 
 /// The number of active nodes, and of the arcs in their rows.

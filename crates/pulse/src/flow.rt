@@ -16,7 +16,8 @@ use std::marker::Model;
 /// The flow of a network: the residuals of its arcs in parts, one for each worker of the last delivery phase, and the excess of its
 /// nodes; and the labels, which are lent to all workers.
 ///
-/// A delivery phase that is refused memory leaves the flow spent: its parts are gone, and each later phase is refused.
+/// A delivery phase that is refused memory leaves the flow spent: its parts are gone, and each later phase is refused. Where `listed`
+/// is false the parts' lists of active nodes aren't those of this flow.
 #[derive(Drop)]
 pub struct Flow {
     pub(crate) labels: Vec<u32>,
@@ -25,14 +26,19 @@ pub struct Flow {
     pub(crate) parts: Vec<FlowPart>,
     pub(crate) phase: u32,
     pub(crate) spent: bool,
+    pub(crate) listed: bool,
 }
 
 impl Model for Flow {
+    ghost use Rattle.std.specs.Prelude.{◌≡◌, length, true};
+    ghost use Rattle.flow_parts.specs.Listing.{ListActive};
     ghost use Rattle.pulse.specs.Values.{FlowState, flow_state};
 
     ghost Value = { FlowState };
 
     ghost view = { λ f. flow_state f.parts.items f.labels.items f.delivered.items f.caps.items f.spent };
+
+    ghost invariant = { λ f. f.listed ≡ true → ListActive (length f.labels.items) f.labels.items f.parts.items };
 }
 
 impl Flow {
@@ -61,6 +67,7 @@ impl Flow {
             parts,
             phase: 0,
             spent: false,
+            listed: false,
         })
     }
 
@@ -110,7 +117,8 @@ impl Flow {
         requires { IsTurnable self.old }
         ensures { Turns self.old self.new }
     {
-        turn(self.labels.as_mut_slice(), self.parts.as_slice());
+        self.listed = false;
+        turn(self.labels.as_mut_slice(), self.parts.as_slice(), false);
         unmark(self.delivered.as_mut_slice());
         self.phase = self.phase.wrapping_add(2);
     }
@@ -130,6 +138,7 @@ impl Flow {
         requires mark { v < length self.old.delivered }
         ensures { self.new ≡ turned_at self.old v }
     {
+        self.listed = false;
         self.labels[v as usize] = self.next_label(v);
         self.delivered[v as usize] = false;
     }

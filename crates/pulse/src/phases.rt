@@ -1,6 +1,6 @@
 //! The two phases of a pulse, by the workers of a crew.
 ghost use Rattle.std.specs.Prelude.{◌≡◌, ◌⊎◌, OnErr, OnOk, false, true};
-ghost use Rattle.pulse.specs.Conditions.{ArePushesOf, IsFlowOf, NoneDelivered};
+ghost use Rattle.pulse.specs.Conditions.{ArePushesOf, IsFlowOf, NoneDelivered, active_count};
 ghost use Rattle.pulse.specs.Phases.{AfterDelivery, AfterRead, IsReadPhase};
 
 use crate::crew::Crew;
@@ -13,7 +13,8 @@ use frame_net::Net;
 use std::alloc::Global;
 use std::thread::Threads;
 
-/// The read phase of a pulse: each node writes its row of pushes.
+/// The read phase of a pulse: each node writes its row of pushes. The rows of the active nodes are walked, and no others
+/// (`Pushes::walked`).
 ///
 /// Pushes in parts for another number of workers are parted anew at first. After a refusal the pushes are spent, and the flow is as
 /// it was; a phase over a spent flow or spent pushes is refused.
@@ -30,6 +31,7 @@ pub fn read_phase<G: PhaseGate>(
     requires none { flow.now.spent ≡ false → pushes.old.spent ≡ false → NoneDelivered net.now flow.now }
     ensures fits { ArePushesOf net.now pushes.new }
     ensures ok { OnOk result (AfterRead net.now flow.now pushes.old pushes.new) }
+    ensures walked { OnOk result (pushes.new.walked ≡ active_count net.now flow.now) }
     ensures err { OnErr result ((flow.now.spent ≡ true) ⊎ (pushes.new.spent ≡ true)) }
 {
     if flow.spent || pushes.spent {
@@ -48,6 +50,7 @@ pub fn read_phase<G: PhaseGate>(
         &mut pushes.parts,
         crew,
         phase,
+        flow.listed,
     ) {
         Ok(()) => Ok(()),
         Err(_) => {
@@ -58,7 +61,7 @@ pub fn read_phase<G: PhaseGate>(
 }
 
 /// The delivery phase of a pulse: each node writes its row of flow, its excess and its new label, and then the new labels become the
-/// labels.
+/// labels. Where the last delivery phase's lists still hold, the nodes are visited that are active, push, or are pushed to, and no others.
 ///
 /// A flow in parts for another number of workers is parted anew at first. After a refusal the flow is spent; a phase over a spent
 /// flow or spent pushes is refused.
@@ -83,14 +86,27 @@ pub fn deliver_phase<G: PhaseGate>(
     let _nodes = net.nodes();
     let rows = pushes.parts.as_slice();
     let phase = u64::from(flow.phase) + 1;
+    let listed = flow.listed;
     let labels = flow.labels.as_mut_slice();
-    match deliver_all(rt, alloc, net, labels, rows, &mut flow.parts, crew, phase) {
+    match deliver_all(
+        rt,
+        alloc,
+        net,
+        labels,
+        rows,
+        &mut flow.parts,
+        listed,
+        crew,
+        phase,
+    ) {
         Ok(()) => {
+            flow.listed = true;
             flow.phase = flow.phase.wrapping_add(2);
             Ok(())
         }
         Err(_) => {
             flow.spent = true;
+            flow.listed = false;
             Err(PulseError::NoMemory)
         }
     }

@@ -5,7 +5,7 @@ ghost use Rattle.flow_parts.specs.Delivering.{own};
 ghost use Rattle.pulse.specs.Conditions.{ArePushesOf};
 
 use aig_graph::NoMemory;
-use flow_parts::{PushPart, push_over, push_row};
+use flow_parts::{PushPart, push_over, push_row, walked_over};
 use frame_net::Net;
 use parted_flow::push_parts;
 use std::alloc::Global;
@@ -68,6 +68,14 @@ impl Pushes {
         ensures value { (k : ℕ) → k < row_len net.now v → slice_index result.now k ≡ own net.now self.now.values v k }
     {
         push_row(self.parts.as_slice(), net, v)
+    }
+
+    /// How many rows were walked for pushes since the last read phase began; `u32::MAX` stands for all greater numbers. After a read
+    /// phase it is the number of nodes that were active at its start.
+    pub fn walked(&self) -> u32
+        ensures { result ≡ self.now.walked }
+    {
+        walked_over(self.parts.as_slice())
     }
 
     /// Whether a read phase was refused.

@@ -47,6 +47,7 @@ pub fn deliver_range(net: &Net, flow: &mut Flow, pushes: &Pushes, first: u32, en
     ensures { RangeDelivered net.now pushes.now first end flow.old flow.new }
 {
     let _nodes = net.nodes();
+    flow.listed = false;
     deliver_each(
         net,
         flow.labels.as_slice(),

@@ -27,6 +27,7 @@ pub(crate) fn relabel(net: &Net, flow: &mut Flow, queue: &mut [u32])
     ensures exact { Agree (node_count net.now) (exact (node_count net.now) (state_of net.now flow.old)) (state_of net.now flow.new) }
 {
     let _nodes = net.nodes();
+    flow.listed = false;
     exact_labels(
         net,
         flow.parts.as_slice(),

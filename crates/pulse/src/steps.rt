@@ -16,7 +16,7 @@ use frame_net::Net;
 use std::alloc::Global;
 use std::thread::Threads;
 
-/// Whether so many active nodes of all are worth a crew, whose workers visit every node.
+/// Whether so many active nodes of all are worth a crew.
 fn is_large(active: usize, nodes: u32) -> bool {
     active >= (nodes as usize).div_ceil(4)
 }

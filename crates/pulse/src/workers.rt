@@ -1,18 +1,21 @@
 //! A phase over the parts of all workers: on the calling thread for a crew of one, by `map_vec` for more.
 //!
 //! Each worker gets its part by value and returns it, in worker order; all else is lent to all workers. A refusal drops the parts.
-ghost use Rattle.std.specs.Prelude.{◌≡◌, ℕ, ◌<◌, ◌≤◌, IfOk, OnErr, OnOk, List, length};
+ghost use Rattle.std.specs.Prelude.{◌≡◌, ℕ, ◌<◌, ◌≤◌, IfOk, OnErr, OnOk, List, length, true};
 ghost use Rattle.frame_net.specs.FlowNet.{node_count};
-ghost use Rattle.flow_parts.specs.Parts.{AreFlowParts, ArePushParts, Agree, FlowPartFits, IsSound, LabelsFit, PushPartFits, cells_of, pairs, part_cells, values_of};
-ghost use Rattle.flow_parts.specs.Reading.{PartRead, PartsRead};
-ghost use Rattle.flow_parts.specs.Delivering.{HoldPushes, PartDelivered, PartsDelivered, PartsSafe, RangeSafe};
+ghost use Rattle.flow_parts.specs.Listing.{ListActive};
+ghost use Rattle.flow_parts.specs.Parts.{AreFlowParts, ArePushParts, Agree, FlowPartFits, IsSound, LabelsFit, PushPartFits, cells_of, pairs, part_cells, rows_walked, values_of};
+ghost use Rattle.flow_parts.specs.Reading.{WholeRead, WholesRead, active_below};
+ghost use Rattle.flow_parts.specs.Delivering.{PartsSafe, RangeSafe};
+ghost use Rattle.flow_parts.specs.Listing.{ListActive, ListsActive};
+ghost use Rattle.flow_parts.specs.Visiting.{WholeDelivered, WholesDelivered};
 ghost use Rattle.parted_flow.specs.Runs.{ArePulsed, AreRead};
 
 use crate::crew::Crew;
 use crate::gate::PhaseGate;
-use flow_parts::{FlowPart, PushPart, deliver_part, read_part};
+use flow_parts::{FlowPart, PushPart, deliver_whole, read_whole};
 use frame_net::Net;
-use parted_flow::{deliver_each, parted_anew, push_parts, read_each, turn};
+use parted_flow::{deliver_every, parted_anew, push_parts, read_every, turn};
 use std::alloc::{AllocError, Global};
 use std::thread::Threads;
 use std::{mem, thread};
@@ -44,6 +47,7 @@ fn part_flow(
     requires some { 0 < workers }
     requires parts { AreFlowParts net.now 0 parts.old.items }
     ensures parts { OnOk result (AreFlowParts net.now 0 parts.new.items) }
+    ensures same { OnOk result (length parts.old.items ≡ workers → parts.new.items ≡ parts.old.items) }
     ensures agree { OnOk result ((labels : List ℕ) → Agree (node_count net.now) (pairs net.now (cells_of parts.old.items) labels) (pairs net.now (cells_of parts.new.items) labels)) }
 {
     let _nodes = net.nodes();
@@ -62,23 +66,26 @@ fn read_by_crew<R: Threads + Sync, G: PhaseGate>(
     parts: Vec<PushPart>,
     gate: &G,
     phase: u64,
+    listed: bool,
 ) -> Result<Vec<PushPart>, AllocError>
     requires labels { LabelsFit net.now labels.now }
     requires flow { AreFlowParts net.now 0 flow.now }
     requires parts { ArePushParts net.now 0 parts.items }
+    requires listed { listed ≡ true → ListActive (node_count net.now) labels.now flow.now }
     ensures len { IfOk result (λ done. length done.items ≡ length parts.items) }
-    ensures each { IfOk result (λ done. PartsRead net.now labels.now 0 (node_count net.now) (cells_of flow.now) parts.items done.items) }
+    ensures each { IfOk result (λ done. WholesRead net.now labels.now (cells_of flow.now) parts.items done.items) }
 {
     let work = |part: PushPart| -> PushPart
         requires labels { LabelsFit net.now labels.now }
         requires flow { AreFlowParts net.now 0 flow.now }
         requires part { PushPartFits net.now part }
-        ensures { PartRead net.entry.now labels.entry.now 0 (node_count net.entry.now) (cells_of flow.entry.now) part result }
+        requires listed { listed ≡ true → ListActive (node_count net.now) labels.now flow.now }
+        ensures { WholeRead net.entry.now labels.entry.now (cells_of flow.entry.now) part result }
     {
         let mut part = part;
         let worker = part.worker;
         gate.pass(phase, worker);
-        read_part(net, labels, flow, &mut part, 0, net.nodes());
+        read_whole(net, labels, flow, &mut part, listed);
         gate.leave(phase, worker);
         part
     };
@@ -92,6 +99,7 @@ fn deliver_by_crew<R: Threads + Sync, G: PhaseGate>(
     labels: &[u32],
     pushes: &[PushPart],
     parts: Vec<FlowPart>,
+    listed: bool,
     gate: &G,
     phase: u64,
 ) -> Result<Vec<FlowPart>, AllocError>
@@ -99,20 +107,22 @@ fn deliver_by_crew<R: Threads + Sync, G: PhaseGate>(
     requires labels { LabelsFit net.now labels.now }
     requires parts { AreFlowParts net.now 0 parts.items }
     requires safe { PartsSafe net.now (values_of pushes.now) 0 (node_count net.now) parts.items }
+    requires lists { listed ≡ true → ListActive (node_count net.now) labels.now parts.items }
     ensures len { IfOk result (λ done. length done.items ≡ length parts.items) }
-    ensures each { IfOk result (λ done. PartsDelivered net.now labels.now (values_of pushes.now) 0 (node_count net.now) parts.items done.items) }
+    ensures each { IfOk result (λ done. WholesDelivered net.now labels.now (values_of pushes.now) parts.items done.items) }
 {
     let work = |part: FlowPart| -> FlowPart
         requires pushes { ArePushParts net.now 0 pushes.now }
         requires labels { LabelsFit net.now labels.now }
         requires part { FlowPartFits net.now part }
         requires safe { RangeSafe net.now (values_of pushes.now) part.base part.first 0 (node_count net.now) (part_cells part) }
-        ensures { PartDelivered net.entry.now labels.entry.now (values_of pushes.entry.now) 0 (node_count net.entry.now) part result }
+        requires lists { listed ≡ true → ListsActive (node_count net.now) labels.now part }
+        ensures { WholeDelivered net.entry.now labels.entry.now (values_of pushes.entry.now) part result }
     {
         let mut part = part;
         let worker = part.worker;
         gate.pass(phase, worker);
-        deliver_part(net, labels, pushes, &mut part, 0, net.nodes());
+        deliver_whole(net, labels, pushes, &mut part, listed);
         gate.leave(phase, worker);
         part
     };
@@ -129,23 +139,26 @@ pub(crate) fn read_all<R: Threads + Sync, G: PhaseGate>(
     parts: &mut Vec<PushPart>,
     crew: &Crew<G>,
     phase: u64,
+    listed: bool,
 ) -> Result<(), AllocError>
     requires labels { LabelsFit net.now labels.now }
     requires flow { AreFlowParts net.now 0 flow.now }
     requires parts { ArePushParts net.now 0 parts.old.items }
-    ensures { OnOk result (AreRead net.now labels.now flow.now parts.new.items) }
+    requires listed { listed ≡ true → ListActive (node_count net.now) labels.now flow.now }
+    ensures read { OnOk result (AreRead net.now labels.now flow.now parts.new.items) }
+    ensures walked { OnOk result (rows_walked parts.new.items ≡ active_below net.now labels.now (cells_of flow.now) (node_count net.now)) }
 {
-    let nodes = net.nodes();
+    let _nodes = net.nodes();
     let gate = crew.gate();
     part_pushes(alloc, net, parts, crew.workers())?;
     if parts.len() < 2 {
         gate.pass(phase, 0);
-        read_each(net, labels, flow, parts.as_mut_slice(), 0, nodes);
+        read_every(net, labels, flow, parts.as_mut_slice(), listed);
         gate.leave(phase, 0);
         return Ok(());
     }
     let taken = mem::replace(parts, Vec::new(alloc));
-    *parts = read_by_crew(rt, net, labels, flow, taken, gate, phase)?;
+    *parts = read_by_crew(rt, net, labels, flow, taken, gate, phase, listed)?;
     Ok(())
 }
 
@@ -157,6 +170,7 @@ fn deliver_parts<R: Threads + Sync, G: PhaseGate>(
     labels: &[u32],
     pushes: &[PushPart],
     flow: &mut Vec<FlowPart>,
+    listed: bool,
     crew: &Crew<G>,
     phase: u64,
 ) -> Result<(), AllocError>
@@ -164,23 +178,25 @@ fn deliver_parts<R: Threads + Sync, G: PhaseGate>(
     requires labels { LabelsFit net.now labels.now }
     requires sound { IsSound net.now (pairs net.now (cells_of flow.old.items) labels.now) }
     requires read { AreRead net.now labels.now flow.old.items pushes.now }
+    requires lists { listed ≡ true → ListActive (node_count net.now) labels.now flow.old.items }
     ensures len { OnOk result (length flow.new.items ≡ length flow.old.items) }
-    ensures each { OnOk result (PartsDelivered net.now labels.now (values_of pushes.now) 0 (node_count net.now) flow.old.items flow.new.items) }
+    ensures each { OnOk result (WholesDelivered net.now labels.now (values_of pushes.now) flow.old.items flow.new.items) }
 {
-    let nodes = net.nodes();
+    let _nodes = net.nodes();
     let gate = crew.gate();
     if flow.len() < 2 {
         gate.pass(phase, 0);
-        deliver_each(net, labels, pushes, flow.as_mut_slice(), 0, nodes);
+        deliver_every(net, labels, pushes, flow.as_mut_slice(), listed);
         gate.leave(phase, 0);
         return Ok(());
     }
     let parts = mem::replace(flow, Vec::new(alloc));
-    *flow = deliver_by_crew(rt, net, labels, pushes, parts, gate, phase)?;
+    *flow = deliver_by_crew(rt, net, labels, pushes, parts, listed, gate, phase)?;
     Ok(())
 }
 
-/// Deliver of every node by the workers of a crew, and the turn of the labels. After a refusal the parts may be gone.
+/// Deliver of every node by the workers of a crew, and the turn of the labels. `listed` is whether the parts' lists are of this flow and
+/// these labels; afterwards they are. After a refusal the parts may be gone.
 pub(crate) fn deliver_all<R: Threads + Sync, G: PhaseGate>(
     rt: &R,
     alloc: Global,
@@ -188,6 +204,7 @@ pub(crate) fn deliver_all<R: Threads + Sync, G: PhaseGate>(
     labels: &mut [u32],
     pushes: &[PushPart],
     flow: &mut Vec<FlowPart>,
+    listed: bool,
     crew: &Crew<G>,
     phase: u64,
 ) -> Result<(), AllocError>
@@ -195,12 +212,17 @@ pub(crate) fn deliver_all<R: Threads + Sync, G: PhaseGate>(
     requires labels { LabelsFit net.now labels.old }
     requires sound { IsSound net.now (pairs net.now (cells_of flow.old.items) labels.old) }
     requires read { AreRead net.now labels.old flow.old.items pushes.now }
+    requires lists { listed ≡ true → ListActive (node_count net.now) labels.old flow.old.items }
     ensures ok { OnOk result (ArePulsed net.now labels.old labels.new flow.old.items flow.new.items) }
+    ensures lists { OnOk result (ListActive (length labels.new) labels.new flow.new.items) }
     ensures err { OnErr result (labels.new ≡ labels.old) }
 {
     let _nodes = net.nodes();
-    part_flow(alloc, net, flow, crew.workers())?;
-    deliver_parts(rt, alloc, net, labels, pushes, flow, crew, phase)?;
-    turn(labels, flow.as_slice());
+    let workers = crew.workers();
+    let same = flow.as_slice().len() == workers as usize;
+    part_flow(alloc, net, flow, workers)?;
+    let known = listed && same;
+    deliver_parts(rt, alloc, net, labels, pushes, flow, known, crew, phase)?;
+    turn(labels, flow.as_slice(), true);
     Ok(())
 }

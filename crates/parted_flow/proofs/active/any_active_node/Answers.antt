@@ -1,7 +1,7 @@
 use Rattle.std.proofs.Common.{arith, drop, sym}
 use Rattle.std.proofs.lemmas.Grind.{common_steps}
 use Rattle.parted_flow.proofs.active.any_active_node.Goals as goal
-use Rattle.parted_flow.proofs.ActiveLemmas.{quiet_none, quiet_fits, quiet_more, quiet_all, loud}
+use Rattle.parted_flow.proofs.ActiveLemmas.{quiet_none, quiet_fits, quiet_more, quiet_all, lists_next, loud}
 
 pub loop-part-init : goal.loop-part-init
 loop-part-init c = quiet_none c.args.net.now c.args.labels.now c.args.parts.now c.requires.parts
@@ -15,6 +15,10 @@ pub part_active-requires-clause-excess : goal.part_active-requires-clause-excess
 part_active-requires-clause-excess c =
     let fit = quiet_fits c.args.net.now c.args.labels.now c.args.parts.now c.loop-part.part-index c.part-item.result (omega arith) c.part-item.is c.loop-part.invariant in
     fit.nodes
+
+pub part_active-requires-clause-lists : goal.part_active-requires-clause-lists
+part_active-requires-clause-lists c on =
+    lists_next c.args.net.now c.args.labels.now c.args.parts.now c.loop-part.part-index c.part-item.result c.nodes-nodes.result c.nodes-nodes.ensures.count (omega arith) c.part-item.is (c.requires.lists on)
 
 pub loop-part-preserved : goal.loop-part-preserved
 loop-part-preserved c =

@@ -1,4 +1,4 @@
-use Rattle.std.proofs.Common.{◌≡◌, ℕ, List, subst}
+use Rattle.std.proofs.Common.{◌≡◌, ℕ, List, ap, ◌∙◌, length, subst}
 use Rattle.frame_net.specs.FlowNet.{node_count}
 use Rattle.flow_parts.specs.declared.parts.FlowPart.{FlowPart}
 use Rattle.flow_parts.specs.Parts.{cells_of, pairs}
@@ -6,12 +6,18 @@ use Rattle.parted_flow.specs.Runs.{any_active}
 use Rattle.pulse.specs.Values.{FlowState}
 use Rattle.pulse.specs.Conditions.{state_of}
 use Rattle.pulse.proofs.active.is_active.Goals as goal
+use Rattle.pulse.proofs.CrewLemmas.{lists_seen}
 use Rattle.pulse.proofs.FlowLemmas.{flow_unspent, parts_seen}
 
 pub any_active_node-requires-clause-parts : goal.any_active_node-requires-clause-parts
 any_active_node-requires-clause-parts c =
     parts_seen c.args.net.now c.args.flow.now c.flow.inside.parts.items c.as_slice-2.result.now c.flow.inside.labels.items c.flow.inside.delivered.items c.flow.inside.caps.items c.flow.inside.spent c.flow.view_is
     c.as_slice-2.ensures.value (flow_unspent c.args.flow.now c.flow.inside.parts.items c.flow.inside.labels.items c.flow.inside.delivered.items c.flow.inside.caps.items c.flow.inside.spent c.flow.view_is c.requires.unspent) c.requires.flow
+
+pub any_active_node-requires-clause-lists : goal.any_active_node-requires-clause-lists
+any_active_node-requires-clause-lists c on =
+    lists_seen c.args.net.now c.flow.inside.labels.items c.as_slice.result.now c.flow.inside.parts.items c.as_slice-2.result.now
+    (ap (λ (f : FlowState). length f.labels) c.flow.view_is ∙ c.requires.flow.labelled.each) c.as_slice.ensures.value c.as_slice-2.ensures.value (c.flow.invariant on)
 
 pub returns : goal.returns
 returns c =

@@ -1,16 +1,26 @@
 use Rattle.std.proofs.Common.{arith, ap, refl}
 use Rattle.std.proofs.lemmas.List.{with_items_is}
-use Rattle.frame_net.specs.FlowNet.{node_count}
 use Rattle.pulse.proofs.workers.read_all.Goals as goal
-use Rattle.pulse.proofs.CrewLemmas.{all_read}
+use Rattle.pulse.proofs.CrewLemmas.{all_read, all_walked}
 
-pub returns-then-len-lt2 : goal.returns-then-len-lt2
-returns-then-len-lt2 g c =
-    all_read c.args.net.now c.nodes-nodes.result c.args.labels.now c.args.flow.now c.part_pushes.new.parts.items c.as_mut_slice.result.now c.read_each.new.parts _
-    c.nodes-nodes.ensures.network c.nodes-nodes.ensures.count c.as_mut_slice.ensures.value (with_items_is c.part_pushes.new.parts c.read_each.new.parts (omega arith))
-    c.in_ok-part_pushes.ensures c.read_each.ensures.len c.read_each.ensures.each
+pub returns-then-len-lt2-clause-read : goal.returns-then-len-lt2-clause-read
+returns-then-len-lt2-clause-read g c =
+    all_read c.args.net.now c.args.labels.now c.args.flow.now c.part_pushes.new.parts.items c.as_mut_slice.result.now c.read_every.new.parts _
+    c.nodes-nodes.ensures.network c.as_mut_slice.ensures.value (with_items_is c.part_pushes.new.parts c.read_every.new.parts (omega arith))
+    c.in_ok-part_pushes.ensures c.read_every.ensures.len c.read_every.ensures.each
 
-pub returns : goal.returns
-returns g c =
-    all_read c.args.net.now (node_count c.args.net.now) c.args.labels.now c.args.flow.now c.part_pushes.new.parts.items c.replace-taken.result.items c.in_ok-parts.field-0.items c.in_ok-parts.field-0.items
-    c.nodes-nodes.ensures.network refl (ap (λ v. v.items) c.replace-taken.ensures.value) refl c.in_ok-part_pushes.ensures c.in_ok-parts.ensures.len c.in_ok-parts.ensures.each
+pub returns-then-len-lt2-clause-walked : goal.returns-then-len-lt2-clause-walked
+returns-then-len-lt2-clause-walked g c =
+    all_walked c.args.net.now c.args.labels.now c.args.flow.now c.part_pushes.new.parts.items c.as_mut_slice.result.now c.read_every.new.parts _
+    c.as_mut_slice.ensures.value (with_items_is c.part_pushes.new.parts c.read_every.new.parts (omega arith))
+    c.in_ok-part_pushes.ensures c.read_every.ensures.len c.read_every.ensures.each
+
+pub returns-clause-read : goal.returns-clause-read
+returns-clause-read g c =
+    all_read c.args.net.now c.args.labels.now c.args.flow.now c.part_pushes.new.parts.items c.replace-taken.result.items c.in_ok-parts.field-0.items c.in_ok-parts.field-0.items
+    c.nodes-nodes.ensures.network (ap (λ v. v.items) c.replace-taken.ensures.value) refl c.in_ok-part_pushes.ensures c.in_ok-parts.ensures.len c.in_ok-parts.ensures.each
+
+pub returns-clause-walked : goal.returns-clause-walked
+returns-clause-walked g c =
+    all_walked c.args.net.now c.args.labels.now c.args.flow.now c.part_pushes.new.parts.items c.replace-taken.result.items c.in_ok-parts.field-0.items c.in_ok-parts.field-0.items
+    (ap (λ v. v.items) c.replace-taken.ensures.value) refl c.in_ok-part_pushes.ensures c.in_ok-parts.ensures.len c.in_ok-parts.ensures.each

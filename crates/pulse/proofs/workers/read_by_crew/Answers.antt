@@ -10,7 +10,10 @@ map_vec-requires-after_bounds g c κs within = λ i x h e. (
   c.requires.labels,
   (
     c.requires.flow,
-    subst (λ (q : PushPart). PushPartFits c.args.net.now q) (sym e)
-        (part_fits (PushPartFits c.args.net.now) (λ q. q.first) (λ q. q.end) (node_count c.args.net.now) 0 c.args.parts.items c.requires.parts i x h),
+    (
+      subst (λ (q : PushPart). PushPartFits c.args.net.now q) (sym e)
+          (part_fits (PushPartFits c.args.net.now) (λ q. q.first) (λ q. q.end) (node_count c.args.net.now) 0 c.args.parts.items c.requires.parts i x h),
+      c.requires.listed,
+    ),
   ),
 )

@@ -7,8 +7,8 @@ use Rattle.pulse.proofs.flow.Flow.turn.Goals as goal
 use Rattle.pulse.proofs.FlowLemmas.{flow_unspent}
 use Rattle.pulse.proofs.TurnLemmas.{turn_ready, turned}
 
-pub turn-requires : goal.turn-requires
-turn-requires c =
+pub turn-requires-clause-parts : goal.turn-requires-clause-parts
+turn-requires-clause-parts c =
     turn_ready c.args.self.now c.self.inside.parts.items c.as_slice.result.now c.self.inside.labels.items c.as_mut_slice.result.now c.self.inside.delivered.items c.self.inside.caps.items c.self.inside.spent c.self.view_is c.requires
     c.as_slice.ensures.value c.as_mut_slice.ensures.value
 
