@@ -1,5 +1,5 @@
 -- What the frames of a run rest on.
-use Rattle.std.proofs.Common.{ℕ, ◌+◌, ◌≡◌, ◌<◌, ◌≤◌, ◌++◌, suc, List, [], ◌∷◌, length, filter, get_or, arith, ap, sym, ◌∙◌, subst}
+use Rattle.std.proofs.Common.{ℕ, ◌≡◌, ◌<◌, ◌≤◌, ◌++◌, suc, List, [], ◌∷◌, length, filter, get_or, arith, ap, sym, ◌∙◌, subst}
 use Rattle.std.specs.List.{All}
 use Rattle.std.proofs.lemmas.List.Elements.{All-filter, All-map}
 use Rattle.std.proofs.lemmas.List.FromFn.{length-range_with_len}
@@ -9,20 +9,18 @@ use Rattle.aig_graph.specs.Graph.{Graph, IsGraph, variables_end, free_latches, k
 use Rattle.aig_graph.specs.Circuits.{Network, IsNetwork}
 use Rattle.aig_graph.specs.Closed.{IsClosedSet}
 use Rattle.aig_graph.specs.Keep.{is_named, held_by}
-use Rattle.aig_graph.specs.Border.{IsGreatestLeast, border_size}
+use Rattle.aig_graph.specs.Border.{IsGreatestLeast}
 use Rattle.aig_graph.specs.Laws.{all_free, composed}
-use Rattle.aig_graph.specs.Move.{move_of}
 use Rattle.aig_graph.specs.Streams.{SameStreams}
 use Rattle.aig_graph.proofs.StreamLaws.{same_streams-transitive}
 use Rattle.clean.proofs.CleaningLaws.{composed-all}
-use Rattle.variable_tables.specs.Counting.{count_below, places}
+use Rattle.variable_tables.specs.Counting.{places}
 use Rattle.variable_tables.specs.Marking.{has}
 use Rattle.variable_tables.proofs.MemberLemmas.{places-members}
 use Rattle.variable_tables.proofs.PlacesLemmas.{length-places, count-bound}
 use Rattle.rebuild.proofs.MovedLaws.{members-below}
-use Rattle.frame_laws.specs.declared.report.FrameReport.{FrameReport}
 use Rattle.frame_laws.specs.declared.report.Retimed.{Retimed}
-use Rattle.frame_laws.specs.Names.{held_in, held_latches}
+use Rattle.frame_laws.specs.Names.{held_in}
 use Rattle.frame_laws.specs.Frames.{AfterFrames, NoneSmaller, count_in, frame}
 use Rattle.frame_laws.specs.Retiming.{IsRetimed}
 use Rattle.frame_laws.proofs.RunLaws.{after-length}

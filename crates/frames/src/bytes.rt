@@ -102,6 +102,5 @@ pub fn retime_bytes_with<R: CountedRead, W: CountedWrite, C: CircuitReader, G: P
     ensures err { IfErr result (IsBytesError options.now (R.input reader.old) (R.input reader.new) (W.output writer.old) (W.output writer.new)) }
 {
     let spelt = read_circuit(reader, circuits)?;
-    let retimed = retime_spelt(rt, alloc, &spelt, writer, options, crew)?;
-    Ok(retimed)
+    retime_spelt(rt, alloc, &spelt, writer, options, crew)
 }

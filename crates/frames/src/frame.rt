@@ -8,7 +8,7 @@ ghost use Rattle.frames.specs.Found.{Moves};
 ghost use Rattle.frames.specs.Named.{NoneMissing, names_in};
 
 use crate::helping::helping_set;
-use crate::holding::{cleaned, held};
+use crate::holding::{cleaned_by_names, held};
 use crate::options::Options;
 use aig_graph::{Circuit, ClosedSet, Keep, NoMemory};
 use clean::Cleaned;
@@ -43,9 +43,7 @@ fn moved_over(
 {
     let _aig = circuit.aig();
     let after = moved(alloc, circuit, set, keep)?;
-    let still_held = held(alloc, &after, options)?;
-    let left = cleaned(alloc, &after, &still_held, options)?;
-    Ok(left)
+    cleaned_by_names(alloc, &after, options)
 }
 
 /// The frame of a circuit, where one makes fewer latches.

@@ -36,6 +36,20 @@ pub(crate) fn cleaned(
 {
     // That the names are those of latches in range is what a circuit's readers ensure.
     let _aig = circuit.aig();
-    let left = clean(alloc, circuit, keep)?;
-    Ok(left)
+    clean(alloc, circuit, keep)
+}
+
+/// The circuit, cleaned, where the latches stay that the names hold; it has them all.
+pub(crate) fn cleaned_by_names(
+    alloc: Global,
+    circuit: &Circuit,
+    options: &Options,
+) -> Result<Cleaned, NoMemory>
+    requires { NoneMissing options.now circuit.now }
+    ensures cleaned { IfOk result (λ d. CleansIn (names_in options.now) circuit.now d.circuit d.kept_free) }
+    ensures streams { IfOk result (λ d. SameStreams circuit.now d.circuit d.kept_free) }
+    ensures held { IfOk result (λ d. held_latches (names_in options.now) d.circuit ≡ held_latches (names_in options.now) circuit.now) }
+{
+    let keep = held(alloc, circuit, options)?;
+    cleaned(alloc, circuit, &keep, options)
 }

@@ -6,6 +6,7 @@ mod bytes;
 mod errors;
 mod frame;
 mod helping;
+mod history;
 mod holding;
 mod laws;
 mod least_set;

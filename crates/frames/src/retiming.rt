@@ -1,5 +1,5 @@
 //! Frame after frame.
-ghost use Rattle.std.specs.Prelude.{ℕ, ◌≡◌, ◌++◌, ◌∷◌, [], suc, IfOk, OnOk, IsErrOf, None, Some};
+ghost use Rattle.std.specs.Prelude.{ℕ, ◌≡◌, suc, IfOk, OnOk, IsErrOf, None, Some};
 ghost use Rattle.aig_graph.specs.Circuits.{Network};
 ghost use Rattle.aig_graph.specs.Keep.{first_missing};
 ghost use Rattle.frame_laws.specs.Names.{held_in};
@@ -11,11 +11,12 @@ ghost use Rattle.frames.specs.declared.errors.RetimeError.TheVariants.{NoSuchNam
 
 use crate::errors::RetimeError;
 use crate::frame::{Frame, next_frame};
+use crate::history::{history_of, with_frame};
 use crate::holding::cleaned;
 use crate::options::Options;
 use aig_graph::{Circuit, Keep, NoMemory, Sequence, keep_of};
-use clean::{Cleaned, composed};
-use frame_laws::{FrameReport, Retimed};
+use clean::Cleaned;
+use frame_laws::Retimed;
 use pulse::{Crew, PhaseGate};
 use std::alloc::Global;
 use std::thread::Threads;
@@ -44,18 +45,6 @@ fn begun(
     })
 }
 
-/// The reports, and one more.
-fn with_report(
-    frames: Sequence<FrameReport>,
-    report: FrameReport,
-) -> Result<Sequence<FrameReport>, NoMemory>
-    ensures { IfOk result (λ all. all ≡ frames ++ report ∷ []) }
-{
-    let mut all = frames.into_vec();
-    all.push(report)?;
-    Ok(Sequence::from_vec(all))
-}
-
 /// What one more frame makes of a retimed circuit.
 fn after_frame(
     alloc: Global,
@@ -68,19 +57,13 @@ fn after_frame(
     ensures { IfOk result (λ after. (c : Network) (n : ℕ) → IsUnderway (names_in options.now) c n retimed → IsUnderway (names_in options.now) c (suc n) after) }
 {
     let Frame { cleaned, report } = frame;
-    let Retimed {
-        kept_free,
-        read_latches,
-        frames,
-        ..
-    } = retimed;
-    let left = composed(alloc, kept_free.as_slice(), cleaned.kept_free.as_slice())?;
-    let frames = with_report(frames, report)?;
+    let places = cleaned.kept_free.as_slice();
+    let after = with_frame(alloc, history_of(retimed), places, report)?;
     Ok(Retimed {
         circuit: cleaned.circuit,
-        kept_free: Sequence::from_vec(left),
-        read_latches,
-        frames,
+        kept_free: after.kept_free,
+        read_latches: after.read_latches,
+        frames: after.frames,
     })
 }
 

@@ -1,8 +1,10 @@
 use Rattle.std.proofs.Common.{ℕ, List, ◌≤◌, ◌≡◌, ◌∙◌, None, arith, ap, sym, subst}
+use Rattle.std.specs.Result.{IfOk}
 use Rattle.aig_graph.specs.declared.literal.TheConstants.{MAX_VARIABLES}
 use Rattle.aig_graph.specs.Circuits.{Network}
 use Rattle.aig_graph.specs.Keep.{first_missing}
 use Rattle.aig_graph.specs.Move.{move_of}
+use Rattle.aig_graph.specs.Streams.{SameStreams}
 use Rattle.aig_graph.proofs.GraphLemmas.{room}
 use Rattle.rebuild.specs.Moved.{moved_of, moved_size}
 use Rattle.frame_laws.specs.Names.{held_latches}
@@ -11,6 +13,8 @@ use Rattle.frame_laws.proofs.HeldLaws.{moving-keeps}
 use Rattle.frame_laws.proofs.NameLaws.{names-stay}
 use Rattle.frames.specs.Named.{names_in}
 use Rattle.frames.proofs.FrameLaws.{streams-through}
+use Rattle.std.proofs.lemmas.Result.{IfOk-from_err, IfOk-weaker}
+use Rattle.aig_graph.specs.Closed.{IsClosedSet}
 use Rattle.frames.proofs.frame.moved_over.Goals as goal
 
 pub moved-requires-clause-room : goal.moved-requires-clause-room
@@ -20,8 +24,8 @@ moved-requires-clause-room c =
     let P : List ℕ → Type 0 = λ held. moved_size (move_of before held set) ≤ MAX_VARIABLES in
     subst P (sym c.requires.keep) (room before.aig (count_in (names_in c.args.options.now) before set) c.requires.graph (omega (arith, c.requires.helps.fewer)))
 
-pub held-requires : goal.held-requires
-held-requires c =
+pub cleaned_by_names-requires : goal.cleaned_by_names-requires
+cleaned_by_names-requires c =
     let names = names_in c.args.options.now in
     let before = c.args.circuit.now in
     let set = c.args.set.now in
@@ -29,25 +33,41 @@ held-requires c =
     let same : c.in_ok-after.after ≡ moved_in names before set = c.in_ok-after.ensures.value ∙ ap (λ (held : List ℕ). moved_of (move_of before held set)) c.requires.keep in
     subst P (sym same) (names-stay names before (moved_in names before set) (moving-keeps names before set c.aig-aig.ensures.network) c.requires.names)
 
+pub moved-requires-clause-closed : goal.moved-requires-clause-closed
+moved-requires-clause-closed c =
+    subst (λ (held : List ℕ). IsClosedSet c.args.circuit.now.aig held c.args.set.now) (sym c.requires.keep) c.requires.helps.greatest.least.closed
+
+pub returns-in_err-after-clause-cleaned : goal.returns-in_err-after-clause-cleaned
+returns-in_err-after-clause-cleaned c = IfOk-from_err c.from_residual.result _ c.from_residual.ensures.0
+
+pub returns-in_err-after-clause-streams : goal.returns-in_err-after-clause-streams
+returns-in_err-after-clause-streams c = IfOk-from_err c.from_residual.result _ c.from_residual.ensures.0
+
+pub returns-in_err-after-clause-held : goal.returns-in_err-after-clause-held
+returns-in_err-after-clause-held c = IfOk-from_err c.from_residual.result _ c.from_residual.ensures.0
+
 pub returns-clause-cleaned : goal.returns-clause-cleaned
 returns-clause-cleaned c =
     let names = names_in c.args.options.now in
     let before = c.args.circuit.now in
     let set = c.args.set.now in
-    let d = c.in_ok-left.left in
     let same : c.in_ok-after.after ≡ moved_in names before set = c.in_ok-after.ensures.value ∙ ap (λ (held : List ℕ). moved_of (move_of before held set)) c.requires.keep in
-    let P : Network → Type 0 = λ e. CleansIn names e d.circuit d.kept_free in
-    subst P same c.in_ok-left.ensures.cleaned
+    let P : Network → Type 0 = λ e. IfOk c.cleaned_by_names.result (λ d. CleansIn names e d.circuit d.kept_free) in
+    subst P same c.cleaned_by_names.ensures.cleaned
 
 pub returns-clause-streams : goal.returns-clause-streams
 returns-clause-streams c =
-    let d = c.in_ok-left.left in
-    streams-through c.args.circuit.now c.in_ok-after.after d.circuit d.kept_free c.in_ok-after.ensures.streams c.in_ok-left.ensures.streams
+    let before = c.args.circuit.now in
+    let after = c.in_ok-after.after in
+    IfOk-weaker c.cleaned_by_names.result (λ d. SameStreams after d.circuit d.kept_free) (λ d. SameStreams before d.circuit d.kept_free)
+    (λ d streams. streams-through before after d.circuit d.kept_free c.in_ok-after.ensures.streams streams) c.cleaned_by_names.ensures.streams
 
 pub returns-clause-held : goal.returns-clause-held
 returns-clause-held c =
     let names = names_in c.args.options.now in
     let before = c.args.circuit.now in
     let set = c.args.set.now in
-    let same : c.in_ok-after.after ≡ moved_in names before set = c.in_ok-after.ensures.value ∙ ap (λ (held : List ℕ). moved_of (move_of before held set)) c.requires.keep in
-    c.in_ok-left.ensures.held ∙ ap (held_latches names) same ∙ moving-keeps names before set c.aig-aig.ensures.network
+    let after = c.in_ok-after.after in
+    let same : after ≡ moved_in names before set = c.in_ok-after.ensures.value ∙ ap (λ (held : List ℕ). moved_of (move_of before held set)) c.requires.keep in
+    IfOk-weaker c.cleaned_by_names.result (λ d. held_latches names d.circuit ≡ held_latches names after) (λ d. held_latches names d.circuit ≡ held_latches names before)
+    (λ d stays. stays ∙ ap (held_latches names) same ∙ moving-keeps names before set c.aig-aig.ensures.network) c.cleaned_by_names.ensures.held

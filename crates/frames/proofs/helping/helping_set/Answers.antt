@@ -1,8 +1,42 @@
-use Rattle.std.proofs.Common.{arith, ap, length, List, ℕ}
-use Rattle.frames.proofs.FrameLaws.{closed-length}
+use Rattle.std.proofs.Common.{ℕ, List, ◌≡◌, ◌∙◌, arith, ap, length, subst}
+use Rattle.aig_graph.specs.Border.{IsGreatestLeast, border_size}
+use Rattle.aig_graph.specs.Graph.{known_latches}
+use Rattle.aig_graph.specs.Move.{move_of}
+use Rattle.frame_laws.specs.Frames.{count_in}
+use Rattle.frames.specs.Named.{names_in}
+use Rattle.frames.proofs.FrameLaws.{closed-length, none-smaller}
+use Rattle.std.proofs.lemmas.Result.{IfOk-from_err}
 use Rattle.frames.proofs.helping.helping_set.Goals as goal
 
 pub overflow_cast-report : goal.overflow_cast-report
 overflow_cast-report g c =
     let short = closed-length c.args.circuit.now.aig c.args.keep.now c.in_ok-set.set c.aig-aig.ensures.graph c.in_ok-set.ensures.least.closed in
     omega (arith, short, ap (λ (xs : List ℕ). length xs) c.vars.ensures.value)
+
+pub returns-in_err-set : goal.returns-in_err-set
+returns-in_err-set g c = IfOk-from_err c.from_residual.result _ c.from_residual.ensures.0
+
+pub returns-in_err-count : goal.returns-in_err-count
+returns-in_err-count g c = IfOk-from_err c.from_residual-in_err-count.result _ c.from_residual-in_err-count.ensures.0
+
+pub returns-then-report : goal.returns-then-report
+returns-then-report g c =
+    let before = c.args.circuit.now in
+    let names = names_in c.args.options.now in
+    let set = c.in_ok-set.set in
+    let known : c.known_latches.result ≡ known_latches before.aig = c.known_latches.ensures ∙ ap known_latches c.aig.ensures.value in
+    let counted : c.in_ok-count.field-0 ≡ count_in names before set = c.in_ok-count.ensures ∙ ap (λ (held : List ℕ). border_size (move_of before held set)) c.requires in
+    let long : length c.vars.result.now ≡ length set = ap (λ (xs : List ℕ). length xs) c.vars.ensures.value in
+    record {
+      set = record { greatest = subst (λ (held : List ℕ). IsGreatestLeast before held set) c.requires c.in_ok-set.ensures; fewer = omega (arith, known, counted, c.if-report.true) };
+      report = λ i. record { before = known i; after = counted i; moved = long i };
+    }
+
+pub returns-else-report : goal.returns-else-report
+returns-else-report g c =
+    let before = c.args.circuit.now in
+    let names = names_in c.args.options.now in
+    let set = c.in_ok-set.set in
+    let known : c.known_latches.result ≡ known_latches before.aig = c.known_latches.ensures ∙ ap known_latches c.aig.ensures.value in
+    let counted : c.in_ok-count.field-0 ≡ count_in names before set = c.in_ok-count.ensures ∙ ap (λ (held : List ℕ). border_size (move_of before held set)) c.requires in
+    none-smaller names before set (subst (λ (held : List ℕ). IsGreatestLeast before held set) c.requires c.in_ok-set.ensures) (omega (arith, known, counted, c.if-report.false))

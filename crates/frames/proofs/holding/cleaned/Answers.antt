@@ -1,11 +1,12 @@
-use Rattle.std.proofs.Common.{ℕ, List, ◌<◌, length, sym, subst}
+use Rattle.std.proofs.Common.{ℕ, List, ◌<◌, ◌≡◌, length, sym, subst}
 use Rattle.std.specs.List.{All}
-use Rattle.aig_graph.specs.Circuits.{Network}
+use Rattle.std.specs.Result.{IfOk}
 use Rattle.clean_laws.specs.Cleaned.{Cleans}
-use Rattle.frame_laws.specs.Names.{held_in}
+use Rattle.frame_laws.specs.Names.{held_in, held_latches}
 use Rattle.frame_laws.proofs.HeldLaws.{cleaning-keeps}
 use Rattle.frames.specs.Named.{names_in}
 use Rattle.frames.proofs.FrameLaws.{held-below}
+use Rattle.std.proofs.lemmas.Result.{IfOk-weaker}
 use Rattle.frames.proofs.holding.cleaned.Goals as goal
 
 pub clean-requires : goal.clean-requires
@@ -15,13 +16,17 @@ clean-requires c =
 
 pub returns-clause-cleaned : goal.returns-clause-cleaned
 returns-clause-cleaned c =
-    let d = c.in_ok-left.left in
-    let P : List ℕ → Type 0 = λ held. Cleans d.circuit held c.args.circuit.now d.kept_free in
-    subst P c.requires c.in_ok-left.ensures.cleaned
+    let P : List ℕ → Type 0 = λ held. IfOk c.clean.result (λ d. Cleans d.circuit held c.args.circuit.now d.kept_free) in
+    subst P c.requires c.clean.ensures.cleaned
+
+pub returns-clause-streams : goal.returns-clause-streams
+returns-clause-streams c = c.clean.ensures.streams
 
 pub returns-clause-held : goal.returns-clause-held
 returns-clause-held c =
-    let d = c.in_ok-left.left in
-    let P : List ℕ → Type 0 = λ held. Cleans d.circuit held c.args.circuit.now d.kept_free in
-    cleaning-keeps (names_in c.args.options.now) c.args.circuit.now d.circuit d.kept_free (record { graph = c.aig-aig.ensures.graph; network = c.aig-aig.ensures.network })
-    (subst P c.requires c.in_ok-left.ensures.cleaned)
+    let names = names_in c.args.options.now in
+    let before = c.args.circuit.now in
+    let P : List ℕ → Type 0 = λ held. IfOk c.clean.result (λ d. Cleans d.circuit held before d.kept_free) in
+    IfOk-weaker c.clean.result (λ d. Cleans d.circuit (held_in names before) before d.kept_free) (λ d. held_latches names d.circuit ≡ held_latches names before)
+    (λ d cleans. cleaning-keeps names before d.circuit d.kept_free (record { graph = c.aig-aig.ensures.graph; network = c.aig-aig.ensures.network }) cleans)
+    (subst P c.requires c.clean.ensures.cleaned)

@@ -1,4 +1,7 @@
-use Rattle.std.proofs.Common.{ℕ, List, ◌≡◌, ◌∙◌, ◌++◌, ◌∷◌, [], ap, sym, subst, suc}
+use Rattle.std.proofs.Common.{ℕ, List, ◌≡◌, ◌∙◌, ◌++◌, ◌∷◌, ◌<◌, [], arith, ap, get_or, length, sym, subst, suc}
+use Rattle.std.specs.List.{All}
+use Rattle.std.proofs.lemmas.Result.{IfOk-from_err}
+use Rattle.aig_graph.specs.Graph.{free_latches}
 use Rattle.aig_graph.specs.Laws.{composed}
 use Rattle.frame_laws.specs.declared.report.FrameReport.{FrameReport}
 use Rattle.frames.specs.Named.{names_in}
@@ -6,13 +9,31 @@ use Rattle.frames.specs.Underway.{IsUnderway}
 use Rattle.frames.proofs.FrameLaws.{one-more}
 use Rattle.frames.proofs.retiming.after_frame.Goals as goal
 
+pub with_frame-requires : goal.with_frame-requires
+with_frame-requires c =
+    let r = c.args.retimed in
+    let e = c.args.frame.cleaned in
+    let many : length r.kept_free ≡ free_latches r.circuit.aig = c.requires.underway.2.streams.places.each in
+    let same : length c.history_of.result.kept_free ≡ length r.kept_free = ap (λ (xs : List ℕ). length xs) c.history_of.ensures.kept_free in
+    let below : All (λ (place : ℕ). place < length c.history_of.result.kept_free) e.kept_free = λ k a h.
+    let here : get_or e.kept_free k a < free_latches r.circuit.aig = c.requires.moves.streams.places.below k a h in
+    omega (arith, here, many, same) in
+    subst (λ (xs : List ℕ). All (λ (place : ℕ). place < length c.history_of.result.kept_free) xs) (sym c.as_slice-places.ensures) below
+
 pub returns : goal.returns
 returns c = λ d n before.
     let names = names_in c.args.options.now in
     let r = c.args.retimed in
     let e = c.args.frame.cleaned in
-    let kept : c.from_vec.result ≡ composed r.kept_free e.kept_free = c.from_vec.ensures ∙ c.in_ok-left.ensures
-    ∙ ap (λ (first : List ℕ). composed first c.as_slice-2.result.now) c.as_slice.ensures ∙ ap (composed r.kept_free) c.as_slice-2.ensures in
-    let P : List ℕ → List FrameReport → Type 0 = λ places reports. IsUnderway names d (suc n) (record { circuit = e.circuit; kept_free = places; read_latches = r.read_latches; frames = reports }) in
-    subst (λ (reports : List FrameReport). P c.from_vec.result reports) (sym c.in_ok-frames.ensures)
-    (subst (λ (places : List ℕ). P places (r.frames ++ c.args.frame.report ∷ [])) (sym kept) (one-more names d n r c.args.frame before c.requires.moves))
+    let after = c.in_ok-after.after in
+    let kept : after.kept_free ≡ composed r.kept_free e.kept_free = c.in_ok-after.ensures.kept_free
+    ∙ ap (λ (first : List ℕ). composed first c.as_slice-places.result.now) c.history_of.ensures.kept_free ∙ ap (composed r.kept_free) c.as_slice-places.ensures in
+    let latches : after.read_latches ≡ r.read_latches = c.in_ok-after.ensures.read_latches ∙ c.history_of.ensures.read_latches in
+    let reports : after.frames ≡ r.frames ++ c.args.frame.report ∷ [] = c.in_ok-after.ensures.frames ∙ ap (λ (xs : List FrameReport). xs ++ c.args.frame.report ∷ []) c.history_of.ensures.frames in
+    let P : List ℕ → ℕ → List FrameReport → Type 0 = λ places many all. IsUnderway names d (suc n) (record { circuit = e.circuit; kept_free = places; read_latches = many; frames = all }) in
+    subst (λ (places : List ℕ). P places after.read_latches after.frames) (sym kept)
+    (subst (λ (many : ℕ). P (composed r.kept_free e.kept_free) many after.frames) (sym latches)
+    (subst (λ (all : List FrameReport). P (composed r.kept_free e.kept_free) r.read_latches all) (sym reports) (one-more names d n r c.args.frame before c.requires.moves)))
+
+pub returns-in_err-after : goal.returns-in_err-after
+returns-in_err-after c = IfOk-from_err c.from_residual.result _ c.from_residual.ensures.0

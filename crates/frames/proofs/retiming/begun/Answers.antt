@@ -1,8 +1,9 @@
-use Rattle.std.proofs.Common.{length, List, [], ap, sym, subst, ◌∙◌}
+use Rattle.std.proofs.Common.{length, List, ap, sym, subst, ◌∙◌}
 use Rattle.aig_graph.specs.Graph.{Graph}
 use Rattle.frame_laws.specs.declared.report.FrameReport.{FrameReport}
 use Rattle.frame_laws.specs.Frames.{AfterFrames, cleaned}
 use Rattle.frames.specs.Named.{names_in}
+use Rattle.std.proofs.lemmas.Result.{IfOk-from_err}
 use Rattle.frames.proofs.retiming.begun.Goals as goal
 
 pub returns : goal.returns
@@ -16,3 +17,9 @@ returns c =
       streams = c.in_ok-start.ensures.streams;
       held = c.in_ok-start.ensures.held;
     }
+
+pub cleaned-requires : goal.cleaned-requires
+cleaned-requires c = c.requires
+
+pub returns-in_err-start : goal.returns-in_err-start
+returns-in_err-start c = IfOk-from_err c.from_residual.result _ c.from_residual.ensures.0

@@ -1,4 +1,4 @@
-use Rattle.std.proofs.Common.{◌+◌, ◌≡◌, Option, None, suc, arith, subst, ℕ}
+use Rattle.std.proofs.Common.{◌+◌, ◌≡◌, Option, suc, arith, subst, ℕ}
 use Rattle.std.specs.Option.{MatchOption}
 use Rattle.frame_laws.specs.Frames.{NoneSmaller}
 use Rattle.frame_laws.proofs.NameLaws.{names-stay}
@@ -7,6 +7,7 @@ use Rattle.frames.specs.Found.{Moves}
 use Rattle.frames.specs.Named.{names_in}
 use Rattle.frames.specs.Underway.{IsUnderway}
 use Rattle.frames.proofs.FrameLaws.{ended}
+use Rattle.std.proofs.lemmas.Result.{IfOk-from_err}
 use Rattle.frames.proofs.retiming.retime_held.Goals as goal
 
 pub loop-init : goal.loop-init
@@ -35,3 +36,21 @@ pub returns : goal.returns
 returns g c =
     ended (names_in c.args.options.now) c.args.circuit.now c.loop.counter c.args.options.now.max_frames c.loop.retimed c.loop.invariant c.loop.auto.counter-end
     (λ less. absurd (omega (arith, c.loop-test.false, less)))
+
+pub begun-requires : goal.begun-requires
+begun-requires g c = c.requires.keep
+
+pub after_frame-requires-clause-moves : goal.after_frame-requires-clause-moves
+after_frame-requires-clause-moves g c =
+    let names = names_in c.args.options.now in
+    let P : Option Frame → Type 0 = λ found. MatchOption found (NoneSmaller names c.loop.retimed.circuit) (Moves names c.loop.retimed.circuit) in
+    subst P c.in-Some.is c.in_ok-frame.ensures
+
+pub returns-in_err-retimed : goal.returns-in_err-retimed
+returns-in_err-retimed g c = IfOk-from_err c.from_residual.result _ c.from_residual.ensures.0
+
+pub returns-in_err-frame : goal.returns-in_err-frame
+returns-in_err-frame g c = IfOk-from_err c.from_residual-in_err-frame.result _ c.from_residual-in_err-frame.ensures.0
+
+pub returns-in_err-retimed-in-Some : goal.returns-in_err-retimed-in-Some
+returns-in_err-retimed-in-Some g c = IfOk-from_err c.from_residual-in_err-retimed-in-Some.result _ c.from_residual-in_err-retimed-in-Some.ensures.0
