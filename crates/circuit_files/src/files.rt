@@ -1,13 +1,20 @@
 //! Circuits and stimuli of files.
 use crate::outcome::Failure;
+use aag_format::ReadError;
 use aig_binary::AnyReader;
 use aig_graph::Circuit;
-use counted_io::{Counted, ReadAllError, read_all};
+use counted_io::{Counted, CountedRead, ReadAllError, read_all};
 use lane_sim::{Stimulus, read_stimulus};
 use piece_reading::{SpeltCircuit, read_circuit};
 use std::alloc::Global;
 use std::fs::File;
 use std::rt::Files;
+
+/// The circuit of a reader's bytes, of either spelling.
+fn circuit_of<R: CountedRead>(alloc: Global, reader: &mut R) -> Result<SpeltCircuit, ReadError> {
+    let mut circuits = AnyReader::new(alloc);
+    read_circuit(reader, &mut circuits)
+}
 
 /// The circuit of a file, and its spelling.
 pub fn circuit_at<'a, R: Files>(
@@ -18,9 +25,7 @@ pub fn circuit_at<'a, R: Files>(
     let Ok(input) = File::open(rt, path) else {
         return Err(Failure::Device(path));
     };
-    let mut reader = Counted::new(input);
-    let mut circuits = AnyReader::new(alloc);
-    match read_circuit(&mut reader, &mut circuits) {
+    match circuit_of(alloc, &mut Counted::new(input)) {
         Ok(spelt) => Ok(spelt),
         Err(error) => Err(Failure::of_reading(error, path)),
     }

@@ -1,7 +1,7 @@
 use crate::program::program;
 use crate::task::{Retiming, Task};
 use clap::error::ErrorKind;
-use clap::{ArgMatches, Error};
+use clap::{ArgMatches, Command, Error};
 use spellings::Spelling;
 use std::alloc::{AllocError, Global};
 
@@ -75,6 +75,34 @@ fn task<'a>(
     Ok(task)
 }
 
+/// What the matches of a whole command line ask for; `None` where they name no command.
+fn task_of<'a>(alloc: Global, matches: &ArgMatches<'a>) -> Result<Option<Task<'a>>, AllocError> {
+    match matches.subcommand() {
+        Some((name, matches)) => task(alloc, name, matches),
+        None => Ok(None),
+    }
+}
+
+/// What the command-line arguments ask a program for.
+fn asked_of<'a>(
+    alloc: Global,
+    program: &mut Command<'a>,
+    words: &'a [String],
+) -> Result<Option<Task<'a>>, Error> {
+    match program.try_get_matches_from_mut(words) {
+        Ok(matches) => Ok(task_of(alloc, &matches)?),
+        Err(error) => Err(error),
+    }
+}
+
+/// The error that there is no command.
+fn no_command(program: &mut Command<'_>) -> Error {
+    match program.error(ErrorKind::MissingSubcommand, "there is nothing to do") {
+        Ok(error) => error,
+        Err(error) => Error::from(error),
+    }
+}
+
 /// What the command-line arguments ask for, the program's name first.
 ///
 /// # Errors
@@ -82,11 +110,9 @@ fn task<'a>(
 /// They ask for help or the version, or are no command of the program, or there is no memory.
 pub fn parse_arguments<'a>(alloc: Global, words: &'a [String]) -> Result<Task<'a>, Error> {
     let mut program = program(alloc)?;
-    let matches = program.try_get_matches_from_mut(words)?;
-    if let Some((name, matches)) = matches.subcommand() {
-        if let Some(task) = task(alloc, name, matches)? {
-            return Ok(task);
-        }
+    match asked_of(alloc, &mut program, words) {
+        Ok(Some(task)) => Ok(task),
+        Ok(None) => Err(no_command(&mut program)),
+        Err(error) => Err(error),
     }
-    Err(program.error(ErrorKind::MissingSubcommand, "there is nothing to do")?)
 }

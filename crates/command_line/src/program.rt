@@ -79,30 +79,70 @@ fn names<'a>(alloc: Global) -> Arg<'a> {
         .help("Hold each latch with this name in its place; may be given more than once")
 }
 
+/// A command with one more argument, where there was memory for the command.
+fn with<'a>(
+    command: Result<Command<'a>, AllocError>,
+    argument: Arg<'a>,
+) -> Result<Command<'a>, AllocError> {
+    command?.arg(argument)
+}
+
+/// The same for an argument that takes memory to make.
+fn with_made<'a>(
+    command: Result<Command<'a>, AllocError>,
+    argument: Result<Arg<'a>, AllocError>,
+) -> Result<Command<'a>, AllocError> {
+    match argument {
+        Ok(argument) => with(command, argument),
+        Err(error) => Err(error),
+    }
+}
+
+/// A program with one more command, where there was memory for both.
+fn with_command<'a>(
+    program: Result<Command<'a>, AllocError>,
+    command: Result<Command<'a>, AllocError>,
+) -> Result<Command<'a>, AllocError> {
+    match program {
+        Ok(program) => program.subcommand(command?),
+        Err(error) => Err(error),
+    }
+}
+
 fn with_files<'a>(alloc: Global, command: Command<'a>) -> Result<Command<'a>, AllocError> {
-    command
-        .arg(path(alloc, "IN", "The AIGER file to read"))?
-        .arg(path(alloc, "OUT", "The AIGER file to write"))
+    let command = command.arg(path(alloc, "IN", "The AIGER file to read"));
+    with(command, path(alloc, "OUT", "The AIGER file to write"))
 }
 
-fn with_spelling<'a>(alloc: Global, command: Command<'a>) -> Result<Command<'a>, AllocError> {
-    let ascii = flag(alloc, "ascii", "Write ASCII").conflicts_with("binary")?;
-    command
-        .arg(ascii)?
-        .arg(flag(alloc, "binary", "Write binary"))
+fn with_spelling<'a>(
+    alloc: Global,
+    command: Result<Command<'a>, AllocError>,
+) -> Result<Command<'a>, AllocError> {
+    let ascii = flag(alloc, "ascii", "Write ASCII").conflicts_with("binary");
+    let binary = flag(alloc, "binary", "Write binary");
+    with(with_made(command, ascii), binary)
 }
 
-fn with_limits<'a>(alloc: Global, command: Command<'a>) -> Result<Command<'a>, AllocError> {
-    command
-        .arg(number(alloc, "workers", 64, "1", "Threads that work on the flow"))?
-        .arg(number(
-            alloc,
-            "frames",
-            1 << 28,
-            "268435456",
-            "The most frames to take",
-        ))?
-        .arg(names(alloc))
+fn workers<'a>(alloc: Global) -> Arg<'a> {
+    number(alloc, "workers", 64, "1", "Threads that work on the flow")
+}
+
+fn frames<'a>(alloc: Global) -> Arg<'a> {
+    number(
+        alloc,
+        "frames",
+        1 << 28,
+        "268435456",
+        "The most frames to take",
+    )
+}
+
+fn with_limits<'a>(
+    alloc: Global,
+    command: Result<Command<'a>, AllocError>,
+) -> Result<Command<'a>, AllocError> {
+    let command = with(command, workers(alloc));
+    with(with(command, frames(alloc)), names(alloc))
 }
 
 fn retime<'a>(alloc: Global) -> Result<Command<'a>, AllocError> {
@@ -111,7 +151,7 @@ fn retime<'a>(alloc: Global) -> Result<Command<'a>, AllocError> {
         .long_about(RETIME_LONG_ABOUT)
         .after_help(RETIME_EXAMPLE)
         .arg_required_else_help(true);
-    with_limits(alloc, with_spelling(alloc, with_files(alloc, command)?)?)
+    with_limits(alloc, with_spelling(alloc, with_files(alloc, command)))
 }
 
 fn stat<'a>(alloc: Global) -> Result<Command<'a>, AllocError> {
@@ -126,30 +166,33 @@ fn convert<'a>(alloc: Global) -> Result<Command<'a>, AllocError> {
     let command = Command::new(alloc, "convert")
         .about("Writes a circuit as it was read; without a flag in the other spelling")
         .arg_required_else_help(true);
-    with_spelling(alloc, with_files(alloc, command)?)
+    with_spelling(alloc, with_files(alloc, command))
 }
 
 fn sim<'a>(alloc: Global) -> Result<Command<'a>, AllocError> {
-    Command::new(alloc, "sim")
+    let command = Command::new(alloc, "sim")
         .about("Prints the values of all properties under a stimulus")
         .after_help(SIM_EXAMPLE)
         .arg_required_else_help(true)
-        .arg(path(alloc, "IN", "The AIGER file to read"))?
-        .arg(path(alloc, "STIM", "The stimulus"))
+        .arg(path(alloc, "IN", "The AIGER file to read"));
+    with(command, path(alloc, "STIM", "The stimulus"))
 }
 
 fn same<'a>(alloc: Global) -> Result<Command<'a>, AllocError> {
-    Command::new(alloc, "same")
+    let command = Command::new(alloc, "same")
         .about("Finds the first difference of two circuits under a stimulus")
         .after_help(SAME_EXAMPLE)
         .arg_required_else_help(true)
-        .arg(path(alloc, "A", "The first AIGER file"))?
-        .arg(path(alloc, "B", "The second AIGER file"))?
-        .arg(path(alloc, "STIM", "The stimulus, with the widths of A"))
+        .arg(path(alloc, "A", "The first AIGER file"));
+    let command = with(command, path(alloc, "B", "The second AIGER file"));
+    with(
+        command,
+        path(alloc, "STIM", "The stimulus, with the widths of A"),
+    )
 }
 
-/// The program's commands.
-pub(crate) fn program<'a>(alloc: Global) -> Result<Command<'a>, AllocError> {
+/// The program without its commands.
+fn bare_program<'a>(alloc: Global) -> Command<'a> {
     Command::new(alloc, "fretime")
         .version("0.1.0")
         .about(ABOUT)
@@ -157,9 +200,13 @@ pub(crate) fn program<'a>(alloc: Global) -> Result<Command<'a>, AllocError> {
         .after_help(EXAMPLE)
         .subcommand_required(true)
         .arg_required_else_help(true)
-        .subcommand(retime(alloc)?)?
-        .subcommand(stat(alloc)?)?
-        .subcommand(convert(alloc)?)?
-        .subcommand(sim(alloc)?)?
-        .subcommand(same(alloc)?)
+}
+
+/// The program's commands.
+pub(crate) fn program<'a>(alloc: Global) -> Result<Command<'a>, AllocError> {
+    let program = with_command(Ok(bare_program(alloc)), retime(alloc));
+    let program = with_command(program, stat(alloc));
+    let program = with_command(program, convert(alloc));
+    let program = with_command(program, sim(alloc));
+    with_command(program, same(alloc))
 }

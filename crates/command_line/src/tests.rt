@@ -28,9 +28,19 @@ fn asks_for_retiming(alloc: Global, words: &[String]) -> bool {
     }
 }
 
+/// The same of words that aren't strings yet.
+fn texts_ask_for_retiming(alloc: Global, words: &[&str]) -> Result<bool, AllocError> {
+    let words = strings(alloc, words)?;
+    Ok(asks_for_retiming(alloc, words.as_slice()))
+}
+
 #[test]
 fn reads_all_options(rt: HostRuntime) -> Result<(), Fail> {
-    let options = [
+    let words = [
+        "fretime",
+        "retime",
+        "a",
+        "b",
         "--binary",
         "--workers",
         "64",
@@ -39,11 +49,8 @@ fn reads_all_options(rt: HostRuntime) -> Result<(), Fail> {
         "x",
         "--keep=",
     ];
-    let mut words = strings(rt.alloc(), &["fretime", "retime", "a", "b"])?;
-    for option in options {
-        words.push(String::from_str(rt.alloc(), option)?)?;
-    }
-    assert!(rt; asks_for_retiming(rt.alloc(), words.as_slice()));
+    let asked = texts_ask_for_retiming(rt.alloc(), &words)?;
+    assert!(rt; asked);
     Ok(())
 }
 
@@ -55,12 +62,16 @@ fn is_refused(alloc: Global, words: &[String]) -> bool {
     }
 }
 
+/// The same of words that aren't strings yet.
+fn texts_are_refused(alloc: Global, words: &[&str]) -> Result<bool, AllocError> {
+    let words = strings(alloc, words)?;
+    Ok(is_refused(alloc, words.as_slice()))
+}
+
 #[test]
 fn refuses_both_spellings(rt: HostRuntime) -> Result<(), Fail> {
-    let words = strings(
-        rt.alloc(),
-        &["fretime", "convert", "a", "b", "--ascii", "--binary"],
-    )?;
-    assert!(rt; is_refused(rt.alloc(), words.as_slice()));
+    let words = ["fretime", "convert", "a", "b", "--ascii", "--binary"];
+    let refused = texts_are_refused(rt.alloc(), &words)?;
+    assert!(rt; refused);
     Ok(())
 }

@@ -40,6 +40,20 @@ fn compare<'a, R: Threads + Sync>(
     }
 }
 
+/// Compares two circuits under the stimulus of a file.
+fn compared_under<'a, R: Files + Threads + Sync>(
+    rt: &R,
+    alloc: Global,
+    first: &Circuit,
+    second: &Circuit,
+    stimulus: &'a str,
+) -> Result<Finding, Failure<'a>> {
+    match stimulus_at(rt, alloc, stimulus, first) {
+        Ok(stimulus) => compare(rt, alloc, first, second, &stimulus),
+        Err(failure) => Err(failure),
+    }
+}
+
 /// Compares the first circuit with that of a file.
 fn compared_with<'a, R: Files + Threads + Sync>(
     rt: &R,
@@ -48,9 +62,10 @@ fn compared_with<'a, R: Files + Threads + Sync>(
     second: &'a str,
     stimulus: &'a str,
 ) -> Result<Finding, Failure<'a>> {
-    let second = circuit_at(rt, alloc, second)?.circuit;
-    let stimulus = stimulus_at(rt, alloc, stimulus, first)?;
-    compare(rt, alloc, first, &second, &stimulus)
+    match circuit_at(rt, alloc, second) {
+        Ok(second) => compared_under(rt, alloc, first, &second.circuit, stimulus),
+        Err(failure) => Err(failure),
+    }
 }
 
 fn compared<'a, R: Files + Threads + Sync>(
@@ -60,8 +75,10 @@ fn compared<'a, R: Files + Threads + Sync>(
     second: &'a str,
     stimulus: &'a str,
 ) -> Result<Finding, Failure<'a>> {
-    let first = circuit_at(rt, alloc, first)?.circuit;
-    compared_with(rt, alloc, &first, second, stimulus)
+    match circuit_at(rt, alloc, first) {
+        Ok(first) => compared_with(rt, alloc, &first.circuit, second, stimulus),
+        Err(failure) => Err(failure),
+    }
 }
 
 fn print_finding<'a, O: CountedWrite>(finding: Finding, out: &mut O) -> Result<Outcome, Failure<'a>>

@@ -24,6 +24,19 @@ fn trace<'a, R: Threads + Sync>(
     }
 }
 
+/// The trace of a circuit under the stimulus of a file.
+fn trace_under<'a, R: Files + Threads + Sync>(
+    rt: &R,
+    alloc: Global,
+    circuit: &Circuit,
+    stimulus: &'a str,
+) -> Result<Trace, Failure<'a>> {
+    match stimulus_at(rt, alloc, stimulus, circuit) {
+        Ok(stimulus) => trace(rt, alloc, circuit, &stimulus),
+        Err(failure) => Err(failure),
+    }
+}
+
 /// The trace of a file's circuit under the stimulus of another.
 fn simulated<'a, R: Files + Threads + Sync>(
     rt: &R,
@@ -31,9 +44,10 @@ fn simulated<'a, R: Files + Threads + Sync>(
     input: &'a str,
     stimulus: &'a str,
 ) -> Result<Trace, Failure<'a>> {
-    let circuit = circuit_at(rt, alloc, input)?.circuit;
-    let stimulus = stimulus_at(rt, alloc, stimulus, &circuit)?;
-    trace(rt, alloc, &circuit, &stimulus)
+    match circuit_at(rt, alloc, input) {
+        Ok(spelt) => trace_under(rt, alloc, &spelt.circuit, stimulus),
+        Err(failure) => Err(failure),
+    }
 }
 
 /// Prints the trace of a file's circuit under the stimulus of another.

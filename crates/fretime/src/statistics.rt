@@ -17,15 +17,16 @@ fn passable_gates(alloc: Global, circuit: &Circuit) -> Result<u32, NoMemory> {
     Ok(pass.count())
 }
 
-/// A file's circuit, and the number of its passable gates.
-fn counted<'a, R: Files>(
-    rt: &R,
+/// Prints what a circuit has.
+fn print_circuit<'a, O: CountedWrite>(
     alloc: Global,
-    input: &'a str,
-) -> Result<(Circuit, u32), Failure<'a>> {
-    let circuit = circuit_at(rt, alloc, input)?.circuit;
-    match passable_gates(alloc, &circuit) {
-        Ok(passable) => Ok((circuit, passable)),
+    circuit: &Circuit,
+    out: &mut O,
+) -> Result<Outcome, Failure<'a>>
+    ensures { Prints (ending result) (O.output out.old) (O.output out.new) }
+{
+    match passable_gates(alloc, circuit) {
+        Ok(passable) => ended(print_counts(circuit, passable, out), Outcome::Done),
         Err(_) => Err(Failure::Memory),
     }
 }
@@ -39,6 +40,8 @@ pub fn print_statistics<'a, R: Files, O: CountedWrite>(
 ) -> Result<Outcome, Failure<'a>>
     ensures { Prints (ending result) (O.output out.old) (O.output out.new) }
 {
-    let (circuit, passable) = counted(rt, alloc, input)?;
-    ended(print_counts(&circuit, passable, out), Outcome::Done)
+    match circuit_at(rt, alloc, input) {
+        Ok(spelt) => print_circuit(alloc, &spelt.circuit, out),
+        Err(failure) => Err(failure),
+    }
 }
