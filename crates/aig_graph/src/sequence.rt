@@ -5,9 +5,17 @@ use std::marker::Model;
 
 /// A list of values: a `Vec` that contracts see as a list, so that two sequences are equal where their elements are,
 /// whatever room they have. It is made from a `Vec` and given back without taking memory.
-#[derive(Drop)]
 pub struct Sequence<T> {
     elements: Vec<T>,
+}
+
+impl<T: Drop> Drop for Sequence<T> {
+    // written out so that a value with many sequences is dropped in one step each, and not by the parts of each vector
+    fn drop(self) {
+        let Sequence {
+            elements: _elements,
+        } = self;
+    }
 }
 
 impl<T> Model for Sequence<T> {

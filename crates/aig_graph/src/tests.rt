@@ -92,11 +92,17 @@ fn refuses_too_many_variables(rt: HostRuntime) {
     assert_eq!(rt; refused, Some(BuildError::TooLarge));
 }
 
+/// The size of the border of the gate alone.
+fn border_of_the_gate(alloc: Global) -> Result<Option<u32>, BuildError> {
+    let vars = Vec::from_array(alloc, [5])?;
+    let circuit = example(alloc)?;
+    Ok(counted(alloc, &circuit, vars))
+}
+
 #[test]
 fn counts_the_border_of_a_gate(rt: HostRuntime) -> Result<(), Fail> {
-    let circuit = example(rt.alloc())?;
-    let vars = Vec::from_array(rt.alloc(), [5])?;
-    assert_eq!(rt; counted(rt.alloc(), &circuit, vars), Some(1));
+    let border = border_of_the_gate(rt.alloc())?;
+    assert_eq!(rt; border, Some(1));
     Ok(())
 }
 
@@ -107,19 +113,33 @@ fn refuses_a_list_that_does_not_rise(rt: HostRuntime) -> Result<(), Fail> {
     Ok(())
 }
 
+/// The name of the second latch.
+fn second_name(alloc: Global) -> Result<Symbol, NoMemory> {
+    let name = Vec::from_array(alloc, [b'a'])?;
+    Ok(Symbol {
+        position: 1,
+        name: Sequence::from_vec(name),
+    })
+}
+
+/// The same name for the first latch, and no other.
+fn one_name(alloc: Global) -> Result<Symbols, NoMemory> {
+    let name = second_name(alloc)?;
+    let latches = Vec::from_array(alloc, [name.at(alloc, 0)?])?;
+    Symbols::none(alloc).with_latches(alloc, Sequence::from_vec(latches))
+}
+
+/// Whether the first latch alone has that name.
+fn names_the_first_latch(names: &Symbols) -> bool {
+    names.inputs.is_empty()
+        && names.latches.as_slice().first().is_some_and(|latch| latch.position == 0
+            && latch.name.as_slice() == b"a".as_slice())
+}
+
 /// Whether a copy with one name of a latch has that name, at the position that it was given.
 fn has_the_name_it_was_given(alloc: Global) -> Result<bool, NoMemory> {
-    let name = Symbol {
-        position: 1,
-        name: Sequence::from_vec(Vec::from_array(alloc, [b'a'])?),
-    };
-    let latches = Vec::from_array(alloc, [name.at(alloc, 0)?])?;
-    let names = Symbols::none(alloc).with_latches(alloc, Sequence::from_vec(latches))?;
-    Ok(
-        names.inputs.is_empty()
-            && names.latches.as_slice().first().is_some_and(|latch| latch.position == 0
-                && latch.name.as_slice() == b"a".as_slice()),
-    )
+    let names = one_name(alloc)?;
+    Ok(names_the_first_latch(&names))
 }
 
 #[test]
@@ -128,19 +148,29 @@ fn copies_names(rt: HostRuntime) -> Result<(), Fail> {
     Ok(())
 }
 
+/// Whether no latch of the example is held where no names are given.
+fn holds_no_latch(alloc: Global) -> Result<bool, BuildError> {
+    let circuit = example(alloc)?;
+    Ok(keep_of(alloc, &circuit, &[]).is_ok_and(|keep| keep.positions().is_empty()))
+}
+
 #[test]
 fn holds_no_latch_without_names(rt: HostRuntime) -> Result<(), Fail> {
-    let circuit = example(rt.alloc())?;
-    let keep = keep_of(rt.alloc(), &circuit, &[]);
-    assert!(rt; keep.is_ok_and(|keep| keep.positions().is_empty()));
+    let none = holds_no_latch(rt.alloc())?;
+    assert!(rt; none);
     Ok(())
+}
+
+/// Why the example has no latch of a name.
+fn refused_name(alloc: Global) -> Result<Option<KeepError>, BuildError> {
+    let name = Vec::from_array(alloc, [b'a'])?;
+    let circuit = example(alloc)?;
+    Ok(keep_of(alloc, &circuit, &[name]).err())
 }
 
 #[test]
 fn refuses_a_name_that_no_latch_has(rt: HostRuntime) -> Result<(), Fail> {
-    let circuit = example(rt.alloc())?;
-    let name = Vec::from_array(rt.alloc(), [b'a'])?;
-    let refused = keep_of(rt.alloc(), &circuit, &[name]).err();
+    let refused = refused_name(rt.alloc())?;
     assert_eq!(rt; refused, Some(KeepError::NoSuchName(0)));
     Ok(())
 }
