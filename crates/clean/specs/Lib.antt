@@ -1,3 +1,4 @@
 pub mod Substitutions
 pub mod Firsts
 pub mod Sweep
+pub mod Passes

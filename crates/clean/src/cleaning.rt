@@ -1,7 +1,9 @@
 ghost use Rattle.std.specs.Prelude.{◌≡◌, ◌<◌, All, IfOk, length, map, slice_index};
+ghost use Rattle.aig_graph.specs.Graph.{free_latches};
 ghost use Rattle.aig_graph.specs.Streams.{SameStreams};
 ghost use Rattle.aig_graph.specs.Laws.{composed};
 ghost use Rattle.clean_laws.specs.Cleaned.{Cleans};
+ghost use Rattle.clean.specs.Passes.{IsPassAfter};
 
 use crate::pass::{Pass, run_pass};
 use aig_graph::{Circuit, Keep, NoMemory, Sequence};
@@ -33,6 +35,45 @@ pub fn composed(alloc: Global, first: &[u32], second: &[u32]) -> Result<Vec<u32>
     Ok(places)
 }
 
+/// The pass after a pass. Where the places of the last pass are counted among the free latches of an earlier circuit, so are
+/// those of this one.
+fn pass_after(alloc: Global, last: &Pass) -> Result<Pass, NoMemory>
+    requires in_range { All (λ j. j < length last.now.circuit.aig.latches) last.now.held.items }
+    requires places { length last.now.kept_free.items ≡ free_latches last.now.circuit.aig }
+    ensures { IfOk result (λ next. IsPassAfter last.now.held.items last.now.circuit next.circuit
+        last.now.kept_free.items next.kept_free.items next.held.items) }
+{
+    let mut next = run_pass(alloc, &last.circuit, last.held.as_slice())?;
+    next.kept_free = composed(alloc, last.kept_free.as_slice(), next.kept_free.as_slice())?;
+    Ok(next)
+}
+
+/// The pass after a pass that isn't needed any more.
+fn next_pass(alloc: Global, last: Pass) -> Result<Pass, NoMemory>
+    requires in_range { All (λ j. j < length last.circuit.aig.latches) last.held.items }
+    requires places { length last.kept_free.items ≡ free_latches last.circuit.aig }
+    ensures { IfOk result (λ next. IsPassAfter last.held.items last.circuit next.circuit
+        last.kept_free.items next.kept_free.items next.held.items) }
+{
+    pass_after(alloc, &last)
+}
+
+/// What the last pass leaves.
+fn cleaned_by(last: Pass) -> Cleaned
+    ensures circuit { result.circuit ≡ last.circuit }
+    ensures kept_free { result.kept_free ≡ last.kept_free.items }
+{
+    let Pass {
+        circuit,
+        kept_free,
+        ..
+    } = last;
+    Cleaned {
+        circuit,
+        kept_free: Sequence::from_vec(kept_free),
+    }
+}
+
 /// A circuit without its redundant latches and gates, cleaned pass after pass until a pass changes nothing.
 ///
 /// In a pass a latch that never leaves its reset becomes that constant, and a latch with the next literal and the known
@@ -51,17 +92,7 @@ pub fn clean(alloc: Global, circuit: &Circuit, keep: &Keep) -> Result<Cleaned, N
     let mut last = run_pass(alloc, circuit, keep.positions())?;
     while last.circuit.aig().latches_and_gates() < before {
         before = last.circuit.aig().latches_and_gates();
-        let next = run_pass(alloc, &last.circuit, last.held.as_slice())?;
-        let kept_free = composed(alloc, last.kept_free.as_slice(), next.kept_free.as_slice())?;
-        last = Pass { kept_free, ..next };
+        last = next_pass(alloc, last)?;
     }
-    let Pass {
-        circuit,
-        kept_free,
-        ..
-    } = last;
-    Ok(Cleaned {
-        circuit,
-        kept_free: Sequence::from_vec(kept_free),
-    })
+    Ok(cleaned_by(last))
 }

@@ -1,5 +1,6 @@
 ghost use Rattle.std.specs.Prelude.{◌≡◌, ◌<◌, All, IfOk, length};
 ghost use Rattle.aig_graph.specs.Graph.{IsGraph};
+ghost use Rattle.aig_graph.specs.Streams.{SameStreams};
 ghost use Rattle.clean_laws.specs.Merged.{merged_of};
 ghost use Rattle.clean_laws.specs.Reached.{AreReached};
 ghost use Rattle.clean_laws.specs.Cleaned.{IsPass};
@@ -39,9 +40,9 @@ fn trimmed(
 {
     let symbols = circuit.symbols();
     let trim = Trim::new(alloc, &merged.aig, reached)?;
-    let circuit = trim.circuit(alloc, &merged.props, symbols)?;
     let kept_free = trim.kept_free(alloc)?;
     let held = trim.new_positions(alloc, held)?;
+    let circuit = trim.circuit(alloc, &merged.props, symbols)?;
     Ok(Pass {
         circuit,
         kept_free,
@@ -52,7 +53,8 @@ fn trimmed(
 /// One pass over a circuit, with the latches at these positions held.
 pub(crate) fn run_pass(alloc: Global, circuit: &Circuit, held: &[u32]) -> Result<Pass, NoMemory>
     requires { All (λ j. j < length circuit.now.aig.latches) held.now }
-    ensures { IfOk result (λ pass. IsPass held.now circuit.now pass.circuit pass.kept_free.items pass.held.items) }
+    ensures pass { IfOk result (λ pass. IsPass held.now circuit.now pass.circuit pass.kept_free.items pass.held.items) }
+    ensures streams { IfOk result (λ pass. SameStreams circuit.now pass.circuit pass.kept_free.items) }
 {
     let marks = Held::new(alloc, held, circuit.aig().latches().len())?;
     let merged = merged_of(alloc, circuit, &marks)?;

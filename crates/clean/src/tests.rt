@@ -29,14 +29,23 @@ fn redundant(alloc: Global) -> Result<Aig, BuildError>
     Ok(builder.finish())
 }
 
-fn cleaned(alloc: Global) -> Result<Cleaned, BuildError> {
-    let aig = redundant(alloc)?;
+/// The circuit of these, whose output is the last gate.
+fn redundant_circuit(alloc: Global) -> Result<Circuit, BuildError> {
     let outputs = Vec::from_array(alloc, [Lit::new(6, false)])?;
-    let circuit = Circuit::new(aig, Props::of_outputs(alloc, outputs), Symbols::none(alloc));
-    match clean(alloc, &circuit, &Keep::none()) {
+    let aig = redundant(alloc)?;
+    Ok(Circuit::new(aig, Props::of_outputs(alloc, outputs), Symbols::none(alloc)))
+}
+
+fn cleaned_of(alloc: Global, circuit: &Circuit) -> Result<Cleaned, BuildError> {
+    match clean(alloc, circuit, &Keep::none()) {
         Ok(cleaned) => Ok(cleaned),
         Err(_) => Err(BuildError::NoMemory),
     }
+}
+
+fn cleaned(alloc: Global) -> Result<Cleaned, BuildError> {
+    let circuit = redundant_circuit(alloc)?;
+    cleaned_of(alloc, &circuit)
 }
 
 /// Whether one latch that reads the input is left, and is the output.
