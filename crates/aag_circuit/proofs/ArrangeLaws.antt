@@ -7,7 +7,7 @@ use Rattle.aig_graph.specs.declared.graph.Gate.{Gate}
 use Rattle.aig_graph.specs.declared.graph.Latch.{Latch}
 use Rattle.aig_graph.specs.declared.properties.Symbols.{Symbols}
 use Rattle.aig_graph.specs.Graph.{Graph, IsGraph, IsLiteralOf, variable}
-use Rattle.aig_graph.specs.Circuits.{IsNetwork}
+use Rattle.aig_graph.specs.Circuits.{Network, IsNetwork}
 use Rattle.aig_graph.specs.declared.properties.Props.{Props}
 use Rattle.gate_order.specs.Order.{IsOrder, ordered, AreReadsInFile, ReadsBelow}
 use Rattle.gate_order.proofs.OrderLaws.{ordered_law}
@@ -17,7 +17,7 @@ use Rattle.file_parts.specs.Parts.{AreNamesWithin}
 use Rattle.file_parts.proofs.PartLaws.{network_within}
 use Rattle.aag_circuit.specs.Numbering.{PlacedLists}
 use Rattle.aag_circuit.specs.Arranging.{AreRanks, AreMovable, IsBelow, IsGateBelow, gate_read, reads_of, order_or_cycle, moved, moved_latch, gates_in_order, graph_in_order}
-use Rattle.aag_circuit.specs.Resolving.{ArePlaced, placed_reads, arranged}
+use Rattle.aag_circuit.specs.Resolving.{ArePlaced, IsArranged, placed_reads, arranged}
 use Rattle.aag_circuit.proofs.GraphLaws.{movable, distinct, graph_is, ends, all_moved_below}
 
 module _ (h : Header) (sizes : List ℕ) (p : PlacedLists) (order ranks : List ℕ) (placed : ArePlaced h sizes p) (is : IsOrder (placed_reads h p) order) (are : AreRanks order ranks) where
@@ -85,12 +85,16 @@ module _ (h : Header) (sizes : List ℕ) (p : PlacedLists) (order ranks : List �
       }) within
 
 -- the parts of a circuit that were made from a slice of the ranks
-pub network_parts : (h : Header) (sizes : List ℕ) (p : PlacedLists) (order ranks slice : List ℕ) → ArePlaced h sizes p → IsOrder (placed_reads h p) order → AreRanks order ranks → slice ≡ ranks
-    → (names : Symbols) → AreNamesWithin h names → (g : Graph) (props : Props) (symbols : Symbols) → g ≡ graph_in_order h.inputs p.latches p.gates order slice
-    → props ≡ props_of h (map (moved (1 + h.inputs + h.latches) slice) p.safety) sizes (map (moved (1 + h.inputs + h.latches) slice) p.liveness) → symbols ≡ names
-    → IsNetwork (record { aig = g; props = props; symbols = symbols })
-network_parts h sizes p order ranks slice placed is are same names within g props symbols a b d =
-    rw (a, b, d, same) (network_by h sizes p order ranks placed is are names within)
+pub arranged_parts : (h : Header) (sizes : List ℕ) (p : PlacedLists) (order ranks slice : List ℕ) → AreRanks order ranks → slice ≡ ranks
+    → (g : Graph) (props : Props) → g ≡ graph_in_order h.inputs p.latches p.gates order slice
+    → props ≡ props_of h (map (moved (1 + h.inputs + h.latches) slice) p.safety) sizes (map (moved (1 + h.inputs + h.latches) slice) p.liveness)
+    → (names : Symbols) → IsArranged h sizes p names order (record { aig = g; props = props; symbols = names })
+arranged_parts h sizes p order ranks slice are same g props a b names = record { ranks = ranks; are_ranks = are; circuit = rw (a, b, same) refl }
+
+-- an arranged circuit is one
+pub network_arranged : (h : Header) (sizes : List ℕ) (p : PlacedLists) (order : List ℕ) → ArePlaced h sizes p → IsOrder (placed_reads h p) order
+    → (names : Symbols) → AreNamesWithin h names → (c : Network) → IsArranged h sizes p names order c → IsNetwork c
+network_arranged h sizes p order placed is names within c at = subst IsNetwork (sym at.circuit) (network_by h sizes p order at.ranks placed is at.are_ranks names within)
 
 -- the order that was found
 order_found : (o : Option (List ℕ)) (order : List ℕ) → order_or_cycle o ≡ Ok order → o ≡ Some order

@@ -1,4 +1,6 @@
 ghost use Rattle.std.specs.Prelude.{ℕ, List, ◌≡◌, ◌+◌, ◌≤◌, ◌^◌, ◌↔◌, length, map, All, IsTrue, IfOk, IfErr};
+ghost use Rattle.aig_graph.specs.declared.properties.Symbols.{Symbols};
+ghost use Rattle.aig_graph.specs.Circuits.{IsNetwork};
 ghost use Rattle.gate_order.specs.Order.{IsOrder, ordered};
 ghost use Rattle.aag_file.specs.Raw.{RawSymbol};
 ghost use Rattle.aag_file.specs.Headers.{IsHeaderWithin};
@@ -61,6 +63,41 @@ fn properties(
     props(alloc, header, safety.as_slice(), sizes, liveness.as_slice())
 }
 
+/// A circuit before its names.
+#[derive(Drop)]
+struct Unnamed {
+    aig: Aig,
+    props: Props,
+}
+
+/// The circuit with its gates in this order, before its names.
+fn without_names(
+    alloc: Global,
+    header: &Header,
+    sizes: &[u32],
+    placed: &Placed,
+    order: &[u32],
+) -> Result<Unnamed, NoMemory>
+    requires placed { ArePlaced header.now sizes.now placed.now }
+    requires order { IsOrder (placed_reads header.now placed.now) order.now }
+    ensures { IfOk result (λ circuit. (names : Symbols) → IsArranged header.now sizes.now placed.now names order.now (record { aig = circuit.aig; props = circuit.props; symbols = names })) }
+{
+    let ranks = ranks(alloc, order)?;
+    let ranks = ranks.as_slice();
+    let aig = graph(alloc, header, sizes, placed, order, ranks)?;
+    let props = properties(alloc, header, sizes, placed, order, ranks)?;
+    Ok(Unnamed { aig, props })
+}
+
+/// The circuit of a graph and its properties, with these names.
+fn named(alloc: Global, aig: Aig, props: Props, names: Names) -> Result<Circuit, NoMemory>
+    requires { IsNetwork (record { aig = aig; props = props; symbols = names }) }
+    ensures { IfOk result (λ circuit. circuit ≡ record { aig = aig; props = props; symbols = names }) }
+{
+    let symbols = names.into_symbols(alloc)?;
+    Ok(Circuit::new(aig, props, symbols))
+}
+
 /// The circuit with its gates in this order.
 fn circuit(
     alloc: Global,
@@ -75,12 +112,10 @@ fn circuit(
     requires names { AreNamesWithin header.now names }
     ensures { IfOk result (λ circuit. IsArranged header.now sizes.now placed.now names order.now circuit) }
 {
-    let ranks = ranks(alloc, order)?;
-    let ranks = ranks.as_slice();
-    let aig = graph(alloc, header, sizes, placed, order, ranks)?;
-    let props = properties(alloc, header, sizes, placed, order, ranks)?;
-    let symbols = names.into_symbols(alloc)?;
-    Ok(Circuit::new(aig, props, symbols))
+    match without_names(alloc, header, sizes, placed, order) {
+        Ok(Unnamed { aig, props }) => named(alloc, aig, props, names),
+        Err(fault) => Err(fault),
+    }
 }
 
 /// The circuit, or `Cycle`.

@@ -1,7 +1,8 @@
-ghost use Rattle.std.specs.Prelude.{◌≡◌, ◌⊎◌, Ok, IfOk, IfErr};
+ghost use Rattle.std.specs.Prelude.{ℕ, List, ◌≡◌, ◌⊎◌, ◌++◌, Ok, IfOk, IfErr};
 ghost use Rattle.aag_format.specs.declared.fault.ReadError.TheVariants.{NoMemory};
 ghost use Rattle.aag_file.specs.Reading as reading;
 ghost use Rattle.aag_file.specs.Answering.{Gives};
+ghost use Rattle.aag_reader.specs.Readers.{Holds};
 
 use crate::reader::AagReader;
 use aag_format::ReadError;
@@ -25,6 +26,13 @@ fn read(alloc: Global, bytes: &[u8]) -> Result<Circuit, ReadError>
     ensures { Gives (λ circuit. circuit) result (reading.read_bytes bytes.now) }
 {
     let mut reader = AagReader::new(alloc);
+    read_rest(&mut reader, bytes)
+}
+
+/// The circuit of a file that ends with these bytes.
+fn read_rest(reader: &mut AagReader, bytes: &[u8]) -> Result<Circuit, ReadError>
+    ensures { (before : List ℕ) → Holds reader.old before → Gives (λ circuit. circuit) result (reading.read_bytes (before ++ bytes.now)) }
+{
     reader.feed(bytes)?;
     reader.finish()
 }

@@ -67,7 +67,7 @@ impl AagReader {
     {
         let answer = self.take(piece);
         if let Err(fault) = &answer {
-            self.phase = Phase::Failed(*fault);
+            self.enter(Phase::Failed(*fault));
         }
         answer
     }
@@ -87,7 +87,7 @@ impl AagReader {
         let phase = mem::replace(&mut self.phase, Phase::Failed(ReadError::BadHeader(0)));
         let circuit = end(self.alloc, phase, self.taken);
         if let Err(fault) = &circuit {
-            self.phase = Phase::Failed(*fault);
+            self.enter(Phase::Failed(*fault));
         }
         circuit
     }
@@ -103,7 +103,7 @@ impl AagReader {
                 let begun = begin(self.alloc, line, taken, piece)?;
                 self.taken = taken;
                 if let Some(items) = begun {
-                    self.phase = Phase::Items(items);
+                    self.enter(Phase::Items(items));
                 }
                 Ok(())
             }
@@ -115,6 +115,13 @@ impl AagReader {
             }
             Phase::Failed(fault) => Err(*fault),
         }
+    }
+
+    /// Goes on in this phase; the one before is dropped.
+    fn enter(&mut self, phase: Phase)
+        ensures { self.new ≡ record self.old { phase = phase } }
+    {
+        self.phase = phase;
     }
 }
 

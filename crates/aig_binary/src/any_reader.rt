@@ -7,6 +7,7 @@ use aig_reader::AigReader;
 use arrayvec::ArrayVec;
 use spellings::Spelling;
 use std::alloc::Global;
+use std::mem;
 
 /// How far a file has come.
 #[derive(Drop)]
@@ -74,7 +75,7 @@ impl AnyReader {
         match &mut self.phase {
             Phase::Letters(letters) => {
                 let Begun { phase, answer } = begin(self.alloc, letters.as_slice(), piece);
-                self.phase = phase;
+                self.enter(phase);
                 answer
             }
             Phase::InAscii(reader) => reader.feed(piece),
@@ -100,10 +101,18 @@ impl AnyReader {
             Phase::InAscii(reader) => reader.finish(),
             Phase::InBinary(reader) => reader.finish(),
             Phase::Letters(_) => {
-                self.phase = Phase::Neither;
+                self.enter(Phase::Neither);
                 Err(ReadError::BadHeader(0))
             }
             Phase::Neither => Err(ReadError::BadHeader(0)),
         }
+    }
+
+    /// Goes on in this phase; the one before is dropped.
+    fn enter(&mut self, phase: Phase)
+        ensures { self.new ≡ record self.old { phase = phase } }
+    {
+        // By name: the paths of the drop then stand in functions of their own, and are proved once.
+        drop(mem::replace(&mut self.phase, phase));
     }
 }

@@ -1,5 +1,7 @@
+ghost use Rattle.std.specs.Prelude.{ℕ, List, ◌++◌};
 ghost use Rattle.aag_file.specs.Answering.{Gives};
 ghost use Rattle.spellings.specs.Spellings.{read_any};
+ghost use Rattle.aig_binary.specs.Readers.{Holds};
 
 use crate::any_reader::AnyReader;
 use aag_format::ReadError;
@@ -16,6 +18,16 @@ pub fn read_any(alloc: Global, bytes: &[u8]) -> Result<Circuit, ReadError>
     ensures { Gives (λ circuit. circuit) result (read_any bytes.now) }
 {
     let mut reader = AnyReader::new(alloc);
+    let circuit = read_rest(&mut reader, bytes);
+    // By name: the paths of the drop then stand in functions of their own, and are proved once.
+    drop(reader);
+    circuit
+}
+
+/// The circuit of a file that ends with these bytes.
+fn read_rest(reader: &mut AnyReader, bytes: &[u8]) -> Result<Circuit, ReadError>
+    ensures { (before : List ℕ) → Holds reader.old before → Gives (λ circuit. circuit) result (read_any (before ++ bytes.now)) }
+{
     match reader.feed(bytes) {
         Ok(()) => reader.finish(),
         Err(fault) => Err(fault),

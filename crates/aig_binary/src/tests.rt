@@ -47,20 +47,40 @@ fn circuit_of_pieces(reader: &mut AnyReader, first: &[u8], second: &[u8]) -> Opt
 
 fn read_two_pieces(alloc: Global, first: &[u8], second: &[u8]) -> Option<Circuit> {
     let mut reader = AnyReader::new(alloc);
-    circuit_of_pieces(&mut reader, first, second)
+    let circuit = circuit_of_pieces(&mut reader, first, second);
+    drop(reader);
+    circuit
+}
+
+/// The fault at the end of what a reader took, if there is one.
+fn fault_at_end(reader: &mut AnyReader) -> Option<ReadError> {
+    reader.finish().err()
+}
+
+/// Whether two pieces are read as the circuit of two latches.
+fn reads_two_pieces(alloc: Global, first: &[u8], second: &[u8]) -> bool {
+    let circuit = read_two_pieces(alloc, first, second);
+    let whole = match &circuit {
+        Some(circuit) => is_two_latches(alloc, circuit),
+        None => false,
+    };
+    drop(circuit);
+    whole
 }
 
 /// Whether a reader gives the circuit, and then no other.
 fn ends_after(reader: &mut AnyReader, bytes: &[u8]) -> bool {
     reader.feed(bytes).is_ok()
-        && reader.finish().is_ok()
-        && reader.finish().err() == Some(ReadError::BadHeader(0))
+        && fault_at_end(reader).is_none()
+        && fault_at_end(reader) == Some(ReadError::BadHeader(0))
         && reader.feed(b"\n") == Err(ReadError::BadHeader(0))
 }
 
 fn ends_after_circuit(alloc: Global, bytes: &[u8]) -> bool {
     let mut reader = AnyReader::new(alloc);
-    ends_after(&mut reader, bytes)
+    let ends = ends_after(&mut reader, bytes);
+    drop(reader);
+    ends
 }
 
 /// What is read of a device that gives one byte a read and fails from a number of reads on, and how many reads failed.
@@ -73,6 +93,7 @@ fn read_failing(
     let mut reader = Counted::new(device);
     let mut circuits = AnyReader::new(alloc);
     let spelt = read_circuit(&mut reader, &mut circuits);
+    drop(circuits);
     (spelt, CountedRead::failures(&reader))
 }
 
@@ -82,13 +103,20 @@ fn stops_at_read(alloc: Global, bytes: &[u8], reads: usize) -> bool {
     spelt.err() == Some(ReadError::Device) && failures == 1
 }
 
+/// Whether the circuit of two latches was read.
+fn is_read(alloc: Global, spelt: &Result<SpeltCircuit, ReadError>) -> bool {
+    match spelt {
+        Ok(spelt) => is_two_latches(alloc, &spelt.circuit),
+        Err(_) => false,
+    }
+}
+
 /// Whether the circuit of two latches is read where reads fail only after the one that finds the end.
 fn reads_to_end(alloc: Global, bytes: &[u8]) -> bool {
     let (spelt, failures) = read_failing(alloc, bytes, bytes.len() + 1);
-    match spelt {
-        Ok(spelt) => is_two_latches(alloc, &spelt.circuit) && failures == 0,
-        Err(_) => false,
-    }
+    let whole = is_read(alloc, &spelt);
+    drop(spelt);
+    whole && failures == 0
 }
 
 #[test]
@@ -103,8 +131,7 @@ fn answers_each_beginning(rt: HostRuntime) -> Result<(), Fail> {
 #[test]
 fn reads_a_delta_in_two_pieces(rt: HostRuntime) -> Result<(), Fail> {
     let (first, second) = LONG_DELTA.split_at(22);
-    let circuit = read_two_pieces(rt.alloc(), first, second);
-    assert!(rt; circuit.is_some_and(|circuit| is_two_latches(rt.alloc(), &circuit)));
+    assert!(rt; reads_two_pieces(rt.alloc(), first, second));
     Ok(())
 }
 

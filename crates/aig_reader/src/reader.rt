@@ -1,6 +1,7 @@
-ghost use Rattle.std.specs.Prelude.{◌≡◌};
+ghost use Rattle.std.specs.Prelude.{ℕ, List, ◌≡◌, ◌++◌};
 ghost use Rattle.aag_file.specs.Answering.{Gives};
 ghost use Rattle.aig_file.specs.Reading.{read_binary};
+ghost use Rattle.aig_reader.specs.Holding.{Holds};
 
 use crate::stage::Stage;
 use aag_format::ReadError;
@@ -50,20 +51,20 @@ impl AigReader {
         ensures fails { IfErr result (λ fault. fault_of self.new ≡ Some fault) }
         ensures stays { (fault : ReadError) → fault_of self.old ≡ Some fault → result ≡ Err fault }
     {
-        let stage = mem::replace(&mut self.stage, Stage::Failed(ReadError::NoMemory));
         let Some(end) = self.offset.checked_add(piece.len() as u64) else {
-            let fault = stage.refusal();
-            self.stage = Stage::Failed(fault);
+            let fault = self.stage.refusal();
+            self.enter(Stage::Failed(fault));
             return Err(fault);
         };
+        let stage = mem::replace(&mut self.stage, Stage::Failed(ReadError::NoMemory));
         self.offset = end;
         match stage.feed(self.alloc, end, piece) {
             Ok(stage) => {
-                self.stage = stage;
+                self.enter(stage);
                 Ok(())
             }
             Err(fault) => {
-                self.stage = Stage::Failed(fault);
+                self.enter(Stage::Failed(fault));
                 Err(fault)
             }
         }
@@ -84,10 +85,17 @@ impl AigReader {
         match stage.finish(self.alloc, self.offset) {
             Ok(circuit) => Ok(circuit),
             Err(fault) => {
-                self.stage = Stage::Failed(fault);
+                self.enter(Stage::Failed(fault));
                 Err(fault)
             }
         }
+    }
+
+    /// Goes on at this stage; the one before is dropped.
+    fn enter(&mut self, stage: Stage)
+        ensures { self.new ≡ record self.old { stage = stage } }
+    {
+        self.stage = stage;
     }
 }
 
@@ -100,6 +108,13 @@ pub fn read_aig(alloc: Global, bytes: &[u8]) -> Result<Circuit, ReadError>
     ensures { Gives (λ c. c) result (read_binary bytes.now) }
 {
     let mut reader = AigReader::new(alloc);
+    read_rest(&mut reader, bytes)
+}
+
+/// The circuit of a file that ends with these bytes.
+fn read_rest(reader: &mut AigReader, bytes: &[u8]) -> Result<Circuit, ReadError>
+    ensures { (before : List ℕ) → Holds reader.old before → Gives (λ c. c) result (read_binary (before ++ bytes.now)) }
+{
     match reader.feed(bytes) {
         Ok(()) => reader.finish(),
         Err(fault) => Err(fault),

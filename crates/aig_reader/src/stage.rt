@@ -61,14 +61,13 @@ impl Stage {
     }
 
     /// Why a piece is refused whose end has no offset.
-    pub(crate) fn refusal(self) -> ReadError
-        ensures held { (bytes more : List ℕ) → HoldsStage self bytes → Fails result (reading.feed (reading.AtHeader []) (bytes ++ more)) }
-        ensures stays { (fault : ReadError) → failure self ≡ Some fault → result ≡ fault }
+    pub(crate) fn refusal(&self) -> ReadError
+        ensures held { (bytes more : List ℕ) → HoldsStage self.now bytes → Fails result (reading.feed (reading.AtHeader []) (bytes ++ more)) }
+        ensures stays { (fault : ReadError) → failure self.now ≡ Some fault → result ≡ fault }
     {
         match self {
-            Stage::Header(_line) => ReadError::NoMemory,
-            Stage::Items(_items) => ReadError::NoMemory,
-            Stage::Failed(fault) => fault,
+            Stage::Header(_) | Stage::Items(_) => ReadError::NoMemory,
+            Stage::Failed(fault) => *fault,
         }
     }
 }

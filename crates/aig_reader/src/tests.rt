@@ -1,45 +1,49 @@
 use crate::{AigReader, read_aig};
+use aag_format::ReadError;
 use aig_graph::{Circuit, Gate, Lit};
 use std::alloc::Global;
 use std::test::Fail;
 
-/// Whether the circuit has just one gate, which reads its two latches.
-fn reads_latches(circuit: &Circuit) -> bool {
+/// What is read of a file that ends with two pieces.
+fn read_last(reader: &mut AigReader, first: &[u8], second: &[u8]) -> Result<Circuit, ReadError> {
+    reader.feed(first)?;
+    reader.feed(second)?;
+    reader.finish()
+}
+
+fn read_pieces(alloc: Global, first: &[u8], second: &[u8]) -> Result<Circuit, ReadError> {
+    let mut reader = AigReader::new(alloc);
+    read_last(&mut reader, first, second)
+}
+
+/// Whether a circuit was read that has just one gate, which reads its two latches.
+fn is_of_latches(read: &Result<Circuit, ReadError>) -> bool {
     let gate = Gate {
         rhs0: Lit::new(4, false),
         rhs1: Lit::new(3, false),
     };
-    circuit.aig().gates() == [gate].as_slice()
-}
-
-/// Whether a file in two pieces is read as such a circuit.
-fn reads_pieces(alloc: Global, first: &[u8], second: &[u8]) -> bool {
-    let mut reader = AigReader::new(alloc);
-    if reader.feed(first).is_err() || reader.feed(second).is_err() {
-        return false;
-    }
-    match reader.finish() {
-        Ok(circuit) => reads_latches(&circuit),
+    match read {
+        Ok(circuit) => circuit.aig().gates() == [gate].as_slice(),
         Err(_) => false,
     }
 }
 
-/// Whether a file is read as such a circuit.
-fn reads_whole(alloc: Global, bytes: &[u8]) -> bool {
-    match read_aig(alloc, bytes) {
-        Ok(circuit) => reads_latches(&circuit),
-        Err(_) => false,
-    }
+fn has_latches(read: Result<Circuit, ReadError>) -> bool {
+    let is = is_of_latches(&read);
+    drop(read);
+    is
 }
 
 #[test]
 fn reads_a_file(rt: HostRuntime) -> Result<(), Fail> {
-    assert!(rt; reads_whole(rt.alloc(), b"aig 5 2 2 1 1\n2\n4\n10\n\x02\x02l0 a\nc\n"));
+    assert!(rt; has_latches(read_aig(rt.alloc(), b"aig 5 2 2 1 1\n2\n4\n10\n\x02\x02l0 a\nc\n")));
     Ok(())
 }
 
 #[test]
 fn reads_a_delta_in_pieces(rt: HostRuntime) -> Result<(), Fail> {
-    assert!(rt; reads_pieces(rt.alloc(), b"aig 5 2 2 1 1\n2\n4\n10\n\x82", b"\x00\x02"));
+    assert!(rt;
+        has_latches(read_pieces(rt.alloc(), b"aig 5 2 2 1 1\n2\n4\n10\n\x82", b"\x00\x02"))
+    );
     Ok(())
 }

@@ -42,23 +42,39 @@ fn take_name(alloc: Global, sections: &mut Sections) -> Result<(), ReadError> {
     sections.take_symbol(25, SymbolText::Name(SymbolKind::Input, 1, name))
 }
 
-fn read(alloc: Global) -> Result<Circuit, ReadError> {
-    let mut sections = two_latches(alloc);
-    take_lines(&mut sections)?;
-    take_deltas(&mut sections)?;
-    take_name(alloc, &mut sections)?;
-    sections.finish(alloc, 29)
+/// Takes all items, and the name of the second input.
+fn take_all(alloc: Global, sections: &mut Sections) -> Result<(), ReadError> {
+    take_lines(sections)?;
+    take_deltas(sections)?;
+    take_name(alloc, sections)
 }
 
-/// Whether the gate is that of the two latches, and the second input has a name.
+fn read(alloc: Global) -> Result<Circuit, ReadError> {
+    let mut sections = two_latches(alloc);
+    match take_all(alloc, &mut sections) {
+        Ok(()) => sections.finish(alloc, 29),
+        Err(fault) => Err(fault),
+    }
+}
+
+/// Whether the gate is that of the two latches, and one input has a name.
+fn is_two_latches(circuit: &Circuit) -> bool {
+    match circuit.aig().gate(5) {
+        Some(gate) => {
+            gate.rhs0.code() == 8 && gate.rhs1.code() == 6 && circuit.symbols().inputs.len() == 1
+        }
+        None => false,
+    }
+}
+
 fn is_read(alloc: Global) -> bool {
-    let Ok(circuit) = read(alloc) else {
-        return false;
+    let circuit = read(alloc);
+    let is = match &circuit {
+        Ok(circuit) => is_two_latches(circuit),
+        Err(_) => false,
     };
-    let Some(gate) = circuit.aig().gate(5) else {
-        return false;
-    };
-    gate.rhs0.code() == 8 && gate.rhs1.code() == 6 && circuit.symbols().inputs.len() == 1
+    drop(circuit);
+    is
 }
 
 fn begins_with_latches(alloc: Global) -> bool {

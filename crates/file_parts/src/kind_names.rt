@@ -6,6 +6,7 @@ use aig_graph::{NoMemory, Sequence, Symbol};
 use std::alloc::Global;
 use std::collections::BTreeMap;
 use std::marker::Model;
+use std::mem;
 
 /// The names of one kind, by rising position.
 #[derive(Drop)]
@@ -66,8 +67,15 @@ impl KindNames {
         are_keys_below(&self.names, count)
     }
 
+    /// The names in one sequence; none are left.
+    pub(crate) fn take_sequence(&mut self, alloc: Global) -> Result<Sequence<Symbol>, NoMemory>
+        ensures { IfOk result (λ names. names ≡ self.old) }
+    {
+        mem::replace(self, KindNames::new(alloc)).into_sequence(alloc)
+    }
+
     /// The names in one sequence.
-    pub(crate) fn into_sequence(self, alloc: Global) -> Result<Sequence<Symbol>, NoMemory>
+    fn into_sequence(self, alloc: Global) -> Result<Sequence<Symbol>, NoMemory>
         ensures { IfOk result (λ names. names ≡ self) }
     {
         let mut symbols = Vec::with_capacity(alloc, self.names.len())?;

@@ -104,14 +104,32 @@ impl Names {
     pub fn into_symbols(self, alloc: Global) -> Result<Symbols, NoMemory>
         ensures { IfOk result (λ symbols. symbols ≡ self) }
     {
-        Ok(Symbols {
-            inputs: self.inputs.into_sequence(alloc)?,
-            latches: self.latches.into_sequence(alloc)?,
-            outputs: self.outputs.into_sequence(alloc)?,
-            bad: self.bad.into_sequence(alloc)?,
-            constraints: self.constraints.into_sequence(alloc)?,
-            justice: self.justice.into_sequence(alloc)?,
-            fairness: self.fairness.into_sequence(alloc)?,
-        })
+        let mut names = self;
+        names.take_symbols(alloc)
+    }
+
+    /// The names as a symbol table; none are left where the answer is `Ok`.
+    fn take_symbols(&mut self, alloc: Global) -> Result<Symbols, NoMemory>
+        ensures { IfOk result (λ symbols. symbols ≡ self.old) }
+    {
+        let mut symbols = Symbols::none(alloc);
+        match self.move_into(alloc, &mut symbols) {
+            Ok(()) => Ok(symbols),
+            Err(fault) => Err(fault),
+        }
+    }
+
+    /// Puts the names of each kind in place of those of the table.
+    fn move_into(&mut self, alloc: Global, symbols: &mut Symbols) -> Result<(), NoMemory>
+        ensures { IfOk result (λ _. symbols.new ≡ self.old) }
+    {
+        symbols.inputs = self.inputs.take_sequence(alloc)?;
+        symbols.latches = self.latches.take_sequence(alloc)?;
+        symbols.outputs = self.outputs.take_sequence(alloc)?;
+        symbols.bad = self.bad.take_sequence(alloc)?;
+        symbols.constraints = self.constraints.take_sequence(alloc)?;
+        symbols.justice = self.justice.take_sequence(alloc)?;
+        symbols.fairness = self.fairness.take_sequence(alloc)?;
+        Ok(())
     }
 }

@@ -2,27 +2,41 @@ ghost use Rattle.std.specs.Prelude.{◌≡◌, ◌∷◌, [], IfOk};
 
 use crate::{Names, PropertyLists};
 use aag_file::{Header, SymbolKind};
-use aig_graph::{NoMemory, Sequence};
+use aig_graph::{NoMemory, Sequence, Symbols};
 use std::alloc::Global;
 use std::test::Fail;
 
-/// The positions of two outputs' names that come in falling order, and whether a second name of one of them is taken.
-fn names_two_outputs(alloc: Global) -> Result<bool, NoMemory> {
-    let mut names = Names::new(alloc);
+/// Names two outputs, the last one first, and one of them again: whether just the first two names are taken.
+fn name_two_outputs(alloc: Global, names: &mut Names) -> Result<bool, NoMemory> {
     let last = names.insert(SymbolKind::Output, 7, Sequence::empty(alloc))?;
     let first = names.insert(SymbolKind::Output, 2, Sequence::empty(alloc))?;
     let again = names.insert(SymbolKind::Output, 7, Sequence::empty(alloc))?;
-    let symbols = names.into_symbols(alloc)?;
-    let rising = match symbols.outputs.as_slice() {
-        [one, other] => one.position == 2 && other.position == 7,
-        _ => false,
+    Ok(last && first && !again)
+}
+
+/// Whether two outputs have names, by rising position, and no input has one.
+fn are_two_outputs(symbols: &Result<Symbols, NoMemory>) -> bool {
+    let Ok(symbols) = symbols else {
+        return false;
     };
-    Ok(last && first && !again && rising && symbols.inputs.is_empty())
+    match symbols.outputs.as_slice() {
+        [one, other] => one.position == 2 && other.position == 7 && symbols.inputs.is_empty(),
+        _ => false,
+    }
+}
+
+fn names_two_outputs(alloc: Global) -> bool {
+    let mut names = Names::new(alloc);
+    let taken = name_two_outputs(alloc, &mut names);
+    let symbols = names.into_symbols(alloc);
+    let named = are_two_outputs(&symbols);
+    drop(symbols);
+    named && taken == Ok(true)
 }
 
 #[test]
 fn names_rise_and_are_taken_once(rt: HostRuntime) -> Result<(), Fail> {
-    assert!(rt; names_two_outputs(rt.alloc()) == Ok(true));
+    assert!(rt; names_two_outputs(rt.alloc()));
     Ok(())
 }
 
