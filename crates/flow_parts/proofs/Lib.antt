@@ -18,3 +18,4 @@ pub mod JoinedLemmas
 pub mod Lists
 pub mod Gathered
 pub mod Visits
+pub mod Received

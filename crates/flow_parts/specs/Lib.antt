@@ -3,3 +3,4 @@ pub mod Parts
 pub mod Reading
 pub mod Delivering
 pub mod Visiting
+pub mod Receiving

@@ -4,34 +4,13 @@ ghost use Rattle.std.specs.Prelude.{◌≡◌, ℕ, ◌+◌, ◌<◌, ◌≤◌,
 ghost use Rattle.flow_theory.specs.Flow.{least_below};
 ghost use Rattle.frame_net.specs.FlowNet.{node_count, row_len, head};
 ghost use Rattle.flow_parts.specs.Parts.{ArePushParts, FlowPartFits, LabelsFit, RangeFits, part_cells, values_of};
-ghost use Rattle.flow_parts.specs.Delivering.{back, row_inflow, delivered_res, delivered_excess, delivered_label, NodeSafe, RangeDelivered, RangeSafe, PartDelivered};
+ghost use Rattle.flow_parts.specs.Delivering.{delivered_res, delivered_excess, delivered_label, NodeSafe, RangeDelivered, RangeSafe, PartDelivered};
 
+use crate::inflow::add_row;
 use crate::parts::{FlowPart, PushPart};
-use crate::places::{push_at, push_row};
+use crate::places::push_row;
 use arc_rows::{relabel, subtract_pushes};
 use frame_net::Net;
-
-/// Adds the pushes over the mates of a row's arcs to its residuals, and returns their sum.
-fn add_row(parts: &[PushPart], net: &Net, v: u32, row: &mut [u32]) -> u32
-    requires parts { ArePushParts net.now 0 parts.now }
-    requires v { v < node_count net.now }
-    requires len { length row.old ≡ row_len net.now v }
-    requires fits { (k : ℕ) → k < row_len net.now v → slice_index row.old k + back net.now (values_of parts.now) v k < 2 ^ 32 }
-    requires sum { row_inflow net.now (values_of parts.now) v < 2 ^ 32 }
-    ensures inflow { result ≡ row_inflow net.now (values_of parts.now) v }
-    ensures row { (k : ℕ) → k < row_len net.now v → slice_index row.new k ≡ slice_index row.old k + back net.now (values_of parts.now) v k }
-{
-    let _nodes = net.nodes();
-    let heads = net.heads(v);
-    let mates = net.mates(v);
-    let mut inflow = 0;
-    for k in 0..row.len() {
-        let push = push_at(parts, net, heads[k], mates[k] as usize);
-        row[k] += push;
-        inflow += push;
-    }
-    inflow
-}
 
 /// The label of node `v` after delivery, by its residuals after delivery: it stays unless `v` was active and keeps some of its excess.
 fn next_label(net: &Net, labels: &[u32], v: u32, excess: u32, outflow: u32, row: &[u32]) -> u32

@@ -58,20 +58,28 @@ fn add_heads(net: &Net, pushes: &[PushPart], u: u32, first: u32, end: u32, list:
     }
 }
 
-/// Adds node `u`, and the nodes that it pushes to, where they lie from `first` up to `end`.
-fn add_from(net: &Net, pushes: &[PushPart], u: u32, first: u32, end: u32, list: &mut NodeList)
+/// Adds node `u`, unless the list has it at this place, and the nodes that it pushes to, where they lie from `first` up to `end`.
+fn add_from(
+    net: &Net,
+    pushes: &[PushPart],
+    u: u32,
+    place: usize,
+    first: u32,
+    end: u32,
+    list: &mut NodeList,
+)
     requires pushes { ArePushParts net.now 0 pushes.now }
     requires u { u < node_count net.now }
     ensures extends { Extends first end list.old list.new }
     ensures listed { list.new.complete ≡ true → PushesListed net.now (values_of pushes.now) first end list.new.nodes.items u }
 {
-    if u >= first && u < end {
+    if u >= first && u < end && !list.has_at(place, u) {
         list.add(u);
     }
     add_heads(net, pushes, u, first, end, list);
 }
 
-/// Adds what the nodes of one list push.
+/// Adds what the nodes of one list push. The active nodes, which the list begins with, push in the same order.
 fn add_pushes(
     net: &Net,
     pushes: &[PushPart],
@@ -86,7 +94,7 @@ fn add_pushes(
     ensures listed { list.new.complete ≡ true → (i : ℕ) → i < length from.now → PushesListed net.now (values_of pushes.now) first end list.new.nodes.items (slice_index from.now i) }
 {
     for i in 0..from.len() {
-        add_from(net, pushes, from[i], first, end, list);
+        add_from(net, pushes, from[i], i, first, end, list);
     }
 }
 

@@ -36,22 +36,6 @@ pub fn excess_at(parts: &[FlowPart], node: usize) -> u32
     unreachable!()
 }
 
-/// The new label of a node.
-pub fn next_at(parts: &[FlowPart], node: usize) -> u32
-    requires { node < length (cells_of parts.now).next }
-    ensures { result ≡ slice_index (cells_of parts.now).next node }
-{
-    let mut place = node;
-    for part in parts {
-        let size = part.next.len();
-        if place < size {
-            return part.next[place];
-        }
-        place -= size;
-    }
-    unreachable!()
-}
-
 /// The push over an arc.
 pub fn push_over(parts: &[PushPart], arc: usize) -> u32
     requires { arc < length (values_of parts.now) }

@@ -10,6 +10,7 @@
 mod clearing;
 mod delivering;
 mod gathering;
+mod inflow;
 mod joined;
 mod node_list;
 mod parts;
@@ -20,10 +21,10 @@ mod whole;
 
 pub use delivering::deliver_part;
 pub use gathering::is_active;
-pub use joined::{excess_at, next_at, push_over, residual_at, walked_over};
+pub use joined::{excess_at, push_over, residual_at, walked_over};
 pub use node_list::NodeList;
 pub use parts::{FlowPart, PushPart};
-pub use places::{part_of, push_row};
+pub use places::part_of;
 pub use reading::read_part;
 pub use walking::read_whole;
 pub use whole::deliver_whole;

@@ -40,7 +40,7 @@ pub fn push_at(parts: &[PushPart], net: &Net, w: u32, arc: usize) -> u32
 }
 
 /// The row of pushes of node `v`.
-pub fn push_row<'a>(parts: &'a [PushPart], net: &Net, v: u32) -> &'a [u32]
+pub(crate) fn push_row<'a>(parts: &'a [PushPart], net: &Net, v: u32) -> &'a [u32]
     requires parts { ArePushParts net.now 0 parts.now }
     requires v { v < node_count net.now }
     ensures len { length result.now ≡ row_len net.now v }

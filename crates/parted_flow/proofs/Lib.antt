@@ -6,6 +6,7 @@ pub mod Agreeing
 pub mod Pulsing
 pub mod MarkLemmas
 pub mod Turning
+pub mod Holding
 pub mod ActiveLemmas
 pub mod StartLemmas
 pub mod Borders

@@ -20,3 +20,12 @@ pub record KeepsLabels (labels : List ℕ) (q : FlowPart) : Type 0 where
 
 abbrev pub KeepLabels : List ℕ → List FlowPart → Type 0
 KeepLabels labels qs = (i : ℕ) (d : FlowPart) → i < length qs → (slice_index_or qs i d).active.complete ≡ true → KeepsLabels labels (slice_index_or qs i d)
+
+-- the labels of a part's nodes are its new labels, and nothing else has changed
+pub record HoldsLabels (labels : List ℕ) (old new : FlowPart) : Type 0 where
+  pub same : new ≡ record old { next = new.next }
+  pub sized : length new.next.items ≡ length old.next.items
+  pub here : (v : ℕ) → old.first ≤ v → v < old.end → slice_index new.next.items (v - old.first) ≡ slice_index labels v
+
+abbrev pub HoldLabels : List ℕ → List FlowPart → List FlowPart → Type 0
+HoldLabels labels olds news = (i : ℕ) (d : FlowPart) → i < length olds → HoldsLabels labels (slice_index_or olds i d) (slice_index_or news i d)

@@ -4,7 +4,7 @@ ghost use Rattle.frame_net.specs.FlowNet.{node_count};
 ghost use Rattle.flow_parts.specs.Listing.{AreWithin, IsListed};
 ghost use Rattle.flow_parts.specs.Parts.{cells_of};
 ghost use Rattle.parted_flow.specs.Start.{LabelsStart};
-ghost use Rattle.parted_flow.specs.Labels.{AreLabelled, KeepLabels, KeepsLabels};
+ghost use Rattle.parted_flow.specs.Labels.{AreLabelled, HasLabels, HoldLabels, HoldsLabels, KeepLabels, KeepsLabels};
 
 use flow_parts::FlowPart;
 use frame_net::Net;
@@ -59,5 +59,25 @@ pub fn turn(labels: &mut [u32], parts: &[FlowPart], listed: bool)
 {
     for part in parts {
         turn_part(labels, part, listed);
+    }
+}
+
+/// The labels of a part's nodes become their new labels too.
+fn hold_part(labels: &[u32], part: &mut FlowPart)
+    requires { HasLabels (length labels.now) part.old }
+    ensures { HoldsLabels labels.now part.old part.new }
+{
+    let own = &labels[part.first as usize..part.end as usize];
+    part.next.as_mut_slice().copy_from_slice(own);
+}
+
+/// The labels become the new labels too, which they are between two pulses wherever lists are to hold.
+pub fn hold_labels(labels: &[u32], parts: &mut [FlowPart])
+    requires { AreLabelled (length labels.now) 0 parts.old }
+    ensures len { length parts.new ≡ length parts.old }
+    ensures each { HoldLabels labels.now parts.old parts.new }
+{
+    for i in 0..parts.len() {
+        hold_part(labels, &mut parts[i]);
     }
 }

@@ -13,7 +13,7 @@ mod phases;
 mod starting;
 
 pub use active::any_active_node;
-pub use labels::{start_labels, turn};
+pub use labels::{hold_labels, start_labels, turn};
 pub use laws::{parting_law, range_laws, start_law};
 pub use parting::{border, parted_anew, push_parts};
 pub use phases::{deliver_each, deliver_every, read_each, read_every};

@@ -7,5 +7,3 @@ pub mod TurnLemmas
 pub mod PhaseLemmas
 pub mod RelabelLemmas
 pub mod StepLemmas
-pub mod ListLemmas
-pub mod ListPulse

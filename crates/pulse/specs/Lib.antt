@@ -1,4 +1,3 @@
 pub mod Values
 pub mod Conditions
 pub mod Phases
-pub mod Lists

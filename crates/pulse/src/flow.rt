@@ -2,12 +2,11 @@
 ghost use Rattle.std.specs.Prelude.{◌≡◌, ℕ, ◌<◌, IfOk, false, length, pos, slice_index, slice_index_or, ◌-ℤ◌};
 ghost use Rattle.frame_net.specs.FlowNet.{cap_at};
 ghost use Rattle.pulse.specs.Conditions.{IsStart, IsTurnable, is_marked};
-ghost use Rattle.pulse.specs.Lists.{turned_at};
 ghost use Rattle.pulse.specs.Phases.{Turns};
 
 use crate::marks::{no_marks, unmark};
 use aig_graph::NoMemory;
-use flow_parts::{FlowPart, excess_at, next_at, residual_at};
+use flow_parts::{FlowPart, excess_at, residual_at};
 use frame_net::Net;
 use parted_flow::{start_labels, start_parts, turn};
 use std::alloc::{AllocError, Global};
@@ -120,33 +119,6 @@ impl Flow {
         self.listed = false;
         turn(self.labels.as_mut_slice(), self.parts.as_slice(), false);
         unmark(self.delivered.as_mut_slice());
-        self.phase = self.phase.wrapping_add(2);
-    }
-
-    /// The new label of node `v`, once it was delivered.
-    fn next_label(&self, v: u32) -> u32
-        requires { v < length self.now.cells.next }
-        ensures { result ≡ slice_index self.now.cells.next v }
-    {
-        next_at(self.parts.as_slice(), v as usize)
-    }
-
-    /// The turn of one node, which was delivered: its new label becomes its label.
-    pub(crate) fn turn_node(&mut self, v: u32)
-        requires next { v < length self.old.cells.next }
-        requires label { v < length self.old.labels }
-        requires mark { v < length self.old.delivered }
-        ensures { self.new ≡ turned_at self.old v }
-    {
-        self.listed = false;
-        self.labels[v as usize] = self.next_label(v);
-        self.delivered[v as usize] = false;
-    }
-
-    /// Counts the two phases of a pulse whose nodes turned one by one.
-    pub(crate) fn count_phases(&mut self)
-        ensures { self.new ≡ self.old }
-    {
         self.phase = self.phase.wrapping_add(2);
     }
 }

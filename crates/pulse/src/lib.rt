@@ -15,7 +15,6 @@ mod error;
 mod fast_run;
 mod flow;
 mod gate;
-mod listed;
 mod marks;
 mod max_preflow;
 mod phases;
@@ -23,9 +22,7 @@ mod pushes;
 mod ranges;
 mod relabel;
 mod run;
-mod steps;
 mod workers;
-mod worklist;
 
 pub use crew::Crew;
 pub use error::PulseError;

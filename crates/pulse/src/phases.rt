@@ -1,5 +1,5 @@
-//! The two phases of a pulse, by the workers of a crew.
-ghost use Rattle.std.specs.Prelude.{◌≡◌, ◌⊎◌, OnErr, OnOk, false, true};
+//! The two phases of a pulse, by the workers of a crew or by fewer.
+ghost use Rattle.std.specs.Prelude.{◌≡◌, ◌<◌, ◌⊎◌, OnErr, OnOk, false, true};
 ghost use Rattle.pulse.specs.Conditions.{ArePushesOf, IsFlowOf, NoneDelivered, active_count};
 ghost use Rattle.pulse.specs.Phases.{AfterDelivery, AfterRead, IsReadPhase};
 
@@ -34,30 +34,7 @@ pub fn read_phase<G: PhaseGate>(
     ensures walked { OnOk result (pushes.new.walked ≡ active_count net.now flow.now) }
     ensures err { OnErr result ((flow.now.spent ≡ true) ⊎ (pushes.new.spent ≡ true)) }
 {
-    if flow.spent || pushes.spent {
-        return Err(PulseError::NoMemory);
-    }
-    let _nodes = net.nodes();
-    let labels = flow.labels.as_slice();
-    let parts = flow.parts.as_slice();
-    let phase = u64::from(flow.phase);
-    match read_all(
-        rt,
-        alloc,
-        net,
-        labels,
-        parts,
-        &mut pushes.parts,
-        crew,
-        phase,
-        flow.listed,
-    ) {
-        Ok(()) => Ok(()),
-        Err(_) => {
-            pushes.spent = true;
-            Err(PulseError::NoMemory)
-        }
-    }
+    read_by(rt, alloc, net, flow, pushes, crew.workers(), crew.gate())
 }
 
 /// The delivery phase of a pulse: each node writes its row of flow, its excess and its new label, and then the new labels become the
@@ -73,6 +50,73 @@ pub fn deliver_phase<G: PhaseGate>(
     pushes: &Pushes,
     crew: &Crew<G>,
 ) -> Result<(), PulseError>
+    requires flow { IsFlowOf net.now flow.old }
+    requires pushes { ArePushesOf net.now pushes.now }
+    requires read { flow.old.spent ≡ false → pushes.now.spent ≡ false → IsReadPhase net.now flow.old pushes.now }
+    ensures fits { IsFlowOf net.now flow.new }
+    ensures ok { OnOk result (AfterDelivery net.now flow.old flow.new pushes.now) }
+    ensures err { OnErr result ((flow.new.spent ≡ true) ⊎ (pushes.now.spent ≡ true)) }
+{
+    deliver_by(rt, alloc, net, flow, pushes, crew.workers(), crew.gate())
+}
+
+/// The read phase by so many workers.
+pub(crate) fn read_by<R: Threads + Sync, G: PhaseGate>(
+    rt: &R,
+    alloc: Global,
+    net: &Net,
+    flow: &Flow,
+    pushes: &mut Pushes,
+    workers: u32,
+    gate: &G,
+) -> Result<(), PulseError>
+    requires some { 0 < workers }
+    requires flow { IsFlowOf net.now flow.now }
+    requires pushes { ArePushesOf net.now pushes.old }
+    requires none { flow.now.spent ≡ false → pushes.old.spent ≡ false → NoneDelivered net.now flow.now }
+    ensures fits { ArePushesOf net.now pushes.new }
+    ensures ok { OnOk result (AfterRead net.now flow.now pushes.old pushes.new) }
+    ensures walked { OnOk result (pushes.new.walked ≡ active_count net.now flow.now) }
+    ensures err { OnErr result ((flow.now.spent ≡ true) ⊎ (pushes.new.spent ≡ true)) }
+{
+    if flow.spent || pushes.spent {
+        return Err(PulseError::NoMemory);
+    }
+    let _nodes = net.nodes();
+    let labels = flow.labels.as_slice();
+    let parts = flow.parts.as_slice();
+    let phase = u64::from(flow.phase);
+    match read_all(
+        rt,
+        alloc,
+        net,
+        labels,
+        parts,
+        &mut pushes.parts,
+        workers,
+        gate,
+        phase,
+        flow.listed,
+    ) {
+        Ok(()) => Ok(()),
+        Err(_) => {
+            pushes.spent = true;
+            Err(PulseError::NoMemory)
+        }
+    }
+}
+
+/// The delivery phase by so many workers.
+pub(crate) fn deliver_by<R: Threads + Sync, G: PhaseGate>(
+    rt: &R,
+    alloc: Global,
+    net: &Net,
+    flow: &mut Flow,
+    pushes: &Pushes,
+    workers: u32,
+    gate: &G,
+) -> Result<(), PulseError>
+    requires some { 0 < workers }
     requires flow { IsFlowOf net.now flow.old }
     requires pushes { ArePushesOf net.now pushes.now }
     requires read { flow.old.spent ≡ false → pushes.now.spent ≡ false → IsReadPhase net.now flow.old pushes.now }
@@ -96,7 +140,8 @@ pub fn deliver_phase<G: PhaseGate>(
         rows,
         &mut flow.parts,
         listed,
-        crew,
+        workers,
+        gate,
         phase,
     ) {
         Ok(()) => {

@@ -1,11 +1,12 @@
 //! The pushes of a pulse.
-ghost use Rattle.std.specs.Prelude.{◌≡◌, ℕ, ◌<◌, IfOk, false, length, slice_index};
-ghost use Rattle.frame_net.specs.FlowNet.{node_count, row_len};
-ghost use Rattle.flow_parts.specs.Delivering.{own};
+ghost use Rattle.std.specs.Prelude.{◌≡◌, ◌<◌, IfOk, false, length, slice_index};
+ghost use Rattle.frame_net.specs.FlowNet.{node_count};
+ghost use Rattle.flow_parts.specs.Listing.{AreWithin};
+ghost use Rattle.flow_parts.specs.Parts.{ArePushParts};
 ghost use Rattle.pulse.specs.Conditions.{ArePushesOf};
 
 use aig_graph::NoMemory;
-use flow_parts::{PushPart, push_over, push_row, walked_over};
+use flow_parts::{PushPart, push_over, walked_over};
 use frame_net::Net;
 use parted_flow::push_parts;
 use std::alloc::Global;
@@ -59,17 +60,6 @@ impl Pushes {
         push_over(self.parts.as_slice(), arc as usize)
     }
 
-    /// The pushes over the arcs of node `v`.
-    pub(crate) fn row(&self, net: &Net, v: u32) -> &[u32]
-        requires fits { ArePushesOf net.now self.now }
-        requires usable { self.now.spent ≡ false }
-        requires v { v < node_count net.now }
-        ensures len { length result.now ≡ row_len net.now v }
-        ensures value { (k : ℕ) → k < row_len net.now v → slice_index result.now k ≡ own net.now self.now.values v k }
-    {
-        push_row(self.parts.as_slice(), net, v)
-    }
-
     /// How many rows were walked for pushes since the last read phase began; `u32::MAX` stands for all greater numbers. After a read
     /// phase it is the number of nodes that were active at its start.
     pub fn walked(&self) -> u32
@@ -78,10 +68,47 @@ impl Pushes {
         walked_over(self.parts.as_slice())
     }
 
+    /// How many arcs the rows of the nodes hold that pushed in the last read phase; all arcs where a part doesn't list its nodes.
+    pub(crate) fn arcs_walked(&self, net: &Net) -> usize
+        requires fits { ArePushesOf net.now self.now }
+        requires usable { self.now.spent ≡ false }
+    {
+        arcs_over(net, self.parts.as_slice())
+    }
+
     /// Whether a read phase was refused.
     pub fn is_spent(&self) -> bool
         ensures { result ≡ self.now.spent }
     {
         self.spent
     }
+}
+
+/// How many arcs the rows of the nodes hold that the parts list.
+fn arcs_over(net: &Net, parts: &[PushPart]) -> usize
+    requires { ArePushParts net.now 0 parts.now }
+{
+    let _nodes = net.nodes();
+    let mut arcs: usize = 0;
+    for i in 0..parts.len() {
+        let part = &parts[i];
+        if !part.pushing.complete {
+            return net.arcs();
+        }
+        arcs = arcs.saturating_add(arcs_of(net, part.pushing.nodes.as_slice()));
+    }
+    arcs
+}
+
+/// How many arcs the rows of the listed nodes hold.
+fn arcs_of(net: &Net, list: &[u32]) -> usize
+    requires { AreWithin 0 (node_count net.now) list.now }
+{
+    let _nodes = net.nodes();
+    let mut arcs: usize = 0;
+    for i in 0..list.len() {
+        let v = list[i];
+        arcs = arcs.saturating_add(net.start(v + 1) - net.start(v));
+    }
+    arcs
 }

@@ -10,6 +10,7 @@ use crate::active::is_active;
 use crate::flow::Flow;
 use exact_labels::exact_labels;
 use frame_net::Net;
+use parted_flow::hold_labels;
 use std::alloc::{AllocError, Global};
 
 /// Room for all nodes, for the walks that find exact labels.
@@ -19,7 +20,8 @@ pub(crate) fn queue_for(alloc: Global, net: &Net) -> Result<Vec<u32>, AllocError
     vec![in alloc; 0u32; net.nodes() as usize]
 }
 
-/// Each label becomes the residual distance to the sink, or the number of nodes where there is none.
+/// Each label becomes the residual distance to the sink, or the number of nodes where there is none. No label falls, so no node becomes
+/// active, and the parts' lists hold on.
 pub(crate) fn relabel(net: &Net, flow: &mut Flow, queue: &mut [u32])
     requires flow { IsBetween net.now flow.old }
     requires queue { length queue.old ≡ node_count net.now }
@@ -27,13 +29,15 @@ pub(crate) fn relabel(net: &Net, flow: &mut Flow, queue: &mut [u32])
     ensures exact { Agree (node_count net.now) (exact (node_count net.now) (state_of net.now flow.old)) (state_of net.now flow.new) }
 {
     let _nodes = net.nodes();
-    flow.listed = false;
     exact_labels(
         net,
         flow.parts.as_slice(),
         flow.labels.as_mut_slice(),
         queue,
     );
+    let labels = flow.labels.as_slice();
+    let parts = flow.parts.as_mut_slice();
+    hold_labels(labels, parts);
 }
 
 /// What follows pulse number `count` of a run: after every N-th pulse for N nodes that leaves a node active the labels become exact.

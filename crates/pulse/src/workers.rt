@@ -1,4 +1,4 @@
-//! A phase over the parts of all workers: on the calling thread for a crew of one, by `map_vec` for more.
+//! A phase over the parts of all workers: on the calling thread for one worker, by `map_vec` for more.
 //!
 //! Each worker gets its part by value and returns it, in worker order; all else is lent to all workers. A refusal drops the parts.
 ghost use Rattle.std.specs.Prelude.{◌≡◌, ℕ, ◌<◌, ◌≤◌, IfOk, OnErr, OnOk, List, length, true};
@@ -11,7 +11,6 @@ ghost use Rattle.flow_parts.specs.Listing.{ListActive, ListsActive};
 ghost use Rattle.flow_parts.specs.Visiting.{WholeDelivered, WholesDelivered};
 ghost use Rattle.parted_flow.specs.Runs.{ArePulsed, AreRead};
 
-use crate::crew::Crew;
 use crate::gate::PhaseGate;
 use flow_parts::{FlowPart, PushPart, deliver_whole, read_whole};
 use frame_net::Net;
@@ -129,7 +128,7 @@ fn deliver_by_crew<R: Threads + Sync, G: PhaseGate>(
     thread::map_vec(rt, parts, &work)
 }
 
-/// Read of every node by the workers of a crew. After a refusal the parts may be gone.
+/// Read of every node by so many workers. After a refusal the parts may be gone.
 pub(crate) fn read_all<R: Threads + Sync, G: PhaseGate>(
     rt: &R,
     alloc: Global,
@@ -137,10 +136,12 @@ pub(crate) fn read_all<R: Threads + Sync, G: PhaseGate>(
     labels: &[u32],
     flow: &[FlowPart],
     parts: &mut Vec<PushPart>,
-    crew: &Crew<G>,
+    workers: u32,
+    gate: &G,
     phase: u64,
     listed: bool,
 ) -> Result<(), AllocError>
+    requires some { 0 < workers }
     requires labels { LabelsFit net.now labels.now }
     requires flow { AreFlowParts net.now 0 flow.now }
     requires parts { ArePushParts net.now 0 parts.old.items }
@@ -149,8 +150,7 @@ pub(crate) fn read_all<R: Threads + Sync, G: PhaseGate>(
     ensures walked { OnOk result (rows_walked parts.new.items ≡ active_below net.now labels.now (cells_of flow.now) (node_count net.now)) }
 {
     let _nodes = net.nodes();
-    let gate = crew.gate();
-    part_pushes(alloc, net, parts, crew.workers())?;
+    part_pushes(alloc, net, parts, workers)?;
     if parts.len() < 2 {
         gate.pass(phase, 0);
         read_every(net, labels, flow, parts.as_mut_slice(), listed);
@@ -162,7 +162,7 @@ pub(crate) fn read_all<R: Threads + Sync, G: PhaseGate>(
     Ok(())
 }
 
-/// Deliver of every node by the workers of a crew. After a refusal the parts may be gone.
+/// Deliver of every node by a worker for each part. After a refusal the parts may be gone.
 fn deliver_parts<R: Threads + Sync, G: PhaseGate>(
     rt: &R,
     alloc: Global,
@@ -171,7 +171,7 @@ fn deliver_parts<R: Threads + Sync, G: PhaseGate>(
     pushes: &[PushPart],
     flow: &mut Vec<FlowPart>,
     listed: bool,
-    crew: &Crew<G>,
+    gate: &G,
     phase: u64,
 ) -> Result<(), AllocError>
     requires flow { AreFlowParts net.now 0 flow.old.items }
@@ -183,7 +183,6 @@ fn deliver_parts<R: Threads + Sync, G: PhaseGate>(
     ensures each { OnOk result (WholesDelivered net.now labels.now (values_of pushes.now) flow.old.items flow.new.items) }
 {
     let _nodes = net.nodes();
-    let gate = crew.gate();
     if flow.len() < 2 {
         gate.pass(phase, 0);
         deliver_every(net, labels, pushes, flow.as_mut_slice(), listed);
@@ -195,7 +194,7 @@ fn deliver_parts<R: Threads + Sync, G: PhaseGate>(
     Ok(())
 }
 
-/// Deliver of every node by the workers of a crew, and the turn of the labels. `listed` is whether the parts' lists are of this flow and
+/// Deliver of every node by so many workers, and the turn of the labels. `listed` is whether the parts' lists are of this flow and
 /// these labels; afterwards they are. After a refusal the parts may be gone.
 pub(crate) fn deliver_all<R: Threads + Sync, G: PhaseGate>(
     rt: &R,
@@ -205,9 +204,11 @@ pub(crate) fn deliver_all<R: Threads + Sync, G: PhaseGate>(
     pushes: &[PushPart],
     flow: &mut Vec<FlowPart>,
     listed: bool,
-    crew: &Crew<G>,
+    workers: u32,
+    gate: &G,
     phase: u64,
 ) -> Result<(), AllocError>
+    requires some { 0 < workers }
     requires flow { AreFlowParts net.now 0 flow.old.items }
     requires labels { LabelsFit net.now labels.old }
     requires sound { IsSound net.now (pairs net.now (cells_of flow.old.items) labels.old) }
@@ -218,11 +219,10 @@ pub(crate) fn deliver_all<R: Threads + Sync, G: PhaseGate>(
     ensures err { OnErr result (labels.new ≡ labels.old) }
 {
     let _nodes = net.nodes();
-    let workers = crew.workers();
     let same = flow.as_slice().len() == workers as usize;
     part_flow(alloc, net, flow, workers)?;
     let known = listed && same;
-    deliver_parts(rt, alloc, net, labels, pushes, flow, known, crew, phase)?;
+    deliver_parts(rt, alloc, net, labels, pushes, flow, known, gate, phase)?;
     turn(labels, flow.as_slice(), true);
     Ok(())
 }
