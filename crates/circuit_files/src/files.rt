@@ -1,19 +1,30 @@
 //! Circuits and stimuli of files.
+ghost use Rattle.std.specs.Prelude.{[]};
+
 use crate::outcome::Failure;
 use aag_format::ReadError;
 use aig_binary::AnyReader;
 use aig_graph::Circuit;
 use counted_io::{Counted, CountedRead, ReadAllError, read_all};
 use lane_sim::{Stimulus, read_stimulus};
-use piece_reading::{SpeltCircuit, read_circuit};
+use piece_reading::{CircuitReader, SpeltCircuit, read_circuit};
 use std::alloc::Global;
 use std::fs::File;
 use std::rt::Files;
 
+/// The circuit of a reader's bytes, by a reader of circuits that has been fed nothing yet.
+fn circuit_by<R: CountedRead, C: CircuitReader + Drop>(
+    reader: &mut R,
+    mut circuits: C,
+) -> Result<SpeltCircuit, ReadError>
+    requires { C.holds circuits [] }
+{
+    read_circuit(reader, &mut circuits)
+}
+
 /// The circuit of a reader's bytes, of either spelling.
 fn circuit_of<R: CountedRead>(alloc: Global, reader: &mut R) -> Result<SpeltCircuit, ReadError> {
-    let mut circuits = AnyReader::new(alloc);
-    read_circuit(reader, &mut circuits)
+    circuit_by(reader, AnyReader::new(alloc))
 }
 
 /// The circuit of a file, and its spelling.

@@ -1,3 +1,7 @@
+ghost use Rattle.std.specs.Prelude.{IfOk, IfSome};
+ghost use Rattle.command_line.specs.Asking.{AsksFor};
+ghost use Rattle.command_line.specs.declared.task.Task.TheVariants.{Retime};
+
 use crate::program::program;
 use crate::task::{Retiming, Task};
 use clap::error::ErrorKind;
@@ -25,10 +29,9 @@ fn keep<'a>(alloc: Global, matches: &ArgMatches<'a>) -> Result<Vec<&'a str>, All
     Ok(names)
 }
 
-fn retiming<'a>(
-    alloc: Global,
-    matches: &ArgMatches<'a>,
-) -> Result<Option<Retiming<'a>>, AllocError> {
+fn retiming<'a>(alloc: Global, matches: &ArgMatches<'a>) -> Result<Option<Retiming<'a>>, AllocError>
+    ensures { IfOk result (λ found. IfSome found (λ retiming. AsksFor matches.now (Retime retiming))) }
+{
     let (Some(input), Some(output)) = (matches.get_str("IN"), matches.get_str("OUT")) else {
         return Ok(None);
     };
@@ -42,17 +45,23 @@ fn retiming<'a>(
     }))
 }
 
-fn conversion<'a>(matches: &ArgMatches<'a>) -> Option<Task<'a>> {
+fn conversion<'a>(matches: &ArgMatches<'a>) -> Option<Task<'a>>
+    ensures { IfSome result (AsksFor matches.now) }
+{
     let input = matches.get_str("IN")?;
     let output = matches.get_str("OUT")?;
     Some(Task::Convert(input, output, spelling(matches)))
 }
 
-fn simulation<'a>(matches: &ArgMatches<'a>) -> Option<Task<'a>> {
+fn simulation<'a>(matches: &ArgMatches<'a>) -> Option<Task<'a>>
+    ensures { IfSome result (AsksFor matches.now) }
+{
     Some(Task::Sim(matches.get_str("IN")?, matches.get_str("STIM")?))
 }
 
-fn comparison<'a>(matches: &ArgMatches<'a>) -> Option<Task<'a>> {
+fn comparison<'a>(matches: &ArgMatches<'a>) -> Option<Task<'a>>
+    ensures { IfSome result (AsksFor matches.now) }
+{
     let first = matches.get_str("A")?;
     let second = matches.get_str("B")?;
     Some(Task::Same(first, second, matches.get_str("STIM")?))
@@ -103,6 +112,19 @@ fn no_command(program: &mut Command<'_>) -> Error {
     }
 }
 
+/// What the command-line arguments ask a program for, where asking for nothing is an error.
+fn task_asked_of<'a>(
+    alloc: Global,
+    program: &mut Command<'a>,
+    words: &'a [String],
+) -> Result<Task<'a>, Error> {
+    match asked_of(alloc, program, words) {
+        Ok(Some(task)) => Ok(task),
+        Ok(None) => Err(no_command(program)),
+        Err(error) => Err(error),
+    }
+}
+
 /// What the command-line arguments ask for, the program's name first.
 ///
 /// # Errors
@@ -110,9 +132,5 @@ fn no_command(program: &mut Command<'_>) -> Error {
 /// They ask for help or the version, or are no command of the program, or there is no memory.
 pub fn parse_arguments<'a>(alloc: Global, words: &'a [String]) -> Result<Task<'a>, Error> {
     let mut program = program(alloc)?;
-    match asked_of(alloc, &mut program, words) {
-        Ok(Some(task)) => Ok(task),
-        Ok(None) => Err(no_command(&mut program)),
-        Err(error) => Err(error),
-    }
+    task_asked_of(alloc, &mut program, words)
 }

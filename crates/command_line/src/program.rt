@@ -87,17 +87,6 @@ fn with<'a>(
     command?.arg(argument)
 }
 
-/// The same for an argument that takes memory to make.
-fn with_made<'a>(
-    command: Result<Command<'a>, AllocError>,
-    argument: Result<Arg<'a>, AllocError>,
-) -> Result<Command<'a>, AllocError> {
-    match argument {
-        Ok(argument) => with(command, argument),
-        Err(error) => Err(error),
-    }
-}
-
 /// A program with one more command, where there was memory for both.
 fn with_command<'a>(
     program: Result<Command<'a>, AllocError>,
@@ -114,13 +103,18 @@ fn with_files<'a>(alloc: Global, command: Command<'a>) -> Result<Command<'a>, Al
     with(command, path(alloc, "OUT", "The AIGER file to write"))
 }
 
+/// The flag for ASCII, which isn't given together with the one for binary.
+fn ascii<'a>(alloc: Global) -> Result<Arg<'a>, AllocError> {
+    flag(alloc, "ascii", "Write ASCII").conflicts_with("binary")
+}
+
 fn with_spelling<'a>(
     alloc: Global,
     command: Result<Command<'a>, AllocError>,
+    ascii: Arg<'a>,
 ) -> Result<Command<'a>, AllocError> {
-    let ascii = flag(alloc, "ascii", "Write ASCII").conflicts_with("binary");
-    let binary = flag(alloc, "binary", "Write binary");
-    with(with_made(command, ascii), binary)
+    let command = with(command, ascii);
+    with(command, flag(alloc, "binary", "Write binary"))
 }
 
 fn workers<'a>(alloc: Global) -> Arg<'a> {
@@ -146,12 +140,14 @@ fn with_limits<'a>(
 }
 
 fn retime<'a>(alloc: Global) -> Result<Command<'a>, AllocError> {
+    let ascii = ascii(alloc)?;
     let command = Command::new(alloc, "retime")
         .about(RETIME_ABOUT)
         .long_about(RETIME_LONG_ABOUT)
         .after_help(RETIME_EXAMPLE)
         .arg_required_else_help(true);
-    with_limits(alloc, with_spelling(alloc, with_files(alloc, command)))
+    let command = with_spelling(alloc, with_files(alloc, command), ascii);
+    with_limits(alloc, command)
 }
 
 fn stat<'a>(alloc: Global) -> Result<Command<'a>, AllocError> {
@@ -163,10 +159,11 @@ fn stat<'a>(alloc: Global) -> Result<Command<'a>, AllocError> {
 }
 
 fn convert<'a>(alloc: Global) -> Result<Command<'a>, AllocError> {
+    let ascii = ascii(alloc)?;
     let command = Command::new(alloc, "convert")
         .about("Writes a circuit as it was read; without a flag in the other spelling")
         .arg_required_else_help(true);
-    with_spelling(alloc, with_files(alloc, command))
+    with_spelling(alloc, with_files(alloc, command), ascii)
 }
 
 fn sim<'a>(alloc: Global) -> Result<Command<'a>, AllocError> {

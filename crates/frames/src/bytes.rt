@@ -54,8 +54,13 @@ fn retime_spelt<W: CountedWrite, G: PhaseGate>(
 {
     let retimed = retime(rt, alloc, &spelt.circuit, options, crew)?;
     in_range(&retimed.circuit);
-    write_answer(&retimed, spelt, writer, options)?;
-    Ok(retimed)
+    match write_answer(&retimed, spelt, writer, options) {
+        Ok(()) => Ok(retimed),
+        Err(error) => {
+            drop(retimed);
+            Err(BytesError::Write(error))
+        }
+    }
 }
 
 /// Reads a circuit of either spelling to the end of the reader, retimes it, and writes it in the chosen spelling, else in that of the
@@ -82,7 +87,32 @@ pub fn retime_bytes<R: CountedRead, W: CountedWrite, G: PhaseGate>(
     ensures answer { IfOk result (IsAnswered (R.input reader.old) (W.output writer.old) (W.output writer.new) options.now) }
     ensures err { IfErr result (IsBytesError options.now (R.input reader.old) (R.input reader.new) (W.output writer.old) (W.output writer.new)) }
 {
-    let mut circuits = AnyReader::new(alloc);
+    retime_bytes_by(
+        rt,
+        alloc,
+        reader,
+        AnyReader::new(alloc),
+        writer,
+        options,
+        crew,
+    )
+}
+
+/// [`retime_bytes_with`] over a reader of circuits of its own.
+fn retime_bytes_by<R: CountedRead, W: CountedWrite, C: CircuitReader + Drop, G: PhaseGate>(
+    rt: &(impl Threads + Sync),
+    alloc: Global,
+    reader: &mut R,
+    mut circuits: C,
+    writer: &mut W,
+    options: &Options,
+    crew: &Crew<G>,
+) -> Result<Retimed, BytesError>
+    requires { C.holds circuits [] }
+    ensures read { OnOk result (ReadsToEnd (R.input reader.old) (R.input reader.new)) }
+    ensures answer { IfOk result (IsAnswered (R.input reader.old) (W.output writer.old) (W.output writer.new) options.now) }
+    ensures err { IfErr result (IsBytesError options.now (R.input reader.old) (R.input reader.new) (W.output writer.old) (W.output writer.new)) }
+{
     retime_bytes_with(rt, alloc, reader, &mut circuits, writer, options, crew)
 }
 
@@ -102,5 +132,7 @@ pub fn retime_bytes_with<R: CountedRead, W: CountedWrite, C: CircuitReader, G: P
     ensures err { IfErr result (IsBytesError options.now (R.input reader.old) (R.input reader.new) (W.output writer.old) (W.output writer.new)) }
 {
     let spelt = read_circuit(reader, circuits)?;
-    retime_spelt(rt, alloc, &spelt, writer, options, crew)
+    let answer = retime_spelt(rt, alloc, &spelt, writer, options, crew);
+    drop(spelt);
+    answer
 }

@@ -43,7 +43,9 @@ fn moved_over(
 {
     let _aig = circuit.aig();
     let after = moved(alloc, circuit, set, keep)?;
-    cleaned_by_names(alloc, &after, options)
+    let cleaned = cleaned_by_names(alloc, &after, options);
+    drop(after);
+    cleaned
 }
 
 /// The frame of a circuit, where one makes fewer latches.

@@ -16,16 +16,23 @@ pub(crate) struct History {
     pub frames: Sequence<FrameReport>,
 }
 
-/// The history of a retimed circuit, which is dropped.
+/// The history of a retimed circuit; the circuit is dropped.
 pub(crate) fn history_of(retimed: Retimed) -> History
     ensures kept_free { result.kept_free ≡ retimed.kept_free }
     ensures read_latches { result.read_latches ≡ retimed.read_latches }
     ensures frames { result.frames ≡ retimed.frames }
 {
+    let Retimed {
+        circuit,
+        kept_free,
+        read_latches,
+        frames,
+    } = retimed;
+    drop(circuit);
     History {
-        kept_free: retimed.kept_free,
-        read_latches: retimed.read_latches,
-        frames: retimed.frames,
+        kept_free,
+        read_latches,
+        frames,
     }
 }
 

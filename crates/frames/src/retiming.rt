@@ -58,13 +58,18 @@ fn after_frame(
 {
     let Frame { cleaned, report } = frame;
     let places = cleaned.kept_free.as_slice();
-    let after = with_frame(alloc, history_of(retimed), places, report)?;
-    Ok(Retimed {
-        circuit: cleaned.circuit,
-        kept_free: after.kept_free,
-        read_latches: after.read_latches,
-        frames: after.frames,
-    })
+    match with_frame(alloc, history_of(retimed), places, report) {
+        Ok(after) => Ok(Retimed {
+            circuit: cleaned.circuit,
+            kept_free: after.kept_free,
+            read_latches: after.read_latches,
+            frames: after.frames,
+        }),
+        Err(error) => {
+            drop(cleaned);
+            Err(error)
+        }
+    }
 }
 
 /// The circuit cleaned, and then retimed frame by frame.
@@ -82,9 +87,13 @@ fn retime_held<G: PhaseGate>(
 {
     let mut retimed = begun(alloc, circuit, keep, options)?;
     for _ in 0..options.max_frames {
-        match next_frame(rt, alloc, &retimed.circuit, options, crew)? {
-            Some(frame) => retimed = after_frame(alloc, retimed, frame, options)?,
-            None => return Ok(retimed),
+        match next_frame(rt, alloc, &retimed.circuit, options, crew) {
+            Ok(Some(frame)) => retimed = after_frame(alloc, retimed, frame, options)?,
+            Ok(None) => return Ok(retimed),
+            Err(error) => {
+                drop(retimed);
+                return Err(error);
+            }
         }
     }
     Ok(retimed)

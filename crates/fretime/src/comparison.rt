@@ -63,7 +63,11 @@ fn compared_with<'a, R: Files + Threads + Sync>(
     stimulus: &'a str,
 ) -> Result<Finding, Failure<'a>> {
     match circuit_at(rt, alloc, second) {
-        Ok(second) => compared_under(rt, alloc, first, &second.circuit, stimulus),
+        Ok(second) => {
+            let found = compared_under(rt, alloc, first, &second.circuit, stimulus);
+            drop(second);
+            found
+        }
         Err(failure) => Err(failure),
     }
 }
@@ -76,7 +80,11 @@ fn compared<'a, R: Files + Threads + Sync>(
     stimulus: &'a str,
 ) -> Result<Finding, Failure<'a>> {
     match circuit_at(rt, alloc, first) {
-        Ok(first) => compared_with(rt, alloc, &first.circuit, second, stimulus),
+        Ok(first) => {
+            let found = compared_with(rt, alloc, &first.circuit, second, stimulus);
+            drop(first);
+            found
+        }
         Err(failure) => Err(failure),
     }
 }

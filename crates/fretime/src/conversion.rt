@@ -37,5 +37,7 @@ pub fn convert_file<'a, R: Files>(
 ) -> Result<(), Failure<'a>> {
     let spelt = circuit_at(rt, alloc, input)?;
     let spelling = spelling.unwrap_or(other(spelt.spelling));
-    write_file(rt, &spelt.circuit, spelling, output)
+    let written = write_file(rt, &spelt.circuit, spelling, output);
+    drop(spelt);
+    written
 }

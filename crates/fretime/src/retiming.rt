@@ -91,5 +91,7 @@ pub fn print_retimed<'a, R: Files + Threads + Sync, O: CountedWrite>(
     ensures { Prints (ending result) (O.output out.old) (O.output out.new) }
 {
     let retimed = retimed(rt, alloc, task)?;
-    ended(print_retiming(&retimed, out), Outcome::Done)
+    let printed = print_retiming(&retimed, out);
+    drop(retimed);
+    ended(printed, Outcome::Done)
 }

@@ -45,7 +45,11 @@ fn simulated<'a, R: Files + Threads + Sync>(
     stimulus: &'a str,
 ) -> Result<Trace, Failure<'a>> {
     match circuit_at(rt, alloc, input) {
-        Ok(spelt) => trace_under(rt, alloc, &spelt.circuit, stimulus),
+        Ok(spelt) => {
+            let trace = trace_under(rt, alloc, &spelt.circuit, stimulus);
+            drop(spelt);
+            trace
+        }
         Err(failure) => Err(failure),
     }
 }

@@ -41,7 +41,11 @@ pub fn print_statistics<'a, R: Files, O: CountedWrite>(
     ensures { Prints (ending result) (O.output out.old) (O.output out.new) }
 {
     match circuit_at(rt, alloc, input) {
-        Ok(spelt) => print_circuit(alloc, &spelt.circuit, out),
+        Ok(spelt) => {
+            let printed = print_circuit(alloc, &spelt.circuit, out);
+            drop(spelt);
+            printed
+        }
         Err(failure) => Err(failure),
     }
 }

@@ -26,20 +26,20 @@ returns-in_err-spelt-clause-err g c =
 pub returns-clause-read : goal.returns-clause-read
 returns-clause-read g c =
     let before = g.W.CountedWrite.output c.args.writer.now in
-    let after = g.W.CountedWrite.output c.retime_spelt.new.writer in
+    let after = g.W.CountedWrite.output c.retime_spelt-answer.new.writer in
     let ReadsAll : Type 0 = ReadsToEnd (g.R.CountedRead.input c.args.reader.now) (g.R.CountedRead.input c.read_circuit.new.reader) in
-    IfOk-weaker c.retime_spelt.result (IsWritten c.args.options.now c.in_ok-spelt.spelt before after) (λ r. ReadsAll) (λ r written. c.in_ok-spelt.ensures.read) c.retime_spelt.ensures.ok
+    IfOk-weaker c.retime_spelt-answer.result (IsWritten c.args.options.now c.in_ok-spelt.spelt before after) (λ r. ReadsAll) (λ r written. c.in_ok-spelt.ensures.read) c.retime_spelt-answer.ensures.ok
 
 pub returns-clause-answer : goal.returns-clause-answer
 returns-clause-answer g c =
     let old = g.R.CountedRead.input c.args.reader.now in
     let before = g.W.CountedWrite.output c.args.writer.now in
-    let after = g.W.CountedWrite.output c.retime_spelt.new.writer in
+    let after = g.W.CountedWrite.output c.retime_spelt-answer.new.writer in
     let spelt = c.in_ok-spelt.spelt in
     let read = c.in_ok-spelt.ensures.circuit in
-    IfOk-weaker c.retime_spelt.result (IsWritten c.args.options.now spelt before after) (IsAnswered old before after c.args.options.now)
+    IfOk-weaker c.retime_spelt-answer.result (IsWritten c.args.options.now spelt before after) (IsAnswered old before after c.args.options.now)
     (λ r written. record { spelt = spelt; read = read; written = written; reads_back = λ left known. written.reads_back (reads-within left spelt.circuit (read.circuit.bytes left known)) })
-    c.retime_spelt.ensures.ok
+    c.retime_spelt-answer.ensures.ok
 
 pub returns-clause-err : goal.returns-clause-err
 returns-clause-err g c =
@@ -47,7 +47,7 @@ returns-clause-err g c =
     let old = g.R.CountedRead.input c.args.reader.now in
     let new = g.R.CountedRead.input c.read_circuit.new.reader in
     let before = g.W.CountedWrite.output c.args.writer.now in
-    let after = g.W.CountedWrite.output c.retime_spelt.new.writer in
+    let after = g.W.CountedWrite.output c.retime_spelt-answer.new.writer in
     let spelt = c.in_ok-spelt.spelt in
-    IfErr-weaker c.retime_spelt.result (IsStop options spelt before after) (IsBytesError options old new before after)
-    (λ e stop. stops-answering options old new before after spelt e c.in_ok-spelt.ensures.read c.in_ok-spelt.ensures.circuit stop) c.retime_spelt.ensures.err
+    IfErr-weaker c.retime_spelt-answer.result (IsStop options spelt before after) (IsBytesError options old new before after)
+    (λ e stop. stops-answering options old new before after spelt e c.in_ok-spelt.ensures.read c.in_ok-spelt.ensures.circuit stop) c.retime_spelt-answer.ensures.err

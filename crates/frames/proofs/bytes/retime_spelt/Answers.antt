@@ -2,23 +2,23 @@ use Rattle.std.proofs.Common.{Err, ap}
 use Rattle.std.specs.Option.{unwrap_or}
 use Rattle.spellings.proofs.SpellingLemmas.{the_spelling_law}
 use Rattle.written_laws.proofs.StayLaws.{stays-within}
-use Rattle.frames.specs.declared.errors.BytesError.TheVariants.{Retime, Write}
+use Rattle.frames.specs.declared.errors.BytesError.TheVariants.{Retime}
 use Rattle.frames.specs.declared.errors.RetimeError.{RetimeError}
-use Rattle.frames.specs.Answering.{IsStop, StopsWriting}
+use Rattle.frames.specs.Answering.{IsStop}
 use Rattle.frames.specs.Named.{names_in}
 use Rattle.std.proofs.lemmas.Result.{IfOk-from_err}
 use Rattle.frames.proofs.StopLaws.{at-error, stops-retiming}
 use Rattle.frames.proofs.bytes.retime_spelt.Goals as goal
 
-pub returns-clause-ok : goal.returns-clause-ok
-returns-clause-ok g c =
+pub returns-in-Ok-clause-ok : goal.returns-in-Ok-clause-ok
+returns-in-Ok-clause-ok g c =
     let options = c.args.options.now in
     let spelt = c.args.spelt.now in
     let r = c.in_ok-retimed.retimed in
     let retimed = c.in_ok-retimed.ensures.retimed in
     record {
       answer = record { names = c.in_ok-retimed.ensures.none_missing; retimed = retimed };
-      writes = c.in_ok-write_answer.ensures.ok;
+      writes = c.in-Ok.ensures.ok;
       reads_back = λ within.
           (the_spelling_law (unwrap_or options.spelling spelt.spelling) r.circuit).read c.in_range.ensures.graph c.in_range.ensures.network
           (stays-within spelt.circuit (names_in options) options.max_frames r retimed within);
@@ -26,9 +26,6 @@ returns-clause-ok g c =
 
 pub returns-in_err-retimed-clause-ok : goal.returns-in_err-retimed-clause-ok
 returns-in_err-retimed-clause-ok g c = IfOk-from_err c.from_residual.result _ c.from_residual.ensures.0
-
-pub returns-in_err-write_answer-clause-ok : goal.returns-in_err-write_answer-clause-ok
-returns-in_err-write_answer-clause-ok g c = IfOk-from_err c.from_residual-in_err-write_answer.result _ c.from_residual-in_err-write_answer.ensures.0
 
 pub returns-in_err-retimed-clause-err : goal.returns-in_err-retimed-clause-err
 returns-in_err-retimed-clause-err g c =
@@ -39,16 +36,15 @@ returns-in_err-retimed-clause-err g c =
     at-error c.from_residual.result (Retime e) (IsStop options spelt out out) c.from_residual.ensures.1
     (stops-retiming options spelt out e (λ place is. c.in_err-retimed.ensures.missing place (ap (λ (x : RetimeError). Err x) is)))
 
-pub returns-in_err-write_answer-clause-err : goal.returns-in_err-write_answer-clause-err
-returns-in_err-write_answer-clause-err g c =
+pub returns-in-Err-clause-err : goal.returns-in-Err-clause-err
+returns-in-Err-clause-err g c =
     let options = c.args.options.now in
     let spelt = c.args.spelt.now in
     let before = g.W.CountedWrite.output c.args.writer.now in
     let after = g.W.CountedWrite.output c.write_answer.new.writer in
     let retimed = c.in_ok-retimed.ensures in
-    let stops : StopsWriting options spelt before after = record {
+    record {
       retimed = c.in_ok-retimed.retimed;
       answer = record { names = retimed.none_missing; retimed = retimed.retimed };
-      writes = c.in_err-write_answer.ensures.err;
-    } in
-    at-error c.from_residual-in_err-write_answer.result (Write c.in_err-write_answer.field-0.0) (IsStop options spelt before after) c.from_residual-in_err-write_answer.ensures.1 stops
+      writes = c.in-Err.ensures.err;
+    }

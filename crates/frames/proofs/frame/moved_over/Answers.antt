@@ -24,8 +24,8 @@ moved-requires-clause-room c =
     let P : List ℕ → Type 0 = λ held. moved_size (move_of before held set) ≤ MAX_VARIABLES in
     subst P (sym c.requires.keep) (room before.aig (count_in (names_in c.args.options.now) before set) c.requires.graph (omega (arith, c.requires.helps.fewer)))
 
-pub cleaned_by_names-requires : goal.cleaned_by_names-requires
-cleaned_by_names-requires c =
+pub cleaned_by_names-cleaned-requires : goal.cleaned_by_names-cleaned-requires
+cleaned_by_names-cleaned-requires c =
     let names = names_in c.args.options.now in
     let before = c.args.circuit.now in
     let set = c.args.set.now in
@@ -52,15 +52,15 @@ returns-clause-cleaned c =
     let before = c.args.circuit.now in
     let set = c.args.set.now in
     let same : c.in_ok-after.after ≡ moved_in names before set = c.in_ok-after.ensures.value ∙ ap (λ (held : List ℕ). moved_of (move_of before held set)) c.requires.keep in
-    let P : Network → Type 0 = λ e. IfOk c.cleaned_by_names.result (λ d. CleansIn names e d.circuit d.kept_free) in
-    subst P same c.cleaned_by_names.ensures.cleaned
+    let P : Network → Type 0 = λ e. IfOk c.cleaned_by_names-cleaned.result (λ d. CleansIn names e d.circuit d.kept_free) in
+    subst P same c.cleaned_by_names-cleaned.ensures.cleaned
 
 pub returns-clause-streams : goal.returns-clause-streams
 returns-clause-streams c =
     let before = c.args.circuit.now in
     let after = c.in_ok-after.after in
-    IfOk-weaker c.cleaned_by_names.result (λ d. SameStreams after d.circuit d.kept_free) (λ d. SameStreams before d.circuit d.kept_free)
-    (λ d streams. streams-through before after d.circuit d.kept_free c.in_ok-after.ensures.streams streams) c.cleaned_by_names.ensures.streams
+    IfOk-weaker c.cleaned_by_names-cleaned.result (λ d. SameStreams after d.circuit d.kept_free) (λ d. SameStreams before d.circuit d.kept_free)
+    (λ d streams. streams-through before after d.circuit d.kept_free c.in_ok-after.ensures.streams streams) c.cleaned_by_names-cleaned.ensures.streams
 
 pub returns-clause-held : goal.returns-clause-held
 returns-clause-held c =
@@ -69,5 +69,5 @@ returns-clause-held c =
     let set = c.args.set.now in
     let after = c.in_ok-after.after in
     let same : after ≡ moved_in names before set = c.in_ok-after.ensures.value ∙ ap (λ (held : List ℕ). moved_of (move_of before held set)) c.requires.keep in
-    IfOk-weaker c.cleaned_by_names.result (λ d. held_latches names d.circuit ≡ held_latches names after) (λ d. held_latches names d.circuit ≡ held_latches names before)
-    (λ d stays. stays ∙ ap (held_latches names) same ∙ moving-keeps names before set c.aig-aig.ensures.network) c.cleaned_by_names.ensures.held
+    IfOk-weaker c.cleaned_by_names-cleaned.result (λ d. held_latches names d.circuit ≡ held_latches names after) (λ d. held_latches names d.circuit ≡ held_latches names before)
+    (λ d stays. stays ∙ ap (held_latches names) same ∙ moving-keeps names before set c.aig-aig.ensures.network) c.cleaned_by_names-cleaned.ensures.held

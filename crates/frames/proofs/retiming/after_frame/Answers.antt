@@ -1,6 +1,5 @@
 use Rattle.std.proofs.Common.{ℕ, List, ◌≡◌, ◌∙◌, ◌++◌, ◌∷◌, ◌<◌, [], arith, ap, get_or, length, sym, subst, suc}
 use Rattle.std.specs.List.{All}
-use Rattle.std.proofs.lemmas.Result.{IfOk-from_err}
 use Rattle.aig_graph.specs.Graph.{free_latches}
 use Rattle.aig_graph.specs.Laws.{composed}
 use Rattle.frame_laws.specs.declared.report.FrameReport.{FrameReport}
@@ -20,20 +19,17 @@ with_frame-requires c =
     omega (arith, here, many, same) in
     subst (λ (xs : List ℕ). All (λ (place : ℕ). place < length c.history_of.result.kept_free) xs) (sym c.as_slice-places.ensures) below
 
-pub returns : goal.returns
-returns c = λ d n before.
+pub returns-in-Ok : goal.returns-in-Ok
+returns-in-Ok c = λ d n before.
     let names = names_in c.args.options.now in
     let r = c.args.retimed in
     let e = c.args.frame.cleaned in
-    let after = c.in_ok-after.after in
-    let kept : after.kept_free ≡ composed r.kept_free e.kept_free = c.in_ok-after.ensures.kept_free
+    let after = c.in-Ok.after in
+    let kept : after.kept_free ≡ composed r.kept_free e.kept_free = c.in-Ok.ensures.kept_free
     ∙ ap (λ (first : List ℕ). composed first c.as_slice-places.result.now) c.history_of.ensures.kept_free ∙ ap (composed r.kept_free) c.as_slice-places.ensures in
-    let latches : after.read_latches ≡ r.read_latches = c.in_ok-after.ensures.read_latches ∙ c.history_of.ensures.read_latches in
-    let reports : after.frames ≡ r.frames ++ c.args.frame.report ∷ [] = c.in_ok-after.ensures.frames ∙ ap (λ (xs : List FrameReport). xs ++ c.args.frame.report ∷ []) c.history_of.ensures.frames in
+    let latches : after.read_latches ≡ r.read_latches = c.in-Ok.ensures.read_latches ∙ c.history_of.ensures.read_latches in
+    let reports : after.frames ≡ r.frames ++ c.args.frame.report ∷ [] = c.in-Ok.ensures.frames ∙ ap (λ (xs : List FrameReport). xs ++ c.args.frame.report ∷ []) c.history_of.ensures.frames in
     let P : List ℕ → ℕ → List FrameReport → Type 0 = λ places many all. IsUnderway names d (suc n) (record { circuit = e.circuit; kept_free = places; read_latches = many; frames = all }) in
     subst (λ (places : List ℕ). P places after.read_latches after.frames) (sym kept)
     (subst (λ (many : ℕ). P (composed r.kept_free e.kept_free) many after.frames) (sym latches)
     (subst (λ (all : List FrameReport). P (composed r.kept_free e.kept_free) r.read_latches all) (sym reports) (one-more names d n r c.args.frame before c.requires.moves)))
-
-pub returns-in_err-after : goal.returns-in_err-after
-returns-in_err-after c = IfOk-from_err c.from_residual.result _ c.from_residual.ensures.0

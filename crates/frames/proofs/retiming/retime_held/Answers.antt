@@ -19,18 +19,18 @@ next_frame-requires-after_bounds g c κs within = names-stay (names_in c.args.op
 pub after_frame-requires-clause-underway : goal.after_frame-requires-clause-underway
 after_frame-requires-clause-underway g c = (c.args.circuit.now, c.loop.counter, c.loop.invariant)
 
-pub returns-in-None : goal.returns-in-None
-returns-in-None g c =
+pub returns-in-Ok-None : goal.returns-in-Ok-None
+returns-in-Ok-None g c =
     let names = names_in c.args.options.now in
     let P : Option Frame → Type 0 = λ found. MatchOption found (NoneSmaller names c.loop.retimed.circuit) (Moves names c.loop.retimed.circuit) in
-    let none : NoneSmaller names c.loop.retimed.circuit = subst P c.in-None.is c.in_ok-frame.ensures in
+    let none : NoneSmaller names c.loop.retimed.circuit = subst P c.in-Ok-None.field-0-is c.in-Ok-None.ensures in
     ended names c.args.circuit.now c.loop.counter c.args.options.now.max_frames c.loop.retimed c.loop.invariant c.loop.auto.counter-end (λ less. none)
 
 pub loop-preserved : goal.loop-preserved
 loop-preserved g c =
-    let P : ℕ → Type 0 = λ n. IsUnderway (names_in c.args.options.now) c.args.circuit.now n c.in_ok-retimed-in-Some.retimed in
+    let P : ℕ → Type 0 = λ n. IsUnderway (names_in c.args.options.now) c.args.circuit.now n c.in_ok-retimed-in-Ok-Some.retimed in
     let next : suc c.loop.counter ≡ c.loop.counter + 1 = omega arith in
-    subst P next (c.in_ok-retimed-in-Some.ensures c.args.circuit.now c.loop.counter c.loop.invariant)
+    subst P next (c.in_ok-retimed-in-Ok-Some.ensures c.args.circuit.now c.loop.counter c.loop.invariant)
 
 pub returns : goal.returns
 returns g c =
@@ -44,13 +44,10 @@ pub after_frame-requires-clause-moves : goal.after_frame-requires-clause-moves
 after_frame-requires-clause-moves g c =
     let names = names_in c.args.options.now in
     let P : Option Frame → Type 0 = λ found. MatchOption found (NoneSmaller names c.loop.retimed.circuit) (Moves names c.loop.retimed.circuit) in
-    subst P c.in-Some.is c.in_ok-frame.ensures
+    subst P c.in-Ok-Some.field-0-is c.in-Ok-Some.ensures
 
 pub returns-in_err-retimed : goal.returns-in_err-retimed
 returns-in_err-retimed g c = IfOk-from_err c.from_residual.result _ c.from_residual.ensures.0
 
-pub returns-in_err-frame : goal.returns-in_err-frame
-returns-in_err-frame g c = IfOk-from_err c.from_residual-in_err-frame.result _ c.from_residual-in_err-frame.ensures.0
-
-pub returns-in_err-retimed-in-Some : goal.returns-in_err-retimed-in-Some
-returns-in_err-retimed-in-Some g c = IfOk-from_err c.from_residual-in_err-retimed-in-Some.result _ c.from_residual-in_err-retimed-in-Some.ensures.0
+pub returns-in_err-retimed-in-Ok-Some : goal.returns-in_err-retimed-in-Ok-Some
+returns-in_err-retimed-in-Ok-Some g c = IfOk-from_err c.from_residual-in_err-retimed-in-Ok-Some.result _ c.from_residual-in_err-retimed-in-Ok-Some.ensures.0
