@@ -185,25 +185,53 @@ fn differ(
     }
 }
 
+/// Whether this is the first difference of a gate after two latches from the latch after that gate.
+fn differs_from_latch(
+    rt: &(impl Threads + Sync),
+    alloc: Global,
+    gate: &Circuit,
+    place: Option<Place>,
+) -> Result<bool, Fail> {
+    let latch = latch_circuit(alloc)?;
+    Ok(differ(rt, alloc, gate, &latch, place))
+}
+
+fn is_same_across_a_gate(rt: &(impl Threads + Sync), alloc: Global) -> Result<bool, Fail> {
+    let gate = gate_circuit(alloc, false)?;
+    differs_from_latch(rt, alloc, &gate, None)
+}
+
 #[test]
 fn finds_no_difference_across_a_gate(rt: HostRuntime) -> Result<(), Fail> {
-    let before = gate_circuit(rt.alloc(), false)?;
-    let after = latch_circuit(rt.alloc())?;
-    let same = differ(&rt, rt.alloc(), &before, &after, None);
+    let same = is_same_across_a_gate(&rt, rt.alloc())?;
     assert!(rt; same);
     Ok(())
 }
 
-#[test]
-fn finds_the_first_difference(rt: HostRuntime) -> Result<(), Fail> {
-    let one = gate_circuit(rt.alloc(), false)?;
-    let other = gate_circuit(rt.alloc(), true)?;
+/// Whether this is the first difference of a gate after two latches from the gate of their negations.
+fn differs_from_negated(
+    rt: &(impl Threads + Sync),
+    alloc: Global,
+    gate: &Circuit,
+    place: Option<Place>,
+) -> Result<bool, Fail> {
+    let negated = gate_circuit(alloc, true)?;
+    Ok(differ(rt, alloc, gate, &negated, place))
+}
+
+fn differs_at_once(rt: &(impl Threads + Sync), alloc: Global) -> Result<bool, Fail> {
+    let gate = gate_circuit(alloc, false)?;
     let first = Place {
         sequence: 0,
         step: 0,
         place: 0,
     };
-    let found = differ(&rt, rt.alloc(), &one, &other, Some(first));
+    differs_from_negated(rt, alloc, &gate, Some(first))
+}
+
+#[test]
+fn finds_the_first_difference(rt: HostRuntime) -> Result<(), Fail> {
+    let found = differs_at_once(&rt, rt.alloc())?;
     assert!(rt; found);
     Ok(())
 }

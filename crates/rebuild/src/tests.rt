@@ -59,10 +59,17 @@ fn moved_over(alloc: Global, circuit: &Circuit, set: &ClosedSet) -> Option<Circu
     }
 }
 
-fn moved_nor(alloc: Global) -> Option<Circuit> {
-    let circuit = nor_circuit(alloc).ok()?;
+/// The circuit moved over the gate alone.
+fn moved_over_gate(alloc: Global, circuit: &Circuit) -> Option<Circuit> {
     let set = ClosedSet::new(Vec::from_array(alloc, [5]).ok()?)?;
-    moved_over(alloc, &circuit, &set)
+    moved_over(alloc, circuit, &set)
+}
+
+fn moved_nor(alloc: Global) -> Option<Circuit> {
+    match nor_circuit(alloc) {
+        Ok(circuit) => moved_over_gate(alloc, &circuit),
+        Err(_) => None,
+    }
 }
 
 /// Whether the one latch starts at 1 and reads the gate's copy, which reads the inputs, larger literal first; and the output
