@@ -19,3 +19,4 @@ pub mod Lists
 pub mod Gathered
 pub mod Visits
 pub mod Received
+pub mod Senders

@@ -1,17 +1,12 @@
 -- What comes in at a node where the nodes that push are visited in place of its arcs.
-use Rattle.std.proofs.Common.{◌≡◌, ℕ, suc, zero, ◌+◌, ◌-◌, ◌<◌, ◌≤◌, ◌^◌, true, List, [], ◌∷◌, length, slice_index, slice_set, get_or, refl, arith, sym, ap, ◌∙◌, subst, inl, inr, get_or-set_other, get_or-set_same}
+use Rattle.std.proofs.Common.{◌≡◌, ℕ, suc, zero, ◌+◌, ◌-◌, ◌<◌, ◌≤◌, ◌^◌, List, length, slice_index, slice_set, refl, arith, sym, ap, ◌∙◌, subst, inl, inr, get_or-set_other, get_or-set_same}
 use Rattle.std.proofs.lemmas.Bool.{cases_lt}
 use Rattle.flow_theory.specs.Flow.{sum_below}
 use Rattle.flow_theory.proofs.Sums.{sum_below-mono}
 use Rattle.frame_net.specs.FlowNet.{FlowNet, node_count, start, row_len, head, mate, HasMate, IsFlowNet}
-use Rattle.flow_parts.specs.declared.parts.PushPart.{PushPart}
-use Rattle.flow_parts.specs.Parts.{ArePushParts, PushPartFits, values_of}
 use Rattle.flow_parts.specs.Delivering.{own, back, row_inflow}
-use Rattle.flow_parts.specs.Listing.{AreWithin, IsListed, IsRising}
+use Rattle.flow_parts.specs.Listing.{IsListed, IsRising}
 use Rattle.flow_parts.specs.Receiving.{ListsSenders, Receives, ReceivesPush, ReceivesNothing}
-use Rattle.flow_parts.proofs.Left.{left_all, part_fits, whole_at}
-use Rattle.flow_parts.proofs.Ahead.{push_piece, rising}
-use Rattle.flow_parts.proofs.Gathered.{from_nodes, pushing_lists}
 
 -- ---- one node
 
@@ -71,9 +66,9 @@ receives_push net xs u v j at push old new m ep ea la en = inl record {
   others = λ k ne. ap (λ (ys : List ℕ). slice_index ys k) en ∙ get_or-set_other old at k (slice_index old at + push) 0 (λ (e : k ≡ at). ne (e ∙ ea));
 }
 
-pub receives_nothing : (net : FlowNet) (xs : List ℕ) (u v : ℕ) (row : List ℕ) → IsFlowNet net → v < node_count net → ((j : ℕ) → j < row_len net u → head net u j ≡ v → ⊥)
-    → Receives net xs u v row row 0
-receives_nothing net xs u v row ok vn none = inr record {
+pub receives_nothing : (net : FlowNet) (xs : List ℕ) (u v : ℕ) (ys : List ℕ) → IsFlowNet net → v < node_count net → ((j : ℕ) → j < row_len net u → head net u j ≡ v → ⊥)
+    → Receives net xs u v ys ys 0
+receives_nothing net xs u v ys ok vn none = inr record {
   none = λ k kl e.
       let m : HasMate net v k = ok.meets v k vn kl in
       none m.place (subst (λ (w : ℕ). m.place < row_len net w) e m.inside) (subst (λ (w : ℕ). head net w m.place ≡ v) e m.back);
@@ -238,49 +233,3 @@ rising_more list i last up a b ab bi = elim (cases_lt b i) [
         | inr at ↦ let q : i - 1 ≡ a = omega (arith, at, e, ab) in subst (λ (m : ℕ). slice_index list m < slice_index list i) q (last (omega (arith, e, ab)))
       ])
 ]
-
--- ---- the one part's list
-
-only : (net : FlowNet) (all : List PushPart) (p : PushPart) → length all ≡ 1 → p ≡ get_or all 0 p → ArePushParts net 0 all → (p.first ≡ 0) × (p.end ≡ node_count net)
-only net [] p one ep cut = absurd (omega (arith, one))
-only net (q ∷ []) p one ep cut = (ap (λ (r : PushPart). r.first) ep ∙ cut.0, ap (λ (r : PushPart). r.end) ep ∙ cut.1.1)
-only net (q ∷ r ∷ rs) p one ep cut = absurd (omega (arith, one))
-
--- where one part holds all nodes, its complete list has all that push
-pub lists_senders : (net : FlowNet) (all : List PushPart) (p : PushPart) (list : List ℕ) → IsFlowNet net → ArePushParts net 0 all → length all ≡ 1 → p ≡ get_or all 0 p → p.pushing.complete ≡ true → list ≡ p.pushing.nodes.items
-    → ListsSenders net (values_of all) list
-lists_senders net all p list ok cut one ep done el u k un kl some =
-    elim (fit.lists.rest done u (omega (arith, begins)) (omega (arith, un, ends))) [
-      | inl at ↦ subst (λ (ys : List ℕ). IsListed ys u) (sym el) at
-      | inr none ↦ absurd (omega (arith, some, value, none k kl))
-    ]
-  where
-    fit : PushPartFits net p
-    fit = subst (λ (q : PushPart). PushPartFits net q) (sym ep) (part_fits (PushPartFits net) (λ q. q.first) (λ q. q.end) (node_count net) 0 all cut 0 p (omega (arith, one)))
-
-    begins : p.first ≡ 0
-    begins = (only net all p one ep cut).0
-
-    ends : p.end ≡ node_count net
-    ends = (only net all p one ep cut).1
-
-    up : start net u ≤ start net (u + 1)
-    up = ok.rows u (u + 1) (omega arith) (omega (arith, un))
-
-    top : start net (u + 1) ≤ start net p.end
-    top = ok.rows (u + 1) p.end (omega (arith, un, ends)) fit.within
-
-    low : start net p.first ≤ start net u
-    low = ok.rows p.first u (omega (arith, begins)) (omega (arith, un))
-
-    value : own net (values_of all) u k ≡ slice_index p.values.items (start net u + k - p.base)
-    value = subst (λ (q : PushPart). own net (values_of all) u k ≡ slice_index q.values.items (start net u + k - start net q.first)) (sym ep)
-        (whole_at (PushPartFits net) (λ q. q.first) (λ q. q.end) (λ q. q.values.items) (start net) (node_count net) (rising net ok) (push_piece net) 0 all all
-        (left_all (PushPartFits net) (λ q. q.first) (λ q. q.end) (λ q. q.values.items) (start net) (node_count net) all (rising net ok) cut) 0 p (omega (arith, one)) (start net u + k)
-        (subst (λ (q : PushPart). start net q.first ≤ start net u + k) ep (omega (arith, low))) (subst (λ (q : PushPart). start net u + k < start net q.end) ep (omega (arith, top, kl, up))))
-        ∙ ap (slice_index p.values.items) (let e : start net u + k - start net p.first ≡ start net u + k - p.base = omega (arith, fit.based) in e)
-
--- its nodes are nodes of the network
-pub senders_within : (net : FlowNet) (all : List PushPart) (p : PushPart) (list : List ℕ) → ArePushParts net 0 all → length all ≡ 1 → p ≡ get_or all 0 p → p.pushing.complete ≡ true → list ≡ p.pushing.nodes.items
-    → AreWithin 0 (node_count net) list
-senders_within net all p list cut one ep done el = from_nodes net all 0 p list cut (pushing_lists net all cut) (omega (arith, one)) ep done el

@@ -1,12 +1,17 @@
 -- What one node pushes to another, by the rows of both.
-use Rattle.std.specs.Prelude.{◌≡◌, ◌≢◌, ℕ, ◌+◌, ◌<◌, ◌⊎◌, List, slice_index}
+use Rattle.std.specs.Prelude.{◌≡◌, ◌≢◌, ℕ, ◌+◌, ◌<◌, ◌⊎◌, true, List, length, slice_index, slice_index_or}
 use Rattle.frame_net.specs.FlowNet.{FlowNet, node_count, row_len, head}
 use Rattle.flow_parts.specs.Delivering.{own, back}
-use Rattle.flow_parts.specs.Listing.{IsListed}
+use Rattle.flow_parts.specs.declared.parts.PushPart.{PushPart}
+use Rattle.flow_parts.specs.Listing.{IsListed, IsRising}
 
 -- each node that pushes is listed
 abbrev pub ListsSenders : FlowNet → List ℕ → List ℕ → Type 0
 ListsSenders net xs list = (u k : ℕ) → u < node_count net → k < row_len net u → 0 < own net xs u k → IsListed list u
+
+-- each part lists the nodes of it that push, in rising order
+abbrev pub ListInOrder : List PushPart → Type 0
+ListInOrder ps = (i : ℕ) (d : PushPart) → i < length ps → ((slice_index_or ps i d).pushing.complete ≡ true) × IsRising (slice_index_or ps i d).pushing.nodes.items
 
 -- v's row has an arc to u, and what u pushes over its mate is added to the arc's residual
 pub record ReceivesPush (net : FlowNet) (xs : List ℕ) (u v : ℕ) (old new : List ℕ) (push : ℕ) : Type 0 where

@@ -3,8 +3,8 @@ ghost use Rattle.std.specs.Prelude.{◌≡◌, ℕ, ◌+◌, ◌<◌, ◌≤◌,
 ghost use Rattle.frame_net.specs.FlowNet.{node_count, row_len, head};
 ghost use Rattle.flow_parts.specs.Parts.{ArePushParts, values_of};
 ghost use Rattle.flow_parts.specs.Delivering.{back, row_inflow};
-ghost use Rattle.flow_parts.specs.Listing.{AreWithin, IsRising};
-ghost use Rattle.flow_parts.specs.Receiving.{ListsSenders, Receives};
+ghost use Rattle.flow_parts.specs.Listing.{IsRising};
+ghost use Rattle.flow_parts.specs.Receiving.{ListInOrder, Receives};
 
 use crate::parts::PushPart;
 use crate::places::{push_at, push_row};
@@ -71,23 +71,25 @@ fn receive(parts: &[PushPart], net: &Net, u: u32, v: u32, row: &mut [u32]) -> u3
     push
 }
 
-/// As `add_each`, by a visit of the nodes that push, which `list` has in rising order.
-fn add_listed(parts: &[PushPart], list: &[u32], net: &Net, v: u32, row: &mut [u32]) -> u32
+/// As `add_each`, by a visit of the nodes that push, which the parts list in rising order.
+fn add_listed(parts: &[PushPart], net: &Net, v: u32, row: &mut [u32]) -> u32
     requires parts { ArePushParts net.now 0 parts.now }
     requires v { v < node_count net.now }
     requires len { length row.old ≡ row_len net.now v }
     requires fits { (k : ℕ) → k < row_len net.now v → slice_index row.old k + back net.now (values_of parts.now) v k < 2 ^ 32 }
     requires sum { row_inflow net.now (values_of parts.now) v < 2 ^ 32 }
-    requires nodes { AreWithin 0 (node_count net.now) list.now }
-    requires rising { IsRising list.now }
-    requires listed { ListsSenders net.now (values_of parts.now) list.now }
+    requires listed { ListInOrder parts.now }
     ensures inflow { result ≡ row_inflow net.now (values_of parts.now) v }
     ensures row { (k : ℕ) → k < row_len net.now v → slice_index row.new k ≡ slice_index row.old k + back net.now (values_of parts.now) v k }
 {
     let _nodes = net.nodes();
     let mut inflow = 0;
-    for i in 0..list.len() {
-        inflow += receive(parts, net, list[i], v, row);
+    for i in 0..parts.len() {
+        let part = &parts[i];
+        let list = part.pushing.nodes.as_slice();
+        for j in 0..list.len() {
+            inflow += receive(parts, net, list[j], v, row);
+        }
     }
     inflow
 }
@@ -98,6 +100,22 @@ fn is_rising(list: &[u32]) -> bool
 {
     for i in 0..list.len() {
         if i > 0 && list[i - 1] >= list[i] {
+            return false;
+        }
+    }
+    true
+}
+
+/// Whether fewer nodes push than `most`, and all parts list them in rising order.
+fn few_push(parts: &[PushPart], most: usize) -> bool
+    ensures { result ≡ true → ListInOrder parts.now }
+{
+    let mut count: usize = 0;
+    for i in 0..parts.len() {
+        let part = &parts[i];
+        let list = part.pushing.nodes.as_slice();
+        count = count.saturating_add(list.len());
+        if !part.pushing.complete || count >= most || !is_rising(list) {
             return false;
         }
     }
@@ -115,14 +133,8 @@ pub(crate) fn add_row(parts: &[PushPart], net: &Net, v: u32, row: &mut [u32]) ->
     ensures inflow { result ≡ row_inflow net.now (values_of parts.now) v }
     ensures row { (k : ℕ) → k < row_len net.now v → slice_index row.new k ≡ slice_index row.old k + back net.now (values_of parts.now) v k }
 {
-    if row.len() <= LONG_ROW || parts.len() != 1 {
-        return add_each(parts, net, v, row);
-    }
-    let _nodes = net.nodes();
-    let part = &parts[0];
-    let list = part.pushing.nodes.as_slice();
-    if part.pushing.complete && list.len() < row.len() / 4 && is_rising(list) {
-        add_listed(parts, list, net, v, row)
+    if row.len() > LONG_ROW && few_push(parts, row.len() / 4) {
+        add_listed(parts, net, v, row)
     } else {
         add_each(parts, net, v, row)
     }

@@ -15,3 +15,5 @@ pub mod Each
 pub mod Sizes
 pub mod LabelLemmas
 pub mod HoldLemmas
+pub mod CopyLemmas
+pub mod CarryLemmas

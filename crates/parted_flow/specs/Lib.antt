@@ -2,3 +2,4 @@ pub mod Runs
 pub mod Marks
 pub mod Start
 pub mod Labels
+pub mod TakingOver

@@ -6,6 +6,8 @@
 #![tactic(auto)]
 
 mod active;
+mod carrying;
+mod copying;
 mod labels;
 mod laws;
 mod parting;

@@ -1,10 +1,13 @@
 //! Parts for the ranges of a crew: worker i of n has the nodes from i*N/n up to (i+1)*N/n.
-ghost use Rattle.std.specs.Prelude.{◌≡◌, ℕ, ◌+◌, ◌<◌, ◌≤◌, ◌^◌, IfOk, length, slice_index};
+ghost use Rattle.std.specs.Prelude.{◌≡◌, ◌<◌, ◌≤◌, IfOk, length, slice_index};
 ghost use Rattle.frame_net.specs.FlowNet.{node_count};
+ghost use Rattle.flow_parts.specs.Listing.{ListActive, ListsActive};
 ghost use Rattle.flow_parts.specs.Parts.{AreFlowParts, ArePushParts, PushPartFits, cells_of};
 ghost use Rattle.parted_flow.specs.Start.{border_of, PartHolds, PartsHold};
 
-use flow_parts::{FlowPart, NodeList, PushPart, excess_at, residual_at};
+use crate::carrying::list_of;
+use crate::copying::{copied_excess, copied_labels, copied_residuals};
+use flow_parts::{FlowPart, NodeList, PushPart};
 use frame_net::Net;
 use std::alloc::{AllocError, Global};
 
@@ -18,68 +21,31 @@ pub fn border(nodes: u32, workers: u32, worker: u32) -> u32
     (u64::from(worker) * u64::from(nodes) / u64::from(workers)) as u32
 }
 
-/// The residuals of `size` arcs from `base` on.
-fn copied_residuals(
-    alloc: Global,
-    flow: &[FlowPart],
-    base: usize,
-    size: usize,
-) -> Result<Vec<u32>, AllocError>
-    requires within { base + size ≤ length (cells_of flow.now).residuals }
-    requires arcs { length (cells_of flow.now).residuals < 2 ^ 32 }
-    ensures len { IfOk result (λ v. length v.items ≡ size) }
-    ensures each { IfOk result (λ v. (i : ℕ) → i < length v.items → slice_index v.items i ≡ slice_index (cells_of flow.now).residuals (base + i)) }
-{
-    let mut residuals = Vec::with_capacity(alloc, size)?;
-    for i in 0..size {
-        residuals.push(residual_at(flow, base + i))?;
-    }
-    Ok(residuals)
-}
-
-/// The excess of `count` nodes from `first` on.
-fn copied_excess(
-    alloc: Global,
-    flow: &[FlowPart],
-    first: u32,
-    count: u32,
-) -> Result<Vec<u32>, AllocError>
-    requires within { first + count ≤ length (cells_of flow.now).excess }
-    requires nodes { length (cells_of flow.now).excess < 2 ^ 32 }
-    ensures len { IfOk result (λ v. length v.items ≡ count) }
-    ensures each { IfOk result (λ v. (i : ℕ) → i < length v.items → slice_index v.items i ≡ slice_index (cells_of flow.now).excess (first + i)) }
-{
-    let mut excess = Vec::with_capacity(alloc, count as usize)?;
-    for i in 0..count {
-        excess.push(excess_at(flow, (first + i) as usize))?;
-    }
-    Ok(excess)
-}
-
-/// The part of the nodes from `first` up to `end`, with the values of other parts.
+/// The part of the nodes from `first` up to `end`, with the values of other parts. Its list takes over what they list.
 fn part_anew(
     alloc: Global,
     net: &Net,
+    labels: &[u32],
     flow: &[FlowPart],
     worker: u32,
     first: u32,
     end: u32,
 ) -> Result<FlowPart, AllocError>
+    requires labels { length labels.now ≡ node_count net.now }
     requires flow { AreFlowParts net.now 0 flow.now }
     requires ordered { first ≤ end }
     requires within { end ≤ node_count net.now }
     ensures first { IfOk result (λ q. q.first ≡ first) }
     ensures end { IfOk result (λ q. q.end ≡ end) }
     ensures holds { IfOk result (λ q. PartHolds net.now (slice_index (cells_of flow.now).residuals) (slice_index (cells_of flow.now).excess) q) }
+    ensures lists { IfOk result (λ q. ListActive (node_count net.now) labels.now flow.now → ListsActive (node_count net.now) labels.now q) }
 {
     let _nodes = net.nodes();
-    let _arcs = net.arcs();
     let base = net.start(first);
-    let size = net.start(end) - base;
-    let residuals = copied_residuals(alloc, flow, base, size)?;
-    let excess = copied_excess(alloc, flow, first, end - first)?;
-    let next = vec![in alloc; 0u32; excess.len()]?;
-    let active = NodeList::with_room(alloc, excess.len())?;
+    let residuals = copied_residuals(alloc, net, flow, first, end)?;
+    let excess = copied_excess(alloc, net, flow, first, end)?;
+    let next = copied_labels(alloc, labels, first, end)?;
+    let active = list_of(alloc, flow, first, end)?;
     let spare = NodeList::with_room(alloc, excess.len())?;
     Ok(FlowPart {
         worker,
@@ -94,31 +60,34 @@ fn part_anew(
     })
 }
 
-/// Parts for so many workers, with the values of other parts.
+/// Parts for so many workers, with the values of other parts. Where those list the active nodes, so do these.
 pub fn parted_anew(
     alloc: Global,
     net: &Net,
+    labels: &[u32],
     flow: &[FlowPart],
     workers: u32,
 ) -> Result<Vec<FlowPart>, AllocError>
+    requires labels { length labels.now ≡ node_count net.now }
     requires flow { AreFlowParts net.now 0 flow.now }
     requires some { 0 < workers }
     ensures len { IfOk result (λ v. length v.items ≡ workers) }
     ensures holds { IfOk result (λ v. PartsHold net.now (slice_index (cells_of flow.now).residuals) (slice_index (cells_of flow.now).excess) (node_count net.now) v.items) }
+    ensures lists { IfOk result (λ v. ListActive (node_count net.now) labels.now flow.now → ListActive (node_count net.now) labels.now v.items) }
 {
     let nodes = net.nodes();
     let mut parts = Vec::with_capacity(alloc, workers as usize)?;
     let mut first = 0;
     for worker in 0..workers {
         let end = border(nodes, workers, worker + 1);
-        let part = part_anew(alloc, net, flow, worker, first, end)?;
+        let part = part_anew(alloc, net, labels, flow, worker, first, end)?;
         parts.push(part)?;
         first = end;
     }
     Ok(parts)
 }
 
-/// The pushes of the nodes from `first` up to `end`, all 0.
+/// The pushes of the nodes from `first` up to `end`, all 0: no node is listed as pushing.
 fn push_part(
     alloc: Global,
     net: &Net,
@@ -136,7 +105,8 @@ fn push_part(
     let base = net.start(first);
     let size = net.start(end) - base;
     let values = vec![in alloc; 0u32; size]?;
-    let pushing = NodeList::with_room(alloc, (end - first) as usize)?;
+    let mut pushing = NodeList::with_room(alloc, (end - first) as usize)?;
+    pushing.begin();
     Ok(PushPart {
         worker,
         first,

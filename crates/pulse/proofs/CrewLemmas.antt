@@ -1,5 +1,4 @@
-use Rattle.std.proofs.Common.{◌≡◌, ℕ, ◌+◌, ◌-◌, ◌==◌, Bool, ◌<◌, ◌≤◌, true, false, List, length, slice_index, get_or, refl, arith, sym, ap, ◌∙◌, subst, inl, inr}
-use Rattle.std.proofs.lemmas.Bool.{cases_eq, ne_eqb, false≢true}
+use Rattle.std.proofs.Common.{◌≡◌, ℕ, ◌+◌, ◌-◌, ◌<◌, ◌≤◌, true, false, List, length, slice_index, get_or, refl, arith, sym, ap, ◌∙◌, subst, inl, inr}
 use Rattle.flow_theory.specs.Flow.{pulse}
 use Rattle.frame_net.specs.FlowNet.{FlowNet, node_count, IsFlowNet}
 use Rattle.flow_parts.specs.declared.parts.FlowPart.{FlowPart}
@@ -75,13 +74,6 @@ all_pulsed net labels next qs ms us seen rs ok cut agree sound r len gives es si
     }
 
 -- ---- lists
-
--- numbers whose test for equality answered yes
-pub same_numbers : (a b : ℕ) (k : Bool) → k ≡ (a == b) → k ≡ true → a ≡ b
-same_numbers a b k ek on = elim (cases_eq a b) [
-  | inl same ↦ same
-  | inr other ↦ absurd (false≢true (sym (ne_eqb a b other) ∙ (sym ek ∙ on)))
-]
 
 -- the lists of a delivery hold all nodes whose labels change
 pub keep_labels : (net : FlowNet) (labels xs : List ℕ) (qs us seen : List FlowPart) → length us ≡ length qs → WholesDelivered net labels xs qs us → seen ≡ us → KeepLabels labels seen

@@ -7,3 +7,4 @@ pub mod TurnLemmas
 pub mod PhaseLemmas
 pub mod RelabelLemmas
 pub mod StepLemmas
+pub mod PartLemmas

@@ -1,10 +1,11 @@
-//! Whether a node is active.
+//! Whether a node is active, and how many are.
 ghost use Rattle.std.specs.Prelude.{◌≡◌, false};
 ghost use Rattle.frame_net.specs.FlowNet.{node_count};
 ghost use Rattle.parted_flow.specs.Runs.{any_active};
 ghost use Rattle.pulse.specs.Conditions.{IsFlowOf, state_of};
 
 use crate::flow::Flow;
+use flow_parts::excess_at;
 use frame_net::Net;
 use parted_flow::any_active_node;
 
@@ -21,4 +22,20 @@ pub(crate) fn is_active(net: &Net, flow: &Flow) -> bool
         flow.parts.as_slice(),
         flow.listed,
     )
+}
+
+/// How many nodes are active. All nodes are visited.
+pub(crate) fn active_nodes(net: &Net, flow: &Flow) -> usize
+    requires flow { IsFlowOf net.now flow.now }
+    requires unspent { flow.now.spent ≡ false }
+{
+    let nodes = net.nodes();
+    let mut count: usize = 0;
+    for v in 2..nodes {
+        let at = v as usize;
+        if flow.labels[at] < nodes && excess_at(flow.parts.as_slice(), at) > 0 {
+            count = count.saturating_add(1);
+        }
+    }
+    count
 }

@@ -6,7 +6,7 @@ ghost use Rattle.exact_labels.specs.Distances.{exact};
 ghost use Rattle.pulse.specs.Conditions.{ArePushesOf, IsBetween, IsMaxPreflow, NoneActive, state_of};
 ghost use Rattle.pulse.specs.Phases.{AfterPulse};
 
-use crate::active::is_active;
+use crate::active::{active_nodes, is_active};
 use crate::crew::Crew;
 use crate::error::PulseError;
 use crate::flow::Flow;
@@ -15,22 +15,21 @@ use crate::max_preflow::MaxPreflow;
 use crate::phases::{deliver_by, read_by};
 use crate::pushes::Pushes;
 use crate::relabel::{queue_for, relabel};
+use crate::sharing::Share;
+use crate::workers::part_flow;
 use frame_net::Net;
 use std::alloc::Global;
 use std::thread::Threads;
-
-/// The most nodes of a network whose flow is parted for a crew.
-const SMALL_NETWORK: u32 = 64;
 
 /// Pulses from the start of the flow until no node is active, with global relabeling: each label becomes the residual distance to the
 /// sink, or the number of nodes where there is none, at the start and again whenever the rows walked since the last time hold more than
 /// a quarter of the network's arcs. It ends with a maximum preflow for every crew, after at most `2 * N * N` pulses for N nodes.
 ///
 /// Each pulse is the one that `run_to_end` makes, but the labels are exact at other times, so flow, labels and the number of pulses
-/// may differ from that run's. In a network of up to 64 nodes the crew makes the first pulse where a quarter of all nodes may be
-/// active then, and each pulse after one in which a quarter were. The calling thread makes all others, as worker 0: to part the flow of
-/// a larger network anew, and to visit all nodes once more, costs more than a crew saves in the few pulses with so many active nodes.
-/// Memory is asked for at the start, wherever the number of workers changes, and for each phase of two or more workers.
+/// may differ from that run's. A pulse goes to the crew where many nodes are active for its size: at least 4096, or a quarter of all, at
+/// its start where it is the first, else in the pulse before. The calling thread makes all others, as worker 0: most pulses have ten
+/// active nodes, and to hand them out would cost more than they do.
+/// Memory is asked for at the start, wherever the number of the flow's parts changes, and for each phase that is handed out.
 pub fn run_with_global_relabeling<G: PhaseGate>(
     rt: &(impl Threads + Sync),
     alloc: Global,
@@ -40,11 +39,11 @@ pub fn run_with_global_relabeling<G: PhaseGate>(
     ensures greatest { IfOk result (λ m. IsMaxPreflow net.now m) }
     ensures bounded { IfOk result (λ m. m.pulses ≤ 2 * (node_count net.now * node_count net.now)) }
 {
-    let nodes = net.nodes();
-    // At the start no nodes are active but those that the source has an arc to.
-    let workers = workers_for(net.start(1), nodes, crew.workers());
-    let mut flow = Flow::start_for(alloc, net, workers)?;
-    let mut pushes = Pushes::new_for(alloc, net, workers)?;
+    let _nodes = net.nodes();
+    // At the start no nodes are active but those that the source has an arc to, and of these the ones from which the sink is reached.
+    let first = Share::among(1).next(net, net.start(1), false, crew.workers());
+    let mut flow = Flow::start_for(alloc, net, first.parts)?;
+    let mut pushes = Pushes::new_for(alloc, net, first.parts)?;
     let mut queue = queue_for(alloc, net)?;
     let pulses = run(
         rt,
@@ -54,34 +53,35 @@ pub fn run_with_global_relabeling<G: PhaseGate>(
         &mut pushes,
         queue.as_mut_slice(),
         crew,
-        workers,
+        first,
     )?;
     Ok(MaxPreflow { flow, pulses })
 }
 
-/// How many workers make the next pulse where so many nodes were active in the last one.
-fn workers_for(active: usize, nodes: u32, crew: u32) -> u32
-    requires { 0 < crew }
-    ensures { 0 < result }
+/// Parts the flow for the next pulse, so that both its phases find the lists of the last one in their parts.
+fn part_ahead(alloc: Global, net: &Net, flow: &mut Flow, parts: u32) -> Result<(), PulseError>
+    requires some { 0 < parts }
+    requires flow { IsBetween net.now flow.old }
+    ensures flow { OnOk result (IsBetween net.now flow.new) }
+    ensures agree { OnOk result (Agree (node_count net.now) (state_of net.now flow.old) (state_of net.now flow.new)) }
 {
-    if nodes <= SMALL_NETWORK && active >= (nodes as usize).div_ceil(4) {
-        crew
-    } else {
-        1
-    }
+    let _nodes = net.nodes();
+    let labels = flow.labels.as_slice();
+    part_flow(alloc, net, labels, &mut flow.parts, parts)?;
+    Ok(())
 }
 
-/// A pulse by so many workers.
+/// A pulse, shared out so.
 fn pulse_by<R: Threads + Sync, G: PhaseGate>(
     rt: &R,
     alloc: Global,
     net: &Net,
     flow: &mut Flow,
     pushes: &mut Pushes,
-    workers: u32,
+    share: Share,
     gate: &G,
 ) -> Result<(), PulseError>
-    requires some { 0 < workers }
+    requires some { 0 < share.parts }
     requires flow { IsBetween net.now flow.old }
     requires pushes { ArePushesOf net.now pushes.old }
     requires usable { pushes.old.spent ≡ false }
@@ -89,25 +89,43 @@ fn pulse_by<R: Threads + Sync, G: PhaseGate>(
     ensures pushes { OnOk result (ArePushesOf net.now pushes.new) }
     ensures unspent { OnOk result (pushes.new.spent ≡ false) }
 {
-    read_by(rt, alloc, net, flow, pushes, workers, gate)?;
-    deliver_by(rt, alloc, net, flow, pushes, workers, gate)
+    read_by(rt, alloc, net, flow, pushes, share, gate)?;
+    deliver_by(rt, alloc, net, flow, pushes, share, gate)
 }
 
-/// Makes the labels exact where more than a quarter of the arcs were walked; returns how many were walked since they were exact.
+/// Whether the rows walked since the labels were exact hold more than a quarter of the arcs.
+fn is_due(net: &Net, walked: usize) -> bool {
+    walked > net.arcs() / 4
+}
+
+/// Makes the labels exact where they are due; returns how many arcs were walked since they were exact.
 fn relabel_after_walks(net: &Net, flow: &mut Flow, queue: &mut [u32], walked: usize) -> usize
     requires flow { IsBetween net.now flow.old }
     requires queue { length queue.old ≡ node_count net.now }
     ensures flow { IsBetween net.now flow.new }
     ensures labels { (flow.new ≡ flow.old) ⊎ Agree (node_count net.now) (exact (node_count net.now) (state_of net.now flow.old)) (state_of net.now flow.new) }
 {
-    if walked <= net.arcs() / 4 {
+    if !is_due(net, walked) {
         return walked;
     }
     relabel(net, flow, queue);
     0
 }
 
-/// Pulses until no node is active, the first of them by so many workers; returns their number.
+/// How the first pulse is shared out, once the labels are exact.
+fn first_share(net: &Net, flow: &Flow, begun: Share, crew: u32) -> Share
+    requires flow { IsBetween net.now flow.now }
+    requires begun { 0 < begun.parts }
+    requires some { 0 < crew }
+    ensures { 0 < result.parts }
+{
+    if crew == 1 {
+        return Share::among(1);
+    }
+    begun.next(net, active_nodes(net, flow), false, crew)
+}
+
+/// Pulses until no node is active, from a flow that was parted so; returns their number.
 fn run<R: Threads + Sync, G: PhaseGate>(
     rt: &R,
     alloc: Global,
@@ -116,9 +134,9 @@ fn run<R: Threads + Sync, G: PhaseGate>(
     pushes: &mut Pushes,
     queue: &mut [u32],
     crew: &Crew<G>,
-    first: u32,
+    begun: Share,
 ) -> Result<u64, PulseError>
-    requires some { 0 < first }
+    requires some { 0 < begun.parts }
     requires flow { IsBetween net.now flow.old }
     requires pushes { ArePushesOf net.now pushes.old }
     requires usable { pushes.old.spent ≡ false }
@@ -127,17 +145,19 @@ fn run<R: Threads + Sync, G: PhaseGate>(
     ensures ended { IfOk result (λ k. NoneActive net.now flow.new) }
     ensures bounded { IfOk result (λ k. k ≤ 2 * (node_count net.now * node_count net.now)) }
 {
-    let nodes = net.nodes();
+    let _nodes = net.nodes();
     relabel(net, flow, queue);
+    let mut share = first_share(net, flow, begun, crew.workers());
     let mut count = 0;
     let mut walked: usize = 0;
-    let mut workers = first;
     'pulses: while is_active(net, flow) {
-        pulse_by(rt, alloc, net, flow, pushes, workers, crew.gate())?;
+        pulse_by(rt, alloc, net, flow, pushes, share, crew.gate())?;
         count += 1;
-        let arcs = walked.saturating_add(pushes.arcs_walked(net));
-        walked = relabel_after_walks(net, flow, queue, arcs);
-        workers = workers_for(pushes.walked() as usize, nodes, crew.workers());
+        walked = walked.saturating_add(pushes.arcs_walked(net));
+        let active = pushes.walked() as usize;
+        share = share.next(net, active, is_due(net, walked), crew.workers());
+        part_ahead(alloc, net, flow, share.parts)?;
+        walked = relabel_after_walks(net, flow, queue, walked);
     }
     Ok(count)
 }

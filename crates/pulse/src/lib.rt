@@ -22,6 +22,7 @@ mod pushes;
 mod ranges;
 mod relabel;
 mod run;
+mod sharing;
 mod workers;
 
 pub use crew::Crew;

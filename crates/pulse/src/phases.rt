@@ -8,6 +8,7 @@ use crate::error::PulseError;
 use crate::flow::Flow;
 use crate::gate::PhaseGate;
 use crate::pushes::Pushes;
+use crate::sharing::Share;
 use crate::workers::{deliver_all, read_all};
 use frame_net::Net;
 use std::alloc::Global;
@@ -34,7 +35,8 @@ pub fn read_phase<G: PhaseGate>(
     ensures walked { OnOk result (pushes.new.walked ≡ active_count net.now flow.now) }
     ensures err { OnErr result ((flow.now.spent ≡ true) ⊎ (pushes.new.spent ≡ true)) }
 {
-    read_by(rt, alloc, net, flow, pushes, crew.workers(), crew.gate())
+    let share = Share::among(crew.workers());
+    read_by(rt, alloc, net, flow, pushes, share, crew.gate())
 }
 
 /// The delivery phase of a pulse: each node writes its row of flow, its excess and its new label, and then the new labels become the
@@ -57,20 +59,21 @@ pub fn deliver_phase<G: PhaseGate>(
     ensures ok { OnOk result (AfterDelivery net.now flow.old flow.new pushes.now) }
     ensures err { OnErr result ((flow.new.spent ≡ true) ⊎ (pushes.now.spent ≡ true)) }
 {
-    deliver_by(rt, alloc, net, flow, pushes, crew.workers(), crew.gate())
+    let share = Share::among(crew.workers());
+    deliver_by(rt, alloc, net, flow, pushes, share, crew.gate())
 }
 
-/// The read phase by so many workers.
+/// The read phase, shared out so.
 pub(crate) fn read_by<R: Threads + Sync, G: PhaseGate>(
     rt: &R,
     alloc: Global,
     net: &Net,
     flow: &Flow,
     pushes: &mut Pushes,
-    workers: u32,
+    share: Share,
     gate: &G,
 ) -> Result<(), PulseError>
-    requires some { 0 < workers }
+    requires some { 0 < share.parts }
     requires flow { IsFlowOf net.now flow.now }
     requires pushes { ArePushesOf net.now pushes.old }
     requires none { flow.now.spent ≡ false → pushes.old.spent ≡ false → NoneDelivered net.now flow.now }
@@ -93,7 +96,7 @@ pub(crate) fn read_by<R: Threads + Sync, G: PhaseGate>(
         labels,
         parts,
         &mut pushes.parts,
-        workers,
+        share,
         gate,
         phase,
         flow.listed,
@@ -106,17 +109,17 @@ pub(crate) fn read_by<R: Threads + Sync, G: PhaseGate>(
     }
 }
 
-/// The delivery phase by so many workers.
+/// The delivery phase, shared out so.
 pub(crate) fn deliver_by<R: Threads + Sync, G: PhaseGate>(
     rt: &R,
     alloc: Global,
     net: &Net,
     flow: &mut Flow,
     pushes: &Pushes,
-    workers: u32,
+    share: Share,
     gate: &G,
 ) -> Result<(), PulseError>
-    requires some { 0 < workers }
+    requires some { 0 < share.parts }
     requires flow { IsFlowOf net.now flow.old }
     requires pushes { ArePushesOf net.now pushes.now }
     requires read { flow.old.spent ≡ false → pushes.now.spent ≡ false → IsReadPhase net.now flow.old pushes.now }
@@ -140,7 +143,7 @@ pub(crate) fn deliver_by<R: Threads + Sync, G: PhaseGate>(
         rows,
         &mut flow.parts,
         listed,
-        workers,
+        share,
         gate,
         phase,
     ) {

@@ -1,4 +1,4 @@
-//! A phase over the parts of all workers: on the calling thread for one worker, by `map_vec` for more.
+//! A phase over the parts of all workers: by `map_vec` where they are handed out, else on the calling thread.
 //!
 //! Each worker gets its part by value and returns it, in worker order; all else is lent to all workers. A refusal drops the parts.
 ghost use Rattle.std.specs.Prelude.{◌≡◌, ℕ, ◌<◌, ◌≤◌, IfOk, OnErr, OnOk, List, length, true};
@@ -12,6 +12,7 @@ ghost use Rattle.flow_parts.specs.Visiting.{WholeDelivered, WholesDelivered};
 ghost use Rattle.parted_flow.specs.Runs.{ArePulsed, AreRead};
 
 use crate::gate::PhaseGate;
+use crate::sharing::Share;
 use flow_parts::{FlowPart, PushPart, deliver_whole, read_whole};
 use frame_net::Net;
 use parted_flow::{deliver_every, parted_anew, push_parts, read_every, turn};
@@ -36,22 +37,24 @@ fn part_pushes(
     Ok(())
 }
 
-/// Parts the flow for so many workers, unless it is.
-fn part_flow(
+/// Parts the flow for so many workers, unless it is. Where its parts list the active nodes, the new ones do.
+pub(crate) fn part_flow(
     alloc: Global,
     net: &Net,
+    labels: &[u32],
     parts: &mut Vec<FlowPart>,
     workers: u32,
 ) -> Result<(), AllocError>
     requires some { 0 < workers }
+    requires labels { LabelsFit net.now labels.now }
     requires parts { AreFlowParts net.now 0 parts.old.items }
     ensures parts { OnOk result (AreFlowParts net.now 0 parts.new.items) }
-    ensures same { OnOk result (length parts.old.items ≡ workers → parts.new.items ≡ parts.old.items) }
-    ensures agree { OnOk result ((labels : List ℕ) → Agree (node_count net.now) (pairs net.now (cells_of parts.old.items) labels) (pairs net.now (cells_of parts.new.items) labels)) }
+    ensures agree { OnOk result (Agree (node_count net.now) (pairs net.now (cells_of parts.old.items) labels.now) (pairs net.now (cells_of parts.new.items) labels.now)) }
+    ensures lists { ListActive (node_count net.now) labels.now parts.old.items → ListActive (node_count net.now) labels.now parts.new.items }
 {
     let _nodes = net.nodes();
     if parts.len() != workers as usize {
-        *parts = parted_anew(alloc, net, parts.as_slice(), workers)?;
+        *parts = parted_anew(alloc, net, labels, parts.as_slice(), workers)?;
     }
     Ok(())
 }
@@ -128,7 +131,7 @@ fn deliver_by_crew<R: Threads + Sync, G: PhaseGate>(
     thread::map_vec(rt, parts, &work)
 }
 
-/// Read of every node by so many workers. After a refusal the parts may be gone.
+/// Read of every node, shared out so. After a refusal the parts may be gone.
 pub(crate) fn read_all<R: Threads + Sync, G: PhaseGate>(
     rt: &R,
     alloc: Global,
@@ -136,12 +139,12 @@ pub(crate) fn read_all<R: Threads + Sync, G: PhaseGate>(
     labels: &[u32],
     flow: &[FlowPart],
     parts: &mut Vec<PushPart>,
-    workers: u32,
+    share: Share,
     gate: &G,
     phase: u64,
     listed: bool,
 ) -> Result<(), AllocError>
-    requires some { 0 < workers }
+    requires some { 0 < share.parts }
     requires labels { LabelsFit net.now labels.now }
     requires flow { AreFlowParts net.now 0 flow.now }
     requires parts { ArePushParts net.now 0 parts.old.items }
@@ -150,8 +153,8 @@ pub(crate) fn read_all<R: Threads + Sync, G: PhaseGate>(
     ensures walked { OnOk result (rows_walked parts.new.items ≡ active_below net.now labels.now (cells_of flow.now) (node_count net.now)) }
 {
     let _nodes = net.nodes();
-    part_pushes(alloc, net, parts, workers)?;
-    if parts.len() < 2 {
+    part_pushes(alloc, net, parts, share.parts)?;
+    if !share.handed {
         gate.pass(phase, 0);
         read_every(net, labels, flow, parts.as_mut_slice(), listed);
         gate.leave(phase, 0);
@@ -162,7 +165,7 @@ pub(crate) fn read_all<R: Threads + Sync, G: PhaseGate>(
     Ok(())
 }
 
-/// Deliver of every node by a worker for each part. After a refusal the parts may be gone.
+/// Deliver of every node, by a worker for each part where they are handed out. After a refusal the parts may be gone.
 fn deliver_parts<R: Threads + Sync, G: PhaseGate>(
     rt: &R,
     alloc: Global,
@@ -171,6 +174,7 @@ fn deliver_parts<R: Threads + Sync, G: PhaseGate>(
     pushes: &[PushPart],
     flow: &mut Vec<FlowPart>,
     listed: bool,
+    handed: bool,
     gate: &G,
     phase: u64,
 ) -> Result<(), AllocError>
@@ -183,7 +187,7 @@ fn deliver_parts<R: Threads + Sync, G: PhaseGate>(
     ensures each { OnOk result (WholesDelivered net.now labels.now (values_of pushes.now) flow.old.items flow.new.items) }
 {
     let _nodes = net.nodes();
-    if flow.len() < 2 {
+    if !handed {
         gate.pass(phase, 0);
         deliver_every(net, labels, pushes, flow.as_mut_slice(), listed);
         gate.leave(phase, 0);
@@ -194,7 +198,7 @@ fn deliver_parts<R: Threads + Sync, G: PhaseGate>(
     Ok(())
 }
 
-/// Deliver of every node by so many workers, and the turn of the labels. `listed` is whether the parts' lists are of this flow and
+/// Deliver of every node, shared out so, and the turn of the labels. `listed` is whether the parts' lists are of this flow and
 /// these labels; afterwards they are. After a refusal the parts may be gone.
 pub(crate) fn deliver_all<R: Threads + Sync, G: PhaseGate>(
     rt: &R,
@@ -204,11 +208,11 @@ pub(crate) fn deliver_all<R: Threads + Sync, G: PhaseGate>(
     pushes: &[PushPart],
     flow: &mut Vec<FlowPart>,
     listed: bool,
-    workers: u32,
+    share: Share,
     gate: &G,
     phase: u64,
 ) -> Result<(), AllocError>
-    requires some { 0 < workers }
+    requires some { 0 < share.parts }
     requires flow { AreFlowParts net.now 0 flow.old.items }
     requires labels { LabelsFit net.now labels.old }
     requires sound { IsSound net.now (pairs net.now (cells_of flow.old.items) labels.old) }
@@ -219,10 +223,19 @@ pub(crate) fn deliver_all<R: Threads + Sync, G: PhaseGate>(
     ensures err { OnErr result (labels.new ≡ labels.old) }
 {
     let _nodes = net.nodes();
-    let same = flow.as_slice().len() == workers as usize;
-    part_flow(alloc, net, flow, workers)?;
-    let known = listed && same;
-    deliver_parts(rt, alloc, net, labels, pushes, flow, known, gate, phase)?;
+    part_flow(alloc, net, labels, flow, share.parts)?;
+    deliver_parts(
+        rt,
+        alloc,
+        net,
+        labels,
+        pushes,
+        flow,
+        listed,
+        share.handed,
+        gate,
+        phase,
+    )?;
     turn(labels, flow.as_slice(), true);
     Ok(())
 }

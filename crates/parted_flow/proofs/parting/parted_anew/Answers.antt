@@ -3,12 +3,14 @@ use Rattle.frame_net.specs.FlowNet.{node_count}
 use Rattle.flow_parts.specs.Parts.{cells_of}
 use Rattle.parted_flow.specs.Start.{border_of, PartHolds, PartsHold}
 use Rattle.parted_flow.proofs.parting.parted_anew.Goals as goal
+use Rattle.parted_flow.proofs.CarryLemmas.{lists_more}
 use Rattle.parted_flow.proofs.Borders.{border_last, cut_pushed}
 
 pub loop-worker-preserved : goal.loop-worker-preserved
 loop-worker-preserved c = record {
   reached = c.border-end.ensures.value;
   len = omega (arith, c.loop-worker.invariant.len, c.in_ok-push.ensures.len);
+  lists = λ was. lists_more (node_count c.args.net.now) c.args.labels.now c.loop-worker.parts.items c.push.new.self.items c.in_ok-part.part c.in_ok-push.ensures.items (c.loop-worker.invariant.lists was) (c.in_ok-part.ensures.lists was);
   starts = cut_pushed (PartHolds c.args.net.now (slice_index (cells_of c.args.flow.now).residuals) (slice_index (cells_of c.args.flow.now).excess)) (λ q. q.first) (λ q. q.end) c.loop-worker.first c.border-end.result c.loop-worker.parts.items c.push.new.self.items c.in_ok-part.part
       c.in_ok-push.ensures.items c.loop-worker.invariant.starts c.in_ok-part.ensures.first c.in_ok-part.ensures.end c.in_ok-part.ensures.holds;
 }

@@ -4,12 +4,13 @@ use Rattle.flow_theory.specs.Flow.{is_active}
 use Rattle.parted_flow.proofs.ActiveLemmas.{none_at}
 use Rattle.exact_labels.proofs.RunLaws.{paid_none, paid_pulse, pulses_fit}
 use Rattle.pulse.specs.Conditions.{state_of}
+use Rattle.pulse.proofs.PartLemmas.{pulse_parted}
 use Rattle.pulse.proofs.StepLemmas.{paid_labels, pulse_left}
 use Rattle.pulse.proofs.fast_run.run.Goals as goal
 
 pub pulses-init : goal.pulses-init
 pulses-init g c = record {
-  some = c.requires.some;
+  some = c.first_share-share.ensures;
   between = c.relabel.ensures.flow;
   pushes = c.requires.pushes;
   usable = c.requires.usable;
@@ -21,18 +22,19 @@ overflow_add-count g c = omega (arith, pulses_fit c.args.net.now c.pulses.count 
 
 pub pulses-smaller : goal.pulses-smaller
 pulses-smaller g c =
-    pulse_left c.args.net.now c.pulses.flow c.pulse_by.new.flow c.relabel_after_walks-walked.new.flow c.nodes-nodes.ensures.network c.pulses.invariant.between.sound (sym c.is_active.ensures ∙ c.pulses-test.true)
-    c.in_ok-pulse_by.ensures.flow c.relabel_after_walks-walked.ensures.labels
+    pulse_left c.args.net.now c.pulses.flow c.part_ahead.new.flow c.relabel_after_walks-walked.new.flow c.nodes-nodes.ensures.network c.pulses.invariant.between.sound (sym c.is_active.ensures ∙ c.pulses-test.true)
+    (pulse_parted c.args.net.now c.pulses.flow c.pulse_by.new.flow c.part_ahead.new.flow c.in_ok-pulse_by.ensures.flow c.in_ok-part_ahead.ensures.flow c.in_ok-part_ahead.ensures.agree) c.relabel_after_walks-walked.ensures.labels
 
 pub pulses-preserved : goal.pulses-preserved
 pulses-preserved g c = record {
-  some = c.workers_for-workers.ensures;
+  some = c.next-share.ensures;
   between = c.relabel_after_walks-walked.ensures.flow;
   pushes = c.in_ok-pulse_by.ensures.pushes;
   usable = c.in_ok-pulse_by.ensures.unspent;
-  paid = paid_labels c.args.net.now (c.pulses.count + 1) c.pulse_by.new.flow c.relabel_after_walks-walked.new.flow c.nodes-nodes.ensures.network
-      (paid_pulse c.args.net.now c.pulses.count (state_of c.args.net.now c.pulses.flow) (state_of c.args.net.now c.pulse_by.new.flow) c.nodes-nodes.ensures.network c.pulses.invariant.paid
-      (sym c.is_active.ensures ∙ c.pulses-test.true) c.in_ok-pulse_by.ensures.flow.agree)
+  paid = paid_labels c.args.net.now (c.pulses.count + 1) c.part_ahead.new.flow c.relabel_after_walks-walked.new.flow c.nodes-nodes.ensures.network
+      (paid_pulse c.args.net.now c.pulses.count (state_of c.args.net.now c.pulses.flow) (state_of c.args.net.now c.part_ahead.new.flow) c.nodes-nodes.ensures.network c.pulses.invariant.paid
+      (sym c.is_active.ensures ∙ c.pulses-test.true)
+      (pulse_parted c.args.net.now c.pulses.flow c.pulse_by.new.flow c.part_ahead.new.flow c.in_ok-pulse_by.ensures.flow c.in_ok-part_ahead.ensures.flow c.in_ok-part_ahead.ensures.agree).agree)
       c.relabel_after_walks-walked.ensures.labels;
 }
 

@@ -7,7 +7,7 @@ use Rattle.pulse.proofs.fast_run.run.Given as goal
 
 abbrev pub invariant-pulses : goal.invariant-pulses
 invariant-pulses g l = record {
-  some : 0 < l.workers;
+  some : 0 < l.share.parts;
   between : IsBetween l.net l.flow;
   pushes : ArePushesOf l.net l.pushes;
   usable : l.pushes.spent ≡ false;

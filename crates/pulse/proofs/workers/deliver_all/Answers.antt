@@ -1,45 +1,35 @@
-use Rattle.std.proofs.Common.{List, ap, arith, length, subst, sym, ◌∙◌}
-use Rattle.std.proofs.lemmas.Bool.{false≢true}
-use Rattle.frame_net.specs.FlowNet.{node_count}
-use Rattle.flow_parts.specs.declared.parts.FlowPart.{FlowPart}
-use Rattle.flow_parts.specs.Listing.{ListActive}
+use Rattle.std.proofs.Common.{arith, length}
 use Rattle.flow_parts.specs.Parts.{values_of}
 use Rattle.pulse.proofs.workers.deliver_all.Goals as goal
-use Rattle.pulse.proofs.workers.deliver_all.Goals.{then-listed, else-listed}
-use Rattle.pulse.proofs.CrewLemmas.{sound_anew, read_anew, labels_ready, all_pulsed, keep_labels, lists_turned, same_numbers}
+use Rattle.pulse.proofs.CrewLemmas.{sound_anew, read_anew, labels_ready, all_pulsed, keep_labels, lists_turned}
 
 pub deliver_parts-requires-clause-sound : goal.deliver_parts-requires-clause-sound
 deliver_parts-requires-clause-sound g c κs within =
-    sound_anew c.args.net.now c.args.labels.now c.args.flow.now.items c.part_flow.new.parts.items c.nodes-nodes.ensures.network (c.in_ok-part_flow.ensures.agree c.args.labels.now) c.requires.sound
+    sound_anew c.args.net.now c.args.labels.now c.args.flow.now.items c.part_flow.new.parts.items c.nodes-nodes.ensures.network c.in_ok-part_flow.ensures.agree c.requires.sound
 
 pub deliver_parts-requires-clause-read : goal.deliver_parts-requires-clause-read
 deliver_parts-requires-clause-read g c κs within =
-    read_anew c.args.net.now c.args.labels.now c.args.flow.now.items c.part_flow.new.parts.items c.args.pushes.now c.nodes-nodes.ensures.network (c.in_ok-part_flow.ensures.agree c.args.labels.now) c.requires.read
+    read_anew c.args.net.now c.args.labels.now c.args.flow.now.items c.part_flow.new.parts.items c.args.pushes.now c.nodes-nodes.ensures.network c.in_ok-part_flow.ensures.agree c.requires.read
 
 pub deliver_parts-requires-clause-lists : goal.deliver_parts-requires-clause-lists
-deliver_parts-requires-clause-lists g c κs within on = elim c.if-listed.branch [
-  | then-listed w ↦
-      subst (λ (x : List FlowPart). ListActive (node_count c.args.net.now) c.args.labels.now x) (sym (c.in_ok-part_flow.ensures.same (sym (ap length c.as_slice.ensures.value) ∙ same_numbers _ _ c.if-listed.known w.known-is on)))
-      (c.requires.lists w.if-listed.true)
-  | else-listed w ↦ absurd (false≢true (sym w.if-listed.false ∙ (sym w.known-is ∙ on)))
-]
+deliver_parts-requires-clause-lists g c κs within on = c.part_flow.ensures.lists (c.requires.lists on)
 
 pub turn-requires-clause-lists : goal.turn-requires-clause-lists
 turn-requires-clause-lists g c on =
-    keep_labels c.args.net.now c.args.labels.now (values_of c.args.pushes.now) c.part_flow.new.parts.items c.deliver_parts.new.flow.items c.as_slice-2.result.now c.in_ok-deliver_parts.ensures.len c.in_ok-deliver_parts.ensures.each c.as_slice-2.ensures.value
+    keep_labels c.args.net.now c.args.labels.now (values_of c.args.pushes.now) c.part_flow.new.parts.items c.deliver_parts.new.flow.items c.as_slice.result.now c.in_ok-deliver_parts.ensures.len c.in_ok-deliver_parts.ensures.each c.as_slice.ensures.value
 
 pub turn-requires-clause-parts : goal.turn-requires-clause-parts
 turn-requires-clause-parts g c =
-    labels_ready c.args.net.now (length c.args.labels.now) c.args.labels.now (values_of c.args.pushes.now) c.part_flow.new.parts.items c.deliver_parts.new.flow.items c.as_slice-2.result.now c.requires.labels.each
-    c.in_ok-part_flow.ensures.parts c.in_ok-deliver_parts.ensures.len c.in_ok-deliver_parts.ensures.each c.as_slice-2.ensures.value
+    labels_ready c.args.net.now (length c.args.labels.now) c.args.labels.now (values_of c.args.pushes.now) c.part_flow.new.parts.items c.deliver_parts.new.flow.items c.as_slice.result.now c.requires.labels.each
+    c.in_ok-part_flow.ensures.parts c.in_ok-deliver_parts.ensures.len c.in_ok-deliver_parts.ensures.each c.as_slice.ensures.value
 
 pub returns-clause-ok : goal.returns-clause-ok
 returns-clause-ok g c =
-    all_pulsed c.args.net.now c.args.labels.now c.turn.new.labels c.args.flow.now.items c.part_flow.new.parts.items c.deliver_parts.new.flow.items c.as_slice-2.result.now c.args.pushes.now c.nodes-nodes.ensures.network
-    c.in_ok-part_flow.ensures.parts (c.in_ok-part_flow.ensures.agree c.args.labels.now) c.requires.sound c.requires.read c.in_ok-deliver_parts.ensures.len c.in_ok-deliver_parts.ensures.each c.as_slice-2.ensures.value
+    all_pulsed c.args.net.now c.args.labels.now c.turn.new.labels c.args.flow.now.items c.part_flow.new.parts.items c.deliver_parts.new.flow.items c.as_slice.result.now c.args.pushes.now c.nodes-nodes.ensures.network
+    c.in_ok-part_flow.ensures.parts c.in_ok-part_flow.ensures.agree c.requires.sound c.requires.read c.in_ok-deliver_parts.ensures.len c.in_ok-deliver_parts.ensures.each c.as_slice.ensures.value
     c.requires.labels.each (omega arith) c.turn.ensures
 
 pub returns-clause-lists : goal.returns-clause-lists
 returns-clause-lists g c =
-    lists_turned c.args.net.now c.args.labels.now (values_of c.args.pushes.now) c.turn.new.labels c.part_flow.new.parts.items c.deliver_parts.new.flow.items c.as_slice-2.result.now c.nodes-nodes.ensures.network
-    c.in_ok-part_flow.ensures.parts c.in_ok-deliver_parts.ensures.len c.in_ok-deliver_parts.ensures.each c.as_slice-2.ensures.value c.requires.labels.each (omega arith) c.turn.ensures
+    lists_turned c.args.net.now c.args.labels.now (values_of c.args.pushes.now) c.turn.new.labels c.part_flow.new.parts.items c.deliver_parts.new.flow.items c.as_slice.result.now c.nodes-nodes.ensures.network
+    c.in_ok-part_flow.ensures.parts c.in_ok-deliver_parts.ensures.len c.in_ok-deliver_parts.ensures.each c.as_slice.ensures.value c.requires.labels.each (omega arith) c.turn.ensures

@@ -1,9 +1,0 @@
-use Rattle.std.proofs.Common.{◌≡◌, ℕ, ◌+◌, ◌<◌, length, slice_index}
-use Rattle.flow_parts.specs.Parts.{cells_of}
-use Rattle.parted_flow.proofs.parting.copied_excess.Given as goal
-
-abbrev pub invariant-loop-i : goal.invariant-loop-i
-invariant-loop-i l = record {
-  len : length l.excess.items ≡ l.i;
-  below : (j : ℕ) → j < length l.excess.items → slice_index l.excess.items j ≡ slice_index (cells_of l.flow).excess (l.first + j);
-}

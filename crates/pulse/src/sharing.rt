@@ -1,0 +1,50 @@
+//! How a pulse is shared out among workers.
+ghost use Rattle.std.specs.Prelude.{◌≡◌, ◌<◌};
+
+use frame_net::Net;
+
+/// So many active nodes are many in a network of any size.
+const MANY_ACTIVE: usize = 4096;
+
+/// In how many parts a pulse is made, and whether they are handed to the crew, a part each: else the calling thread makes all of them, as
+/// worker 0.
+#[derive(Clone, Copy)]
+pub(crate) struct Share {
+    pub(crate) parts: u32,
+    pub(crate) handed: bool,
+}
+
+impl Share {
+    /// A part for each of so many workers.
+    pub(crate) fn among(workers: u32) -> Share
+        ensures { result.parts ≡ workers }
+    {
+        Share {
+            parts: workers,
+            handed: workers > 1,
+        }
+    }
+
+    /// The share of the next pulse, where so many nodes are active, or were in the pulse before. A pulse goes to the crew where at least
+    /// 4096 nodes are active, or a quarter of all.
+    ///
+    /// Else the calling thread goes on over the parts that there are, since to join them costs a copy of all residuals. They are joined
+    /// when exact labels are due, which visit all arcs, and find them faster in one part.
+    pub(crate) fn next(self, net: &Net, active: usize, due: bool, crew: u32) -> Share
+        requires some { 0 < crew }
+        requires parts { 0 < self.parts }
+        ensures { 0 < result.parts }
+    {
+        let quarter = (net.nodes() as usize).div_ceil(4);
+        if active >= quarter.min(MANY_ACTIVE) {
+            Share::among(crew)
+        } else if due {
+            Share::among(1)
+        } else {
+            Share {
+                parts: self.parts,
+                handed: false,
+            }
+        }
+    }
+}
