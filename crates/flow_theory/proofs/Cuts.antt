@@ -84,7 +84,7 @@ both_ways n cap s a b p =
     let e : between n a b (λ v w. s.res v w + s.res w v) ≡ between n a b (λ v w. cap v w + cap w v) = between-same n a b (λ v w. s.res v w + s.res w v) (λ v w. cap v w + cap w v) (λ v w h k. p.paired v w h k) in
     omega (arith, e, between-add n a b s.res (λ v w. s.res w v), between-add n a b cap (λ v w. cap w v), between-swap n a b s.res, between-swap n a b cap)
 
-cut_identity : (n : ℕ) (cap : ℕ → ℕ → ℕ) (s : State) (side : ℕ → Bool) → IsPreflow n cap s → side 0 ≡ true
+pub cut_identity : (n : ℕ) (cap : ℕ → ℕ → ℕ) (s : State) (side : ℕ → Bool) → IsPreflow n cap s → side 0 ≡ true
     → held_off n s side + between n side (λ w. not (side w)) s.res ≡ cut_value n cap side
 cut_identity n cap s side p src =
     omega (
@@ -116,18 +116,18 @@ none_below x (suc m) h =
     rw no (omega (arith, none_below x m (omega arith)))
 
 -- a number stands at most once below m
-hits_once : (x m : ℕ) → sum_below m (λ j. cond (x == j) 1 0) ≤ 1
+pub hits_once : (x m : ℕ) → sum_below m (λ j. cond (x == j) 1 0) ≤ 1
 hits_once x zero = omega arith
 hits_once x (suc m) = elim (cases_Bool (x == m)) [
   | inl same ↦ rw same (omega (arith, none_below x m (omega (arith, eqb-true x m same))))
   | inr other ↦ rw other (omega (arith, hits_once x m))
 ]
 
-sum_of_ones : (n : ℕ) (f : ℕ → ℕ) → ((i : ℕ) → i < n → 1 ≤ f i) → n ≤ sum_below n f
+pub sum_of_ones : (n : ℕ) (f : ℕ → ℕ) → ((i : ℕ) → i < n → 1 ≤ f i) → n ≤ sum_below n f
 sum_of_ones zero f e = omega arith
 sum_of_ones (suc n) f e = omega (arith, sum_of_ones n f (λ i h. e i (omega arith)), e n (omega arith))
 
-met_once : (n : ℕ) (f : ℕ → ℕ) (w j : ℕ) → w < n → f w ≡ j → 1 ≤ sum_below n (λ x. cond (f x == j) 1 0)
+pub met_once : (n : ℕ) (f : ℕ → ℕ) (w j : ℕ) → w < n → f w ≡ j → 1 ≤ sum_below n (λ x. cond (f x == j) 1 0)
 met_once n f w j h e =
     let one : cond (f w == j) 1 0 ≡ suc zero = ap (λ (b : Bool). cond b 1 0) (eq-eqb (f w) j e) in
     omega (arith, one, term-le-sum_below n w (λ x. cond (f x == j) 1 0) h)
@@ -152,10 +152,10 @@ zero_or_residual n s side far v w h k sv sw = elim (cases_lt 0 (s.res v w)) [
       absurd (false≢true (sym ((far v h).1 here) ∙ sv))
 ]
 
-sum_all_zero : (n : ℕ) (f : ℕ → ℕ) → ((i : ℕ) → i < n → f i ≡ 0) → sum_below n f ≡ 0
+pub sum_all_zero : (n : ℕ) (f : ℕ → ℕ) → ((i : ℕ) → i < n → f i ≡ 0) → sum_below n f ≡ 0
 sum_all_zero n f e = sum_below-same n f (λ i. 0) e ∙ sum_below-zero n
 
-cond_zero : (x y : Bool) (m : ℕ) → (x ≡ true → y ≡ false → m ≡ 0) → cond (x && not y) m 0 ≡ 0
+pub cond_zero : (x y : Bool) (m : ℕ) → (x ≡ true → y ≡ false → m ≡ 0) → cond (x && not y) m 0 ≡ 0
 cond_zero true true m h = refl
 cond_zero true false m h = h refl refl
 cond_zero false y m h = refl
@@ -177,13 +177,13 @@ held_at_sink n s ok big quiet side far v h inner off = elim (cases_lt 0 (s.exces
 ]
 
 -- the sink's excess is within what is held off any cut
-sink-le-held : (n : ℕ) (s : State) (side : ℕ → Bool) → 1 < n → side 1 ≡ false → s.excess 1 ≤ held_off n s side
+pub sink-le-held : (n : ℕ) (s : State) (side : ℕ → Bool) → 1 < n → side 1 ≡ false → s.excess 1 ≤ held_off n s side
 sink-le-held n s side big off =
     let l : cond (not (side 1)) (s.excess 1) 0 ≤ held_off n s side = term-le-sum_below n 1 (λ v. cond (not (side v)) (s.excess v) 0) big in
     rw off at l
 
 -- a sum whose terms are 0 but at 1 is at most that term
-one_term : (k : ℕ) (f : ℕ → ℕ) → ((i : ℕ) → i < k → (i ≡ 1 → ⊥) → f i ≡ 0) → sum_below k f ≤ f 1
+pub one_term : (k : ℕ) (f : ℕ → ℕ) → ((i : ℕ) → i < k → (i ≡ 1 → ⊥) → f i ≡ 0) → sum_below k f ≤ f 1
 one_term zero f e = omega arith
 one_term (suc k) f e = elim (cases_eq k 1) [
   | inl same ↦

@@ -36,7 +36,7 @@ count-front p q m (suc n) h only = elim (cases_eq m (suc n)) [
 ]
 
 -- the border of the empty set has at most the known latches
-empty-border : (c : Network) (held : List ℕ) → border_size (move_of c held []) ≤ latch_count c.aig held
+pub empty-border : (c : Network) (held : List ℕ) → border_size (move_of c held []) ≤ latch_count c.aig held
 empty-border c held = subst (λ (n : ℕ). n ≤ latch_count c.aig held) (sym (closed-border_size c held [] (empty-closed c.aig held))) (count-front (at_border c.aig c.props held []) (has_node c.aig held) (first_gate c.aig) (variables_end c.aig) (omega arith) (λ v e.
     let known : is_known (latch_at c.aig v) ≡ true = first (is_known (latch_at c.aig v)) _ e in
     elim (cases_lt v (first_gate c.aig)) [
@@ -49,7 +49,7 @@ empty-border c held = subst (λ (n : ℕ). n ≤ latch_count c.aig held) (sym (c
     first false r e = absurd (true_false (sym e))
 
 -- an arc that leaves adds to the cut
-arc-counts : (n : ℕ) (capacity : ℕ → ℕ → ℕ) (side : ℕ → Bool) (x y : ℕ) → x < n → y < n → side x ≡ true → side y ≡ false → capacity x y ≤ cut_value n capacity side
+pub arc-counts : (n : ℕ) (capacity : ℕ → ℕ → ℕ) (side : ℕ → Bool) (x y : ℕ) → x < n → y < n → side x ≡ true → side y ≡ false → capacity x y ≤ cut_value n capacity side
 arc-counts n capacity side x y h k a b =
     let here : cond (side x && not (side y)) (capacity x y) 0 ≡ capacity x y = ap₂ (λ (s t : Bool). cond (s && not t) (capacity x y) 0) a b in
     omega (

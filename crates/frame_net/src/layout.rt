@@ -30,7 +30,7 @@ pub struct Layout<'a> {
 }
 
 /// Marks what is held, or read by a gate that isn't passable, a next literal or a property.
-fn leaving_marks(
+pub fn leaving_marks(
     alloc: Global,
     aig: &Aig,
     props: &Props,

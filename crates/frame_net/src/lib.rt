@@ -10,6 +10,7 @@ mod links;
 mod net;
 mod pass_set;
 
+pub use layout::leaving_marks;
 pub use net::{Net, Point};
 pub use pass_set::{PassSet, passable};
 

@@ -1,0 +1,7 @@
+pub mod RouteLaws
+pub mod ApartLaws
+pub mod WalkLaws
+pub mod PassedLaws
+pub mod DistinctLaws
+pub mod RangeLaws
+pub mod Examples
