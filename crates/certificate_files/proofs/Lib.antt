@@ -1,0 +1,10 @@
+pub mod CutLaws
+pub mod LineLaws
+pub mod FormLaws
+pub mod AnsweringLaws
+pub mod WordLaws
+pub mod StepLaws
+pub mod FileLaws
+pub mod RoundTrip
+pub mod ReadLaws
+pub mod Examples

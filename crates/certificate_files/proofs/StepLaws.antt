@@ -1,0 +1,137 @@
+-- A text, line after line.
+use Rattle.std.proofs.Common.{ℕ, suc, ◌+◌, ◌-◌, ◌≤◌, ◌≡◌, ◌⊎◌, inl, inr, length, List, [], ◌∷◌, Option, Some, None, Result, Ok, Err, refl, arith, Bool, true, false, ◌&&◌, ◌==◌, cond, ap, ◌∙◌}
+use Rattle.std.proofs.lemmas.Bool.{eqb-true}
+use Rattle.aag_format.specs.Lines.{lines}
+use Rattle.frame_net.specs.declared.net.Point.{Point}
+use Rattle.verdicts.specs.declared.certificate.Certificate.{Certificate}
+use Rattle.certificate_files.specs.declared.fault.CertError.{CertError}
+use Rattle.certificate_files.specs.declared.fault.CertError.TheVariants.{TooLarge, Truncated}
+use Rattle.certificate_files.specs.declared.forms.FrameLine.{FrameLine}
+use Rattle.certificate_files.specs.Answering.{Gives, Leads}
+use Rattle.certificate_files.specs.Files.{is_small, Saying, Frame, Gate, Route, saying_of, Progress, settled, taken, and_then, ended, read_blocks}
+use Rattle.certificate_files.specs.Forms.{framed, gated, routed, are_small}
+use Rattle.certificate_files.specs.Steps.{IsFirst, read_rest, block_of, with_gate, with_route, closed}
+use Rattle.certificate_files.proofs.AnsweringLaws.{Fails-where}
+
+-- ---- one line
+
+and_then_same : {A B : Type 0} (r : Result A CertError) (f g : A → Result B CertError) → ((x : A) → f x ≡ g x) → and_then r f ≡ and_then r g
+and_then_same (Ok x) f g same = same x
+and_then_same (Err e) f g same = refl
+
+no_more : (a b end : ℕ) (p : Progress) → read_blocks a end p (lines []) ≡ read_blocks b end p (lines [])
+unfolding read_blocks lines
+no_more a b end p = refl
+
+one_line : (at end : ℕ) (p : Progress) (line : List ℕ) (rest : List (List ℕ))
+    → read_blocks at end p (line ∷ rest) ≡ and_then (taken at p (saying_of line)) (λ next. read_blocks (at + length line + 1) end next rest)
+unfolding read_blocks
+one_line at end p line rest = refl
+
+-- where the next line begins doesn't matter where there is none
+pub same_start : (a end : ℕ) (more : List ℕ) (p : Progress) → (more ≡ []) ⊎ (a ≡ end - length more) → read_blocks a end p (lines more) ≡ read_rest end more p
+same_start a end more p (inl none) = rw none (no_more a (end - 0) end p)
+same_start a end more p (inr here) = ap (λ (n : ℕ). read_blocks n end p (lines more)) here
+
+starts_at : (end : ℕ) (text line more : List ℕ) → IsFirst text line more → length text ≤ end → (more ≡ []) ⊎ (end - length text + length line + 1 ≡ end - length more)
+starts_at end text line more first within = by_case first.starts
+  where
+    by_case : (more ≡ []) ⊎ (length text ≡ length line + 1 + length more) → (more ≡ []) ⊎ (end - length text + length line + 1 ≡ end - length more)
+    by_case (inl none) = inl none
+    by_case (inr long) = inr (omega (arith, long, within))
+
+pub read_line : (end : ℕ) (text line more : List ℕ) (p : Progress) → IsFirst text line more → length text ≤ end
+    → read_rest end text p ≡ and_then (taken (end - length text) p (saying_of line)) (read_rest end more)
+read_line end text line more p first within =
+    ap (read_blocks (end - length text) end p) first.whole
+    ∙ one_line (end - length text) end p line (lines more)
+    ∙ and_then_same (taken (end - length text) p (saying_of line)) _ (read_rest end more)
+    (λ next. same_start (end - length text + length line + 1) end more next (starts_at end text line more first within))
+
+-- ---- the end of the text
+
+read_nothing : (end : ℕ) (p : Progress) → read_rest end [] p ≡ ended end p
+unfolding read_blocks lines
+read_nothing end p = refl
+
+pub ends_closed : (end : ℕ) (rest : List ℕ) (blocks : List Certificate) → rest ≡ [] → read_rest end rest (closed blocks) ≡ Ok blocks
+ends_closed end rest blocks none = ap (λ (bytes : List ℕ). read_rest end bytes (closed blocks)) none ∙ read_nothing end (closed blocks)
+
+pub ends_in_gates : (end : ℕ) (rest : List ℕ) (blocks : List Certificate) (block : Certificate) (gates routes : ℕ) → rest ≡ []
+    → read_rest end rest (settled blocks block (suc gates) routes) ≡ Err (Truncated end)
+ends_in_gates end rest blocks block gates routes none =
+    ap (λ (bytes : List ℕ). read_rest end bytes (settled blocks block (suc gates) routes)) none ∙ read_nothing end (settled blocks block (suc gates) routes)
+
+pub ends_in_routes : (end : ℕ) (rest : List ℕ) (blocks : List Certificate) (block : Certificate) (routes : ℕ) → rest ≡ []
+    → read_rest end rest (settled blocks block 0 (suc routes)) ≡ Err (Truncated end)
+ends_in_routes end rest blocks block routes none =
+    ap (λ (bytes : List ℕ). read_rest end bytes (settled blocks block 0 (suc routes))) none ∙ read_nothing end (settled blocks block 0 (suc routes))
+
+-- ---- what comes next
+
+abbrev next_by : {A : Type 0} → (A → Progress) → Result A CertError → Result Progress CertError
+next_by next r = and_then r (λ x. Ok (next x))
+
+sized_next : {A : Type 0} (small : Bool) (x : A) (next : A → Progress) (fault : CertError)
+    → cond {A = Result Progress CertError} small (Ok (next x)) (Err fault) ≡ next_by next (cond small (Ok x) (Err fault))
+sized_next true x next fault = refl
+sized_next false x next fault = refl
+
+pub gate_next : (at : ℕ) (blocks : List Certificate) (block : Certificate) (gates routes : ℕ) (said : Option Saying)
+    → taken at (settled blocks block (suc gates) routes) said ≡ next_by (λ v. settled blocks (with_gate block v) gates routes) (gated at said)
+gate_next at blocks block gates routes None = refl
+gate_next at blocks block gates routes (Some (Frame a b c)) = refl
+gate_next at blocks block gates routes (Some (Gate v)) = sized_next (is_small v) v (λ w. settled blocks (with_gate block w) gates routes) (TooLarge at)
+gate_next at blocks block gates routes (Some (Route points)) = refl
+
+pub route_next : (at : ℕ) (blocks : List Certificate) (block : Certificate) (routes : ℕ) (said : Option Saying)
+    → taken at (settled blocks block 0 (suc routes)) said ≡ next_by (λ points. settled blocks (with_route block points) 0 routes) (routed at said)
+route_next at blocks block routes None = refl
+route_next at blocks block routes (Some (Frame a b c)) = refl
+route_next at blocks block routes (Some (Gate v)) = refl
+route_next at blocks block routes (Some (Route points)) =
+    let one_less : suc routes - 1 ≡ routes = omega arith in
+    ap (λ (n : ℕ). cond (are_small points) (Ok (settled blocks (with_route block points) 0 n)) (Err (TooLarge at))) one_less
+    ∙ sized_next (are_small points) points (λ ps. settled blocks (with_route block ps) 0 routes) (TooLarge at)
+
+pub frame_next : (at : ℕ) (blocks : List Certificate) (said : Option Saying)
+    → taken at (closed blocks) said ≡ next_by (λ (f : FrameLine). settled blocks (block_of f.count [] []) f.gates f.routes) (framed at said)
+frame_next at blocks None = refl
+frame_next at blocks (Some (Frame a b c)) =
+    sized_next (is_small a && is_small b && is_small c) (record { count = a; gates = b; routes = c }) (λ (f : FrameLine). settled blocks (block_of f.count [] []) f.gates f.routes) (TooLarge at)
+frame_next at blocks (Some (Gate v)) = refl
+frame_next at blocks (Some (Route points)) = refl
+
+-- a reading that goes on as a line says
+leads_given : {A B : Type 0} (next : A → Progress) (go : Progress → Result B CertError) (r s : Result A CertError) (read : Result B CertError)
+    → read ≡ and_then (next_by next s) go → Gives (λ x. x) r s → Leads (λ x. go (next x)) r read
+leads_given next go (Ok x) s read is given = is ∙ ap (λ (t : Result _ CertError). and_then (next_by next t) go) given
+leads_given next go (Err e) s read is given = Fails-where e s read (λ fault. is ∙ ap (λ (t : Result _ CertError). and_then (next_by next t) go) fault) given
+
+pub gate_leads : (end : ℕ) (text line more : List ℕ) (blocks : List Certificate) (block : Certificate) (gates routes : ℕ) (r : Result ℕ CertError)
+    → IsFirst text line more → length text ≤ end → Gives (λ v. v) r (gated (end - length text) (saying_of line))
+    → Leads (λ v. read_rest end more (settled blocks (with_gate block v) gates routes)) r (read_rest end text (settled blocks block (suc gates) routes))
+gate_leads end text line more blocks block gates routes r first within given =
+    leads_given (λ v. settled blocks (with_gate block v) gates routes) (read_rest end more) r (gated (end - length text) (saying_of line)) _
+    (read_line end text line more (settled blocks block (suc gates) routes) first within ∙ ap (λ (t : Result Progress CertError). and_then t (read_rest end more)) (gate_next (end - length text) blocks block gates routes (saying_of line)))
+    given
+
+pub route_leads : (end : ℕ) (text line more : List ℕ) (blocks : List Certificate) (block : Certificate) (routes : ℕ) (r : Result (List Point) CertError)
+    → IsFirst text line more → length text ≤ end → Gives (λ ps. ps) r (routed (end - length text) (saying_of line))
+    → Leads (λ ps. read_rest end more (settled blocks (with_route block ps) 0 routes)) r (read_rest end text (settled blocks block 0 (suc routes)))
+route_leads end text line more blocks block routes r first within given =
+    leads_given (λ ps. settled blocks (with_route block ps) 0 routes) (read_rest end more) r (routed (end - length text) (saying_of line)) _
+    (read_line end text line more (settled blocks block 0 (suc routes)) first within ∙ ap (λ (t : Result Progress CertError). and_then t (read_rest end more)) (route_next (end - length text) blocks block routes (saying_of line)))
+    given
+
+pub frame_leads : (end : ℕ) (text line more : List ℕ) (blocks : List Certificate) (r : Result FrameLine CertError)
+    → IsFirst text line more → length text ≤ end → Gives (λ f. f) r (framed (end - length text) (saying_of line))
+    → Leads (λ (f : FrameLine). read_rest end more (settled blocks (block_of f.count [] []) f.gates f.routes)) r (read_rest end text (closed blocks))
+frame_leads end text line more blocks r first within given =
+    leads_given (λ (f : FrameLine). settled blocks (block_of f.count [] []) f.gates f.routes) (read_rest end more) r (framed (end - length text) (saying_of line)) _
+    (read_line end text line more (closed blocks) first within ∙ ap (λ (t : Result Progress CertError). and_then t (read_rest end more)) (frame_next (end - length text) blocks (saying_of line)))
+    given
+
+pub nothing_left : (rest : List ℕ) → (length rest == 0) ≡ true → rest ≡ []
+nothing_left [] none = refl
+nothing_left (b ∷ rest) none = absurd (omega (arith, eqb-true (length (b ∷ rest)) 0 none))

@@ -1,0 +1,8 @@
+pub mod Files
+pub mod Texts
+pub mod Answering
+pub mod Cutting
+pub mod Steps
+pub mod Forms
+pub mod Laws
+pub mod Codes

@@ -1,0 +1,32 @@
+-- A text, line after line.
+use Rattle.std.specs.Prelude.{ℕ, ◌≡◌, ◌+◌, ◌-◌, ◌<◌, ◌⊎◌, List, [], ◌∷◌, ◌++◌, length, None, Result}
+use Rattle.aag_format.specs.Lines.{lines}
+use Rattle.frame_net.specs.declared.net.Point.{Point}
+use Rattle.verdicts.specs.declared.certificate.Certificate.{Certificate}
+use Rattle.certificate_files.specs.declared.fault.CertError.{CertError}
+use Rattle.certificate_files.specs.Files.{Progress, read_blocks}
+
+-- the first line of a text, and what follows it: where there is more, it follows a newline
+pub record IsFirst (text line more : List ℕ) : Type 0 where
+  pub shorter : length more < length text
+  pub whole : lines text ≡ line ∷ lines more
+  pub starts : (more ≡ []) ⊎ (length text ≡ length line + 1 + length more)
+
+-- what is read of the end of a text of this length
+abbrev pub read_rest : ℕ → List ℕ → Progress → Result (List Certificate) CertError
+read_rest end rest p = read_blocks (end - length rest) end p (lines rest)
+
+-- ---- blocks
+
+abbrev pub block_of : ℕ → List ℕ → List (List Point) → Certificate
+block_of count gates routes = record { count = count; gates = gates; routes = routes }
+
+abbrev pub with_gate : Certificate → ℕ → Certificate
+with_gate block v = record block { gates = block.gates ++ v ∷ [] }
+
+abbrev pub with_route : Certificate → List Point → Certificate
+with_route block points = record block { routes = block.routes ++ points ∷ [] }
+
+-- blocks that have ended, where none has begun
+abbrev pub closed : List Certificate → Progress
+closed blocks = record { blocks = blocks; begun = None; gates = 0; routes = 0 }

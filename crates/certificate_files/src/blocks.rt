@@ -1,0 +1,120 @@
+ghost use Rattle.std.specs.Prelude.{ℕ, List, [], ◌≡◌, ◌<◌, ◌≤◌, suc, length, OnOk};
+ghost use Rattle.verdicts.specs.declared.certificate.Certificate.{Certificate as Block};
+ghost use Rattle.certificate_files.specs.Answering.{Gives, Leads};
+ghost use Rattle.certificate_files.specs.Files.{settled, nothing_read};
+ghost use Rattle.certificate_files.specs.Steps.{read_rest, block_of, with_gate, with_route, closed};
+ghost use Rattle.std.specs.Prelude.{◌++◌, ◌∷◌};
+
+use crate::fault::CertError;
+use crate::forms::{FrameLine, frame_line, gate_line};
+use crate::lines::Lines;
+use crate::words::route_line;
+use aig_graph::Sequence;
+use frame_net::Point;
+use std::alloc::Global;
+use verdicts::Certificate;
+
+/// Takes the line of a gate.
+fn next_gate(lines: &mut Lines<'_>) -> Result<u32, CertError>
+    ensures end { lines.new.end ≡ lines.old.end }
+    ensures shorter { length lines.new.rest.now ≤ length lines.old.rest.now }
+    ensures reads { (blocks : List Block) (block : Block) (gates routes : ℕ)
+        → Leads (λ v. read_rest lines.new.end lines.new.rest.now (settled blocks (with_gate block v) gates routes)) result
+        (read_rest lines.old.end lines.old.rest.now (settled blocks block (suc gates) routes)) }
+{
+    let line = lines.next_line()?;
+    gate_line(&line)
+}
+
+/// Takes the line of a route.
+fn next_route(alloc: Global, lines: &mut Lines<'_>) -> Result<Sequence<Point>, CertError>
+    ensures end { lines.new.end ≡ lines.old.end }
+    ensures shorter { length lines.new.rest.now ≤ length lines.old.rest.now }
+    ensures reads { (blocks : List Block) (block : Block) (routes : ℕ)
+        → Leads (λ points. read_rest lines.new.end lines.new.rest.now (settled blocks (with_route block points) 0 routes)) result
+        (read_rest lines.old.end lines.old.rest.now (settled blocks block 0 (suc routes))) }
+{
+    let line = lines.next_line()?;
+    route_line(alloc, &line)
+}
+
+/// Takes the line that begins a block, where there is a line.
+fn next_frame(lines: &mut Lines<'_>) -> Result<FrameLine, CertError>
+    ensures end { lines.new.end ≡ lines.old.end }
+    ensures shorter { OnOk result (length lines.new.rest.now < length lines.old.rest.now) }
+    ensures reads { (blocks : List Block) → 0 < length lines.old.rest.now
+        → Leads (λ frame. read_rest lines.new.end lines.new.rest.now (settled blocks (block_of frame.count [] []) frame.gates frame.routes)) result
+        (read_rest lines.old.end lines.old.rest.now (closed blocks)) }
+{
+    let line = lines.next_line()?;
+    frame_line(&line)
+}
+
+/// Takes the lines of the gates. Room is taken as the lines come.
+fn read_gates(alloc: Global, lines: &mut Lines<'_>, count: u32) -> Result<Sequence<u32>, CertError>
+    ensures end { lines.new.end ≡ lines.old.end }
+    ensures shorter { length lines.new.rest.now ≤ length lines.old.rest.now }
+    ensures reads { (blocks : List Block) (stated routes : ℕ)
+        → Leads (λ gates. read_rest lines.new.end lines.new.rest.now (settled blocks (block_of stated gates []) 0 routes)) result
+        (read_rest lines.old.end lines.old.rest.now (settled blocks (block_of stated [] []) count routes)) }
+{
+    let mut gates = Vec::new(alloc);
+    for _ in 0..count {
+        let gate = next_gate(lines)?;
+        gates.push(gate)?;
+    }
+    Ok(Sequence::from_vec(gates))
+}
+
+/// Takes the lines of the routes. Room is taken as the lines come.
+fn read_routes(
+    alloc: Global,
+    lines: &mut Lines<'_>,
+    count: u32,
+) -> Result<Sequence<Sequence<Point>>, CertError>
+    ensures end { lines.new.end ≡ lines.old.end }
+    ensures shorter { length lines.new.rest.now ≤ length lines.old.rest.now }
+    ensures reads { (blocks : List Block) (stated : ℕ) (gates : List ℕ)
+        → Leads (λ routes. read_rest lines.new.end lines.new.rest.now (closed (blocks ++ block_of stated gates routes ∷ []))) result
+        (read_rest lines.old.end lines.old.rest.now (settled blocks (block_of stated gates []) 0 count)) }
+{
+    let mut routes = Vec::new(alloc);
+    for _ in 0..count {
+        let route = next_route(alloc, lines)?;
+        routes.push(route)?;
+    }
+    Ok(Sequence::from_vec(routes))
+}
+
+/// Takes the lines of a block, where there is a line.
+fn next_block(alloc: Global, lines: &mut Lines<'_>) -> Result<Certificate, CertError>
+    ensures end { lines.new.end ≡ lines.old.end }
+    ensures shorter { OnOk result (length lines.new.rest.now < length lines.old.rest.now) }
+    ensures reads { (blocks : List Block) → 0 < length lines.old.rest.now
+        → Leads (λ block. read_rest lines.new.end lines.new.rest.now (closed (blocks ++ block ∷ []))) result
+        (read_rest lines.old.end lines.old.rest.now (closed blocks)) }
+{
+    let frame = next_frame(lines)?;
+    let gates = read_gates(alloc, lines, frame.gates)?;
+    let routes = read_routes(alloc, lines, frame.routes)?;
+    Ok(Certificate {
+        count: frame.count,
+        gates,
+        routes,
+    })
+}
+
+/// The blocks up to the end of the text.
+pub(crate) fn read_blocks(
+    alloc: Global,
+    lines: &mut Lines<'_>,
+) -> Result<Sequence<Certificate>, CertError>
+    ensures { Gives (λ blocks. blocks) result (read_rest lines.old.end lines.old.rest.now nothing_read) }
+{
+    let mut blocks = Vec::new(alloc);
+    while !lines.is_at_end() {
+        let block = next_block(alloc, lines)?;
+        blocks.push(block)?;
+    }
+    Ok(Sequence::from_vec(blocks))
+}

@@ -1,0 +1,52 @@
+ghost use Rattle.std.specs.Prelude.{◌≡◌};
+
+use std::alloc::AllocFailed;
+use thiserror::Error;
+
+/// Why a certificate file is refused, with the offset of the line's first byte; a line that is missing would begin at the end.
+#[derive(Clone, Copy, Debug, PartialEq, Eq, Error)]
+pub enum CertError {
+    /// The first line is none of a certificate file.
+    #[error("BadHeader at {0}")]
+    BadHeader(u64),
+    /// A line has another form than the one that comes next.
+    #[error("BadLine at {0}")]
+    BadLine(u64),
+    /// A number is above 2^28 - 1.
+    #[error("TooLarge at {0}")]
+    TooLarge(u64),
+    /// The text ends within a block, or before the line of the choice.
+    #[error("Truncated at {0}")]
+    Truncated(u64),
+    /// Memory was refused.
+    #[error("out of memory")]
+    NoMemory,
+}
+
+impl CertError {
+    ghost use Rattle.certificate_files.specs.Codes.{code_of};
+
+    /// The number of the kind of fault, from 1 on.
+    pub fn code(self) -> u8
+        ensures { result ≡ code_of self }
+    {
+        match self {
+            CertError::BadHeader(_) => 1,
+            CertError::BadLine(_) => 2,
+            CertError::TooLarge(_) => 3,
+            CertError::Truncated(_) => 4,
+            CertError::NoMemory => 5,
+        }
+    }
+}
+
+impl<T: Drop> From<AllocFailed<T>> for CertError {
+    ghost use Rattle.std.specs.Prelude.{◌≡◌};
+    ghost use Rattle.certificate_files.specs.declared.fault.CertError.TheVariants.{NoMemory};
+
+    ghost from_gives = { λ _ e. e ≡ NoMemory };
+
+    fn from(_error: AllocFailed<T>) -> CertError {
+        CertError::NoMemory
+    }
+}

@@ -1,0 +1,22 @@
+//! Files of certificates: the set of each frame, the size of its border, and the routes that show it to be least.
+#![tactic(auto)]
+
+mod blocks;
+mod cut;
+mod fault;
+mod file;
+mod forms;
+mod laws;
+mod lines;
+mod reading;
+mod words;
+mod writing;
+
+pub use fault::CertError;
+pub use file::{CertFile, Choice};
+pub use laws::{rereading_law, round_trip_law};
+pub use reading::read_cert;
+pub use writing::write_cert;
+
+#[cfg(test)]
+mod tests;

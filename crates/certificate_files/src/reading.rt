@@ -1,0 +1,85 @@
+ghost use Rattle.std.specs.Prelude.{ℕ, [], ◌≡◌, ◌⊎◌, ◌-◌, length, IfOk, IfErr, Ok, Err};
+ghost use Rattle.aag_format.specs.Lines as format;
+ghost use Rattle.certificate_files.specs.declared.fault.CertError.TheVariants.{NoMemory};
+ghost use Rattle.certificate_files.specs.Answering.{Gives, Leads};
+ghost use Rattle.certificate_files.specs.Files.{is_word, choice_of, nothing_read, read_file, read_second, read_text, with_choice};
+ghost use Rattle.certificate_files.specs.Steps.{read_rest};
+
+use crate::blocks::read_blocks;
+use crate::fault::CertError;
+use crate::file::{CertFile, Choice};
+use crate::lines::Lines;
+use std::alloc::Global;
+
+fn is_word(text: &[u8], word: &[u8]) -> bool
+    ensures { result ≡ is_word text.now word.now }
+{
+    word.len() == text.len() && text.starts_with(word)
+}
+
+fn choice(text: &[u8]) -> Option<Choice>
+    ensures { result ≡ choice_of text.now }
+{
+    if is_word(text, b"choice greatest") {
+        Some(Choice::Greatest)
+    } else if is_word(text, b"choice smallest") {
+        Some(Choice::Smallest)
+    } else {
+        None
+    }
+}
+
+/// Takes the line of the choice.
+fn second_line(lines: &mut Lines<'_>) -> Result<Choice, CertError>
+    ensures { (at : ℕ) → (lines.old.rest.now ≡ []) ⊎ (at ≡ lines.old.end - length lines.old.rest.now)
+        → Leads (λ choice. with_choice choice (read_rest lines.new.end lines.new.rest.now nothing_read)) result
+        (read_second at lines.old.end (format.lines lines.old.rest.now)) }
+{
+    let line = lines.next_line()?;
+    match choice(line.text) {
+        Some(choice) => Ok(choice),
+        None => Err(CertError::BadLine(line.at)),
+    }
+}
+
+/// Takes the lines before the blocks.
+fn first_lines(lines: &mut Lines<'_>) -> Result<Choice, CertError>
+    ensures { length lines.old.rest.now ≡ lines.old.end
+        → Leads (λ choice. with_choice choice (read_rest lines.new.end lines.new.rest.now nothing_read)) result
+        (read_file lines.old.end (format.lines lines.old.rest.now)) }
+{
+    let Ok(first) = lines.next_line() else {
+        return Err(CertError::BadHeader(0));
+    };
+    if is_word(first.text, b"fretime-cert 1") {
+        return Ok(Choice::Greatest);
+    }
+    if !is_word(first.text, b"fretime-cert 2") {
+        return Err(CertError::BadHeader(0));
+    }
+    second_line(lines)
+}
+
+fn read(alloc: Global, bytes: &[u8]) -> Result<CertFile, CertError>
+    ensures { Gives (λ file. file) result (read_text bytes.now) }
+{
+    let mut lines = Lines::new(bytes);
+    let choice = first_lines(&mut lines)?;
+    let blocks = read_blocks(alloc, &mut lines)?;
+    Ok(CertFile { choice, blocks })
+}
+
+/// Reads the certificates of a file of either version; the first one names no choice, and its sets are the greatest.
+///
+/// Goes over the bytes once and doesn't copy them; room is taken for what was read, whatever a line says is to come. What
+/// is read is no more than a file: whether a certificate is right is judged by `verdicts::check`.
+///
+/// # Errors
+///
+/// The first fault of the file, or `NoMemory`, which may come before it.
+pub fn read_cert(alloc: Global, bytes: &[u8]) -> Result<CertFile, CertError>
+    ensures ok { IfOk result (λ file. read_text bytes.now ≡ Ok file) }
+    ensures err { IfErr result (λ error. (error ≡ NoMemory) ⊎ (read_text bytes.now ≡ Err error)) }
+{
+    read(alloc, bytes)
+}

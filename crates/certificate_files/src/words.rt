@@ -1,0 +1,109 @@
+ghost use Rattle.std.specs.Prelude.{◌≡◌, ◌∷◌, ◌+◌, ◌*◌, List, ℕ};
+ghost use Rattle.aag_format.specs.Lines.{pieces};
+ghost use Rattle.aag_lines.specs.Rows.{clamped};
+ghost use Rattle.certificate_files.specs.Answering.{Gives, Leads};
+ghost use Rattle.certificate_files.specs.Files.{saying_of};
+ghost use Rattle.certificate_files.specs.Forms.{are_small, number_of, onto, routed, side_of, sized_points, spelt_at, spelt_point};
+
+use crate::cut::cut;
+use crate::fault::CertError;
+use crate::forms::{after_letters, is_small};
+use crate::lines::Line;
+use aig_graph::Sequence;
+use frame_net::Point;
+use std::alloc::Global;
+
+/// The number with one more digit after it.
+fn with_digit(number: u32, digit: u8) -> u32
+    ensures { result ≡ clamped (10 * number + digit) }
+{
+    number.saturating_mul(10).saturating_add(u32::from(digit))
+}
+
+/// The number that decimal digits spell, where `u32::MAX` stands for each greater one.
+fn number(digits: &[u8]) -> Option<u32>
+    ensures { result ≡ number_of digits.now }
+{
+    if digits.is_empty() {
+        return None;
+    }
+    let mut number = 0;
+    for digit in digits {
+        if !digit.is_ascii_digit() {
+            return None;
+        }
+        number = with_digit(number, *digit - b'0');
+    }
+    Some(number)
+}
+
+/// Whether the sign stands for the point behind the variable.
+fn side(sign: u8) -> Option<bool>
+    ensures { result ≡ side_of sign }
+{
+    match sign {
+        b'+' => Some(true),
+        b'-' => Some(false),
+        _ => None,
+    }
+}
+
+fn point(word: &[u8]) -> Option<Point>
+    ensures { result ≡ spelt_point word.now }
+{
+    let (sign, digits) = word.split_last()?;
+    let var = number(digits)?;
+    let behind = side(*sign)?;
+    Some(Point { var, behind })
+}
+
+fn push_point(points: &mut Vec<Point>, at: u64, word: &[u8]) -> Result<(), CertError>
+    ensures { (words : List (List ℕ)) → Leads (λ done. onto points.new.items (spelt_at at words)) result (onto points.old.items (spelt_at at (word.now ∷ words))) }
+{
+    let Some(point) = point(word) else {
+        return Err(CertError::BadLine(at));
+    };
+    points.push(point)?;
+    Ok(())
+}
+
+/// The points that are spelt with one space between, where `u32::MAX` stands for each greater number.
+fn spelt_points(alloc: Global, at: u64, words: &[u8]) -> Result<Vec<Point>, CertError>
+    ensures { Gives (λ points. points.items) result (spelt_at at (pieces words.now)) }
+{
+    let mut points = Vec::new(alloc);
+    let mut rest = words;
+    while let Some((word, more)) = cut(rest, b' ') {
+        push_point(&mut points, at, word)?;
+        rest = more;
+    }
+    push_point(&mut points, at, rest)?;
+    Ok(points)
+}
+
+fn are_small(points: &[Point]) -> bool
+    ensures { result ≡ are_small points.now }
+{
+    points.iter().all(|point| is_small(point.var))
+}
+
+fn sized(at: u64, points: Vec<Point>) -> Result<Sequence<Point>, CertError>
+    ensures { result ≡ sized_points at points.items }
+{
+    if are_small(points.as_slice()) {
+        Ok(Sequence::from_vec(points))
+    } else {
+        Err(CertError::TooLarge(at))
+    }
+}
+
+/// The line as one of a route.
+pub(crate) fn route_line(alloc: Global, line: &Line<'_>) -> Result<Sequence<Point>, CertError>
+    ensures { Gives (λ points. points) result (routed line.now.at (saying_of line.now.text.now)) }
+{
+    let Some(words) = after_letters(line.text, b"r ") else {
+        return Err(CertError::BadLine(line.at));
+    };
+    let points = spelt_points(alloc, line.at, words)?;
+    sized(line.at, points)
+}
