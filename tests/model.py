@@ -4,8 +4,8 @@
 usage: tests/model.py PROGRAM [COUNT] [SEED]
 
 Of COUNT circuits (300 where it isn't given) some are small, with all sections in both spellings, some are pipelines of
-several frames, and some files are damaged; a small circuit of each family of bench/families.py comes first. The last line is
-'N passed, M failed', a comparison each.
+several frames, and some files are damaged; a small circuit of each family of bench/families.py comes first, and large ones, on which
+crews are compared with one worker. The last line is 'N passed, M failed', a comparison each.
 """
 import contextlib
 import os
@@ -23,6 +23,8 @@ from plain.retiming import greatest_least_by_flow, greatest_least_of_all, held_l
 
 BENCH = pathlib.Path(__file__).resolve().parent.parent / 'bench'
 WORKERS = [1, 2, 7, 64]
+# With more than 4096 nodes of the flow active in some pulses, so that crews share these.
+LARGE = ['products 70', 'gates 20000 9000', 'delay_lines 4200 8']
 FAMILIES = ['products 6', 'multiplier 5', 'adder_tree 8 4', 'delay_lines 16 4', 'rounds 8 4', 'gates 300 40']
 
 
@@ -126,6 +128,21 @@ def with_each_crew(comparison, data):
         comparison.run(['retime', 'in', 'OUT', '--workers', str(workers)], {'in': data})
 
 
+def made(family):
+    return subprocess.run([BENCH / 'families.py', *family.split()], capture_output=True, check=True).stdout
+
+
+def alike(comparison, family):
+    """Every crew prints and writes what one worker does. (The model would take minutes here.)"""
+    write('in', made(family))
+    answers = []
+    for workers in WORKERS:
+        ran = subprocess.run([comparison.program, 'retime', 'in', 'out', '--workers', str(workers)],
+                             capture_output=True, timeout=120, check=False)
+        answers.append((ran.returncode, ran.stdout, ran.stderr, content('out')))
+        comparison.count(ran.returncode == 0 and answers[-1] == answers[0], f'{workers} workers on {family}')
+
+
 def main(words):
     program = os.path.abspath(words[0])
     count = int(words[1]) if len(words) > 1 else 300
@@ -134,8 +151,9 @@ def main(words):
     with tempfile.TemporaryDirectory(prefix='fretime-model-') as room:
         os.chdir(room)
         for family in FAMILIES:
-            made = subprocess.run([BENCH / 'families.py', *family.split()], capture_output=True, check=True)
-            with_each_crew(comparison, made.stdout)
+            with_each_crew(comparison, made(family))
+        for family in LARGE:
+            alike(comparison, family)
         for k in range(count):
             (staged if k % 10 == 9 else rng.choice([small, small, different, damage]))(rng, comparison)
         os.chdir('/')
