@@ -16,6 +16,8 @@ pub struct Cleaned {
     pub circuit: Circuit,
     /// Of each free latch that stays, its place, from 0, among the free latches of the circuit that was cleaned.
     pub kept_free: Sequence<u32>,
+    /// Of each gate that stays, its place among the gates of the circuit that was cleaned. A hint: no clause speaks of it.
+    pub kept_gates: Vec<u32>,
 }
 
 /// The entries of a first list at the places that a second list names. Where the lists have the places of the free latches
@@ -35,6 +37,15 @@ pub fn composed(alloc: Global, first: &[u32], second: &[u32]) -> Result<Vec<u32>
     Ok(places)
 }
 
+/// The entries of a first list at the places that a second list names, as far as it has them.
+fn picked(alloc: Global, first: &[u32], second: &[u32]) -> Result<Vec<u32>, NoMemory> {
+    let mut entries = Vec::with_capacity(alloc, second.len())?;
+    for place in second {
+        entries.push(first.get(*place as usize).copied().unwrap_or(u32::MAX))?;
+    }
+    Ok(entries)
+}
+
 /// The pass after a pass. Where the places of the last pass are counted among the free latches of an earlier circuit, so are
 /// those of this one.
 fn pass_after(alloc: Global, last: &Pass) -> Result<Pass, NoMemory>
@@ -45,6 +56,11 @@ fn pass_after(alloc: Global, last: &Pass) -> Result<Pass, NoMemory>
 {
     let mut next = run_pass(alloc, &last.circuit, last.held.as_slice())?;
     next.kept_free = composed(alloc, last.kept_free.as_slice(), next.kept_free.as_slice())?;
+    next.kept_gates = picked(
+        alloc,
+        last.kept_gates.as_slice(),
+        next.kept_gates.as_slice(),
+    )?;
     Ok(next)
 }
 
@@ -66,11 +82,13 @@ fn cleaned_by(last: Pass) -> Cleaned
     let Pass {
         circuit,
         kept_free,
+        kept_gates,
         ..
     } = last;
     Cleaned {
         circuit,
         kept_free: Sequence::from_vec(kept_free),
+        kept_gates,
     }
 }
 

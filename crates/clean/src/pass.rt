@@ -19,6 +19,8 @@ pub(crate) struct Pass {
     pub(crate) circuit: Circuit,
     /// Of each free latch that stays, its place among the free latches before.
     pub(crate) kept_free: Vec<u32>,
+    /// Of each gate that stays, its place among the gates before. A hint: no clause speaks of it.
+    pub(crate) kept_gates: Vec<u32>,
     /// The new positions of the held latches.
     pub(crate) held: Vec<u32>,
 }
@@ -41,11 +43,13 @@ fn trimmed(
     let symbols = circuit.symbols();
     let trim = Trim::new(alloc, &merged.aig, reached)?;
     let kept_free = trim.kept_free(alloc)?;
+    let kept_gates = trim.kept_gates(alloc)?;
     let held = trim.new_positions(alloc, held)?;
     let circuit = trim.circuit(alloc, &merged.props, symbols)?;
     Ok(Pass {
         circuit,
         kept_free,
+        kept_gates,
         held,
     })
 }

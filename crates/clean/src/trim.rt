@@ -114,6 +114,18 @@ impl<'a> Trim<'a> {
         Ok(gates)
     }
 
+    /// The places of the gates that stay.
+    pub(crate) fn kept_gates(&self, alloc: Global) -> Result<Vec<u32>, NoMemory> {
+        let first = self.aig.first_gate();
+        let mut kept = Vec::new(alloc);
+        for place in 0..self.aig.gates().len() as u32 {
+            if self.reached.has(first + place) {
+                kept.push(place)?;
+            }
+        }
+        Ok(kept)
+    }
+
     /// The graph of what stays.
     fn graph(&self, alloc: Global) -> Result<Aig, NoMemory>
         requires { IsGraph (trimmed_graph self.now.aig.now (is_marked self.now.reached.now)) }

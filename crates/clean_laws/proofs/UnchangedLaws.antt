@@ -234,7 +234,7 @@ module _ (held : List ℕ) (c : Network) (valid : IsCircuit c) (in_range : (j : 
     }
 
     -- so each variable that is reached stands for itself
-    reached-own : (v : ℕ) → s v ≡ true → get_or (stands_of c.aig held) v 0 ≡ 2 * v
+    pub reached-own : (v : ℕ) → s v ≡ true → get_or (stands_of c.aig held) v 0 ≡ 2 * v
     reached-own v e = eqb-true _ _ (and_parts (s v) (own v) (reached.least both both-holds v e)).1
 
     -- a pass that removes no latch and no gate changes nothing

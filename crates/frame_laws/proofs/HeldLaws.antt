@@ -14,6 +14,7 @@ use Rattle.aig_graph.specs.Move.{Move}
 use Rattle.aig_graph.specs.Border.{in_border, is_gate_in, is_read}
 use Rattle.aig_graph.proofs.KindLaws.{latch_at-first_latch}
 use Rattle.aig_graph.proofs.SetLemmas.{has_iff_contains}
+use Rattle.variable_tables.specs.Counting.{count_below}
 use Rattle.variable_tables.specs.Marking.{has}
 use Rattle.clean_laws.specs.Merged.{merged_of, stands_of, replaced_graph, replaced_latch}
 use Rattle.clean_laws.specs.Reached.{AreReached}
@@ -72,9 +73,9 @@ latch_there g j h =
     ]
 
 -- what a pass makes of the held latches
-record PassKeeps (names : List (List ℕ)) (c d : Network) (still_held : List ℕ) : Type 0 where
-  held : held_latches names d ≡ held_latches names c
-  positions : still_held ≡ held_in names d
+pub record PassKeeps (names : List (List ℕ)) (c d : Network) (still_held : List ℕ) : Type 0 where
+  pub held : held_latches names d ≡ held_latches names c
+  pub positions : still_held ≡ held_in names d
 
 module _ (names : List (List ℕ)) (c : Network) (valid : IsCircuit c) (s : ℕ → Bool) (reached : AreReached (merged_of (held_in names c) c).aig (merged_of (held_in names c) c).props (held_in names c) s) where
   abbrev m : Network
@@ -117,7 +118,7 @@ module _ (names : List (List ℕ)) (c : Network) (valid : IsCircuit c) (s : ℕ 
       ∙ sym (kept-entries position_of (λ x. new_position m.aig s x.position) (is_named names) keeps (new_name m.aig s) is_reached (length c.aig.latches) (λ x. refl)
       (λ x low here. (here, refl)) c.symbols.latches valid.network.symbols.latches.below all-reached)
 
-pass-keeps : (names : List (List ℕ)) (c d : Network) (kept still_held : List ℕ) → IsCircuit c → IsPass (held_in names c) c d kept still_held → PassKeeps names c d still_held
+pub pass-keeps : (names : List (List ℕ)) (c d : Network) (kept still_held : List ℕ) → IsCircuit c → IsPass (held_in names c) c d kept still_held → PassKeeps names c d still_held
 pass-keeps names c d kept still_held valid pass =
     let P : Network → Type 0 = λ e. PassKeeps names c e still_held in
     subst P (sym pass.circuit) (record {
@@ -181,3 +182,11 @@ module _ (names : List (List ℕ)) (c : Network) (set : List ℕ) (network : IsN
   unfolding held_latches moved_symbols
   moving-keeps = kept-entries (held_latch (moved_graph move)) (held_latch c.aig) (is_named names) (stays move) (moved_name move) holds (length c.aig.latches) (λ x. refl)
       moved-entry c.symbols.latches network.symbols.latches.below all-held
+
+  -- where the latches that names hold are after a move
+  pub moved-positions : map (λ j. count_below (is_latched move) (first_latch c.aig + j)) (held_in names c) ≡ held_in names (moved_in names c set)
+  unfolding held_by moved_symbols
+  moved-positions =
+      map-map (λ j. count_below (is_latched move) (first_latch c.aig + j)) position_of (filter (is_named names) c.symbols.latches)
+      ∙ sym (kept-entries position_of (λ x. count_below (is_latched move) (first_latch c.aig + x.position)) (is_named names) (stays move) (moved_name move) holds (length c.aig.latches) (λ x. refl)
+      (λ x low here. ((moved-entry x low here).0, refl)) c.symbols.latches network.symbols.latches.below all-held)

@@ -13,6 +13,7 @@ use crate::options::Options;
 use aig_graph::{Circuit, ClosedSet, Keep, NoMemory};
 use clean::Cleaned;
 use frame_laws::FrameReport;
+use gate_flows::{GateFlow, after_cleaning, after_move};
 use pulse::{Crew, PhaseGate};
 use rebuild::moved;
 use std::alloc::Global;
@@ -48,6 +49,32 @@ fn moved_over(
     cleaned
 }
 
+/// What the flow did at each gate, by the gates after a move over the set and a cleaning that keeps gates at these places.
+fn carried(
+    alloc: Global,
+    circuit: &Circuit,
+    set: &ClosedSet,
+    kept_gates: &[u32],
+    flows: &[GateFlow],
+) -> Result<Vec<GateFlow>, NoMemory> {
+    let moved = after_move(alloc, circuit.aig(), set, flows)?;
+    after_cleaning(alloc, kept_gates, moved.as_slice())
+}
+
+/// Carries what the flow did at each gate over a move and a cleaning; where memory is refused, it is lost.
+fn carry(
+    alloc: Global,
+    circuit: &Circuit,
+    set: &ClosedSet,
+    kept_gates: &[u32],
+    flows: &mut Vec<GateFlow>,
+) {
+    match carried(alloc, circuit, set, kept_gates, flows.as_slice()) {
+        Ok(left) => *flows = left,
+        Err(NoMemory) => flows.clear(),
+    }
+}
+
 /// The frame of a circuit, where one makes fewer latches.
 pub(crate) fn next_frame<G: PhaseGate>(
     rt: &(impl Threads + Sync),
@@ -55,15 +82,18 @@ pub(crate) fn next_frame<G: PhaseGate>(
     circuit: &Circuit,
     options: &Options,
     crew: &Crew<G>,
+    flows: &mut Vec<GateFlow>,
 ) -> Result<Option<Frame>, NoMemory>
     requires { NoneMissing options.now circuit.now }
     ensures { IfOk result (λ found. MatchOption found (NoneSmaller (names_in options.now) circuit.now) (Moves (names_in options.now) circuit.now)) }
 {
     let _aig = circuit.aig();
     let keep = held(alloc, circuit, options)?;
-    match helping_set(rt, alloc, circuit, &keep, options, crew)? {
+    match helping_set(rt, alloc, circuit, &keep, options, crew, flows)? {
         Some(found) => {
             let cleaned = moved_over(alloc, circuit, &keep, &found.set, options)?;
+            let kept_gates = cleaned.kept_gates.as_slice();
+            carry(alloc, circuit, &found.set, kept_gates, flows);
             Ok(Some(Frame {
                 cleaned,
                 report: found.report,

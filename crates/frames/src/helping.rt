@@ -9,6 +9,7 @@ use crate::least_set::greatest_least;
 use crate::options::Options;
 use aig_graph::{Circuit, ClosedSet, Keep, NoMemory, count};
 use frame_laws::FrameReport;
+use gate_flows::GateFlow;
 use pulse::{Crew, PhaseGate};
 use std::alloc::Global;
 use std::thread::Threads;
@@ -28,11 +29,12 @@ pub(crate) fn helping_set<G: PhaseGate>(
     keep: &Keep,
     options: &Options,
     crew: &Crew<G>,
+    flows: &mut Vec<GateFlow>,
 ) -> Result<Option<Helping>, NoMemory>
     requires { keep.now ≡ held_in (names_in options.now) circuit.now }
     ensures { IfOk result (λ found. MatchOption found (NoneSmaller (names_in options.now) circuit.now) (Helps (names_in options.now) circuit.now)) }
 {
-    let set = greatest_least(rt, alloc, circuit, keep, crew)?;
+    let set = greatest_least(rt, alloc, circuit, keep, crew, flows)?;
     let _aig = circuit.aig();
     let report = FrameReport {
         before: circuit.aig().known_latches(),

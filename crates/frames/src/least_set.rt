@@ -7,7 +7,8 @@ ghost use Rattle.pulse.specs.Conditions.{IsMaxPreflow};
 use aig_graph::{Circuit, ClosedSet, Keep, NoMemory};
 use cut_cert::greatest_cut;
 use frame_net::{Net, passable};
-use pulse::{Crew, MaxPreflow, PhaseGate, PulseError, run_with_global_relabeling};
+use gate_flows::{GateFlow, gate_flows, wishes};
+use pulse::{Crew, MaxPreflow, PhaseGate, PulseError, run_along_wishes};
 use std::alloc::Global;
 use std::thread::Threads;
 
@@ -23,33 +24,69 @@ fn network(alloc: Global, circuit: &Circuit, keep: &Keep) -> Result<Net, NoMemor
     Ok(net)
 }
 
-/// A maximum preflow of a network, by pulses with global relabeling.
+/// A maximum preflow of a network, by pulses with global relabeling from a start along wishes.
 fn maximum_preflow<G: PhaseGate>(
     rt: &(impl Threads + Sync),
     alloc: Global,
     net: &Net,
     crew: &Crew<G>,
+    wishes: &mut [u32],
 ) -> Result<MaxPreflow, NoMemory>
     ensures { IfOk result (IsMaxPreflow net.now) }
 {
-    match run_with_global_relabeling(rt, alloc, net, crew) {
+    match run_along_wishes(rt, alloc, net, crew, wishes) {
         Ok(preflow) => Ok(preflow),
         Err(PulseError::NoMemory) => Err(NoMemory),
     }
 }
 
-/// The greatest least set. What was made to find it is dropped.
+/// Notes what the preflow did at each gate, or nothing where memory is refused.
+fn note(
+    alloc: Global,
+    circuit: &Circuit,
+    net: &Net,
+    preflow: &MaxPreflow,
+    flows: &mut Vec<GateFlow>,
+)
+    requires { IsMaxPreflow net.now preflow.now }
+{
+    match gate_flows(alloc, net, circuit.aig(), preflow) {
+        Ok(known) => *flows = known,
+        Err(NoMemory) => flows.clear(),
+    }
+}
+
+/// A maximum preflow of a circuit's network, from a start along what the last flow did at each gate; then what this one did there.
+fn preflow_along<G: PhaseGate>(
+    rt: &(impl Threads + Sync),
+    alloc: Global,
+    circuit: &Circuit,
+    net: &Net,
+    crew: &Crew<G>,
+    flows: &mut Vec<GateFlow>,
+) -> Result<MaxPreflow, NoMemory>
+    ensures { IfOk result (IsMaxPreflow net.now) }
+{
+    let mut wished = wishes(alloc, net, circuit.aig(), flows.as_slice())?;
+    let preflow = maximum_preflow(rt, alloc, net, crew, wished.as_mut_slice())?;
+    note(alloc, circuit, net, &preflow, flows);
+    Ok(preflow)
+}
+
+/// The greatest least set. What was made to find it is dropped, but what its flow did at each gate. `flows` are hints: those of the last
+/// flow at the circuit's gates.
 pub(crate) fn greatest_least<G: PhaseGate>(
     rt: &(impl Threads + Sync),
     alloc: Global,
     circuit: &Circuit,
     keep: &Keep,
     crew: &Crew<G>,
+    flows: &mut Vec<GateFlow>,
 ) -> Result<ClosedSet, NoMemory>
     ensures { IfOk result (IsGreatestLeast circuit.now keep.now) }
 {
     let net = network(alloc, circuit, keep)?;
-    let preflow = maximum_preflow(rt, alloc, &net, crew)?;
+    let preflow = preflow_along(rt, alloc, circuit, &net, crew, flows)?;
     let set = greatest_cut(alloc, &net, &preflow)?;
     Ok(set)
 }

@@ -36,6 +36,7 @@ fn begun(
     let Cleaned {
         circuit: left,
         kept_free,
+        ..
     } = start;
     Ok(Retimed {
         circuit: left,
@@ -86,8 +87,9 @@ fn retime_held<G: PhaseGate>(
     ensures { IfOk result (IsRetimed circuit.now (names_in options.now) options.now.max_frames) }
 {
     let mut retimed = begun(alloc, circuit, keep, options)?;
+    let mut flows = Vec::new(alloc);
     for _ in 0..options.max_frames {
-        match next_frame(rt, alloc, &retimed.circuit, options, crew) {
+        match next_frame(rt, alloc, &retimed.circuit, options, crew, &mut flows) {
             Ok(Some(frame)) => retimed = after_frame(alloc, retimed, frame, options)?,
             Ok(None) => return Ok(retimed),
             Err(error) => {

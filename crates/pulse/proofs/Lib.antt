@@ -8,3 +8,4 @@ pub mod PhaseLemmas
 pub mod RelabelLemmas
 pub mod StepLemmas
 pub mod PartLemmas
+pub mod WishLemmas

@@ -16,6 +16,7 @@ use crate::phases::{deliver_by, read_by};
 use crate::pushes::Pushes;
 use crate::relabel::{queue_for, relabel};
 use crate::sharing::Share;
+use crate::wishes::send_along;
 use crate::workers::part_flow;
 use frame_net::Net;
 use std::alloc::Global;
@@ -45,6 +46,40 @@ pub fn run_with_global_relabeling<G: PhaseGate>(
     let mut flow = Flow::start_for(alloc, net, first.parts)?;
     let mut pushes = Pushes::new_for(alloc, net, first.parts)?;
     let mut queue = queue_for(alloc, net)?;
+    let pulses = run(
+        rt,
+        alloc,
+        net,
+        &mut flow,
+        &mut pushes,
+        queue.as_mut_slice(),
+        crew,
+        first,
+    )?;
+    Ok(MaxPreflow { flow, pulses })
+}
+
+/// The same run from another start: after the source's arcs are filled, units go along wishes. A wish is a number of units for an arc, as the
+/// flow of a network like this one that the arc had there. What is left of the wishes stays in them.
+///
+/// It ends with a maximum preflow whatever is wished, after at most `2 * N * N` pulses. With a wish for each arc the start is made in one part,
+/// by the calling thread; with any other number of them nothing is sent.
+pub fn run_along_wishes<G: PhaseGate>(
+    rt: &(impl Threads + Sync),
+    alloc: Global,
+    net: &Net,
+    crew: &Crew<G>,
+    wishes: &mut [u32],
+) -> Result<MaxPreflow, PulseError>
+    ensures greatest { IfOk result (λ m. IsMaxPreflow net.now m) }
+    ensures bounded { IfOk result (λ m. m.pulses ≤ 2 * (node_count net.now * node_count net.now)) }
+{
+    let _nodes = net.nodes();
+    let first = Share::among(1);
+    let mut flow = Flow::start_for(alloc, net, 1)?;
+    let mut pushes = Pushes::new_for(alloc, net, 1)?;
+    let mut queue = queue_for(alloc, net)?;
+    send_along(net, &mut flow, wishes);
     let pulses = run(
         rt,
         alloc,

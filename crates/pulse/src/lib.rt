@@ -23,11 +23,12 @@ mod ranges;
 mod relabel;
 mod run;
 mod sharing;
+mod wishes;
 mod workers;
 
 pub use crew::Crew;
 pub use error::PulseError;
-pub use fast_run::run_with_global_relabeling;
+pub use fast_run::{run_along_wishes, run_with_global_relabeling};
 pub use flow::Flow;
 pub use gate::{OpenGate, PhaseGate};
 pub use max_preflow::MaxPreflow;

@@ -1,0 +1,12 @@
+pub mod ReachLaws
+pub mod WaveLaws
+pub mod SpotLaws
+pub mod GateLaws
+pub mod LatchLaws
+pub mod MovedLaws
+pub mod KeptLaws
+pub mod OwnLaws
+pub mod PassLaws
+pub mod CleanLaws
+pub mod FrameLaws
+pub mod GatherLaws

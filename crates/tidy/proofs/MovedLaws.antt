@@ -1,0 +1,15 @@
+-- A tidy circuit is tidy after a move, if the low copies are.
+use Rattle.tidy.specs.Laws.{MovedIsTidy}
+use Rattle.aig_graph.specs.Move.{Move}
+use Rattle.tidy.proofs.GateLaws.{moved-pairs, moved-plain}
+use Rattle.tidy.proofs.LatchLaws.{moved-moving, moved-single}
+use Rattle.tidy.proofs.WaveLaws.{all_reached}
+
+pub moved_tidy : (m : Move) → MovedIsTidy m
+moved_tidy m valid network in_range set tidy lows = record {
+  reached = all_reached m valid network in_range set tidy;
+  moving = moved-moving m valid set tidy;
+  single = moved-single m valid set tidy;
+  plain = moved-plain m valid set tidy lows;
+  pairs = moved-pairs m valid set tidy lows;
+}

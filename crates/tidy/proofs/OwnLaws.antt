@@ -1,0 +1,115 @@
+-- In a tidy circuit each variable stands for itself.
+use Rattle.std.proofs.Common.{ℕ, ◌+◌, ◌-◌, ◌*◌, ◌<◌, ◌≤◌, ◌≡◌, inl, inr, List, [], ◌∷◌, length, true, Option, Some, None, slice_get, get_or, refl, arith, ap, sym, ◌∙◌, subst}
+use Rattle.std.specs.Map.{lookup}
+use Rattle.std.proofs.lemmas.Bool.{cases_lt, cases_eq, both_ways}
+use Rattle.std.proofs.lemmas.Option.{none-some}
+use Rattle.std.proofs.lemmas.List.{length_push, get_or_append_left, get_or_push}
+use Rattle.aig_graph.specs.declared.graph.Gate.{Gate}
+use Rattle.aig_graph.specs.declared.graph.Latch.{Latch}
+use Rattle.aig_graph.specs.declared.graph.Reset.{Reset}
+use Rattle.aig_graph.specs.Building.{gate_of}
+use Rattle.aig_graph.specs.Graph.{IsGraph, IsGateAt, variable, first_latch, first_gate, variables_end}
+use Rattle.aig_graph.specs.Circuits.{Network}
+use Rattle.aig_graph.specs.Value.{signed_as}
+use Rattle.aig_graph.proofs.KindLaws.{element}
+use Rattle.variable_tables.specs.Marking.{has}
+use Rattle.clean_laws.specs.Latches.{leaf_stand, latch_stand, is_stuck}
+use Rattle.clean_laws.specs.Merged.{Merging, is_gate, known_stand, merge_gate, merge_gates, merging_start, replaced, replaced_gate, stands_of, with_stand}
+use Rattle.clean_laws.proofs.LatchLaws.{stands_for, by_constant, by_itself, by_earlier}
+use Rattle.clean_laws.proofs.StandLaws.{GateIn, gate_stands, gates-in, length-stands_of, lookup_push, merge-all, start-entry, start-length, with_earlier, with_equal, with_false, with_opposite, with_true, is_gate-is}
+use Rattle.clean_laws.proofs.OwnLaws.{leaf-latch, leaf-low}
+use Rattle.tidy.specs.Tidy.{IsPlain, IsTidy}
+
+pub twice : (lit v : ℕ) → v ≡ variable lit → signed_as lit (2 * v) ≡ lit
+twice lit v e = omega arith
+
+pub ordered-gate : (gate : Gate) → gate.rhs1 ≤ gate.rhs0 → gate_of gate.rhs0 gate.rhs1 ≡ gate
+ordered-gate gate h =
+    let first : (gate_of gate.rhs0 gate.rhs1).rhs0 ≡ gate.rhs0 = omega arith in
+    let second : (gate_of gate.rhs0 gate.rhs1).rhs1 ≡ gate.rhs1 = omega arith in
+    let one : ℕ → Gate = λ n. record { rhs0 = n; rhs1 = (gate_of gate.rhs0 gate.rhs1).rhs1 } in
+    let two : ℕ → Gate = λ n. record { rhs0 = gate.rhs0; rhs1 = n } in
+    ap one first ∙ ap two second
+
+-- a gate whose variables stand for themselves stays
+pub own-gate : (stands : List ℕ) (v : ℕ) (gate : Gate) → IsGateAt v gate → ((w : ℕ) → w < v → get_or stands w 0 ≡ 2 * w) → replaced_gate stands gate ≡ gate
+own-gate stands v gate at own =
+    let first : replaced stands gate.rhs0 ≡ gate.rhs0 = ap (signed_as gate.rhs0) (own (variable gate.rhs0) at.below) ∙ twice gate.rhs0 (variable gate.rhs0) refl in
+    let second : replaced stands gate.rhs1 ≡ gate.rhs1 = ap (signed_as gate.rhs1) (own (variable gate.rhs1) (omega (arith, at.below, at.ordered))) ∙ twice gate.rhs1 (variable gate.rhs1) refl in
+    ap (λ (n : ℕ). gate_of n (replaced stands gate.rhs1)) first ∙ ap (λ (n : ℕ). gate_of gate.rhs0 n) second ∙ ordered-gate gate at.ordered
+
+latch-is : (a b : Latch) → a.next ≡ b.next → a.reset ≡ b.reset → a ≡ b
+latch-is a b next reset =
+    let one : ℕ → Latch = λ n. record { next = n; reset = a.reset } in
+    let two : Reset → Latch = λ r. record { next = b.next; reset = r } in
+    ap one next ∙ ap two reset
+
+module _ (held : List ℕ) (c : Network) (valid : IsGraph c.aig) (tidy : IsTidy held c) where
+  tidy-leaf : (v : ℕ) → v < first_gate c.aig → leaf_stand c.aig held v ≡ 2 * v
+  tidy-leaf v h = elim (cases_lt v (first_latch c.aig)) [
+    | inl low ↦ leaf-low c.aig held v low
+    | inr past ↦ (
+        let j : ℕ = v - first_latch c.aig in
+        let there = element c.aig.latches j (omega arith) in
+        let place : first_latch c.aig + j ≡ v = omega arith in
+        let here : leaf_stand c.aig held v ≡ latch_stand c.aig held j (Some there.0) = ap (leaf_stand c.aig held) (sym place) ∙ leaf-latch c.aig held j there.0 there.1 in
+        here ∙ elim (stands_for c.aig held j there.0) [
+          | by_constant stuck e ↦ absurd (both_ways (is_stuck c.aig held j there.0) (tidy.moving j there.0 there.1) stuck)
+          | by_itself moves e ↦ e ∙ ap (λ (w : ℕ). 2 * w) place
+          | by_earlier i less first like known apart e ↦ (
+              let same : like.other ≡ there.0 = latch-is like.other there.0 like.next like.reset in
+              let held_is : has held j ≡ true = tidy.single i j there.0 less (like.there ∙ ap (λ (l : Latch). Some l) same) there.1 known in
+              absurd (both_ways (has held j) apart held_is))
+        ])
+  ]
+
+  -- all entries so far are their own, and what was kept are earlier gates
+  record AreOwnSoFar (m : Merging) : Type 0 where
+    each : (v : ℕ) → v < length m.stands → get_or m.stands v 0 ≡ 2 * v
+    kept : (gate : Gate) (w : ℕ) → lookup (is_gate gate) m.kept ≡ Some w → (k : ℕ) × (slice_get c.aig.gates k ≡ Some gate) × (first_gate c.aig + k < length m.stands)
+
+  step : (m : Merging) (gate : Gate) → AreOwnSoFar m → GateIn c.aig held valid (length m.stands) gate → AreOwnSoFar (merge_gate m gate)
+  step m gate so_far place =
+      let at : IsGateAt (length m.stands) gate = place.at in
+      let same : replaced_gate m.stands gate ≡ gate = own-gate m.stands (length m.stands) gate at so_far.each in
+      let P : Gate → Type 0 = λ x. AreOwnSoFar (with_stand m x (known_stand m.kept x)) in
+      subst P (sym same) (go (known_stand m.kept gate) refl)
+    where
+      plain : IsPlain gate
+      plain = tidy.plain place.place gate place.there
+
+      go : (o : Option ℕ) → known_stand m.kept gate ≡ o → AreOwnSoFar (with_stand m gate o)
+      go (Some stand) some = elim (gate_stands m.kept gate) [
+        | with_false a e ↦ absurd (omega (arith, plain.constant, a))
+        | with_true a e ↦ absurd (omega (arith, plain.constant, a))
+        | with_equal a e ↦ absurd (omega (arith, plain.apart, a))
+        | with_opposite a b e ↦ absurd (omega (arith, plain.apart, b))
+        | with_earlier e ↦ (
+            let before = so_far.kept gate stand (sym e ∙ some) in
+            let one : before.0 ≡ place.place = tidy.pairs before.0 place.place gate before.1 place.there in
+            absurd (omega (arith, one, before.2, place.variable_is)))
+      ]
+      go None none = record {
+        each = λ v h. elim (cases_eq v (length m.stands)) [
+          | inl last ↦ get_or_push m.stands (2 * length m.stands) 0 v (sym last) ∙ ap (λ (w : ℕ). 2 * w) (sym last)
+          | inr other ↦ (
+              let less : v < length m.stands = omega (arith, length_push m.stands (2 * length m.stands), h, other) in
+              get_or_append_left m.stands (2 * length m.stands ∷ []) 0 v less ∙ so_far.each v less)
+        ];
+        kept = λ other w e. elim (lookup_push (is_gate other) m.kept gate (2 * length m.stands) w e) [
+          | inl before ↦ (let there = so_far.kept other w before in (there.0, there.1, omega (arith, there.2, length_push m.stands (2 * length m.stands))))
+          | inr here ↦ (
+              let one : other ≡ gate = is_gate-is other gate here.0 in
+              (place.place, place.there ∙ ap (λ (x : Gate). Some x) (sym one), omega (arith, place.variable_is, length_push m.stands (2 * length m.stands))))
+        ];
+      }
+
+  own-all : AreOwnSoFar (merge_gates c.aig.gates (merging_start c.aig held))
+  own-all = merge-all (λ m. AreOwnSoFar m) (λ v gate. GateIn c.aig held valid v gate) step c.aig.gates (merging_start c.aig held) (gates-in c.aig held valid) (record {
+    each = λ v h. start-entry c.aig held v h ∙ tidy-leaf v (omega (arith, h, start-length c.aig held));
+    kept = λ gate w e. absurd (none-some w e);
+  })
+
+  pub tidy-own : (v : ℕ) → v < variables_end c.aig → get_or (stands_of c.aig held) v 0 ≡ 2 * v
+  unfolding stands_of
+  tidy-own v h = own-all.each v (omega (arith, h, length-stands_of c.aig held))

@@ -1,0 +1,3 @@
+pub mod Tidy
+pub mod Laws
+pub mod Gathered

@@ -1,0 +1,17 @@
+ghost use Rattle.std.specs.Prelude.{◌≡◌, IfOk};
+ghost use Rattle.aig_graph.specs.Laws.{all_free};
+
+use aig_graph::{Aig, NoMemory, Sequence};
+use std::alloc::Global;
+
+/// The place of each free latch among the free latches, where all stay.
+pub fn all_places(alloc: Global, aig: &Aig) -> Result<Sequence<u32>, NoMemory>
+    ensures { IfOk result (λ places. places ≡ all_free aig.now) }
+{
+    let free = aig.free_latches();
+    let mut places = Vec::with_capacity(alloc, free as usize)?;
+    for place in 0..free {
+        places.push(place)?;
+    }
+    Ok(Sequence::from_vec(places))
+}

@@ -1,0 +1,2 @@
+pub mod UnitLaws
+pub mod SendLaws
