@@ -1,9 +1,21 @@
-//! Circuits in ASCII: the reader, whole or in pieces, the writer, the faults, counted readers and writers, and the laws of what a
-//! file is, handed on from the crates below.
+//! Circuits in ASCII: the reader, whole or in pieces (of a line that is open only its numbers are held, or the name of a symbol), the
+//! writer, the faults, counted readers and writers, and the laws of what a file is.
 #![tactic(auto)]
 
-pub use aag_file::{pieces_law, reading_law, round_trip_law};
-pub use aag_format::ReadError;
-pub use aag_reader::{AagReader, read_aag};
-pub use aag_writer::write_aag;
+mod circuit;
+mod cut;
+mod header;
+mod items;
+mod lines;
+mod read;
+mod reader;
+
+pub use ascii_file::{pieces_law, reading_law, round_trip_law};
+pub use ascii_writer::write_aag;
 pub use counted_io::{Counted, CountedRead, CountedWrite, FailAfter, Failure, OneByte, WriteError};
+pub use file_words::ReadError;
+pub use read::read_aag;
+pub use reader::AagReader;
+
+#[cfg(test)]
+mod tests;

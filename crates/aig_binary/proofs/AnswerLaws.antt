@@ -2,20 +2,20 @@
 use Rattle.std.proofs.Common.{ℕ, ◌<◌, ◌≡◌, List, [], length, Option, Some, None, Result, Ok, Err, nat_lt, refl, sym, subst, ap, ◌∙◌, arith}
 use Rattle.std.specs.Prelude.{IsOk}
 use Rattle.std.proofs.lemmas.Bool.{lt-ltb, le-ltb, cond-true, cond-false}
-use Rattle.aig_graph.specs.Circuits.{Network}
-use Rattle.aag_format.specs.declared.fault.ReadError.{ReadError}
-use Rattle.aag_format.specs.declared.fault.ReadError.TheVariants.{BadHeader}
-use Rattle.aag_file.specs.Reading.{◌>>=◌, read_bytes}
-use Rattle.aag_file.specs.Pieces.{fed}
-use Rattle.aag_file.specs.Answering.{Gives}
-use Rattle.aag_reader.specs.Standing.{Follows}
-use Rattle.aig_file.specs.Reading.{State, AtHeader, feed, read_binary}
-use Rattle.aig_reader.specs.Holding.{Answers}
+use Rattle.aig_graph.specs.Circuits.{Netlist}
+use Rattle.file_words.specs.declared.fault.ReadError.{ReadError}
+use Rattle.file_words.specs.declared.fault.ReadError.TheVariants.{BadHeader}
+use Rattle.ascii_file.specs.Reading.{◌>>=◌, read_bytes}
+use Rattle.ascii_file.specs.Pieces.{fed}
+use Rattle.ascii_file.specs.Answering.{Gives}
+use Rattle.aag_text.specs.Standing.{Follows}
+use Rattle.binary_file.specs.Reading.{State, AtHeader, feed, read_binary}
+use Rattle.binary_reader.specs.Holding.{Answers}
 use Rattle.spellings.specs.declared.form.Spelling.{Spelling}
 use Rattle.spellings.specs.declared.form.Spelling.TheVariants.{Ascii, Binary}
 use Rattle.spellings.specs.Spellings.{spelling_of, read_in, read_any}
 use Rattle.aig_binary.specs.Fed.{ascii_fed, binary_fed, fed_in, fed_any}
-use Rattle.aag_file.proofs.AnsweringLaws.{Fails-bind}
+use Rattle.ascii_file.proofs.AnsweringLaws.{Fails-bind}
 use Rattle.aig_binary.proofs.LetterLaws.{none_short}
 
 pub ok_then : {X : Type 0} (read : Result X ReadError) → IsOk read → ◌≡◌ {A = Result (Unit {0}) ReadError} (read >>= λ x. Ok tt) (Ok tt)
@@ -55,8 +55,8 @@ fed_ascii result bytes spelt follows = subst (λ (read : Result (Unit {0}) ReadE
 pub fed_binary : (result : Result (Unit {0}) ReadError) (bytes : List ℕ) → spelling_of bytes ≡ Some Binary → Answers result bytes → Gives (λ u. u) result (fed_any bytes)
 fed_binary result bytes spelt answers = subst (λ (read : Result (Unit {0}) ReadError). Gives (λ u. u) result read) (sym (by_spelling bytes (Some Binary) spelt)) (binary_gives result bytes answers)
 
-pub read_ascii : (result : Result Network ReadError) (bytes : List ℕ) → spelling_of bytes ≡ Some Ascii → Gives (λ c. c) result (read_bytes bytes) → Gives (λ c. c) result (read_any bytes)
-read_ascii result bytes spelt gives = subst (λ (read : Result Network ReadError). Gives (λ c. c) result read) (sym (read_by_spelling bytes (Some Ascii) spelt)) gives
+pub read_ascii : (result : Result Netlist ReadError) (bytes : List ℕ) → spelling_of bytes ≡ Some Ascii → Gives (λ c. c) result (read_bytes bytes) → Gives (λ c. c) result (read_any bytes)
+read_ascii result bytes spelt gives = subst (λ (read : Result Netlist ReadError). Gives (λ c. c) result read) (sym (read_by_spelling bytes (Some Ascii) spelt)) gives
 
-pub read_of_binary : (result : Result Network ReadError) (bytes : List ℕ) → spelling_of bytes ≡ Some Binary → Gives (λ c. c) result (read_binary bytes) → Gives (λ c. c) result (read_any bytes)
-read_of_binary result bytes spelt gives = subst (λ (read : Result Network ReadError). Gives (λ c. c) result read) (sym (read_by_spelling bytes (Some Binary) spelt)) gives
+pub read_of_binary : (result : Result Netlist ReadError) (bytes : List ℕ) → spelling_of bytes ≡ Some Binary → Gives (λ c. c) result (read_binary bytes) → Gives (λ c. c) result (read_any bytes)
+read_of_binary result bytes spelt gives = subst (λ (read : Result Netlist ReadError). Gives (λ c. c) result read) (sym (read_by_spelling bytes (Some Binary) spelt)) gives

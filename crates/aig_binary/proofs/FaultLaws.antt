@@ -1,22 +1,22 @@
 -- A fault of the bytes so far is one of the bytes, whatever follows them.
 use Rattle.std.proofs.Common.{ℕ, ◌<◌, ◌≡◌, ◌++◌, inl, inr, List, [], Option, Some, None, Result, Ok, Err, IfErr, true, length, append-nil, refl, sym, subst, ap, ◌∙◌, arith}
 use Rattle.std.proofs.lemmas.Bool.{cases_lt}
-use Rattle.aig_graph.specs.Circuits.{Network}
-use Rattle.aag_format.specs.declared.fault.ReadError.{ReadError}
-use Rattle.aag_format.specs.declared.fault.ReadError.TheVariants.{BadHeader, NoMemory}
-use Rattle.aag_format.specs.Codes.{is_fault_of_bytes}
-use Rattle.aag_file.specs.Reading.{◌>>=◌, read_bytes}
-use Rattle.aag_file.specs.Pieces.{fed}
-use Rattle.aag_file.proofs.Pieces as ascii
-use Rattle.aag_file.proofs.Faults as ascii_faults
-use Rattle.aag_file.specs.Answering.{Fails, Gives}
-use Rattle.aig_file.specs.Reading.{AtHeader, feed, read_binary}
-use Rattle.aig_file.proofs.Pieces as binary
-use Rattle.aig_file.proofs.Faults as binary_faults
+use Rattle.aig_graph.specs.Circuits.{Netlist}
+use Rattle.file_words.specs.declared.fault.ReadError.{ReadError}
+use Rattle.file_words.specs.declared.fault.ReadError.TheVariants.{BadHeader, NoMemory}
+use Rattle.file_words.specs.Codes.{is_fault_of_bytes}
+use Rattle.ascii_file.specs.Reading.{◌>>=◌, read_bytes}
+use Rattle.ascii_file.specs.Pieces.{fed}
+use Rattle.ascii_file.proofs.Pieces as ascii
+use Rattle.ascii_file.proofs.Faults as ascii_faults
+use Rattle.ascii_file.specs.Answering.{Fails, Gives}
+use Rattle.binary_file.specs.Reading.{AtHeader, feed, read_binary}
+use Rattle.binary_file.proofs.Pieces as binary
+use Rattle.binary_file.proofs.Faults as binary_faults
 use Rattle.spellings.specs.declared.form.Spelling.{Spelling}
 use Rattle.spellings.specs.declared.form.Spelling.TheVariants.{Ascii, Binary}
 use Rattle.spellings.specs.Spellings.{spelling_of, read_in, read_any}
-use Rattle.piece_reading.specs.Pieces.{IsFeedError, IsFinishError}
+use Rattle.aig_binary.specs.Pieces.{IsFeedError, IsFinishError}
 use Rattle.aig_binary.specs.Fed.{ascii_fed, binary_fed, fed_any}
 use Rattle.aig_binary.proofs.LetterLaws.{letters_stay, named_stays}
 use Rattle.aig_binary.proofs.AnswerLaws.{by_spelling, read_by_spelling, fed_short, fed_neither}
@@ -81,7 +81,7 @@ pub feed_error : (result : Result (Unit {0}) ReadError) (bytes : List ℕ) → G
 feed_error (Ok u) bytes gives = tt
 feed_error (Err e) bytes gives = feed_fails bytes e gives
 
-pub finish_error : (result : Result Network ReadError) (bytes : List ℕ) → Gives (λ c. c) result (read_any bytes) → IfErr result (IsFinishError bytes)
+pub finish_error : (result : Result Netlist ReadError) (bytes : List ℕ) → Gives (λ c. c) result (read_any bytes) → IfErr result (IsFinishError bytes)
 finish_error (Ok c) bytes gives = tt
 finish_error (Err e) bytes gives = finish_fails bytes e gives
 

@@ -1,3 +1,4 @@
 pub mod LetterLaws
 pub mod AnswerLaws
 pub mod FaultLaws
+pub mod EndingLaws

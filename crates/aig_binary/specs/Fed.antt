@@ -1,10 +1,10 @@
 -- A file of either spelling that comes in pieces: whether it has a fault so far.
 use Rattle.std.specs.Prelude.{ℕ, nat_lt, List, [], length, Option, Some, None, Result, Ok, Err, if◌then◌else◌}
-use Rattle.aag_format.specs.declared.fault.ReadError.{ReadError}
-use Rattle.aag_format.specs.declared.fault.ReadError.TheVariants.{BadHeader}
-use Rattle.aag_file.specs.Reading.{◌>>=◌}
-use Rattle.aag_file.specs.Pieces.{fed}
-use Rattle.aig_file.specs.Reading.{AtHeader, feed}
+use Rattle.file_words.specs.declared.fault.ReadError.{ReadError}
+use Rattle.file_words.specs.declared.fault.ReadError.TheVariants.{BadHeader}
+use Rattle.ascii_file.specs.Reading.{◌>>=◌}
+use Rattle.ascii_file.specs.Pieces.{fed}
+use Rattle.binary_file.specs.Reading.{AtHeader, feed}
 use Rattle.spellings.specs.declared.form.Spelling.{Spelling}
 use Rattle.spellings.specs.declared.form.Spelling.TheVariants.{Ascii, Binary}
 use Rattle.spellings.specs.Spellings.{spelling_of}

@@ -1,2 +1,4 @@
 pub mod Fed
 pub mod Readers
+pub mod Pieces
+pub mod Ending

@@ -1,9 +1,9 @@
 -- Where a reader of either spelling stands.
 use Rattle.std.specs.Prelude.{ℕ, ◌≡◌, ◌<◌, List, length, Option, Some, None, Result, Ok, Err}
-use Rattle.aag_format.specs.declared.fault.ReadError.{ReadError}
-use Rattle.aag_format.specs.declared.fault.ReadError.TheVariants.{BadHeader}
-use Rattle.aag_reader.specs.Readers as ascii
-use Rattle.aig_reader.specs.Holding as binary
+use Rattle.file_words.specs.declared.fault.ReadError.{ReadError}
+use Rattle.file_words.specs.declared.fault.ReadError.TheVariants.{BadHeader}
+use Rattle.aag_text.specs.Readers as ascii
+use Rattle.binary_reader.specs.Holding as binary
 use Rattle.spellings.specs.declared.form.Spelling.{Spelling}
 use Rattle.spellings.specs.declared.form.Spelling.TheVariants.{Ascii, Binary}
 use Rattle.spellings.specs.Spellings.{spelling_of}

@@ -1,10 +1,10 @@
 use crate::begin::{Begun, begin};
 use crate::letters::Letters;
-use aag_format::ReadError;
-use aag_reader::AagReader;
+use aag_text::AagReader;
 use aig_graph::Circuit;
-use aig_reader::AigReader;
 use arrayvec::ArrayVec;
+use binary_reader::AigReader;
+use file_words::ReadError;
 use spellings::Spelling;
 use std::alloc::Global;
 use std::mem;
@@ -29,9 +29,9 @@ pub struct AnyReader {
 
 impl AnyReader {
     ghost use Rattle.std.specs.Prelude.{ℕ, List, [], ◌≡◌, ◌++◌, Err, Some, None, OnOk, IfErr};
-    ghost use Rattle.aag_format.specs.declared.fault.ReadError.{ReadError};
-    ghost use Rattle.aag_format.specs.declared.fault.ReadError.TheVariants.{BadHeader};
-    ghost use Rattle.aag_file.specs.Answering.{Gives};
+    ghost use Rattle.file_words.specs.declared.fault.ReadError.{ReadError};
+    ghost use Rattle.file_words.specs.declared.fault.ReadError.TheVariants.{BadHeader};
+    ghost use Rattle.ascii_file.specs.Answering.{Gives};
     ghost use Rattle.spellings.specs.Spellings.{spelling_of, read_any};
     ghost use Rattle.aig_binary.specs.Fed.{fed_any};
     ghost use Rattle.aig_binary.specs.Readers.{Holds, fault_of, spelling_read};

@@ -1,5 +1,5 @@
 ghost use Rattle.std.specs.Prelude.{◌≡◌, ◌++◌, Some, IfErr};
-ghost use Rattle.aag_file.specs.Answering.{Gives};
+ghost use Rattle.ascii_file.specs.Answering.{Gives};
 ghost use Rattle.spellings.specs.declared.form.Spelling.TheVariants.{Ascii, Binary};
 ghost use Rattle.spellings.specs.Spellings.{spelling_of};
 ghost use Rattle.aig_binary.specs.Fed.{fed_any};
@@ -7,9 +7,9 @@ ghost use Rattle.aig_binary.specs.Readers.{PhaseHolds, phase_fault};
 
 use crate::any_reader::Phase;
 use crate::letters::{LETTERS, first_letters};
-use aag_format::ReadError;
-use aag_reader::AagReader;
-use aig_reader::AigReader;
+use aag_text::AagReader;
+use binary_reader::AigReader;
+use file_words::ReadError;
 use spellings::{Spelling, spelling};
 use std::alloc::Global;
 

@@ -1,7 +1,7 @@
+use crate::CircuitReader;
 use crate::any_reader::AnyReader;
-use aag_format::ReadError;
 use aig_graph::Circuit;
-use piece_reading::CircuitReader;
+use file_words::ReadError;
 use spellings::Spelling;
 
 impl CircuitReader for AnyReader {

@@ -1,11 +1,11 @@
 ghost use Rattle.std.specs.Prelude.{ℕ, List, ◌++◌};
-ghost use Rattle.aag_file.specs.Answering.{Gives};
+ghost use Rattle.ascii_file.specs.Answering.{Gives};
 ghost use Rattle.spellings.specs.Spellings.{read_any};
 ghost use Rattle.aig_binary.specs.Readers.{Holds};
 
 use crate::any_reader::AnyReader;
-use aag_format::ReadError;
 use aig_graph::Circuit;
+use file_words::ReadError;
 use std::alloc::Global;
 
 /// The circuit of a file of either spelling, all of whose bytes are there.

@@ -1,8 +1,7 @@
-use crate::{AnyReader, Spelling, read_any, write};
-use aag_format::ReadError;
+use crate::{AnyReader, Spelling, SpeltCircuit, read_any, read_circuit, write};
 use aig_graph::Circuit;
 use counted_io::{Counted, CountedRead, FailAfter, Failure, OneByte};
-use piece_reading::{SpeltCircuit, read_circuit};
+use file_words::ReadError;
 use std::alloc::Global;
 use std::test::Fail;
 

@@ -10,7 +10,7 @@ use Rattle.aig_graph.specs.declared.graph.Gate.{Gate}
 use Rattle.aig_graph.specs.declared.graph.Latch.{Latch}
 use Rattle.aig_graph.specs.declared.properties.Props.{Props}
 use Rattle.aig_graph.specs.Graph.{Graph, first_latch, variables_end, latches_and_gates, latch_at, gate_at, is_known}
-use Rattle.aig_graph.specs.Circuits.{Network}
+use Rattle.aig_graph.specs.Circuits.{Netlist}
 use Rattle.aig_graph.specs.Closed.{is_held}
 use Rattle.aig_graph.specs.Move.{move_of}
 use Rattle.aig_graph.specs.Border.{is_read_outside, is_read, is_gate_in, in_border, is_counted, border_size}
@@ -44,7 +44,7 @@ pub counted-end : (p : ℕ → Bool) (n m total : ℕ) → n ≡ m → total ≡
 counted-end p n m total same counted = counted ∙ ap (count_below p) same
 
 -- what is before the latches is neither a latch nor a gate
-in_border-early : (c : Network) (held s : List ℕ) (v : ℕ) → v < first_latch c.aig → in_border (move_of c held s) v ≡ false
+in_border-early : (c : Netlist) (held s : List ℕ) (v : ℕ) → v < first_latch c.aig → in_border (move_of c held s) v ≡ false
 unfolding in_border
 in_border-early c held s v h =
     ap₂ (λ (latch : Option Latch) (gate : Option Gate). (is_known latch || (is_some gate && has s v)) && (is_held c.aig held v || is_read c s v))
@@ -65,7 +65,7 @@ and_comm false false = refl
 turned : (a b c d : Bool) → ((a || b) && (c || d)) ≡ ((d || c) && (b || a))
 turned a b c d = and_comm (a || b) (c || d) ∙ ap₂ (λ (x y : Bool). x && y) (or_comm c d) (or_comm a b)
 
-module _ (c : Network) (held s : List ℕ) (inside marks : List Bool)
+module _ (c : Netlist) (held s : List ℕ) (inside marks : List Bool)
     (inside_long : length inside ≡ latches_and_gates c.aig) (marks_long : length marks ≡ latches_and_gates c.aig)
     (members : AreMarks (first_latch c.aig) inside (has s))
     (marked : AreMarks (first_latch c.aig) marks (λ v. is_read_outside c.aig c.props (mark_at (first_latch c.aig) inside) v || is_held c.aig held v)) where
@@ -86,7 +86,7 @@ module _ (c : Network) (held s : List ℕ) (inside marks : List Bool)
   ])
 
 -- the same by a graph and properties that are those of the circuit
-pub border_size-is : (c : Network) (held s : List ℕ) (g : Graph) (props : Props) (inside marks : List Bool) → g ≡ c.aig → props ≡ c.props
+pub border_size-is : (c : Netlist) (held s : List ℕ) (g : Graph) (props : Props) (inside marks : List Bool) → g ≡ c.aig → props ≡ c.props
     → length inside ≡ latches_and_gates g → length marks ≡ latches_and_gates g → AreMarks (first_latch g) inside (has s)
     → AreMarks (first_latch g) marks (λ v. is_read_outside g props (mark_at (first_latch g) inside) v || is_held g held v)
     → count_below (is_counted g inside marks) (variables_end g) ≡ border_size (move_of c held s)

@@ -2,7 +2,7 @@
 use Rattle.std.proofs.Common.{◌≡◌, [], ◌∷◌, refl, true, false, nat_eq, List, Some, None}
 use Rattle.aig_graph.specs.declared.graph.Reset.TheVariants.{Zero, One, Free}
 use Rattle.aig_graph.specs.Graph.{Graph}
-use Rattle.aig_graph.specs.Circuits.{Network, outputs_alone, no_symbols}
+use Rattle.aig_graph.specs.Circuits.{Netlist, outputs_alone, no_symbols}
 use Rattle.aig_graph.specs.Border.{border_size, in_border, is_read_outside}
 use Rattle.aig_graph.specs.Move.{move_of}
 use Rattle.variable_tables.specs.Counting.{count_below}
@@ -43,8 +43,8 @@ unfolding value latch_value fold_gates fold_to_depth
 values_with_free_latch = (refl, refl, refl, refl, refl, refl, refl, refl)
 
 -- four known latches, the gates 9 to 12, of which each rests on 9 or on two others; latches 5 and 6 and gates 9 and 12 are read
-network : Network
-network = record {
+netlist : Netlist
+netlist = record {
   aig = record {
     inputs = 4;
     latches = record { next = 2; reset = Zero } ∷ record { next = 4; reset = Zero } ∷ record { next = 6; reset = Zero } ∷ record { next = 8; reset = Zero } ∷ [];
@@ -55,7 +55,7 @@ network = record {
 }
 
 -- an input, a free latch and a known one, and the gate of the input and the free latch, 4; an output reads each
-reads_input : Network
+reads_input : Netlist
 reads_input = record {
   aig = record {
     inputs = 1;
@@ -67,33 +67,33 @@ reads_input = record {
 }
 
 counts :
-    (border_size (move_of network [] []) ≡ 4) × (border_size (move_of network [] (9 ∷ [])) ≡ 5) × (border_size (move_of network [] (9 ∷ 10 ∷ [])) ≡ 5)
-    × (border_size (move_of network [] (9 ∷ 11 ∷ [])) ≡ 5) × (border_size (move_of network [] (9 ∷ 10 ∷ 11 ∷ [])) ≡ 5)
-    × (border_size (move_of network [] (9 ∷ 10 ∷ 11 ∷ 12 ∷ [])) ≡ 4)
-unfolding border_size in_border is_read_outside count_below network
+    (border_size (move_of netlist [] []) ≡ 4) × (border_size (move_of netlist [] (9 ∷ [])) ≡ 5) × (border_size (move_of netlist [] (9 ∷ 10 ∷ [])) ≡ 5)
+    × (border_size (move_of netlist [] (9 ∷ 11 ∷ [])) ≡ 5) × (border_size (move_of netlist [] (9 ∷ 10 ∷ 11 ∷ [])) ≡ 5)
+    × (border_size (move_of netlist [] (9 ∷ 10 ∷ 11 ∷ 12 ∷ [])) ≡ 4)
+unfolding border_size in_border is_read_outside count_below netlist
 counts = (refl, refl, refl, refl, refl, refl)
 
 -- of a list that is no closed set the gates count, as 10 without 9, on which it rests; the constant, inputs and free latches don't
 counts_of_other_lists :
-    (border_size (move_of network [] (10 ∷ [])) ≡ 4) × (border_size (move_of network [] (12 ∷ [])) ≡ 5) × (border_size (move_of network [] (10 ∷ 11 ∷ 12 ∷ 13 ∷ [])) ≡ 3)
-    × (border_size (move_of network [] (0 ∷ 1 ∷ [])) ≡ 4) × (border_size (move_of reads_input [] []) ≡ 1) × (border_size (move_of reads_input [] (1 ∷ 2 ∷ 3 ∷ [])) ≡ 1)
+    (border_size (move_of netlist [] (10 ∷ [])) ≡ 4) × (border_size (move_of netlist [] (12 ∷ [])) ≡ 5) × (border_size (move_of netlist [] (10 ∷ 11 ∷ 12 ∷ 13 ∷ [])) ≡ 3)
+    × (border_size (move_of netlist [] (0 ∷ 1 ∷ [])) ≡ 4) × (border_size (move_of reads_input [] []) ≡ 1) × (border_size (move_of reads_input [] (1 ∷ 2 ∷ 3 ∷ [])) ≡ 1)
     × (border_size (move_of reads_input [] (4 ∷ [])) ≡ 2) × (border_size (move_of reads_input [] (1 ∷ 4 ∷ 5 ∷ [])) ≡ 2)
-unfolding border_size in_border is_read_outside count_below network reads_input
+unfolding border_size in_border is_read_outside count_below netlist reads_input
 counts_of_other_lists = (refl, refl, refl, refl, refl, refl, refl, refl)
 
 -- with the first latch, 5, held, gate 9 and what rests on it aren't passable; with the third, 7, gate 10 isn't
 passable_beside_held_latches :
-    (is_settled network.aig [] 9 ≡ true) × (is_settled network.aig (0 ∷ []) 9 ≡ false) × (is_settled network.aig (0 ∷ []) 12 ≡ false)
-    × (is_settled network.aig (2 ∷ []) 9 ≡ true) × (is_settled network.aig (2 ∷ []) 10 ≡ false) × (is_settled network.aig (2 ∷ []) 11 ≡ true)
-    × (is_settled network.aig (2 ∷ []) 12 ≡ false)
-unfolding is_settled fold_gates fold_to_depth network
+    (is_settled netlist.aig [] 9 ≡ true) × (is_settled netlist.aig (0 ∷ []) 9 ≡ false) × (is_settled netlist.aig (0 ∷ []) 12 ≡ false)
+    × (is_settled netlist.aig (2 ∷ []) 9 ≡ true) × (is_settled netlist.aig (2 ∷ []) 10 ≡ false) × (is_settled netlist.aig (2 ∷ []) 11 ≡ true)
+    × (is_settled netlist.aig (2 ∷ []) 12 ≡ false)
+unfolding is_settled fold_gates fold_to_depth netlist
 passable_beside_held_latches = (refl, refl, refl, refl, refl, refl, refl)
 
 -- the third latch is read by gate 10 alone: over gates 9, 10 and 11 it leaves the border, unless it is held
 border_with_held_latches :
-    (in_border (move_of network [] (9 ∷ 10 ∷ 11 ∷ [])) 7 ≡ false) × (in_border (move_of network (2 ∷ []) (9 ∷ 10 ∷ 11 ∷ [])) 7 ≡ true)
-    × (in_border (move_of network (0 ∷ []) (9 ∷ 10 ∷ 11 ∷ [])) 7 ≡ false) × (border_size (move_of network (2 ∷ []) (9 ∷ 11 ∷ [])) ≡ 5)
-unfolding border_size in_border is_read_outside count_below network
+    (in_border (move_of netlist [] (9 ∷ 10 ∷ 11 ∷ [])) 7 ≡ false) × (in_border (move_of netlist (2 ∷ []) (9 ∷ 10 ∷ 11 ∷ [])) 7 ≡ true)
+    × (in_border (move_of netlist (0 ∷ []) (9 ∷ 10 ∷ 11 ∷ [])) 7 ≡ false) × (border_size (move_of netlist (2 ∷ []) (9 ∷ 11 ∷ [])) ≡ 5)
+unfolding border_size in_border is_read_outside count_below netlist
 border_with_held_latches = (refl, refl, refl, refl)
 
 -- latches 0 and 2 are named a, latch 1 is named b

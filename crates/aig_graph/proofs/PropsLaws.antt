@@ -5,7 +5,7 @@ use Rattle.std.proofs.lemmas.List.{map-append, get_or_append_left, get_or-append
 use Rattle.std.proofs.lemmas.List.Elements.{All-nil, All-cons, All-head, All-tail, All-append, All-map, All-weaker}
 use Rattle.aig_graph.specs.declared.properties.Props.{Props}
 use Rattle.aig_graph.specs.Graph.{Graph, IsLiteralOf}
-use Rattle.aig_graph.specs.Circuits.{Network, ArePropsOf}
+use Rattle.aig_graph.specs.Circuits.{Netlist, ArePropsOf}
 use Rattle.aig_graph.specs.Streams.{property_literals, SameShape}
 use Rattle.aig_graph.specs.Mapped.{OfProps, mapped_props}
 
@@ -80,7 +80,7 @@ mapped-is f p outputs bad constraints justice fairness one two three four five =
     let fifth : List ℕ → Props = λ xs. record { outputs = map f p.outputs; bad = map f p.bad; constraints = map f p.constraints; justice = map (map f) p.justice; fairness = xs } in
     ap first one ∙ ap second two ∙ ap third three ∙ ap fourth four ∙ ap fifth five
 
-pub mapped-shape : (f : ℕ → ℕ) (c d : Network) → d.aig.inputs ≡ c.aig.inputs → d.props ≡ mapped_props f c.props → SameShape c d
+pub mapped-shape : (f : ℕ → ℕ) (c d : Netlist) → d.aig.inputs ≡ c.aig.inputs → d.props ≡ mapped_props f c.props → SameShape c d
 unfolding mapped_props
 mapped-shape f c d inputs props = record {
   inputs = inputs;

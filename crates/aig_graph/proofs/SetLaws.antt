@@ -7,7 +7,7 @@ use Rattle.std.proofs.lemmas.List.{get_or_default}
 use Rattle.std.proofs.lemmas.List.Kept.{AllPairs-from_increasing}
 use Rattle.aig_graph.specs.declared.graph.Gate.{Gate}
 use Rattle.aig_graph.specs.Graph.{Graph, IsGraph, variable, variables_end, latch_at, is_known}
-use Rattle.aig_graph.specs.Circuits.{Network}
+use Rattle.aig_graph.specs.Circuits.{Netlist}
 use Rattle.aig_graph.specs.Closed.{is_held, is_settled, IsClosedSet}
 use Rattle.aig_graph.specs.Border.{is_read}
 use Rattle.aig_graph.specs.Laws.{MayMoveOrPassable, PassableLaw, EmptySetLaws, AtMostOne}
@@ -50,7 +50,7 @@ empty-closed g held = record {
   };
 }
 
-pub empty_set_laws : (c : Network) (held : List ℕ) → EmptySetLaws c held
+pub empty_set_laws : (c : Netlist) (held : List ℕ) → EmptySetLaws c held
 empty_set_laws c held = record {
   closed = empty-closed c.aig held;
   count = closed-border_size c held [] (empty-closed c.aig held)
@@ -111,7 +111,7 @@ rising_same (x ∷ xs) (y ∷ ys) p q there back =
     let tails : xs ≡ ys = rising_same xs ys (tail_rising x xs p) (tail_rising y ys q) (tail_within x xs y ys heads p there) (tail_within y ys x xs (sym heads) q back) in
     cc
 
-pub at_most_one : (c : Network) (held s r : List ℕ) → AtMostOne c held s r
+pub at_most_one : (c : Netlist) (held s r : List ℕ) → AtMostOne c held s r
 at_most_one c held s r = record {
   greatest = λ p q. rising_same s r p.least.closed.rising q.least.closed.rising (q.holds s p.least) (p.holds r q.least);
   smallest = λ p q. rising_same s r p.least.closed.rising q.least.closed.rising (p.within r q.least) (q.within s p.least);

@@ -10,7 +10,7 @@ use Rattle.aig_graph.specs.declared.graph.Latch.{Latch}
 use Rattle.aig_graph.specs.declared.graph.Reset.{Reset}
 use Rattle.aig_graph.specs.declared.graph.Reset.TheVariants.{Zero, One, Free}
 use Rattle.aig_graph.specs.Graph.{Graph, free_before, is_free, free_latches}
-use Rattle.aig_graph.specs.Circuits.{Network}
+use Rattle.aig_graph.specs.Circuits.{Netlist}
 use Rattle.aig_graph.specs.Value.{Inputs, Choice, value, value_within, latch_value, opening, opening_at, next_value}
 use Rattle.aig_graph.specs.Streams.{property_literals, chosen}
 use Rattle.aig_graph.specs.Laws.{all_free, composed, IsReflexive, IsTransitive}
@@ -68,7 +68,7 @@ value-same g x f h same t lit = ap (λ (latches : ℕ → Bool). value_within g 
 values-same : (g : Graph) (x : Inputs) (f h : Choice) (t : ℕ) (lits : List ℕ) → ((j : ℕ) → j < free_latches g → f j ≡ h j) → map (value g x f t) lits ≡ map (value g x h t) lits
 values-same g x f h t lits same = ap (λ (v : ℕ → Bool). map v lits) (funext (value g x f t) (value g x h t) (value-same g x f h same t))
 
-pub same_streams-reflexive : (c : Network) → IsReflexive c
+pub same_streams-reflexive : (c : Netlist) → IsReflexive c
 same_streams-reflexive c =
     let n : ℕ = free_latches c.aig in
     record {
@@ -85,7 +85,7 @@ same_streams-reflexive c =
 rising-below : (first : List ℕ) → IsStrictlyIncreasing first → (i j : ℕ) → i < j → j < length first → get_or first i 0 < get_or first j 0
 rising-below first rising i j lt within = AllPairs-from_increasing first rising i j 0 lt within
 
-pub same_streams-transitive : (c d e : Network) (first second : List ℕ) → IsTransitive c d e first second
+pub same_streams-transitive : (c d e : Netlist) (first second : List ℕ) → IsTransitive c d e first second
 same_streams-transitive c d e first second p q =
     let at : ((k : ℕ) → k < length second → get_or (composed first second) k 0 ≡ get_or first (get_or second k 0) 0) =
     λ k h. get_or-map (λ i. get_or first i 0) second k 0 0 h in

@@ -6,7 +6,7 @@ use Rattle.variable_tables.specs.Marking.{has, mark_at}
 use Rattle.aig_graph.specs.declared.graph.Gate.{Gate}
 use Rattle.aig_graph.specs.declared.properties.Props.{Props}
 use Rattle.aig_graph.specs.Graph.{Graph, variable, first_latch, first_gate, variables_end, latch_at, gate_at, is_known}
-use Rattle.aig_graph.specs.Circuits.{Network}
+use Rattle.aig_graph.specs.Circuits.{Netlist}
 use Rattle.aig_graph.specs.Closed.{is_held, IsClosedSet}
 use Rattle.aig_graph.specs.Move.{Move, move_of}
 use Rattle.aig_graph.specs.Streams.{property_literals}
@@ -25,7 +25,7 @@ is_read_outside g props inside v =
     || list_any (reads v) (property_literals props)
 
 -- whether a gate outside s, a next literal or a property reads the variable
-abbrev pub is_read : Network → List ℕ → ℕ → Bool
+abbrev pub is_read : Netlist → List ℕ → ℕ → Bool
 is_read c s = is_read_outside c.aig c.props (has s)
 
 -- whether the variable is a gate, and in s
@@ -45,16 +45,16 @@ unfoldable pub border_size : Move → ℕ
 border_size m = count_below (in_border m) (variables_end m.circuit.aig)
 
 -- no closed set has a smaller border
-pub record IsLeast (c : Network) (held s : List ℕ) : Type 0 where
+pub record IsLeast (c : Netlist) (held s : List ℕ) : Type 0 where
   pub closed : IsClosedSet c.aig held s
   pub least : (r : List ℕ) → IsClosedSet c.aig held r → border_size (move_of c held s) ≤ border_size (move_of c held r)
 
 -- the least set in which every least set lies
-pub record IsGreatestLeast (c : Network) (held s : List ℕ) : Type 0 where
+pub record IsGreatestLeast (c : Netlist) (held s : List ℕ) : Type 0 where
   pub least : IsLeast c held s
   pub holds : (r : List ℕ) → IsLeast c held r → (v : ℕ) → Contains r v → Contains s v
 
 -- the least set that lies in every least set
-pub record IsSmallestLeast (c : Network) (held s : List ℕ) : Type 0 where
+pub record IsSmallestLeast (c : Netlist) (held s : List ℕ) : Type 0 where
   pub least : IsLeast c held s
   pub within : (r : List ℕ) → IsLeast c held r → (v : ℕ) → Contains s v → Contains r v

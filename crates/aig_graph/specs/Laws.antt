@@ -7,7 +7,7 @@ use Rattle.aig_graph.specs.declared.graph.Gate.{Gate}
 use Rattle.aig_graph.specs.declared.graph.Latch.{Latch}
 use Rattle.aig_graph.specs.Graph.{Graph, variable, first_latch, first_gate, variables_end, latch_at, gate_at, is_known, free_before, free_latches}
 use Rattle.aig_graph.specs.Value.{Inputs, Choice, value, opening}
-use Rattle.aig_graph.specs.Circuits.{Network}
+use Rattle.aig_graph.specs.Circuits.{Netlist}
 use Rattle.aig_graph.specs.Streams.{SameStreams}
 use Rattle.aig_graph.specs.Closed.{is_held, may_move, IsPassable, IsClosedSet}
 use Rattle.aig_graph.specs.Move.{move_of}
@@ -32,10 +32,10 @@ all_free g = range_with_len 0 (free_latches g)
 abbrev pub composed : List ℕ → List ℕ → List ℕ
 composed first second = map (slice_index first) second
 
-abbrev pub IsReflexive : Network → Type 0
+abbrev pub IsReflexive : Netlist → Type 0
 IsReflexive c = SameStreams c c (all_free c.aig)
 
-abbrev pub IsTransitive : Network → Network → Network → List ℕ → List ℕ → Type 0
+abbrev pub IsTransitive : Netlist → Netlist → Netlist → List ℕ → List ℕ → Type 0
 IsTransitive c d e first second = SameStreams c d first → SameStreams d e second → SameStreams c e (composed first second)
 
 -- a known latch that isn't held, or a passable gate
@@ -48,16 +48,16 @@ PassableLaw g held v =
     ↔ ((gate : Gate) × (gate_at g v ≡ Some gate) × MayMoveOrPassable g held (variable gate.rhs0) × MayMoveOrPassable g held (variable gate.rhs1))
 
 -- the border of the empty set: the known latches that are held or read
-pub record EmptySetLaws (c : Network) (held : List ℕ) : Type 0 where
+pub record EmptySetLaws (c : Netlist) (held : List ℕ) : Type 0 where
   pub closed : IsClosedSet c.aig held []
   pub count : border_size (move_of c held [])
       ≡ count_below (λ v. is_known (latch_at c.aig v) && (is_held c.aig held v || is_read c [] v)) (variables_end c.aig)
 
 -- the border of a closed set: the known latches and the members, that are held or read from outside
-abbrev pub ClosedBorderLaw : Network → List ℕ → List ℕ → ℕ → Type 0
+abbrev pub ClosedBorderLaw : Netlist → List ℕ → List ℕ → ℕ → Type 0
 ClosedBorderLaw c held s v =
     IsClosedSet c.aig held s → in_border (move_of c held s) v ≡ ((is_known (latch_at c.aig v) || has s v) && (is_held c.aig held v || is_read c s v))
 
-pub record AtMostOne (c : Network) (held s r : List ℕ) : Type 0 where
+pub record AtMostOne (c : Netlist) (held s r : List ℕ) : Type 0 where
   pub greatest : IsGreatestLeast c held s → IsGreatestLeast c held r → s ≡ r
   pub smallest : IsSmallestLeast c held s → IsSmallestLeast c held r → s ≡ r

@@ -14,22 +14,22 @@ pub struct Circuit {
 }
 
 impl Model for Circuit {
-    ghost use Rattle.aig_graph.specs.Circuits.{Network, IsNetwork};
+    ghost use Rattle.aig_graph.specs.Circuits.{Netlist, IsNetlist};
 
-    ghost Value = { Network };
+    ghost Value = { Netlist };
 
     ghost view = { λ c. record { aig = c.aig; props = c.props; symbols = c.symbols } };
 
-    ghost invariant = { λ c. IsNetwork (record { aig = c.aig; props = c.props; symbols = c.symbols }) };
+    ghost invariant = { λ c. IsNetlist (record { aig = c.aig; props = c.props; symbols = c.symbols }) };
 }
 
 impl Circuit {
     ghost use Rattle.aig_graph.specs.Graph.{IsGraph};
-    ghost use Rattle.aig_graph.specs.Circuits.{IsNetwork};
+    ghost use Rattle.aig_graph.specs.Circuits.{IsNetlist};
 
     /// The circuit of these parts.
     pub fn new(aig: Aig, props: Props, symbols: Symbols) -> Circuit
-        requires { IsNetwork (record { aig = aig; props = props; symbols = symbols }) }
+        requires { IsNetlist (record { aig = aig; props = props; symbols = symbols }) }
         ensures { result ≡ record { aig = aig; props = props; symbols = symbols } }
     {
         Circuit {
@@ -43,7 +43,7 @@ impl Circuit {
     pub fn aig(&self) -> &Aig
         ensures value { result.now ≡ self.now.aig }
         ensures graph { IsGraph self.now.aig }
-        ensures network { IsNetwork self.now }
+        ensures netlist { IsNetlist self.now }
     {
         let aig = &self.aig;
         let _gates = aig.gates();
@@ -53,7 +53,7 @@ impl Circuit {
     /// The properties.
     pub fn props(&self) -> &Props
         ensures value { result.now ≡ self.now.props }
-        ensures network { IsNetwork self.now }
+        ensures netlist { IsNetlist self.now }
     {
         &self.props
     }
@@ -61,7 +61,7 @@ impl Circuit {
     /// The symbol table.
     pub fn symbols(&self) -> &Symbols
         ensures value { result.now ≡ self.now.symbols }
-        ensures network { IsNetwork self.now }
+        ensures netlist { IsNetlist self.now }
     {
         &self.symbols
     }

@@ -1,6 +1,6 @@
 ghost use Rattle.std.specs.Prelude.{ℕ, List};
 ghost use Rattle.aig_graph.specs.Graph.{Graph, IsGraph};
-ghost use Rattle.aig_graph.specs.Circuits.{Network};
+ghost use Rattle.aig_graph.specs.Circuits.{Netlist};
 ghost use Rattle.aig_graph.specs.Value.{Inputs, Choice};
 ghost use Rattle.aig_graph.specs.Laws.{ValueLaws, IsReflexive, IsTransitive, EmptySetLaws, ClosedBorderLaw, AtMostOne, PassableLaw};
 
@@ -13,8 +13,8 @@ pub fn value_laws()
 /// A circuit has its own streams, with each free latch kept; and from one circuit to the next to a third, the lists of
 /// kept latches compose.
 pub fn stream_laws()
-    ensures reflexive { (c : Network) → IsReflexive c }
-    ensures transitive { (c d e : Network) (first second : List ℕ) → IsTransitive c d e first second }
+    ensures reflexive { (c : Netlist) → IsReflexive c }
+    ensures transitive { (c d e : Netlist) (first second : List ℕ) → IsTransitive c d e first second }
 {}
 
 /// A gate is passable exactly where each of its fan-ins' variables is a known latch that isn't held, or a passable gate.
@@ -23,7 +23,7 @@ pub fn stream_laws()
 /// least set.
 pub fn set_laws()
     ensures passable { (g : Graph) (held : List ℕ) (v : ℕ) → IsGraph g → PassableLaw g held v }
-    ensures empty { (c : Network) (held : List ℕ) → EmptySetLaws c held }
-    ensures border { (c : Network) (held s : List ℕ) (v : ℕ) → ClosedBorderLaw c held s v }
-    ensures one { (c : Network) (held s r : List ℕ) → AtMostOne c held s r }
+    ensures empty { (c : Netlist) (held : List ℕ) → EmptySetLaws c held }
+    ensures border { (c : Netlist) (held s : List ℕ) (v : ℕ) → ClosedBorderLaw c held s v }
+    ensures one { (c : Netlist) (held s r : List ℕ) → AtMostOne c held s r }
 {}

@@ -1,8 +1,8 @@
 -- The lines before the blocks, and a file as a whole.
 use Rattle.std.proofs.Common.{ℕ, ◌+◌, ◌-◌, ◌≤◌, ◌≡◌, ◌⊎◌, inl, inr, length, List, [], Option, Some, None, Result, Ok, Err, refl, arith, Bool, true, false, ◌==◌, cond, ap, ap₂, ◌∙◌, subst, codes}
 use Rattle.std.proofs.lemmas.Bool.{eqb-true, and_parts}
-use Rattle.aag_format.specs.Lines.{lines}
-use Rattle.verdicts.specs.declared.certificate.Certificate.{Certificate}
+use Rattle.file_words.specs.Lines.{lines}
+use Rattle.certificates.specs.declared.certificate.Certificate.{Certificate}
 use Rattle.certificate_files.specs.declared.fault.CertError.{CertError}
 use Rattle.certificate_files.specs.declared.fault.CertError.TheVariants.{BadHeader, BadLine, Truncated}
 use Rattle.certificate_files.specs.declared.file.Choice.{Choice}
@@ -12,7 +12,7 @@ use Rattle.certificate_files.specs.Files.{is_word, choice_of, nothing_read, read
 use Rattle.certificate_files.specs.Steps.{IsFirst, read_rest}
 use Rattle.certificate_files.proofs.StepLaws.{same_start}
 
--- where the blocks begin, behind a line
+-- where the blocks begin, after a line
 behind : (end : ℕ) (text line more : List ℕ) (at : ℕ) → IsFirst text line more → length text ≤ end → at ≡ end - length text → (more ≡ []) ⊎ (at + length line + 1 ≡ end - length more)
 behind end text line more at first within here = by_case first.starts
   where

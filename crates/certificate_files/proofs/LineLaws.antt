@@ -1,8 +1,8 @@
 -- The first line of a text.
 use Rattle.std.proofs.Common.{ℕ, ◌+◌, ◌<◌, ◌≡◌, length, List, [], ◌∷◌, refl, arith, true, not, nat_eq, ap, sym, inl, inr, ◌∙◌, length-append}
 use Rattle.std.proofs.lemmas.Bool.{and_parts, not-true, cond-false}
-use Rattle.aag_format.specs.Lines.{with_front, lines}
-use Rattle.aag_format.proofs.Decimals.{lines-at_newline}
+use Rattle.file_words.specs.Lines.{with_front, lines}
+use Rattle.file_words.proofs.Decimals.{lines-at_newline}
 use Rattle.certificate_files.specs.Cutting.{lacks, Cuts}
 use Rattle.certificate_files.specs.Steps.{IsFirst}
 

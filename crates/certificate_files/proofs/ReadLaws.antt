@@ -3,9 +3,9 @@ use Rattle.std.proofs.Common.{ℕ, suc, zero, ◌+◌, ◌-◌, ◌^◌, ◌<◌
 use Rattle.std.proofs.lemmas.Bool.{and_parts, and_from, leb-true, le-leb, ne_eqb}
 use Rattle.std.proofs.lemmas.List.Folds.{list_all-append}
 use Rattle.std.specs.List.{list_all}
-use Rattle.aag_format.specs.Lines.{with_front, lines, pieces, numbers_of}
+use Rattle.file_words.specs.Lines.{with_front, lines, pieces, numbers_of}
 use Rattle.frame_net.specs.declared.net.Point.{Point}
-use Rattle.verdicts.specs.declared.certificate.Certificate.{Certificate}
+use Rattle.certificates.specs.declared.certificate.Certificate.{Certificate}
 use Rattle.certificate_files.specs.declared.fault.CertError.{CertError}
 use Rattle.certificate_files.specs.declared.fault.CertError.TheVariants.{BadHeader, TooLarge}
 use Rattle.certificate_files.specs.declared.file.Choice.{Choice}

@@ -4,10 +4,10 @@ use Rattle.std.proofs.Math.Seq.{take-append_seam}
 use Rattle.std.proofs.lemmas.Bool.{and_parts, and_from, cond-true, leb-true}
 use Rattle.std.specs.List.{list_all, flat_map}
 use Rattle.counted_io.specs.Line.{line}
-use Rattle.aag_format.specs.Lines.{lines, pieces, is_number, digits_value}
-use Rattle.aag_format.proofs.Decimals.{decimal-is_number, decimal-value, decimal-lacks, lacks-append, row_line, row-is_line, row_line-lacks_newline, numbers_of-row_line, lines-at_newline}
+use Rattle.file_words.specs.Lines.{lines, pieces, is_number, digits_value}
+use Rattle.file_words.proofs.Decimals.{decimal-is_number, decimal-value, decimal-lacks, lacks-append, row_line, row-is_line, row_line-lacks_newline, numbers_of-row_line, lines-at_newline}
 use Rattle.frame_net.specs.declared.net.Point.{Point}
-use Rattle.verdicts.specs.declared.certificate.Certificate.{Certificate}
+use Rattle.certificates.specs.declared.certificate.Certificate.{Certificate}
 use Rattle.certificate_files.specs.declared.fault.CertError.{CertError}
 use Rattle.certificate_files.specs.declared.fault.CertError.TheVariants.{TooLarge}
 use Rattle.certificate_files.specs.declared.file.Choice.{Choice}

@@ -1,9 +1,9 @@
 -- A text, line after line.
 use Rattle.std.proofs.Common.{ℕ, suc, ◌+◌, ◌-◌, ◌≤◌, ◌≡◌, ◌⊎◌, inl, inr, length, List, [], ◌∷◌, Option, Some, None, Result, Ok, Err, refl, arith, Bool, true, false, ◌&&◌, ◌==◌, cond, ap, ◌∙◌}
 use Rattle.std.proofs.lemmas.Bool.{eqb-true}
-use Rattle.aag_format.specs.Lines.{lines}
+use Rattle.file_words.specs.Lines.{lines}
 use Rattle.frame_net.specs.declared.net.Point.{Point}
-use Rattle.verdicts.specs.declared.certificate.Certificate.{Certificate}
+use Rattle.certificates.specs.declared.certificate.Certificate.{Certificate}
 use Rattle.certificate_files.specs.declared.fault.CertError.{CertError}
 use Rattle.certificate_files.specs.declared.fault.CertError.TheVariants.{TooLarge, Truncated}
 use Rattle.certificate_files.specs.declared.forms.FrameLine.{FrameLine}

@@ -5,8 +5,8 @@ use Rattle.std.proofs.lemmas.Bool.{and_parts, not-true, cond-false}
 use Rattle.std.proofs.lemmas.List.{take_more}
 use Rattle.std.proofs.lemmas.List.Sums.{fold-append}
 use Rattle.std.specs.List.{list_all}
-use Rattle.aag_format.specs.Lines.{with_front, pieces, is_number, digits_value}
-use Rattle.aag_lines.specs.Rows.{clamped}
+use Rattle.file_words.specs.Lines.{with_front, pieces, is_number, digits_value}
+use Rattle.file_lines.specs.Rows.{clamped}
 use Rattle.frame_net.specs.declared.net.Point.{Point}
 use Rattle.certificate_files.specs.declared.fault.CertError.{CertError}
 use Rattle.certificate_files.specs.declared.fault.CertError.TheVariants.{BadLine, TooLarge}

@@ -6,7 +6,7 @@ use Rattle.std.specs.List.{list_all}
 abbrev pub lacks : ℕ → List ℕ → Bool
 lacks mark bytes = list_all (λ b. not (b == mark)) bytes
 
--- the bytes up to the first mark, and those behind it
+-- the bytes up to the first mark, and those after it
 pub record Cuts (mark : ℕ) (bytes part rest : List ℕ) : Type 0 where
   pub clean : lacks mark part ≡ true
   pub whole : bytes ≡ part ++ mark ∷ rest

@@ -1,9 +1,9 @@
 -- The text of certificates.
 use Rattle.std.specs.Prelude.{ℕ, ◌+◌, ◌-◌, ◌^◌, ◌==◌, ◌&&◌, ◌||◌, Bool, nat_le, List, [], ◌∷◌, ◌++◌, length, map, take, drop, slice_index_or, Option, Some, None, Result, Ok, Err, codes, if◌then◌else◌, zero, suc}
 use Rattle.std.specs.List.{list_all, starts_with}
-use Rattle.aag_format.specs.Lines.{lines, pieces, is_number, digits_value, numbers_of}
+use Rattle.file_words.specs.Lines.{lines, pieces, is_number, digits_value, numbers_of}
 use Rattle.frame_net.specs.declared.net.Point.{Point}
-use Rattle.verdicts.specs.declared.certificate.Certificate.{Certificate}
+use Rattle.certificates.specs.declared.certificate.Certificate.{Certificate}
 use Rattle.certificate_files.specs.declared.fault.CertError.{CertError}
 use Rattle.certificate_files.specs.declared.fault.CertError.TheVariants.{BadHeader, BadLine, TooLarge, Truncated}
 use Rattle.certificate_files.specs.declared.file.Choice.{Choice}
@@ -15,7 +15,7 @@ is_word text word = length word == length text && starts_with (λ a b. a == b) t
 
 -- ---- the lines of a block
 
--- a word that is a point: a number, and then + for the point behind the variable or - for the one before it
+-- a word that is a point: a number, and then + for the point after the variable or - for the one before it
 abbrev pub sign_of : List ℕ → ℕ
 sign_of word = slice_index_or word (length word - 1) 0
 

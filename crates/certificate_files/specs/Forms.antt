@@ -1,8 +1,8 @@
 -- What a line says, where a line of a certain form comes next: the form is looked at before the sizes.
 use Rattle.std.specs.Prelude.{ℕ, ◌==◌, ◌&&◌, Bool, true, false, List, ◌++◌, map, Option, Some, None, Result, Ok, Err, if◌then◌else◌}
 use Rattle.std.specs.List.{list_all}
-use Rattle.aag_format.specs.Lines.{is_number, digits_value}
-use Rattle.aag_lines.specs.Rows.{clamped}
+use Rattle.file_words.specs.Lines.{is_number, digits_value}
+use Rattle.file_lines.specs.Rows.{clamped}
 use Rattle.frame_net.specs.declared.net.Point.{Point}
 use Rattle.certificate_files.specs.declared.fault.CertError.{CertError}
 use Rattle.certificate_files.specs.declared.fault.CertError.TheVariants.{BadLine, TooLarge}
@@ -29,7 +29,7 @@ routed at saying = Err (BadLine at)
 abbrev pub number_of : List ℕ → Option ℕ
 number_of digits = if is_number digits then Some (clamped (digits_value digits)) else None
 
--- whether the point is the one behind the variable
+-- whether the point is the one after the variable
 abbrev pub side_of : ℕ → Option Bool
 side_of sign = if sign == 43 then Some true else (if sign == 45 then Some false else None)
 

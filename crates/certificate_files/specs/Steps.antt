@@ -1,8 +1,8 @@
 -- A text, line after line.
 use Rattle.std.specs.Prelude.{ℕ, ◌≡◌, ◌+◌, ◌-◌, ◌<◌, ◌⊎◌, List, [], ◌∷◌, ◌++◌, length, None, Result}
-use Rattle.aag_format.specs.Lines.{lines}
+use Rattle.file_words.specs.Lines.{lines}
 use Rattle.frame_net.specs.declared.net.Point.{Point}
-use Rattle.verdicts.specs.declared.certificate.Certificate.{Certificate}
+use Rattle.certificates.specs.declared.certificate.Certificate.{Certificate}
 use Rattle.certificate_files.specs.declared.fault.CertError.{CertError}
 use Rattle.certificate_files.specs.Files.{Progress, read_blocks}
 

@@ -3,12 +3,12 @@ use Rattle.std.specs.Prelude.{ℕ, Bool, List, [], ◌∷◌, ◌++◌, length, 
 use Rattle.std.specs.List.{flat_map}
 use Rattle.counted_io.specs.Line.{line}
 use Rattle.frame_net.specs.declared.net.Point.{Point}
-use Rattle.verdicts.specs.declared.certificate.Certificate.{Certificate}
+use Rattle.certificates.specs.declared.certificate.Certificate.{Certificate}
 use Rattle.certificate_files.specs.declared.file.Choice.{Choice}
 use Rattle.certificate_files.specs.declared.file.Choice.TheVariants.{Greatest, Smallest}
 use Rattle.certificate_files.specs.declared.file.CertFile.{CertFile}
 
--- + for the point behind the variable, - for the one before it
+-- + for the point after the variable, - for the one before it
 abbrev pub sign_code : Bool → ℕ
 sign_code behind = if behind then 43 else 45
 

@@ -1,5 +1,5 @@
 ghost use Rattle.std.specs.Prelude.{ℕ, List, [], ◌≡◌, ◌<◌, ◌≤◌, suc, length, OnOk};
-ghost use Rattle.verdicts.specs.declared.certificate.Certificate.{Certificate as Block};
+ghost use Rattle.certificates.specs.declared.certificate.Certificate.{Certificate as Block};
 ghost use Rattle.certificate_files.specs.Answering.{Gives, Leads};
 ghost use Rattle.certificate_files.specs.Files.{settled, nothing_read};
 ghost use Rattle.certificate_files.specs.Steps.{read_rest, block_of, with_gate, with_route, closed};
@@ -10,9 +10,9 @@ use crate::forms::{FrameLine, frame_line, gate_line};
 use crate::lines::Lines;
 use crate::words::route_line;
 use aig_graph::Sequence;
+use certificates::Certificate;
 use frame_net::Point;
 use std::alloc::Global;
-use verdicts::Certificate;
 
 /// Takes the line of a gate.
 fn next_gate(lines: &mut Lines<'_>) -> Result<u32, CertError>

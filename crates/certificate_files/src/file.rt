@@ -1,5 +1,5 @@
 use aig_graph::Sequence;
-use verdicts::Certificate;
+use certificates::Certificate;
 
 /// Which of the least sets a frame takes: there is one that holds all others, and one that lies in all others.
 #[derive(Clone, Copy, Debug, PartialEq, Eq)]

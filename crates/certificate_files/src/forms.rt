@@ -4,7 +4,7 @@ ghost use Rattle.certificate_files.specs.Forms.{framed, gated};
 
 use crate::fault::CertError;
 use crate::lines::Line;
-use aag_lines::NumberLine;
+use file_lines::NumberLine;
 
 /// The greatest number in a file.
 const MAX_NUMBER: u32 = (1 << 28) - 1;

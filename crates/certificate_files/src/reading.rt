@@ -1,5 +1,5 @@
 ghost use Rattle.std.specs.Prelude.{ℕ, [], ◌≡◌, ◌⊎◌, ◌-◌, length, IfOk, IfErr, Ok, Err};
-ghost use Rattle.aag_format.specs.Lines as format;
+ghost use Rattle.file_words.specs.Lines as format;
 ghost use Rattle.certificate_files.specs.declared.fault.CertError.TheVariants.{NoMemory};
 ghost use Rattle.certificate_files.specs.Answering.{Gives, Leads};
 ghost use Rattle.certificate_files.specs.Files.{is_word, choice_of, nothing_read, read_file, read_second, read_text, with_choice};
@@ -72,7 +72,7 @@ fn read(alloc: Global, bytes: &[u8]) -> Result<CertFile, CertError>
 /// Reads the certificates of a file of either version; the first one names no choice, and its sets are the greatest.
 ///
 /// Goes over the bytes once and doesn't copy them; room is taken for what was read, whatever a line says is to come. What
-/// is read is no more than a file: whether a certificate is right is judged by `verdicts::check`.
+/// is read is no more than a file: whether a certificate is right is judged by `certificates::check`.
 ///
 /// # Errors
 ///

@@ -1,6 +1,6 @@
 ghost use Rattle.std.specs.Prelude.{◌≡◌, ◌∷◌, ◌+◌, ◌*◌, List, ℕ};
-ghost use Rattle.aag_format.specs.Lines.{pieces};
-ghost use Rattle.aag_lines.specs.Rows.{clamped};
+ghost use Rattle.file_words.specs.Lines.{pieces};
+ghost use Rattle.file_lines.specs.Rows.{clamped};
 ghost use Rattle.certificate_files.specs.Answering.{Gives, Leads};
 ghost use Rattle.certificate_files.specs.Files.{saying_of};
 ghost use Rattle.certificate_files.specs.Forms.{are_small, number_of, onto, routed, side_of, sized_points, spelt_at, spelt_point};
@@ -37,7 +37,7 @@ fn number(digits: &[u8]) -> Option<u32>
     Some(number)
 }
 
-/// Whether the sign stands for the point behind the variable.
+/// Whether the sign stands for the point after the variable.
 fn side(sign: u8) -> Option<bool>
     ensures { result ≡ side_of sign }
 {

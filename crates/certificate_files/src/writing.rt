@@ -6,9 +6,9 @@ ghost use Rattle.certificate_files.specs.Texts.{sign_code, point_text, route_tex
 
 use crate::file::{CertFile, Choice};
 use aig_graph::Sequence;
+use certificates::Certificate;
 use counted_io::{Buffered, CountedWrite, WriteError};
 use frame_net::Point;
-use verdicts::Certificate;
 
 fn sign(behind: bool) -> u8
     ensures { result ≡ sign_code behind }

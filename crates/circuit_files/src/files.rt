@@ -2,12 +2,11 @@
 ghost use Rattle.std.specs.Prelude.{[]};
 
 use crate::outcome::Failure;
-use aag_format::ReadError;
-use aig_binary::AnyReader;
+use aig_binary::{AnyReader, CircuitReader, SpeltCircuit, read_circuit};
 use aig_graph::Circuit;
 use counted_io::{Counted, CountedRead, ReadAllError, read_all};
+use file_words::ReadError;
 use lane_sim::{Stimulus, read_stimulus};
-use piece_reading::{CircuitReader, SpeltCircuit, read_circuit};
 use std::alloc::Global;
 use std::fs::File;
 use std::rt::Files;

@@ -1,7 +1,7 @@
 ghost use Rattle.std.specs.Prelude.{◌≡◌};
 ghost use Rattle.circuit_files.specs.Outcomes.{outcome_of, failure_of_reading, failure_of_stimulus};
 
-use aag_format::ReadError;
+use file_words::ReadError;
 use lane_sim::StimError;
 use thiserror::Error;
 

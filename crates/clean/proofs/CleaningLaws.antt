@@ -5,19 +5,19 @@ use Rattle.std.proofs.lemmas.List.{length-map, get_or-map}
 use Rattle.std.proofs.lemmas.List.FromFn.{get_or-range_with_len}
 use Rattle.std.proofs.lemmas.List.Elements.{All-map, All-head, All-tail}
 use Rattle.aig_graph.specs.Graph.{first_latch, first_gate, variables_end, latches_and_gates, free_latches}
-use Rattle.aig_graph.specs.Circuits.{Network}
+use Rattle.aig_graph.specs.Circuits.{Netlist}
 use Rattle.aig_graph.specs.Laws.{all_free, composed}
 use Rattle.variable_tables.proofs.PlacesLemmas.{count-bound}
-use Rattle.clean_laws.specs.Merged.{merged_of, stands_of}
-use Rattle.clean_laws.specs.Reached.{stays}
-use Rattle.clean_laws.specs.Trimmed.{trimmed_graph, new_variable, new_position}
-use Rattle.clean_laws.specs.Cleaned.{IsPass, Cleans, unchanged, after_pass}
+use Rattle.cleaned_circuits.specs.Merged.{merged_of, stands_of}
+use Rattle.cleaned_circuits.specs.Reached.{stays}
+use Rattle.cleaned_circuits.specs.Trimmed.{trimmed_graph, new_variable, new_position}
+use Rattle.cleaned_circuits.specs.Cleaned.{IsPass, Cleans, unchanged, after_pass}
 use Rattle.variable_tables.proofs.ListLaws.{map-map}
-use Rattle.clean_laws.proofs.MergedLaws.{length-replaced_latches, replaced-first_latch, replaced-first_gate, replaced-end}
-use Rattle.clean_laws.proofs.PickedLaws.{count-all}
-use Rattle.clean_laws.proofs.TrimmedLaws.{trimmed-first_latch, trimmed-first_gate, trimmed-end, new-less, new-from, stays-reached}
-use Rattle.clean_laws.proofs.PassLaws.{IsCircuit, pass-streams, cleans-streams, IsCircuit-pass}
-use Rattle.clean_laws.proofs.UnchangedLaws.{count-full, map-fixed_all, pass-unchanged}
+use Rattle.cleaned_circuits.proofs.MergedLaws.{length-replaced_latches, replaced-first_latch, replaced-first_gate, replaced-end}
+use Rattle.cleaned_circuits.proofs.PickedLaws.{count-all}
+use Rattle.cleaned_circuits.proofs.TrimmedLaws.{trimmed-first_latch, trimmed-first_gate, trimmed-end, new-less, new-from, stays-reached}
+use Rattle.cleaned_circuits.proofs.PassLaws.{IsCircuit, pass-streams, cleans-streams, IsCircuit-pass}
+use Rattle.cleaned_circuits.proofs.UnchangedLaws.{count-full, map-fixed_all, pass-unchanged}
 
 -- composed with all places, a list is itself
 pub composed-all : (n : ℕ) (more : List ℕ) → All (λ place. place < n) more → composed (range_with_len 0 n) more ≡ more
@@ -39,12 +39,12 @@ composed-then first second third below =
         ∙ ap (λ (ys : List ℕ). get_or (composed first second) x 0 ∷ ys) (alike xs (All-tail (λ (place : ℕ). get_or first (get_or second place 0) 0 ≡ get_or (composed first second) place 0) x xs all))
 
 -- the held latches stay in range
-pub still-in_range : (held : List ℕ) (c d : Network) (kept still : List ℕ) → IsPass held c d kept still → All (λ j. j < length c.aig.latches) held → All (λ j. j < length d.aig.latches) still
+pub still-in_range : (held : List ℕ) (c d : Netlist) (kept still : List ℕ) → IsPass held c d kept still → All (λ j. j < length c.aig.latches) held → All (λ j. j < length d.aig.latches) still
 still-in_range held c d kept still pass in_range =
-    let m : Network = merged_of held c in
+    let m : Netlist = merged_of held c in
     let s : ℕ → Bool = pass.reached in
     let same : length m.aig.latches ≡ length c.aig.latches = length-replaced_latches (stands_of c.aig held) c.aig in
-    let P : Network → Type 0 = λ e. All (λ j. j < length e.aig.latches) still in
+    let P : Netlist → Type 0 = λ e. All (λ j. j < length e.aig.latches) still in
     let Q : List ℕ → Type 0 = λ js. All (λ j. j < length (trimmed_graph m.aig s).latches) js in
     subst P (sym pass.circuit) (subst Q (sym pass.positions) (All-map (λ j. j < length (trimmed_graph m.aig s).latches) (new_position m.aig s) held (λ k d h.
     let j : ℕ = get_or held k d in
@@ -54,9 +54,9 @@ still-in_range held c d kept still pass in_range =
     omega (arith, ranks, trimmed-first_gate m.aig s, trimmed-first_latch m.aig s, new-from m.aig s (first_latch m.aig + j) (omega arith)))))
 
 -- a pass that leaves as many latches and gates leaves the circuit, and the positions of held latches
-module _ (held : List ℕ) (c d : Network) (kept still : List ℕ) (valid : IsCircuit c) (in_range : All (λ j. j < length c.aig.latches) held) (pass : IsPass held c d kept still)
+module _ (held : List ℕ) (c d : Netlist) (kept still : List ℕ) (valid : IsCircuit c) (in_range : All (λ j. j < length c.aig.latches) held) (pass : IsPass held c d kept still)
     (many : latches_and_gates c.aig ≤ latches_and_gates d.aig) where
-  abbrev merged : Network
+  abbrev merged : Netlist
   merged = merged_of held c
 
   ends : variables_end merged.aig ≡ variables_end c.aig
@@ -64,7 +64,7 @@ module _ (held : List ℕ) (c d : Network) (kept still : List ℕ) (valid : IsCi
 
   full : new_variable merged.aig pass.reached (variables_end merged.aig) ≡ variables_end merged.aig
   full =
-      let same : latches_and_gates d.aig ≡ latches_and_gates (trimmed_graph merged.aig pass.reached) = ap (λ (e : Network). latches_and_gates e.aig) pass.circuit in
+      let same : latches_and_gates d.aig ≡ latches_and_gates (trimmed_graph merged.aig pass.reached) = ap (λ (e : Netlist). latches_and_gates e.aig) pass.circuit in
       omega (
         arith,
         many,
@@ -102,13 +102,13 @@ module _ (held : List ℕ) (c d : Network) (kept still : List ℕ) (valid : IsCi
 
   cleans-unchanged : Cleans d held c kept
   cleans-unchanged =
-      let P : Network → Type 0 = λ e. IsPass held c e kept still in
+      let P : Netlist → Type 0 = λ e. IsPass held c e kept still in
       let Q : List ℕ → Type 0 = λ js. IsPass held c c kept js in
       unchanged held c kept (subst Q positions-same (subst P circuit-same pass)) circuit-same
 
 -- what is left of a circuit after some passes, of which the last had so many latches and gates before it
-pub record Passed (held : List ℕ) (c : Network) (before : ℕ) (d : Network) (kept still : List ℕ) : Type 0 where
-  pub from : Network
+pub record Passed (held : List ℕ) (c : Netlist) (before : ℕ) (d : Netlist) (kept still : List ℕ) : Type 0 where
+  pub from : Netlist
   pub from_held : List ℕ
   pub from_kept : List ℕ
   pub first : List ℕ
@@ -117,9 +117,9 @@ pub record Passed (held : List ℕ) (c : Network) (before : ℕ) (d : Network) (
   pub pass : IsPass from_held from d first still
   pub size : before ≡ latches_and_gates from.aig
   pub is : kept ≡ composed from_kept first
-  pub front : (x : Network) (more : List ℕ) → Cleans x from_held from more → Cleans x held c (composed from_kept more)
+  pub front : (x : Netlist) (more : List ℕ) → Cleans x from_held from more → Cleans x held c (composed from_kept more)
 
-pub passed-start : (held : List ℕ) (c d : Network) (before : ℕ) (kept still : List ℕ) → IsCircuit c → All (λ j. j < length c.aig.latches) held → IsPass held c d kept still → before ≡ latches_and_gates c.aig
+pub passed-start : (held : List ℕ) (c d : Netlist) (before : ℕ) (kept still : List ℕ) → IsCircuit c → All (λ j. j < length c.aig.latches) held → IsPass held c d kept still → before ≡ latches_and_gates c.aig
     → Passed held c before d kept still
 passed-start held c d before kept still valid in_range pass size =
     let n : ℕ = free_latches c.aig in
@@ -138,7 +138,7 @@ passed-start held c d before kept still valid in_range pass size =
           subst P (sym (composed-all n more (cleans-streams x held c more cleans valid).places.below)) cleans;
     }
 
-module _ (held : List ℕ) (c : Network) (before : ℕ) (d : Network) (kept still : List ℕ) (passed : Passed held c before d kept still) where
+module _ (held : List ℕ) (c : Netlist) (before : ℕ) (d : Netlist) (kept still : List ℕ) (passed : Passed held c before d kept still) where
   pub passed-valid : IsCircuit d
   passed-valid = IsCircuit-pass passed.from_held passed.from d passed.first still passed.valid passed.pass
 
@@ -152,7 +152,7 @@ module _ (held : List ℕ) (c : Network) (before : ℕ) (d : Network) (kept stil
   kept-long = ap (λ (xs : List ℕ). length xs) passed.is ∙ length-map passed.first (λ place. get_or passed.from_kept place 0) ∙ first-long
 
   -- one more pass, after one that left fewer latches or gates
-  pub passed-more : (e : Network) (second both still2 : List ℕ) → latches_and_gates d.aig < before → IsPass still d e second still2 → both ≡ composed kept second → Passed held c (latches_and_gates d.aig) e both still2
+  pub passed-more : (e : Netlist) (second both still2 : List ℕ) → latches_and_gates d.aig < before → IsPass still d e second still2 → both ≡ composed kept second → Passed held c (latches_and_gates d.aig) e both still2
   passed-more e second both still2 less pass is = record {
     from = d;
     from_held = still;
@@ -164,7 +164,7 @@ module _ (held : List ℕ) (c : Network) (before : ℕ) (d : Network) (kept stil
     size = refl;
     is = is;
     front = λ x more cleans.
-        let other : d ≢ passed.from = λ same. omega (arith, less, passed.size, ap (λ (n : Network). latches_and_gates n.aig) same) in
+        let other : d ≢ passed.from = λ same. omega (arith, less, passed.size, ap (λ (n : Netlist). latches_and_gates n.aig) same) in
         let whole = passed.front x (composed passed.first more) (after_pass passed.from_held passed.from d passed.first more still passed.pass other cleans) in
         let below : All (λ place. place < length passed.first) more = λ k a h.
         let here : get_or more k a < free_latches d.aig = (cleans-streams x still d more cleans passed-valid).places.below k a h in
@@ -174,7 +174,7 @@ module _ (held : List ℕ) (c : Network) (before : ℕ) (d : Network) (kept stil
   }
 
   -- the places that a next pass keeps are among those that are kept
-  pub next-below : (e : Network) (second still2 : List ℕ) → IsPass still d e second still2 → All (λ place. place < length kept) second
+  pub next-below : (e : Netlist) (second still2 : List ℕ) → IsPass still d e second still2 → All (λ place. place < length kept) second
   next-below e second still2 pass = λ k a h.
       let here : get_or second k a < free_latches d.aig = (pass-streams still d e second still2 passed-valid pass).places.below k a h in
       omega (arith, here, kept-long)

@@ -7,9 +7,9 @@ use Rattle.aig_graph.specs.declared.properties.Props.{Props}
 use Rattle.aig_graph.specs.Graph.{Graph, IsGraph, IsGateAt, IsLiteralOf, variable, variables_end, first_gate}
 use Rattle.aig_graph.specs.Circuits.{ArePropsOf}
 use Rattle.aig_graph.specs.Mapped.{OfProps}
-use Rattle.clean_laws.specs.Merged.{replaced_latch, replaced_gate, replaced_graph, stands_of}
+use Rattle.cleaned_circuits.specs.Merged.{replaced_latch, replaced_gate, replaced_graph, stands_of}
 use Rattle.aig_graph.proofs.PropsLaws.{of_literals, literals_within}
-use Rattle.clean_laws.proofs.StandLaws.{length-stands_of}
+use Rattle.cleaned_circuits.proofs.StandLaws.{length-stands_of}
 
 pub graph-is : (inputs : ℕ) (latches other_latches : List Latch) (gates other_gates : List Gate) (n : ℕ) → n ≡ inputs → latches ≡ other_latches → gates ≡ other_gates
     → ◌≡◌ {A = Graph} (record { inputs = n; latches = latches; gates = gates }) (record { inputs = inputs; latches = other_latches; gates = other_gates })

@@ -2,7 +2,7 @@
 use Rattle.std.proofs.Common.{ℕ, ◌+◌, ◌<◌, ◌≤◌, ◌≡◌, List, [], ◌∷◌, drop, length, get_or, refl, ap, sym, ◌∙◌}
 use Rattle.std.proofs.lemmas.List.{at_drop_more, at_drop_all}
 use Rattle.aig_graph.specs.declared.graph.Gate.{Gate}
-use Rattle.clean_laws.specs.Merged.{Merging, merge_gate, merge_gates}
+use Rattle.cleaned_circuits.specs.Merged.{Merging, merge_gate, merge_gates}
 
 merge-none : (m : Merging) → merge_gates [] m ≡ m
 unfolding merge_gates

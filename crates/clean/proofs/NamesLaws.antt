@@ -5,7 +5,7 @@ use Rattle.std.proofs.lemmas.List.Elements.{filter_more}
 use Rattle.aig_graph.specs.declared.properties.Symbol.{Symbol}
 use Rattle.aig_graph.specs.declared.properties.Symbols.{Symbols}
 use Rattle.aig_graph.specs.Graph.{Graph, first_latch}
-use Rattle.clean_laws.specs.Trimmed.{new_name, new_position, trimmed_symbols}
+use Rattle.cleaned_circuits.specs.Trimmed.{new_name, new_position, trimmed_symbols}
 
 module _ (g : Graph) (s : ℕ → Bool) (names : List Symbol) (i : ℕ) (name : Symbol) (h : i < length names) (read : name ≡ get_or names i name) where
   abbrev kept : Symbol → Bool

@@ -5,7 +5,7 @@ use Rattle.aig_graph.specs.Graph.{variable}
 use Rattle.variable_tables.specs.Tables.{table}
 use Rattle.aig_graph.specs.Value.{signed_as}
 use Rattle.variable_tables.proofs.TableLemmas.{length-table, table-at}
-use Rattle.clean_laws.specs.Merged.{replaced}
+use Rattle.cleaned_circuits.specs.Merged.{replaced}
 use Rattle.clean.specs.Substitutions.{own_literals, from_first}
 
 pub length-own_literals : (first : ℕ) → length (own_literals first) ≡ first

@@ -13,8 +13,8 @@ use Rattle.aig_graph.specs.Streams.{property_literals}
 use Rattle.aig_graph.proofs.KindLaws.{element}
 use Rattle.variable_tables.specs.Marking.{mark_at}
 use Rattle.variable_tables.proofs.PlacesLemmas.{slice_get_push, slice_get-append_left, slice_get-append_right}
-use Rattle.clean_laws.specs.Reached.{stays, HoldsReads, AreReached}
-use Rattle.clean_laws.proofs.TrimmedLaws.{stays-past, stays-low, stays-reached}
+use Rattle.cleaned_circuits.specs.Reached.{stays, HoldsReads, AreReached}
+use Rattle.cleaned_circuits.proofs.TrimmedLaws.{stays-past, stays-low, stays-reached}
 use Rattle.aig_graph.specs.Mapped.{OfProps}
 use Rattle.aig_graph.proofs.PropsLaws.{to_literals}
 use Rattle.clean.specs.Sweep.{Front, front_end, no_front, is_marked, reach, reach_all, reads_of, ReadsMarked, Waits, Sweeps, IsOwed}

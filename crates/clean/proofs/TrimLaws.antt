@@ -10,7 +10,7 @@ use Rattle.aig_graph.specs.declared.graph.Latch.{Latch}
 use Rattle.aig_graph.specs.declared.properties.Props.{Props}
 use Rattle.aig_graph.specs.Graph.{is_free, free_before, Graph, IsGraph, IsLiteralOf, variable, variables_end, first_latch, first_gate}
 use Rattle.aig_graph.specs.declared.properties.Symbols.{Symbols}
-use Rattle.aig_graph.specs.Circuits.{Network}
+use Rattle.aig_graph.specs.Circuits.{Netlist}
 use Rattle.aig_graph.specs.Value.{signed_as}
 use Rattle.aig_graph.specs.Building.{gate_of}
 use Rattle.variable_tables.specs.Counting.{count_below, places}
@@ -18,11 +18,11 @@ use Rattle.variable_tables.specs.Tables.{table}
 use Rattle.variable_tables.proofs.TableLemmas.{length-table, table-at, table-same, entry}
 use Rattle.variable_tables.proofs.PlacesLemmas.{count-bound, places-zero, places-pass, places-fail}
 use Rattle.aig_graph.specs.Mapped.{OfProps, mapped_props}
-use Rattle.clean_laws.specs.Reached.{stays}
-use Rattle.clean_laws.specs.Merged.{replaced, replaced_latch, replaced_gate}
-use Rattle.clean_laws.specs.Trimmed.{new_variable, renumbered, picked, renumbered_latch, renumbered_gate, trimmed_graph, trimmed_of, trimmed_symbols, is_kept_free, kept_free}
+use Rattle.cleaned_circuits.specs.Reached.{stays}
+use Rattle.cleaned_circuits.specs.Merged.{replaced, replaced_latch, replaced_gate}
+use Rattle.cleaned_circuits.specs.Trimmed.{new_variable, renumbered, picked, renumbered_latch, renumbered_gate, trimmed_graph, trimmed_of, trimmed_symbols, is_kept_free, kept_free}
 use Rattle.variable_tables.proofs.ListLaws.{map-same}
-use Rattle.clean_laws.proofs.TrimmedLaws.{stays-past, new-low, renumbered-variable}
+use Rattle.cleaned_circuits.proofs.TrimmedLaws.{stays-past, new-low, renumbered-variable}
 use Rattle.aig_graph.proofs.PropsLaws.{mapped-is}
 use Rattle.clean.proofs.MappingLaws.{graph-is}
 use Rattle.clean.specs.Substitutions.{own_literals, new_literals}
@@ -170,10 +170,10 @@ free-more g k free one latch there is step =
           omega (arith, is, here, count_by_more_no is_free g.latches k latch within (ap is_free read ∙ known)))
     ]
 
-pub network-is : (c : Network) (s : ℕ → Bool) (g : Graph) (p : Props) (names : Symbols) → g ≡ trimmed_graph c.aig s → p ≡ mapped_props (renumbered c.aig s) c.props → names ≡ trimmed_symbols c.aig s c.symbols
-    → ◌≡◌ {A = Network} (record { aig = g; props = p; symbols = names }) (trimmed_of c s)
-network-is c s g p names one two three =
-    let first : Graph → Network = λ h. record { aig = h; props = p; symbols = names } in
-    let second : Props → Network = λ q. record { aig = trimmed_graph c.aig s; props = q; symbols = names } in
-    let third : Symbols → Network = λ ns. record { aig = trimmed_graph c.aig s; props = mapped_props (renumbered c.aig s) c.props; symbols = ns } in
+pub netlist-is : (c : Netlist) (s : ℕ → Bool) (g : Graph) (p : Props) (names : Symbols) → g ≡ trimmed_graph c.aig s → p ≡ mapped_props (renumbered c.aig s) c.props → names ≡ trimmed_symbols c.aig s c.symbols
+    → ◌≡◌ {A = Netlist} (record { aig = g; props = p; symbols = names }) (trimmed_of c s)
+netlist-is c s g p names one two three =
+    let first : Graph → Netlist = λ h. record { aig = h; props = p; symbols = names } in
+    let second : Props → Netlist = λ q. record { aig = trimmed_graph c.aig s; props = q; symbols = names } in
+    let third : Symbols → Netlist = λ ns. record { aig = trimmed_graph c.aig s; props = mapped_props (renumbered c.aig s) c.props; symbols = ns } in
     ap first one ∙ ap second two ∙ ap third three

@@ -3,7 +3,7 @@ use Rattle.std.specs.Prelude.{ℕ, ◌+◌, ◌*◌, ◌++◌, ◌≡◌, nat_lt
 use Rattle.std.specs.Map.{lookup}
 use Rattle.aig_graph.specs.declared.graph.Latch.{Latch}
 use Rattle.aig_graph.specs.Graph.{Graph, first_latch, is_free}
-use Rattle.clean_laws.specs.Latches.{is_latch, is_like, first_where}
+use Rattle.cleaned_circuits.specs.Latches.{is_latch, is_like, first_where}
 
 -- the literal of the first latch before n that is like this one
 unfoldable pub first_literal : Graph → List ℕ → Latch → ℕ → Option ℕ

@@ -1,11 +1,11 @@
 -- A pass after others.
 use Rattle.std.specs.Prelude.{ℕ, ◌≡◌, List}
-use Rattle.aig_graph.specs.Circuits.{Network}
+use Rattle.aig_graph.specs.Circuits.{Netlist}
 use Rattle.aig_graph.specs.Laws.{composed}
-use Rattle.clean_laws.specs.Cleaned.{IsPass}
+use Rattle.cleaned_circuits.specs.Cleaned.{IsPass}
 
 -- e is d after a pass; where kept has the places of d's free latches in an earlier circuit, both has those of e's in the same
-pub record IsPassAfter (held : List ℕ) (d e : Network) (kept both still_held : List ℕ) : Type 0 where
+pub record IsPassAfter (held : List ℕ) (d e : Netlist) (kept both still_held : List ℕ) : Type 0 where
   pub second : List ℕ
   pub pass : IsPass held d e second still_held
   pub places : both ≡ composed kept second

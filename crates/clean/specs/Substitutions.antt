@@ -1,7 +1,7 @@
 -- A literal for each variable.
 use Rattle.std.specs.Prelude.{ℕ, ◌*◌, ◌++◌, Bool, List}
 use Rattle.aig_graph.specs.Graph.{Graph, variables_end}
-use Rattle.clean_laws.specs.Trimmed.{new_variable}
+use Rattle.cleaned_circuits.specs.Trimmed.{new_variable}
 use Rattle.variable_tables.specs.Tables.{table}
 
 -- the variables before the first latch, each for itself

@@ -5,7 +5,7 @@ use Rattle.aig_graph.specs.declared.graph.Latch.{Latch}
 use Rattle.aig_graph.specs.declared.properties.Props.{Props}
 use Rattle.aig_graph.specs.Graph.{latches_and_gates, Graph, variable, first_latch, variables_end, gate_at, latch_at}
 use Rattle.variable_tables.specs.Marking.{mark_at}
-use Rattle.clean_laws.specs.Reached.{stays, HoldsReads}
+use Rattle.cleaned_circuits.specs.Reached.{stays, HoldsReads}
 
 -- the marks of the variables from the first latch on, and the marked variables in the order in which they were reached
 pub record Front : Type 0 where

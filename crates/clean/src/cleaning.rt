@@ -2,7 +2,7 @@ ghost use Rattle.std.specs.Prelude.{◌≡◌, ◌<◌, All, IfOk, length, map, 
 ghost use Rattle.aig_graph.specs.Graph.{free_latches};
 ghost use Rattle.aig_graph.specs.Streams.{SameStreams};
 ghost use Rattle.aig_graph.specs.Laws.{composed};
-ghost use Rattle.clean_laws.specs.Cleaned.{Cleans};
+ghost use Rattle.cleaned_circuits.specs.Cleaned.{Cleans};
 ghost use Rattle.clean.specs.Passes.{IsPassAfter};
 
 use crate::pass::{Pass, run_pass};

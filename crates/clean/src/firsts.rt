@@ -1,7 +1,7 @@
 ghost use Rattle.std.specs.Prelude.{◌≡◌, ◌++◌, ◌∷◌, [], None, OnOk, IfOk};
 ghost use Rattle.std.specs.Map.{lookup};
-ghost use Rattle.clean_laws.specs.Latches.{is_latch};
-ghost use Rattle.clean_laws.specs.Merged.{stand_or_own};
+ghost use Rattle.cleaned_circuits.specs.Latches.{is_latch};
+ghost use Rattle.cleaned_circuits.specs.Merged.{stand_or_own};
 ghost use Rattle.clean.specs.Firsts.{entries_after};
 
 use aig_graph::{Latch, Lit, NoMemory};

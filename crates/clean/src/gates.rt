@@ -1,7 +1,7 @@
 ghost use Rattle.std.specs.Prelude.{◌≡◌, ◌+◌, ◌*◌, ◌++◌, ◌∷◌, ◌<◌, ◌^◌, [], None, OnOk, IfOk, length};
 ghost use Rattle.std.specs.Map.{lookup};
 ghost use Rattle.aig_graph.specs.Graph.{variable, first_gate};
-ghost use Rattle.clean_laws.specs.Merged.{is_gate, known_stand, stand_or_own, kept_after, merge_gate, merge_gates};
+ghost use Rattle.cleaned_circuits.specs.Merged.{is_gate, known_stand, stand_or_own, kept_after, merge_gate, merge_gates};
 
 use crate::kept::KeptGates;
 use crate::substitution::Substitution;

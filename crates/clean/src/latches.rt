@@ -1,7 +1,7 @@
 ghost use Rattle.std.specs.Prelude.{◌≡◌, ◌<◌, ◌+◌, ◌*◌, ◌&&◌, ◌||◌, ◌==◌, not, slice_get, length, Some, OnOk, IfOk};
 ghost use Rattle.aig_graph.specs.Graph.{first_latch, first_gate, is_free};
 ghost use Rattle.variable_tables.specs.Tables.{table};
-ghost use Rattle.clean_laws.specs.Latches.{constant_of, latch_stand, leaf_stand};
+ghost use Rattle.cleaned_circuits.specs.Latches.{constant_of, latch_stand, leaf_stand};
 ghost use Rattle.clean.specs.Firsts.{AreFirsts};
 ghost use Rattle.clean.specs.Substitutions.{own_literals};
 

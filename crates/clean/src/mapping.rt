@@ -1,7 +1,7 @@
 ghost use Rattle.std.specs.Prelude.{◌≡◌, ◌<◌, All, IfOk, length, map};
 ghost use Rattle.aig_graph.specs.Graph.{variable};
 ghost use Rattle.aig_graph.specs.Mapped.{OfProps, mapped_props};
-ghost use Rattle.clean_laws.specs.Merged.{replaced};
+ghost use Rattle.cleaned_circuits.specs.Merged.{replaced};
 
 use crate::substitution::Substitution;
 use aig_graph::{Lit, NoMemory, Props, Sequence};

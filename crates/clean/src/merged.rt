@@ -1,6 +1,6 @@
 ghost use Rattle.std.specs.Prelude.{◌≡◌, ◌<◌, IfOk, length, map};
 ghost use Rattle.aig_graph.specs.Graph.{variable, variables_end};
-ghost use Rattle.clean_laws.specs.Merged.{stands_of, replaced_latch, replaced_gate, replaced_graph, merged_of};
+ghost use Rattle.cleaned_circuits.specs.Merged.{stands_of, replaced_latch, replaced_gate, replaced_graph, merged_of};
 
 use crate::held::Held;
 use crate::mapping::mapped_props;

@@ -1,6 +1,6 @@
 ghost use Rattle.std.specs.Prelude.{◌≡◌, ◌+◌, ◌<◌, All, IfOk, length, map, filter};
 ghost use Rattle.aig_graph.specs.Graph.{first_latch};
-ghost use Rattle.clean_laws.specs.Trimmed.{new_name, trimmed_symbols};
+ghost use Rattle.cleaned_circuits.specs.Trimmed.{new_name, trimmed_symbols};
 ghost use Rattle.clean.specs.Sweep.{is_marked};
 
 use crate::trim::Trim;

@@ -1,9 +1,9 @@
 ghost use Rattle.std.specs.Prelude.{◌≡◌, ◌<◌, All, IfOk, length};
 ghost use Rattle.aig_graph.specs.Graph.{IsGraph};
 ghost use Rattle.aig_graph.specs.Streams.{SameStreams};
-ghost use Rattle.clean_laws.specs.Merged.{merged_of};
-ghost use Rattle.clean_laws.specs.Reached.{AreReached};
-ghost use Rattle.clean_laws.specs.Cleaned.{IsPass};
+ghost use Rattle.cleaned_circuits.specs.Merged.{merged_of};
+ghost use Rattle.cleaned_circuits.specs.Reached.{AreReached};
+ghost use Rattle.cleaned_circuits.specs.Cleaned.{IsPass};
 ghost use Rattle.clean.specs.Sweep.{is_marked};
 
 use crate::held::Held;

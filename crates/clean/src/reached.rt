@@ -3,7 +3,7 @@ ghost use Rattle.std.specs.List.{flat_map};
 ghost use Rattle.aig_graph.specs.Graph.{variable, first_latch, variables_end, IsLiteralOf, latch_at};
 ghost use Rattle.aig_graph.specs.Streams.{property_literals};
 ghost use Rattle.aig_graph.specs.Mapped.{OfProps};
-ghost use Rattle.clean_laws.specs.Reached.{AreReached};
+ghost use Rattle.cleaned_circuits.specs.Reached.{AreReached};
 ghost use Rattle.clean.specs.Sweep.{front_end, is_marked, reach, reach_all, reads_of};
 
 use aig_graph::{Aig, Lit, NoMemory, Props, Sequence};

@@ -1,5 +1,5 @@
 ghost use Rattle.std.specs.Prelude.{◌≡◌, IfOk, length};
-ghost use Rattle.clean_laws.specs.Merged.{stands_of};
+ghost use Rattle.cleaned_circuits.specs.Merged.{stands_of};
 
 use crate::gates::merge_gates;
 use crate::held::Held;

@@ -1,6 +1,6 @@
 ghost use Rattle.std.specs.Prelude.{◌≡◌, ◌+◌, ◌<◌, ◌≤◌, ◌^◌, ◌++◌, ◌∷◌, [], IfOk, OnOk, length};
 ghost use Rattle.aig_graph.specs.Graph.{variable};
-ghost use Rattle.clean_laws.specs.Merged.{replaced, replaced_gate, replaced_latch};
+ghost use Rattle.cleaned_circuits.specs.Merged.{replaced, replaced_gate, replaced_latch};
 ghost use Rattle.clean.specs.Substitutions.{own_literals};
 
 use aig_graph::{Gate, Latch, Lit, NoMemory};

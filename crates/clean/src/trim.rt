@@ -1,9 +1,9 @@
 ghost use Rattle.std.specs.Prelude.{◌≡◌, ◌+◌, ◌<◌, ◌≤◌, All, IfOk, Some, length, map, slice_get, if◌then◌else◌};
 ghost use Rattle.aig_graph.specs.Graph.{is_free, IsGraph, IsLiteralOf, first_latch, first_gate};
-ghost use Rattle.aig_graph.specs.Circuits.{IsNetwork};
+ghost use Rattle.aig_graph.specs.Circuits.{IsNetlist};
 ghost use Rattle.aig_graph.specs.Mapped.{OfProps};
-ghost use Rattle.clean_laws.specs.Reached.{stays};
-ghost use Rattle.clean_laws.specs.Trimmed.{new_position, picked, renumbered_latch, renumbered_gate, trimmed_graph, trimmed_of, is_kept_free, kept_free};
+ghost use Rattle.cleaned_circuits.specs.Reached.{stays};
+ghost use Rattle.cleaned_circuits.specs.Trimmed.{new_position, picked, renumbered_latch, renumbered_gate, trimmed_graph, trimmed_of, is_kept_free, kept_free};
 ghost use Rattle.clean.specs.Substitutions.{new_literals};
 ghost use Rattle.clean.specs.Sweep.{is_marked};
 
@@ -146,7 +146,7 @@ impl<'a> Trim<'a> {
         requires graph { IsGraph (trimmed_graph self.now.aig.now (is_marked self.now.reached.now)) }
         requires props { OfProps (IsLiteralOf self.now.aig.now) props.now }
         requires names { All (λ name. name.position < length self.now.aig.now.latches) symbols.now.latches }
-        requires network { IsNetwork (trimmed_of
+        requires netlist { IsNetlist (trimmed_of
             (record { aig = self.now.aig.now; props = props.now; symbols = symbols.now }) (is_marked self.now.reached.now)) }
         ensures { IfOk result (λ circuit. circuit ≡ trimmed_of
             (record { aig = self.now.aig.now; props = props.now; symbols = symbols.now }) (is_marked self.now.reached.now)) }

@@ -9,14 +9,14 @@ use Rattle.counted_io.specs.Output.{Output, WritesAll, WritesPart, one_more}
 pub all-nothing : (s : Output) → WritesAll s s []
 all-nothing s = record { bytes = Appends-nil s.bytes; failures = refl }
 
--- a text, and another behind it
+-- a text, and another after it
 pub all-then : (s t u : Output) (a b : List ℕ) → WritesAll s t a → WritesAll t u b → WritesAll s u (a ++ b)
 all-then s t u a b p q = record {
   bytes = Appends-trans s.bytes t.bytes u.bytes a b p.bytes q.bytes;
   failures = q.failures ∙ p.failures;
 }
 
--- a text, and a beginning of the one behind it
+-- a text, and a beginning of the one after it
 pub part-then : (s t u : Output) (a b : List ℕ) → WritesAll s t a → WritesPart t u b → WritesPart s u (a ++ b)
 part-then s t u a b p q = record {
   count = length a + q.count;

@@ -8,7 +8,7 @@ use Rattle.std.proofs.lemmas.List.Folds.{list_any-append}
 use Rattle.std.proofs.Math.Seq.{get_or-append_seam}
 use Rattle.variable_tables.specs.Marking.{has}
 use Rattle.variable_tables.proofs.PlacesLemmas.{count-le}
-use Rattle.aig_graph.specs.Circuits.{Network}
+use Rattle.aig_graph.specs.Circuits.{Netlist}
 use Rattle.aig_graph.specs.Border.{IsGreatestLeast}
 use Rattle.aig_graph.proofs.SetLemmas.{has_iff_contains}
 use Rattle.frame_net.specs.declared.net.Point.{Point}
@@ -20,7 +20,7 @@ use Rattle.pulse.specs.Conditions.{IsMaxPreflow, state_of}
 use Rattle.frame_cuts.proofs.LeastCuts.{greatest_cut_is_greatest_set-law}
 use Rattle.frame_net.specs.Capacity.{has_node}
 use Rattle.frame_net.proofs.NodeLaws.{rank-gate, view}
-use Rattle.frame_cuts.specs.Cuts.{AreGatesOf, IsNetwork}
+use Rattle.frame_cuts.specs.Cuts.{AreGatesOf, IsNetworkOf}
 use Rattle.frame_cuts.proofs.NetLaws.{gate-range, nodes, point-before}
 use Rattle.cut_cert.specs.Gates.{gate_after, gate_of, and_gate, gates_below}
 
@@ -165,7 +165,7 @@ push-rising xs g rising below k h = elim (cases_lt (k + 1) (length xs)) [
       omega (arith, this, next, below k (omega (arith, last))))
 ]
 
-module _ (c : Network) (held : List ℕ) (net : FlowNet) (is : IsNetwork c held net) (side : ℕ → Bool) where
+module _ (c : Netlist) (held : List ℕ) (net : FlowNet) (is : IsNetworkOf c held net) (side : ℕ → Bool) where
   -- nodes before gates stand in the order of the gates
   points-rise : (x y u v : ℕ) → x < node_count net → y < node_count net → x < y → point_of net x ≡ Some (before_gate u) → point_of net y ≡ Some (before_gate v) → u < v
   points-rise x y u v hx hy less at to =
@@ -208,7 +208,7 @@ module _ (c : Network) (held : List ℕ) (net : FlowNet) (is : IsNetwork c held 
   }
 
 -- at a run's end, the gates of the nodes that can't reach the sink are the greatest least set
-pub greatest-set : (c : Network) (held : List ℕ) (net : FlowNet) (m : RunEnd) (side : ℕ → Bool) → IsNetwork c held net → IsMaxPreflow net m → IsSourceSide (node_count net) (state_of net m.flow) side
+pub greatest-set : (c : Netlist) (held : List ℕ) (net : FlowNet) (m : RunEnd) (side : ℕ → Bool) → IsNetworkOf c held net → IsMaxPreflow net m → IsSourceSide (node_count net) (state_of net m.flow) side
     → IsGreatestLeast c held (gates_below net side (node_count net))
 greatest-set c held net m side is end apart =
     greatest_cut_is_greatest_set-law c held net side (gates_below net side (node_count net)) is

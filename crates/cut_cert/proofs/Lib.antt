@@ -1,2 +1,8 @@
-pub mod WalkLaws
+pub mod SinkWalkLaws
 pub mod GateLaws
+pub mod Lowering
+pub mod Points
+pub mod WalkLaws
+pub mod Values
+pub mod TrailLaws
+pub mod RouteLaws

@@ -1,368 +1,258 @@
--- A walk backward from the sink marks the nodes that reach it.
-use Rattle.std.proofs.Common.{ℕ, zero, suc, ◌+◌, ◌<◌, ◌≤◌, ◌≡◌, ◌⊎◌, inl, inr, List, [], ◌∷◌, ◌++◌, length, replicate, Bool, true, false, not, cond, nat_lt, Some, None, slice_get, slice_index, set, get_or, count_by, refl, arith, ap, sym, ◌∙◌, subst}
-use Rattle.std.proofs.lemmas.Bool.{cases_Bool, cases_eq, cases_lt, cond-true, cond-false, lt-ltb, le-ltb}
-use Rattle.std.proofs.lemmas.Option.{none-some, slice_get_within, same_Some}
-use Rattle.std.proofs.lemmas.List.{length-set, get_or-set_same, get_or-set_other, get_or_past, length_push, length-replicate, get_or-replicate}
-use Rattle.std.proofs.lemmas.List.Sums.{sum_by-set, count_by-le-length}
-use Rattle.std.proofs.lemmas.List.Folds.{sum_by-replicate}
-use Rattle.aig_graph.proofs.KindLaws.{element}
-use Rattle.variable_tables.proofs.PlacesLemmas.{slice_get_push, slice_get-append_left, slice_get-append_right}
-use Rattle.flow_theory.specs.Flow.{State, Walk, Reaches, IsSourceSide}
-use Rattle.arc_rows.specs.Rows.{Rises}
-use Rattle.arc_rows.proofs.Sparse.{sparse-at, sparse-none, find_head}
-use Rattle.frame_net.specs.FlowNet.{FlowNet, IsFlowNet, HasMate, node_count, start, row_len, head, mate}
-use Rattle.flow_parts.specs.Parts.{pair}
-use Rattle.cut_cert.specs.Walk.{Front, is_marked, reach, read_arc, read_arcs}
+-- A walk back from the sink, and what it leaves.
+use Rattle.std.proofs.Common.{◌≡◌, ℕ, ◌+◌, ◌<◌, ◌==◌, Bool, true, false, ◌⊎◌, inl, inr, List, [], ◌∷◌, ◌++◌, Some, None, arith, refl, ap, sym, ◌∙◌, subst}
+use Rattle.std.specs.List.{AllByRecursion, IsDistinct}
+use Rattle.std.proofs.lemmas.Bool.{cases_Bool, cases_lt, cases_eq, and_from, or_cases, or_parts, or_right, eqb-true, eq-eqb}
+use Rattle.std.proofs.lemmas.Option.{none-some, same_Some}
+use Rattle.variable_tables.specs.Marking.{has}
+use Rattle.aig_graph.specs.Circuits.{Netlist}
+use Rattle.frame_net.specs.declared.net.Point.{Point}
+use Rattle.frame_net.specs.FlowNet.{FlowNet, IsFlowNet, node_count, head, point_of, capacity_between}
+use Rattle.flow_part.specs.Parts.{pair}
+use Rattle.frame_cuts.specs.Cuts.{IsNetworkOf}
+use Rattle.certificates.specs.Routes.{begins_at, may_step, goes_on, is_route, passed}
+use Rattle.certificates.proofs.RouteLaws.{and_parts, passed-behind, passed-before}
+use Rattle.certificates.proofs.PassedLaws.{passed-none}
+use Rattle.certificates.proofs.DistinctLaws.{distinct-none}
+use Rattle.cut_cert.specs.Walks.{into, Comes, lowered, Holds, Spent, Ready, Walked}
+use Rattle.cut_cert.proofs.Lowering.{here-zero, here-one, spot-on, holds-step, holds-free, tail-in, pair-comes, one-less, into-less}
+use Rattle.cut_cert.proofs.Points.{point, step-at, begin-at, end-at, end-inner, none-out-of-sink, one-node, one-arc, one-tail, no-point}
 
--- ---- residuals of arcs and of pairs
+abbrev pub Distinct : List ℕ → Type 0
+Distinct vars = IsDistinct (λ v w. v == w) vars
 
-module _ (net : FlowNet) (ok : IsFlowNet net) where
-  pub arc-in : (w k : ℕ) → w < node_count net → k < row_len net w → start net w + k < length net.heads
-  arc-in w k h l = omega (arith, h, l, ok.rows (w + 1) (node_count net) (omega (arith, h)) (omega arith), ok.last)
+false_true : false ≡ true → ⊥
+false_true e = absurd (cc)
 
-  rises : (v : ℕ) → v < node_count net → Rises (row_len net v) (head net v)
-  rises v h = λ j k a b. ok.heads_rise v j k h a b
+pub none-is : (v : ℕ) (xs : List ℕ) → has xs v ≡ false → AllByRecursion (λ w. (v == w) ≡ false) xs
+none-is v [] absent = tt
+none-is v (x ∷ xs) absent =
+    let parts = or_parts (x == v) (has xs v) absent in
+    (turned, none-is v xs parts.1)
+  where
+    turned : (v == x) ≡ false
+    turned = elim (cases_Bool (v == x)) [
+      | inl same ↦ absurd (false_true (sym (or_parts (x == v) (has xs v) absent).0 ∙ eq-eqb x v (sym (eqb-true v x same))))
+      | inr other ↦ other
+    ]
 
-  -- the residual of the mate of w's arc to v is that of the pair of v and w
-  pub mate-pair : (xs : List ℕ) (w k : ℕ) → w < node_count net → k < row_len net w → pair net xs (head net w k) w ≡ slice_index xs (mate net w k)
-  mate-pair xs w k h l =
-      let m : HasMate net w k = ok.meets w k h l in
-      let v : ℕ = head net w k in
-      let at : pair net xs v (head net v m.place) ≡ slice_index xs (start net v + m.place) =
-      sparse-at (row_len net v) (head net v) (λ j. slice_index xs (start net v + j)) m.place (rises v (ok.heads_in w k h l)) m.inside in
-      ap (λ (u : ℕ). pair net xs v u) (sym m.back) ∙ at ∙ ap (slice_index xs) (sym m.arc)
+pub distinct-cons : (v : ℕ) (xs : List ℕ) → has xs v ≡ false → Distinct xs → Distinct (v ∷ xs)
+unfolding IsDistinct
+distinct-cons v xs absent d = (none-is v xs absent, d)
 
-  -- a pair with a residual is that of the mate of some arc with tail w
-  pub pair-mate : (xs : List ℕ) (v w : ℕ) → v < node_count net → w < node_count net → 0 < pair net xs v w
-      → (k : ℕ) × ((k < row_len net w) × ((head net w k ≡ v) × (0 < slice_index xs (mate net w k))))
-  pair-mate xs v w h l r = elim (find_head (row_len net v) (head net v) w) [
-    | inl found ↦ (
-        let j : ℕ = found.0 in
-        let m : HasMate net v j = ok.meets v j h found.1.0 in
-        let inside : m.place < row_len net w = subst (λ (u : ℕ). m.place < row_len net u) found.1.1 m.inside in
-        let back : head net w m.place ≡ v = subst (λ (u : ℕ). head net u m.place ≡ v) found.1.1 m.back in
-        let same : pair net xs v w ≡ slice_index xs (mate net w m.place) = ap (λ (u : ℕ). pair net xs u w) (sym back) ∙ mate-pair xs w m.place l inside in
-        (m.place, (inside, (back, subst (λ (x : ℕ). 0 < x) same r))))
-    | inr none ↦ (
-        let zero_here : pair net xs v w ≡ 0 = sparse-none (row_len net v) (head net v) (λ j. slice_index xs (start net v + j)) w none in
-        absurd (omega (arith, r, zero_here)))
-  ]
+-- the rest of a route, from the node on at which the walk stands; `reached` is what came into the sink before the walk
+pub record Walking (c : Netlist) (held : List ℕ) (net : FlowNet) (past : List ℕ) (reached : ℕ) (xs : List ℕ) (at : ℕ) (rest : List Point) : Type 0 where
+  pub holds : Holds net xs at
+  pub node : at < node_count net
+  pub inner : at ≡ 1 → ⊥
+  pub goes : (p : Point) → point_of net at ≡ Some p → goes_on c held p rest ≡ true
+  pub begun : at ≡ 0 → is_route c held rest ≡ true
+  pub apart : Distinct (passed rest)
+  pub off : (v : ℕ) → has (passed rest) v ≡ true → has past v ≡ false
+  pub spent : (v : ℕ) → (has (passed rest) v ≡ true) ⊎ (has past v ≡ true) → Spent net xs v
+  pub count : into net xs 1 + 1 ≡ reached
 
--- ---- one more node
+module _ (c : Netlist) (held : List ℕ) (net : FlowNet) (ok : IsFlowNet net) (is : IsNetworkOf c held net) where
+  two : 1 < node_count net
+  two = omega (arith, ok.two)
 
-abbrev pub reach_new : Front → ℕ → Front
-reach_new r v = record { marks = set r.marks v true; queue = r.queue ++ v ∷ [] }
+  module _ (xs : List ℕ) (w k : ℕ) (holds : Holds net xs w) (comes : Comes net xs w k) where
+    abbrev ys : List ℕ
+    ys = lowered net xs w k
 
-pub reach-marked : (r : Front) (v : ℕ) → is_marked r v ≡ true → reach r v ≡ r
-unfolding reach
-reach-marked r v e = cond-true (is_marked r v) r (reach_new r v) e
+    abbrev u : ℕ
+    u = head net w k
 
-pub reach-new : (r : Front) (v : ℕ) → is_marked r v ≡ false → reach r v ≡ reach_new r v
-unfolding reach
-reach-new r v e = cond-false (is_marked r v) r (reach_new r v) e
+    from : u < node_count net
+    from = tail-in net ok xs holds.long w k comes
 
-pub arc-on : (net : FlowNet) (xs : List ℕ) (w k : ℕ) (r : Front) → nat_lt 0 (slice_index xs (mate net w k)) ≡ true → read_arc net xs w k r ≡ reach r (head net w k)
-unfolding read_arc
-arc-on net xs w k r e = cond-true (nat_lt 0 (slice_index xs (mate net w k))) (reach r (head net w k)) r e
+    some : 0 < capacity_between net u w
+    some = omega (arith, pair-comes net ok xs holds.long w k comes, holds.within u w from comes.node)
 
-pub arc-off : (net : FlowNet) (xs : List ℕ) (w k : ℕ) (r : Front) → nat_lt 0 (slice_index xs (mate net w k)) ≡ false → read_arc net xs w k r ≡ r
-unfolding read_arc
-arc-off net xs w k r e = cond-false (nat_lt 0 (slice_index xs (mate net w k))) (reach r (head net w k)) r e
+    still : (v : ℕ) → Spent net xs v → Spent net ys v
+    still v gone x y h l e = omega (arith, one-less net ok xs holds.long w k comes x y h, gone x y h l e)
 
-pub arcs-none : (net : FlowNet) (xs : List ℕ) (w : ℕ) (r : Front) → read_arcs net xs w 0 r ≡ r
-unfolding read_arcs
-arcs-none net xs w r = refl
+    -- after a variable whose one unit was walked nothing comes in
+    now-spent : (v : ℕ) → point_of net w ≡ Some (point v true) → Spent net ys v
+    now-spent v at x y h l e =
+        let same : y ≡ w = one-node c held net is y w v l comes.node e at in
+        subst (λ (z : ℕ). pair net ys x z ≡ 0) (sym same) (elim (cases_lt 0 (pair net ys x w)) [
+          | inr none ↦ omega (arith, none)
+          | inl more ↦ (
+              let less = one-less net ok xs holds.long w k comes x w h in
+              let one = one-arc c held net is x w v h comes.node at in
+              let there : 0 < capacity_between net x w = omega (arith, more, less, holds.within x w h comes.node) in
+              let tail : x ≡ u = one-tail c held net is x u w v h from comes.node at there some in
+              absurd (omega (arith, more, less, one, holds.within x w h comes.node, spot-on u w x w tail, here-one w w refl)))
+        ])
 
-pub arcs-more : (net : FlowNet) (xs : List ℕ) (w k : ℕ) (r : Front) → read_arcs net xs w (suc k) r ≡ read_arc net xs w k (read_arcs net xs w k r)
-unfolding read_arcs
-arcs-more net xs w k r = refl
+    -- the first arc, into the sink
+    start-at : (past : List ℕ) → w ≡ 1 → Ready net xs past → Walking c held net past (into net xs 1) ys u []
+    start-at past sink ready = record {
+      holds = holds-step net ok xs w k holds comes;
+      node = from;
+      inner = λ one. absurd (omega (arith, one, inner));
+      goes = λ p e. end-at c held net is u p from two to-sink e;
+      begun = λ none. absurd (omega (arith, none, inner));
+      apart = subst Distinct (sym passed-none) distinct-none;
+      off = λ v member. absurd (no-member v member);
+      spent = λ v either. elim either [
+        | inl member ↦ absurd (no-member v member)
+        | inr earlier ↦ still v (ready.spent v earlier)
+      ];
+      count = omega (arith, into-less net ok xs holds.long w k comes 1, here-one 1 w (sym sink));
+    }
+      where
+        to-sink : 0 < capacity_between net u 1
+        to-sink = subst (λ (y : ℕ). 0 < capacity_between net u y) sink some
 
--- the length of the marks stays
-pub reach-long : (r : Front) (v : ℕ) → length (reach r v).marks ≡ length r.marks
-reach-long r v = elim (cases_Bool (is_marked r v)) [
-  | inl marked ↦ ap (λ (s : Front). length s.marks) (reach-marked r v marked)
-  | inr fresh ↦ ap (λ (s : Front). length s.marks) (reach-new r v fresh) ∙ length-set r.marks v true
-]
+        inner : 1 < u
+        inner = end-inner c held net is u from two to-sink
 
-pub arc-long : (net : FlowNet) (xs : List ℕ) (w k : ℕ) (r : Front) → length (read_arc net xs w k r).marks ≡ length r.marks
-arc-long net xs w k r = elim (cases_Bool (nat_lt 0 (slice_index xs (mate net w k)))) [
-  | inl on ↦ ap (λ (s : Front). length s.marks) (arc-on net xs w k r on) ∙ reach-long r (head net w k)
-  | inr off ↦ ap (λ (s : Front). length s.marks) (arc-off net xs w k r off)
-]
+        no-member : (v : ℕ) → has (passed []) v ≡ true → ⊥
+        no-member v member = false_true (ap (λ (vs : List ℕ). has vs v) (sym passed-none) ∙ member)
 
-pub arcs-long : (net : FlowNet) (xs : List ℕ) (w k : ℕ) (r : Front) → length (read_arcs net xs w k r).marks ≡ length r.marks
-arcs-long net xs w zero r = ap (λ (s : Front). length s.marks) (arcs-none net xs w r)
-arcs-long net xs w (suc k) r =
-    ap (λ (s : Front). length s.marks) (arcs-more net xs w k r) ∙ arc-long net xs w k (read_arcs net xs w k r) ∙ arcs-long net xs w k r
+    module _ (past : List ℕ) (reached : ℕ) (rest : List Point) (walking : Walking c held net past reached xs w rest) (p : Point) (at : point_of net w ≡ Some p) where
+      goes-step : (q : Point) → point_of net u ≡ Some q → goes_on c held q (p ∷ rest) ≡ true
+      unfolding goes_on
+      goes-step q e = and_from (may_step c.aig held q p) (goes_on c held p rest) (step-at c held net is u w q p from comes.node some e at) (walking.goes p at)
 
--- ---- what the walk keeps
+      begun-step : u ≡ 0 → is_route c held (p ∷ rest) ≡ true
+      begun-step none = and_from (begins_at c.aig p) (goes_on c held p rest) (begin-at c held net is w p comes.node (subst (λ (x : ℕ). 0 < capacity_between net x w) none some) at) (walking.goes p at)
 
--- what was marked stays so, and what was queued
-pub record Grows (r s : Front) : Type 0 where
-  pub marks : (v : ℕ) → is_marked r v ≡ true → is_marked s v ≡ true
-  pub queue : (i v : ℕ) → slice_get r.queue i ≡ Some v → slice_get s.queue i ≡ Some v
+      this-point : p.behind ≡ true → point_of net w ≡ Some (point p.var true)
+      this-point behind = at ∙ ap (λ (b : Bool). Some (point p.var b)) behind
 
-grows-then : (r s t : Front) → Grows r s → Grows s t → Grows r t
-grows-then r s t p q = record { marks = λ v e. q.marks v (p.marks v e); queue = λ i v e. q.queue i v (p.queue i v e) }
+      -- what was passed has nothing coming in, so here is a new variable
+      fresh : p.behind ≡ true → Spent net xs p.var → ⊥
+      fresh behind gone = omega (arith, pair-comes net ok xs holds.long w k comes, gone u w from comes.node (this-point behind))
 
-grows-self : (r : Front) → Grows r r
-grows-self r = record { marks = λ v m. m; queue = λ i v m. m }
+      not-earlier : p.behind ≡ true → has past p.var ≡ false
+      not-earlier behind = elim (cases_Bool (has past p.var)) [
+        | inl earlier ↦ absurd (fresh behind (walking.spent p.var (inr earlier)))
+        | inr new ↦ new
+      ]
 
-pub marked-within : (r : Front) (v : ℕ) → is_marked r v ≡ true → v < length r.marks
-marked-within r v e = elim (cases_lt v (length r.marks)) [
-  | inl less ↦ less
-  | inr past ↦ (let clash : false ≡ true = sym (get_or_past r.marks v false past) ∙ e in absurd (cc))
-]
+      not-passed : p.behind ≡ true → has (passed rest) p.var ≡ false
+      not-passed behind = elim (cases_Bool (has (passed rest) p.var)) [
+        | inl member ↦ absurd (fresh behind (walking.spent p.var (inl member)))
+        | inr new ↦ new
+      ]
 
-module _ (r : Front) (w : ℕ) (within : w < length r.marks) where
-  new-here : is_marked (reach_new r w) w ≡ true
-  new-here = get_or-set_same r.marks w true false within
+      -- what the longer rest passes
+      now-passed : (v : ℕ) → has (passed (p ∷ rest)) v ≡ true → ((p.behind ≡ true) × (p.var ≡ v)) ⊎ (has (passed rest) v ≡ true)
+      now-passed v member = elim (cases_Bool p.behind) [
+        | inl behind ↦ elim (or_cases (p.var == v) (has (passed rest) v) (ap (λ (vs : List ℕ). has vs v) (sym (passed-behind p rest behind)) ∙ member)) [
+          | inl same ↦ inl (behind, eqb-true p.var v same)
+          | inr earlier ↦ inr earlier
+        ]
+        | inr before ↦ inr (ap (λ (vs : List ℕ). has vs v) (sym (passed-before p rest before)) ∙ member)
+      ]
 
-  new-other : (v : ℕ) → (v ≡ w → ⊥) → is_marked (reach_new r w) v ≡ is_marked r v
-  new-other v other = get_or-set_other r.marks w v true false other
+      apart-step : Distinct (passed (p ∷ rest))
+      apart-step = elim (cases_Bool p.behind) [
+        | inl behind ↦ subst Distinct (sym (passed-behind p rest behind)) (distinct-cons p.var (passed rest) (not-passed behind) walking.apart)
+        | inr before ↦ subst Distinct (sym (passed-before p rest before)) walking.apart
+      ]
 
-  new-cases : (v : ℕ) → is_marked (reach_new r w) v ≡ true → (v ≡ w) ⊎ (is_marked r v ≡ true)
-  new-cases v e = elim (cases_eq v w) [
-    | inl same ↦ inl same
-    | inr other ↦ inr (sym (new-other v other) ∙ e)
-  ]
-
-  new-grows : Grows r (reach_new r w)
-  new-grows = record {
-    marks = λ v e. elim (cases_eq v w) [
-      | inl same ↦ ap (is_marked (reach_new r w)) same ∙ new-here
-      | inr other ↦ new-other v other ∙ e
-    ];
-    queue = λ i v e. slice_get-append_left r.queue (w ∷ []) i v e;
-  }
-
--- a node at place k of the queue, or after it
-pub record Waits (queue : List ℕ) (k v : ℕ) : Type 0 where
-  pub place : ℕ
-  pub from : k ≤ place
-  pub there : slice_get queue place ≡ Some v
-
-module _ (n : ℕ) (s : State) where
-  -- each node with a residual to w is marked
-  abbrev pub HasRead : Front → ℕ → Type 0
-  HasRead r w = (v : ℕ) → v < n → 0 < s.res v w → is_marked r v ≡ true
-
-  -- the queue has the marked nodes, once each; those before place k are read; and each reaches the sink
-  pub record Sweeps (r : Front) (k : ℕ) : Type 0 where
-    pub as_long : length r.marks ≡ n
-    pub within : k ≤ length r.queue
-    pub counted : length r.queue ≡ count_by (λ b. b) r.marks
-    pub queued : (i v : ℕ) → slice_get r.queue i ≡ Some v → is_marked r v ≡ true
-    pub pending : (v : ℕ) → is_marked r v ≡ true → Waits r.queue k v ⊎ HasRead r v
-    pub reaches : (v : ℕ) → is_marked r v ≡ true → Reaches n s v
-
-  sweeps-new : (r : Front) (k w : ℕ) → Sweeps r k → Reaches n s w → w < n → is_marked r w ≡ false → Sweeps (reach_new r w) k
-  sweeps-new r k w sweep way below fresh =
-      let h : w < length r.marks = omega (arith, sweep.as_long, below) in
-      record {
-        as_long = length-set r.marks w true ∙ sweep.as_long;
-        within = omega (arith, length_push r.queue w, sweep.within);
-        counted =
-            let counts = sum_by-set (λ (b : Bool). cond b 1 0) r.marks w true false h in
-            let before : cond {A = ℕ} (get_or r.marks w false) 1 0 ≡ zero = ap (λ (b : Bool). cond {A = ℕ} b 1 0) fresh in
-            let old : length r.queue ≡ count_by (λ b. b) r.marks = sweep.counted in
-            omega (arith, length_push r.queue w, counts, before, old);
-        queued = λ i v e. elim (slice_get_push r.queue w i v e) [
-          | inl before ↦ (new-grows r w h).marks v (sweep.queued i v before)
-          | inr last ↦ ap (is_marked (reach_new r w)) last.1 ∙ new-here r w h
+      pub step-on : Walking c held net past reached ys u (p ∷ rest)
+      step-on = record {
+        holds = holds-step net ok xs w k holds comes;
+        node = from;
+        inner = λ one. absurd (omega (arith, some, none-out-of-sink c held net is w two comes.node, ap (λ (x : ℕ). capacity_between net x w) one));
+        goes = goes-step;
+        begun = begun-step;
+        apart = apart-step;
+        off = λ v member. elim (now-passed v member) [
+          | inl this ↦ subst (λ (x : ℕ). has past x ≡ false) this.1 (not-earlier this.0)
+          | inr earlier ↦ walking.off v earlier
         ];
-        pending = λ v e. elim (new-cases r w h v e) [
-          | inl same ↦ inl (record {
-            place = length r.queue + 0;
-            from = omega (arith, sweep.within);
-            there = slice_get-append_right r.queue (w ∷ []) 0 ∙ ap (λ (m : ℕ). Some m) (sym same);
-          })
-          | inr before ↦ elim (sweep.pending v before) [
-            | inl waits ↦ inl (record { place = waits.place; from = waits.from; there = slice_get-append_left r.queue (w ∷ []) waits.place v waits.there })
-            | inr read ↦ inr (λ u l p. (new-grows r w h).marks u (read u l p))
+        spent = λ v either. elim either [
+          | inl member ↦ elim (now-passed v member) [
+            | inl this ↦ subst (Spent net ys) this.1 (now-spent p.var (this-point this.0))
+            | inr earlier ↦ still v (walking.spent v (inl earlier))
           ]
+          | inr earlier ↦ still v (walking.spent v (inr earlier))
         ];
-        reaches = λ v e. elim (new-cases r w h v e) [
-          | inl same ↦ subst (λ (u : ℕ). Reaches n s u) (sym same) way
-          | inr before ↦ sweep.reaches v before
-        ];
+        count = omega (arith, walking.count, into-less net ok xs holds.long w k comes 1, here-zero 1 w (λ q. walking.inner (sym q)));
       }
 
-  -- what reaching keeps, and what it adds
-  pub record Goes (k : ℕ) (r t : Front) : Type 0 where
-    pub sweeps : Sweeps t k
-    pub grows : Grows r t
+  pub walking-start : (xs : List ℕ) (k : ℕ) (past : List ℕ) → Comes net xs 1 k → Ready net xs past → Walking c held net past (into net xs 1) (lowered net xs 1 k) (head net 1 k) []
+  walking-start xs k past comes ready = start-at xs 1 k ready.holds comes past refl ready
 
-  goes-self : (k : ℕ) (r : Front) → Sweeps r k → Goes k r r
-  goes-self k r sweep = record { sweeps = sweep; grows = grows-self r }
+  pub walking-step : (xs : List ℕ) (w k : ℕ) (past : List ℕ) (reached : ℕ) (rest : List Point) (p : Point) → Comes net xs w k → Walking c held net past reached xs w rest → point_of net w ≡ Some p
+      → Walking c held net past reached (lowered net xs w k) (head net w k) (p ∷ rest)
+  walking-step xs w k past reached rest p comes walking at = step-on xs w k walking.holds comes past reached rest walking p at
 
-  pub reach-goes : (r : Front) (k v : ℕ) → Sweeps r k → v < n → Reaches n s v → Goes k r (reach r v) × (is_marked (reach r v) v ≡ true)
-  reach-goes r k v sweep below way = elim (cases_Bool (is_marked r v)) [
-    | inl marked ↦ subst (λ (t : Front). Goes k r t × (is_marked t v ≡ true)) (sym (reach-marked r v marked)) (goes-self k r sweep, marked)
-    | inr fresh ↦ (
-        let h : v < length r.marks = omega (arith, sweep.as_long, below) in
-        subst (λ (t : Front). Goes k r t × (is_marked t v ≡ true)) (sym (reach-new r v fresh))
-        (record { sweeps = sweeps-new r k v sweep way below fresh; grows = new-grows r v h }, new-here r v h))
-  ]
+  module _ (past : List ℕ) (reached : ℕ) (xs : List ℕ) (at : ℕ) (rest : List Point) (walking : Walking c held net past reached xs at rest) where
+    at-source : at ≡ 0 → Walked c held net past reached xs rest
+    at-source none = record {
+      holds = holds-free net xs at (omega (arith, none)) walking.holds;
+      right = walking.begun none;
+      apart = walking.apart;
+      off = walking.off;
+      spent = walking.spent;
+      count = walking.count;
+    }
 
-  -- the node at place k has been read
-  sweeps-next : (r : Front) (k v : ℕ) → Sweeps r k → slice_get r.queue k ≡ Some v → HasRead r v → Sweeps r (k + 1)
-  sweeps-next r k v sweep there reads = record {
-    as_long = sweep.as_long;
-    within = omega (arith, slice_get_within r.queue k v there);
-    counted = sweep.counted;
-    queued = sweep.queued;
-    pending = λ w e. elim (sweep.pending w e) [
-      | inl waits ↦ elim (cases_eq waits.place k) [
-        | inl same ↦ (
-            let here : v ≡ w = same_Some v w (sym there ∙ ap (slice_get r.queue) (sym same) ∙ waits.there) in
-            inr (subst (λ (u : ℕ). HasRead r u) here reads))
-        | inr other ↦ inl (record { place = waits.place; from = omega (arith, waits.from); there = waits.there })
+    -- where there is no point the walk stands at the source
+    pub ends-at-source : point_of net at ≡ None → Walked c held net past reached xs rest
+    ends-at-source e = elim (cases_eq at 0) [
+      | inl none ↦ at-source none
+      | inr other ↦ absurd (walking.inner (omega (arith, other, no-point c held net is at e walking.node)))
+    ]
+
+    -- elsewhere something comes in
+    pub never-stuck : into net xs at ≡ 0 → Walked c held net past reached xs rest
+    never-stuck nothing = elim (cases_eq at 0) [
+      | inl none ↦ at-source none
+      | inr other ↦ elim (cases_eq at 1) [
+        | inl one ↦ absurd (walking.inner one)
+        | inr more ↦ absurd (omega (arith, walking.holds.kept at (omega (arith, other, more)) walking.node, here-one at at refl, nothing))
       ]
-      | inr done ↦ inr done
-    ];
-    reaches = sweep.reaches;
-  }
+    ]
 
-  abbrev pub no_front : Front
-  no_front = record { marks = replicate n false; queue = [] }
+-- ---- a loop forgotten
 
-  no-marks : (v : ℕ) → is_marked no_front v ≡ true → ⊥
-  no-marks v e =
-      let less : v < n = omega (arith, marked-within no_front v e, length-replicate n false) in
-      let clash : false ≡ true = sym (get_or-replicate n v false false less) ∙ e in
-      absurd (cc)
+module _ (c : Netlist) (held : List ℕ) where
+  suffix-goes : (front : List Point) (q : Point) (rest : List Point) (p : Point) → goes_on c held p (front ++ q ∷ rest) ≡ true → goes_on c held q rest ≡ true
+  unfolding goes_on
+  suffix-goes [] q rest p e = (and_parts (may_step c.aig held p q) (goes_on c held q rest) e).1
+  suffix-goes (x ∷ front) q rest p e = suffix-goes front q rest x (and_parts (may_step c.aig held p x) (goes_on c held x (front ++ q ∷ rest)) e).1
 
-  -- nothing is marked at the start
-  sweeps-start : Sweeps no_front 0
-  sweeps-start = record {
-    as_long = length-replicate n false;
-    within = omega arith;
-    counted = sym (sum_by-replicate (λ (b : Bool). cond b 1 0) n false ∙ omega arith);
-    queued = λ i v e. absurd (none-some v e);
-    pending = λ v e. absurd (no-marks v e);
-    reaches = λ v e. absurd (no-marks v e);
-  }
+suffix-passed : (xs later : List Point) (v : ℕ) → has (passed later) v ≡ true → has (passed (xs ++ later)) v ≡ true
+suffix-passed [] later v member = member
+suffix-passed (x ∷ xs) later v member = elim (cases_Bool x.behind) [
+  | inl behind ↦ ap (λ (vs : List ℕ). has vs v) (passed-behind x (xs ++ later) behind) ∙ or_right (x.var == v) (has (passed (xs ++ later)) v) (suffix-passed xs later v member)
+  | inr before ↦ ap (λ (vs : List ℕ). has vs v) (passed-before x (xs ++ later) before) ∙ suffix-passed xs later v member
+]
 
-  -- no more nodes are marked than there are
-  pub sweeps-few : (r : Front) (k : ℕ) → Sweeps r k → length r.queue ≤ n
-  sweeps-few r k sweep = omega (arith, sweep.counted, sweep.as_long, count_by-le-length (λ (b : Bool). b) r.marks)
+tail-distinct : (v : ℕ) (vs : List ℕ) → Distinct (v ∷ vs) → Distinct vs
+unfolding IsDistinct
+tail-distinct v vs d = d.1
 
-  waits-end : (queue : List ℕ) (k v : ℕ) → slice_get queue k ≡ None → Waits queue k v → k ≤ length queue → ⊥
-  waits-end queue k v last waits within = elim (cases_lt k (length queue)) [
-    | inl less ↦ (let there = element queue k less in none-some there.0 (sym last ∙ there.1))
-    | inr past ↦ omega (arith, slice_get_within queue waits.place v waits.there, waits.from)
-  ]
+suffix-distinct : (xs later : List Point) → Distinct (passed (xs ++ later)) → Distinct (passed later)
+suffix-distinct [] later d = d
+suffix-distinct (x ∷ xs) later d = elim (cases_Bool x.behind) [
+  | inl behind ↦ suffix-distinct xs later (tail-distinct x.var (passed (xs ++ later)) (subst Distinct (passed-behind x (xs ++ later) behind) d))
+  | inr before ↦ suffix-distinct xs later (subst Distinct (passed-before x (xs ++ later) before) d)
+]
 
-  -- the sink is marked, and the walk keeps what it keeps
-  pub record Sweeping (r : Front) (k : ℕ) : Type 0 where
-    pub sweeps : Sweeps r k
-    pub sink : is_marked r 1 ≡ true
-
-  pub sweeping-start : (r : Front) → 1 < n → r ≡ reach no_front 1 → Sweeping r 0
-  sweeping-start r two e =
-      let goes = reach-goes no_front 0 1 sweeps-start two (0, refl) in
-      subst (λ (t : Front). Sweeping t 0) (sym e) (record { sweeps = goes.0.sweeps; sink = goes.1 })
-
-  not-true : (b : Bool) → b ≡ true → not b ≡ false
-  not-true true e = refl
-  not-true false e = absurd (cc)
-
-  not-false : (b : Bool) → not b ≡ false → b ≡ true
-  not-false true e = refl
-  not-false false e = absurd (cc)
-
-  -- where the queue is at its end, the marked nodes are those that reach the sink
-  pub sweeping-end : (r : Front) (k : ℕ) → Sweeping r k → slice_get r.queue k ≡ None → IsSourceSide n s (λ v. not (is_marked r v))
-  sweeping-end r k sweep last = λ v h. (
-    (λ e. sweep.sweeps.reaches v (not-false (is_marked r v) e)),
-    (λ way. not-true (is_marked r v) (walk way.0 v h way.1)),
-  )
-    where
-      read : (w : ℕ) → is_marked r w ≡ true → HasRead r w
-      read w e = elim (sweep.sweeps.pending w e) [ inl waits ↦ absurd (waits-end r.queue k w last waits sweep.sweeps.within) | inr done ↦ done ]
-
-      walk : (m v : ℕ) → v < n → Walk n s m v → is_marked r v ≡ true
-      walk zero v h e = ap (is_marked r) e ∙ sweep.sink
-      walk (suc m) v h t = read t.0 (walk m t.0 t.1.0 t.1.1.1) v h t.1.1.0
-
--- ---- the arcs of a node
-
-module _ (net : FlowNet) (ok : IsFlowNet net) (xs excess labels : List ℕ) where
-  abbrev pub state : State
-  state = record { res = pair net xs; excess = slice_index excess; label = slice_index labels }
-
-  -- the first k arcs of w are read
-  pub record HasReadArcs (t : Front) (w k : ℕ) : Type 0 where
-    pub each : (j : ℕ) → j < k → 0 < slice_index xs (mate net w j) → is_marked t (head net w j) ≡ true
-
-  arcs-go : (r : Front) (p w k : ℕ) → Sweeps (node_count net) state r p → w < node_count net → Reaches (node_count net) state w → k ≤ row_len net w
-      → Goes (node_count net) state p r (read_arcs net xs w k r) × HasReadArcs (read_arcs net xs w k r) w k
-  arcs-go r p w zero sweep h way l =
-      subst (λ (t : Front). Goes (node_count net) state p r t × HasReadArcs t w 0) (sym (arcs-none net xs w r))
-      (record { sweeps = sweep; grows = grows-self r }, record { each = λ j less. absurd (omega (arith, less)) })
-  arcs-go r p w (suc k) sweep h way l =
-      let before : Front = read_arcs net xs w k r in
-      let ih = arcs-go r p w k sweep h way (omega (arith, l)) in
-      let less : k < row_len net w = omega (arith, l) in
-      let P : Front → Type 0 = λ t. Goes (node_count net) state p r t × HasReadArcs t w (suc k) in
-      subst P (sym (arcs-more net xs w k r)) (elim (cases_Bool (nat_lt 0 (slice_index xs (mate net w k)))) [
-        | inl on ↦ (
-            let some : 0 < slice_index xs (mate net w k) = above on in
-            let pos : 0 < pair net xs (head net w k) w = subst (λ (x : ℕ). 0 < x) (sym (mate-pair net ok xs w k h less)) some in
-            let one = reach-goes (node_count net) state before p (head net w k) ih.0.sweeps (ok.heads_in w k h less) (suc way.0, (w, (h, (pos, way.1)))) in
-            subst P (sym (arc-on net xs w k before on)) (
-              record { sweeps = one.0.sweeps; grows = grows-then r before (reach before (head net w k)) ih.0.grows one.0.grows },
-              record {
-                each = λ j b q. elim (cases_eq j k) [
-                  | inl same ↦ ap (λ (i : ℕ). is_marked (reach before (head net w k)) (head net w i)) same ∙ one.1
-                  | inr other ↦ one.0.grows.marks (head net w j) (ih.1.each j (omega (arith, b, other)) q)
-                ];
-              },
-            ))
-        | inr off ↦ subst P (sym (arc-off net xs w k before off)) (
-          ih.0,
-          record {
-            each = λ j b q. elim (cases_eq j k) [
-              | inl same ↦ absurd (below off (subst (λ (i : ℕ). 0 < slice_index xs (mate net w i)) same q))
-              | inr other ↦ ih.1.each j (omega (arith, b, other)) q
-            ];
-          },
-        )
-      ])
-    where
-      above : {m : ℕ} → nat_lt 0 m ≡ true → 0 < m
-      above {m} e = elim (cases_lt 0 m) [ inl yes' ↦ yes' | inr no' ↦ (let clash : false ≡ true = sym (le-ltb 0 m no') ∙ e in absurd (cc)) ]
-
-      below : {m : ℕ} → nat_lt 0 m ≡ false → 0 < m → ⊥
-      below {m} e h = let clash : true ≡ false = sym (lt-ltb 0 m h) ∙ e in absurd (cc)
-
-  -- one more node is read
-  pub sweeping-more : (r t : Front) (k w : ℕ) → Sweeping (node_count net) state r k → slice_get r.queue k ≡ Some w → t ≡ read_arcs net xs w (row_len net w) r
-      → Sweeping (node_count net) state t (k + 1)
-  sweeping-more r t k w sweep there e =
-      let marked : is_marked r w ≡ true = sweep.sweeps.queued k w there in
-      let h : w < node_count net = omega (arith, marked-within r w marked, sweep.sweeps.as_long) in
-      let after : Front = read_arcs net xs w (row_len net w) r in
-      let go = arcs-go r k w (row_len net w) sweep.sweeps h (sweep.sweeps.reaches w marked) (omega arith) in
-      let read : HasRead (node_count net) state after w = λ v l p.
-      let m = pair-mate net ok xs v w l h p in
-      subst (λ (u : ℕ). is_marked after u ≡ true) m.1.1.0 (go.1.each m.0 m.1.0 m.1.1.1) in
-      subst (λ (f : Front). Sweeping (node_count net) state f (k + 1)) (sym e) (record {
-        sweeps = sweeps-next (node_count net) state after k w go.0.sweeps (go.0.grows.queue k w there) read;
-        sink = go.0.grows.marks 1 sweep.sink;
-      })
-
--- ---- a loop's next turn
-
-pub arcs-step-on : (net : FlowNet) (xs : List ℕ) (w k : ℕ) (start before after : Front) → nat_lt 0 (slice_index xs (mate net w k)) ≡ true → before ≡ read_arcs net xs w k start → after ≡ reach before (head net w k)
-    → after ≡ read_arcs net xs w (k + 1) start
-arcs-step-on net xs w k start before after on e step =
-    let next : k + 1 ≡ suc k = omega arith in
-    step ∙ sym (arc-on net xs w k before on) ∙ ap (read_arc net xs w k) e ∙ sym (arcs-more net xs w k start) ∙ ap (λ (j : ℕ). read_arcs net xs w j start) (sym next)
-
-pub arcs-step-off : (net : FlowNet) (xs : List ℕ) (w k : ℕ) (start before after : Front) → nat_lt 0 (slice_index xs (mate net w k)) ≡ false → before ≡ read_arcs net xs w k start → after ≡ before
-    → after ≡ read_arcs net xs w (k + 1) start
-arcs-step-off net xs w k start before after off e step =
-    let next : k + 1 ≡ suc k = omega arith in
-    step ∙ sym (arc-off net xs w k before off) ∙ ap (read_arc net xs w k) e ∙ sym (arcs-more net xs w k start) ∙ ap (λ (j : ℕ). read_arcs net xs w j start) (sym next)
+-- a walk that has come back to a point goes on as it did the first time
+pub walking-cut : (c : Netlist) (held : List ℕ) (net : FlowNet) (past : List ℕ) (reached : ℕ) (xs : List ℕ) (at : ℕ) (front : List Point) (q : Point) (rest : List Point) → point_of net at ≡ Some q
+    → Walking c held net past reached xs at (front ++ q ∷ rest) → Walking c held net past reached xs at rest
+walking-cut c held net past reached xs at front q rest here walking =
+    let still : (v : ℕ) → has (passed rest) v ≡ true → has (passed (front ++ q ∷ rest)) v ≡ true = λ v member. suffix-passed front (q ∷ rest) v (suffix-passed (q ∷ []) rest v member) in
+    record {
+      holds = walking.holds;
+      node = walking.node;
+      inner = walking.inner;
+      goes = λ p e. subst (λ (r : Point). goes_on c held r rest ≡ true) (same_Some q p (sym here ∙ e)) (suffix-goes c held front q rest q (walking.goes q here));
+      begun = λ none. absurd (none-some q (sym (ap (point_of net) none) ∙ here));
+      apart = suffix-distinct (q ∷ []) rest (suffix-distinct front (q ∷ rest) walking.apart);
+      off = λ v member. walking.off v (still v member);
+      spent = λ v either. elim either [
+        | inl member ↦ walking.spent v (inl (still v member))
+        | inr earlier ↦ walking.spent v (inr earlier)
+      ];
+      count = walking.count;
+    }

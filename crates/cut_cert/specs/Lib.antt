@@ -1,2 +1,4 @@
-pub mod Walk
+pub mod SinkWalk
 pub mod Gates
+pub mod Shown
+pub mod Walks

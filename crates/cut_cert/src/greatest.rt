@@ -1,11 +1,11 @@
 //! The gates of the source's side of the greatest least cut.
 ghost use Rattle.std.specs.Prelude.{◌≡◌, ℕ, ◌<◌, IfOk, List, [], length, not};
-ghost use Rattle.aig_graph.specs.Circuits.{Network};
+ghost use Rattle.aig_graph.specs.Circuits.{Netlist};
 ghost use Rattle.aig_graph.specs.Border.{IsGreatestLeast};
 ghost use Rattle.frame_net.specs.FlowNet.{node_count};
-ghost use Rattle.frame_cuts.specs.Cuts.{IsNetwork};
+ghost use Rattle.frame_cuts.specs.Cuts.{IsNetworkOf};
 ghost use Rattle.pulse.specs.Conditions.{IsMaxPreflow};
-ghost use Rattle.cut_cert.specs.Walk.{is_marked};
+ghost use Rattle.cut_cert.specs.SinkWalk.{is_marked};
 ghost use Rattle.cut_cert.specs.Gates.{gate_of, gates_below};
 
 use crate::sink_side::{SinkSide, sink_side};
@@ -48,7 +48,7 @@ fn gates_of(alloc: Global, net: &Net, side: &SinkSide) -> Result<Vec<u32>, NoMem
 /// Linear in the network.
 pub fn greatest_cut(alloc: Global, net: &Net, preflow: &MaxPreflow) -> Result<ClosedSet, NoMemory>
     requires { IsMaxPreflow net.now preflow.now }
-    ensures { IfOk result (λ set. (c : Network) (held : List ℕ) → IsNetwork c held net.now → IsGreatestLeast c held set) }
+    ensures { IfOk result (λ set. (c : Netlist) (held : List ℕ) → IsNetworkOf c held net.now → IsGreatestLeast c held set) }
 {
     let side = sink_side(alloc, net, preflow)?;
     let gates = gates_of(alloc, net, &side)?;

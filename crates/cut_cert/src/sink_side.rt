@@ -3,7 +3,7 @@ ghost use Rattle.std.specs.Prelude.{◌≡◌, ◌<◌, IfOk, OnOk, [], false, l
 ghost use Rattle.flow_theory.specs.Flow.{IsSourceSide};
 ghost use Rattle.frame_net.specs.FlowNet.{node_count, row_len};
 ghost use Rattle.pulse.specs.Conditions.{IsMaxPreflow, state_of};
-ghost use Rattle.cut_cert.specs.Walk.{is_marked, reach, read_arc, read_arcs};
+ghost use Rattle.cut_cert.specs.SinkWalk.{is_marked, reach, read_arc, read_arcs};
 
 use aig_graph::NoMemory;
 use frame_net::Net;
@@ -20,7 +20,7 @@ pub(crate) struct SinkSide {
 }
 
 impl Model for SinkSide {
-    ghost use Rattle.cut_cert.specs.Walk.{Front};
+    ghost use Rattle.cut_cert.specs.SinkWalk.{Front};
 
     ghost Value = { Front };
 

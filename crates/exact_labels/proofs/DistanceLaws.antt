@@ -4,8 +4,8 @@ use Rattle.std.proofs.lemmas.Bool.{cases_lt, cases_Bool, lt-ltb, le-ltb, eqb-tru
 use Rattle.flow_theory.specs.Flow.{State, Walk, least_below}
 use Rattle.flow_theory.specs.Laws.{IsDistance}
 use Rattle.flow_theory.proofs.Sums.{least_below-le, least_below-le_start}
-use Rattle.flow_parts.specs.Parts.{Agree}
-use Rattle.parted_flow.proofs.ActiveLemmas.{any_from, some_at}
+use Rattle.flow_part.specs.Parts.{Agree}
+use Rattle.flow_whole.proofs.ActiveLemmas.{any_from, some_at}
 use Rattle.exact_labels.specs.Distances.{reaches_in, distance, exact}
 
 -- a least below its bound is some number's

@@ -6,10 +6,10 @@ use Rattle.flow_theory.specs.Flow.{State, pulse, is_active, potential}
 use Rattle.flow_theory.proofs.Pushes.{Active, active, is_active-true}
 use Rattle.flow_theory.proofs.Exact.{exact-rises, exact-valid, exact-potential}
 use Rattle.frame_net.specs.FlowNet.{FlowNet, node_count, IsFlowNet}
-use Rattle.flow_parts.specs.Parts.{Agree, IsSound}
-use Rattle.parted_flow.specs.Runs.{any_active}
-use Rattle.parted_flow.proofs.Agreeing.{agree_pulse, agree_then, sound_same, sound_pulse}
-use Rattle.parted_flow.proofs.ActiveLemmas.{work, work_same, work_falls, work_bound, any_from, some_at, none_at, any_active_same}
+use Rattle.flow_part.specs.Parts.{Agree, IsSound}
+use Rattle.flow_whole.specs.Runs.{any_active}
+use Rattle.flow_whole.proofs.Agreeing.{agree_pulse, agree_then, sound_same, sound_pulse}
+use Rattle.flow_whole.proofs.ActiveLemmas.{work, work_same, work_falls, work_bound, any_from, some_at, none_at, any_active_same}
 use Rattle.exact_labels.specs.Distances.{distance, exact}
 use Rattle.exact_labels.specs.Runs.{after_pulse, run_state, IsRun}
 use Rattle.exact_labels.proofs.DistanceLaws.{distance_is, exact_same}

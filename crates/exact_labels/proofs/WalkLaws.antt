@@ -6,7 +6,7 @@ use Rattle.flow_theory.specs.Flow.{State, Walk, sum_below}
 use Rattle.flow_theory.specs.Laws.{IsDistance}
 use Rattle.flow_theory.proofs.Sums.{sum_below-same, sum_below-le_const}
 use Rattle.frame_net.specs.FlowNet.{FlowNet, IsFlowNet, node_count, row_len, head, mate}
-use Rattle.flow_parts.specs.Parts.{Cells, pair, pairs}
+use Rattle.flow_part.specs.Parts.{Cells, pair, pairs}
 use Rattle.exact_labels.proofs.ArcLaws.{mate-pair, pair-mate}
 use Rattle.exact_labels.specs.Walks.{IsRead, Sweeps}
 

@@ -2,7 +2,7 @@
 use Rattle.std.specs.Prelude.{◌≡◌, ◌==◌, ℕ, ◌<◌, zero, suc, ◌&&◌, nat_lt, cond, Bool}
 use Rattle.flow_theory.specs.Flow.{State, least_below}
 use Rattle.flow_theory.specs.Laws.{IsDistance}
-use Rattle.parted_flow.specs.Runs.{any_below}
+use Rattle.flow_whole.specs.Runs.{any_below}
 
 -- whether some walk of k residual arcs leads from v to the sink
 abbrev pub reaches_in : ℕ → State → ℕ → ℕ → Bool

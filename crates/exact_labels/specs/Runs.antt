@@ -2,8 +2,8 @@
 use Rattle.std.specs.Prelude.{◌≡◌, ◌==◌, ℕ, zero, suc, ◌*◌, ◌%◌, ◌<◌, ◌≤◌, ◌&&◌, true, false, if◌then◌else◌}
 use Rattle.flow_theory.specs.Flow.{State, pulse, is_active}
 use Rattle.frame_net.specs.FlowNet.{FlowNet, node_count}
-use Rattle.flow_parts.specs.Parts.{Agree, IsSound}
-use Rattle.parted_flow.specs.Runs.{any_active}
+use Rattle.flow_part.specs.Parts.{Agree, IsSound}
+use Rattle.flow_whole.specs.Runs.{any_active}
 use Rattle.exact_labels.specs.Distances.{exact}
 
 -- what the state after the k-th pulse becomes: after every n-th pulse that leaves a node active the labels become exact

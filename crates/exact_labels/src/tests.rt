@@ -2,8 +2,8 @@
 
 use crate::exact_labels;
 use aig_graph::{Aig, AigBuilder, BuildError, Keep, Lit, NoMemory, Props, Reset};
+use flow_whole::start_parts;
 use frame_net::{Net, passable};
-use parted_flow::start_parts;
 use std::alloc::{AllocError, Global};
 use std::test::Fail;
 

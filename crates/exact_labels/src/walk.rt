@@ -2,10 +2,10 @@
 ghost use Rattle.std.specs.Prelude.{◌≡◌, ℕ, ◌+◌, ◌<◌, ◌≤◌, [], length, slice_index};
 ghost use Rattle.flow_theory.specs.Laws.{IsDistance};
 ghost use Rattle.frame_net.specs.FlowNet.{node_count};
-ghost use Rattle.flow_parts.specs.Parts.{AreFlowParts, cells_of, pairs};
+ghost use Rattle.flow_part.specs.Parts.{AreFlowParts, cells_of, pairs};
 ghost use Rattle.exact_labels.specs.Walks.{Sweeps};
 
-use flow_parts::{FlowPart, residual_at};
+use flow_part::{FlowPart, residual_at};
 use frame_net::Net;
 
 /// Reads the node at a place of the queue: each node with a residual arc to it that has no label gets one more than its label, and

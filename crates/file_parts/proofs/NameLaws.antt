@@ -11,11 +11,11 @@ use Rattle.std.proofs.lemmas.Bool.{ltb-true, ne_eqb, eq-eqb, eqb-true, eqb-false
 use Rattle.std.proofs.lemmas.List.Sums.{fold-append}
 use Rattle.aig_graph.specs.declared.properties.Symbol.{Symbol}
 use Rattle.aig_graph.specs.declared.properties.Symbols.{Symbols}
-use Rattle.aag_file.specs.declared.raw.SymbolKind.{SymbolKind}
-use Rattle.aag_file.specs.declared.raw.SymbolKind.TheVariants.{Input, Latch, Output, Bad, Constraint, Justice, Fairness}
-use Rattle.aag_file.specs.Raw.{RawSymbol, kind_number}
-use Rattle.aag_file.specs.Meaning.{with_name, with_symbol, names_of, symbols_of}
-use Rattle.aag_file.specs.Reading.{is_of_same}
+use Rattle.ascii_file.specs.declared.raw.SymbolKind.{SymbolKind}
+use Rattle.ascii_file.specs.declared.raw.SymbolKind.TheVariants.{Input, Latch, Output, Bad, Constraint, Justice, Fairness}
+use Rattle.ascii_file.specs.Raw.{RawSymbol, kind_number}
+use Rattle.ascii_file.specs.Meaning.{with_name, with_symbol, names_of, symbols_of}
+use Rattle.ascii_file.specs.Reading.{is_of_same}
 use Rattle.file_parts.specs.Names.{symbol_at, with_new, symbols_in, has_position, names_in, with_symbol_in, AreNamesOf}
 
 -- ---- a map by position

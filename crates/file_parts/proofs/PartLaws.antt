@@ -11,16 +11,16 @@ use Rattle.std.proofs.lemmas.List.Elements.{All-take, All-drop}
 use Rattle.aig_graph.specs.declared.properties.Symbol.{Symbol}
 use Rattle.aig_graph.specs.declared.properties.Symbols.{Symbols}
 use Rattle.aig_graph.specs.Graph.{Graph, IsLiteralOf}
-use Rattle.aig_graph.specs.Circuits.{IsNetwork, AreLiteralsOf, AreNamesBelow}
-use Rattle.aag_file.specs.declared.header.Header.{Header}
-use Rattle.aag_file.specs.declared.raw.SymbolKind.{SymbolKind}
-use Rattle.aag_file.specs.declared.raw.SymbolKind.TheVariants.{Input, Latch, Output, Bad, Constraint, Justice, Fairness}
-use Rattle.aag_file.specs.Raw.{RawSymbol, kind_number, count_of, safety_count}
-use Rattle.aag_file.specs.Meaning.{with_name, with_symbol, names_of, symbols_of, split_by, props_of}
-use Rattle.aag_file.specs.Reading.{is_of_same}
+use Rattle.aig_graph.specs.Circuits.{IsNetlist, AreLiteralsOf, AreNamesBelow}
+use Rattle.ascii_file.specs.declared.header.Header.{Header}
+use Rattle.ascii_file.specs.declared.raw.SymbolKind.{SymbolKind}
+use Rattle.ascii_file.specs.declared.raw.SymbolKind.TheVariants.{Input, Latch, Output, Bad, Constraint, Justice, Fairness}
+use Rattle.ascii_file.specs.Raw.{RawSymbol, kind_number, count_of, safety_count}
+use Rattle.ascii_file.specs.Meaning.{with_name, with_symbol, names_of, symbols_of, split_by, props_of}
+use Rattle.ascii_file.specs.Reading.{is_of_same}
 use Rattle.file_parts.specs.Names.{symbol_at, symbols_in, has_position}
 use Rattle.file_parts.specs.Lists.{Lists}
-use Rattle.file_parts.specs.Parts.{AreNamesWithin, NetworkLaw}
+use Rattle.file_parts.specs.Parts.{AreNamesWithin, NetlistLaw}
 use Rattle.file_parts.proofs.NameLaws.{position-with_symbol, or_first, or_second}
 
 -- ---- all of a list, by recursion and by index
@@ -192,9 +192,9 @@ pub record AreInRange (h : Header) (g : Graph) (l : Lists) : Type 0 where
   pub safety_literals : AreLiteralsOf g l.safety
   pub liveness_literals : AreLiteralsOf g l.liveness
 
-pub network_within : (h : Header) (g : Graph) (l : Lists) (names : Symbols) → AreInRange h g l → AreNamesWithin h names → IsNetwork (record { aig = g; props = props_of h l.safety l.sizes l.liveness; symbols = names })
+pub netlist_within : (h : Header) (g : Graph) (l : Lists) (names : Symbols) → AreInRange h g l → AreNamesWithin h names → IsNetlist (record { aig = g; props = props_of h l.safety l.sizes l.liveness; symbols = names })
 unfolding props_of
-network_within h g l names parts are = record {
+netlist_within h g l names parts are = record {
   props = record {
     outputs = All-take (IsLiteralOf g) h.outputs l.safety parts.safety_literals;
     bad = All-take (IsLiteralOf g) h.bad (drop h.outputs l.safety) (All-drop (IsLiteralOf g) h.outputs l.safety parts.safety_literals);
@@ -213,9 +213,9 @@ network_within h g l names parts are = record {
   };
 }
 
-pub network : (h : Header) (g : Graph) (symbols : List RawSymbol) (l : Lists) → NetworkLaw h g symbols l
-network h g symbols l parts =
-    network_within h g l (symbols_of symbols) (record {
+pub netlist : (h : Header) (g : Graph) (symbols : List RawSymbol) (l : Lists) → NetlistLaw h g symbols l
+netlist h g symbols l parts =
+    netlist_within h g l (symbols_of symbols) (record {
       inputs = parts.inputs;
       latches = parts.latches;
       safety = parts.safety;

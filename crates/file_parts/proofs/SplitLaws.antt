@@ -3,8 +3,8 @@ use Rattle.std.proofs.Common.{ℕ, ◌+◌, ◌-◌, ◌<◌, ◌≤◌, ◌≡�
 use Rattle.std.specs.List.{sum}
 use Rattle.std.proofs.lemmas.List.{length-drop, drop_more}
 use Rattle.std.proofs.lemmas.List.Sums.{sum_by-drop_more}
-use Rattle.aag_file.specs.declared.header.Header.{Header}
-use Rattle.aag_file.specs.Meaning.{split_by, props_of}
+use Rattle.ascii_file.specs.declared.header.Header.{Header}
+use Rattle.ascii_file.specs.Meaning.{split_by, props_of}
 
 -- one list more is split off
 pub split_more : (sizes : List ℕ) (i : ℕ) (rest others lits : List ℕ) (before after whole : List (List ℕ)) → i < length sizes → before ++ split_by (drop i sizes) rest ≡ whole

@@ -3,10 +3,10 @@ use Rattle.std.specs.Prelude.{ℕ, ◌≡◌, ◌==◌, Bool, List, [], ◌∷�
 use Rattle.std.specs.List.{list_any}
 use Rattle.aig_graph.specs.declared.properties.Symbol.{Symbol}
 use Rattle.aig_graph.specs.declared.properties.Symbols.{Symbols}
-use Rattle.aag_file.specs.declared.raw.SymbolKind.{SymbolKind}
-use Rattle.aag_file.specs.declared.raw.SymbolKind.TheVariants.{Input, Latch, Output, Bad, Constraint, Justice, Fairness}
-use Rattle.aag_file.specs.Raw.{RawSymbol}
-use Rattle.aag_file.specs.Meaning.{with_symbol, symbols_of}
+use Rattle.ascii_file.specs.declared.raw.SymbolKind.{SymbolKind}
+use Rattle.ascii_file.specs.declared.raw.SymbolKind.TheVariants.{Input, Latch, Output, Bad, Constraint, Justice, Fairness}
+use Rattle.ascii_file.specs.Raw.{RawSymbol}
+use Rattle.ascii_file.specs.Meaning.{with_symbol, symbols_of}
 
 -- the symbol of a kind, a position and a name
 abbrev pub symbol_at : SymbolKind → ℕ → List ℕ → RawSymbol

@@ -3,11 +3,11 @@ use Rattle.std.specs.Prelude.{◌≡◌, ◌+◌, ◌<◌, false, List, length, 
 use Rattle.std.specs.List.{sum}
 use Rattle.aig_graph.specs.Graph.{Graph}
 use Rattle.aig_graph.specs.declared.properties.Symbols.{Symbols}
-use Rattle.aig_graph.specs.Circuits.{AreNamesBelow, Network, IsNetwork, AreLiteralsOf}
-use Rattle.aag_file.specs.declared.header.Header.{Header}
-use Rattle.aag_file.specs.Raw.{RawSymbol, safety_count, count_of}
-use Rattle.aag_file.specs.Reading.{is_of_same}
-use Rattle.aag_file.specs.Meaning.{props_of, symbols_of}
+use Rattle.aig_graph.specs.Circuits.{AreNamesBelow, Netlist, IsNetlist, AreLiteralsOf}
+use Rattle.ascii_file.specs.declared.header.Header.{Header}
+use Rattle.ascii_file.specs.Raw.{RawSymbol, safety_count, count_of}
+use Rattle.ascii_file.specs.Reading.{is_of_same}
+use Rattle.ascii_file.specs.Meaning.{props_of, symbols_of}
 use Rattle.file_parts.specs.Lists.{Lists}
 
 -- as many of each kind as the header says, literals of the graph, and symbols that name a thing of their own
@@ -23,12 +23,12 @@ pub record AreParts (h : Header) (g : Graph) (symbols : List RawSymbol) (l : Lis
   pub apart : AllPairs (λ symbol other. is_of_same other symbol ≡ false) symbols
 
 -- the circuit of a graph, the properties' literals and the symbols
-abbrev pub network_of : Header → Graph → List RawSymbol → Lists → Network
-network_of h g symbols l = record { aig = g; props = props_of h l.safety l.sizes l.liveness; symbols = symbols_of symbols }
+abbrev pub netlist_of : Header → Graph → List RawSymbol → Lists → Netlist
+netlist_of h g symbols l = record { aig = g; props = props_of h l.safety l.sizes l.liveness; symbols = symbols_of symbols }
 
 -- these parts make a circuit
-abbrev pub NetworkLaw : Header → Graph → List RawSymbol → Lists → Type 0
-NetworkLaw h g symbols l = AreParts h g symbols l → IsNetwork (network_of h g symbols l)
+abbrev pub NetlistLaw : Header → Graph → List RawSymbol → Lists → Type 0
+NetlistLaw h g symbols l = AreParts h g symbols l → IsNetlist (netlist_of h g symbols l)
 
 -- names by rising position, as many as the header counts at most
 pub record AreNamesWithin (h : Header) (names : Symbols) : Type 0 where

@@ -1,10 +1,10 @@
 ghost use Rattle.std.specs.Prelude.{◌≡◌, ◌+◌, ◌<◌, ◌≤◌, ◌^◌, length, take, drop, All, IfOk};
 ghost use Rattle.std.specs.List.{sum};
-ghost use Rattle.aag_file.specs.Raw.{safety_count};
-ghost use Rattle.aag_file.specs.Meaning.{props_of, split_by};
+ghost use Rattle.ascii_file.specs.Raw.{safety_count};
+ghost use Rattle.ascii_file.specs.Meaning.{props_of, split_by};
 
-use aag_file::Header;
 use aig_graph::{Lit, NoMemory, Props, Sequence};
+use ascii_file::Header;
 use std::alloc::Global;
 
 /// The literals with these numbers.

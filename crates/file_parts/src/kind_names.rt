@@ -35,7 +35,7 @@ fn are_keys_below(names: &BTreeMap<u32, Sequence<u8>>, count: u32) -> bool
 impl KindNames {
     ghost use Rattle.std.specs.Prelude.{◌≡◌, ◌↔◌, [], not, IsTrue, IfOk, OnErr, if◌then◌else◌};
     ghost use Rattle.aig_graph.specs.Circuits.{AreNamesBelow};
-    ghost use Rattle.aag_file.specs.Meaning.{with_name};
+    ghost use Rattle.ascii_file.specs.Meaning.{with_name};
     ghost use Rattle.file_parts.specs.Names.{has_position};
 
     /// No name. Takes no memory.

@@ -9,7 +9,7 @@ mod lists;
 mod names;
 
 pub use by_kind::props;
-pub use laws::network_law;
+pub use laws::netlist_law;
 pub use lists::PropertyLists;
 pub use names::Names;
 

@@ -1,6 +1,6 @@
 use crate::by_kind::props;
-use aag_file::Header;
 use aig_graph::{NoMemory, Props};
+use ascii_file::Header;
 use std::alloc::Global;
 use std::marker::Model;
 
@@ -30,8 +30,8 @@ impl Model for PropertyLists {
 impl PropertyLists {
     ghost use Rattle.std.specs.Prelude.{◌≡◌, ◌+◌, ◌<◌, ◌^◌, ◌++◌, ◌∷◌, [], length, All, IfOk, OnOk, OnErr};
     ghost use Rattle.std.specs.List.{sum};
-    ghost use Rattle.aag_file.specs.Raw.{safety_count};
-    ghost use Rattle.aag_file.specs.Meaning.{props_of};
+    ghost use Rattle.ascii_file.specs.Raw.{safety_count};
+    ghost use Rattle.ascii_file.specs.Meaning.{props_of};
     ghost use Rattle.file_parts.specs.Lists.{no_lists};
 
     /// No property. Takes no memory.

@@ -1,6 +1,6 @@
 use crate::kind_names::KindNames;
-use aag_file::{Header, SymbolKind};
 use aig_graph::{NoMemory, Sequence, Symbols};
+use ascii_file::{Header, SymbolKind};
 use std::alloc::Global;
 use std::marker::Model;
 
@@ -27,8 +27,8 @@ impl Model for Names {
 impl Names {
     ghost use Rattle.std.specs.Prelude.{List, [], ◌≡◌, ◌↔◌, not, IsTrue, IfOk, OnErr, if◌then◌else◌};
     ghost use Rattle.std.specs.List.{list_any};
-    ghost use Rattle.aag_file.specs.Raw.{RawSymbol};
-    ghost use Rattle.aag_file.specs.Reading.{is_of_same};
+    ghost use Rattle.ascii_file.specs.Raw.{RawSymbol};
+    ghost use Rattle.ascii_file.specs.Reading.{is_of_same};
     ghost use Rattle.file_parts.specs.Parts.{AreNamesWithin};
     ghost use Rattle.file_parts.specs.Names.{AreNamesOf, symbol_at, with_new, has_position, names_in, with_symbol_in};
 

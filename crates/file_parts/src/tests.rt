@@ -1,8 +1,8 @@
 ghost use Rattle.std.specs.Prelude.{◌≡◌, ◌∷◌, [], IfOk};
 
 use crate::{Names, PropertyLists};
-use aag_file::{Header, SymbolKind};
 use aig_graph::{NoMemory, Sequence, Symbols};
+use ascii_file::{Header, SymbolKind};
 use std::alloc::Global;
 use std::test::Fail;
 

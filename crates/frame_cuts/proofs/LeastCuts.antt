@@ -9,7 +9,7 @@ use Rattle.variable_tables.specs.Marking.{has}
 use Rattle.variable_tables.proofs.PlacesLemmas.{count-fail}
 use Rattle.aig_graph.specs.declared.graph.Latch.{Latch}
 use Rattle.aig_graph.specs.Graph.{first_gate, variables_end, latch_at, is_known}
-use Rattle.aig_graph.specs.Circuits.{Network}
+use Rattle.aig_graph.specs.Circuits.{Netlist}
 use Rattle.aig_graph.specs.Closed.{IsClosedSet}
 use Rattle.aig_graph.specs.Move.{move_of}
 use Rattle.aig_graph.specs.Border.{border_size, IsLeast, IsGreatestLeast}
@@ -20,7 +20,7 @@ use Rattle.aig_graph.proofs.SetLemmas.{has_iff_contains}
 use Rattle.frame_net.specs.FlowNet.{FlowNet, node_count, capacity_between}
 use Rattle.frame_net.specs.Capacity.{has_node, latch_count}
 use Rattle.frame_net.proofs.NodeLaws.{has_node-latch}
-use Rattle.frame_cuts.specs.Cuts.{NoGreatLeaves, AreGatesOf, IsNetwork, leaving, GreatestCutIsGreatestSet}
+use Rattle.frame_cuts.specs.Cuts.{NoGreatLeaves, AreGatesOf, IsNetworkOf, leaving, GreatestCutIsGreatestSet}
 use Rattle.frame_cuts.proofs.CutLaws.{true_false, count-more}
 use Rattle.frame_cuts.proofs.NetLaws.{cuts_are_closed-law}
 use Rattle.frame_cuts.proofs.SetCuts.{at_border, closed_sets_are_cuts-law}
@@ -36,7 +36,7 @@ count-front p q m (suc n) h only = elim (cases_eq m (suc n)) [
 ]
 
 -- the border of the empty set has at most the known latches
-pub empty-border : (c : Network) (held : List ℕ) → border_size (move_of c held []) ≤ latch_count c.aig held
+pub empty-border : (c : Netlist) (held : List ℕ) → border_size (move_of c held []) ≤ latch_count c.aig held
 empty-border c held = subst (λ (n : ℕ). n ≤ latch_count c.aig held) (sym (closed-border_size c held [] (empty-closed c.aig held))) (count-front (at_border c.aig c.props held []) (has_node c.aig held) (first_gate c.aig) (variables_end c.aig) (omega arith) (λ v e.
     let known : is_known (latch_at c.aig v) ≡ true = first (is_known (latch_at c.aig v)) _ e in
     elim (cases_lt v (first_gate c.aig)) [
@@ -59,7 +59,7 @@ arc-counts n capacity side x y h k a b =
       term-le-sum_below n x (λ v. sum_below n (λ w. cond (side v && not (side w)) (capacity v w) 0)) h,
     )
 
-module _ (c : Network) (held : List ℕ) (net : FlowNet) (side : ℕ → Bool) (s : List ℕ) (is : IsNetwork c held net)
+module _ (c : Netlist) (held : List ℕ) (net : FlowNet) (side : ℕ → Bool) (s : List ℕ) (is : IsNetworkOf c held net)
     (least : IsGreatestLeastCut (node_count net) (capacity_between net) side) (gates : AreGatesOf net side s) where
   small : leaving net side ≤ latch_count c.aig held
   small =

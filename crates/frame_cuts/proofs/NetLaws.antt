@@ -5,7 +5,7 @@ use Rattle.flow_theory.specs.Flow.{IsCut, cut_value}
 use Rattle.flow_theory.proofs.Cuts.{between-same}
 use Rattle.variable_tables.specs.Marking.{has}
 use Rattle.aig_graph.specs.Graph.{Graph, first_gate, variables_end}
-use Rattle.aig_graph.specs.Circuits.{Network}
+use Rattle.aig_graph.specs.Circuits.{Netlist}
 use Rattle.aig_graph.specs.Closed.{IsClosedSet}
 use Rattle.aig_graph.specs.Move.{move_of}
 use Rattle.aig_graph.specs.Border.{border_size}
@@ -17,7 +17,7 @@ use Rattle.frame_net.specs.Capacity.{has_node, node_variables, latch_count, grea
 use Rattle.frame_net.proofs.PassableLaws.{passable-means}
 use Rattle.frame_net.proofs.NodeLaws.{has_node-gate, rank-gate, rank-below, at-latch, at-before, at-after, View, view}
 use Rattle.frame_net.proofs.NodeLaws.View.{the_source, the_sink, a_latch, a_before, an_after}
-use Rattle.frame_cuts.specs.Cuts.{NoGreatLeaves, AreGatesOf, IsNetwork, leaving, CutsAreClosed}
+use Rattle.frame_cuts.specs.Cuts.{NoGreatLeaves, AreGatesOf, IsNetworkOf, leaving, CutsAreClosed}
 use Rattle.aig_graph.proofs.KindLaws.{GatePlace, gate_place}
 use Rattle.frame_cuts.proofs.CutLaws.{closed, border-below}
 
@@ -27,7 +27,7 @@ gate-range g held v passes =
     let place : GatePlace g v t.0 = gate_place g v t.0 t.1 in
     (place.from, place.below)
 
-module _ (c : Network) (held : List ℕ) (net : FlowNet) (is : IsNetwork c held net) where
+module _ (c : Netlist) (held : List ℕ) (net : FlowNet) (is : IsNetworkOf c held net) where
   pub nodes : node_count net ≡ node_total c.aig held
   nodes = omega (arith, is.points.each, is.points.among, is.is_net.latches, ap (λ (xs : List ℕ). length xs) is.is_net.variables)
 

@@ -5,7 +5,7 @@ use Rattle.flow_theory.specs.Flow.{IsCut, cut_value}
 use Rattle.flow_theory.specs.Laws.{IsGreatestLeastCut}
 use Rattle.variable_tables.specs.Marking.{has}
 use Rattle.aig_graph.specs.Graph.{IsGraph}
-use Rattle.aig_graph.specs.Circuits.{Network}
+use Rattle.aig_graph.specs.Circuits.{Netlist}
 use Rattle.aig_graph.specs.Closed.{IsClosedSet}
 use Rattle.aig_graph.specs.Move.{move_of}
 use Rattle.aig_graph.specs.Border.{border_size, IsGreatestLeast}
@@ -22,7 +22,7 @@ pub record AreGatesOf (net : FlowNet) (side : ℕ → Bool) (s : List ℕ) : Typ
   pub each : (v : ℕ) → (has s v ≡ true) ↔ ((n : ℕ) × ((n < node_count net) × ((side n ≡ true) × (point_of net n ≡ Some (record { var = v; behind = false })))))
 
 -- the network is that of a circuit and its held latches
-pub record IsNetwork (c : Network) (held : List ℕ) (net : FlowNet) : Type 0 where
+pub record IsNetworkOf (c : Netlist) (held : List ℕ) (net : FlowNet) : Type 0 where
   pub valid : IsGraph c.aig
   pub is_net : IsNetOf c.aig c.props held net
   pub points : HasPoints net
@@ -33,20 +33,20 @@ leaving net side = cut_value (node_count net) (capacity_between net) side
 
 -- a set of nodes that no arc of the great capacity leaves has a closed set as its gates, and its border is no larger than the cut
 abbrev pub CutsAreClosed : Type 0
-CutsAreClosed = (c : Network) (held : List ℕ) (net : FlowNet) (side : ℕ → Bool) (s : List ℕ) → IsNetwork c held net → IsCut side → NoGreatLeaves net side → AreGatesOf net side s
+CutsAreClosed = (c : Netlist) (held : List ℕ) (net : FlowNet) (side : ℕ → Bool) (s : List ℕ) → IsNetworkOf c held net → IsCut side → NoGreatLeaves net side → AreGatesOf net side s
     → IsClosedSet c.aig held s × (border_size (move_of c held s) ≤ leaving net side)
 
 -- a cut for a closed set, with as many arcs leaving it as its border has variables
-pub record IsCutOf (c : Network) (held : List ℕ) (net : FlowNet) (s : List ℕ) (side : ℕ → Bool) : Type 0 where
+pub record IsCutOf (c : Netlist) (held : List ℕ) (net : FlowNet) (s : List ℕ) (side : ℕ → Bool) : Type 0 where
   pub is_cut : IsCut side
   pub no_great : NoGreatLeaves net side
   pub gates : AreGatesOf net side s
   pub count : leaving net side ≡ border_size (move_of c held s)
 
 abbrev pub ClosedSetsAreCuts : Type 0
-ClosedSetsAreCuts = (c : Network) (held : List ℕ) (net : FlowNet) (s : List ℕ) → IsNetwork c held net → IsClosedSet c.aig held s → (side : ℕ → Bool) × IsCutOf c held net s side
+ClosedSetsAreCuts = (c : Netlist) (held : List ℕ) (net : FlowNet) (s : List ℕ) → IsNetworkOf c held net → IsClosedSet c.aig held s → (side : ℕ → Bool) × IsCutOf c held net s side
 
 -- the gates of the greatest least cut are the greatest least set
 abbrev pub GreatestCutIsGreatestSet : Type 0
-GreatestCutIsGreatestSet = (c : Network) (held : List ℕ) (net : FlowNet) (side : ℕ → Bool) (s : List ℕ) → IsNetwork c held net
+GreatestCutIsGreatestSet = (c : Netlist) (held : List ℕ) (net : FlowNet) (side : ℕ → Bool) (s : List ℕ) → IsNetworkOf c held net
     → IsGreatestLeastCut (node_count net) (capacity_between net) side → AreGatesOf net side s → IsGreatestLeast c held s

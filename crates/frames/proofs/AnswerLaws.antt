@@ -1,18 +1,18 @@
 -- An answer rests on the bytes and the options alone.
 use Rattle.std.proofs.Common.{ℕ, ◌≡◌, List, Option, Some, Result, Ok, ap₂, sym, subst, ◌∙◌}
 use Rattle.counted_io.specs.Input.{Input}
-use Rattle.aig_graph.specs.Circuits.{Network}
-use Rattle.aag_format.specs.declared.fault.ReadError.{ReadError}
+use Rattle.aig_graph.specs.Circuits.{Netlist}
+use Rattle.file_words.specs.declared.fault.ReadError.{ReadError}
 use Rattle.spellings.specs.declared.form.Spelling.{Spelling}
-use Rattle.piece_reading.specs.declared.reading.SpeltCircuit.{SpeltCircuit}
-use Rattle.piece_reading.specs.Ending.{Spells}
-use Rattle.frame_laws.specs.Retiming.{IsRetimed}
-use Rattle.frame_laws.proofs.RunLaws.{retiming-one}
+use Rattle.aig_binary.specs.declared.reading.SpeltCircuit.{SpeltCircuit}
+use Rattle.aig_binary.specs.Ending.{Spells}
+use Rattle.retimed_circuits.specs.Retiming.{IsRetimed}
+use Rattle.retimed_circuits.proofs.RunLaws.{retiming-one}
 use Rattle.frames.specs.declared.options.Options.{Options}
 use Rattle.frames.specs.Named.{names_in}
 use Rattle.frames.specs.Answering.{text_for, IsOneAnswer}
 
-same_circuit : (c d : Network) → ◌≡◌ {A = Result Network ReadError} (Ok c) (Ok d) → c ≡ d
+same_circuit : (c d : Netlist) → ◌≡◌ {A = Result Netlist ReadError} (Ok c) (Ok d) → c ≡ d
 same_circuit c d e = cc
 
 same_spelling : (a b : Spelling) → ◌≡◌ {A = Option Spelling} (Some a) (Some b) → a ≡ b

@@ -6,7 +6,7 @@ use Rattle.std.proofs.lemmas.List.FromFn.{length-range_with_len}
 use Rattle.aig_graph.specs.declared.literal.TheConstants.{MAX_VARIABLES}
 use Rattle.aig_graph.specs.declared.properties.Symbol.{Symbol}
 use Rattle.aig_graph.specs.Graph.{Graph, IsGraph, variables_end, free_latches, known_latches}
-use Rattle.aig_graph.specs.Circuits.{Network, IsNetwork}
+use Rattle.aig_graph.specs.Circuits.{Netlist, IsNetlist}
 use Rattle.aig_graph.specs.Closed.{IsClosedSet}
 use Rattle.aig_graph.specs.Keep.{is_named, held_by}
 use Rattle.aig_graph.specs.Border.{IsGreatestLeast}
@@ -19,21 +19,21 @@ use Rattle.variable_tables.specs.Marking.{has}
 use Rattle.variable_tables.proofs.MemberLemmas.{places-members}
 use Rattle.variable_tables.proofs.PlacesLemmas.{length-places, count-bound}
 use Rattle.rebuild.proofs.MovedLaws.{members-below}
-use Rattle.frame_laws.specs.declared.report.Retimed.{Retimed}
-use Rattle.frame_laws.specs.Names.{held_in}
-use Rattle.frame_laws.specs.Frames.{AfterFrames, NoneSmaller, count_in, frame}
-use Rattle.frame_laws.specs.Retiming.{IsRetimed}
-use Rattle.frame_laws.proofs.RunLaws.{after-length}
+use Rattle.retimed_circuits.specs.declared.report.Retimed.{Retimed}
+use Rattle.retimed_circuits.specs.Names.{held_in}
+use Rattle.retimed_circuits.specs.Frames.{AfterFrames, NoneSmaller, count_in, frame}
+use Rattle.retimed_circuits.specs.Retiming.{IsRetimed}
+use Rattle.retimed_circuits.proofs.RunLaws.{after-length}
 use Rattle.frames.specs.declared.frame.Frame.{Frame}
 use Rattle.frames.specs.Found.{Moves}
 use Rattle.frames.specs.Underway.{IsUnderway}
 
-pub held-below : (names : List (List ℕ)) (c : Network) → IsNetwork c → All (λ j. j < length c.aig.latches) (held_in names c)
+pub held-below : (names : List (List ℕ)) (c : Netlist) → IsNetlist c → All (λ j. j < length c.aig.latches) (held_in names c)
 unfolding held_by
-held-below names c network =
+held-below names c netlist =
     let position_of : Symbol → ℕ = λ s. s.position in
     All-map (λ j. j < length c.aig.latches) position_of (filter (is_named names) c.symbols.latches)
-    (All-filter (is_named names) (λ s. s.position < length c.aig.latches) c.symbols.latches network.symbols.latches.below)
+    (All-filter (is_named names) (λ s. s.position < length c.aig.latches) c.symbols.latches netlist.symbols.latches.below)
 
 -- a closed set has no more members than the graph has variables
 pub closed-length : (g : Graph) (held s : List ℕ) → IsGraph g → IsClosedSet g held s → length s ≤ MAX_VARIABLES
@@ -43,11 +43,11 @@ closed-length g held s valid set =
     omega (arith, long, length-places (has s) (variables_end g), count-bound (has s) (variables_end g), valid.small)
 
 -- where the greatest least set counts no less than the known latches, no closed set does
-pub none-smaller : (names : List (List ℕ)) (c : Network) (s : List ℕ) → IsGreatestLeast c (held_in names c) s → known_latches c.aig ≤ count_in names c s → NoneSmaller names c
+pub none-smaller : (names : List (List ℕ)) (c : Netlist) (s : List ℕ) → IsGreatestLeast c (held_in names c) s → known_latches c.aig ≤ count_in names c s → NoneSmaller names c
 none-smaller names c s greatest many r closed = let least = greatest.least.least r closed in omega (arith, least, many)
 
 -- every free latch stays, and then some of them
-pub streams-through : (c d e : Network) (kept : List ℕ) → SameStreams c d (all_free c.aig) → SameStreams d e kept → SameStreams c e kept
+pub streams-through : (c d e : Netlist) (kept : List ℕ) → SameStreams c d (all_free c.aig) → SameStreams d e kept → SameStreams c e kept
 streams-through c d e kept first second =
     let free : ℕ = free_latches c.aig in
     let below : All (λ place. place < free) kept = λ k a h.
@@ -55,7 +55,7 @@ streams-through c d e kept first second =
     omega (arith, here, first.places.each, length-range_with_len 0 free) in
     subst (λ (places : List ℕ). SameStreams c e places) (composed-all free kept below) (same_streams-transitive c d e (all_free c.aig) kept first second)
 
-pub one-more : (names : List (List ℕ)) (c : Network) (n : ℕ) (r : Retimed) (taken : Frame) → IsUnderway names c n r → Moves names r.circuit taken
+pub one-more : (names : List (List ℕ)) (c : Netlist) (n : ℕ) (r : Retimed) (taken : Frame) → IsUnderway names c n r → Moves names r.circuit taken
     → IsUnderway names c (suc n) (record { circuit = taken.cleaned.circuit; kept_free = composed r.kept_free taken.cleaned.kept_free; read_latches = r.read_latches; frames = r.frames ++ taken.report ∷ [] })
 one-more names c n r taken before moves = record {
   frames = frame n r.circuit taken.cleaned.circuit r.kept_free taken.cleaned.kept_free r.frames taken.report before.frames moves.moves;
@@ -65,7 +65,7 @@ one-more names c n r taken before moves = record {
 }
 
 -- a run ends at the limit of frames, or where none counts less
-pub ended : (names : List (List ℕ)) (c : Network) (n max_frames : ℕ) (r : Retimed) → IsUnderway names c n r → n ≤ max_frames → (n < max_frames → NoneSmaller names r.circuit) → IsRetimed c names max_frames r
+pub ended : (names : List (List ℕ)) (c : Netlist) (n max_frames : ℕ) (r : Retimed) → IsUnderway names c n r → n ≤ max_frames → (n < max_frames → NoneSmaller names r.circuit) → IsRetimed c names max_frames r
 ended names c n max_frames r run within last =
     let long : length r.frames ≡ n = after-length names c n r.circuit r.kept_free r.frames run.frames in
     record {

@@ -4,8 +4,8 @@ use Rattle.std.specs.Result.{IfErr, IsErrAnd}
 use Rattle.counted_io.specs.Input.{Input}
 use Rattle.counted_io.specs.Output.{Output}
 use Rattle.aig_graph.specs.Keep.{first_missing}
-use Rattle.piece_reading.specs.declared.reading.SpeltCircuit.{SpeltCircuit}
-use Rattle.piece_reading.specs.Ending.{ReadsToEnd, Spells}
+use Rattle.aig_binary.specs.declared.reading.SpeltCircuit.{SpeltCircuit}
+use Rattle.aig_binary.specs.Ending.{ReadsToEnd, Spells}
 use Rattle.frames.specs.declared.errors.BytesError.{BytesError}
 use Rattle.frames.specs.declared.errors.BytesError.TheVariants.{Read, Retime, Write}
 use Rattle.frames.specs.declared.errors.RetimeError.{RetimeError}
@@ -25,7 +25,7 @@ pub stops-retiming : (options : Options) (spelt : SpeltCircuit) (out : Output) (
 stops-retiming options spelt out NoMemory missing = refl
 stops-retiming options spelt out (NoSuchName place) missing = (refl, missing place refl)
 
--- what stops behind the reading is why there is no answer
+-- what stops after the reading is why there is no answer
 pub stops-answering : (options : Options) (old new : Input) (before after : Output) (spelt : SpeltCircuit) (e : BytesError)
     → ReadsToEnd old new → Spells old spelt → IsStop options spelt before after e → IsBytesError options old new before after e
 stops-answering options old new before after spelt (Read e) read spells stop = absurd stop

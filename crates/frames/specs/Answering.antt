@@ -3,12 +3,12 @@ use Rattle.std.specs.Prelude.{ℕ, ◌≡◌, List, Some, Ok, unwrap_or}
 use Rattle.counted_io.specs.Input.{Input}
 use Rattle.counted_io.specs.Output.{Output, WritesAll, WritesPart}
 use Rattle.aig_graph.specs.Keep.{first_missing}
-use Rattle.aag_file.specs.Laws.{IsWithinLimits}
+use Rattle.ascii_file.specs.Laws.{IsWithinLimits}
 use Rattle.spellings.specs.Spellings.{read_any, text_in}
-use Rattle.piece_reading.specs.declared.reading.SpeltCircuit.{SpeltCircuit}
-use Rattle.piece_reading.specs.Ending.{ReadsToEnd, Spells, IsReadError}
-use Rattle.frame_laws.specs.declared.report.Retimed.{Retimed}
-use Rattle.frame_laws.specs.Retiming.{IsRetimed}
+use Rattle.aig_binary.specs.declared.reading.SpeltCircuit.{SpeltCircuit}
+use Rattle.aig_binary.specs.Ending.{ReadsToEnd, Spells, IsReadError}
+use Rattle.retimed_circuits.specs.declared.report.Retimed.{Retimed}
+use Rattle.retimed_circuits.specs.Retiming.{IsRetimed}
 use Rattle.frames.specs.declared.errors.BytesError.{BytesError}
 use Rattle.frames.specs.declared.errors.BytesError.TheVariants.{Read, Retime, Write}
 use Rattle.frames.specs.declared.errors.RetimeError.TheVariants.{NoMemory, NoSuchName}
@@ -34,7 +34,7 @@ pub record IsWritten (options : Options) (spelt : SpeltCircuit) (old new : Outpu
   pub writes : WritesAll old new (text_for options spelt r)
   pub reads_back : IsWithinLimits spelt.circuit → ReadsBack options spelt r
 
--- a write failed behind a beginning of the answer
+-- a write failed after a beginning of the answer
 pub record StopsWriting (options : Options) (spelt : SpeltCircuit) (old new : Output) : Type 0 where
   pub retimed : Retimed
   pub answer : IsAnswer options spelt retimed

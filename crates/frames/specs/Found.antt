@@ -1,19 +1,19 @@
 -- What is found in a circuit before a frame.
 use Rattle.std.specs.Prelude.{ℕ, ◌≡◌, List}
-use Rattle.aig_graph.specs.Circuits.{Network}
+use Rattle.aig_graph.specs.Circuits.{Netlist}
 use Rattle.aig_graph.specs.Streams.{SameStreams}
-use Rattle.frame_laws.specs.Names.{held_latches}
-use Rattle.frame_laws.specs.Frames.{IsHelpingSet, report_in, IsFrame}
+use Rattle.retimed_circuits.specs.Names.{held_latches}
+use Rattle.retimed_circuits.specs.Frames.{IsHelpingSet, report_in, IsFrame}
 use Rattle.frames.specs.declared.helping.Helping.{Helping}
 use Rattle.frames.specs.declared.frame.Frame.{Frame}
 
 -- the greatest least set, which counts less than the known latches, and the frame's report
-pub record Helps (names : List (List ℕ)) (c : Network) (found : Helping) : Type 0 where
+pub record Helps (names : List (List ℕ)) (c : Netlist) (found : Helping) : Type 0 where
   pub set : IsHelpingSet names c found.set
   pub report : found.report ≡ report_in names c found.set
 
 -- a frame that keeps the streams, and the latches that the names hold
-pub record Moves (names : List (List ℕ)) (c : Network) (frame : Frame) : Type 0 where
+pub record Moves (names : List (List ℕ)) (c : Netlist) (frame : Frame) : Type 0 where
   pub moves : IsFrame names c frame.cleaned.circuit frame.cleaned.kept_free frame.report
   pub streams : SameStreams c frame.cleaned.circuit frame.cleaned.kept_free
   pub held : held_latches names frame.cleaned.circuit ≡ held_latches names c

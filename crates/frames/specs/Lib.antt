@@ -3,3 +3,4 @@ pub mod Named
 pub mod Found
 pub mod Underway
 pub mod Answering
+pub mod Limits

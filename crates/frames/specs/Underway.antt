@@ -1,13 +1,13 @@
 -- A run of frames that goes on.
 use Rattle.std.specs.Prelude.{ℕ, ◌≡◌, List, length}
-use Rattle.aig_graph.specs.Circuits.{Network}
+use Rattle.aig_graph.specs.Circuits.{Netlist}
 use Rattle.aig_graph.specs.Streams.{SameStreams}
-use Rattle.frame_laws.specs.declared.report.Retimed.{Retimed}
-use Rattle.frame_laws.specs.Names.{held_latches}
-use Rattle.frame_laws.specs.Frames.{AfterFrames}
+use Rattle.retimed_circuits.specs.declared.report.Retimed.{Retimed}
+use Rattle.retimed_circuits.specs.Names.{held_latches}
+use Rattle.retimed_circuits.specs.Frames.{AfterFrames}
 
 -- r is what n frames make of c, which is cleaned first
-pub record IsUnderway (names : List (List ℕ)) (c : Network) (n : ℕ) (r : Retimed) : Type 0 where
+pub record IsUnderway (names : List (List ℕ)) (c : Netlist) (n : ℕ) (r : Retimed) : Type 0 where
   pub frames : AfterFrames names c n r.circuit r.kept_free r.frames
   pub read_latches : r.read_latches ≡ length c.aig.latches
   pub streams : SameStreams c r.circuit r.kept_free

@@ -1,20 +1,19 @@
 //! From a reader's bytes to a writer's.
 ghost use Rattle.std.specs.Prelude.{◌≡◌, [], IfOk, OnOk, IfErr};
-ghost use Rattle.piece_reading.specs.Ending.{ReadsToEnd};
+ghost use Rattle.aig_binary.specs.Ending.{ReadsToEnd};
 ghost use Rattle.counted_io.specs.Output.{Writes};
-ghost use Rattle.aig_graph.specs.Circuits.{IsNetwork};
+ghost use Rattle.aig_graph.specs.Circuits.{IsNetlist};
 ghost use Rattle.aig_graph.specs.Graph.{IsGraph};
 ghost use Rattle.frames.specs.Answering.{IsAnswered, IsBytesError, IsStop, IsWritten, text_for};
 
 use crate::errors::BytesError;
 use crate::options::Options;
 use crate::retiming::retime;
-use aig_binary::AnyReader;
+use aig_binary::{AnyReader, CircuitReader, SpeltCircuit, read_circuit};
 use aig_graph::Circuit;
 use counted_io::{CountedRead, CountedWrite, WriteError};
-use frame_laws::Retimed;
-use piece_reading::{CircuitReader, SpeltCircuit, read_circuit};
 use pulse::{Crew, PhaseGate};
+use retimed_circuits::Retimed;
 use spellings::write;
 use std::alloc::Global;
 use std::thread::Threads;
@@ -35,7 +34,7 @@ fn write_answer<W: CountedWrite>(
 /// What a circuit's readers ensure: its literals and its names are in range.
 fn in_range(circuit: &Circuit)
     ensures graph { IsGraph circuit.now.aig }
-    ensures network { IsNetwork circuit.now }
+    ensures netlist { IsNetlist circuit.now }
 {
     let _aig = circuit.aig();
 }

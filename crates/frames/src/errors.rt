@@ -1,8 +1,8 @@
 ghost use Rattle.std.specs.Prelude.{◌≡◌};
 
-use aag_format::ReadError;
 use aig_graph::{KeepError, NoMemory};
 use counted_io::WriteError;
+use file_words::ReadError;
 use thiserror::Error;
 
 /// Why a circuit wasn't retimed.

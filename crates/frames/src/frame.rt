@@ -2,8 +2,8 @@
 ghost use Rattle.std.specs.Prelude.{◌≡◌, IfOk, MatchOption};
 ghost use Rattle.aig_graph.specs.Graph.{IsGraph};
 ghost use Rattle.aig_graph.specs.Streams.{SameStreams};
-ghost use Rattle.frame_laws.specs.Frames.{CleansIn, IsHelpingSet, NoneSmaller, moved_in};
-ghost use Rattle.frame_laws.specs.Names.{held_in, held_latches};
+ghost use Rattle.retimed_circuits.specs.Frames.{CleansIn, IsHelpingSet, NoneSmaller, moved_in};
+ghost use Rattle.retimed_circuits.specs.Names.{held_in, held_latches};
 ghost use Rattle.frames.specs.Found.{Moves};
 ghost use Rattle.frames.specs.Named.{NoneMissing, names_in};
 
@@ -12,10 +12,10 @@ use crate::holding::{cleaned_by_names, held};
 use crate::options::Options;
 use aig_graph::{Circuit, ClosedSet, Keep, NoMemory};
 use clean::Cleaned;
-use frame_laws::FrameReport;
 use gate_flows::{GateFlow, after_cleaning, after_move};
 use pulse::{Crew, PhaseGate};
 use rebuild::moved;
+use retimed_circuits::FrameReport;
 use std::alloc::Global;
 use std::thread::Threads;
 

@@ -1,16 +1,16 @@
 //! The greatest least set of a circuit, where it needs fewer latches.
 ghost use Rattle.std.specs.Prelude.{◌≡◌, IfOk, MatchOption};
-ghost use Rattle.frame_laws.specs.Frames.{NoneSmaller};
-ghost use Rattle.frame_laws.specs.Names.{held_in};
+ghost use Rattle.retimed_circuits.specs.Frames.{NoneSmaller};
+ghost use Rattle.retimed_circuits.specs.Names.{held_in};
 ghost use Rattle.frames.specs.Found.{Helps};
 ghost use Rattle.frames.specs.Named.{names_in};
 
 use crate::least_set::greatest_least;
 use crate::options::Options;
 use aig_graph::{Circuit, ClosedSet, Keep, NoMemory, count};
-use frame_laws::FrameReport;
 use gate_flows::GateFlow;
 use pulse::{Crew, PhaseGate};
+use retimed_circuits::FrameReport;
 use std::alloc::Global;
 use std::thread::Threads;
 

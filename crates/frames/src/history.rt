@@ -5,7 +5,7 @@ ghost use Rattle.aig_graph.specs.Laws.{composed};
 
 use aig_graph::{NoMemory, Sequence};
 use clean::composed;
-use frame_laws::{FrameReport, Retimed};
+use retimed_circuits::{FrameReport, Retimed};
 use std::alloc::Global;
 
 /// The places of the free latches that are left, how many latches were read, and the reports.

@@ -1,8 +1,8 @@
 //! The latches that names hold, from circuit to circuit.
 ghost use Rattle.std.specs.Prelude.{◌≡◌, IfOk};
 ghost use Rattle.aig_graph.specs.Streams.{SameStreams};
-ghost use Rattle.frame_laws.specs.Frames.{CleansIn};
-ghost use Rattle.frame_laws.specs.Names.{held_in, held_latches};
+ghost use Rattle.retimed_circuits.specs.Frames.{CleansIn};
+ghost use Rattle.retimed_circuits.specs.Names.{held_in, held_latches};
 ghost use Rattle.frames.specs.Named.{NoneMissing, names_in};
 
 use crate::options::Options;

@@ -1,7 +1,7 @@
 //! The greatest least set of a circuit, by a maximum flow of its network.
 ghost use Rattle.std.specs.Prelude.{IfOk};
 ghost use Rattle.aig_graph.specs.Border.{IsGreatestLeast};
-ghost use Rattle.frame_cuts.specs.Cuts.{IsNetwork};
+ghost use Rattle.frame_cuts.specs.Cuts.{IsNetworkOf};
 ghost use Rattle.pulse.specs.Conditions.{IsMaxPreflow};
 
 use aig_graph::{Circuit, ClosedSet, Keep, NoMemory};
@@ -14,7 +14,7 @@ use std::thread::Threads;
 
 /// The network of a circuit and its held latches.
 fn network(alloc: Global, circuit: &Circuit, keep: &Keep) -> Result<Net, NoMemory>
-    ensures { IfOk result (IsNetwork circuit.now keep.now) }
+    ensures { IfOk result (IsNetworkOf circuit.now keep.now) }
 {
     let pass = passable(alloc, circuit.aig(), keep)?;
     let net = Net::build(alloc, circuit.aig(), circuit.props(), &pass, keep)?;

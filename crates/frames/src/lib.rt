@@ -10,14 +10,16 @@ mod history;
 mod holding;
 mod laws;
 mod least_set;
+mod limits;
 mod options;
 mod retiming;
 
 pub use bytes::{retime_bytes, retime_bytes_with};
 pub use errors::{BytesError, RetimeError};
-pub use frame_laws::{FrameReport, Retimed};
 pub use laws::answer_law;
+pub use limits::{read_limits_law, retimed_limits_law};
 pub use options::Options;
+pub use retimed_circuits::{FrameReport, Retimed};
 pub use retiming::retime;
 
 #[cfg(test)]

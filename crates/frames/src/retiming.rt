@@ -1,9 +1,9 @@
 //! Frame after frame.
 ghost use Rattle.std.specs.Prelude.{ℕ, ◌≡◌, suc, IfOk, OnOk, IsErrOf, None, Some};
-ghost use Rattle.aig_graph.specs.Circuits.{Network};
+ghost use Rattle.aig_graph.specs.Circuits.{Netlist};
 ghost use Rattle.aig_graph.specs.Keep.{first_missing};
-ghost use Rattle.frame_laws.specs.Names.{held_in};
-ghost use Rattle.frame_laws.specs.Retiming.{IsRetimed};
+ghost use Rattle.retimed_circuits.specs.Names.{held_in};
+ghost use Rattle.retimed_circuits.specs.Retiming.{IsRetimed};
 ghost use Rattle.frames.specs.Found.{Moves};
 ghost use Rattle.frames.specs.Named.{NoneMissing, names_in};
 ghost use Rattle.frames.specs.Underway.{IsUnderway};
@@ -16,8 +16,8 @@ use crate::holding::cleaned;
 use crate::options::Options;
 use aig_graph::{Circuit, Keep, NoMemory, Sequence, keep_of};
 use clean::Cleaned;
-use frame_laws::Retimed;
 use pulse::{Crew, PhaseGate};
+use retimed_circuits::Retimed;
 use std::alloc::Global;
 use std::thread::Threads;
 
@@ -53,9 +53,9 @@ fn after_frame(
     frame: Frame,
     options: &Options,
 ) -> Result<Retimed, NoMemory>
-    requires underway { (c : Network) × (n : ℕ) × IsUnderway (names_in options.now) c n retimed }
+    requires underway { (c : Netlist) × (n : ℕ) × IsUnderway (names_in options.now) c n retimed }
     requires moves { Moves (names_in options.now) retimed.circuit frame }
-    ensures { IfOk result (λ after. (c : Network) (n : ℕ) → IsUnderway (names_in options.now) c n retimed → IsUnderway (names_in options.now) c (suc n) after) }
+    ensures { IfOk result (λ after. (c : Netlist) (n : ℕ) → IsUnderway (names_in options.now) c n retimed → IsUnderway (names_in options.now) c (suc n) after) }
 {
     let Frame { cleaned, report } = frame;
     let places = cleaned.kept_free.as_slice();

@@ -40,7 +40,7 @@ fn four_latches(alloc: Global) -> Result<AigBuilder, BuildError>
     AigBuilder::new(alloc, 2, resets)
 }
 
-/// Two latches in a row behind each input, and the gate of the last ones, which is variable 7.
+/// Two latches in a row after each input, and the gate of the last ones, which is variable 7.
 fn gate_of_two_chains(alloc: Global) -> Result<Aig, BuildError>
     ensures { IfOk result (λ aig. variables_end aig ≡ 8) }
 {
@@ -107,7 +107,7 @@ fn has_one_latch(retimed: &Retimed) -> bool {
         && retimed.kept_free.is_empty()
 }
 
-/// Whether two latches in a row are left, behind the gate of the inputs, and the last one is the output: after two frames.
+/// Whether two latches in a row are left, after the gate of the inputs, and the last one is the output: after two frames.
 fn has_two_latches(retimed: &Retimed) -> bool {
     let gate = Gate::of(Lit::new(1, false), Lit::new(2, false));
     let first = FrameReport {

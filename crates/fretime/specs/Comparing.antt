@@ -1,6 +1,6 @@
 -- What comparing two circuits finds, and what is printed of it.
 use Rattle.std.specs.Prelude.{ℕ, ◌≡◌, List, Some, None}
-use Rattle.aig_graph.specs.Circuits.{Network}
+use Rattle.aig_graph.specs.Circuits.{Netlist}
 use Rattle.lane_sim.specs.Traces.{trace}
 use Rattle.lane_sim.specs.Differences.{HaveSameShape, DifferInShape, IsFirstDifference}
 use Rattle.lane_sim.specs.declared.stimulus.InputSequence.{InputSequence}
@@ -11,7 +11,7 @@ use Rattle.fretime.specs.declared.comparison.Finding.{Finding}
 use Rattle.fretime.specs.declared.comparison.Finding.TheVariants.{Same, Differ, ShapesDiffer}
 
 -- what is found of two circuits under a stimulus
-abbrev pub IsFinding : Network → Network → List InputSequence → Finding → Type 0
+abbrev pub IsFinding : Netlist → Netlist → List InputSequence → Finding → Type 0
 IsFinding c d stimulus Same = HaveSameShape c d × (trace c stimulus ≡ trace d stimulus)
 IsFinding c d stimulus (Differ place) = HaveSameShape c d × IsFirstDifference (trace c stimulus) (trace d stimulus) place
 IsFinding c d stimulus ShapesDiffer = DifferInShape c d

@@ -6,7 +6,7 @@ use Rattle.std.proofs.lemmas.Bool.{false≢true}
 use Rattle.std.proofs.lemmas.List.{length-map, length-take}
 use Rattle.std.proofs.lemmas.Simd.{get_or-chunk}
 use Rattle.std.proofs.lemmas.Option.{slice_get-map, slice_get-get_or, slice_get_within, get_or_from_slice_get, same_Some}
-use Rattle.aig_graph.specs.Circuits.{Network}
+use Rattle.aig_graph.specs.Circuits.{Netlist}
 use Rattle.aig_graph.specs.Streams.{property_literals}
 use Rattle.lane_sim.specs.declared.difference.Place.{Place}
 use Rattle.lane_sim.specs.declared.stimulus.InputSequence.{InputSequence}
@@ -59,7 +59,7 @@ row_read rows k t v (Some row) at h =
     let here : get_or rows t [] ≡ row = get_or_from_slice_get rows t row [] at in
     (slice_get_within rows t row at, ap (row_in k) here ∙ h, ap length here ∙ sym (length-map row (λ lanes. lane lanes k)) ∙ ap length h)
 
-module _ (c d : Network) (sequences : List InputSequence) (b : ℕ) (xs ys : List (List (List ℕ)))
+module _ (c d : Netlist) (sequences : List InputSequence) (b : ℕ) (xs ys : List (List (List ℕ)))
     (first : IsBlock c.aig (property_literals c.props) (block_of sequences b) xs) (second : IsBlock d.aig (property_literals d.props) (block_of sequences b) ys) where
   in_part : (k : ℕ) → k < 256 → in_lane (block_of sequences b) k ≡ in_lane sequences (256 * b + k)
   in_part k h = get_or-chunk (256 * b) 256 sequences k (record { choice = []; steps = [] }) h

@@ -10,7 +10,7 @@ use Rattle.std.proofs.lemmas.Bool.{ltb-true, ltb-false}
 use Rattle.std.proofs.lemmas.List.{length-take, length-drop, length-map}
 use Rattle.std.proofs.lemmas.List.FromFn.{length-range_with_len, get_or-range_with_len}
 use Rattle.std.proofs.lemmas.Option.{slice_get-map, slice_get-get_or, slice_get_within, get_or_from_slice_get, slice_get_past}
-use Rattle.aig_graph.specs.Circuits.{Network}
+use Rattle.aig_graph.specs.Circuits.{Netlist}
 use Rattle.lane_sim.specs.declared.difference.Place.{Place}
 use Rattle.lane_sim.specs.declared.stimulus.InputSequence.{InputSequence}
 use Rattle.lane_sim.specs.Blocks.{in_lane, block_of}
@@ -74,7 +74,7 @@ unfolding total
 pieces_long [] = refl
 pieces_long (xs ∷ xss) = length-append xs (flat_map (λ ys. ys) xss) ∙ ap (λ (n : ℕ). length xs + n) (pieces_long xss)
 
-pub as_many : (c d : Network) → HaveSameShape c d → length (property_literals d.props) ≡ length (property_literals c.props)
+pub as_many : (c d : Netlist) → HaveSameShape c d → length (property_literals d.props) ≡ length (property_literals c.props)
 as_many c d same =
     let p = c.props in
     let q = d.props in
@@ -88,7 +88,7 @@ as_many c d same =
         ∙ ap (λ (n : ℕ). n + length (flat_map (λ xs. xs) p.justice)) (length-append (p.outputs ++ p.bad) p.constraints
         ∙ ap (λ (n : ℕ). n + length p.constraints) (length-append p.outputs p.bad)))
 
-module _ (c : Network) (sequences : List InputSequence) where
+module _ (c : Netlist) (sequences : List InputSequence) where
   at_sequence : (s t p : ℕ) → s < length sequences
       → at_place (trace c sequences) s t p ≡ then_at (slice_get (map (rows_by c sequences s) (range_with_len 0 (steps_of sequences s))) t) p
   unfolding trace
@@ -111,7 +111,7 @@ module _ (c : Network) (sequences : List InputSequence) where
       at_sequence s t p inside
       ∙ ap (λ o. then_at o p) (slice_get_past (map (rows_by c sequences s) (range_with_len 0 n)) t (omega (arith, length-map (range_with_len 0 n) (rows_by c sequences s), length-range_with_len 0 n)))
 
-module _ (c d : Network) (sequences : List InputSequence) where
+module _ (c d : Netlist) (sequences : List InputSequence) where
   pub traces_same : AreSame 0 (length sequences) (steps_of sequences) (rows_by c sequences) (rows_by d sequences) → trace c sequences ≡ trace d sequences
   unfolding trace
   traces_same same = map_at sequences (λ r. map (row_of c r) (range_with_len 0 (length r.steps))) (λ r. map (row_of d r) (range_with_len 0 (length r.steps))) (λ s r at.

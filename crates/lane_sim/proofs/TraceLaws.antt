@@ -9,7 +9,7 @@ use Rattle.std.proofs.lemmas.List.FromFn.{length-enumerate_from}
 use Rattle.std.proofs.lemmas.List.Elements.{All-append}
 use Rattle.std.proofs.lemmas.Simd.{get_or-chunk}
 use Rattle.aig_graph.specs.Graph.{IsLiteralOf}
-use Rattle.aig_graph.specs.Circuits.{Network, IsNetwork, AreLiteralsOf}
+use Rattle.aig_graph.specs.Circuits.{Netlist, IsNetlist, AreLiteralsOf}
 use Rattle.aig_graph.specs.Streams.{property_literals}
 use Rattle.lane_sim.specs.declared.stimulus.InputSequence.{InputSequence}
 use Rattle.lane_sim.specs.Lanes.{lane}
@@ -38,7 +38,7 @@ by_numbers size f h (x ∷ xs) a each =
     let place : a + 1 + i ≡ a + suc i = omega arith in
     ap (λ (w : ℕ). f w (size z)) place ∙ each (suc i) z at))
 
-module _ (c : Network) (sequences : List InputSequence) (blocks : List (List (List (List ℕ))))
+module _ (c : Netlist) (sequences : List InputSequence) (blocks : List (List (List (List ℕ))))
     (each : (b : ℕ) → 256 * b < length sequences → IsSomeAnd (slice_get blocks b) (IsBlock c.aig (property_literals c.props) (block_of sequences b))) where
   -- the rows of a sequence, from its block
   rows_of : (s : ℕ) (run : InputSequence) → slice_get sequences s ≡ Some run
@@ -75,7 +75,7 @@ all_of_lists : (P : ℕ → Type 0) (xss : List (List ℕ)) → All (All P) xss 
 all_of_lists P [] each = λ k d h. absurd (omega arith)
 all_of_lists P (xs ∷ xss) each = All-append P xs (flat_map (λ ys. ys) xss) (each 0 xs (omega arith)) (all_of_lists P xss (λ k d h. each (suc k) d (omega arith)))
 
-pub property_literals-in : (c : Network) → IsNetwork c → AreLiteralsOf c.aig (property_literals c.props)
+pub property_literals-in : (c : Netlist) → IsNetlist c → AreLiteralsOf c.aig (property_literals c.props)
 property_literals-in c valid =
     let p = c.props in
     let P : ℕ → Type 0 = IsLiteralOf c.aig in

@@ -2,7 +2,7 @@
 use Rattle.std.specs.Prelude.{ℕ, ◌+◌, ◌*◌, ◌<◌, ◌≤◌, ◌≡◌, ◌≢◌, Bool, List, [], length, slice_get, Option}
 use Rattle.std.specs.Option.{MatchOption}
 use Rattle.std.specs.List.{slice_index_or}
-use Rattle.aig_graph.specs.Circuits.{Network}
+use Rattle.aig_graph.specs.Circuits.{Netlist}
 use Rattle.aig_graph.specs.Streams.{property_literals}
 use Rattle.lane_sim.specs.declared.difference.Place.{Place}
 use Rattle.lane_sim.specs.declared.stimulus.InputSequence.{InputSequence}
@@ -36,7 +36,7 @@ abbrev pub steps_of : List InputSequence → ℕ → ℕ
 steps_of sequences s = length (in_lane sequences s).steps
 
 -- the rows of a circuit, by sequence and step
-abbrev pub rows_by : Network → List InputSequence → ℕ → ℕ → List Bool
+abbrev pub rows_by : Netlist → List InputSequence → ℕ → ℕ → List Bool
 rows_by c sequences s t = row_of c (in_lane sequences s) t
 
 -- the rows that a block has in its lanes
@@ -50,12 +50,12 @@ pub record HaveRow (xs ys : List (List (List ℕ))) (t : ℕ) : Type 0 where
   pub places : length (slice_index_or ys t []) ≡ length (slice_index_or xs t [])
 
 -- what comparing a block of the sequences finds
-unfoldable pub IsFoundIn : Network → Network → List InputSequence → ℕ → Option Place → Type 0
+unfoldable pub IsFoundIn : Netlist → Netlist → List InputSequence → ℕ → Option Place → Type 0
 IsFoundIn c d sequences b found =
     Compares (256 * b) (256 * b + length (block_of sequences b)) (steps_of sequences) (rows_by c sequences) (rows_by d sequences) found
 
 -- the property literals of two circuits, of which there are as many
-pub record AreLiterals (c d : Network) (ps qs : List ℕ) : Type 0 where
+pub record AreLiterals (c d : Netlist) (ps qs : List ℕ) : Type 0 where
   pub first : ps ≡ property_literals c.props
   pub second : qs ≡ property_literals d.props
   pub as_many : length (property_literals d.props) ≡ length (property_literals c.props)

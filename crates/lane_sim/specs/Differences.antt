@@ -1,17 +1,17 @@
 -- Where two circuits differ under a stimulus.
 use Rattle.std.specs.Prelude.{◌<◌, ◌≡◌, ◌≢◌, ◌⊎◌, Bool, List, Option}
-use Rattle.aig_graph.specs.Circuits.{Network}
+use Rattle.aig_graph.specs.Circuits.{Netlist}
 use Rattle.aig_graph.specs.Graph.{free_latches}
 use Rattle.aig_graph.specs.Streams.{SameShape}
 use Rattle.lane_sim.specs.declared.difference.Place.{Place}
 use Rattle.lane_sim.specs.Traces.{at_place}
 
 -- as many inputs, free latches and properties of each kind, and justice properties of the same sizes
-pub record HaveSameShape (c d : Network) : Type 0 where
+pub record HaveSameShape (c d : Netlist) : Type 0 where
   pub shape : SameShape c d
   pub free : free_latches d.aig ≡ free_latches c.aig
 
-abbrev pub DifferInShape : Network → Network → Type 0
+abbrev pub DifferInShape : Netlist → Netlist → Type 0
 DifferInShape c d = HaveSameShape c d → ⊥
 
 -- places by sequence, then by step, then by place in the row

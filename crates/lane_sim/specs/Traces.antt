@@ -2,7 +2,7 @@
 use Rattle.std.specs.Prelude.{ℕ, Bool, false, List, [], Option, Some, None, slice_get, length, map}
 use Rattle.std.specs.List.{slice_index_or, range_with_len}
 use Rattle.aig_graph.specs.Graph.{Graph}
-use Rattle.aig_graph.specs.Circuits.{Network}
+use Rattle.aig_graph.specs.Circuits.{Netlist}
 use Rattle.aig_graph.specs.Streams.{property_literals}
 use Rattle.aig_graph.specs.Value.{Inputs, Choice, value}
 use Rattle.lane_sim.specs.declared.stimulus.InputSequence.{InputSequence}
@@ -19,11 +19,11 @@ abbrev pub value_in : Graph → InputSequence → ℕ → ℕ → Bool
 value_in g s t lit = value g (inputs_of s) (choice_of s) t lit
 
 -- the values of the property literals at a step of a sequence
-abbrev pub row_of : Network → InputSequence → ℕ → List Bool
+abbrev pub row_of : Netlist → InputSequence → ℕ → List Bool
 row_of c s t = map (value_in c.aig s t) (property_literals c.props)
 
 -- the trace: for each sequence, for each of its steps, the values of the property literals
-unfoldable pub trace : Network → List InputSequence → List (List (List Bool))
+unfoldable pub trace : Netlist → List InputSequence → List (List (List Bool))
 trace c sequences = map (λ s. map (row_of c s) (range_with_len 0 (length s.steps))) sequences
 
 abbrev pub then_at : {X : Type 0} → Option (List X) → ℕ → Option X

@@ -1,22 +1,22 @@
 use Rattle.std.proofs.Common.{◌≡◌, ℕ, ◌+◌, ◌-◌, ◌<◌, ◌≤◌, true, false, List, length, slice_index, get_or, refl, arith, sym, ap, ◌∙◌, subst, inl, inr}
 use Rattle.flow_theory.specs.Flow.{pulse}
 use Rattle.frame_net.specs.FlowNet.{FlowNet, node_count, IsFlowNet}
-use Rattle.flow_parts.specs.declared.parts.FlowPart.{FlowPart}
-use Rattle.flow_parts.specs.declared.parts.PushPart.{PushPart}
-use Rattle.flow_parts.specs.Parts.{AreFlowParts, ArePushParts, Agree, IsSound, cells_of, pairs, rows_walked, values_of}
-use Rattle.flow_parts.specs.Reading.{WholesRead, active_below}
-use Rattle.flow_parts.specs.Delivering.{PartsDelivered, PartsSafe}
-use Rattle.flow_parts.specs.Listing.{HasTurning, ListActive, ListsActive, active_by}
-use Rattle.flow_parts.specs.Visiting.{WholeDelivered, WholesDelivered}
-use Rattle.flow_parts.proofs.AtPart.{AtPart, at_part}
-use Rattle.parted_flow.specs.Labels.{AreLabelled, KeepLabels, KeepsLabels}
-use Rattle.parted_flow.specs.Runs.{AreRead, ArePulsed}
-use Rattle.parted_flow.proofs.Agreeing.{agree_pulse, agree_then, sound_same}
-use Rattle.parted_flow.proofs.HoldLemmas.{hold_same}
-use Rattle.parted_flow.proofs.LabelLemmas.{labelled_parts}
-use Rattle.parted_flow.proofs.Pulsing.{ready, ready_safe, Pulsed, pulsed}
-use Rattle.parted_flow.proofs.Whole.{cut_after_give}
-use Rattle.parted_flow.proofs.WholeRead.{wholes_read, wholes_walked}
+use Rattle.flow_part.specs.declared.parts.FlowPart.{FlowPart}
+use Rattle.flow_part.specs.declared.parts.PushPart.{PushPart}
+use Rattle.flow_part.specs.Parts.{AreFlowParts, ArePushParts, Agree, IsSound, cells_of, pairs, rows_walked, values_of}
+use Rattle.flow_part.specs.Reading.{WholesRead, active_below}
+use Rattle.flow_part.specs.Delivering.{PartsDelivered, PartsSafe}
+use Rattle.flow_part.specs.Listing.{HasTurning, ListActive, ListsActive, active_by}
+use Rattle.flow_part.specs.Visiting.{WholeDelivered, WholesDelivered}
+use Rattle.flow_part.proofs.AtPart.{AtPart, at_part}
+use Rattle.flow_whole.specs.Labels.{AreLabelled, KeepLabels, KeepsLabels}
+use Rattle.flow_whole.specs.Runs.{AreRead, ArePulsed}
+use Rattle.flow_whole.proofs.Agreeing.{agree_pulse, agree_then, sound_same}
+use Rattle.flow_whole.proofs.HoldLemmas.{hold_same}
+use Rattle.flow_whole.proofs.LabelLemmas.{labelled_parts}
+use Rattle.flow_whole.proofs.Pulsing.{ready, ready_safe, Pulsed, pulsed}
+use Rattle.flow_whole.proofs.Whole.{cut_after_give}
+use Rattle.flow_whole.proofs.WholeRead.{wholes_read, wholes_walked}
 
 -- every node read, over the elements of a vector
 pub all_read : (net : FlowNet) (labels : List ℕ) (qs : List FlowPart) (ps was rs now : List PushPart) → IsFlowNet net → was ≡ ps → now ≡ rs

@@ -1,14 +1,14 @@
 use Rattle.std.proofs.Common.{◌≡◌, ℕ, ◌<◌, Bool, false, List, length, slice_index_or, refl, sym, ap, ◌∙◌, subst}
 use Rattle.frame_net.specs.FlowNet.{FlowNet, node_count, IsFlowNet}
-use Rattle.flow_parts.specs.declared.parts.FlowPart.{FlowPart}
-use Rattle.flow_parts.specs.declared.parts.PushPart.{PushPart}
-use Rattle.flow_parts.specs.Parts.{Cells, AreFlowParts, ArePushParts, cells_of, values_of}
-use Rattle.flow_parts.specs.Reading.{PartsRead}
-use Rattle.flow_parts.specs.Delivering.{PartsDelivered, PartsSafe}
-use Rattle.parted_flow.specs.Marks.{and_range, NoneMarked, DeliveredSoFar, IsPartlyDelivered}
-use Rattle.parted_flow.proofs.Whole.{cut_after_give, whole_kept}
-use Rattle.parted_flow.proofs.WholeRead.{cut_after_read, whole_read, whole_unread}
-use Rattle.parted_flow.proofs.MarkLemmas.{give_more, give_safe}
+use Rattle.flow_part.specs.declared.parts.FlowPart.{FlowPart}
+use Rattle.flow_part.specs.declared.parts.PushPart.{PushPart}
+use Rattle.flow_part.specs.Parts.{Cells, AreFlowParts, ArePushParts, cells_of, values_of}
+use Rattle.flow_part.specs.Reading.{PartsRead}
+use Rattle.flow_part.specs.Delivering.{PartsDelivered, PartsSafe}
+use Rattle.flow_whole.specs.Marks.{and_range, NoneMarked, DeliveredSoFar, IsPartlyDelivered}
+use Rattle.flow_whole.proofs.Whole.{cut_after_give, whole_kept}
+use Rattle.flow_whole.proofs.WholeRead.{cut_after_read, whole_read, whole_unread}
+use Rattle.flow_whole.proofs.MarkLemmas.{give_more, give_safe}
 use Rattle.pulse.specs.Values.{flow_state, push_state}
 use Rattle.pulse.specs.Conditions.{IsFlowOf, ArePushesOf, is_marked}
 use Rattle.pulse.specs.Phases.{RangeRead, RangeDelivered}

@@ -1,6 +1,6 @@
 use Rattle.std.proofs.Common.{◌≡◌, ℕ, ◌+◌, ◌<◌, ◌≤◌, nat_le, ◌&&◌, ◌||◌, Bool, true, false, List, length, get_or, slice_set, arith, refl, sym, ap, ◌∙◌, inl, inr, ◌≢◌, get_or-set_other, get_or-set_same}
 use Rattle.std.proofs.lemmas.Bool.{cases_lt, cases_eq, lt-ltb, le-leb, le-ltb, lt-leb}
-use Rattle.parted_flow.specs.Marks.{and_range}
+use Rattle.flow_whole.specs.Marks.{and_range}
 
 and_off : (a : Bool) → (a && false) ≡ false
 and_off true = refl

@@ -1,12 +1,12 @@
 use Rattle.std.proofs.Common.{◌≡◌, ℕ, ◌-◌, ◌^◌, min, Bool, true, false, List, length, arith, sym, ap, ◌∙◌, subst}
 use Rattle.frame_net.specs.FlowNet.{FlowNet, node_count, IsFlowNet}
-use Rattle.flow_parts.specs.declared.parts.FlowPart.{FlowPart}
-use Rattle.flow_parts.specs.declared.parts.PushPart.{PushPart}
-use Rattle.flow_parts.specs.Listing.{ListActive}
-use Rattle.flow_parts.specs.Parts.{LabelsFit, cells_of, rows_walked}
-use Rattle.flow_parts.specs.Reading.{active_below}
-use Rattle.flow_parts.proofs.WalkLemmas.{active_few}
-use Rattle.parted_flow.specs.Runs.{AreRead, ArePulsed}
+use Rattle.flow_part.specs.declared.parts.FlowPart.{FlowPart}
+use Rattle.flow_part.specs.declared.parts.PushPart.{PushPart}
+use Rattle.flow_part.specs.Listing.{ListActive}
+use Rattle.flow_part.specs.Parts.{LabelsFit, cells_of, rows_walked}
+use Rattle.flow_part.specs.Reading.{active_below}
+use Rattle.flow_part.proofs.WalkLemmas.{active_few}
+use Rattle.flow_whole.specs.Runs.{AreRead, ArePulsed}
 use Rattle.pulse.specs.Values.{FlowState, PushState, flow_state, push_state}
 use Rattle.pulse.specs.Conditions.{IsFlowOf, ArePushesOf, IsBetween, active_count}
 use Rattle.pulse.specs.Phases.{AfterPulse, AfterDelivery, IsReadPhase}

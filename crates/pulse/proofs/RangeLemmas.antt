@@ -1,8 +1,8 @@
 use Rattle.std.proofs.Common.{ℕ, List, [], ◌∷◌, map}
 use Rattle.frame_net.specs.FlowNet.{FlowNet}
-use Rattle.flow_parts.specs.declared.parts.FlowPart.{FlowPart}
-use Rattle.flow_parts.specs.declared.parts.PushPart.{PushPart}
-use Rattle.flow_parts.specs.Parts.{AreFlowParts, ArePushParts}
+use Rattle.flow_part.specs.declared.parts.FlowPart.{FlowPart}
+use Rattle.flow_part.specs.declared.parts.PushPart.{PushPart}
+use Rattle.flow_part.specs.Parts.{AreFlowParts, ArePushParts}
 use Rattle.pulse.specs.Values.{AreFlowRanges, ArePushRanges, flow_range, push_range}
 
 -- the ranges of parts say all that makes them parts of a network's flow, or of its pushes

@@ -4,14 +4,14 @@ use Rattle.flow_theory.specs.Flow.{State}
 use Rattle.flow_theory.specs.Laws.{IsDistance}
 use Rattle.flow_theory.proofs.Exact.{exact-rises}
 use Rattle.frame_net.specs.FlowNet.{FlowNet, node_count, IsFlowNet}
-use Rattle.flow_parts.specs.declared.parts.FlowPart.{FlowPart}
-use Rattle.flow_parts.specs.Listing.{ListActive}
-use Rattle.flow_parts.specs.Parts.{Agree, AreFlowParts, IsSound, cells_of, pairs}
-use Rattle.parted_flow.specs.Labels.{AreLabelled, HoldLabels}
-use Rattle.parted_flow.specs.Runs.{any_active}
-use Rattle.parted_flow.proofs.Agreeing.{agree_self, sound_same}
-use Rattle.parted_flow.proofs.Holding.{held_cut, held_lists, held_state}
-use Rattle.parted_flow.proofs.LabelLemmas.{labelled_parts}
+use Rattle.flow_part.specs.declared.parts.FlowPart.{FlowPart}
+use Rattle.flow_part.specs.Listing.{ListActive}
+use Rattle.flow_part.specs.Parts.{Agree, AreFlowParts, IsSound, cells_of, pairs}
+use Rattle.flow_whole.specs.Labels.{AreLabelled, HoldLabels}
+use Rattle.flow_whole.specs.Runs.{any_active}
+use Rattle.flow_whole.proofs.Agreeing.{agree_self, sound_same}
+use Rattle.flow_whole.proofs.Holding.{held_cut, held_lists, held_state}
+use Rattle.flow_whole.proofs.LabelLemmas.{labelled_parts}
 use Rattle.exact_labels.specs.Distances.{exact}
 use Rattle.exact_labels.specs.Runs.{after_pulse}
 use Rattle.exact_labels.proofs.DistanceLaws.{exact_is}

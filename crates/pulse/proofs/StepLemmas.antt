@@ -3,12 +3,12 @@ use Rattle.std.proofs.Common.{◌≡◌, ℕ, ◌<◌, ◌≤◌, ◌⊎◌, tru
 use Rattle.std.proofs.lemmas.Bool.{false≢true}
 use Rattle.flow_theory.specs.Flow.{pulse}
 use Rattle.frame_net.specs.FlowNet.{FlowNet, node_count, IsFlowNet}
-use Rattle.flow_parts.specs.Parts.{Agree, IsSound}
-use Rattle.flow_parts.specs.Delivering.{HoldPushes}
-use Rattle.parted_flow.specs.Marks.{DeliveredSoFar}
-use Rattle.parted_flow.specs.Runs.{any_active}
-use Rattle.parted_flow.proofs.ActiveLemmas.{work, work_same, work_falls}
-use Rattle.parted_flow.proofs.MarkLemmas.{read_whole}
+use Rattle.flow_part.specs.Parts.{Agree, IsSound}
+use Rattle.flow_part.specs.Delivering.{HoldPushes}
+use Rattle.flow_whole.specs.Marks.{DeliveredSoFar}
+use Rattle.flow_whole.specs.Runs.{any_active}
+use Rattle.flow_whole.proofs.ActiveLemmas.{work, work_same, work_falls}
+use Rattle.flow_whole.proofs.MarkLemmas.{read_whole}
 use Rattle.exact_labels.specs.Distances.{exact}
 use Rattle.exact_labels.proofs.RunLaws.{Paid, paid_exact, exact_falls}
 use Rattle.pulse.specs.Values.{FlowState, PushState}

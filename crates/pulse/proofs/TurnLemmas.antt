@@ -2,16 +2,16 @@ use Rattle.std.proofs.Common.{◌≡◌, ℕ, ◌<◌, Bool, false, List, length
 use Rattle.flow_theory.specs.Flow.{State, pulse, IsValid}
 use Rattle.flow_theory.proofs.Keeps.{next_valid}
 use Rattle.frame_net.specs.FlowNet.{FlowNet, node_count, cap_at, IsFlowNet, IsStartable}
-use Rattle.flow_parts.specs.declared.parts.FlowPart.{FlowPart}
-use Rattle.flow_parts.specs.Parts.{AreFlowParts, Agree, IsSound, LabelsFit, cells_of, pairs}
-use Rattle.parted_flow.specs.Labels.{AreLabelled}
-use Rattle.parted_flow.specs.Runs.{ArePulsed}
-use Rattle.parted_flow.specs.Start.{PartsHold, LabelsStart, start_res, start_excess}
-use Rattle.parted_flow.proofs.Agreeing.{sound_same, sound_pulse}
-use Rattle.parted_flow.proofs.LabelLemmas.{labelled_parts}
-use Rattle.parted_flow.proofs.MarkLemmas.{give_whole}
-use Rattle.parted_flow.proofs.Sizes.{sizes}
-use Rattle.parted_flow.proofs.StartState.{held_cut, start_agrees, start_is_sound, labels_fit}
+use Rattle.flow_part.specs.declared.parts.FlowPart.{FlowPart}
+use Rattle.flow_part.specs.Parts.{AreFlowParts, Agree, IsSound, LabelsFit, cells_of, pairs}
+use Rattle.flow_whole.specs.Labels.{AreLabelled}
+use Rattle.flow_whole.specs.Runs.{ArePulsed}
+use Rattle.flow_whole.specs.Start.{PartsHold, LabelsStart, start_res, start_excess}
+use Rattle.flow_whole.proofs.Agreeing.{sound_same, sound_pulse}
+use Rattle.flow_whole.proofs.LabelLemmas.{labelled_parts}
+use Rattle.flow_whole.proofs.MarkLemmas.{give_whole}
+use Rattle.flow_whole.proofs.Sizes.{sizes}
+use Rattle.flow_whole.proofs.StartState.{held_cut, start_agrees, start_is_sound, labels_fit}
 use Rattle.pulse.specs.Values.{FlowState, flow_state}
 use Rattle.pulse.specs.Conditions.{IsFlowOf, IsBetween, IsStart, IsTurnable, is_marked}
 use Rattle.pulse.specs.Phases.{AfterPulse, Turns}

@@ -3,8 +3,8 @@ use Rattle.std.specs.Prelude.{◌≡◌, ℕ, ◌<◌, false, cond, length, slic
 use Rattle.flow_theory.specs.Flow.{State, IsPreflow, IsValid, is_active, sum_below}
 use Rattle.flow_theory.specs.Laws.{started}
 use Rattle.frame_net.specs.FlowNet.{FlowNet, node_count, cap_at, IsFlowNet}
-use Rattle.flow_parts.specs.Parts.{Cells, LabelsFit, IsSound, Agree, pair, pairs}
-use Rattle.parted_flow.specs.Marks.{AllMarked}
+use Rattle.flow_part.specs.Parts.{Cells, LabelsFit, IsSound, Agree, pair, pairs}
+use Rattle.flow_whole.specs.Marks.{AllMarked}
 use Rattle.exact_labels.specs.Runs.{IsRun}
 use Rattle.pulse.specs.Values.{FlowState, PushState, RunEnd, AreFlowRanges, ArePushRanges}
 

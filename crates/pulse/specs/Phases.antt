@@ -2,10 +2,10 @@
 use Rattle.std.specs.Prelude.{◌≡◌, ℕ, ◌<◌, ◌≤◌, ◌⊎◌, false, List}
 use Rattle.flow_theory.specs.Flow.{pulse}
 use Rattle.frame_net.specs.FlowNet.{FlowNet, node_count, start, row_len, IsFlowNet}
-use Rattle.flow_parts.specs.Parts.{Cells, IsSound, Agree, pairs}
-use Rattle.flow_parts.specs.Reading.{cells_push}
-use Rattle.flow_parts.specs.Delivering.{own, HoldPushes, NodeKept}
-use Rattle.parted_flow.specs.Marks.{and_range, AllMarked, DeliveredSoFar}
+use Rattle.flow_part.specs.Parts.{Cells, IsSound, Agree, pairs}
+use Rattle.flow_part.specs.Reading.{cells_push}
+use Rattle.flow_part.specs.Delivering.{own, HoldPushes, NodeKept}
+use Rattle.flow_whole.specs.Marks.{and_range, AllMarked, DeliveredSoFar}
 use Rattle.pulse.specs.Values.{FlowState, PushState}
 use Rattle.pulse.specs.Conditions.{IsFlowOf, ArePushesOf, IsBetween, is_marked, state_of}
 

@@ -1,10 +1,10 @@
 -- What contracts see of a flow, of pushes and of a run's end: values by arc and by node, and how the nodes are parted.
 use Rattle.std.specs.Prelude.{◌≡◌, ℕ, ◌+◌, ◌-◌, ◌<◌, ◌≤◌, ◌⊎◌, ◌^◌, min, Bool, true, List, length, slice_index, map}
 use Rattle.frame_net.specs.FlowNet.{FlowNet, node_count, start, row_len}
-use Rattle.flow_parts.specs.declared.parts.FlowPart.{FlowPart}
-use Rattle.flow_parts.specs.declared.parts.PushPart.{PushPart}
-use Rattle.flow_parts.specs.Listing.{AreWithin, IsListed}
-use Rattle.flow_parts.specs.Parts.{Cells, IsParted, cells_of, rows_walked, values_of}
+use Rattle.flow_part.specs.declared.parts.FlowPart.{FlowPart}
+use Rattle.flow_part.specs.declared.parts.PushPart.{PushPart}
+use Rattle.flow_part.specs.Listing.{AreWithin, IsListed}
+use Rattle.flow_part.specs.Parts.{Cells, IsParted, cells_of, rows_walked, values_of}
 
 -- the nodes from first up to end, their arcs, which are so many from base on, and the numbers of their excesses and new labels
 pub record FlowRange : Type 0 where

@@ -1,13 +1,13 @@
 //! Whether a node is active, and how many are.
 ghost use Rattle.std.specs.Prelude.{◌≡◌, false};
 ghost use Rattle.frame_net.specs.FlowNet.{node_count};
-ghost use Rattle.parted_flow.specs.Runs.{any_active};
+ghost use Rattle.flow_whole.specs.Runs.{any_active};
 ghost use Rattle.pulse.specs.Conditions.{IsFlowOf, state_of};
 
 use crate::flow::Flow;
-use flow_parts::excess_at;
+use flow_part::excess_at;
+use flow_whole::any_active_node;
 use frame_net::Net;
-use parted_flow::any_active_node;
 
 /// Whether some node is active. After a delivery phase the nodes that it listed are visited, and no others.
 pub(crate) fn is_active(net: &Net, flow: &Flow) -> bool

@@ -1,7 +1,7 @@
 //! Pulses from the start until no node is active, with exact labels whenever they are worth their walk.
 ghost use Rattle.std.specs.Prelude.{◌≡◌, ◌*◌, ◌<◌, ◌≤◌, ◌⊎◌, IfOk, OnOk, false, length};
 ghost use Rattle.frame_net.specs.FlowNet.{node_count};
-ghost use Rattle.flow_parts.specs.Parts.{Agree};
+ghost use Rattle.flow_part.specs.Parts.{Agree};
 ghost use Rattle.exact_labels.specs.Distances.{exact};
 ghost use Rattle.pulse.specs.Conditions.{ArePushesOf, IsBetween, IsMaxPreflow, NoneActive, state_of};
 ghost use Rattle.pulse.specs.Phases.{AfterPulse};

@@ -6,9 +6,9 @@ ghost use Rattle.pulse.specs.Phases.{Turns};
 
 use crate::marks::{no_marks, unmark};
 use aig_graph::NoMemory;
-use flow_parts::{FlowPart, excess_at, residual_at};
+use flow_part::{FlowPart, excess_at, residual_at};
+use flow_whole::{start_labels, start_parts, turn};
 use frame_net::Net;
-use parted_flow::{start_labels, start_parts, turn};
 use std::alloc::{AllocError, Global};
 use std::marker::Model;
 
@@ -30,7 +30,7 @@ pub struct Flow {
 
 impl Model for Flow {
     ghost use Rattle.std.specs.Prelude.{◌≡◌, length, true};
-    ghost use Rattle.flow_parts.specs.Listing.{ListActive};
+    ghost use Rattle.flow_part.specs.Listing.{ListActive};
     ghost use Rattle.pulse.specs.Values.{FlowState, flow_state};
 
     ghost Value = { FlowState };

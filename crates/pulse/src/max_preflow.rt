@@ -2,7 +2,7 @@
 ghost use Rattle.std.specs.Prelude.{◌≡◌, ◌<◌, length, pos, slice_index, ◌-ℤ◌};
 
 use crate::flow::Flow;
-use flow_parts::residual_at;
+use flow_part::residual_at;
 use std::marker::Model;
 
 /// The preflow at the end of a run: no node is active, so that as much reaches the sink as can. Excess that can't reach the sink

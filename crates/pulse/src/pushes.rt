@@ -1,14 +1,14 @@
 //! The pushes of a pulse.
 ghost use Rattle.std.specs.Prelude.{◌≡◌, ◌<◌, IfOk, false, length, slice_index};
 ghost use Rattle.frame_net.specs.FlowNet.{node_count};
-ghost use Rattle.flow_parts.specs.Listing.{AreWithin};
-ghost use Rattle.flow_parts.specs.Parts.{ArePushParts};
+ghost use Rattle.flow_part.specs.Listing.{AreWithin};
+ghost use Rattle.flow_part.specs.Parts.{ArePushParts};
 ghost use Rattle.pulse.specs.Conditions.{ArePushesOf};
 
 use aig_graph::NoMemory;
-use flow_parts::{PushPart, push_over, walked_over};
+use flow_part::{PushPart, push_over, walked_over};
+use flow_whole::push_parts;
 use frame_net::Net;
-use parted_flow::push_parts;
 use std::alloc::Global;
 use std::marker::Model;
 

@@ -1,7 +1,7 @@
 //! Exact labels between two pulses: global relabeling.
 ghost use Rattle.std.specs.Prelude.{◌≡◌, IfOk, length};
 ghost use Rattle.frame_net.specs.FlowNet.{node_count};
-ghost use Rattle.flow_parts.specs.Parts.{Agree};
+ghost use Rattle.flow_part.specs.Parts.{Agree};
 ghost use Rattle.exact_labels.specs.Distances.{exact};
 ghost use Rattle.exact_labels.specs.Runs.{after_pulse};
 ghost use Rattle.pulse.specs.Conditions.{IsBetween, state_of};
@@ -9,8 +9,8 @@ ghost use Rattle.pulse.specs.Conditions.{IsBetween, state_of};
 use crate::active::is_active;
 use crate::flow::Flow;
 use exact_labels::exact_labels;
+use flow_whole::hold_labels;
 use frame_net::Net;
-use parted_flow::hold_labels;
 use std::alloc::{AllocError, Global};
 
 /// Room for all nodes, for the walks that find exact labels.

@@ -3,19 +3,19 @@
 //! Each worker gets its part by value and returns it, in worker order; all else is lent to all workers. A refusal drops the parts.
 ghost use Rattle.std.specs.Prelude.{◌≡◌, ℕ, ◌<◌, ◌≤◌, IfOk, OnErr, OnOk, List, length, true};
 ghost use Rattle.frame_net.specs.FlowNet.{node_count};
-ghost use Rattle.flow_parts.specs.Listing.{ListActive};
-ghost use Rattle.flow_parts.specs.Parts.{AreFlowParts, ArePushParts, Agree, FlowPartFits, IsSound, LabelsFit, PushPartFits, cells_of, pairs, part_cells, rows_walked, values_of};
-ghost use Rattle.flow_parts.specs.Reading.{WholeRead, WholesRead, active_below};
-ghost use Rattle.flow_parts.specs.Delivering.{PartsSafe, RangeSafe};
-ghost use Rattle.flow_parts.specs.Listing.{ListActive, ListsActive};
-ghost use Rattle.flow_parts.specs.Visiting.{WholeDelivered, WholesDelivered};
-ghost use Rattle.parted_flow.specs.Runs.{ArePulsed, AreRead};
+ghost use Rattle.flow_part.specs.Listing.{ListActive};
+ghost use Rattle.flow_part.specs.Parts.{AreFlowParts, ArePushParts, Agree, FlowPartFits, IsSound, LabelsFit, PushPartFits, cells_of, pairs, part_cells, rows_walked, values_of};
+ghost use Rattle.flow_part.specs.Reading.{WholeRead, WholesRead, active_below};
+ghost use Rattle.flow_part.specs.Delivering.{PartsSafe, RangeSafe};
+ghost use Rattle.flow_part.specs.Listing.{ListActive, ListsActive};
+ghost use Rattle.flow_part.specs.Visiting.{WholeDelivered, WholesDelivered};
+ghost use Rattle.flow_whole.specs.Runs.{ArePulsed, AreRead};
 
 use crate::gate::PhaseGate;
 use crate::sharing::Share;
-use flow_parts::{FlowPart, PushPart, deliver_whole, read_whole};
+use flow_part::{FlowPart, PushPart, deliver_whole, read_whole};
+use flow_whole::{deliver_every, parted_anew, push_parts, read_every, turn};
 use frame_net::Net;
-use parted_flow::{deliver_every, parted_anew, push_parts, read_every, turn};
 use std::alloc::{AllocError, Global};
 use std::thread::Threads;
 use std::{mem, thread};

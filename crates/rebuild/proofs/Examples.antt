@@ -3,7 +3,7 @@ use Rattle.std.proofs.Common.{ℕ, ◌≡◌, List, [], ◌∷◌, refl}
 use Rattle.aig_graph.specs.declared.graph.Reset.TheVariants.{Zero, One, Free}
 use Rattle.aig_graph.specs.declared.properties.Symbol.{Symbol}
 use Rattle.aig_graph.specs.Graph.{Graph}
-use Rattle.aig_graph.specs.Circuits.{Network}
+use Rattle.aig_graph.specs.Circuits.{Netlist}
 use Rattle.aig_graph.specs.Closed.{is_settled}
 use Rattle.aig_graph.specs.Mapped.{mapped_props}
 use Rattle.aig_graph.specs.Move.{move_of}
@@ -15,7 +15,7 @@ use Rattle.variable_tables.specs.Tables.{table}
 use Rattle.rebuild.specs.Starting.{start_value, start_reset, gate_resets}
 use Rattle.rebuild.specs.Moved.{moved_of, is_latched, is_outside, gates_start, copies_start, new_variable, copy_variable, advanced, moved_graph, moved_symbols}
 
-abbrev with_outputs : Graph → List ℕ → Network
+abbrev with_outputs : Graph → List ℕ → Netlist
 with_outputs g outputs = record {
   aig = g;
   props = record { outputs = outputs; bad = []; constraints = []; justice = []; fairness = [] };

@@ -5,7 +5,7 @@ use Rattle.std.specs.List.Sorted.{IsStrictlyIncreasing}
 use Rattle.std.proofs.lemmas.List.{length-map, get_or-map}
 use Rattle.std.proofs.lemmas.List.Elements.{All-filter, All-map, All-get_or, filter_passes}
 use Rattle.std.proofs.lemmas.List.Kept.{IsStrictlyIncreasing-filter}
-use Rattle.aig_graph.specs.Circuits.{AreNamesBelow, AreSymbolsOf, IsNetwork}
+use Rattle.aig_graph.specs.Circuits.{AreNamesBelow, AreSymbolsOf, IsNetlist}
 use Rattle.aig_graph.specs.Closed.{IsClosedSet}
 use Rattle.aig_graph.specs.Graph.{IsGraph, first_latch, variables_end}
 use Rattle.aig_graph.specs.Move.{Move}
@@ -64,7 +64,7 @@ module _ (p : ℕ → Bool) (start : ℕ) where
             omega arith);
       }
 
-module _ (m : Move) (valid : IsGraph m.circuit.aig) (set : IsClosedSet m.circuit.aig m.held m.set) (network : IsNetwork m.circuit) where
+module _ (m : Move) (valid : IsGraph m.circuit.aig) (set : IsClosedSet m.circuit.aig m.held m.set) (netlist : IsNetlist m.circuit) where
   names-as_many : (n m : ℕ) (names : List Symbol) → m ≡ n → AreNamesBelow n names → AreNamesBelow m names
   names-as_many n m names same names_below = let P : ℕ → Type 0 = λ k. AreNamesBelow k names in subst P (sym same) names_below
 
@@ -72,7 +72,7 @@ module _ (m : Move) (valid : IsGraph m.circuit.aig) (set : IsClosedSet m.circuit
   unfolding moved_symbols
   moved-symbols =
       let shape : SameShape m.circuit (moved_of m) = moved-shape m in
-      let names = network.symbols in
+      let names = netlist.symbols in
       record {
         inputs = names-as_many m.circuit.aig.inputs (moved_graph m).inputs m.circuit.symbols.inputs shape.inputs names.inputs;
         latches = ranked-names (is_latched m) (first_latch m.circuit.aig) (length m.circuit.aig.latches) (length (moved_graph m).latches) m.circuit.symbols.latches
@@ -87,5 +87,5 @@ module _ (m : Move) (valid : IsGraph m.circuit.aig) (set : IsClosedSet m.circuit
       same_lengths : (xs ys : List (List ℕ)) → map (length {A = ℕ}) ys ≡ map (length {A = ℕ}) xs → length ys ≡ length xs
       same_lengths xs ys e = sym (length-map ys (length {A = ℕ})) ∙ ap (length {A = ℕ}) e ∙ length-map xs (length {A = ℕ})
 
-  pub IsNetwork-moved : IsNetwork (moved_of m)
-  IsNetwork-moved = record { props = moved-props m valid set network; symbols = moved-symbols }
+  pub IsNetlist-moved : IsNetlist (moved_of m)
+  IsNetlist-moved = record { props = moved-props m valid set netlist; symbols = moved-symbols }

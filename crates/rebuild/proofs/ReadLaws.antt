@@ -3,7 +3,7 @@ use Rattle.std.proofs.Common.{ℕ, ◌<◌, ◌≡◌, map, true, get_or, refl, 
 use Rattle.std.specs.List.{All}
 use Rattle.std.proofs.lemmas.Option.{slice_get-get_or}
 use Rattle.aig_graph.specs.Border.{is_read}
-use Rattle.aig_graph.specs.Circuits.{ArePropsOf, IsNetwork}
+use Rattle.aig_graph.specs.Circuits.{ArePropsOf, IsNetlist}
 use Rattle.aig_graph.specs.Closed.{IsClosedSet}
 use Rattle.aig_graph.specs.Graph.{IsGraph, IsLiteralOf, variable, variables_end}
 use Rattle.aig_graph.specs.Move.{Move}
@@ -26,10 +26,10 @@ module _ (m : Move) where
   pub moved-shape : SameShape m.circuit (moved_of m)
   moved-shape = mapped-shape (moved_literal m) m.circuit (moved_of m) (moved-inputs m) refl
 
-module _ (m : Move) (network : IsNetwork m.circuit) where
+module _ (m : Move) (netlist : IsNetlist m.circuit) where
   pub all-readable : All (λ lit. IsReadable m lit) (property_literals m.circuit.props)
   all-readable =
-      let within = literals_within m.circuit.aig m.circuit.props network.props in
+      let within = literals_within m.circuit.aig m.circuit.props netlist.props in
       λ k d h. record { read = read-property m k (get_or (property_literals m.circuit.props) k d) (slice_get-get_or (property_literals m.circuit.props) k d h); within = within k d h }
 
 module _ (m : Move) (valid : IsGraph m.circuit.aig) (set : IsClosedSet m.circuit.aig m.held m.set) where
@@ -37,5 +37,5 @@ module _ (m : Move) (valid : IsGraph m.circuit.aig) (set : IsClosedSet m.circuit
   moved_literal-readable lit readable =
       omega (arith, variable-signed_as_twice lit (new_variable m (variable lit)), new_variable-within m valid set (variable lit) readable.read readable.within, moved-end m set)
 
-  pub moved-props : IsNetwork m.circuit → ArePropsOf (moved_graph m) (moved_props m)
-  moved-props network = mapped-props (moved_literal m) (λ lit. IsReadable m lit) (moved_graph m) m.circuit.props (all-readable m network) moved_literal-readable
+  pub moved-props : IsNetlist m.circuit → ArePropsOf (moved_graph m) (moved_props m)
+  moved-props netlist = mapped-props (moved_literal m) (λ lit. IsReadable m lit) (moved_graph m) m.circuit.props (all-readable m netlist) moved_literal-readable

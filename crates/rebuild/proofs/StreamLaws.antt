@@ -10,7 +10,7 @@ use Rattle.aig_graph.proofs.SetLemmas.{has_iff_contains}
 use Rattle.aig_graph.proofs.ValueLaws.{value_laws}
 use Rattle.aig_graph.specs.Border.{is_read}
 use Rattle.aig_graph.specs.Building.{gate_of}
-use Rattle.aig_graph.specs.Circuits.{IsNetwork, Network}
+use Rattle.aig_graph.specs.Circuits.{IsNetlist, Netlist}
 use Rattle.aig_graph.specs.Closed.{IsClosedSet, IsLatchOrIn}
 use Rattle.aig_graph.specs.Graph.{Graph, IsGateAt, IsGraph, first_gate, first_latch, free_before, free_latches, gate_at, is_free, latch_at, variable, variables_end, is_free_latch}
 use Rattle.aig_graph.specs.Laws.{ValueLaws}
@@ -208,11 +208,11 @@ module _ (m : Move) (valid : IsGraph m.circuit.aig) (set : IsClosedSet m.circuit
   same_latches zero = same_latches-start
   same_latches (suc t) = let P : ℕ → Type 0 = λ n. SameLatches n in subst P (add-one t) (same_latches-later t (same_latches t))
 
-  moved-values : IsNetwork m.circuit → (t : ℕ) → map (after t) (property_literals (moved_props m)) ≡ map (before t) (property_literals m.circuit.props)
-  moved-values network t =
+  moved-values : IsNetlist m.circuit → (t : ℕ) → map (after t) (property_literals (moved_props m)) ≡ map (before t) (property_literals m.circuit.props)
+  moved-values netlist t =
       ap (map (after t)) (moved-literals m)
       ∙ map-map (after t) (moved_literal m) (property_literals m.circuit.props)
-      ∙ map-same (λ lit. IsReadable m lit) (λ lit. after t (moved_literal m lit)) (before t) (λ lit readable. moved_literal-value t (same_latches t) lit readable) (property_literals m.circuit.props) (all-readable m network)
+      ∙ map-same (λ lit. IsReadable m lit) (λ lit. after t (moved_literal m lit)) (before t) (λ lit readable. moved_literal-value t (same_latches t) lit readable) (property_literals m.circuit.props) (all-readable m netlist)
 
 range-rising : (n : ℕ) → IsStrictlyIncreasing (range_with_len 0 n)
 range-rising n k h =
@@ -222,23 +222,23 @@ range-below : (n : ℕ) → All (λ place. place < n) (range_with_len 0 n)
 range-below n k d h = omega (arith, length-range_with_len 0 n, get_or-range_with_len 0 n k d (omega (arith, length-range_with_len 0 n)))
 
 -- every free latch stays at its place among the free ones, and the properties keep their values
-pub same_streams : (m : Move) → IsGraph m.circuit.aig → IsNetwork m.circuit → IsClosedSet m.circuit.aig m.held m.set → IsGraph (moved_graph m)
+pub same_streams : (m : Move) → IsGraph m.circuit.aig → IsNetlist m.circuit → IsClosedSet m.circuit.aig m.held m.set → IsGraph (moved_graph m)
     → SameStreams m.circuit (moved_of m) (range_with_len 0 (free_latches m.circuit.aig))
-same_streams m valid network set moved = record {
+same_streams m valid netlist set moved = record {
   shape = moved-shape m;
   places = record {
     rising = range-rising (free_latches m.circuit.aig);
     below = range-below (free_latches m.circuit.aig);
     each = length-range_with_len 0 (free_latches m.circuit.aig) ∙ sym (moved-free m set);
   };
-  values = λ x f t. moved-values m valid set moved x f network t;
+  values = λ x f t. moved-values m valid set moved x f netlist t;
 }
 
 -- the same of a circuit that is put together of the moved parts
 pub moved-whole : (m : Move) (aig : Graph) (props : Props) (symbols : Symbols) → aig ≡ moved_graph m → props ≡ moved_props m → symbols ≡ moved_symbols m
     → record { aig = aig; props = props; symbols = symbols } ≡ moved_of m
 moved-whole m aig props symbols e1 e2 e3 =
-    let by_aig : Graph → Network = λ x. record { aig = x; props = props; symbols = symbols } in
-    let by_props : Props → Network = λ x. record { aig = moved_graph m; props = x; symbols = symbols } in
-    let by_symbols : Symbols → Network = λ x. record { aig = moved_graph m; props = moved_props m; symbols = x } in
+    let by_aig : Graph → Netlist = λ x. record { aig = x; props = props; symbols = symbols } in
+    let by_props : Props → Netlist = λ x. record { aig = moved_graph m; props = x; symbols = symbols } in
+    let by_symbols : Symbols → Netlist = λ x. record { aig = moved_graph m; props = moved_props m; symbols = x } in
     ap by_aig e1 ∙ ap by_props e2 ∙ ap by_symbols e3

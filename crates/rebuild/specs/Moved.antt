@@ -6,7 +6,7 @@ use Rattle.aig_graph.specs.declared.properties.Props.{Props}
 use Rattle.aig_graph.specs.declared.properties.Symbol.{Symbol}
 use Rattle.aig_graph.specs.declared.properties.Symbols.{Symbols}
 use Rattle.aig_graph.specs.Graph.{Graph, variable, first_latch, first_gate, variables_end, latch_at, gate_at, is_free_latch, free_latches}
-use Rattle.aig_graph.specs.Circuits.{Network}
+use Rattle.aig_graph.specs.Circuits.{Netlist}
 use Rattle.aig_graph.specs.Value.{signed_as, reset_to}
 use Rattle.aig_graph.specs.Building.{gate_of}
 use Rattle.aig_graph.specs.Move.{Move}
@@ -103,7 +103,7 @@ moved_name m name = record name { position = count_below (is_latched m) (first_l
 unfoldable pub moved_symbols : Move → Symbols
 moved_symbols m = record m.circuit.symbols { latches = map (moved_name m) (filter (stays m) m.circuit.symbols.latches) }
 
-abbrev pub moved_of : Move → Network
+abbrev pub moved_of : Move → Netlist
 moved_of m = record { aig = moved_graph m; props = moved_props m; symbols = moved_symbols m }
 
 -- the number of variables of the moved circuit

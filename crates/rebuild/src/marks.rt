@@ -1,6 +1,6 @@
 ghost use Rattle.std.specs.Prelude.{◌≡◌, ◌<◌, ◌||◌, IfOk};
 ghost use Rattle.aig_graph.specs.Graph.{IsGraph, first_latch, first_gate, variables_end};
-ghost use Rattle.aig_graph.specs.Circuits.{IsNetwork};
+ghost use Rattle.aig_graph.specs.Circuits.{IsNetlist};
 ghost use Rattle.aig_graph.specs.Closed.{is_held, IsClosedSet};
 ghost use Rattle.aig_graph.specs.Border.{is_read_outside};
 ghost use Rattle.aig_graph.specs.Move.{move_of};
@@ -23,7 +23,7 @@ pub(crate) struct MarkedSet<'a> {
     pub(crate) members: Vec<bool>,
     pub(crate) latched: Vec<bool>,
     ghost graph: { IsGraph circuit.now.aig },
-    ghost network: { IsNetwork circuit.now },
+    ghost netlist: { IsNetlist circuit.now },
     ghost passable: { ArePassable circuit.now.aig keep.now set.now },
     ghost members_are: { members.items ≡ by_variable circuit.now.aig (has set.now) },
     ghost latched_are: { latched.items ≡ by_variable circuit.now.aig (is_latched (move_of circuit.now keep.now set.now)) },

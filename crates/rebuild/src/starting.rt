@@ -1,4 +1,4 @@
-//! Values at step 0. A passable gate rests on known resets alone, so its value there needs no input: a latch that moves behind
+//! Values at step 0. A passable gate rests on known resets alone, so its value there needs no input: a latch that moves after
 //! it gets this value as its reset, and no search for one is needed (Hurst et al. 2007).
 ghost use Rattle.std.specs.Prelude.{◌≡◌, ◌+◌, ◌<◌, IfOk, OnOk, length};
 ghost use Rattle.aig_graph.specs.Graph.{IsGraph, variable, first_gate};

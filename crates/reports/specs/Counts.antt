@@ -1,14 +1,14 @@
 -- The text of what a circuit has.
 use Rattle.std.specs.Prelude.{ℕ, List, [], ◌∷◌, ◌++◌, length, decimal, codes}
 use Rattle.aig_graph.specs.Graph.{free_latches}
-use Rattle.aig_graph.specs.Circuits.{Network}
+use Rattle.aig_graph.specs.Circuits.{Netlist}
 use Rattle.aig_graph.specs.declared.properties.Props.{Props}
 
 -- a word, a space, a number
 unfoldable pub count_line : List ℕ → ℕ → List ℕ
 count_line word count = word ++ (32 ∷ (decimal count ++ 10 ∷ []))
 
-unfoldable pub graph_counts : Network → List ℕ
+unfoldable pub graph_counts : Netlist → List ℕ
 graph_counts c =
     count_line (codes "inputs") c.aig.inputs ++ (count_line (codes "latches") (length c.aig.latches)
     ++ (count_line (codes "free") (free_latches c.aig) ++ count_line (codes "gates") (length c.aig.gates)))
@@ -19,5 +19,5 @@ property_counts p =
     ++ (count_line (codes "justice") (length p.justice) ++ count_line (codes "fairness") (length p.fairness))))
 
 -- what is printed of a circuit with so many passable gates
-unfoldable pub counts_text : Network → ℕ → List ℕ
+unfoldable pub counts_text : Netlist → ℕ → List ℕ
 counts_text c passable = graph_counts c ++ (property_counts c.props ++ count_line (codes "passable") passable)

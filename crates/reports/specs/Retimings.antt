@@ -1,8 +1,8 @@
 -- What is printed of a retimed circuit.
 use Rattle.std.specs.Prelude.{ℕ, List, [], ◌∷◌, ◌++◌, length, decimal, codes}
 use Rattle.counted_io.specs.Line.{numbered_lines}
-use Rattle.frame_laws.specs.declared.report.FrameReport.{FrameReport}
-use Rattle.frame_laws.specs.declared.report.Retimed.{Retimed}
+use Rattle.retimed_circuits.specs.declared.report.FrameReport.{FrameReport}
+use Rattle.retimed_circuits.specs.declared.report.Retimed.{Retimed}
 
 -- two numbers with "to" between, which end a line
 abbrev pub change : ℕ → ℕ → List ℕ

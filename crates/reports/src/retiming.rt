@@ -4,7 +4,7 @@ ghost use Rattle.counted_io.specs.Output.{Writes};
 ghost use Rattle.reports.specs.Retimings.{change, frame_line, frame_lines, retiming_text};
 
 use counted_io::{Buffered, CountedWrite, WriteError};
-use frame_laws::{FrameReport, Retimed};
+use retimed_circuits::{FrameReport, Retimed};
 
 /// Puts two numbers with `to` between, and the newline.
 fn put_change<W: CountedWrite>(out: &mut Buffered<'_, W>, before: u64, after: u64)

@@ -2,18 +2,18 @@
 use Rattle.std.proofs.Common.{◌≡◌, [], ◌∷◌, ◌++◌, map, Some, None, Ok, Err, refl}
 use Rattle.std.specs.Prelude.{codes}
 use Rattle.std.specs.Fmt.{digits}
-use Rattle.aag_format.specs.declared.fault.ReadError.TheVariants.{BadHeader}
-use Rattle.aag_format.specs.Lines.{pieces, numbers_of}
-use Rattle.aag_format.specs.Text.{text, latch_row, gate_row, symbol_line}
+use Rattle.file_words.specs.declared.fault.ReadError.TheVariants.{BadHeader}
+use Rattle.file_words.specs.Lines.{pieces, numbers_of}
+use Rattle.file_words.specs.Text.{text, latch_row, gate_row, symbol_line}
 use Rattle.counted_io.specs.Line.{line, spaced}
 use Rattle.deltas.specs.Deltas.{delta_value}
-use Rattle.aag_file.specs.Items.{item_of, begins_comment}
-use Rattle.aag_file.specs.Meaning.{props_of, symbols_of}
-use Rattle.aag_file.specs.Reading.{◌>>=◌}
-use Rattle.aag_file.specs.Reading as ascii
-use Rattle.aig_file.specs.Headers.{header_of}
-use Rattle.aig_file.specs.Items.{next_section}
-use Rattle.aig_file.specs.Reading.{read_binary, read_raw, feed, end_line, end_first, end_second, read_line, read_header, circuit_of}
+use Rattle.ascii_file.specs.Items.{item_of, begins_comment}
+use Rattle.ascii_file.specs.Meaning.{props_of, symbols_of}
+use Rattle.ascii_file.specs.Reading.{◌>>=◌}
+use Rattle.ascii_file.specs.Reading as ascii
+use Rattle.binary_file.specs.Headers.{header_of}
+use Rattle.binary_file.specs.Items.{next_section}
+use Rattle.binary_file.specs.Reading.{read_binary, read_raw, feed, end_line, end_first, end_second, read_line, read_header, circuit_of}
 use Rattle.spellings.specs.declared.form.Spelling.TheVariants.{Ascii, Binary}
 use Rattle.spellings.specs.Spellings.{spelling_of, read_any, text_in}
 

@@ -2,9 +2,9 @@ ghost use Rattle.counted_io.specs.Output.{Writes};
 ghost use Rattle.spellings.specs.Spellings.{text_in};
 
 use crate::form::Spelling;
-use aag_writer::write_aag;
 use aig_graph::Circuit;
-use aig_writer::write_aig;
+use ascii_writer::write_aag;
+use binary_writer::write_aig;
 use counted_io::{CountedWrite, WriteError};
 
 /// Writes the circuit's text in the spelling. Takes no memory, and calls the writer about once for each 8 KiB of text.

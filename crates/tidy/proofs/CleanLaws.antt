@@ -9,21 +9,21 @@ use Rattle.aig_graph.specs.declared.graph.Gate.{Gate}
 use Rattle.aig_graph.specs.declared.graph.Latch.{Latch}
 use Rattle.aig_graph.specs.declared.graph.Reset.{Reset}
 use Rattle.aig_graph.specs.declared.graph.Reset.TheVariants.{Zero, One, Free}
-use Rattle.aig_graph.specs.Circuits.{Network}
+use Rattle.aig_graph.specs.Circuits.{Netlist}
 use Rattle.aig_graph.specs.Graph.{Graph, IsGraph, IsGateAt, variable, first_latch, first_gate, variables_end, is_free}
 use Rattle.variable_tables.specs.Marking.{has}
-use Rattle.clean_laws.specs.Cleaned.{IsPass}
-use Rattle.clean_laws.specs.Latches.{constant_of, first_like, is_like, is_latch, is_stuck, latch_stand, same_reset}
-use Rattle.clean_laws.specs.Merged.{Merging, is_gate, known_stand, merge_gate, merge_gates, merged_of, merging_start, replaced_gate, stands_of, with_stand}
-use Rattle.clean_laws.specs.Reached.{AreReached, stays}
-use Rattle.clean_laws.specs.Trimmed.{new_variable}
-use Rattle.clean_laws.proofs.LatchLaws.{constant-even, first_where-least, stands_for, by_constant, by_itself, by_earlier}
-use Rattle.clean_laws.proofs.MergedLaws.{replaced-end, replaced-first_latch}
-use Rattle.clean_laws.proofs.OwnLaws.{leaf-latch, stands-leaf, stands-low}
-use Rattle.clean_laws.proofs.PassLaws.{IsCircuit}
-use Rattle.clean_laws.proofs.StandLaws.{GateIn, IsBelow, below-merge_gate, gate_stands, gates-in, length-stands_of, merge-all, none-kept, start-below, start-length, with_earlier, with_equal, with_false, with_opposite, with_true}
-use Rattle.clean_laws.proofs.TrimmedLaws.{stays-past, trimmed-end, trimmed-first_latch}
-use Rattle.clean_laws.proofs.UnchangedLaws.{count-full, reached-own, replaced_circuit-same}
+use Rattle.cleaned_circuits.specs.Cleaned.{IsPass}
+use Rattle.cleaned_circuits.specs.Latches.{constant_of, first_like, is_like, is_latch, is_stuck, latch_stand, same_reset}
+use Rattle.cleaned_circuits.specs.Merged.{Merging, is_gate, known_stand, merge_gate, merge_gates, merged_of, merging_start, replaced_gate, stands_of, with_stand}
+use Rattle.cleaned_circuits.specs.Reached.{AreReached, stays}
+use Rattle.cleaned_circuits.specs.Trimmed.{new_variable}
+use Rattle.cleaned_circuits.proofs.LatchLaws.{constant-even, first_where-least, stands_for, by_constant, by_itself, by_earlier}
+use Rattle.cleaned_circuits.proofs.MergedLaws.{replaced-end, replaced-first_latch}
+use Rattle.cleaned_circuits.proofs.OwnLaws.{leaf-latch, stands-leaf, stands-low}
+use Rattle.cleaned_circuits.proofs.PassLaws.{IsCircuit}
+use Rattle.cleaned_circuits.proofs.StandLaws.{GateIn, IsBelow, below-merge_gate, gate_stands, gates-in, length-stands_of, merge-all, none-kept, start-below, start-length, with_earlier, with_equal, with_false, with_opposite, with_true}
+use Rattle.cleaned_circuits.proofs.TrimmedLaws.{stays-past, trimmed-end, trimmed-first_latch}
+use Rattle.cleaned_circuits.proofs.UnchangedLaws.{count-full, reached-own, replaced_circuit-same}
 use Rattle.tidy.specs.Tidy.{IsPlain, IsTidy}
 use Rattle.tidy.proofs.OwnLaws.{own-gate}
 
@@ -218,10 +218,10 @@ module _ (g : Graph) (held : List ℕ) (valid : IsGraph g) where
           absurd (both_ways (is_like g held latch i (slice_get g.latches i)) none some))
     ]
 
-pub clean-tidy : (held : List ℕ) (c : Network) (kept : List ℕ) → IsCircuit c → All (λ j. j < length c.aig.latches) held → IsPass held c c kept held → IsTidy held c
+pub clean-tidy : (held : List ℕ) (c : Netlist) (kept : List ℕ) → IsCircuit c → All (λ j. j < length c.aig.latches) held → IsPass held c c kept held → IsTidy held c
 clean-tidy held c kept valid in_range pass = record {
   reached = λ r holds v past less.
-      let P : Network → Type 0 = λ x. AreReached x.aig x.props held pass.reached in
+      let P : Netlist → Type 0 = λ x. AreReached x.aig x.props held pass.reached in
       let here : AreReached c.aig c.props held pass.reached = subst P merged pass.are_reached in
       here.least r holds v (sym (stays-past m.aig pass.reached v (omega (arith, past, replaced-first_latch stands c.aig))) ∙ full v (omega (arith, less, replaced-end stands c.aig)));
   moving = own-moving c.aig held valid.graph owns;
@@ -230,7 +230,7 @@ clean-tidy held c kept valid in_range pass = record {
   pairs = own-pairs c.aig held valid.graph owns;
 }
   where
-    m : Network
+    m : Netlist
     m = merged_of held c
 
     stands : List ℕ
@@ -243,8 +243,8 @@ clean-tidy held c kept valid in_range pass = record {
       trimmed-first_latch m.aig pass.reached,
       replaced-end stands c.aig,
       replaced-first_latch stands c.aig,
-      ap (λ (x : Network). length x.aig.latches) pass.circuit,
-      ap (λ (x : Network). length x.aig.gates) pass.circuit,
+      ap (λ (x : Netlist). length x.aig.latches) pass.circuit,
+      ap (λ (x : Netlist). length x.aig.gates) pass.circuit,
     )
 
     full : (v : ℕ) → v < variables_end m.aig → stays m.aig pass.reached v ≡ true

@@ -4,20 +4,20 @@ use Rattle.std.specs.List.{All}
 use Rattle.std.proofs.lemmas.List.{length-map}
 use Rattle.std.proofs.lemmas.List.Elements.{All-filter, All-map}
 use Rattle.aig_graph.specs.declared.properties.Symbol.{Symbol}
-use Rattle.aig_graph.specs.Circuits.{Network, IsNetwork}
+use Rattle.aig_graph.specs.Circuits.{Netlist, IsNetlist}
 use Rattle.aig_graph.specs.Graph.{variables_end}
 use Rattle.aig_graph.specs.Keep.{held_by, is_named}
 use Rattle.aig_graph.specs.Move.{Move}
 use Rattle.variable_tables.specs.Counting.{count_below, places}
 use Rattle.variable_tables.proofs.PlacesLemmas.{length-places}
-use Rattle.clean_laws.specs.Cleaned.{IsPass, Cleans, unchanged, after_pass}
-use Rattle.clean_laws.proofs.PassLaws.{IsCircuit, IsCircuit-cleans, IsCircuit-pass}
+use Rattle.cleaned_circuits.specs.Cleaned.{IsPass, Cleans, unchanged, after_pass}
+use Rattle.cleaned_circuits.proofs.PassLaws.{IsCircuit, IsCircuit-cleans, IsCircuit-pass}
 use Rattle.rebuild.specs.Moved.{copy_for, gates_below, gate_for, is_outside, moved_graph, moved_of}
 use Rattle.rebuild.proofs.MovedLaws.{IsGraph-moved}
-use Rattle.rebuild.proofs.NameLaws.{IsNetwork-moved}
-use Rattle.frame_laws.specs.Names.{held_in}
-use Rattle.frame_laws.specs.Frames.{move_in, moved_in}
-use Rattle.frame_laws.proofs.HeldLaws.{moved-positions, pass-keeps}
+use Rattle.rebuild.proofs.NameLaws.{IsNetlist-moved}
+use Rattle.retimed_circuits.specs.Names.{held_in}
+use Rattle.retimed_circuits.specs.Frames.{move_in, moved_in}
+use Rattle.retimed_circuits.proofs.HeldLaws.{moved-positions, pass-keeps}
 use Rattle.tidy.specs.Tidy.{IsTidy, AreLowTidy, moved_held}
 use Rattle.tidy.specs.Laws.{NothingToClean}
 use Rattle.tidy.proofs.CleanLaws.{clean-tidy}
@@ -25,18 +25,18 @@ use Rattle.tidy.proofs.MovedLaws.{moved_tidy}
 use Rattle.tidy.proofs.PassLaws.{tidy-cleans}
 
 -- names hold latches
-pub held-range : (names : List (List ℕ)) (c : Network) → IsNetwork c → All (λ j. j < length c.aig.latches) (held_in names c)
+pub held-range : (names : List (List ℕ)) (c : Netlist) → IsNetlist c → All (λ j. j < length c.aig.latches) (held_in names c)
 unfolding held_by
-held-range names c network =
+held-range names c netlist =
     All-map (λ j. j < length c.aig.latches) (λ (s : Symbol). s.position) (filter (is_named names) c.symbols.latches)
-    (All-filter (is_named names) (λ (s : Symbol). s.position < length c.aig.latches) c.symbols.latches network.symbols.latches.below)
+    (All-filter (is_named names) (λ (s : Symbol). s.position < length c.aig.latches) c.symbols.latches netlist.symbols.latches.below)
 
 -- what a circuit is cleaned to is tidy
-pub cleans-tidy : (names : List (List ℕ)) (d : Network) (held : List ℕ) (c : Network) (kept : List ℕ) → Cleans d held c kept → held ≡ held_in names c → IsCircuit c → IsTidy (held_in names d) d
+pub cleans-tidy : (names : List (List ℕ)) (d : Netlist) (held : List ℕ) (c : Netlist) (kept : List ℕ) → Cleans d held c kept → held ≡ held_in names c → IsCircuit c → IsTidy (held_in names d) d
 cleans-tidy names d _ _ _ (unchanged held c kept pass same) start valid =
     let P : List ℕ → Type 0 = λ positions. IsPass positions c c kept positions in
-    let Q : Network → Type 0 = λ x. IsTidy (held_in names x) x in
-    subst Q (sym same) (clean-tidy (held_in names c) c kept valid (held-range names c valid.network) (subst P start pass))
+    let Q : Netlist → Type 0 = λ x. IsTidy (held_in names x) x in
+    subst Q (sym same) (clean-tidy (held_in names c) c kept valid (held-range names c valid.netlist) (subst P start pass))
 cleans-tidy names d _ _ _ (after_pass held c e first second still_held pass differs rest) start valid =
     let P : List ℕ → Type 0 = λ positions. IsPass positions c e first still_held in
     let one = pass-keeps names c e first still_held valid (subst P start pass) in
@@ -55,19 +55,19 @@ first-copy m first e =
       length-places (is_outside m) (variables_end m.circuit.aig),
     )
 
-held-same : (names : List (List ℕ)) (c : Network) (s : List ℕ) → IsNetwork c → moved_held (move_in names c s) ≡ held_in names (moved_in names c s)
+held-same : (names : List (List ℕ)) (c : Netlist) (s : List ℕ) → IsNetlist c → moved_held (move_in names c s) ≡ held_in names (moved_in names c s)
 unfolding moved_held
-held-same names c s network = moved-positions names c s network
+held-same names c s netlist = moved-positions names c s netlist
 
-pub nothing_to_clean : (names : List (List ℕ)) (c d : Network) (kept s : List ℕ) (first : ℕ) → NothingToClean names c d kept s first
-nothing_to_clean names c d kept s first graph network cleans set room copies lows =
+pub nothing_to_clean : (names : List (List ℕ)) (c d : Netlist) (kept s : List ℕ) (first : ℕ) → NothingToClean names c d kept s first
+nothing_to_clean names c d kept s first graph netlist cleans set room copies lows =
     let m : Move = move_in names d s in
-    let circuit : IsCircuit c = record { graph = graph; network = network } in
+    let circuit : IsCircuit c = record { graph = graph; netlist = netlist } in
     let valid : IsCircuit d = IsCircuit-cleans d (held_in names c) c kept cleans circuit in
     let tidy : IsTidy (held_in names d) d = cleans-tidy names d (held_in names c) c kept cleans refl circuit in
     let P : ℕ → Type 0 = λ n. AreLowTidy (moved_graph m) n in
     let after : IsTidy (moved_held m) (moved_of m) =
-    moved_tidy m valid.graph valid.network (held-range names d valid.network) set tidy (subst P (first-copy m first copies) lows) in
-    let moved : IsCircuit (moved_of m) = record { graph = IsGraph-moved m valid.graph set room; network = IsNetwork-moved m valid.graph set valid.network } in
+    moved_tidy m valid.graph valid.netlist (held-range names d valid.netlist) set tidy (subst P (first-copy m first copies) lows) in
+    let moved : IsCircuit (moved_of m) = record { graph = IsGraph-moved m valid.graph set room; netlist = IsNetlist-moved m valid.graph set valid.netlist } in
     let Q : List ℕ → Type 0 = λ held. IsTidy held (moved_of m) in
-    tidy-cleans (held_in names (moved_of m)) (moved_of m) moved (held-range names (moved_of m) moved.network) (subst Q (held-same names d s valid.network) after)
+    tidy-cleans (held_in names (moved_of m)) (moved_of m) moved (held-range names (moved_of m) moved.netlist) (subst Q (held-same names d s valid.netlist) after)

@@ -7,8 +7,8 @@ use Rattle.std.proofs.lemmas.List.{take_all, length-drop, get_or_past}
 use Rattle.aig_graph.specs.declared.graph.Gate.{Gate}
 use Rattle.aig_graph.specs.Graph.{Graph, variable, first_gate}
 use Rattle.variable_tables.specs.Marking.{Marks, mark_at}
-use Rattle.clean_laws.specs.Merged.{is_gate}
-use Rattle.clean_laws.proofs.StandLaws.{is_gate-is, lookup_push}
+use Rattle.cleaned_circuits.specs.Merged.{is_gate}
+use Rattle.cleaned_circuits.proofs.StandLaws.{is_gate-is, lookup_push}
 use Rattle.tidy.specs.Tidy.{IsPlain, AreLowTidy}
 use Rattle.tidy.specs.Gathered.{AreGathered, AreMarked, AreNew, IsLowCopy, IsShared, IsSpoilt, by_gate, by_pair, is_plain}
 use Rattle.tidy.proofs.CleanLaws.{is_gate-self, lookup-none}

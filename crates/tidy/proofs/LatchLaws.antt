@@ -13,8 +13,8 @@ use Rattle.aig_graph.proofs.SignLaws.{variable-signed_as_twice}
 use Rattle.variable_tables.specs.Counting.{count_below}
 use Rattle.variable_tables.specs.Marking.{has}
 use Rattle.variable_tables.proofs.PlacesLemmas.{Ranks, count-le, count-lt}
-use Rattle.clean_laws.specs.Latches.{constant_of, is_stuck}
-use Rattle.clean_laws.proofs.LatchLaws.{constant-even}
+use Rattle.cleaned_circuits.specs.Latches.{constant_of, is_stuck}
+use Rattle.cleaned_circuits.proofs.LatchLaws.{constant-even}
 use Rattle.rebuild.specs.Moved.{copies_start, copy_variable, is_latched, latch_for, latch_from, moved_graph, moved_literal, new_variable}
 use Rattle.rebuild.proofs.BorderLaws.{latched-cases, read-next}
 use Rattle.rebuild.proofs.MovedLaws.{copies_start-is, copy_variable-is, gates_start-is, latch_source, moved-first_latch}

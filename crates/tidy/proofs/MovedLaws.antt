@@ -6,8 +6,8 @@ use Rattle.tidy.proofs.LatchLaws.{moved-moving, moved-single}
 use Rattle.tidy.proofs.WaveLaws.{all_reached}
 
 pub moved_tidy : (m : Move) → MovedIsTidy m
-moved_tidy m valid network in_range set tidy lows = record {
-  reached = all_reached m valid network in_range set tidy;
+moved_tidy m valid netlist in_range set tidy lows = record {
+  reached = all_reached m valid netlist in_range set tidy;
   moving = moved-moving m valid set tidy;
   single = moved-single m valid set tidy;
   plain = moved-plain m valid set tidy lows;

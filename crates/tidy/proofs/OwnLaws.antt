@@ -9,15 +9,15 @@ use Rattle.aig_graph.specs.declared.graph.Latch.{Latch}
 use Rattle.aig_graph.specs.declared.graph.Reset.{Reset}
 use Rattle.aig_graph.specs.Building.{gate_of}
 use Rattle.aig_graph.specs.Graph.{IsGraph, IsGateAt, variable, first_latch, first_gate, variables_end}
-use Rattle.aig_graph.specs.Circuits.{Network}
+use Rattle.aig_graph.specs.Circuits.{Netlist}
 use Rattle.aig_graph.specs.Value.{signed_as}
 use Rattle.aig_graph.proofs.KindLaws.{element}
 use Rattle.variable_tables.specs.Marking.{has}
-use Rattle.clean_laws.specs.Latches.{leaf_stand, latch_stand, is_stuck}
-use Rattle.clean_laws.specs.Merged.{Merging, is_gate, known_stand, merge_gate, merge_gates, merging_start, replaced, replaced_gate, stands_of, with_stand}
-use Rattle.clean_laws.proofs.LatchLaws.{stands_for, by_constant, by_itself, by_earlier}
-use Rattle.clean_laws.proofs.StandLaws.{GateIn, gate_stands, gates-in, length-stands_of, lookup_push, merge-all, start-entry, start-length, with_earlier, with_equal, with_false, with_opposite, with_true, is_gate-is}
-use Rattle.clean_laws.proofs.OwnLaws.{leaf-latch, leaf-low}
+use Rattle.cleaned_circuits.specs.Latches.{leaf_stand, latch_stand, is_stuck}
+use Rattle.cleaned_circuits.specs.Merged.{Merging, is_gate, known_stand, merge_gate, merge_gates, merging_start, replaced, replaced_gate, stands_of, with_stand}
+use Rattle.cleaned_circuits.proofs.LatchLaws.{stands_for, by_constant, by_itself, by_earlier}
+use Rattle.cleaned_circuits.proofs.StandLaws.{GateIn, gate_stands, gates-in, length-stands_of, lookup_push, merge-all, start-entry, start-length, with_earlier, with_equal, with_false, with_opposite, with_true, is_gate-is}
+use Rattle.cleaned_circuits.proofs.OwnLaws.{leaf-latch, leaf-low}
 use Rattle.tidy.specs.Tidy.{IsPlain, IsTidy}
 
 pub twice : (lit v : ℕ) → v ≡ variable lit → signed_as lit (2 * v) ≡ lit
@@ -44,7 +44,7 @@ latch-is a b next reset =
     let two : Reset → Latch = λ r. record { next = b.next; reset = r } in
     ap one next ∙ ap two reset
 
-module _ (held : List ℕ) (c : Network) (valid : IsGraph c.aig) (tidy : IsTidy held c) where
+module _ (held : List ℕ) (c : Netlist) (valid : IsGraph c.aig) (tidy : IsTidy held c) where
   tidy-leaf : (v : ℕ) → v < first_gate c.aig → leaf_stand c.aig held v ≡ 2 * v
   tidy-leaf v h = elim (cases_lt v (first_latch c.aig)) [
     | inl low ↦ leaf-low c.aig held v low

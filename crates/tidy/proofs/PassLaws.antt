@@ -2,22 +2,22 @@
 use Rattle.std.proofs.Common.{ℕ, ◌+◌, ◌-◌, ◌<◌, ◌≤◌, ◌≡◌, inl, inr, List, length, map, Bool, true, ◌&&◌, nat_le, nat_lt, get_or, refl, arith, ap, sym, ◌∙◌, subst}
 use Rattle.std.specs.List.{All}
 use Rattle.std.proofs.lemmas.Bool.{cases_lt, and_from, and_parts, le-leb, lt-ltb, leb-true, ltb-true}
-use Rattle.aig_graph.specs.Circuits.{Network}
+use Rattle.aig_graph.specs.Circuits.{Netlist}
 use Rattle.aig_graph.specs.Graph.{Graph, IsGateAt, variable, first_latch, variables_end, free_latches}
 use Rattle.aig_graph.specs.Laws.{all_free}
 use Rattle.aig_graph.specs.Streams.{AreKept, property_literals}
 use Rattle.aig_graph.proofs.FoldingLaws.{gate_at-is}
 use Rattle.aig_graph.proofs.KindLaws.{GatePlace, LatchPlace, gate_place, latch_place}
 use Rattle.aig_graph.proofs.PropsLaws.{literals_within}
-use Rattle.clean_laws.specs.Merged.{merged_of, stands_of}
-use Rattle.clean_laws.specs.Reached.{AreReached, stays}
-use Rattle.clean_laws.specs.Trimmed.{kept_free, new_position, new_variable, trimmed_of}
-use Rattle.clean_laws.specs.Cleaned.{IsPass, Cleans, unchanged}
-use Rattle.clean_laws.proofs.KeptFreeLaws.{are_kept}
-use Rattle.clean_laws.proofs.PassLaws.{IsCircuit}
-use Rattle.clean_laws.proofs.PickedLaws.{count-all}
-use Rattle.clean_laws.proofs.TrimmedLaws.{stays-low, stays-reached}
-use Rattle.clean_laws.proofs.UnchangedLaws.{map-fixed_all, replaced_circuit-same, trimmed-same}
+use Rattle.cleaned_circuits.specs.Merged.{merged_of, stands_of}
+use Rattle.cleaned_circuits.specs.Reached.{AreReached, stays}
+use Rattle.cleaned_circuits.specs.Trimmed.{kept_free, new_position, new_variable, trimmed_of}
+use Rattle.cleaned_circuits.specs.Cleaned.{IsPass, Cleans, unchanged}
+use Rattle.cleaned_circuits.proofs.KeptFreeLaws.{are_kept}
+use Rattle.cleaned_circuits.proofs.PassLaws.{IsCircuit}
+use Rattle.cleaned_circuits.proofs.PickedLaws.{count-all}
+use Rattle.cleaned_circuits.proofs.TrimmedLaws.{stays-low, stays-reached}
+use Rattle.cleaned_circuits.proofs.UnchangedLaws.{map-fixed_all, replaced_circuit-same, trimmed-same}
 use Rattle.tidy.specs.Tidy.{IsTidy}
 use Rattle.tidy.proofs.KeptLaws.{all-below}
 use Rattle.tidy.proofs.OwnLaws.{tidy-own}
@@ -33,19 +33,19 @@ inner-stays g v h = elim (cases_lt v (first_latch g)) [
 ]
 
 -- where all is reached, the free latches that stay are all
-pub kept-all : (c : Network) (s : ℕ → Bool) → trimmed_of c s ≡ c → kept_free c.aig s ≡ all_free c.aig
+pub kept-all : (c : Netlist) (s : ℕ → Bool) → trimmed_of c s ≡ c → kept_free c.aig s ≡ all_free c.aig
 kept-all c s same =
     let kept : AreKept c (trimmed_of c s) (kept_free c.aig s) = are_kept c s in
-    all-below (free_latches c.aig) (kept_free c.aig s) (kept.each ∙ ap (λ (d : Network). free_latches d.aig) same) kept.rising kept.below
+    all-below (free_latches c.aig) (kept_free c.aig s) (kept.each ∙ ap (λ (d : Netlist). free_latches d.aig) same) kept.rising kept.below
 
 -- what makes a pass of one that changes nothing
-record Unchanging (held : List ℕ) (c m : Network) (s : ℕ → Bool) : Type 0 where
+record Unchanging (held : List ℕ) (c m : Netlist) (s : ℕ → Bool) : Type 0 where
   are_reached : AreReached m.aig m.props held s
   circuit : c ≡ trimmed_of m s
   free : all_free c.aig ≡ kept_free m.aig s
   positions : held ≡ map (new_position m.aig s) held
 
-module _ (held : List ℕ) (c : Network) (valid : IsCircuit c) (in_range : All (λ j. j < length c.aig.latches) held) (tidy : IsTidy held c) where
+module _ (held : List ℕ) (c : Netlist) (valid : IsCircuit c) (in_range : All (λ j. j < length c.aig.latches) held) (tidy : IsTidy held c) where
   all-reached : AreReached c.aig c.props held (is_inner c.aig)
   all-reached = record {
     holds = record {
@@ -54,7 +54,7 @@ module _ (held : List ℕ) (c : Network) (valid : IsCircuit c) (in_range : All (
           let below : j < length c.aig.latches = in_range k d h in
           and_from (nat_le (first_latch c.aig) (first_latch c.aig + j)) (nat_lt (first_latch c.aig + j) (variables_end c.aig))
           (le-leb (first_latch c.aig) (first_latch c.aig + j) (omega arith)) (lt-ltb (first_latch c.aig + j) (variables_end c.aig) (omega (arith, below)));
-      properties = λ k d h. inner-stays c.aig (variable (get_or (property_literals c.props) k d)) (literals_within c.aig c.props valid.network.props k d h);
+      properties = λ k d h. inner-stays c.aig (variable (get_or (property_literals c.props) k d)) (literals_within c.aig c.props valid.netlist.props k d h);
       gates = λ v gate e told.
           let at : IsGateAt v gate = gate_at-is c.aig valid.graph v gate e in
           let place : GatePlace c.aig v gate = gate_place c.aig v gate e in (
@@ -87,7 +87,7 @@ module _ (held : List ℕ) (c : Network) (valid : IsCircuit c) (in_range : All (
   pub tidy-pass : IsPass held c c (all_free c.aig) held
   tidy-pass =
       let merged : merged_of held c ≡ c = replaced_circuit-same (stands_of c.aig held) c valid (tidy-own held c valid.graph tidy) in
-      let P : Network → Type 0 = λ m. Unchanging held c m (is_inner c.aig) in
+      let P : Netlist → Type 0 = λ m. Unchanging held c m (is_inner c.aig) in
       let all : Unchanging held c (merged_of held c) (is_inner c.aig) = subst P (sym merged) unchanging in
       record { reached = is_inner c.aig; are_reached = all.are_reached; circuit = all.circuit; free = all.free; positions = all.positions }
 

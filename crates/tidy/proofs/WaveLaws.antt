@@ -9,7 +9,7 @@ use Rattle.aig_graph.specs.declared.graph.Gate.{Gate}
 use Rattle.aig_graph.specs.declared.graph.Latch.{Latch}
 use Rattle.aig_graph.specs.Border.{in_border, is_gate_in, is_read}
 use Rattle.aig_graph.specs.Building.{gate_of}
-use Rattle.aig_graph.specs.Circuits.{IsNetwork}
+use Rattle.aig_graph.specs.Circuits.{IsNetlist}
 use Rattle.aig_graph.specs.Closed.{IsClosedSet, MayMoveOrIn, RestsOn, is_held}
 use Rattle.aig_graph.specs.Graph.{IsGraph, IsGateAt, variable, first_latch, first_gate, variables_end, latch_at, gate_at, is_free, is_known, is_free_latch}
 use Rattle.aig_graph.specs.Move.{Move}
@@ -23,8 +23,8 @@ use Rattle.aig_graph.proofs.SignLaws.{variable-signed_as, variable-signed_as_twi
 use Rattle.variable_tables.specs.Counting.{count_below}
 use Rattle.variable_tables.specs.Marking.{has}
 use Rattle.variable_tables.proofs.PlacesLemmas.{Ranks}
-use Rattle.clean_laws.specs.Reached.{stays, HoldsReads}
-use Rattle.clean_laws.proofs.TrimmedLaws.{stays-past, stays-low, stays-reached}
+use Rattle.cleaned_circuits.specs.Reached.{stays, HoldsReads}
+use Rattle.cleaned_circuits.proofs.TrimmedLaws.{stays-past, stays-low, stays-reached}
 use Rattle.rebuild.specs.Moved.{advanced, advanced_literal, copy_for, copy_variable, gate_between, gate_for, is_latched, is_outside, latch_for, latch_from, moved_graph, moved_literal, moved_props, new_variable, next_of}
 use Rattle.rebuild.proofs.BorderLaws.{closed-passable, latched-latch, latched-member, latched_where_free, member-gate, new_variable-latched, new_variable-outside, outside_parts, outside_where, read-first, read-next, read-property, read-second}
 use Rattle.rebuild.proofs.MovedLaws.{copies_start-is, copy_in, copy_variable-is, from_member, from_outside, gate_in, gate_source, gates_start-is, latch_in, latch_source, moved-first_gate, moved-first_latch}
@@ -93,7 +93,7 @@ some-latch : (o : Option Latch) → is_some o ≡ true → (latch : Latch) × (o
 some-latch None e = absurd (cc)
 some-latch (Some latch) e = (latch, refl)
 
-module _ (m : Move) (valid : IsGraph m.circuit.aig) (network : IsNetwork m.circuit) (in_range : All (λ j. j < length m.circuit.aig.latches) m.held)
+module _ (m : Move) (valid : IsGraph m.circuit.aig) (netlist : IsNetlist m.circuit) (in_range : All (λ j. j < length m.circuit.aig.latches) m.held)
     (set : IsClosedSet m.circuit.aig m.held m.set) (r : ℕ → Bool) (holds : HoldsReads (moved_graph m) (moved_props m) (moved_held m) r) where
   -- a literal of the moved circuit whose variable stays
   abbrev lives : ℕ → Bool
@@ -253,7 +253,7 @@ module _ (m : Move) (valid : IsGraph m.circuit.aig) (network : IsNetwork m.circu
     all_held = λ k d h. wave-held (get_or m.held k d) (Contains-get_or m.held k d h) (in_range k d h);
     properties = λ k d h.
         let lits : List ℕ = property_literals m.circuit.props in
-        hand_on (variable (get_or lits k d)) (literals_within m.circuit.aig m.circuit.props network.props k d h)
+        hand_on (variable (get_or lits k d)) (literals_within m.circuit.aig m.circuit.props netlist.props k d h)
         (read-property m k (get_or lits k d) (slice_get-get_or lits k d h)) (lives-property k d h);
     gates = λ v gate e told.
         let place : GatePlace m.circuit.aig v gate = gate_place m.circuit.aig v gate e in
@@ -375,6 +375,6 @@ module _ (m : Move) (valid : IsGraph m.circuit.aig) (network : IsNetwork m.circu
       ]
     ]
 
-pub all_reached : (m : Move) → IsGraph m.circuit.aig → IsNetwork m.circuit → All (λ j. j < length m.circuit.aig.latches) m.held → IsClosedSet m.circuit.aig m.held m.set → IsTidy m.held m.circuit
+pub all_reached : (m : Move) → IsGraph m.circuit.aig → IsNetlist m.circuit → All (λ j. j < length m.circuit.aig.latches) m.held → IsClosedSet m.circuit.aig m.held m.set → IsTidy m.held m.circuit
     → (r : ℕ → Bool) → HoldsReads (moved_graph m) (moved_props m) (moved_held m) r → (u : ℕ) → first_latch (moved_graph m) ≤ u → u < variables_end (moved_graph m) → r u ≡ true
-all_reached m valid network in_range set tidy r holds u past within = moved-reached m valid network in_range set r holds tidy u past within
+all_reached m valid netlist in_range set tidy r holds u past within = moved-reached m valid netlist in_range set r holds tidy u past within

@@ -4,7 +4,7 @@ use Rattle.std.specs.Map.{lookup}
 use Rattle.aig_graph.specs.declared.graph.Gate.{Gate}
 use Rattle.aig_graph.specs.Graph.{variable}
 use Rattle.variable_tables.specs.Marking.{mark_at}
-use Rattle.clean_laws.specs.Merged.{is_gate}
+use Rattle.cleaned_circuits.specs.Merged.{is_gate}
 use Rattle.tidy.specs.Tidy.{IsPlain}
 
 -- whether a gate is plain

@@ -3,12 +3,12 @@ use Rattle.std.specs.Prelude.{ℕ, ◌+◌, ◌<◌, ◌≤◌, ◌≡◌, Bool,
 use Rattle.aig_graph.specs.declared.graph.Gate.{Gate}
 use Rattle.aig_graph.specs.declared.graph.Latch.{Latch}
 use Rattle.aig_graph.specs.Graph.{Graph, variable, first_latch, first_gate, variables_end, is_free}
-use Rattle.aig_graph.specs.Circuits.{Network}
+use Rattle.aig_graph.specs.Circuits.{Netlist}
 use Rattle.aig_graph.specs.Move.{Move}
 use Rattle.variable_tables.specs.Counting.{count_below}
 use Rattle.variable_tables.specs.Marking.{has}
-use Rattle.clean_laws.specs.Latches.{is_stuck}
-use Rattle.clean_laws.specs.Reached.{HoldsReads}
+use Rattle.cleaned_circuits.specs.Latches.{is_stuck}
+use Rattle.cleaned_circuits.specs.Reached.{HoldsReads}
 use Rattle.rebuild.specs.Moved.{is_latched}
 
 -- two variables, neither the constant; the larger literal is first
@@ -17,7 +17,7 @@ pub record IsPlain (gate : Gate) : Type 0 where
   pub apart : variable gate.rhs1 < variable gate.rhs0
 
 -- each latch and gate is reached, no known latch that isn't held is stuck or like an earlier one, and each gate has a pair of its own
-pub record IsTidy (held : List ℕ) (c : Network) : Type 0 where
+pub record IsTidy (held : List ℕ) (c : Netlist) : Type 0 where
   pub reached : (r : ℕ → Bool) → HoldsReads c.aig c.props held r → (v : ℕ) → first_latch c.aig ≤ v → v < variables_end c.aig → r v ≡ true
   pub moving : (j : ℕ) (latch : Latch) → slice_get c.aig.latches j ≡ Some latch → is_stuck c.aig held j latch ≡ false
   pub single : (i j : ℕ) (latch : Latch) → i < j → slice_get c.aig.latches i ≡ Some latch → slice_get c.aig.latches j ≡ Some latch → is_free latch ≡ false → has held j ≡ true

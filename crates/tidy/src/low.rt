@@ -1,7 +1,7 @@
 ghost use Rattle.std.specs.Prelude.{◌≡◌, ◌-◌, ◌≤◌, ◌↔◌, true, false, [], IfOk, IsTrue, is_some, length};
 ghost use Rattle.std.specs.Map.{lookup};
 ghost use Rattle.aig_graph.specs.Graph.{first_gate};
-ghost use Rattle.clean_laws.specs.Merged.{is_gate};
+ghost use Rattle.cleaned_circuits.specs.Merged.{is_gate};
 ghost use Rattle.tidy.specs.Tidy.{AreLowTidy};
 ghost use Rattle.tidy.specs.Gathered.{is_plain, AreGathered, AreMarked, AreNew, IsShared, IsSpoilt};
 

@@ -1,6 +1,6 @@
 ghost use Rattle.std.specs.Prelude.{◌≡◌, ◌++◌, ◌∷◌, [], None, OnOk, is_some};
 ghost use Rattle.std.specs.Map.{lookup};
-ghost use Rattle.clean_laws.specs.Merged.{is_gate};
+ghost use Rattle.cleaned_circuits.specs.Merged.{is_gate};
 
 use aig_graph::{Gate, Lit, NoMemory};
 use indexmap::IndexMap;

@@ -6,7 +6,7 @@ use std::alloc::Global;
 use std::test::Fail;
 use std::thread::Threads;
 
-/// Two latches in a row behind each of two inputs, and the gate of the last ones.
+/// Two latches in a row after each of two inputs, and the gate of the last ones.
 const CHAINS: &[u8] = b"aag 7 2 4 1 1\n2\n4\n6 2\n8 6\n10 4\n12 10\n14\n14 8 12\n";
 
 /// The same, cleaned; after one frame; after two.
@@ -16,7 +16,7 @@ const AFTER_ONE: &[u8] = b"aag 6 2 3 1 1\n2\n4\n6 2\n8 4\n10 12\n10\n12 8 6\n";
 
 const AFTER_TWO: &[u8] = b"aag 5 2 2 1 1\n2\n4\n6 8\n8 10\n6\n10 4 2\n";
 
-/// A latch behind each of two inputs and the gate of the latches; and the gate of the inputs with a latch behind it.
+/// A latch after each of two inputs and the gate of the latches; and the gate of the inputs with a latch after it.
 const TWO_LATCHES: &[u8] = b"aig 5 2 2 1 1\n2\n4\n10\n\x02\x02";
 
 const ONE_LATCH: &[u8] = b"aig 4 2 1 1 1\n8\n6\n\x04\x02";

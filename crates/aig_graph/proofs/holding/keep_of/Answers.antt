@@ -8,7 +8,7 @@ pub new-requires : goal.new-requires
 new-requires c =
     let names : List (List ℕ) = map (λ name. name.items) c.args.names.now in
     subst IsStrictlyIncreasing (sym (c.in_ok-held_by.ensures ∙ ap (held_by names) (c.as_slice-symbols.ensures ∙ ap (λ s. s.latches) c.symbols.ensures.value)))
-    (held-rising names c.args.circuit.now.symbols.latches (length c.args.circuit.now.aig.latches) c.symbols.ensures.network.symbols.latches)
+    (held-rising names c.args.circuit.now.symbols.latches (length c.args.circuit.now.aig.latches) c.symbols.ensures.netlist.symbols.latches)
 
 pub returns-then-is_empty-clause-ok : goal.returns-then-is_empty-clause-ok
 returns-then-is_empty-clause-ok c =

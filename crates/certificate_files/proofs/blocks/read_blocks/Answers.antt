@@ -1,5 +1,5 @@
 use Rattle.std.proofs.Common.{List, Ok, sym, ap, ◌∙◌, rules}
-use Rattle.verdicts.specs.declared.certificate.Certificate.{Certificate}
+use Rattle.certificates.specs.declared.certificate.Certificate.{Certificate}
 use Rattle.certificate_files.proofs.StepLaws.{ends_closed, nothing_left}
 use Rattle.certificate_files.proofs.blocks.read_blocks.Goals as goal
 

@@ -1,5 +1,5 @@
 use Rattle.std.proofs.Common.{ℕ, List, [], ◌≡◌, ◌≤◌, ◌-◌, length}
-use Rattle.verdicts.specs.declared.certificate.Certificate.{Certificate as Block}
+use Rattle.certificates.specs.declared.certificate.Certificate.{Certificate as Block}
 use Rattle.certificate_files.specs.Files.{settled}
 use Rattle.certificate_files.specs.Steps.{read_rest, block_of}
 use Rattle.certificate_files.proofs.blocks.read_gates.Given as goal

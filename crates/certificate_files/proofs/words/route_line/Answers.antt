@@ -1,6 +1,6 @@
 use Rattle.std.proofs.Common.{sym, ap, ◌∙◌}
 use Rattle.std.proofs.lemmas.Result.{err_from_is_err_and}
-use Rattle.aag_format.specs.Lines.{pieces}
+use Rattle.file_words.specs.Lines.{pieces}
 use Rattle.certificate_files.specs.Forms.{routed}
 use Rattle.certificate_files.proofs.AnsweringLaws.{Fails-where, Gives-exact}
 use Rattle.certificate_files.proofs.FormLaws.{routed_other, saying-route}

@@ -1,6 +1,6 @@
 use Rattle.std.proofs.Common.{[], List, ℕ, Ok, sym, ap, ◌∙◌, append-nil}
 use Rattle.std.proofs.lemmas.Result.{err_from_is_err_and}
-use Rattle.aag_format.specs.Lines.{pieces}
+use Rattle.file_words.specs.Lines.{pieces}
 use Rattle.frame_net.specs.declared.net.Point.{Point}
 use Rattle.certificate_files.specs.Forms.{onto, spelt_at}
 use Rattle.certificate_files.proofs.AnsweringLaws.{Fails-same}

@@ -1,5 +1,5 @@
 use Rattle.std.proofs.Common.{◌≡◌, length}
-use Rattle.aag_format.specs.Lines.{pieces}
+use Rattle.file_words.specs.Lines.{pieces}
 use Rattle.certificate_files.specs.Forms.{onto, spelt_at}
 use Rattle.certificate_files.proofs.words.spelt_points.Given as goal
 

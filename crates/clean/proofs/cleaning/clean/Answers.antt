@@ -1,8 +1,8 @@
 use Rattle.std.proofs.Common.{◌≡◌, ◌<◌, ◌≤◌, ◌∙◌, ap, sym, subst, arith, ℕ, List}
 use Rattle.aig_graph.specs.Graph.{Graph, latches_and_gates}
 use Rattle.aig_graph.specs.Streams.{SameStreams}
-use Rattle.clean_laws.specs.Cleaned.{IsPass, Cleans}
-use Rattle.clean_laws.proofs.PassLaws.{IsCircuit, cleans-streams}
+use Rattle.cleaned_circuits.specs.Cleaned.{IsPass, Cleans}
+use Rattle.cleaned_circuits.proofs.PassLaws.{IsCircuit, cleans-streams}
 use Rattle.clean.proofs.CleaningLaws.{Passed, passed-start, passed-in_range, passed-more, passed-end, kept-long}
 use Rattle.clean.proofs.cleaning.clean.Goals as goal
 
@@ -10,7 +10,7 @@ pub loop-before-init : goal.loop-before-init
 loop-before-init c =
     let last = c.in_ok-last.last in
     let P : List ℕ → Type 0 = λ js. IsPass js c.args.circuit.now last.circuit last.kept_free.items last.held.items in
-    let valid : IsCircuit c.args.circuit.now = record { graph = c.aig.ensures.graph; network = c.aig.ensures.network } in
+    let valid : IsCircuit c.args.circuit.now = record { graph = c.aig.ensures.graph; netlist = c.aig.ensures.netlist } in
     passed-start c.args.keep.now c.args.circuit.now last.circuit c.latches_and_gates-before.result last.kept_free.items last.held.items valid c.requires.in_range (subst P c.positions.ensures.value c.in_ok-last.ensures.pass)
     (c.latches_and_gates-before.ensures.value ∙ ap (λ (g : Graph). latches_and_gates g) c.aig.ensures.value)
 
@@ -53,7 +53,7 @@ returns-clause-streams c =
     omega (arith, c.loop-before-test.false, c.latches_and_gates.ensures.value, ap (λ (g : Graph). latches_and_gates g) c.aig-in-loop-before.ensures.value) in
     let cleaned : Cleans last.circuit c.args.keep.now c.args.circuit.now last.kept_free.items =
     passed-end c.args.keep.now c.args.circuit.now c.loop-before.before last.circuit last.kept_free.items last.held.items c.loop-before.invariant many in
-    let valid : IsCircuit c.args.circuit.now = record { graph = c.aig.ensures.graph; network = c.aig.ensures.network } in
+    let valid : IsCircuit c.args.circuit.now = record { graph = c.aig.ensures.graph; netlist = c.aig.ensures.netlist } in
     subst (λ (xs : List ℕ). SameStreams c.args.circuit.now c.cleaned_by.result.circuit xs) (sym c.cleaned_by.ensures.kept_free)
     (subst (λ d. SameStreams c.args.circuit.now d last.kept_free.items) (sym c.cleaned_by.ensures.circuit)
     (cleans-streams last.circuit c.args.keep.now c.args.circuit.now last.kept_free.items cleaned valid))

@@ -2,7 +2,7 @@ use Rattle.std.proofs.Common.{◌<◌, ◌∙◌, ap, sym, subst, arith, ℕ, Li
 use Rattle.std.specs.List.{All}
 use Rattle.aig_graph.specs.Graph.{free_latches}
 use Rattle.aig_graph.specs.Laws.{composed}
-use Rattle.clean_laws.specs.Cleaned.{IsPass}
+use Rattle.cleaned_circuits.specs.Cleaned.{IsPass}
 use Rattle.clean.proofs.cleaning.pass_after.Goals as goal
 
 pub run_pass-requires : goal.run_pass-requires

@@ -2,9 +2,9 @@ use Rattle.std.proofs.Common.{◌≡◌, ◌+◌, ◌∙◌, [], List, ap, arith
 use Rattle.aig_graph.specs.declared.graph.Gate.{Gate}
 use Rattle.aig_graph.specs.Graph.{Graph, IsGateAt, first_gate}
 use Rattle.clean.proofs.MappingLaws.{gate-there}
-use Rattle.clean_laws.specs.Merged.{Merging, merge_gate, merge_gates}
+use Rattle.cleaned_circuits.specs.Merged.{Merging, merge_gate, merge_gates}
 use Rattle.clean.proofs.MergeSteps.{merge-more, merge-end}
-use Rattle.clean_laws.proofs.StandLaws.{length-merge_gate}
+use Rattle.cleaned_circuits.proofs.StandLaws.{length-merge_gate}
 use Rattle.clean.proofs.gates.merge_gates.Goals as goal
 
 pub merge_gate-requires-clause-first : goal.merge_gate-requires-clause-first

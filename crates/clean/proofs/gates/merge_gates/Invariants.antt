@@ -1,6 +1,6 @@
 use Rattle.std.proofs.Common.{◌≡◌, ◌+◌, length, drop, []}
 use Rattle.aig_graph.specs.Graph.{first_gate}
-use Rattle.clean_laws.specs.Merged.{merge_gates}
+use Rattle.cleaned_circuits.specs.Merged.{merge_gates}
 use Rattle.clean.proofs.gates.merge_gates.Given as goal
 
 -- the gates that are left make of what is known now what all of them make of the start

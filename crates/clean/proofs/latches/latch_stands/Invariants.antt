@@ -1,7 +1,7 @@
 use Rattle.std.proofs.Common.{◌≡◌, ◌+◌}
 use Rattle.aig_graph.specs.Graph.{first_latch}
 use Rattle.variable_tables.specs.Tables.{table}
-use Rattle.clean_laws.specs.Latches.{leaf_stand}
+use Rattle.cleaned_circuits.specs.Latches.{leaf_stand}
 use Rattle.clean.specs.Firsts.{AreFirsts}
 use Rattle.clean.proofs.latches.latch_stands.Given as goal
 

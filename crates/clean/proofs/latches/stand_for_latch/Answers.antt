@@ -1,8 +1,8 @@
 use Rattle.std.proofs.Common.{rules, ◌≡◌, ◌∙◌, sym, ap, true, false, ℕ}
 use Rattle.aig_graph.specs.Graph.{is_free}
 use Rattle.variable_tables.specs.Marking.{has}
-use Rattle.clean_laws.specs.Latches.{is_stuck, is_latch}
-use Rattle.clean_laws.specs.Merged.{stand_or_own}
+use Rattle.cleaned_circuits.specs.Latches.{is_stuck, is_latch}
+use Rattle.cleaned_circuits.specs.Merged.{stand_or_own}
 use Rattle.clean.specs.Firsts.{entries_after}
 use Rattle.std.specs.Map.{lookup}
 use Rattle.clean.proofs.FirstsLaws.{stuck-is, firsts-stuck, firsts-free, firsts-more, stand-first}

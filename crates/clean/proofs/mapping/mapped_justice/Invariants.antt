@@ -1,5 +1,5 @@
 use Rattle.std.proofs.Common.{◌≡◌, map, take}
-use Rattle.clean_laws.specs.Merged.{replaced}
+use Rattle.cleaned_circuits.specs.Merged.{replaced}
 use Rattle.clean.proofs.mapping.mapped_justice.Given as goal
 
 abbrev pub invariant-loop-lits : goal.invariant-loop-lits

@@ -1,4 +1,4 @@
-use Rattle.clean_laws.specs.Merged.{replaced}
+use Rattle.cleaned_circuits.specs.Merged.{replaced}
 use Rattle.aig_graph.proofs.PropsLaws.{mapped-is}
 use Rattle.clean.proofs.mapping.mapped_props.Goals as goal
 

@@ -1,7 +1,7 @@
 use Rattle.std.proofs.Common.{◌∙◌, ap, sym, subst, List, ℕ}
 use Rattle.aig_graph.specs.Graph.{Graph, IsGraph}
-use Rattle.clean_laws.specs.Merged.{replaced_graph}
-use Rattle.clean_laws.proofs.MergedLaws.{IsGraph-merged}
+use Rattle.cleaned_circuits.specs.Merged.{replaced_graph}
+use Rattle.cleaned_circuits.proofs.MergedLaws.{IsGraph-merged}
 use Rattle.clean.proofs.MappingLaws.{stands-long, replaced-is}
 use Rattle.clean.proofs.merged.merged_aig.Goals as goal
 

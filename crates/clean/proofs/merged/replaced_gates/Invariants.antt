@@ -1,5 +1,5 @@
 use Rattle.std.proofs.Common.{◌≡◌, map, take}
-use Rattle.clean_laws.specs.Merged.{replaced_gate}
+use Rattle.cleaned_circuits.specs.Merged.{replaced_gate}
 use Rattle.clean.proofs.merged.replaced_gates.Given as goal
 
 abbrev pub invariant-loop-gate : goal.invariant-loop-gate

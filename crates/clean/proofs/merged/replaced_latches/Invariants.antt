@@ -1,5 +1,5 @@
 use Rattle.std.proofs.Common.{◌≡◌, map, take}
-use Rattle.clean_laws.specs.Merged.{replaced_latch}
+use Rattle.cleaned_circuits.specs.Merged.{replaced_latch}
 use Rattle.clean.proofs.merged.replaced_latches.Given as goal
 
 abbrev pub invariant-loop-latch : goal.invariant-loop-latch

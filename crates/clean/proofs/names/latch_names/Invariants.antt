@@ -1,6 +1,6 @@
 use Rattle.std.proofs.Common.{◌≡◌, ◌+◌, map, filter, take}
 use Rattle.aig_graph.specs.Graph.{first_latch}
-use Rattle.clean_laws.specs.Trimmed.{new_name}
+use Rattle.cleaned_circuits.specs.Trimmed.{new_name}
 use Rattle.clean.specs.Sweep.{is_marked}
 use Rattle.clean.proofs.names.latch_names.Given as goal
 

@@ -1,10 +1,10 @@
 use Rattle.std.proofs.Common.{◌≡◌, ◌∙◌, ap, ℕ, List}
 use Rattle.std.proofs.lemmas.Result.{IfOk-weaker}
 use Rattle.aig_graph.specs.Streams.{SameStreams}
-use Rattle.aig_graph.specs.Circuits.{Network}
-use Rattle.clean_laws.specs.Merged.{merged_of}
-use Rattle.clean_laws.specs.Cleaned.{IsPass}
-use Rattle.clean_laws.proofs.PassLaws.{IsCircuit, pass-streams}
+use Rattle.aig_graph.specs.Circuits.{Netlist}
+use Rattle.cleaned_circuits.specs.Merged.{merged_of}
+use Rattle.cleaned_circuits.specs.Cleaned.{IsPass}
+use Rattle.cleaned_circuits.proofs.PassLaws.{IsCircuit, pass-streams}
 use Rattle.clean.proofs.PassSteps.{merged-props, merged-range}
 use Rattle.clean.specs.declared.pass.Pass.{Pass}
 use Rattle.clean.proofs.pass.run_pass.Goals as goal
@@ -12,24 +12,24 @@ use Rattle.clean.proofs.pass.run_pass.Goals as goal
 pub reach_everything-requires-clause-held : goal.reach_everything-requires-clause-held
 reach_everything-requires-clause-held c =
     let held : List ℕ = c.args.held.now in
-    let n : Network = c.args.circuit.now in
+    let n : Netlist = c.args.circuit.now in
     let aig : c.in_ok-merged.merged.aig ≡ (merged_of held n).aig = c.in_ok-merged.ensures.aig ∙ ap (λ (xs : List ℕ). (merged_of xs n).aig) c.in_ok-marks.ensures.positions in
     let props : c.in_ok-merged.merged.props ≡ (merged_of held n).props = c.in_ok-merged.ensures.props ∙ ap (λ (xs : List ℕ). (merged_of xs n).props) c.in_ok-marks.ensures.positions in
-    merged-range n held c.aig.ensures.graph c.aig.ensures.network c.in_ok-merged.merged.aig c.in_ok-merged.merged.props aig props c.requires
+    merged-range n held c.aig.ensures.graph c.aig.ensures.netlist c.in_ok-merged.merged.aig c.in_ok-merged.merged.props aig props c.requires
 
 pub reach_everything-requires-clause-props : goal.reach_everything-requires-clause-props
 reach_everything-requires-clause-props c =
     let held : List ℕ = c.args.held.now in
-    let n : Network = c.args.circuit.now in
+    let n : Netlist = c.args.circuit.now in
     let aig : c.in_ok-merged.merged.aig ≡ (merged_of held n).aig = c.in_ok-merged.ensures.aig ∙ ap (λ (xs : List ℕ). (merged_of xs n).aig) c.in_ok-marks.ensures.positions in
     let props : c.in_ok-merged.merged.props ≡ (merged_of held n).props = c.in_ok-merged.ensures.props ∙ ap (λ (xs : List ℕ). (merged_of xs n).props) c.in_ok-marks.ensures.positions in
-    merged-props n held c.aig.ensures.graph c.aig.ensures.network c.in_ok-merged.merged.aig c.in_ok-merged.merged.props aig props
+    merged-props n held c.aig.ensures.graph c.aig.ensures.netlist c.in_ok-merged.merged.aig c.in_ok-merged.merged.props aig props
 
 pub returns-clause-streams : goal.returns-clause-streams
 returns-clause-streams c =
     let held : List ℕ = c.args.held.now in
-    let n : Network = c.args.circuit.now in
-    let valid : IsCircuit n = record { graph = c.aig.ensures.graph; network = c.aig.ensures.network } in
+    let n : Netlist = c.args.circuit.now in
+    let valid : IsCircuit n = record { graph = c.aig.ensures.graph; netlist = c.aig.ensures.netlist } in
     let P : Pass → Type 0 = λ pass. IsPass held n pass.circuit pass.kept_free.items pass.held.items in
     let Q : Pass → Type 0 = λ pass. SameStreams n pass.circuit pass.kept_free.items in
     IfOk-weaker c.trimmed.result P Q (λ pass is. pass-streams held n pass.circuit pass.kept_free.items pass.held.items valid is) c.trimmed.ensures

@@ -1,8 +1,8 @@
 use Rattle.std.proofs.Common.{◌∙◌, [], ap, length, List, ℕ}
 use Rattle.aig_graph.specs.Graph.{first_gate}
 use Rattle.variable_tables.proofs.TableLemmas.{length-table}
-use Rattle.clean_laws.specs.Latches.{leaf_stand}
-use Rattle.clean_laws.specs.Merged.{Merging, merge_gates, stands_of}
+use Rattle.cleaned_circuits.specs.Latches.{leaf_stand}
+use Rattle.cleaned_circuits.specs.Merged.{Merging, merge_gates, stands_of}
 use Rattle.clean.proofs.stands.stands_of.Goals as goal
 
 pub merge_gates-requires : goal.merge_gates-requires

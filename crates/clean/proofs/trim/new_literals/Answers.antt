@@ -2,8 +2,8 @@ use Rattle.std.proofs.Common.{rules, ◌≡◌, ◌≤◌, ◌*◌, ◌∙◌, a
 use Rattle.aig_graph.specs.Graph.{Graph, first_latch, variables_end}
 use Rattle.variable_tables.specs.Tables.{table}
 use Rattle.variable_tables.proofs.TableLemmas.{length-table}
-use Rattle.clean_laws.specs.Trimmed.{new_variable}
-use Rattle.clean_laws.proofs.TrimmedLaws.{new-low}
+use Rattle.cleaned_circuits.specs.Trimmed.{new_variable}
+use Rattle.cleaned_circuits.proofs.TrimmedLaws.{new-low}
 use Rattle.clean.specs.Substitutions.{own_literals}
 use Rattle.clean.specs.Sweep.{is_marked}
 use Rattle.clean.proofs.TrimLaws.{new-start, new-more, new-next, new-end, new-bound}

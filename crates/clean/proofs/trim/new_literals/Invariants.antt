@@ -1,6 +1,6 @@
 use Rattle.std.proofs.Common.{◌≡◌, ◌*◌}
 use Rattle.variable_tables.specs.Tables.{table}
-use Rattle.clean_laws.specs.Trimmed.{new_variable}
+use Rattle.cleaned_circuits.specs.Trimmed.{new_variable}
 use Rattle.clean.specs.Sweep.{is_marked}
 use Rattle.clean.proofs.trim.new_literals.Given as goal
 

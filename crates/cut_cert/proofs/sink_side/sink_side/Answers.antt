@@ -2,8 +2,8 @@ use Rattle.std.proofs.Common.{◌≡◌, ◌∙◌, ap, sym, arith, ℕ, [], rep
 use Rattle.std.proofs.lemmas.Option.{slice_get_within}
 use Rattle.frame_net.specs.FlowNet.{FlowNet, node_count}
 use Rattle.pulse.specs.Conditions.{state_of}
-use Rattle.cut_cert.specs.Walk.{Front, reach}
-use Rattle.cut_cert.proofs.WalkLaws.{sweeping-start, sweeping-more, sweeping-end, sweeps-few, marked-within, no_front}
+use Rattle.cut_cert.specs.SinkWalk.{Front, reach}
+use Rattle.cut_cert.proofs.SinkWalkLaws.{sweeping-start, sweeping-more, sweeping-end, sweeps-few, marked-within, no_front}
 use Rattle.cut_cert.proofs.sink_side.sink_side.Goals as goal
 
 pub loop-w-init : goal.loop-w-init

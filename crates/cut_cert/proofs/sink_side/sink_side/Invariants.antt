@@ -1,7 +1,7 @@
 use Rattle.std.proofs.Common.{◌-◌}
 use Rattle.frame_net.specs.FlowNet.{node_count}
 use Rattle.pulse.specs.Conditions.{state_of}
-use Rattle.cut_cert.proofs.WalkLaws.{Sweeping}
+use Rattle.cut_cert.proofs.SinkWalkLaws.{Sweeping}
 use Rattle.cut_cert.proofs.sink_side.sink_side.Given as goal
 
 abbrev pub invariant-loop-w : goal.invariant-loop-w

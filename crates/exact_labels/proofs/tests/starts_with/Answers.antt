@@ -1,8 +1,8 @@
 use Rattle.std.proofs.Common.{List, subst, sym}
-use Rattle.flow_parts.specs.declared.parts.FlowPart.{FlowPart}
-use Rattle.flow_parts.specs.Parts.{AreFlowParts}
-use Rattle.parted_flow.specs.Start.{start_res, start_excess}
-use Rattle.parted_flow.proofs.StartState.{held_cut}
+use Rattle.flow_part.specs.declared.parts.FlowPart.{FlowPart}
+use Rattle.flow_part.specs.Parts.{AreFlowParts}
+use Rattle.flow_whole.specs.Start.{start_res, start_excess}
+use Rattle.flow_whole.proofs.StartState.{held_cut}
 use Rattle.exact_labels.proofs.tests.starts_with.Goals as goal
 
 pub exact_labels-requires-clause-parts : goal.exact_labels-requires-clause-parts

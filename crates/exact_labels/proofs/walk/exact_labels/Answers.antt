@@ -1,7 +1,7 @@
 use Rattle.std.proofs.Common.{◌<◌, slice_index, slice_set, arith, ◌∙◌, [], refl}
 use Rattle.std.proofs.lemmas.List.{get_or-set_same, get_or-set_other}
 use Rattle.frame_net.specs.FlowNet.{node_count}
-use Rattle.flow_parts.specs.Parts.{cells_of, pairs}
+use Rattle.flow_part.specs.Parts.{cells_of, pairs}
 use Rattle.exact_labels.proofs.WalkLaws.{sweeps_start, sweeps_few, sweeps_end}
 use Rattle.exact_labels.proofs.DistanceLaws.{distance_same}
 use Rattle.exact_labels.proofs.walk.exact_labels.Goals as goal

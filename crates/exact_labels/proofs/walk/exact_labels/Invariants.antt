@@ -1,6 +1,6 @@
 use Rattle.std.proofs.Common.{◌-◌, slice_index, []}
 use Rattle.frame_net.specs.FlowNet.{node_count}
-use Rattle.flow_parts.specs.Parts.{cells_of, pairs}
+use Rattle.flow_part.specs.Parts.{cells_of, pairs}
 use Rattle.exact_labels.specs.Walks.{Sweeps}
 use Rattle.exact_labels.proofs.walk.exact_labels.Given as goal
 

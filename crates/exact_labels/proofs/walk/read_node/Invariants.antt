@@ -1,5 +1,5 @@
 use Rattle.std.proofs.Common.{slice_index}
-use Rattle.flow_parts.specs.Parts.{cells_of}
+use Rattle.flow_part.specs.Parts.{cells_of}
 use Rattle.exact_labels.proofs.WalkLaws.{Reading}
 use Rattle.exact_labels.proofs.walk.read_node.Given as goal
 

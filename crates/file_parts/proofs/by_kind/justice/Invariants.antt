@@ -1,6 +1,6 @@
 use Rattle.std.proofs.Common.{◌≡◌, ◌<◌, ◌≤◌, ◌^◌, ◌++◌, drop, length, All}
 use Rattle.std.specs.List.{sum}
-use Rattle.aag_file.specs.Meaning.{split_by}
+use Rattle.ascii_file.specs.Meaning.{split_by}
 use Rattle.file_parts.proofs.by_kind.justice.Given as goal
 
 abbrev pub invariant-loop-size : goal.invariant-loop-size

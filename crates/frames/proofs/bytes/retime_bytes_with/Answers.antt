@@ -1,7 +1,7 @@
 use Rattle.std.proofs.Common.{refl}
-use Rattle.written_laws.proofs.ReadLaws.{reads-within}
+use Rattle.frames.proofs.ReadLaws.{reads-within}
 use Rattle.std.proofs.lemmas.Result.{IfErr-weaker, IfOk-from_err, IfOk-weaker}
-use Rattle.piece_reading.specs.Ending.{ReadsToEnd}
+use Rattle.aig_binary.specs.Ending.{ReadsToEnd}
 use Rattle.frames.specs.declared.errors.BytesError.TheVariants.{Read}
 use Rattle.frames.specs.Answering.{IsAnswered, IsBytesError, IsStop, IsWritten}
 use Rattle.frames.proofs.StopLaws.{at-error, stops-answering}

@@ -1,7 +1,7 @@
 use Rattle.std.proofs.Common.{Err, ap}
 use Rattle.std.specs.Option.{unwrap_or}
 use Rattle.spellings.proofs.SpellingLemmas.{the_spelling_law}
-use Rattle.written_laws.proofs.StayLaws.{stays-within}
+use Rattle.frames.proofs.StayLaws.{stays-within}
 use Rattle.frames.specs.declared.errors.BytesError.TheVariants.{Retime}
 use Rattle.frames.specs.declared.errors.RetimeError.{RetimeError}
 use Rattle.frames.specs.Answering.{IsStop}
@@ -20,7 +20,7 @@ returns-in-Ok-clause-ok g c =
       answer = record { names = c.in_ok-retimed.ensures.none_missing; retimed = retimed };
       writes = c.in-Ok.ensures.ok;
       reads_back = λ within.
-          (the_spelling_law (unwrap_or options.spelling spelt.spelling) r.circuit).read c.in_range.ensures.graph c.in_range.ensures.network
+          (the_spelling_law (unwrap_or options.spelling spelt.spelling) r.circuit).read c.in_range.ensures.graph c.in_range.ensures.netlist
           (stays-within spelt.circuit (names_in options) options.max_frames r retimed within);
     }
 

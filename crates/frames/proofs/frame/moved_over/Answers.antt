@@ -1,16 +1,16 @@
 use Rattle.std.proofs.Common.{ℕ, List, ◌≤◌, ◌≡◌, ◌∙◌, None, arith, ap, sym, subst}
 use Rattle.std.specs.Result.{IfOk}
 use Rattle.aig_graph.specs.declared.literal.TheConstants.{MAX_VARIABLES}
-use Rattle.aig_graph.specs.Circuits.{Network}
+use Rattle.aig_graph.specs.Circuits.{Netlist}
 use Rattle.aig_graph.specs.Keep.{first_missing}
 use Rattle.aig_graph.specs.Move.{move_of}
 use Rattle.aig_graph.specs.Streams.{SameStreams}
 use Rattle.aig_graph.proofs.GraphLemmas.{room}
 use Rattle.rebuild.specs.Moved.{moved_of, moved_size}
-use Rattle.frame_laws.specs.Names.{held_latches}
-use Rattle.frame_laws.specs.Frames.{CleansIn, count_in, moved_in}
-use Rattle.frame_laws.proofs.HeldLaws.{moving-keeps}
-use Rattle.frame_laws.proofs.NameLaws.{names-stay}
+use Rattle.retimed_circuits.specs.Names.{held_latches}
+use Rattle.retimed_circuits.specs.Frames.{CleansIn, count_in, moved_in}
+use Rattle.retimed_circuits.proofs.HeldLaws.{moving-keeps}
+use Rattle.retimed_circuits.proofs.NameLaws.{names-stay}
 use Rattle.frames.specs.Named.{names_in}
 use Rattle.frames.proofs.FrameLaws.{streams-through}
 use Rattle.std.proofs.lemmas.Result.{IfOk-from_err, IfOk-weaker}
@@ -29,9 +29,9 @@ cleaned_by_names-cleaned-requires c =
     let names = names_in c.args.options.now in
     let before = c.args.circuit.now in
     let set = c.args.set.now in
-    let P : Network → Type 0 = λ d. first_missing d.symbols.latches names ≡ None in
+    let P : Netlist → Type 0 = λ d. first_missing d.symbols.latches names ≡ None in
     let same : c.in_ok-after.after ≡ moved_in names before set = c.in_ok-after.ensures.value ∙ ap (λ (held : List ℕ). moved_of (move_of before held set)) c.requires.keep in
-    subst P (sym same) (names-stay names before (moved_in names before set) (moving-keeps names before set c.aig-aig.ensures.network) c.requires.names)
+    subst P (sym same) (names-stay names before (moved_in names before set) (moving-keeps names before set c.aig-aig.ensures.netlist) c.requires.names)
 
 pub moved-requires-clause-closed : goal.moved-requires-clause-closed
 moved-requires-clause-closed c =
@@ -52,7 +52,7 @@ returns-clause-cleaned c =
     let before = c.args.circuit.now in
     let set = c.args.set.now in
     let same : c.in_ok-after.after ≡ moved_in names before set = c.in_ok-after.ensures.value ∙ ap (λ (held : List ℕ). moved_of (move_of before held set)) c.requires.keep in
-    let P : Network → Type 0 = λ e. IfOk c.cleaned_by_names-cleaned.result (λ d. CleansIn names e d.circuit d.kept_free) in
+    let P : Netlist → Type 0 = λ e. IfOk c.cleaned_by_names-cleaned.result (λ d. CleansIn names e d.circuit d.kept_free) in
     subst P same c.cleaned_by_names-cleaned.ensures.cleaned
 
 pub returns-clause-streams : goal.returns-clause-streams
@@ -70,4 +70,4 @@ returns-clause-held c =
     let after = c.in_ok-after.after in
     let same : after ≡ moved_in names before set = c.in_ok-after.ensures.value ∙ ap (λ (held : List ℕ). moved_of (move_of before held set)) c.requires.keep in
     IfOk-weaker c.cleaned_by_names-cleaned.result (λ d. held_latches names d.circuit ≡ held_latches names after) (λ d. held_latches names d.circuit ≡ held_latches names before)
-    (λ d stays. stays ∙ ap (held_latches names) same ∙ moving-keeps names before set c.aig-aig.ensures.network) c.cleaned_by_names-cleaned.ensures.held
+    (λ d stays. stays ∙ ap (held_latches names) same ∙ moving-keeps names before set c.aig-aig.ensures.netlist) c.cleaned_by_names-cleaned.ensures.held

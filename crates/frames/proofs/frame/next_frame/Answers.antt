@@ -1,7 +1,7 @@
 use Rattle.std.proofs.Common.{Option, subst}
 use Rattle.std.specs.Option.{MatchOption}
 use Rattle.std.proofs.lemmas.Result.{IfOk-from_err}
-use Rattle.frame_laws.specs.Frames.{NoneSmaller}
+use Rattle.retimed_circuits.specs.Frames.{NoneSmaller}
 use Rattle.frames.specs.declared.helping.Helping.{Helping}
 use Rattle.frames.specs.Found.{Helps}
 use Rattle.frames.specs.Named.{names_in}

@@ -2,7 +2,7 @@ use Rattle.std.proofs.Common.{ℕ, List, ◌≡◌, ◌∙◌, arith, ap, length
 use Rattle.aig_graph.specs.Border.{IsGreatestLeast, border_size}
 use Rattle.aig_graph.specs.Graph.{known_latches}
 use Rattle.aig_graph.specs.Move.{move_of}
-use Rattle.frame_laws.specs.Frames.{count_in}
+use Rattle.retimed_circuits.specs.Frames.{count_in}
 use Rattle.frames.specs.Named.{names_in}
 use Rattle.frames.proofs.FrameLaws.{closed-length, none-smaller}
 use Rattle.std.proofs.lemmas.Result.{IfOk-from_err}

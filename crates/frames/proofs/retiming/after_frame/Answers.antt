@@ -2,7 +2,7 @@ use Rattle.std.proofs.Common.{ℕ, List, ◌≡◌, ◌∙◌, ◌++◌, ◌∷�
 use Rattle.std.specs.List.{All}
 use Rattle.aig_graph.specs.Graph.{free_latches}
 use Rattle.aig_graph.specs.Laws.{composed}
-use Rattle.frame_laws.specs.declared.report.FrameReport.{FrameReport}
+use Rattle.retimed_circuits.specs.declared.report.FrameReport.{FrameReport}
 use Rattle.frames.specs.Named.{names_in}
 use Rattle.frames.specs.Underway.{IsUnderway}
 use Rattle.frames.proofs.FrameLaws.{one-more}

@@ -1,7 +1,7 @@
 use Rattle.std.proofs.Common.{length, List, ap, sym, subst, ◌∙◌}
 use Rattle.aig_graph.specs.Graph.{Graph}
-use Rattle.frame_laws.specs.declared.report.FrameReport.{FrameReport}
-use Rattle.frame_laws.specs.Frames.{AfterFrames, cleaned}
+use Rattle.retimed_circuits.specs.declared.report.FrameReport.{FrameReport}
+use Rattle.retimed_circuits.specs.Frames.{AfterFrames, cleaned}
 use Rattle.frames.specs.Named.{names_in}
 use Rattle.std.proofs.lemmas.Result.{IfOk-from_err}
 use Rattle.frames.proofs.retiming.begun.Goals as goal

@@ -1,7 +1,7 @@
 use Rattle.std.proofs.Common.{◌+◌, ◌≡◌, Option, suc, arith, subst, ℕ}
 use Rattle.std.specs.Option.{MatchOption}
-use Rattle.frame_laws.specs.Frames.{NoneSmaller}
-use Rattle.frame_laws.proofs.NameLaws.{names-stay}
+use Rattle.retimed_circuits.specs.Frames.{NoneSmaller}
+use Rattle.retimed_circuits.proofs.NameLaws.{names-stay}
 use Rattle.frames.specs.declared.frame.Frame.{Frame}
 use Rattle.frames.specs.Found.{Moves}
 use Rattle.frames.specs.Named.{names_in}

@@ -12,7 +12,7 @@ pub simulate_blocks-requires-after_bounds : goal.simulate_blocks-requires-after_
 simulate_blocks-requires-after_bounds g c κs within =
     let literals = c.as_slice.ensures.value ∙ c.in_ok-literals.ensures ∙ ap property_literals c.props.ensures.value in
     subst (λ (graph : Graph). AreLiteralsOf graph c.as_slice.result.now) (sym c.aig.ensures.value)
-    (subst (AreLiteralsOf c.args.circuit.now.aig) (sym literals) (property_literals-in c.args.circuit.now c.props.ensures.network))
+    (subst (AreLiteralsOf c.args.circuit.now.aig) (sym literals) (property_literals-in c.args.circuit.now c.props.ensures.netlist))
 
 pub returns : goal.returns
 returns g c =

@@ -1,7 +1,7 @@
 use Rattle.std.proofs.Common.{ℕ, arith}
 use Rattle.frame_net.specs.FlowNet.{cap_at}
 use Rattle.pulse.proofs.flow.capacities.Goals as goal
-use Rattle.parted_flow.proofs.StartLemmas.{one_more}
+use Rattle.flow_whole.proofs.StartLemmas.{one_more}
 
 pub loop-arc-preserved : goal.loop-arc-preserved
 loop-arc-preserved c = record {

@@ -1,7 +1,7 @@
 use Rattle.std.proofs.Common.{arith, sym, subst}
 use Rattle.std.specs.Vec.{with_items}
 use Rattle.std.proofs.lemmas.List.{with_items_is}
-use Rattle.parted_flow.specs.Marks.{NoneMarked, IsPartlyDelivered}
+use Rattle.flow_whole.specs.Marks.{NoneMarked, IsPartlyDelivered}
 use Rattle.pulse.specs.Values.{FlowState, PushState, flow_state, push_state}
 use Rattle.pulse.specs.Conditions.{IsFlowOf, is_marked}
 use Rattle.pulse.specs.Phases.{RangeDelivered}

@@ -1,6 +1,6 @@
 use Rattle.flow_theory.specs.Laws.{started}
 use Rattle.frame_net.specs.FlowNet.{node_count}
-use Rattle.flow_parts.specs.Parts.{pair}
+use Rattle.flow_part.specs.Parts.{pair}
 use Rattle.pulse.specs.Conditions.{state_of}
 use Rattle.pulse.proofs.run.run_to_end.Goals as goal
 use Rattle.exact_labels.proofs.RunLaws.{run_from}

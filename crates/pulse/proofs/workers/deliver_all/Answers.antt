@@ -1,5 +1,5 @@
 use Rattle.std.proofs.Common.{arith, length}
-use Rattle.flow_parts.specs.Parts.{values_of}
+use Rattle.flow_part.specs.Parts.{values_of}
 use Rattle.pulse.proofs.workers.deliver_all.Goals as goal
 use Rattle.pulse.proofs.CrewLemmas.{sound_anew, read_anew, labels_ready, all_pulsed, keep_labels, lists_turned}
 

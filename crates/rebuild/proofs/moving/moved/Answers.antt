@@ -1,5 +1,5 @@
 use Rattle.std.proofs.Common.{◌≤◌, ◌∙◌, ap, sym, arith, subst}
-use Rattle.aig_graph.specs.Circuits.{IsNetwork, Network}
+use Rattle.aig_graph.specs.Circuits.{IsNetlist, Netlist}
 use Rattle.aig_graph.specs.Closed.{IsClosedSet}
 use Rattle.aig_graph.specs.Graph.{IsGraph, known_latches}
 use Rattle.aig_graph.specs.Laws.{all_free}
@@ -8,7 +8,7 @@ use Rattle.aig_graph.specs.Streams.{SameStreams}
 use Rattle.aig_graph.specs.declared.literal.TheConstants.{MAX_VARIABLES}
 use Rattle.rebuild.proofs.FreeLaws.{moved-known, moved-room}
 use Rattle.rebuild.proofs.MovedLaws.{IsGraph-moved, moved-end}
-use Rattle.rebuild.proofs.NameLaws.{IsNetwork-moved}
+use Rattle.rebuild.proofs.NameLaws.{IsNetlist-moved}
 use Rattle.rebuild.proofs.StreamLaws.{moved-whole, same_streams}
 use Rattle.rebuild.specs.Moved.{moved_of, moved_size}
 use Rattle.rebuild.specs.Planned.{marked, planned}
@@ -35,8 +35,8 @@ new-requires-3 c =
     let same = c.in_ok-plan.ensures ∙ c.in_ok-marks.ensures in
     let whole = moved-whole (planned c.in_ok-plan.plan) c.in_ok-aig.aig c.in_ok-props.props c.in_ok-symbols.symbols c.in_ok-aig.ensures c.in_ok-props.ensures c.in_ok-symbols.ensures ∙ ap moved_of same in
     let valid : IsGraph m.circuit.aig = subst (λ (x : Move). IsGraph x.circuit.aig) c.in_ok-marks.ensures k.graph in
-    let network : IsNetwork m.circuit = subst (λ (x : Move). IsNetwork x.circuit) c.in_ok-marks.ensures k.network in
-    subst IsNetwork (sym whole) (IsNetwork-moved m valid c.requires.closed network)
+    let netlist : IsNetlist m.circuit = subst (λ (x : Move). IsNetlist x.circuit) c.in_ok-marks.ensures k.netlist in
+    subst IsNetlist (sym whole) (IsNetlist-moved m valid c.requires.closed netlist)
 
 pub returns-clause-streams : goal.returns-clause-streams
 returns-clause-streams c =
@@ -45,13 +45,13 @@ returns-clause-streams c =
     let same = c.in_ok-plan.ensures ∙ c.in_ok-marks.ensures in
     let whole = moved-whole (planned c.in_ok-plan.plan) c.in_ok-aig.aig c.in_ok-props.props c.in_ok-symbols.symbols c.in_ok-aig.ensures c.in_ok-props.ensures c.in_ok-symbols.ensures ∙ ap moved_of same in
     let valid : IsGraph m.circuit.aig = subst (λ (x : Move). IsGraph x.circuit.aig) c.in_ok-marks.ensures k.graph in
-    let network : IsNetwork m.circuit = subst (λ (x : Move). IsNetwork x.circuit) c.in_ok-marks.ensures k.network in
-    subst (λ (x : Network). SameStreams c.args.circuit.now x (all_free c.args.circuit.now.aig)) (sym (c.new-3.ensures ∙ whole))
-    (same_streams m valid network c.requires.closed (IsGraph-moved m valid c.requires.closed (moved-room m c.requires.closed c.requires.room)))
+    let netlist : IsNetlist m.circuit = subst (λ (x : Move). IsNetlist x.circuit) c.in_ok-marks.ensures k.netlist in
+    subst (λ (x : Netlist). SameStreams c.args.circuit.now x (all_free c.args.circuit.now.aig)) (sym (c.new-3.ensures ∙ whole))
+    (same_streams m valid netlist c.requires.closed (IsGraph-moved m valid c.requires.closed (moved-room m c.requires.closed c.requires.room)))
 
 pub returns-clause-known : goal.returns-clause-known
 returns-clause-known c =
     let m = move_of c.args.circuit.now c.args.keep.now c.args.set.now in
     let same = c.in_ok-plan.ensures ∙ c.in_ok-marks.ensures in
     let whole = moved-whole (planned c.in_ok-plan.plan) c.in_ok-aig.aig c.in_ok-props.props c.in_ok-symbols.symbols c.in_ok-aig.ensures c.in_ok-props.ensures c.in_ok-symbols.ensures ∙ ap moved_of same in
-    ap (λ (x : Network). known_latches x.aig) (c.new-3.ensures ∙ whole) ∙ moved-known m c.requires.closed
+    ap (λ (x : Netlist). known_latches x.aig) (c.new-3.ensures ∙ whole) ∙ moved-known m c.requires.closed

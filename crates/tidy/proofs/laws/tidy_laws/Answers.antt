@@ -1,4 +1,4 @@
-use Rattle.clean_laws.proofs.PassLaws.{IsCircuit}
+use Rattle.cleaned_circuits.proofs.PassLaws.{IsCircuit}
 use Rattle.tidy.proofs.CleanLaws.{clean-tidy}
 use Rattle.tidy.proofs.MovedLaws.{moved_tidy}
 use Rattle.tidy.proofs.PassLaws.{tidy-cleans, tidy-pass}
@@ -8,12 +8,12 @@ pub returns-clause-moved : goal.returns-clause-moved
 returns-clause-moved c = moved_tidy
 
 pub returns-clause-cleaned : goal.returns-clause-cleaned
-returns-clause-cleaned c = λ held before graph network in_range tidy.
-    let valid : IsCircuit before = record { graph = graph; network = network } in
+returns-clause-cleaned c = λ held before graph netlist in_range tidy.
+    let valid : IsCircuit before = record { graph = graph; netlist = netlist } in
     (tidy-pass held before valid in_range tidy, tidy-cleans held before valid in_range tidy)
 
 pub returns-clause-tidy : goal.returns-clause-tidy
-returns-clause-tidy c = λ held before kept graph network in_range pass. clean-tidy held before kept (record { graph = graph; network = network }) in_range pass
+returns-clause-tidy c = λ held before kept graph netlist in_range pass. clean-tidy held before kept (record { graph = graph; netlist = netlist }) in_range pass
 
 pub returns-clause-copies : goal.returns-clause-copies
 returns-clause-copies c = λ held before first tidy. record {

@@ -2,7 +2,7 @@ use Rattle.std.proofs.Common.{◌≡◌, ◌∙◌, ℕ, ◌+◌, ◌<◌, ◌�
 use Rattle.aig_graph.specs.declared.graph.Gate.{Gate}
 use Rattle.std.specs.Map.{lookup}
 use Rattle.aig_graph.specs.Graph.{variable}
-use Rattle.clean_laws.specs.Merged.{is_gate}
+use Rattle.cleaned_circuits.specs.Merged.{is_gate}
 use Rattle.std.proofs.lemmas.Option.{slice_get_read}
 use Rattle.tidy.specs.Gathered.{is_plain, AreGathered, AreMarked, by_gate}
 use Rattle.tidy.proofs.GatherLaws.{gathered-more, gathered-skip, marked-more, none-where, spoilt-pair}

@@ -1,5 +1,5 @@
 use Rattle.std.proofs.Common.{◌∙◌, ◌-◌, ◌<◌, ap, arith, length, ℕ, List}
-use Rattle.clean_laws.specs.Merged.{replaced}
+use Rattle.cleaned_circuits.specs.Merged.{replaced}
 use Rattle.clean.proofs.SubstitutionLaws.{long-is, replaced-low, replaced-from}
 use Rattle.clean.proofs.substitution.Substitution.literal.Goals as goal
 

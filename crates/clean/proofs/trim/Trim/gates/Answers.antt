@@ -1,9 +1,9 @@
 use Rattle.std.proofs.Common.{◌≡◌, ◌<◌, ◌+◌, ◌∙◌, ap, sym, arith, ℕ, List, Bool, length, get_or, Vec, Global, refl}
 use Rattle.aig_graph.specs.declared.graph.Gate.{Gate}
 use Rattle.aig_graph.specs.Graph.{Graph, first_gate, variables_end}
-use Rattle.clean_laws.specs.Reached.{stays}
-use Rattle.clean_laws.specs.Trimmed.{renumbered_gate}
-use Rattle.clean_laws.proofs.TrimmedLaws.{stays-past, stays-reached}
+use Rattle.cleaned_circuits.specs.Reached.{stays}
+use Rattle.cleaned_circuits.specs.Trimmed.{renumbered_gate}
+use Rattle.cleaned_circuits.proofs.TrimmedLaws.{stays-past, stays-reached}
 use Rattle.clean.specs.Sweep.{is_marked}
 use Rattle.clean.proofs.MappingLaws.{gate-within}
 use Rattle.clean.proofs.TrimLaws.{length-new_literals, gate-new, picked-nil, picked-more, picked-skip}

@@ -1,9 +1,9 @@
 use Rattle.std.proofs.Common.{◌≡◌, ◌<◌, ◌+◌, ◌∙◌, ap, sym, arith, ℕ, List, Bool, length, get_or, Vec, Global}
 use Rattle.aig_graph.specs.declared.graph.Latch.{Latch}
 use Rattle.aig_graph.specs.Graph.{Graph, IsLiteralOf, first_latch}
-use Rattle.clean_laws.specs.Reached.{stays}
-use Rattle.clean_laws.specs.Trimmed.{renumbered_latch}
-use Rattle.clean_laws.proofs.TrimmedLaws.{stays-past, stays-reached}
+use Rattle.cleaned_circuits.specs.Reached.{stays}
+use Rattle.cleaned_circuits.specs.Trimmed.{renumbered_latch}
+use Rattle.cleaned_circuits.proofs.TrimmedLaws.{stays-past, stays-reached}
 use Rattle.clean.specs.Sweep.{is_marked}
 use Rattle.clean.proofs.MappingLaws.{latch-there}
 use Rattle.clean.proofs.TrimLaws.{length-new_literals, latch-new, picked-nil, picked-more, picked-skip}

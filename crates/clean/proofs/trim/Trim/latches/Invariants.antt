@@ -1,7 +1,7 @@
 use Rattle.std.proofs.Common.{◌≡◌, map, take}
 use Rattle.aig_graph.specs.Graph.{first_latch}
-use Rattle.clean_laws.specs.Reached.{stays}
-use Rattle.clean_laws.specs.Trimmed.{picked, renumbered_latch}
+use Rattle.cleaned_circuits.specs.Reached.{stays}
+use Rattle.cleaned_circuits.specs.Trimmed.{picked, renumbered_latch}
 use Rattle.clean.specs.Sweep.{is_marked}
 use Rattle.clean.proofs.trim.Trim.latches.Given as goal
 

@@ -1,7 +1,7 @@
 use Rattle.std.proofs.Common.{◌≡◌, ◌+◌, ◌-◌, ◌*◌, ◌∙◌, ap, arith, ℕ, List, Bool, length}
 use Rattle.aig_graph.specs.Graph.{Graph, first_latch, variable}
-use Rattle.clean_laws.specs.Trimmed.{new_variable}
-use Rattle.clean_laws.proofs.TrimmedLaws.{new-from}
+use Rattle.cleaned_circuits.specs.Trimmed.{new_variable}
+use Rattle.cleaned_circuits.proofs.TrimmedLaws.{new-from}
 use Rattle.clean.specs.Sweep.{is_marked}
 use Rattle.clean.proofs.TrimLaws.{length-new_literals, position-new}
 use Rattle.clean.proofs.trim.Trim.new_position.Goals as goal

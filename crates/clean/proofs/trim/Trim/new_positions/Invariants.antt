@@ -1,5 +1,5 @@
 use Rattle.std.proofs.Common.{◌≡◌, map, take}
-use Rattle.clean_laws.specs.Trimmed.{new_position}
+use Rattle.cleaned_circuits.specs.Trimmed.{new_position}
 use Rattle.clean.specs.Sweep.{is_marked}
 use Rattle.clean.proofs.trim.Trim.new_positions.Given as goal
 

@@ -1,7 +1,7 @@
 use Rattle.std.proofs.Common.{◌≡◌, ◌<◌, ◌∙◌, ap, sym, subst, arith, ℕ, List, length, set, true, false}
 use Rattle.std.proofs.lemmas.List.{get_or_default}
-use Rattle.cut_cert.specs.Walk.{Front, is_marked, reach}
-use Rattle.cut_cert.proofs.WalkLaws.{reach-marked, reach-new}
+use Rattle.cut_cert.specs.SinkWalk.{Front, is_marked, reach}
+use Rattle.cut_cert.proofs.SinkWalkLaws.{reach-marked, reach-new}
 use Rattle.cut_cert.proofs.sink_side.SinkSide.reach.Goals as goal
 
 pub returns-in_ok-push : goal.returns-in_ok-push

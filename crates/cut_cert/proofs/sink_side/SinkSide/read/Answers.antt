@@ -1,7 +1,7 @@
 use Rattle.std.proofs.Common.{◌≡◌, ◌<◌, ◌∙◌, ap, sym, arith, ℕ, List, length, slice_index, nat_lt}
 use Rattle.frame_net.specs.FlowNet.{FlowNet, node_count, row_len, head, mate}
-use Rattle.cut_cert.specs.Walk.{Front, reach}
-use Rattle.cut_cert.proofs.WalkLaws.{arcs-none, arcs-long, arcs-step-on, arcs-step-off}
+use Rattle.cut_cert.specs.SinkWalk.{Front, reach}
+use Rattle.cut_cert.proofs.SinkWalkLaws.{arcs-none, arcs-long, arcs-step-on, arcs-step-off}
 use Rattle.cut_cert.proofs.sink_side.SinkSide.read.Goals as goal
 use Rattle.cut_cert.proofs.sink_side.SinkSide.read.Goals.{then-has_residual+in_ok-reach, else-has_residual}
 

@@ -1,5 +1,5 @@
 use Rattle.std.proofs.Common.{◌≡◌}
-use Rattle.cut_cert.specs.Walk.{read_arcs}
+use Rattle.cut_cert.specs.SinkWalk.{read_arcs}
 use Rattle.cut_cert.proofs.sink_side.SinkSide.read.Given as goal
 
 abbrev pub invariant-loop-k : goal.invariant-loop-k

@@ -1,6 +1,6 @@
 use Rattle.std.proofs.Common.{not, sym, ap, ◌∙◌, List}
 use Rattle.aig_graph.specs.declared.properties.Symbol.{Symbol}
-use Rattle.aag_file.specs.Meaning.{with_name}
+use Rattle.ascii_file.specs.Meaning.{with_name}
 use Rattle.file_parts.specs.Names.{symbols_in}
 use Rattle.file_parts.proofs.NameLaws.{taken, inserted, found}
 use Rattle.file_parts.proofs.kind_names.KindNames.insert.Goals as goal

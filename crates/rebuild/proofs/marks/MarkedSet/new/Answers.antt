@@ -17,7 +17,7 @@ invariant_of-result c =
     (c.first_latch.ensures.value ∙ ap first_latch c.aig-aig.ensures.value) (c.latches_and_gates-entries.ensures.value ∙ ap latches_and_gates c.aig-aig.ensures.value) c.vars.ensures.value in
     record {
       graph = c.aig-aig.ensures.graph;
-      network = c.aig-aig.ensures.network;
+      netlist = c.aig-aig.ensures.netlist;
       passable = passable;
       members_are = members;
       latched_are = latched-table m c.aig-aig.result.now c.props.result.now c.as_slice.result.now c.as_mut_slice-marks.result.now c.mark_read_or_held.new.marks c.in_ok-latched.latched.items

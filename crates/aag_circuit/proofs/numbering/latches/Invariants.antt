@@ -1,7 +1,0 @@
-use Rattle.aag_file.specs.declared.raw.RawLatch.{RawLatch}
-use Rattle.aag_circuit.specs.Numbering.{is_placed, placed_latch}
-use Rattle.aag_circuit.proofs.CollectingLaws.{IsMadeOf}
-use Rattle.aag_circuit.proofs.numbering.latches.Given as goal
-
-abbrev pub invariant-loop-latch : goal.invariant-loop-latch
-invariant-loop-latch l = IsMadeOf (λ (latch : RawLatch). is_placed l.places l.count latch.next) (placed_latch l.places) l.raws l.latch-index l.found.items

@@ -1,5 +1,0 @@
-use Rattle.aag_file.proofs.Pieces.{the_pieces_law}
-use Rattle.aag_file.proofs.laws.pieces_law.Goals as goal
-
-pub returns : goal.returns
-returns c = the_pieces_law

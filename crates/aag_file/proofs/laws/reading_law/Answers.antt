@@ -1,5 +1,0 @@
-use Rattle.aag_file.proofs.Files.{the_reading_law}
-use Rattle.aag_file.proofs.laws.reading_law.Goals as goal
-
-pub returns : goal.returns
-returns c = the_reading_law

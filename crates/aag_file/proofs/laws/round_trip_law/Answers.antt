@@ -1,5 +1,0 @@
-use Rattle.aag_file.proofs.RoundTrip.{the_round_trip_law}
-use Rattle.aag_file.proofs.laws.round_trip_law.Goals as goal
-
-pub returns : goal.returns
-returns c = the_round_trip_law

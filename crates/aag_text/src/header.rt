@@ -1,0 +1,29 @@
+ghost use Rattle.std.specs.Prelude.{ℕ, List, ◌≡◌, ◌≤◌, ◌++◌, length};
+ghost use Rattle.aag_text.specs.Beginning.{Awaits, Begins};
+
+use crate::cut::cut_line;
+use crate::items::Items;
+use file_lines::HeaderLine;
+use file_words::ReadError;
+use std::alloc::Global;
+
+/// Takes the next bytes, which end at the offset, where the first line is open: the items, where these bytes end it.
+pub(crate) fn begin(
+    alloc: Global,
+    line: &mut HeaderLine,
+    end: u64,
+    piece: &[u8],
+) -> Result<Option<Items>, ReadError>
+    requires { length piece.now ≤ end }
+    ensures { (bytes : List ℕ) → Awaits line.old bytes → length (bytes ++ piece.now) ≡ end → Begins line.new (bytes ++ piece.now) result }
+{
+    let Some((part, rest)) = cut_line(piece) else {
+        line.extend(piece);
+        return Ok(None);
+    };
+    line.extend(part);
+    let header = line.header()?;
+    let mut items = Items::new(alloc, header, end - rest.len() as u64);
+    items.feed(end, rest)?;
+    Ok(Some(items))
+}

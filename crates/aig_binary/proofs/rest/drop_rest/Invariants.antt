@@ -1,0 +1,6 @@
+use Rattle.std.proofs.Common.{ℕ, List}
+use Rattle.counted_io.proofs.InputLemmas.{ReadsFirst}
+use Rattle.aig_binary.proofs.rest.drop_rest.Given as goal
+
+abbrev pub invariant-loop : goal.invariant-loop
+invariant-loop g l = (read : List ℕ) × ReadsFirst (g.R.CountedRead.input l.fn.reader) (g.R.CountedRead.input l.reader) read

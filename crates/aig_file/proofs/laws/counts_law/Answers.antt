@@ -1,5 +1,0 @@
-use Rattle.aig_file.proofs.Counts.{the_counts_law}
-use Rattle.aig_file.proofs.laws.counts_law.Goals as goal
-
-pub returns : goal.returns
-returns c = the_counts_law

@@ -1,0 +1,5 @@
+use Rattle.ascii_file.proofs.Files.{the_reading_law}
+use Rattle.ascii_file.proofs.laws.reading_law.Goals as goal
+
+pub returns : goal.returns
+returns c = the_reading_law

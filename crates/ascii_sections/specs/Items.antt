@@ -1,0 +1,34 @@
+-- The item of a line, by its numbers.
+use Rattle.std.specs.Prelude.{ℕ, List, [], ◌∷◌, Option, Some, None}
+use Rattle.std.specs.Option.{option_map}
+use Rattle.ascii_file.specs.declared.raw.RawLatch.{RawLatch}
+use Rattle.ascii_file.specs.declared.raw.RawGate.{RawGate}
+use Rattle.ascii_file.specs.declared.raw.Section.{Section}
+use Rattle.ascii_file.specs.declared.raw.Section.TheVariants.{Inputs, Latches, Safety, Sizes, Liveness, Gates, Symbols}
+use Rattle.ascii_file.specs.Items.{Item, InputItem, LatchItem, SafetyItem, SizeItem, LivenessItem, GateItem}
+
+-- the only number
+abbrev pub only : List ℕ → Option ℕ
+only (n ∷ []) = Some n
+only _ = None
+
+-- the latch of two or three numbers
+abbrev pub latch_of : List ℕ → Option RawLatch
+latch_of (current ∷ next ∷ []) = Some (record { current = current; next = next; reset = 0 })
+latch_of (current ∷ next ∷ reset ∷ []) = Some (record { current = current; next = next; reset = reset })
+latch_of _ = None
+
+-- the gate of three numbers
+abbrev pub gate_of : List ℕ → Option RawGate
+gate_of (lhs ∷ rhs0 ∷ rhs1 ∷ []) = Some (record { lhs = lhs; rhs0 = rhs0; rhs1 = rhs1 })
+gate_of _ = None
+
+-- the item that the numbers of a line are in a section
+abbrev pub item_in : Section → List ℕ → Option Item
+item_in Inputs ns = option_map InputItem (only ns)
+item_in Latches ns = option_map LatchItem (latch_of ns)
+item_in Safety ns = option_map SafetyItem (only ns)
+item_in Sizes ns = option_map SizeItem (only ns)
+item_in Liveness ns = option_map LivenessItem (only ns)
+item_in Gates ns = option_map GateItem (gate_of ns)
+item_in Symbols ns = None

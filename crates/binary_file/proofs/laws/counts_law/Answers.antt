@@ -1,0 +1,5 @@
+use Rattle.binary_file.proofs.Counts.{the_counts_law}
+use Rattle.binary_file.proofs.laws.counts_law.Goals as goal
+
+pub returns : goal.returns
+returns c = the_counts_law

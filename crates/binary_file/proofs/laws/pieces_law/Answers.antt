@@ -1,0 +1,5 @@
+use Rattle.binary_file.proofs.Pieces.{the_pieces_law}
+use Rattle.binary_file.proofs.laws.pieces_law.Goals as goal
+
+pub returns : goal.returns
+returns c = the_pieces_law

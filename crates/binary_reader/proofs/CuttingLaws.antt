@@ -1,0 +1,170 @@
+-- Lines and deltas in pieces.
+use Rattle.std.proofs.Common.{ℕ, ◌+◌, ◌-◌, ◌*◌, ◌%◌, ◌<◌, ◌≤◌, ◌≡◌, suc, zero, List, [], ◌∷◌, ◌++◌, length, take, drop, get_or, position, Option, Some, None, Result, Ok, Err, refl, arith, Bool, true, false, cond, nat_eq, nat_lt, ◌&&◌, inl, inr, ap, sym, subst, ◌∙◌}
+use Rattle.std.proofs.lemmas.Bool.{cond-true, cond-false, eqb-true, ltb-false, lt-ltb, le-ltb, eq-eqb, ne_eqb, cases_lt, and_from}
+use Rattle.std.proofs.lemmas.List.{length_push, length-append, take_rest}
+use Rattle.std.proofs.lemmas.List.Quantifiers.{position-Some}
+use Rattle.std.proofs.lemmas.List.Sums.{fails_before_first}
+use Rattle.std.specs.List.{position_or_len}
+use Rattle.file_words.specs.declared.fault.ReadError.{ReadError}
+use Rattle.file_words.specs.declared.fault.ReadError.TheVariants.{BadDelta}
+use Rattle.deltas.specs.Deltas.{is_delta, delta_value}
+use Rattle.deltas.specs.declared.decode.DeltaError.{DeltaError}
+use Rattle.deltas.specs.declared.decode.DeltaError.TheVariants.{TooLong}
+use Rattle.ascii_file.specs.Reading.{◌>>=◌}
+use Rattle.binary_file.specs.Reading.{State, feed}
+use Rattle.binary_file.proofs.Steps.{delta_fed}
+use Rattle.binary_reader.specs.Cutting.{HasNoNewline, BeginsWithDelta, IsShortDelta, AreDeltaStates, IsTaken}
+
+cut_at : (bytes : List ℕ) (i : ℕ) → i < length bytes → nat_eq (get_or bytes i 0) 10 ≡ true → ((k : ℕ) → k < i → nat_eq (get_or bytes k 0) 10 ≡ false)
+    → HasNoNewline (take i bytes) × (bytes ≡ take i bytes ++ 10 ∷ drop (suc i) bytes)
+cut_at [] i within here before = absurd (omega arith)
+cut_at (b ∷ bytes) zero within here before = (tt, ap (λ (x : ℕ). x ∷ bytes) (eqb-true b 10 here))
+cut_at (b ∷ bytes) (suc i) within here before =
+    let later = cut_at bytes i (omega arith) here (λ k less. before (suc k) (omega arith)) in
+    ((before zero (omega arith), later.0), ap (λ (bs : List ℕ). b ∷ bs) later.1)
+
+none_in : (bytes : List ℕ) → ((k : ℕ) → k < length bytes → nat_eq (get_or bytes k 0) 10 ≡ false) → HasNoNewline bytes
+none_in [] none = tt
+none_in (b ∷ bytes) none = (none zero (omega arith), none_in bytes (λ k less. none (suc k) (omega arith)))
+
+pub cut_at_newline : (bytes : List ℕ) (i : ℕ) → position (λ b. nat_eq b 10) bytes ≡ Some i → HasNoNewline (take i bytes) × (bytes ≡ take i bytes ++ 10 ∷ drop (i + 1) bytes)
+cut_at_newline bytes i e =
+    let found = position-Some (λ b. nat_eq b 10) bytes i 0 e in
+    let parts = cut_at bytes i found.0 found.1 found.2 in
+    (parts.0, parts.1 ∙ ap (λ (n : ℕ). take i bytes ++ 10 ∷ drop n bytes) next)
+  where
+    next : suc i ≡ i + 1
+    next = omega arith
+
+pub without_newline : (bytes : List ℕ) → position (λ b. nat_eq b 10) bytes ≡ None → HasNoNewline bytes
+without_newline bytes e =
+    let past : length bytes ≤ position_or_len (λ x. nat_eq x 10) bytes = ltb-false _ _ (by_test _ _ e) in
+    none_in bytes (λ k less. fails_before_first (λ x. nat_eq x 10) bytes k 0 (omega (arith, less, past)))
+  where
+    by_test : (i : ℕ) (t : Bool) → cond t (Some i) None ≡ None → t ≡ false
+    by_test i true e = absurd (cc)
+    by_test i false e = refl
+
+-- ---- deltas of at most three bytes
+
+pub one_byte : (bytes : List ℕ) (number : ℕ) → 3 ≤ length bytes → get_or bytes 0 0 < 128 → number ≡ get_or bytes 0 0 → BeginsWithDelta bytes number (drop 1 bytes)
+unfolding is_delta delta_value
+one_byte [] number enough small e = absurd (omega (arith, enough))
+one_byte (b ∷ bytes) number enough small e = record { delta = b ∷ []; parts = refl; form = lt-ltb b 128 small; few = omega arith; value = omega (arith, e, small) }
+
+pub two_bytes : (bytes : List ℕ) (number : ℕ) → 3 ≤ length bytes → 128 ≤ get_or bytes 0 0 → get_or bytes 1 0 < 128 → number ≡ get_or bytes 0 0 % 128 + 128 * get_or bytes 1 0 → BeginsWithDelta bytes number (drop 2 bytes)
+unfolding is_delta delta_value
+two_bytes [] number enough high small e = absurd (omega (arith, enough))
+two_bytes (b ∷ []) number enough high small e = absurd (omega (arith, enough))
+two_bytes (b ∷ d ∷ bytes) number enough high small e = record {
+  delta = b ∷ d ∷ [];
+  parts = refl;
+  form = and_from (nat_lt 127 b) (nat_lt d 128) (lt-ltb 127 b (omega (arith, high))) (lt-ltb d 128 small);
+  few = omega arith;
+  value = omega (arith, e, small);
+}
+
+pub three_bytes : (bytes : List ℕ) (number : ℕ) → 3 ≤ length bytes → 128 ≤ get_or bytes 0 0 → 128 ≤ get_or bytes 1 0 → get_or bytes 2 0 < 128
+    → number ≡ get_or bytes 0 0 % 128 + 128 * (get_or bytes 1 0 % 128 + 128 * get_or bytes 2 0) → BeginsWithDelta bytes number (drop 3 bytes)
+unfolding is_delta delta_value
+three_bytes [] number enough high next small e = absurd (omega (arith, enough))
+three_bytes (b ∷ []) number enough high next small e = absurd (omega (arith, enough))
+three_bytes (b ∷ d ∷ []) number enough high next small e = absurd (omega (arith, enough))
+three_bytes (b ∷ d ∷ f ∷ bytes) number enough high next small e = record {
+  delta = b ∷ d ∷ f ∷ [];
+  parts = refl;
+  form = and_from (nat_lt 127 b) (nat_lt 127 d && nat_lt f 128) (lt-ltb 127 b (omega (arith, high))) (and_from (nat_lt 127 d) (nat_lt f 128) (lt-ltb 127 d (omega (arith, next))) (lt-ltb f 128 small));
+  few = omega arith;
+  value = omega (arith, e, small);
+}
+
+-- ---- deltas that have begun
+
+module _ (at : ℕ) (state : List ℕ → State) (end_delta : List ℕ → Result State ReadError) (are : AreDeltaStates at state end_delta) where
+  last_byte : (old left : List ℕ) (b : ℕ) → b < 128 → feed (state old) (b ∷ left) ≡ (end_delta (old ++ b ∷ []) >>= λ s. feed s left)
+  unfolding feed
+  last_byte old left b small =
+      ap (λ (r : Result State ReadError). r >>= λ s. feed s left) (are old b ∙ cond-true (nat_lt b 128) (end_delta (old ++ b ∷ [])) (cond (nat_eq (length old) 4) (Err (BadDelta at)) (Ok (state (old ++ b ∷ [])))) (lt-ltb b 128 small))
+
+  goes_on : (old left : List ℕ) (b : ℕ) → 128 ≤ b → feed (state old) (b ∷ left) ≡ (cond (nat_eq (length old) 4) (Err (BadDelta at)) (Ok (state (old ++ b ∷ []))) >>= λ s. feed s left)
+  unfolding feed
+  goes_on old left b high =
+      ap (λ (r : Result State ReadError). r >>= λ s. feed s left) (are old b ∙ cond-false (nat_lt b 128) (end_delta (old ++ b ∷ [])) (cond (nat_eq (length old) 4) (Err (BadDelta at)) (Ok (state (old ++ b ∷ [])))) (le-ltb b 128 high))
+
+  pub fifth_byte : (old left : List ℕ) (b : ℕ) → 128 ≤ b → length old ≡ 4 → feed (state old) (b ∷ left) ≡ Err (BadDelta at)
+  fifth_byte old left b high four = goes_on old left b high ∙ ap (λ (r : Result State ReadError). r >>= λ s. feed s left) (cond-true (nat_eq (length old) 4) (Err (BadDelta at)) (Ok (state (old ++ b ∷ []))) (eq-eqb (length old) 4 four))
+
+  pub taken_last : (old left : List ℕ) (b : ℕ) → b < 128 → IsTaken state end_delta old [] (b ∷ left) (Some (delta_value (old ++ b ∷ []))) left
+  taken_last old left b small = (old ++ b ∷ [], refl, last_byte old left b small, omega (arith, length_push old b))
+
+  pub taken_more : (old left : List ℕ) (b : ℕ) → 128 ≤ b → length old < 4 → IsTaken state end_delta old (old ++ b ∷ []) (b ∷ left) None left
+  taken_more old left b high few = (
+    goes_on old left b high
+        ∙ ap (λ (r : Result State ReadError). r >>= λ s. feed s left) (cond-false (nat_eq (length old) 4) (Err (BadDelta at)) (Ok (state (old ++ b ∷ []))) (ne_eqb (length old) 4 (λ e. absurd (omega (arith, e, few))))),
+    omega (arith, length_push old b),
+  )
+
+  short_taken : (piece left : List ℕ) (number : ℕ) → BeginsWithDelta piece number left → IsTaken state end_delta [] [] piece (Some number) left
+  short_taken piece left number begins = (
+    begins.delta,
+    begins.value,
+    ap (λ (bytes : List ℕ). feed (state []) bytes) begins.parts ∙ delta_fed at state end_delta are begins.delta [] left begins.form (let few = begins.few in omega (arith, few)),
+    omega (arith, ap length begins.parts, length-append begins.delta left),
+  )
+
+  pub taken_short : (old new piece : List ℕ) (number len : ℕ) → old ≡ [] → IsShortDelta piece number len → IsTaken state end_delta old new piece (Some number) (take (length piece - len) (drop len piece))
+  taken_short old new piece number len none (some, fits, begins) =
+      subst (λ (bytes : List ℕ). IsTaken state end_delta old new piece (Some number) bytes) (sym (take_rest piece len))
+      (subst (λ (bytes : List ℕ). IsTaken state end_delta bytes new piece (Some number) (drop len piece)) (sym none) (short_taken piece (drop len piece) number begins))
+
+-- what a byte makes of a delta that has begun
+pub record Pushed (old new : List ℕ) (b : ℕ) (result : Result (Option ℕ) DeltaError) : Type 0 where
+  pub few : length old ≤ 4
+  pub last : b < 128 → (result ≡ Ok (Some (delta_value (old ++ b ∷ [])))) × (new ≡ [])
+  pub more : 128 ≤ b → length old < 4 → (result ≡ Ok None) × (new ≡ old ++ b ∷ [])
+  pub too_long : 128 ≤ b → length old ≡ 4 → (result ≡ Err TooLong) × (new ≡ old)
+
+pub taken_where_pushed : (at : ℕ) (state : List ℕ → State) (end_delta : List ℕ → Result State ReadError) → AreDeltaStates at state end_delta
+    → (old new piece left : List ℕ) (b : ℕ) (number : Option ℕ) → piece ≡ b ∷ left → Pushed old new b (Ok number) → IsTaken state end_delta old new piece number left
+taken_where_pushed at state end_delta are old new piece left b number parts pushed =
+    subst (λ (bytes : List ℕ). IsTaken state end_delta old new bytes number left) (sym parts) (elim (cases_lt b 128) [
+      | inl small ↦
+          let is = pushed.last small in
+          subst (λ (n : Option ℕ). IsTaken state end_delta old new (b ∷ left) n left) (sym (same_number _ _ is.0)) (subst (λ (n : List ℕ). IsTaken state end_delta old n (b ∷ left) (Some (delta_value (old ++ b ∷ []))) left) (sym is.1) (taken_last at state end_delta are old left b small))
+      | inr high ↦ elim (cases_lt (length old) 4) [
+        | inl few ↦
+            let is = pushed.more high few in
+            subst (λ (n : Option ℕ). IsTaken state end_delta old new (b ∷ left) n left) (sym (same_number _ _ is.0)) (subst (λ (n : List ℕ). IsTaken state end_delta old n (b ∷ left) None left) (sym is.1) (taken_more at state end_delta are old left b high few))
+        | inr four ↦ absurd (no_error _ (pushed.too_long high (full (length old) four pushed.few)).0)
+      ]
+    ])
+  where
+    full : (n : ℕ) → 4 ≤ n → n ≤ 4 → n ≡ 4
+    full n least most = omega (arith, least, most)
+
+    same_number : (m n : Option ℕ) → ◌≡◌ {A = Result (Option ℕ) DeltaError} (Ok m) (Ok n) → m ≡ n
+    same_number m n e = cc
+
+    no_error : (m : Option ℕ) → ◌≡◌ {A = Result (Option ℕ) DeltaError} (Ok m) (Err TooLong) → ⊥
+    no_error m e = cc
+
+pub refused_where_pushed : (at : ℕ) (state : List ℕ → State) (end_delta : List ℕ → Result State ReadError) → AreDeltaStates at state end_delta
+    → (old new piece left : List ℕ) (b : ℕ) (fault : DeltaError) → piece ≡ b ∷ left → Pushed old new b (Err fault) → feed (state old) piece ≡ Err (BadDelta at)
+refused_where_pushed at state end_delta are old new piece left b fault parts pushed =
+    ap (λ (bytes : List ℕ). feed (state old) bytes) parts ∙ elim (cases_lt b 128) [
+      | inl small ↦ absurd (no_number _ (pushed.last small).0)
+      | inr high ↦ elim (cases_lt (length old) 4) [
+        | inl few ↦ absurd (no_number _ (pushed.more high few).0)
+        | inr four ↦ fifth_byte at state end_delta are old left b high (full (length old) four pushed.few)
+      ]
+    ]
+  where
+    full : (n : ℕ) → 4 ≤ n → n ≤ 4 → n ≡ 4
+    full n least most = omega (arith, least, most)
+
+    no_number : (n : Option ℕ) → ◌≡◌ {A = Result (Option ℕ) DeltaError} (Err fault) (Ok n) → ⊥
+    no_number n e = cc
+
+pub first_and_rest : (piece : List ℕ) → 0 < length piece → piece ≡ get_or piece 0 0 ∷ take (length piece - 1) (drop 1 piece)
+first_and_rest [] some = absurd (omega (arith, some))
+first_and_rest (b ∷ piece) some = ap (λ (bytes : List ℕ). b ∷ bytes) (sym (take_rest (b ∷ piece) 1))

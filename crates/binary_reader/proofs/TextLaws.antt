@@ -1,0 +1,48 @@
+-- Lines after the gates.
+use Rattle.std.proofs.Common.{ℕ, ◌≡◌, List, [], ◌∷◌, Option, Some, None, Bool, true, false, cond, refl, ap, ◌∙◌}
+use Rattle.std.proofs.lemmas.List.{append-nil}
+use Rattle.ascii_file.specs.declared.raw.SymbolKind.{SymbolKind}
+use Rattle.ascii_file.specs.Items.{Item, InputItem, LatchItem, SafetyItem, SizeItem, LivenessItem, GateItem, SymbolItem, kind_of, symbol_of, begins_comment}
+use Rattle.file_lines.specs.declared.symbols.SymbolText.TheVariants.{Comment}
+use Rattle.file_lines.specs.declared.symbols.SymbolLine.{SymbolLine}
+use Rattle.file_lines.specs.Symbols.{unnamed, text_without, text_of_item, text_of, text_with}
+use Rattle.binary_reader.specs.Opened.{IsText}
+
+unnamed_isnt : (kind : Option SymbolKind) → unnamed kind ≡ Comment → ⊥
+unnamed_isnt None e = absurd cc
+unnamed_isnt (Some kind) e = absurd cc
+
+without_isnt : (line : List ℕ) → text_without line ≡ Comment → ⊥
+without_isnt [] e = absurd cc
+without_isnt (letter ∷ bytes) e = unnamed_isnt (kind_of letter) e
+
+item_isnt : (line : List ℕ) (item : Option Item) → text_of_item line item ≡ Comment → ⊥
+item_isnt line None e = without_isnt line e
+item_isnt line (Some (InputItem lit)) e = without_isnt line e
+item_isnt line (Some (LatchItem latch)) e = without_isnt line e
+item_isnt line (Some (SafetyItem lit)) e = without_isnt line e
+item_isnt line (Some (SizeItem size)) e = without_isnt line e
+item_isnt line (Some (LivenessItem lit)) e = without_isnt line e
+item_isnt line (Some (GateItem gate)) e = without_isnt line e
+item_isnt line (Some (SymbolItem symbol)) e = absurd cc
+
+-- a line is the comment's exactly where it begins as one
+pub comment_begins : (line : List ℕ) → text_of line ≡ Comment → begins_comment line ≡ true
+unfolding text_of
+comment_begins line e = by_test (begins_comment line) e
+  where
+    by_test : (test : Bool) → cond test Comment (text_of_item line (symbol_of line)) ≡ Comment → test ≡ true
+    by_test true e = refl
+    by_test false e = absurd (item_isnt line (symbol_of line) e)
+
+pub other_begins : (line : List ℕ) → (text_of line ≡ Comment → ⊥) → begins_comment line ≡ false
+unfolding text_of
+other_begins line other = by_test (begins_comment line) other
+  where
+    by_test : (test : Bool) → (cond test Comment (text_of_item line (symbol_of line)) ≡ Comment → ⊥) → test ≡ false
+    by_test true other = absurd (other refl)
+    by_test false other = refl
+
+-- the text of a line of which all bytes have come
+pub text_is : (line : SymbolLine) (bytes : List ℕ) → IsText line bytes → text_with line [] ≡ text_of bytes
+text_is line bytes is = is [] ∙ ap text_of (append-nil bytes)

@@ -1,0 +1,122 @@
+ghost use Rattle.std.specs.Prelude.{ℕ, List, ◌≡◌, ◌++◌};
+ghost use Rattle.ascii_file.specs.Answering.{Gives};
+ghost use Rattle.binary_file.specs.Reading.{read_binary};
+ghost use Rattle.binary_reader.specs.Holding.{Holds};
+
+use crate::stage::Stage;
+use aig_graph::Circuit;
+use file_lines::HeaderLine;
+use file_words::ReadError;
+use std::alloc::Global;
+use std::mem;
+
+/// Reads a binary file, whose bytes come in pieces, cut anywhere. Of the bytes nothing is kept but what they stand for, so
+/// room grows with what was read, never by the header's numbers, and the time is linear in the bytes.
+#[derive(Drop)]
+pub struct AigReader {
+    alloc: Global,
+    stage: Stage,
+    /// How many bytes have come.
+    offset: u64,
+}
+
+impl AigReader {
+    ghost use Rattle.std.specs.Prelude.{ℕ, List, ◌≡◌, ◌++◌, [], Err, Some, None, OnOk, IfErr};
+    ghost use Rattle.file_words.specs.declared.fault.ReadError.{ReadError};
+    ghost use Rattle.file_words.specs.declared.fault.ReadError.TheVariants.{BadHeader};
+    ghost use Rattle.ascii_file.specs.Answering.{Gives};
+    ghost use Rattle.binary_file.specs.Reading.{read_binary};
+    ghost use Rattle.binary_reader.specs.Holding.{Holds, Answers, fault_of};
+
+    /// A reader to which nothing was fed. Takes no memory.
+    pub fn new(alloc: Global) -> AigReader
+        ensures holds { Holds result [] }
+        ensures sound { fault_of result ≡ None }
+    {
+        AigReader {
+            alloc,
+            stage: Stage::Header(HeaderLine::new(*b"aig ")),
+            offset: 0,
+        }
+    }
+
+    /// Takes the next bytes of the file. An empty piece changes nothing.
+    ///
+    /// # Errors
+    ///
+    /// The first fault of the bytes so far, as soon as its last byte has come, with its offset from the first piece on; or
+    /// `NoMemory`, also where the pieces come to `2^64` bytes, since no offset is that great. Every later call answers the same.
+    pub fn feed(&mut self, piece: &[u8]) -> Result<(), ReadError>
+        ensures held { (bytes : List ℕ) → Holds self.old bytes → Holds self.new (bytes ++ piece.now) × Answers result (bytes ++ piece.now) }
+        ensures fails { IfErr result (λ fault. fault_of self.new ≡ Some fault) }
+        ensures stays { (fault : ReadError) → fault_of self.old ≡ Some fault → result ≡ Err fault }
+    {
+        let Some(end) = self.offset.checked_add(piece.len() as u64) else {
+            let fault = self.stage.refusal();
+            self.enter(Stage::Failed(fault));
+            return Err(fault);
+        };
+        let stage = mem::replace(&mut self.stage, Stage::Failed(ReadError::NoMemory));
+        self.offset = end;
+        match stage.feed(self.alloc, end, piece) {
+            Ok(stage) => {
+                self.enter(stage);
+                Ok(())
+            }
+            Err(fault) => {
+                self.enter(Stage::Failed(fault));
+                Err(fault)
+            }
+        }
+    }
+
+    /// The circuit of the file, all of whose bytes were fed. Every later call answers `BadHeader` at 0.
+    ///
+    /// # Errors
+    ///
+    /// The first fault of the file; `NoMemory`. Every later call answers the same.
+    pub fn finish(&mut self) -> Result<Circuit, ReadError>
+        ensures circuit { (bytes : List ℕ) → Holds self.old bytes → Gives (λ c. c) result (read_binary bytes) }
+        ensures ends { OnOk result (fault_of self.new ≡ Some (BadHeader 0)) }
+        ensures fails { IfErr result (λ fault. fault_of self.new ≡ Some fault) }
+        ensures stays { (fault : ReadError) → fault_of self.old ≡ Some fault → result ≡ Err fault }
+    {
+        let stage = mem::replace(&mut self.stage, Stage::Failed(ReadError::BadHeader(0)));
+        match stage.finish(self.alloc, self.offset) {
+            Ok(circuit) => Ok(circuit),
+            Err(fault) => {
+                self.enter(Stage::Failed(fault));
+                Err(fault)
+            }
+        }
+    }
+
+    /// Goes on at this stage; the one before is dropped.
+    fn enter(&mut self, stage: Stage)
+        ensures { self.new ≡ record self.old { stage = stage } }
+    {
+        self.stage = stage;
+    }
+}
+
+/// The circuit of a binary file, all of whose bytes are there.
+///
+/// # Errors
+///
+/// The first fault of the bytes; `NoMemory`. Never `Device`.
+pub fn read_aig(alloc: Global, bytes: &[u8]) -> Result<Circuit, ReadError>
+    ensures { Gives (λ c. c) result (read_binary bytes.now) }
+{
+    let mut reader = AigReader::new(alloc);
+    read_rest(&mut reader, bytes)
+}
+
+/// The circuit of a file that ends with these bytes.
+fn read_rest(reader: &mut AigReader, bytes: &[u8]) -> Result<Circuit, ReadError>
+    ensures { (before : List ℕ) → Holds reader.old before → Gives (λ c. c) result (read_binary (before ++ bytes.now)) }
+{
+    match reader.feed(bytes) {
+        Ok(()) => reader.finish(),
+        Err(fault) => Err(fault),
+    }
+}

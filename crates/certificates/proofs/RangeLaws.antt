@@ -1,0 +1,56 @@
+-- What routes pass are latches and gates.
+use Rattle.std.proofs.Common.{◌≡◌, ℕ, suc, ◌+◌, ◌-◌, ◌<◌, ◌≤◌, Bool, true, false, ◌&&◌, nat_le, List, [], ◌∷◌, ◌++◌, length, replicate, get_or, All, arith, refl, ap, sym, ◌∙◌, subst, inl, inr}
+use Rattle.std.proofs.lemmas.Bool.{cases_Bool, cases_lt, or_left, and_right}
+use Rattle.std.proofs.lemmas.List.{get_or-replicate, length-replicate, get_or_past}
+use Rattle.std.proofs.lemmas.List.Elements.{All-nil, All-cons, All-append}
+use Rattle.variable_tables.specs.Marking.{mark_at}
+use Rattle.aig_graph.specs.Graph.{Graph, first_latch, variables_end, latch_at, gate_at, is_known}
+use Rattle.aig_graph.specs.Circuits.{Netlist}
+use Rattle.frame_net.specs.declared.net.Point.{Point}
+use Rattle.frame_net.specs.Capacity.{leaves}
+use Rattle.certificates.specs.Routes.{is_on, begins_at, may_step, goes_on, is_route, passed, all_passed}
+use Rattle.certificates.specs.Verdicts.{AreRoutes}
+use Rattle.certificates.proofs.RouteLaws.{and_parts, passed-behind, passed-before}
+use Rattle.certificates.proofs.WalkLaws.{step-on, on-range}
+
+abbrev pub IsIn : Graph → ℕ → Type 0
+IsIn g v = (first_latch g ≤ v) × (v < variables_end g)
+
+module _ (c : Netlist) (held : List ℕ) where
+  one-more : (p : Point) (rest : List Point) → is_on c.aig p.var ≡ true → All (IsIn c.aig) (passed rest) → All (IsIn c.aig) (passed (p ∷ rest))
+  one-more p rest on all = elim (cases_Bool p.behind) [
+    | inl yes' ↦ subst (λ (vs : List ℕ). All (IsIn c.aig) vs) (sym (passed-behind p rest yes')) (All-cons (IsIn c.aig) p.var (passed rest) (on-range c.aig p.var on) all)
+    | inr no' ↦ subst (λ (vs : List ℕ). All (IsIn c.aig) vs) (sym (passed-before p rest no')) all
+  ]
+
+  walk-in : (p : Point) (rest : List Point) → is_on c.aig p.var ≡ true → goes_on c held p rest ≡ true → All (IsIn c.aig) (passed (p ∷ rest))
+  unfolding goes_on passed
+  walk-in p [] on g = one-more p [] on (All-nil (IsIn c.aig))
+  walk-in p (q ∷ rest) on g =
+      let parts = and_parts (may_step c.aig held p q) (goes_on c held q rest) g in
+      one-more p (q ∷ rest) on (walk-in q rest (step-on c.aig held p q parts.0) parts.1)
+
+  route-in : (route : List Point) → is_route c held route ≡ true → All (IsIn c.aig) (passed route)
+  unfolding passed
+  route-in [] r = absurd (cc)
+  route-in (p ∷ rest) r =
+      let parts = and_parts (begins_at c.aig p) (goes_on c held p rest) r in
+      let at = and_parts p.behind (is_known (latch_at c.aig p.var)) parts.0 in
+      walk-in p rest (or_left (is_known (latch_at c.aig p.var)) _ at.1) parts.1
+
+  pub routes-in : (routes : List (List Point)) → AreRoutes c held routes → All (IsIn c.aig) (all_passed routes)
+  unfolding all_passed
+  routes-in [] all = All-nil (IsIn c.aig)
+  routes-in (route ∷ routes) all =
+      All-append (IsIn c.aig) (passed route) (all_passed routes) (route-in route (all 0 [] (omega arith))) (routes-in routes (λ k d h. all (suc k) d (omega (arith, h))))
+
+-- no mark of a fresh table is set
+pub none-marked : (first n v : ℕ) → mark_at first (replicate n false) v ≡ false
+unfolding mark_at
+none-marked first n v = and_right (nat_le first v) (get_or (replicate n false) (v - first) false) (fresh n (v - first))
+  where
+    fresh : (n k : ℕ) → get_or (replicate n false) k false ≡ false
+    fresh n k = elim (cases_lt k n) [
+      | inl below ↦ get_or-replicate n k false false below
+      | inr past ↦ get_or_past (replicate n false) k false (omega (arith, past, length-replicate n false))
+    ]

@@ -1,0 +1,17 @@
+use aig_graph::Sequence;
+use frame_net::Point;
+
+/// Each route is a list of points, from after a known latch to after a variable that is read from outside.
+pub type Routes = Sequence<Sequence<Point>>;
+
+/// A set of gates, what its border is said to hold, and routes that are said to show that no closed set has a smaller one. It is
+/// whatever its maker put in: `check` judges it.
+#[derive(Drop)]
+pub struct Certificate {
+    /// The size of the set's border, as it is stated.
+    pub count: u32,
+    /// The variables of the gates.
+    pub gates: Sequence<u32>,
+    /// The routes that are said to show that the set is least.
+    pub routes: Routes,
+}

@@ -1,0 +1,132 @@
+//! The tests of a certificate, in their order.
+ghost use Rattle.std.specs.Prelude.{◌≡◌, ◌↔◌, IfOk, IsTrue, MatchOption};
+ghost use Rattle.variable_tables.specs.Tables.{table};
+ghost use Rattle.aig_graph.specs.Graph.{first_latch, latches_and_gates};
+ghost use Rattle.aig_graph.specs.Closed.{IsClosedSet};
+ghost use Rattle.frame_net.specs.Passable.{IsPassSet};
+ghost use Rattle.frame_net.specs.Capacity.{leaves};
+ghost use Rattle.certificates.specs.Verdicts.{AreApart, AreRoutes, IsVerdict};
+
+use crate::apart::{are_distinct, passed_by};
+use crate::certificate::Certificate;
+use crate::verdict::{Objection, Verdict};
+use crate::walk::is_route;
+use aig_graph::{Circuit, ClosedSet, Keep, NoMemory, Sequence, count, is_closed};
+use frame_net::{PassSet, Point, leaving_marks, passable};
+use std::alloc::Global;
+
+/// The gates as a closed set of the circuit, where they are one.
+fn closed_set(
+    alloc: Global,
+    circuit: &Circuit,
+    gates: &[u32],
+    keep: &Keep,
+) -> Result<Option<ClosedSet>, NoMemory>
+    ensures { IfOk result (λ found. MatchOption found (IsClosedSet circuit.now.aig keep.now gates.now → ⊥) (λ set. (set ≡ gates.now) × IsClosedSet circuit.now.aig keep.now set)) }
+{
+    let mut vars = Vec::with_capacity(alloc, gates.len())?;
+    vars.extend_from_slice(gates)?;
+    match ClosedSet::new(vars) {
+        Some(set) if is_closed(circuit.aig(), &set, keep) => Ok(Some(set)),
+        _ => Ok(None),
+    }
+}
+
+/// Whether each list of points is a route, by the passable gates and by marks of what is read from outside them.
+fn all_routes(
+    circuit: &Circuit,
+    keep: &Keep,
+    pass: &PassSet,
+    leaving: &[bool],
+    routes: &[Sequence<Point>],
+) -> bool
+    requires pass { IsPassSet circuit.now.aig keep.now pass.now }
+    requires leaving { leaving.now ≡ table (first_latch circuit.now.aig) (latches_and_gates circuit.now.aig) (leaves circuit.now.aig circuit.now.props keep.now) }
+    ensures { IsTrue result ↔ AreRoutes circuit.now keep.now routes.now }
+{
+    for route in routes {
+        if !is_route(circuit, keep, pass, leaving, route.as_slice()) {
+            return false;
+        }
+    }
+    true
+}
+
+/// Whether each list of points is a route of the circuit.
+fn are_routes(
+    alloc: Global,
+    circuit: &Circuit,
+    keep: &Keep,
+    routes: &[Sequence<Point>],
+) -> Result<bool, NoMemory>
+    ensures { IfOk result (λ are. IsTrue are ↔ AreRoutes circuit.now keep.now routes.now) }
+{
+    let aig = circuit.aig();
+    let pass = passable(alloc, aig, keep)?;
+    let leaving = leaving_marks(alloc, aig, circuit.props(), &pass, keep)?;
+    Ok(all_routes(circuit, keep, &pass, leaving.as_slice(), routes))
+}
+
+/// Whether routes of the circuit are apart from one another.
+fn are_apart(
+    alloc: Global,
+    circuit: &Circuit,
+    keep: &Keep,
+    routes: &[Sequence<Point>],
+) -> Result<bool, NoMemory>
+    requires { AreRoutes circuit.now keep.now routes.now }
+    ensures { IfOk result (λ are. IsTrue are ↔ AreApart routes.now) }
+{
+    let aig = circuit.aig();
+    let _keep = keep;
+    let vars = passed_by(alloc, routes)?;
+    let mut marks = vec![in alloc; false; aig.latches_and_gates()]?;
+    Ok(are_distinct(marks.as_mut_slice(), aig.first_latch(), vars.as_slice()))
+}
+
+/// What the routes and the count of a closed set are worth.
+fn verdict_of(
+    alloc: Global,
+    circuit: &Circuit,
+    certificate: &Certificate,
+    set: &ClosedSet,
+    keep: &Keep,
+) -> Result<Verdict, NoMemory>
+    requires set { set.now ≡ certificate.now.gates }
+    requires closed { IsClosedSet circuit.now.aig keep.now set.now }
+    ensures { IfOk result (λ verdict. IsVerdict circuit.now keep.now certificate.now verdict) }
+{
+    let routes = certificate.routes.as_slice();
+    if !are_routes(alloc, circuit, keep, routes)? {
+        return Ok(Verdict::No(Objection::BadRoute));
+    }
+    if !are_apart(alloc, circuit, keep, routes)? {
+        return Ok(Verdict::No(Objection::UsedTwice));
+    }
+    let border = count(alloc, circuit, set, keep)?;
+    if certificate.count == border && routes.len() == border as usize {
+        Ok(Verdict::Yes)
+    } else {
+        Ok(Verdict::No(Objection::CountDiffers))
+    }
+}
+
+/// What a certificate is worth for a circuit with these latches held: `Yes`, or the first test that it fails. Linear in the circuit and
+/// in the points of the routes.
+///
+/// # Errors
+///
+/// `NoMemory` where a table is refused.
+pub fn check(
+    alloc: Global,
+    circuit: &Circuit,
+    certificate: &Certificate,
+    keep: &Keep,
+) -> Result<Verdict, NoMemory>
+    ensures { IfOk result (λ verdict. IsVerdict circuit.now keep.now certificate.now verdict) }
+{
+    match closed_set(alloc, circuit, certificate.gates.as_slice(), keep)? {
+        Some(set) => verdict_of(alloc, circuit, certificate, &set, keep),
+        None => Ok(Verdict::No(Objection::NotClosed)),
+    }
+}

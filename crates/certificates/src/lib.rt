@@ -1,0 +1,26 @@
+//! Judges sets of gates by routes: where as many routes as the border of a closed set has variables go from known latches to what reads
+//! from outside, and no two of them pass after one variable, each closed set has a border variable of its own on each route. So
+//! none has a smaller border, whoever found set and routes.
+#![tactic(auto)]
+
+ghost use Rattle.certificates.specs.Verdicts.{LeastLaw, YesLaw};
+
+mod apart;
+mod certificate;
+mod judging;
+mod verdict;
+mod walk;
+
+pub use certificate::{Certificate, Routes};
+pub use judging::check;
+pub use verdict::{Objection, Verdict};
+
+/// A closed set whose border has as many variables as there are routes apart from one another is least.
+pub fn least_law()
+    ensures { LeastLaw }
+{}
+
+/// The set of a certificate that passes all tests is least, and its count is the size of the set's border.
+pub fn yes_law()
+    ensures { YesLaw }
+{}

@@ -1,0 +1,319 @@
+-- What stands for a variable always has its value, and no later variable stands for it.
+use Rattle.std.proofs.Common.{zero-add, ℕ, ◌+◌, ◌*◌, ◌<◌, ◌≤◌, ◌≡◌, ◌⊎◌, inl, inr, suc, List, [], ◌∷◌, ◌++◌, length, Bool, true, false, not, ◌&&◌, cond, nat_eq, Option, Some, None, slice_get, get_or, refl, arith, ap, sym, ◌∙◌, subst}
+use Rattle.std.specs.Map.{lookup}
+use Rattle.std.proofs.lemmas.Bool.{cases_Bool, cases_lt, cases_eq, eqb-true, eqb-false, and_parts, cond-true, cond-false}
+use Rattle.std.proofs.lemmas.Option.{none-some, same_Some}
+use Rattle.std.proofs.lemmas.List.{length_push, get_or_append_left, get_or_push}
+use Rattle.aig_graph.specs.declared.graph.Gate.{Gate}
+use Rattle.aig_graph.specs.Graph.{Graph, IsGraph, IsGateAt, variable, first_gate, variables_end}
+use Rattle.aig_graph.specs.Value.{Inputs, Choice, value, signed}
+use Rattle.aig_graph.specs.Laws.{ValueLaws}
+use Rattle.aig_graph.proofs.ValueLaws.{value_laws}
+use Rattle.variable_tables.proofs.TableLemmas.{length-table, table-at}
+use Rattle.aig_graph.proofs.SignLaws.{value_signed, value_signed_as, variable-signed_as, value-gate_of, gate_of-below}
+use Rattle.cleaned_circuits.specs.Latches.{leaf_stand}
+use Rattle.cleaned_circuits.specs.Merged.{Merging, replaced, replaced_gate, is_gate, known_stand, with_stand, merge_gate, merge_gates, merging_start, stands_of}
+use Rattle.cleaned_circuits.proofs.LatchLaws.{leaf_stand-value, leaf_stand-below}
+
+-- an entry after others is found where it passes and none before it does
+pub lookup_push : (test : Gate → Bool) (es : List (Gate × ℕ)) (gate : Gate) (v w : ℕ) → lookup test (es ++ (gate, v) ∷ []) ≡ Some w
+    → (lookup test es ≡ Some w) ⊎ ((test gate ≡ true) × (v ≡ w))
+lookup_push test [] gate v w e = elim (cases_Bool (test gate)) [
+  | inl pass ↦ inr (pass, same_Some v w (sym (cond-true (test gate) (Some v) None pass) ∙ e))
+  | inr fails ↦ absurd (none-some w (sym (cond-false (test gate) (Some v) None fails) ∙ e))
+]
+lookup_push test (e0 ∷ es) gate v w e = elim (cases_Bool (test e0.0)) [
+  | inl pass ↦ inl (cond-true (test e0.0) (Some e0.1) (lookup test es) pass ∙ (sym (cond-true (test e0.0) (Some e0.1) (lookup test (es ++ (gate, v) ∷ [])) pass) ∙ e))
+  | inr fails ↦ elim (lookup_push test es gate v w (sym (cond-false (test e0.0) (Some e0.1) (lookup test (es ++ (gate, v) ∷ [])) fails) ∙ e)) [
+    | inl before ↦ inl (cond-false (test e0.0) (Some e0.1) (lookup test es) fails ∙ before)
+    | inr here ↦ inr here
+  ]
+]
+
+pub is_gate-is : (gate other : Gate) → is_gate gate other ≡ true → gate ≡ other
+is_gate-is gate other e =
+    let parts = and_parts (nat_eq gate.rhs0 other.rhs0) (nat_eq gate.rhs1 other.rhs1) e in
+    let one : ℕ → Gate = λ n. record { rhs0 = n; rhs1 = gate.rhs1 } in
+    let two : ℕ → Gate = λ n. record { rhs0 = other.rhs0; rhs1 = n } in
+    ap one (eqb-true gate.rhs0 other.rhs0 parts.0) ∙ ap two (eqb-true gate.rhs1 other.rhs1 parts.1)
+
+-- why a literal stands for a gate
+pub data GateStands (kept : List (Gate × ℕ)) (gate : Gate) (o : Option ℕ) : Type 0 where
+  with_false : gate.rhs1 ≡ 0 → o ≡ Some 0 → GateStands kept gate o
+  with_true : gate.rhs1 ≡ 1 → o ≡ Some gate.rhs0 → GateStands kept gate o
+  with_equal : gate.rhs0 ≡ gate.rhs1 → o ≡ Some gate.rhs0 → GateStands kept gate o
+  with_opposite : (gate.rhs0 ≡ gate.rhs1 → ⊥) → variable gate.rhs0 ≡ variable gate.rhs1 → o ≡ Some 0 → GateStands kept gate o
+  with_earlier : o ≡ lookup (is_gate gate) kept → GateStands kept gate o
+
+pub gate_stands : (kept : List (Gate × ℕ)) (gate : Gate) → GateStands kept gate (known_stand kept gate)
+gate_stands kept gate =
+    let found : Option ℕ = lookup (is_gate gate) kept in
+    let d : Option ℕ = cond (nat_eq (variable gate.rhs0) (variable gate.rhs1)) (Some 0) found in
+    let c : Option ℕ = cond (nat_eq gate.rhs0 gate.rhs1) (Some gate.rhs0) d in
+    let b : Option ℕ = cond (nat_eq gate.rhs1 1) (Some gate.rhs0) c in
+    elim (cases_Bool (nat_eq gate.rhs1 0)) [
+      | inl zero_in ↦ with_false (eqb-true gate.rhs1 0 zero_in) (cond-true (nat_eq gate.rhs1 0) (Some 0) b zero_in)
+      | inr more ↦ (
+          let at_b : known_stand kept gate ≡ b = cond-false (nat_eq gate.rhs1 0) (Some 0) b more in
+          elim (cases_Bool (nat_eq gate.rhs1 1)) [
+            | inl one_in ↦ with_true (eqb-true gate.rhs1 1 one_in) (at_b ∙ cond-true (nat_eq gate.rhs1 1) (Some gate.rhs0) c one_in)
+            | inr great ↦ (
+                let at_c : known_stand kept gate ≡ c = at_b ∙ cond-false (nat_eq gate.rhs1 1) (Some gate.rhs0) c great in
+                elim (cases_Bool (nat_eq gate.rhs0 gate.rhs1)) [
+                  | inl same ↦ with_equal (eqb-true gate.rhs0 gate.rhs1 same) (at_c ∙ cond-true (nat_eq gate.rhs0 gate.rhs1) (Some gate.rhs0) d same)
+                  | inr other ↦ (
+                      let at_d : known_stand kept gate ≡ d = at_c ∙ cond-false (nat_eq gate.rhs0 gate.rhs1) (Some gate.rhs0) d other in
+                      elim (cases_Bool (nat_eq (variable gate.rhs0) (variable gate.rhs1))) [
+                        | inl opposite ↦ with_opposite (eqb-false gate.rhs0 gate.rhs1 other) (eqb-true (variable gate.rhs0) (variable gate.rhs1) opposite)
+                            (at_d ∙ cond-true (nat_eq (variable gate.rhs0) (variable gate.rhs1)) (Some 0) found opposite)
+                        | inr two ↦ with_earlier (at_d ∙ cond-false (nat_eq (variable gate.rhs0) (variable gate.rhs1)) (Some 0) found two)
+                      ])
+                ])
+          ])
+    ]
+
+-- where nothing stands for a gate, no kept gate has its literals
+pub none-kept : (kept : List (Gate × ℕ)) (gate : Gate) → known_stand kept gate ≡ None → lookup (is_gate gate) kept ≡ None
+none-kept kept gate none = elim (gate_stands kept gate) [
+  | with_false a e ↦ absurd (none-some 0 (sym none ∙ e))
+  | with_true a e ↦ absurd (none-some gate.rhs0 (sym none ∙ e))
+  | with_equal a e ↦ absurd (none-some gate.rhs0 (sym none ∙ e))
+  | with_opposite a b e ↦ absurd (none-some 0 (sym none ∙ e))
+  | with_earlier e ↦ sym e ∙ none
+]
+
+-- no later variable stands for a variable, and kept gates are among those so far
+pub record IsBelow (m : Merging) : Type 0 where
+  pub each : (v : ℕ) → v < length m.stands → variable (get_or m.stands v 0) ≤ v
+  pub kept : (gate : Gate) (w : ℕ) → lookup (is_gate gate) m.kept ≡ Some w → variable w < length m.stands
+
+pub replaced-variable : (stands : List ℕ) (lit : ℕ) → variable (replaced stands lit) ≡ variable (get_or stands (variable lit) 0)
+replaced-variable stands lit = variable-signed_as lit (get_or stands (variable lit) 0)
+
+pub replaced-below : (m : Merging) → IsBelow m → (lit : ℕ) → variable lit < length m.stands → variable (replaced m.stands lit) ≤ variable lit
+replaced-below m below lit h = omega (arith, replaced-variable m.stands lit, below.each (variable lit) h)
+
+-- the replaced gate reads what stands before it
+pub pair-below : (m : Merging) → IsBelow m → (gate : Gate) → variable gate.rhs0 < length m.stands → variable gate.rhs1 < length m.stands
+    → variable (replaced_gate m.stands gate).rhs0 < length m.stands
+pair-below m below gate h0 h1 =
+    gate_of-below (length m.stands) (replaced m.stands gate.rhs0) (replaced m.stands gate.rhs1)
+    (omega (arith, replaced-below m below gate.rhs0 h0)) (omega (arith, replaced-below m below gate.rhs1 h1))
+
+stand-below : (kept : List (Gate × ℕ)) (v : ℕ) (gate : Gate) (stand : ℕ) → variable gate.rhs0 < v → ((w : ℕ) → lookup (is_gate gate) kept ≡ Some w → variable w < v)
+    → known_stand kept gate ≡ Some stand → variable stand ≤ v
+stand-below kept v gate stand h known some = elim (gate_stands kept gate) [
+  | with_false a e ↦ omega (arith, same_Some stand 0 (sym some ∙ e))
+  | with_true a e ↦ omega (arith, same_Some stand gate.rhs0 (sym some ∙ e))
+  | with_equal a e ↦ omega (arith, same_Some stand gate.rhs0 (sym some ∙ e))
+  | with_opposite a b e ↦ omega (arith, same_Some stand 0 (sym some ∙ e))
+  | with_earlier e ↦ omega (arith, known stand (sym e ∙ some))
+]
+
+at_push : (P : ℕ → ℕ → Type 0) (xs : List ℕ) (y : ℕ) → ((v : ℕ) → v < length xs → P v (get_or xs v 0)) → P (length xs) y → (v : ℕ) → v < length (xs ++ y ∷ []) → P v (get_or (xs ++ y ∷ []) v 0)
+at_push P xs y each last v h = elim (cases_eq v (length xs)) [
+  | inl same ↦ subst (P v) (sym (get_or_push xs y 0 v (sym same))) (let Q : ℕ → Type 0 = λ n. P n y in subst Q (sym same) last)
+  | inr other ↦ (
+      let less : v < length xs = omega (arith, length_push xs y) in
+      subst (P v) (sym (get_or_append_left xs (y ∷ []) 0 v less)) (each v less))
+]
+
+pub below-merge_gate : (m : Merging) → IsBelow m → (gate : Gate) → variable gate.rhs0 < length m.stands → variable gate.rhs1 < length m.stands → IsBelow (merge_gate m gate)
+below-merge_gate m below gate h0 h1 = go (known_stand m.kept (replaced_gate m.stands gate)) refl
+  where
+    go : (o : Option ℕ) → known_stand m.kept (replaced_gate m.stands gate) ≡ o → IsBelow (with_stand m (replaced_gate m.stands gate) o)
+    go (Some stand) some = record {
+      each = at_push (λ v lit. variable lit ≤ v) m.stands stand below.each
+          (stand-below m.kept (length m.stands) (replaced_gate m.stands gate) stand (pair-below m below gate h0 h1) (below.kept (replaced_gate m.stands gate)) some);
+      kept = λ other w e. omega (arith, length_push m.stands stand, below.kept other w e);
+    }
+    go None none = record {
+      each = at_push (λ v lit. variable lit ≤ v) m.stands (2 * length m.stands) below.each (omega arith);
+      kept = λ other w e. elim (lookup_push (is_gate other) m.kept (replaced_gate m.stands gate) (2 * length m.stands) w e) [
+        | inl before ↦ omega (arith, length_push m.stands (2 * length m.stands), below.kept other w before)
+        | inr last ↦ omega (arith, length_push m.stands (2 * length m.stands), last.1)
+      ];
+    }
+
+pub length-with_stand : (m : Merging) (pair : Gate) (o : Option ℕ) → length (with_stand m pair o).stands ≡ length m.stands + 1
+length-with_stand m pair (Some stand) = length_push m.stands stand
+length-with_stand m pair None = length_push m.stands (2 * length m.stands)
+
+pub length-merge_gate : (m : Merging) (gate : Gate) → length (merge_gate m gate).stands ≡ length m.stands + 1
+length-merge_gate m gate = length-with_stand m (replaced_gate m.stands gate) (known_stand m.kept (replaced_gate m.stands gate))
+
+module _ (vals : ℕ → Bool) (negated : (v : ℕ) → vals (2 * v + 1) ≡ not (vals (2 * v))) (constant : vals 0 ≡ false) where
+  -- what stands has the value of what it stands for, and a kept gate that of its literals
+  pub record IsRight (m : Merging) : Type 0 where
+    pub each : (v : ℕ) → v < length m.stands → vals (get_or m.stands v 0) ≡ vals (2 * v)
+    pub kept : (gate : Gate) (w : ℕ) → lookup (is_gate gate) m.kept ≡ Some w → vals w ≡ (vals gate.rhs0 && vals gate.rhs1)
+
+  pub replaced-value : (stands : List ℕ) (lit : ℕ) → vals (get_or stands (variable lit) 0) ≡ vals (2 * variable lit) → vals (replaced stands lit) ≡ vals lit
+  replaced-value stands lit same =
+      value_signed_as vals negated lit (get_or stands (variable lit) 0) ∙ ap (signed lit) same ∙ sym (value_signed vals negated lit)
+
+  pub pair-value : (stands : List ℕ) (gate : Gate) → vals (replaced stands gate.rhs0) ≡ vals gate.rhs0 → vals (replaced stands gate.rhs1) ≡ vals gate.rhs1
+      → (vals (replaced_gate stands gate).rhs0 && vals (replaced_gate stands gate).rhs1) ≡ (vals gate.rhs0 && vals gate.rhs1)
+  pair-value stands gate first second =
+      value-gate_of vals (replaced stands gate.rhs0) (replaced stands gate.rhs1)
+      ∙ ap (λ (b : Bool). b && vals (replaced stands gate.rhs1)) first ∙ ap (λ (b : Bool). vals gate.rhs0 && b) second
+
+  and_false : (a : Bool) → (a && false) ≡ false
+  and_false true = refl
+  and_false false = refl
+
+  and_true : (a : Bool) → (a && true) ≡ a
+  and_true true = refl
+  and_true false = refl
+
+  and_same : (a : Bool) → (a && a) ≡ a
+  and_same true = refl
+  and_same false = refl
+
+  and_not : (a : Bool) → (a && not a) ≡ false
+  and_not true = refl
+  and_not false = refl
+
+  not_and : (a : Bool) → (not a && a) ≡ false
+  not_and true = refl
+  not_and false = refl
+
+  opposite : (a b : ℕ) → (a ≡ b → ⊥) → variable a ≡ variable b → (vals a && vals b) ≡ false
+  opposite a b other same = elim (cases_lt a b) [
+    | inl less ↦ (
+        let first : a ≡ 2 * variable a = omega arith in
+        let second : b ≡ 2 * variable a + 1 = omega arith in
+        let va : vals a ≡ vals (2 * variable a) = ap vals first in
+        let vb : vals b ≡ not (vals (2 * variable a)) = ap vals second ∙ negated (variable a) in
+        ap (λ (p : Bool). p && vals b) va ∙ ap (λ (p : Bool). vals (2 * variable a) && p) vb ∙ and_not (vals (2 * variable a)))
+    | inr more ↦ (
+        let first : a ≡ 2 * variable b + 1 = omega arith in
+        let second : b ≡ 2 * variable b = omega arith in
+        let va : vals a ≡ not (vals (2 * variable b)) = ap vals first ∙ negated (variable b) in
+        let vb : vals b ≡ vals (2 * variable b) = ap vals second in
+        ap (λ (p : Bool). p && vals b) va ∙ ap (λ (p : Bool). not (vals (2 * variable b)) && p) vb ∙ not_and (vals (2 * variable b)))
+  ]
+
+  stand-value : (kept : List (Gate × ℕ)) (gate : Gate) (stand : ℕ) → ((w : ℕ) → lookup (is_gate gate) kept ≡ Some w → vals w ≡ (vals gate.rhs0 && vals gate.rhs1))
+      → known_stand kept gate ≡ Some stand → vals stand ≡ (vals gate.rhs0 && vals gate.rhs1)
+  stand-value kept gate stand known some = elim (gate_stands kept gate) [
+    | with_false a e ↦ ap vals (same_Some stand 0 (sym some ∙ e)) ∙ constant ∙ sym (ap (λ (n : ℕ). vals gate.rhs0 && vals n) a ∙ ap (λ (b : Bool). vals gate.rhs0 && b) constant ∙ and_false (vals gate.rhs0))
+    | with_true a e ↦ (
+        let one : vals 1 ≡ true = negated 0 ∙ ap not constant in
+        ap vals (same_Some stand gate.rhs0 (sym some ∙ e)) ∙ sym (ap (λ (n : ℕ). vals gate.rhs0 && vals n) a ∙ ap (λ (b : Bool). vals gate.rhs0 && b) one ∙ and_true (vals gate.rhs0)))
+    | with_equal a e ↦ ap vals (same_Some stand gate.rhs0 (sym some ∙ e)) ∙ sym (ap (λ (n : ℕ). vals gate.rhs0 && vals n) (sym a) ∙ and_same (vals gate.rhs0))
+    | with_opposite a b e ↦ ap vals (same_Some stand 0 (sym some ∙ e)) ∙ constant ∙ sym (opposite gate.rhs0 gate.rhs1 a b)
+    | with_earlier e ↦ known stand (sym e ∙ some)
+  ]
+
+  pub right-merge_gate : (m : Merging) → IsRight m → (gate : Gate) → variable gate.rhs0 < length m.stands → variable gate.rhs1 < length m.stands
+      → vals (2 * length m.stands) ≡ (vals gate.rhs0 && vals gate.rhs1) → IsRight (merge_gate m gate)
+  right-merge_gate m right gate h0 h1 own = go (known_stand m.kept (replaced_gate m.stands gate)) refl
+    where
+      same : (vals (replaced_gate m.stands gate).rhs0 && vals (replaced_gate m.stands gate).rhs1) ≡ (vals gate.rhs0 && vals gate.rhs1)
+      same = pair-value m.stands gate (replaced-value m.stands gate.rhs0 (right.each (variable gate.rhs0) h0)) (replaced-value m.stands gate.rhs1 (right.each (variable gate.rhs1) h1))
+
+      go : (o : Option ℕ) → known_stand m.kept (replaced_gate m.stands gate) ≡ o → IsRight (with_stand m (replaced_gate m.stands gate) o)
+      go (Some stand) some = record {
+        each = at_push (λ v lit. vals lit ≡ vals (2 * v)) m.stands stand right.each
+            (stand-value m.kept (replaced_gate m.stands gate) stand (right.kept (replaced_gate m.stands gate)) some ∙ same ∙ sym own);
+        kept = right.kept;
+      }
+      go None none = record {
+        each = at_push (λ v lit. vals lit ≡ vals (2 * v)) m.stands (2 * length m.stands) right.each refl;
+        kept = λ other w e. elim (lookup_push (is_gate other) m.kept (replaced_gate m.stands gate) (2 * length m.stands) w e) [
+          | inl before ↦ right.kept other w before
+          | inr last ↦ ap vals (sym last.1) ∙ own ∙ sym same ∙ ap (λ (p : Gate). vals p.rhs0 && vals p.rhs1) (sym (is_gate-is other (replaced_gate m.stands gate) last.0))
+        ];
+      }
+
+-- what holds after all gates, where each step keeps it
+pub merge-all : (P : Merging → Type 0) (Q : ℕ → Gate → Type 0) → ((m : Merging) (gate : Gate) → P m → Q (length m.stands) gate → P (merge_gate m gate))
+    → (gates : List Gate) (m : Merging) → ((i : ℕ) (gate : Gate) → slice_get gates i ≡ Some gate → Q (length m.stands + i) gate) → P m → P (merge_gates gates m)
+unfolding merge_gates
+merge-all P Q step [] m each holds = holds
+merge-all P Q step (gate ∷ gates) m each holds =
+    let first : length m.stands + 0 ≡ length m.stands = omega arith in
+    merge-all P Q step gates (merge_gate m gate)
+    (λ i other e.
+    let place : length m.stands + suc i ≡ length (merge_gate m gate).stands + i = omega (arith, length-merge_gate m gate) in
+    subst (λ (n : ℕ). Q n other) place (each (suc i) other e))
+    (step m gate holds (subst (λ (n : ℕ). Q n gate) first (each 0 gate refl)))
+
+pub length-merge_gates : (gates : List Gate) (m : Merging) → length (merge_gates gates m).stands ≡ length m.stands + length gates
+unfolding merge_gates
+length-merge_gates [] m = omega arith
+length-merge_gates (gate ∷ gates) m = omega (arith, length-merge_gates gates (merge_gate m gate), length-merge_gate m gate)
+
+module _ (g : Graph) (held : List ℕ) where
+  pub length-stands_of : length (stands_of g held) ≡ variables_end g
+  unfolding stands_of
+  length-stands_of = omega (arith, length-merge_gates g.gates (merging_start g held), length-table 0 (first_gate g) (leaf_stand g held))
+
+  pub start-length : length (merging_start g held).stands ≡ first_gate g
+  start-length = length-table 0 (first_gate g) (leaf_stand g held)
+
+  pub start-entry : (v : ℕ) → v < length (merging_start g held).stands → get_or (merging_start g held).stands v 0 ≡ leaf_stand g held v
+  start-entry v h = table-at 0 (first_gate g) (leaf_stand g held) v 0 (omega (arith, start-length)) ∙ ap (leaf_stand g held) (zero-add v)
+
+  pub start-below : IsBelow (merging_start g held)
+  start-below = record {
+    each = λ v h. omega (arith, start-entry v h, leaf_stand-below g held v (omega (arith, start-length)));
+    kept = λ gate w e. absurd (none-some w e);
+  }
+
+  module _ (valid : IsGraph g) where
+    -- a gate of the graph, at its variable
+    pub record GateIn (v : ℕ) (gate : Gate) : Type 0 where
+      pub at : IsGateAt v gate
+      pub place : ℕ
+      pub variable_is : v ≡ first_gate g + place
+      pub there : slice_get g.gates place ≡ Some gate
+
+    pub gates-in : (i : ℕ) (gate : Gate) → slice_get g.gates i ≡ Some gate → GateIn (length (merging_start g held).stands + i) gate
+    gates-in i gate e =
+        let place : first_gate g + i ≡ length (merging_start g held).stands + i = omega (arith, start-length) in
+        record { at = let P : ℕ → Type 0 = λ n. IsGateAt n gate in subst P place (valid.gates i gate e); place = i; variable_is = sym place; there = e }
+
+    below-all : IsBelow (merge_gates g.gates (merging_start g held))
+    below-all = merge-all (λ m. IsBelow m) (λ v gate. GateIn v gate) step g.gates (merging_start g held) gates-in start-below
+      where
+        step : (m : Merging) (gate : Gate) → IsBelow m → GateIn (length m.stands) gate → IsBelow (merge_gate m gate)
+        step m gate below place =
+            let at : IsGateAt (length m.stands) gate = place.at in
+            below-merge_gate m below gate (omega arith) (omega arith)
+
+    -- no later variable stands for a variable
+    pub stands-below : (v : ℕ) → v < variables_end g → variable (get_or (stands_of g held) v 0) ≤ v
+    unfolding stands_of
+    stands-below v h = below-all.each v (omega (arith, length-stands_of))
+
+    pub replaced-within : (lit : ℕ) → variable lit < variables_end g → variable (replaced (stands_of g held) lit) ≤ variable lit
+    replaced-within lit h = omega (arith, replaced-variable (stands_of g held) lit, stands-below (variable lit) h)
+
+    module _ (x : Inputs) (f : Choice) (t : ℕ) where
+      laws : ValueLaws g x f
+      laws = value_laws g valid x f
+
+      right-all : IsRight (value g x f t) (λ v. laws.negation t v) (laws.constant t) (merge_gates g.gates (merging_start g held))
+      right-all = merge-all (λ m. IsRight (value g x f t) (λ v. laws.negation t v) (laws.constant t) m) (λ v gate. GateIn v gate) step g.gates (merging_start g held) gates-in (record {
+        each = λ v h. ap (value g x f t) (start-entry v h) ∙ leaf_stand-value g valid held x f t v (omega (arith, start-length));
+        kept = λ gate w e. absurd (none-some w e);
+      })
+        where
+          step : (m : Merging) (gate : Gate) → IsRight (value g x f t) (λ v. laws.negation t v) (laws.constant t) m → GateIn (length m.stands) gate
+              → IsRight (value g x f t) (λ v. laws.negation t v) (laws.constant t) (merge_gate m gate)
+          step m gate right place =
+              let at : IsGateAt (length m.stands) gate = place.at in
+              let here : value g x f t (2 * length m.stands) ≡ (value g x f t gate.rhs0 && value g x f t gate.rhs1) =
+              ap (λ (n : ℕ). value g x f t (2 * n)) place.variable_is ∙ laws.gate t place.place gate place.there in
+              right-merge_gate (value g x f t) (λ v. laws.negation t v) (laws.constant t) m right gate (omega arith) (omega arith) here
+
+      -- what stands for a variable has its value
+      pub stands-value : (v : ℕ) → v < variables_end g → value g x f t (get_or (stands_of g held) v 0) ≡ value g x f t (2 * v)
+      unfolding stands_of
+      stands-value v h = right-all.each v (omega (arith, length-stands_of))
+
+      pub replaced_literal-value : (lit : ℕ) → variable lit < variables_end g → value g x f t (replaced (stands_of g held) lit) ≡ value g x f t lit
+      replaced_literal-value lit h =
+          replaced-value (value g x f t) (λ v. laws.negation t v) (laws.constant t) (stands_of g held) lit (stands-value (variable lit) h)

@@ -1,0 +1,87 @@
+-- A circuit in which each literal reads what stands for it.
+use Rattle.std.specs.Prelude.{ℕ, ◌*◌, ◌++◌, ◌==◌, ◌&&◌, Bool, List, [], ◌∷◌, length, map, Option, Some, None, if◌then◌else◌}
+use Rattle.std.specs.List.{slice_index_or}
+use Rattle.std.specs.Map.{lookup}
+use Rattle.aig_graph.specs.declared.graph.Gate.{Gate}
+use Rattle.aig_graph.specs.declared.graph.Latch.{Latch}
+use Rattle.aig_graph.specs.Graph.{Graph, variable, first_gate}
+use Rattle.aig_graph.specs.Circuits.{Netlist}
+use Rattle.aig_graph.specs.Building.{gate_of}
+use Rattle.aig_graph.specs.Value.{signed_as}
+use Rattle.aig_graph.specs.Mapped.{mapped_props}
+use Rattle.variable_tables.specs.Tables.{table}
+use Rattle.cleaned_circuits.specs.Latches.{leaf_stand}
+
+-- what is known after some gates: by variable the literal that stands for it, and the gates that are kept, each with its literal
+pub record Merging : Type 0 where
+  pub stands : List ℕ
+  pub kept : List (Gate × ℕ)
+
+-- what stands for a literal, its sign kept
+abbrev pub replaced : List ℕ → ℕ → ℕ
+replaced stands lit = signed_as lit (slice_index_or stands (variable lit) 0)
+
+abbrev pub replaced_gate : List ℕ → Gate → Gate
+replaced_gate stands gate = gate_of (replaced stands gate.rhs0) (replaced stands gate.rhs1)
+
+abbrev pub is_gate : Gate → Gate → Bool
+is_gate gate other = gate.rhs0 == other.rhs0 && gate.rhs1 == other.rhs1
+
+-- the literal that a gate comes down to, whose larger literal is first: 0 for a 0, the other for a 1 and for an equal one, 0 for
+-- opposite ones, else that of the kept gate of the same literals; None where there is none
+abbrev pub known_stand : List (Gate × ℕ) → Gate → Option ℕ
+known_stand kept gate =
+    if gate.rhs1 == 0 then Some 0
+    else if gate.rhs1 == 1 then Some gate.rhs0
+    else if gate.rhs0 == gate.rhs1 then Some gate.rhs0
+    else if variable gate.rhs0 == variable gate.rhs1 then Some 0
+    else lookup (is_gate gate) kept
+
+-- the literal that was found, else the gate's own
+abbrev pub stand_or_own : ℕ → Option ℕ → ℕ
+stand_or_own own None = own
+stand_or_own own (Some stand) = stand
+
+-- the kept gates, and this one where no literal was found
+abbrev pub kept_after : List (Gate × ℕ) → ℕ → Gate → Option ℕ → List (Gate × ℕ)
+kept_after kept own gate None = kept ++ (gate, own) ∷ []
+kept_after kept own gate (Some stand) = kept
+
+abbrev pub with_stand : Merging → Gate → Option ℕ → Merging
+with_stand m gate known = record {
+  stands = m.stands ++ stand_or_own (2 * length m.stands) known ∷ [];
+  kept = kept_after m.kept (2 * length m.stands) gate known;
+}
+
+-- one more gate, whose variable is the number of entries so far
+abbrev pub merge_gate : Merging → Gate → Merging
+merge_gate m gate = let pair = replaced_gate m.stands gate in with_stand m pair (known_stand m.kept pair)
+
+unfoldable pub merge_gates : List Gate → Merging → Merging
+merge_gates [] m = m
+merge_gates (gate ∷ gates) m = merge_gates gates (merge_gate m gate)
+
+abbrev pub merging_start : Graph → List ℕ → Merging
+merging_start g held = record { stands = table 0 (first_gate g) (leaf_stand g held); kept = [] }
+
+-- by variable the literal that stands for it
+unfoldable pub stands_of : Graph → List ℕ → List ℕ
+stands_of g held = (merge_gates g.gates (merging_start g held)).stands
+
+abbrev pub replaced_latch : List ℕ → Latch → Latch
+replaced_latch stands latch = record latch { next = replaced stands latch.next }
+
+-- the same latches and gates, reading what stands for what they read
+unfoldable pub replaced_graph : List ℕ → Graph → Graph
+replaced_graph stands g = record {
+  inputs = g.inputs;
+  latches = map (replaced_latch stands) g.latches;
+  gates = map (replaced_gate stands) g.gates;
+}
+
+-- the circuit, reading what stands for what it read
+abbrev pub replaced_circuit : List ℕ → Netlist → Netlist
+replaced_circuit stands c = record { aig = replaced_graph stands c.aig; props = mapped_props (replaced stands) c.props; symbols = c.symbols }
+
+abbrev pub merged_of : List ℕ → Netlist → Netlist
+merged_of held c = replaced_circuit (stands_of c.aig held) c

@@ -1,0 +1,20 @@
+-- What the routes of a greatest flow show.
+use Rattle.std.specs.Prelude.{◌≡◌, ℕ, All, List, [], ◌∷◌, length}
+use Rattle.std.specs.List.{AllByRecursion}
+use Rattle.aig_graph.specs.Circuits.{Netlist}
+use Rattle.aig_graph.specs.Move.{move_of}
+use Rattle.aig_graph.specs.Border.{border_size, IsLeast}
+use Rattle.frame_net.specs.declared.net.Point.{Point}
+use Rattle.certificates.specs.Verdicts.{AreRoutes, AreApart}
+
+-- no point stands twice in the list
+abbrev pub HasNoPointTwice : List Point → Type 0
+HasNoPointTwice [] = Unit {0}
+HasNoPointTwice (p ∷ rest) = AllByRecursion (λ q. p ≡ q → ⊥) rest × HasNoPointTwice rest
+
+-- routes apart from one another, none with a point twice, as many as the border of each least set has variables
+pub record AreLeastRoutes (c : Netlist) (held : List ℕ) (routes : List (List Point)) : Type 0 where
+  pub right : AreRoutes c held routes
+  pub apart : AreApart routes
+  pub once : All HasNoPointTwice routes
+  pub count : (gates : List ℕ) → IsLeast c held gates → border_size (move_of c held gates) ≡ length routes

@@ -1,0 +1,49 @@
+//! All routes of a greatest flow.
+ghost use Rattle.std.specs.Prelude.{IfOk, ℕ, List};
+ghost use Rattle.aig_graph.specs.Circuits.{Netlist};
+ghost use Rattle.frame_cuts.specs.Cuts.{IsNetworkOf};
+ghost use Rattle.pulse.specs.Conditions.{IsMaxPreflow};
+ghost use Rattle.cut_cert.specs.Shown.{AreLeastRoutes};
+
+use crate::carried::{carried_by_arcs, first_places, incoming};
+use crate::trail::no_marks;
+use crate::walk::next_route;
+use aig_graph::{NoMemory, Sequence};
+use frame_net::{Net, Point};
+use pulse::MaxPreflow;
+use std::alloc::Global;
+
+/// As many routes as the border of a least set has variables, by any maximum preflow of the circuit's network; no two of them
+/// pass after one variable, and none has a point twice. Linear in the network and in the arcs that are walked.
+///
+/// # Errors
+///
+/// `NoMemory` where a table or a route is refused.
+pub fn routes(
+    alloc: Global,
+    net: &Net,
+    preflow: &MaxPreflow,
+) -> Result<Sequence<Sequence<Point>>, NoMemory>
+    requires { IsMaxPreflow net.now preflow.now }
+    ensures { IfOk result (λ routes. (c : Netlist) (held : List ℕ) → IsNetworkOf c held net.now → AreLeastRoutes c held routes) }
+{
+    let nodes = net.nodes();
+    let mut marks = no_marks(alloc, nodes)?;
+    let mut places = first_places(alloc, nodes)?;
+    let mut carried = carried_by_arcs(alloc, net, preflow)?;
+    let mut routes = Vec::new(alloc);
+    let mut place = 0;
+    while let Some(end) = incoming(net, carried.as_slice(), 1, place) {
+        let route = next_route(
+            alloc,
+            net,
+            carried.as_mut_slice(),
+            places.as_mut_slice(),
+            marks.as_mut_slice(),
+            end,
+        )?;
+        routes.push(Sequence::from_vec(route))?;
+        place = end;
+    }
+    Ok(Sequence::from_vec(routes))
+}

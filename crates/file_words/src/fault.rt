@@ -1,0 +1,131 @@
+ghost use Rattle.std.specs.Prelude.{◌≡◌};
+
+use aig_graph::NoMemory;
+use counted_io::ReadAllError;
+use std::alloc::{AllocError, AllocFailed};
+use thiserror::Error;
+
+/// Why bytes were not read as a circuit. The number is the offset of the first byte of the line or delta at fault, and
+/// where that is missing, the length of the input.
+#[derive(Clone, Copy, Debug, PartialEq, Eq, Error)]
+pub enum ReadError {
+    /// The first line is no header.
+    #[error("BadHeader at {0}")]
+    BadHeader(u64),
+    /// A count is past its limit.
+    #[error("TooLarge at {0}")]
+    TooLarge(u64),
+    /// A literal, or what the header counts, is past the greatest variable.
+    #[error("MaxIndex at {0}")]
+    MaxIndex(u64),
+    /// A line isn't the numbers that its section wants, with one space between.
+    #[error("BadLine at {0}")]
+    BadLine(u64),
+    /// A literal that is to be defined is odd, or 0.
+    #[error("BadLiteral at {0}")]
+    BadLiteral(u64),
+    /// A variable is defined again.
+    #[error("DefinedTwice at {0}")]
+    DefinedTwice(u64),
+    /// A variable is read and not defined.
+    #[error("Undefined")]
+    Undefined,
+    /// Gates read one another in a circle.
+    #[error("Cycle")]
+    Cycle,
+    /// A reset is neither 0 nor 1 nor the latch's own literal.
+    #[error("BadReset at {0}")]
+    BadReset(u64),
+    /// A delta of a binary file is too long, or out of range.
+    #[error("BadDelta at {0}")]
+    BadDelta(u64),
+    /// The input ends before the last item.
+    #[error("Truncated at {0}")]
+    Truncated(u64),
+    /// A symbol is ill formed, out of range, or stands twice.
+    #[error("BadSymbol at {0}")]
+    BadSymbol(u64),
+    /// Something else follows the last item.
+    #[error("Trailing at {0}")]
+    Trailing(u64),
+    /// Memory was refused.
+    #[error("out of memory")]
+    NoMemory,
+    /// The reader failed.
+    #[error("device")]
+    Device,
+}
+
+impl ReadError {
+    ghost use Rattle.file_words.specs.Codes.{code_of};
+
+    /// The number of the kind of fault, from 1 on.
+    pub fn code(self) -> u8
+        ensures { result ≡ code_of self }
+    {
+        match self {
+            ReadError::BadHeader(_) => 1,
+            ReadError::TooLarge(_) => 2,
+            ReadError::MaxIndex(_) => 3,
+            ReadError::BadLine(_) => 4,
+            ReadError::BadLiteral(_) => 5,
+            ReadError::DefinedTwice(_) => 6,
+            ReadError::Undefined => 7,
+            ReadError::Cycle => 8,
+            ReadError::BadReset(_) => 9,
+            ReadError::BadDelta(_) => 10,
+            ReadError::Truncated(_) => 11,
+            ReadError::BadSymbol(_) => 12,
+            ReadError::Trailing(_) => 13,
+            ReadError::NoMemory => 14,
+            ReadError::Device => 15,
+        }
+    }
+}
+
+impl From<AllocError> for ReadError {
+    ghost use Rattle.std.specs.Prelude.{◌≡◌};
+    ghost use Rattle.file_words.specs.declared.fault.ReadError.TheVariants.{NoMemory};
+
+    ghost from_gives = { λ _ e. e ≡ NoMemory };
+
+    fn from(_error: AllocError) -> ReadError {
+        ReadError::NoMemory
+    }
+}
+
+impl<T: Drop> From<AllocFailed<T>> for ReadError {
+    ghost use Rattle.std.specs.Prelude.{◌≡◌};
+    ghost use Rattle.file_words.specs.declared.fault.ReadError.TheVariants.{NoMemory};
+
+    ghost from_gives = { λ _ e. e ≡ NoMemory };
+
+    fn from(_error: AllocFailed<T>) -> ReadError {
+        ReadError::NoMemory
+    }
+}
+
+impl From<NoMemory> for ReadError {
+    ghost use Rattle.std.specs.Prelude.{◌≡◌};
+    ghost use Rattle.file_words.specs.declared.fault.ReadError.TheVariants as fault;
+
+    ghost from_gives = { λ _ e. e ≡ fault.NoMemory };
+
+    fn from(_error: NoMemory) -> ReadError {
+        ReadError::NoMemory
+    }
+}
+
+impl From<ReadAllError> for ReadError {
+    ghost use Rattle.std.specs.Prelude.{◌≡◌};
+    ghost use Rattle.file_words.specs.Codes.{fault_of_reading};
+
+    ghost from_gives = { λ error e. e ≡ fault_of_reading error };
+
+    fn from(error: ReadAllError) -> ReadError {
+        match error {
+            ReadAllError::NoMemory => ReadError::NoMemory,
+            ReadAllError::Device => ReadError::Device,
+        }
+    }
+}

@@ -1,0 +1,11 @@
+use Rattle.std.proofs.Common.{◌+◌}
+use Rattle.flow_part.specs.Parts.{values_of}
+use Rattle.flow_part.proofs.Received.{Adds}
+use Rattle.flow_part.proofs.Senders.{before, pushers}
+use Rattle.flow_part.proofs.inflow.add_listed.Given as goal
+
+abbrev pub invariant-loop-i : goal.invariant-loop-i
+invariant-loop-i l = Adds l.net (values_of l.parts) (pushers l.parts) l.v (before l.parts l.i) l.fn.row l.row l.inflow
+
+abbrev pub invariant-loop-j : goal.invariant-loop-j
+invariant-loop-j l = Adds l.net (values_of l.parts) (pushers l.parts) l.v (before l.parts l.i + l.j) l.fn.row l.row l.inflow

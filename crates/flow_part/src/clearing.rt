@@ -1,0 +1,48 @@
+//! Rows of pushes become 0s before the active nodes write theirs.
+ghost use Rattle.std.specs.Prelude.{◌≡◌, ℕ, ◌+◌, ◌<◌, ◌≤◌, length, slice_index};
+ghost use Rattle.frame_net.specs.FlowNet.{node_count, start};
+ghost use Rattle.flow_part.specs.Parts.{PushPartFits};
+ghost use Rattle.flow_part.specs.Reading.{Clears, ClearsListed, PartCleared};
+
+use crate::parts::PushPart;
+use frame_net::Net;
+
+/// Writes 0s at the places from `from` up to `to`.
+pub(crate) fn clear(values: &mut [u32], from: usize, to: usize)
+    requires ordered { from ≤ to }
+    requires within { to ≤ length values.old }
+    ensures { Clears from to values.old values.new }
+{
+    for x in from..to {
+        values[x] = 0;
+    }
+}
+
+/// Clears the rows of the listed nodes, in values that begin with arc `base`.
+fn clear_listed(net: &Net, list: &[u32], base: usize, values: &mut [u32])
+    requires nodes { (i : ℕ) → i < length list.now → slice_index list.now i < node_count net.now }
+    requires from { (i : ℕ) → i < length list.now → base ≤ start net.now (slice_index list.now i) }
+    requires to { (i : ℕ) → i < length list.now → start net.now (slice_index list.now i + 1) ≤ base + length values.old }
+    ensures { ClearsListed net.now base list.now (length list.now) values.old values.new }
+{
+    let _nodes = net.nodes();
+    for i in 0..list.len() {
+        let v = list[i];
+        clear(values, net.start(v) - base, net.start(v + 1) - base);
+    }
+}
+
+/// Clears the rows of a part: those of the listed nodes, or all where the list isn't complete.
+pub(crate) fn clear_part(net: &Net, part: &mut PushPart)
+    requires part { PushPartFits net.now part.old }
+    ensures { PartCleared net.now part.old part.new }
+{
+    let _nodes = net.nodes();
+    if part.pushing.complete {
+        let list = part.pushing.nodes.as_slice();
+        clear_listed(net, list, part.base, part.values.as_mut_slice());
+    } else {
+        let size = part.values.len();
+        clear(part.values.as_mut_slice(), 0, size);
+    }
+}

@@ -1,0 +1,154 @@
+//! Which nodes of a part have something to do in a delivery: those that are active, those that push, and those that are pushed to.
+ghost use Rattle.std.specs.Prelude.{◌≡◌, ℕ, ◌+◌, ◌-◌, ◌<◌, ◌≤◌, true, length, slice_index};
+ghost use Rattle.frame_net.specs.FlowNet.{node_count, row_len};
+ghost use Rattle.flow_part.specs.Parts.{ArePushParts, FlowPartFits, LabelsFit, values_of};
+ghost use Rattle.flow_part.specs.Listing.{active_by, AreWithin, Extends, IsListed, ListsActive};
+ghost use Rattle.flow_part.specs.Visiting.{AllPushesListed, CoversWork, HeadsListed, PushesListed};
+
+use crate::node_list::NodeList;
+use crate::parts::{FlowPart, PushPart};
+use crate::places::push_row;
+use frame_net::Net;
+
+/// Whether node `v` of so many, with this excess and label, is active.
+pub fn is_active(v: u32, excess: u32, label: u32, nodes: u32) -> bool
+    ensures { result ≡ active_by nodes v excess label }
+{
+    v > 1 && excess > 0 && label < nodes
+}
+
+/// Adds the listed nodes that are active.
+fn add_active(
+    nodes: u32,
+    labels: &[u32],
+    first: u32,
+    excess: &[u32],
+    listed: &[u32],
+    list: &mut NodeList,
+)
+    requires listed { AreWithin first (first + length excess.now) listed.now }
+    requires labels { first + length excess.now ≤ length labels.now }
+    ensures extends { Extends first (first + length excess.now) list.old list.new }
+    ensures active { list.new.complete ≡ true → (i : ℕ) → i < length listed.now → active_by nodes (slice_index listed.now i) (slice_index excess.now (slice_index listed.now i - first)) (slice_index labels.now (slice_index listed.now i)) ≡ true → IsListed list.new.nodes.items (slice_index listed.now i) }
+{
+    for i in 0..listed.len() {
+        let v = listed[i];
+        let had = excess[(v - first) as usize];
+        if is_active(v, had, labels[v as usize], nodes) {
+            list.add(v);
+        }
+    }
+}
+
+/// Adds the nodes from `first` up to `end` that node `u` pushes to.
+fn add_heads(net: &Net, pushes: &[PushPart], u: u32, first: u32, end: u32, list: &mut NodeList)
+    requires pushes { ArePushParts net.now 0 pushes.now }
+    requires u { u < node_count net.now }
+    ensures extends { Extends first end list.old list.new }
+    ensures heads { list.new.complete ≡ true → HeadsListed net.now (values_of pushes.now) first end list.new.nodes.items u }
+{
+    let _nodes = net.nodes();
+    let heads = net.heads(u);
+    let row = push_row(pushes, net, u);
+    for k in 0..heads.len() {
+        let w = heads[k];
+        if row[k] > 0 && w >= first && w < end {
+            list.add(w);
+        }
+    }
+}
+
+/// Adds node `u`, unless the list has it at this place, and the nodes that it pushes to, where they lie from `first` up to `end`.
+fn add_from(
+    net: &Net,
+    pushes: &[PushPart],
+    u: u32,
+    place: usize,
+    first: u32,
+    end: u32,
+    list: &mut NodeList,
+)
+    requires pushes { ArePushParts net.now 0 pushes.now }
+    requires u { u < node_count net.now }
+    ensures extends { Extends first end list.old list.new }
+    ensures listed { list.new.complete ≡ true → PushesListed net.now (values_of pushes.now) first end list.new.nodes.items u }
+{
+    if u >= first && u < end && !list.has_at(place, u) {
+        list.add(u);
+    }
+    add_heads(net, pushes, u, first, end, list);
+}
+
+/// Adds what the nodes of one list push. The active nodes, which the list begins with, push in the same order.
+fn add_pushes(
+    net: &Net,
+    pushes: &[PushPart],
+    from: &[u32],
+    first: u32,
+    end: u32,
+    list: &mut NodeList,
+)
+    requires pushes { ArePushParts net.now 0 pushes.now }
+    requires from { AreWithin 0 (node_count net.now) from.now }
+    ensures extends { Extends first end list.old list.new }
+    ensures listed { list.new.complete ≡ true → (i : ℕ) → i < length from.now → PushesListed net.now (values_of pushes.now) first end list.new.nodes.items (slice_index from.now i) }
+{
+    for i in 0..from.len() {
+        add_from(net, pushes, from[i], i, first, end, list);
+    }
+}
+
+/// Adds all nodes from `first` up to `end` that push or are pushed to. Where a part doesn't list what it pushes, the list isn't complete.
+fn add_all_pushes(net: &Net, pushes: &[PushPart], first: u32, end: u32, list: &mut NodeList)
+    requires pushes { ArePushParts net.now 0 pushes.now }
+    ensures extends { Extends first end list.old list.new }
+    ensures listed { list.new.complete ≡ true → AllPushesListed net.now (values_of pushes.now) first end list.new.nodes.items }
+{
+    let _nodes = net.nodes();
+    for i in 0..pushes.len() {
+        let part = &pushes[i];
+        if !part.pushing.complete {
+            list.forget();
+            return;
+        }
+        let from = part.pushing.nodes.as_slice();
+        add_pushes(net, pushes, from, first, end, list);
+    }
+}
+
+/// Lists in `spare` the nodes of a part that have something to do, in rising order, where the lists that it takes them from are complete
+/// and there is room. `listed` is whether they are lists of this flow and of these pushes at all.
+pub(crate) fn gather(
+    net: &Net,
+    labels: &[u32],
+    pushes: &[PushPart],
+    part: &mut FlowPart,
+    listed: bool,
+)
+    requires pushes { ArePushParts net.now 0 pushes.now }
+    requires labels { LabelsFit net.now labels.now }
+    requires part { FlowPartFits net.now part.old }
+    requires active { listed ≡ true → ListsActive (node_count net.now) labels.now part.old }
+    ensures same { part.new ≡ record part.old { spare = part.new.spare } }
+    ensures work { part.new.spare.complete ≡ true → CoversWork net.now labels.now (values_of pushes.now) part.old.first part.old.end part.old.excess.items part.old.next.items part.new.spare.nodes.items }
+{
+    let nodes = net.nodes();
+    let first = part.first;
+    let end = part.end;
+    part.spare.begin();
+    if listed && part.active.complete {
+        let actives = part.active.nodes.as_slice();
+        add_active(
+            nodes,
+            labels,
+            first,
+            part.excess.as_slice(),
+            actives,
+            &mut part.spare,
+        );
+        add_all_pushes(net, pushes, first, end, &mut part.spare);
+        part.spare.rise();
+    } else {
+        part.spare.forget();
+    }
+}

@@ -1,0 +1,141 @@
+//! What comes in at a node: the pushes over the mates of its row's arcs.
+ghost use Rattle.std.specs.Prelude.{◌≡◌, ℕ, ◌+◌, ◌<◌, ◌≤◌, ◌^◌, true, length, slice_index};
+ghost use Rattle.frame_net.specs.FlowNet.{node_count, row_len, head};
+ghost use Rattle.flow_part.specs.Parts.{ArePushParts, values_of};
+ghost use Rattle.flow_part.specs.Delivering.{back, row_inflow};
+ghost use Rattle.flow_part.specs.Listing.{IsRising};
+ghost use Rattle.flow_part.specs.Receiving.{ListInOrder, Receives};
+
+use crate::parts::PushPart;
+use crate::places::{push_at, push_row};
+use frame_net::Net;
+
+/// In a row of more arcs, as the sink's, few nodes may push to its own.
+const LONG_ROW: usize = 64;
+
+/// Adds the pushes over the mates of a row's arcs to its residuals, by a visit of each arc, and returns their sum.
+fn add_each(parts: &[PushPart], net: &Net, v: u32, row: &mut [u32]) -> u32
+    requires parts { ArePushParts net.now 0 parts.now }
+    requires v { v < node_count net.now }
+    requires len { length row.old ≡ row_len net.now v }
+    requires fits { (k : ℕ) → k < row_len net.now v → slice_index row.old k + back net.now (values_of parts.now) v k < 2 ^ 32 }
+    requires sum { row_inflow net.now (values_of parts.now) v < 2 ^ 32 }
+    ensures inflow { result ≡ row_inflow net.now (values_of parts.now) v }
+    ensures row { (k : ℕ) → k < row_len net.now v → slice_index row.new k ≡ slice_index row.old k + back net.now (values_of parts.now) v k }
+{
+    let _nodes = net.nodes();
+    let heads = net.heads(v);
+    let mates = net.mates(v);
+    let mut inflow = 0;
+    for k in 0..row.len() {
+        let push = push_at(parts, net, heads[k], mates[k] as usize);
+        row[k] += push;
+        inflow += push;
+    }
+    inflow
+}
+
+/// The first place of node `v` among the heads of a row, or the row's length.
+fn place_of(heads: &[u32], v: u32) -> usize
+    ensures within { result ≤ length heads.now }
+    ensures there { result < length heads.now → slice_index heads.now result ≡ v }
+    ensures found { (j : ℕ) → j < length heads.now → slice_index heads.now j ≡ v → result < length heads.now }
+{
+    for j in 0..heads.len() {
+        if heads[j] == v {
+            return j;
+        }
+    }
+    heads.len()
+}
+
+/// Adds what node `u` pushes to node `v` to `v`'s row, and returns it.
+fn receive(parts: &[PushPart], net: &Net, u: u32, v: u32, row: &mut [u32]) -> u32
+    requires parts { ArePushParts net.now 0 parts.now }
+    requires u { u < node_count net.now }
+    requires v { v < node_count net.now }
+    requires len { length row.old ≡ row_len net.now v }
+    requires fits { (k : ℕ) → k < row_len net.now v → head net.now v k ≡ u → slice_index row.old k + back net.now (values_of parts.now) v k < 2 ^ 32 }
+    ensures { Receives net.now (values_of parts.now) u v row.old row.new result }
+{
+    let _nodes = net.nodes();
+    let _arcs = net.arcs();
+    let heads = net.heads(u);
+    let j = place_of(heads, v);
+    if j == heads.len() {
+        return 0;
+    }
+    let push = push_row(parts, net, u)[j];
+    let at = net.mates(u)[j] as usize - net.start(v);
+    row[at] += push;
+    push
+}
+
+/// As `add_each`, by a visit of the nodes that push, which the parts list in rising order.
+fn add_listed(parts: &[PushPart], net: &Net, v: u32, row: &mut [u32]) -> u32
+    requires parts { ArePushParts net.now 0 parts.now }
+    requires v { v < node_count net.now }
+    requires len { length row.old ≡ row_len net.now v }
+    requires fits { (k : ℕ) → k < row_len net.now v → slice_index row.old k + back net.now (values_of parts.now) v k < 2 ^ 32 }
+    requires sum { row_inflow net.now (values_of parts.now) v < 2 ^ 32 }
+    requires listed { ListInOrder parts.now }
+    ensures inflow { result ≡ row_inflow net.now (values_of parts.now) v }
+    ensures row { (k : ℕ) → k < row_len net.now v → slice_index row.new k ≡ slice_index row.old k + back net.now (values_of parts.now) v k }
+{
+    let _nodes = net.nodes();
+    let mut inflow = 0;
+    for i in 0..parts.len() {
+        let part = &parts[i];
+        let list = part.pushing.nodes.as_slice();
+        for j in 0..list.len() {
+            inflow += receive(parts, net, list[j], v, row);
+        }
+    }
+    inflow
+}
+
+/// Whether a list rises strictly.
+fn is_rising(list: &[u32]) -> bool
+    ensures { result ≡ true → IsRising list.now }
+{
+    for i in 0..list.len() {
+        if i > 0 && list[i - 1] >= list[i] {
+            return false;
+        }
+    }
+    true
+}
+
+/// Whether fewer nodes push than `most`, and all parts list them in rising order.
+fn few_push(parts: &[PushPart], most: usize) -> bool
+    ensures { result ≡ true → ListInOrder parts.now }
+{
+    let mut count: usize = 0;
+    for i in 0..parts.len() {
+        let part = &parts[i];
+        let list = part.pushing.nodes.as_slice();
+        count = count.saturating_add(list.len());
+        if !part.pushing.complete || count >= most || !is_rising(list) {
+            return false;
+        }
+    }
+    true
+}
+
+/// Adds the pushes over the mates of a row's arcs to its residuals, and returns their sum. Where a row is long and few nodes push, it
+/// visits those nodes in place of the row's arcs.
+pub(crate) fn add_row(parts: &[PushPart], net: &Net, v: u32, row: &mut [u32]) -> u32
+    requires parts { ArePushParts net.now 0 parts.now }
+    requires v { v < node_count net.now }
+    requires len { length row.old ≡ row_len net.now v }
+    requires fits { (k : ℕ) → k < row_len net.now v → slice_index row.old k + back net.now (values_of parts.now) v k < 2 ^ 32 }
+    requires sum { row_inflow net.now (values_of parts.now) v < 2 ^ 32 }
+    ensures inflow { result ≡ row_inflow net.now (values_of parts.now) v }
+    ensures row { (k : ℕ) → k < row_len net.now v → slice_index row.new k ≡ slice_index row.old k + back net.now (values_of parts.now) v k }
+{
+    if row.len() > LONG_ROW && few_push(parts, row.len() / 4) {
+        add_listed(parts, net, v, row)
+    } else {
+        add_each(parts, net, v, row)
+    }
+}

@@ -1,0 +1,173 @@
+//! Read: each node writes its own row of pushes, by the flow and the labels of the pulse's start.
+ghost use Rattle.std.specs.Prelude.{◌≡◌, ℕ, ◌+◌, ◌-◌, ◌<◌, ◌≤◌, ◌^◌, min, length, slice_index};
+ghost use Rattle.frame_net.specs.FlowNet.{node_count, start, row_len};
+ghost use Rattle.flow_part.specs.Parts.{AreFlowParts, LabelsFit, PushPartFits, cells_of};
+ghost use Rattle.flow_part.specs.Reading.{PartRead, RowsRead, arc_push, cells_active};
+
+use crate::clearing::clear;
+use crate::parts::{FlowPart, PushPart};
+use crate::places::part_of;
+use arc_rows::write_pushes;
+use frame_net::Net;
+
+/// Read of node `v` into its row. No other function walks a row for pushes, and each walk is counted.
+fn walk_row(
+    net: &Net,
+    labels: &[u32],
+    v: u32,
+    residuals: &[u32],
+    excess: u32,
+    row: &mut [u32],
+    walked: &mut u32,
+)
+    requires labels { LabelsFit net.now labels.now }
+    requires v { v < node_count net.now }
+    requires residuals { length residuals.now ≡ row_len net.now v }
+    requires row { length row.old ≡ row_len net.now v }
+    ensures row { (k : ℕ) → k < row_len net.now v → slice_index row.new k ≡ arc_push net.now labels.now v (slice_index residuals.now) excess k }
+    ensures counted { walked.new ≡ min (walked.old + 1) (2 ^ 32 - 1) }
+{
+    let nodes = net.nodes();
+    let heads = net.heads(v);
+    write_pushes(heads, residuals, labels, nodes, v, excess, row);
+    *walked = walked.saturating_add(1);
+}
+
+/// Read of node `v` into values that begin with arc `base`.
+pub(crate) fn walk_at(
+    net: &Net,
+    labels: &[u32],
+    flow: &[FlowPart],
+    v: u32,
+    base: usize,
+    values: &mut [u32],
+    walked: &mut u32,
+)
+    requires labels { LabelsFit net.now labels.now }
+    requires flow { AreFlowParts net.now 0 flow.now }
+    requires v { v < node_count net.now }
+    requires from { base ≤ start net.now v }
+    requires to { start net.now (v + 1) ≤ base + length values.old }
+    ensures row { RowsRead net.now labels.now base v (v + 1) (cells_of flow.now) values.old values.new }
+    ensures counted { walked.new ≡ min (walked.old + 1) (2 ^ 32 - 1) }
+{
+    let _nodes = net.nodes();
+    let at = net.start(v);
+    let next = net.start(v + 1);
+    let part = part_of(flow, net, v);
+    let had = part.excess[(v - part.first) as usize];
+    let residuals = &part.residuals[at - part.base..next - part.base];
+    walk_row(
+        net,
+        labels,
+        v,
+        residuals,
+        had,
+        &mut values[at - base..next - base],
+        walked,
+    );
+}
+
+/// The excess of node `v`.
+fn excess_of(net: &Net, flow: &[FlowPart], v: u32) -> u32
+    requires flow { AreFlowParts net.now 0 flow.now }
+    requires v { v < node_count net.now }
+    ensures { result ≡ slice_index (cells_of flow.now).excess v }
+{
+    let _nodes = net.nodes();
+    let part = part_of(flow, net, v);
+    part.excess[(v - part.first) as usize]
+}
+
+/// Whether node `v` is active.
+pub(crate) fn is_active(net: &Net, labels: &[u32], flow: &[FlowPart], v: u32) -> bool
+    requires labels { LabelsFit net.now labels.now }
+    requires flow { AreFlowParts net.now 0 flow.now }
+    requires v { v < node_count net.now }
+    ensures { result ≡ cells_active net.now labels.now (cells_of flow.now) v }
+{
+    let nodes = net.nodes();
+    v > 1 && excess_of(net, flow, v) > 0 && labels[v as usize] < nodes
+}
+
+/// Read of node `v` into values that begin with arc `base`: its row is walked where it is active, else cleared.
+fn read_at(
+    net: &Net,
+    labels: &[u32],
+    flow: &[FlowPart],
+    v: u32,
+    base: usize,
+    values: &mut [u32],
+    walked: &mut u32,
+)
+    requires labels { LabelsFit net.now labels.now }
+    requires flow { AreFlowParts net.now 0 flow.now }
+    requires v { v < node_count net.now }
+    requires from { base ≤ start net.now v }
+    requires to { start net.now (v + 1) ≤ base + length values.old }
+    ensures { RowsRead net.now labels.now base v (v + 1) (cells_of flow.now) values.old values.new }
+{
+    let _nodes = net.nodes();
+    if is_active(net, labels, flow, v) {
+        walk_at(net, labels, flow, v, base, values, walked);
+    } else {
+        clear(values, net.start(v) - base, net.start(v + 1) - base);
+    }
+}
+
+/// Read of the nodes from `low` up to `high` into values that begin with arc `base`.
+fn read_rows(
+    net: &Net,
+    labels: &[u32],
+    flow: &[FlowPart],
+    low: u32,
+    high: u32,
+    base: usize,
+    values: &mut [u32],
+    walked: &mut u32,
+)
+    requires labels { LabelsFit net.now labels.now }
+    requires flow { AreFlowParts net.now 0 flow.now }
+    requires ordered { low ≤ high }
+    requires high { high ≤ node_count net.now }
+    requires from { base ≤ start net.now low }
+    requires to { start net.now high ≤ base + length values.old }
+    ensures { RowsRead net.now labels.now base low high (cells_of flow.now) values.old values.new }
+{
+    let _nodes = net.nodes();
+    for v in low..high {
+        read_at(net, labels, flow, v, base, values, walked);
+    }
+}
+
+/// Read of those nodes of a part that lie from `first` up to `end`. The list of nodes that push isn't complete any more.
+pub fn read_part(
+    net: &Net,
+    labels: &[u32],
+    flow: &[FlowPart],
+    part: &mut PushPart,
+    first: u32,
+    end: u32,
+)
+    requires labels { LabelsFit net.now labels.now }
+    requires flow { AreFlowParts net.now 0 flow.now }
+    requires part { PushPartFits net.now part.old }
+    ensures { PartRead net.now labels.now first end (cells_of flow.now) part.old part.new }
+{
+    let _nodes = net.nodes();
+    let low = first.max(part.first);
+    let high = end.min(part.end);
+    if low < high {
+        part.pushing.forget();
+        read_rows(
+            net,
+            labels,
+            flow,
+            low,
+            high,
+            part.base,
+            part.values.as_mut_slice(),
+            &mut part.walked,
+        );
+    }
+}

@@ -1,6 +1,0 @@
-use Rattle.flow_parts.specs.Parts.{cells_of}
-use Rattle.flow_parts.specs.Reading.{WalksActive}
-use Rattle.flow_parts.proofs.walking.walk_all.Given as goal
-
-abbrev pub invariant-loop-v : goal.invariant-loop-v
-invariant-loop-v l = WalksActive l.net l.labels l.base l.first l.v (cells_of l.flow) l.fn.values l.values l.pushing l.walked

@@ -1,6 +1,0 @@
-pub mod Lowering
-pub mod Points
-pub mod Walks
-pub mod Values
-pub mod TrailLaws
-pub mod RouteLaws

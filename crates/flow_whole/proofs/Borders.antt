@@ -1,0 +1,27 @@
+use Rattle.std.proofs.Common.{◌≡◌, ℕ, ◌+◌, ◌*◌, ◌<◌, ◌≤◌, List, [], ◌∷◌, ◌++◌, arith, refl, sym, ◌∙◌, subst}
+use Rattle.std.proofs.Math.Nat.{div-mul-le_self, div-le_of_le-mul, mul-div_cancel_left, mul-le-mul_right}
+use Rattle.std.proofs.lemmas.Nat.{le-div}
+use Rattle.flow_part.specs.Parts.{IsParted}
+use Rattle.flow_whole.specs.Start.{border_of}
+
+pub border_within : (n w k : ℕ) → 0 < w → k ≤ w → border_of n w k ≤ n
+border_within n w k some h = div-le_of_le-mul w {m = k * n} {n = n} (mul-le-mul_right n h)
+
+pub border_up : (n w k : ℕ) → 0 < w → border_of n w k ≤ border_of n w (k + 1)
+border_up n w k some = le-div (border_of n w k) ((k + 1) * n) w some (omega (arith, div-mul-le_self (k * n) w))
+
+pub border_last : (n w : ℕ) → 0 < w → border_of n w w ≡ n
+border_last n w some = mul-div_cancel_left n {n = w} some
+
+-- one more part at the end of a cut
+pub cut_append : {P : Type 0} (fits : P → Type 0) (first end : P → ℕ) (m u : ℕ) (ps : List P) (p : P) → IsParted fits first end m u ps → first p ≡ m → fits p → IsParted fits first end (end p) u (ps ++ p ∷ [])
+cut_append {P} fits first end m u [] p cut e fit = (e ∙ sym cut, (fit, refl))
+cut_append {P} fits first end m u (q ∷ ps) p cut e fit = (cut.0, (cut.1.0, cut_append fits first end m (end q) ps p cut.1.1 e fit))
+
+pub cut_weaker : {P : Type 0} (fits also : P → Type 0) (first end : P → ℕ) (n u : ℕ) (ps : List P) → ((p : P) → fits p → also p) → IsParted fits first end n u ps → IsParted also first end n u ps
+cut_weaker {P} fits also first end n u [] to cut = cut
+cut_weaker {P} fits also first end n u (p ∷ ps) to cut = (cut.0, (to p cut.1.0, cut_weaker fits also first end n (end p) ps to cut.1.1))
+
+pub cut_pushed : {P : Type 0} (fits : P → Type 0) (first end : P → ℕ) (m n : ℕ) (ps qs : List P) (p : P) → qs ≡ ps ++ p ∷ [] → IsParted fits first end m 0 ps → first p ≡ m → end p ≡ n → fits p → IsParted fits first end n 0 qs
+cut_pushed {P} fits first end m n ps qs p e cut ef ee fit =
+    subst (λ (x : List P). IsParted fits first end n 0 x) (sym e) (subst (λ (k : ℕ). IsParted fits first end k 0 (ps ++ p ∷ [])) ee (cut_append fits first end m 0 ps p cut ef fit))

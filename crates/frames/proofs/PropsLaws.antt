@@ -1,0 +1,52 @@
+-- The properties of a raw circuit are as many as its header says.
+use Rattle.std.proofs.Common.{ℕ, suc, ◌+◌, ◌^◌, ◌≡◌, ◌≤◌, List, [], ◌∷◌, length, map, take, drop, refl, ap, arith}
+use Rattle.std.specs.List.{sum}
+use Rattle.std.proofs.lemmas.List.{length-take, length-drop}
+use Rattle.std.proofs.lemmas.List.Sums.{sum_by-cons}
+use Rattle.aig_graph.specs.declared.properties.Props.{Props}
+use Rattle.ascii_file.specs.declared.header.Header.{Header}
+use Rattle.ascii_file.specs.Raw.{safety_count}
+use Rattle.ascii_file.specs.Meaning.{split_by, props_of}
+
+split-count : (sizes xs : List ℕ) → length (split_by sizes xs) ≡ length sizes
+split-count [] xs = refl
+split-count (n ∷ sizes) xs = ap suc (split-count sizes (drop n xs))
+
+split-sum : (sizes xs : List ℕ) → sum (map length (split_by sizes xs)) ≤ sum sizes
+split-sum [] xs = omega arith
+split-sum (n ∷ sizes) xs =
+    let rest : sum (map length (split_by sizes (drop n xs))) ≤ sum sizes = split-sum sizes (drop n xs) in
+    let parts : sum (map length (split_by (n ∷ sizes) xs)) ≡ length (take n xs) + sum (map length (split_by sizes (drop n xs))) = sum_by-cons (λ m. m) (length (take n xs)) (map length (split_by sizes (drop n xs))) in
+    let whole : sum (n ∷ sizes) ≡ n + sum sizes = sum_by-cons (λ m. m) n sizes in
+    omega (arith, rest, parts, whole, length-take n xs)
+
+-- the limits of a header, of properties
+pub record ArePropsWithin (p : Props) : Type 0 where
+  pub outputs : length p.outputs ≤ 2 ^ 24
+  pub bad : length p.bad ≤ 2 ^ 24
+  pub constraints : length p.constraints ≤ 2 ^ 24
+  pub justice : length p.justice ≤ 2 ^ 24
+  pub justice_literals : sum (map length p.justice) ≤ 2 ^ 24
+  pub fairness : length p.fairness ≤ 2 ^ 24
+
+-- what a header says of properties is within its limits
+pub record IsSmall (h : Header) : Type 0 where
+  pub outputs : h.outputs ≤ 2 ^ 24
+  pub bad : h.bad ≤ 2 ^ 24
+  pub constraints : h.constraints ≤ 2 ^ 24
+  pub justice : h.justice ≤ 2 ^ 24
+  pub fairness : h.fairness ≤ 2 ^ 24
+
+pub props-within : (h : Header) (safety sizes liveness : List ℕ) → IsSmall h → length safety ≡ safety_count h → length sizes ≡ h.justice → length liveness ≡ sum sizes + h.fairness → sum sizes ≤ 2 ^ 24
+    → ArePropsWithin (props_of h safety sizes liveness)
+unfolding props_of
+props-within h safety sizes liveness small first second third few =
+    let parts = split-sum sizes liveness in
+    record {
+      outputs = omega (arith, small.outputs, length-take h.outputs safety);
+      bad = omega (arith, small.bad, length-take h.bad (drop h.outputs safety));
+      constraints = omega (arith, small.constraints, length-drop (h.outputs + h.bad) safety, first);
+      justice = omega (arith, small.justice, split-count sizes liveness, second);
+      justice_literals = omega (arith, parts, few);
+      fairness = omega (arith, small.fairness, length-drop (sum sizes) liveness, third);
+    }

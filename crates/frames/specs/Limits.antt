@@ -1,0 +1,15 @@
+-- The limits of a header, from what is read to what is written.
+use Rattle.std.specs.Prelude.{ℕ, ◌≡◌, List, Ok}
+use Rattle.aig_graph.specs.Circuits.{Netlist}
+use Rattle.ascii_file.specs.Laws.{IsWithinLimits}
+use Rattle.spellings.specs.Spellings.{read_any}
+use Rattle.retimed_circuits.specs.declared.report.Retimed.{Retimed}
+use Rattle.retimed_circuits.specs.Retiming.{IsRetimed}
+
+-- a circuit that is read is within the limits
+abbrev pub ReadsWithin : List ℕ → Type 0
+ReadsWithin bytes = (c : Netlist) → read_any bytes ≡ Ok c → IsWithinLimits c
+
+-- what a circuit within the limits is retimed to is within them
+abbrev pub StaysWithin : Netlist → List (List ℕ) → ℕ → Type 0
+StaysWithin c names max_frames = (r : Retimed) → IsRetimed c names max_frames r → IsWithinLimits c → IsWithinLimits r.circuit

@@ -1,0 +1,25 @@
+-- Laws of frames.
+use Rattle.std.specs.Prelude.{ℕ, ◌≡◌, List, None}
+use Rattle.aig_graph.specs.Graph.{IsGraph}
+use Rattle.aig_graph.specs.Circuits.{Netlist, IsNetlist}
+use Rattle.aig_graph.specs.Keep.{first_missing}
+use Rattle.retimed_circuits.specs.declared.report.Retimed.{Retimed}
+use Rattle.retimed_circuits.specs.Names.{held_latches}
+use Rattle.retimed_circuits.specs.Frames.{CleansIn, moved_in}
+use Rattle.retimed_circuits.specs.Retiming.{IsRetimed}
+
+-- what a circuit is retimed to is one, by the names and the limit of frames alone
+abbrev pub IsDetermined : Netlist → List (List ℕ) → ℕ → Type 0
+IsDetermined c names max_frames = (r s : Retimed) → IsRetimed c names max_frames r → IsRetimed c names max_frames s → r ≡ s
+
+-- cleaning keeps the latches that the names hold
+abbrev pub CleaningKeepsHeld : List (List ℕ) → Netlist → Type 0
+CleaningKeepsHeld names c = (d : Netlist) (kept : List ℕ) → IsGraph c.aig → IsNetlist c → CleansIn names c d kept → held_latches names d ≡ held_latches names c
+
+-- moving keeps the latches that the names hold
+abbrev pub MovingKeepsHeld : List (List ℕ) → Netlist → Type 0
+MovingKeepsHeld names c = (s : List ℕ) → IsNetlist c → held_latches names (moved_in names c s) ≡ held_latches names c
+
+-- a name that a held latch has isn't missing where the same latches are held
+abbrev pub NamesStay : List (List ℕ) → Netlist → Netlist → Type 0
+NamesStay names c d = held_latches names d ≡ held_latches names c → first_missing c.symbols.latches names ≡ None → first_missing d.symbols.latches names ≡ None

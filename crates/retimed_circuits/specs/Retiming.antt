@@ -1,0 +1,17 @@
+-- What it means that a circuit was retimed.
+use Rattle.std.specs.Prelude.{ℕ, ◌≡◌, ◌<◌, ◌≤◌, List, length}
+use Rattle.aig_graph.specs.Circuits.{Netlist}
+use Rattle.aig_graph.specs.Streams.{SameStreams}
+use Rattle.retimed_circuits.specs.declared.report.Retimed.{Retimed}
+use Rattle.retimed_circuits.specs.Names.{held_latches}
+use Rattle.retimed_circuits.specs.Frames.{AfterFrames, NoneSmaller}
+
+-- c cleaned and retimed frame by frame, at most max_frames of them, until no closed set counts less than the known latches; the
+-- latches that the names hold stay, with their names and resets
+pub record IsRetimed (c : Netlist) (names : List (List ℕ)) (max_frames : ℕ) (r : Retimed) : Type 0 where
+  pub frames : AfterFrames names c (length r.frames) r.circuit r.kept_free r.frames
+  pub within : length r.frames ≤ max_frames
+  pub last : length r.frames < max_frames → NoneSmaller names r.circuit
+  pub read_latches : r.read_latches ≡ length c.aig.latches
+  pub streams : SameStreams c r.circuit r.kept_free
+  pub held : held_latches names r.circuit ≡ held_latches names c

@@ -1,0 +1,21 @@
+ghost use Rattle.std.specs.Prelude.{ℕ, List};
+ghost use Rattle.aig_graph.specs.Circuits.{Netlist};
+ghost use Rattle.retimed_circuits.specs.Laws.{
+  CleaningKeepsHeld,
+  IsDetermined,
+  MovingKeepsHeld,
+  NamesStay,
+};
+
+/// What a circuit is retimed to, with its reports, rests on the circuit, the names and the limit of frames alone.
+pub fn retiming_law()
+    ensures { (c : Netlist) (names : List (List ℕ)) (max_frames : ℕ) → IsDetermined c names max_frames }
+{}
+
+/// Cleaning and moving keep the latches that names hold: as many, in their order, with their names and resets. So no name
+/// goes missing on the way.
+pub fn held_laws()
+    ensures cleaning { (names : List (List ℕ)) (c : Netlist) → CleaningKeepsHeld names c }
+    ensures moving { (names : List (List ℕ)) (c : Netlist) → MovingKeepsHeld names c }
+    ensures names { (names : List (List ℕ)) (c d : Netlist) → NamesStay names c d }
+{}
