@@ -1,0 +1,66 @@
+# make            the program: the release, or where that is of other sources it is proved and built (./fretime --build)
+# make test       the program from outside; make prove: every proof from nothing first
+# make install    program, man page, completions and documents below PREFIX; make uninstall takes them away
+# make deb        a Debian package of the same, out/fretime_VERSION_amd64.deb
+# make version    the version, which stands in the program's command line alone
+
+PREFIX = /usr/local
+BASHDIR = $(PREFIX)/share/bash-completion/completions
+ZSHDIR = $(PREFIX)/share/zsh/site-functions
+FISHDIR = $(PREFIX)/share/fish/vendor_completions.d
+MANDIR = $(PREFIX)/share/man/man1
+DOCDIR = $(PREFIX)/share/doc/fretime
+# of this version
+DATE = 2026-11-23
+
+VERSION := $(shell sed -n 's/.*\.version("\([^"]*\)").*/\1/p' crates/*/src/*.rt)
+INSTALLED = $(PREFIX)/bin/fretime $(MANDIR)/fretime.1 $(BASHDIR)/fretime $(ZSHDIR)/_fretime $(FISHDIR)/fretime.fish $(DOCDIR)
+STAGE = out/deb
+PACKAGE = out/fretime_$(VERSION)_amd64.deb
+FILLED = sed -e 's/@VERSION@/$(VERSION)/' -e 's/@DATE@/$(DATE)/' -e "s/@TIME@/$$(LC_ALL=C date -u -R -d $(DATE))/"
+
+all:
+	@./fretime --version
+
+test:
+	./test
+
+prove:
+	./test --proofs
+
+version:
+	@echo $(VERSION)
+
+install: all
+	install -d $(DESTDIR)$(PREFIX)/bin $(DESTDIR)$(MANDIR) $(DESTDIR)$(BASHDIR) $(DESTDIR)$(ZSHDIR) $(DESTDIR)$(FISHDIR)
+	install -d $(DESTDIR)$(DOCDIR)/docs $(DESTDIR)$(DOCDIR)/examples
+	install -m 755 "$$(release/make --program)" $(DESTDIR)$(PREFIX)/bin/fretime
+	$(FILLED) install/fretime.1 > $(DESTDIR)$(MANDIR)/fretime.1
+	chmod 644 $(DESTDIR)$(MANDIR)/fretime.1
+	install -m 644 install/fretime.bash $(DESTDIR)$(BASHDIR)/fretime
+	install -m 644 install/_fretime $(DESTDIR)$(ZSHDIR)/_fretime
+	install -m 644 install/fretime.fish $(DESTDIR)$(FISHDIR)/fretime.fish
+	install -m 644 README.md LICENSE-APACHE LICENSE-MIT release/record $(DESTDIR)$(DOCDIR)
+	install -m 644 docs/*.md $(DESTDIR)$(DOCDIR)/docs
+	install -m 644 examples/*.aag $(DESTDIR)$(DOCDIR)/examples
+
+uninstall:
+	rm -rf $(addprefix $(DESTDIR),$(INSTALLED))
+
+# The licences stand in the file that Debian wants, and the man page and the list of changes are compressed.
+deb:
+	rm -rf $(STAGE)
+	$(MAKE) install DESTDIR=$(STAGE) PREFIX=/usr ZSHDIR=/usr/share/zsh/vendor-completions
+	rm $(STAGE)/usr/share/doc/fretime/LICENSE-*
+	install -m 644 install/debian/copyright $(STAGE)/usr/share/doc/fretime/copyright
+	$(FILLED) install/debian/changelog | gzip -9n > $(STAGE)/usr/share/doc/fretime/changelog.gz
+	gzip -9n $(STAGE)/usr/share/man/man1/fretime.1
+	install -d $(STAGE)/usr/share/lintian/overrides $(STAGE)/DEBIAN
+	install -m 644 install/debian/overrides $(STAGE)/usr/share/lintian/overrides/fretime
+	cd $(STAGE) && find usr -type f | LC_ALL=C sort | xargs md5sum > DEBIAN/md5sums
+	size=$$(du -ks $(STAGE)/usr | cut -f1) && $(FILLED) -e "s/@SIZE@/$$size/" install/debian/control > $(STAGE)/DEBIAN/control
+	chmod -R u=rwX,go=rX $(STAGE)
+	dpkg-deb --root-owner-group --build $(STAGE) $(PACKAGE)
+	rm -rf $(STAGE)
+
+.PHONY: all test prove version install uninstall deb

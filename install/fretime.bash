@@ -1,0 +1,34 @@
+# Completions of fretime for bash.
+
+_fretime() {
+    local word=${COMP_WORDS[COMP_CWORD]} before=${COMP_WORDS[COMP_CWORD - 1]} options
+    COMPREPLY=()
+    if [ "$COMP_CWORD" = 1 ]; then
+        mapfile -t COMPREPLY < <(compgen -W "retime stat convert sim same help --help --version" -- "$word")
+        return
+    fi
+    case ${COMP_WORDS[1]} in
+        retime) options="--ascii --binary --workers --frames --keep --help" ;;
+        convert) options="--ascii --binary --help" ;;
+        stat | sim | same) options="--help" ;;
+        help)
+            if [ "$COMP_CWORD" = 2 ]; then
+                mapfile -t COMPREPLY < <(compgen -W "retime stat convert sim same help" -- "$word")
+            fi
+            return
+            ;;
+        *) return ;;
+    esac
+    case $before in
+        --workers | --frames | --keep) return ;;
+    esac
+    case $word in
+        -*) mapfile -t COMPREPLY < <(compgen -W "$options" -- "$word") ;;
+        *)
+            compopt -o filenames 2> /dev/null
+            mapfile -t COMPREPLY < <(compgen -f -- "$word")
+            ;;
+    esac
+}
+
+complete -F _fretime fretime
