@@ -1,3 +1,7 @@
+//! A reader of an ASCII file in pieces.
+//!
+//!     first line open ──newline──► items ──finish──► ended, which answers BadHeader at 0
+//!     either ──fault──► failed, which answers that fault from then on
 ghost use Rattle.std.specs.Prelude.{ℕ, List, ◌≡◌, ◌+◌, length, MatchResult};
 ghost use Rattle.file_words.specs.declared.fault.ReadError.TheVariants.{NoMemory};
 ghost use Rattle.ascii_file.specs.Reading as reading;

@@ -1,3 +1,4 @@
+-- A row of pushes: of an active node, of an inactive one, and of one with label 0.
 use Rattle.std.proofs.Common.{◌≡◌, ℕ, ◌+◌, ◌<◌, ◌==◌, ◌&&◌, cond, Bool, true, false, List, length, slice_index, arith, refl, ap, sym, subst}
 use Rattle.std.proofs.lemmas.Bool.{false≢true, ne_eqb}
 use Rattle.arc_rows.specs.Rows.{row_admissible, node_admissible, IsRowOfPushes}

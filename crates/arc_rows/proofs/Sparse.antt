@@ -1,3 +1,4 @@
+-- A sum over the arcs of a row with rising heads is the sum over all nodes.
 use Rattle.std.proofs.Common.{◌≡◌, ℕ, suc, zero, ◌+◌, ◌-◌, ◌<◌, ◌≤◌, ◌==◌, ◌&&◌, nat_lt, min, cond, Bool, true, false, arith, refl, ap, sym, ◌∙◌, subst, inl, inr, ◌⊎◌}
 use Rattle.std.proofs.lemmas.Bool.{cases_lt, cases_Bool, cases_order, cases_eq, eqb-true, lt-ltb, le-ltb, eq-eqb, ne_eqb}
 use Rattle.flow_theory.specs.Flow.{sum_below, least_below, State, push, admissible, is_active}

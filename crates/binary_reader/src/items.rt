@@ -1,3 +1,10 @@
+//! What is held between two pieces of a binary file: the whole items so far, and how far the open one has come.
+//!
+//!     Numbers ──newline──► next item                First ──last byte──► Second ──last byte──► next item
+//!     Symbol  ──newline──► next line, or Comment    Comment stays
+//!
+//! The open item is taken out by value while a piece is fed, and `Comment` stands in its place, since it owns nothing and
+//! dropping it takes no step. Where the piece has a fault, the items are dropped, and nobody looks at the stand-in.
 ghost use Rattle.std.specs.Prelude.{ℕ, ◌≡◌, ◌+◌, length};
 ghost use Rattle.ascii_file.specs.Answering.{Gives};
 ghost use Rattle.binary_file.specs.Reading.{State};

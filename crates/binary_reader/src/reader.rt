@@ -1,3 +1,7 @@
+//! A reader of a binary file in pieces.
+//!
+//!     first line open ──newline──► items ──finish──► ended, which answers BadHeader at 0
+//!     either ──fault──► failed, which answers that fault from then on
 ghost use Rattle.std.specs.Prelude.{ℕ, List, ◌≡◌, ◌++◌};
 ghost use Rattle.ascii_file.specs.Answering.{Gives};
 ghost use Rattle.binary_file.specs.Reading.{read_binary};

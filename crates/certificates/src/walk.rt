@@ -1,4 +1,6 @@
-//! Whether points are a route of a circuit.
+//! Whether points are a route of a circuit: a walk from after a known latch, up through passable gates and back down to what they read,
+//! to after a variable that something outside reads. On each route lies a border variable of each closed set (weak duality; Menger,
+//! 1927): so the number of routes that are apart from one another is a lower bound on every border.
 ghost use Rattle.std.specs.Prelude.{◌≡◌, ◌&&◌, ℕ, List, true};
 ghost use Rattle.variable_tables.specs.Marking.{mark_at};
 ghost use Rattle.variable_tables.specs.Tables.{table};

@@ -1,3 +1,4 @@
+//! The first of equal latches, by a hash table over next literal and reset.
 ghost use Rattle.std.specs.Prelude.{◌≡◌, ◌++◌, ◌∷◌, [], None, OnOk, IfOk};
 ghost use Rattle.std.specs.Map.{lookup};
 ghost use Rattle.cleaned_circuits.specs.Latches.{is_latch};

@@ -1,3 +1,5 @@
+//! Structural hashing: a gate whose fan-ins, after replacement, say nothing new comes down to a literal, and one with the fan-ins
+//! of a kept gate to that gate's. Fan-ins stand with the larger literal first, so equal pairs are equal keys.
 ghost use Rattle.std.specs.Prelude.{◌≡◌, ◌+◌, ◌*◌, ◌++◌, ◌∷◌, ◌<◌, ◌^◌, [], None, OnOk, IfOk, length};
 ghost use Rattle.std.specs.Map.{lookup};
 ghost use Rattle.aig_graph.specs.Graph.{variable, first_gate};

@@ -1,3 +1,5 @@
+//! What the properties and the held latches rest on, by a walk over readers' fan-ins. The queue is its own record of what was
+//! visited: it is never taken from, a place in it walks from its front to its end, and at the end it lists all that was reached.
 ghost use Rattle.std.specs.Prelude.{◌≡◌, ◌+◌, ◌*◌, ◌<◌, ◌≤◌, ◌^◌, All, IfOk, OnOk, [], false, length, map, replicate, slice_get};
 ghost use Rattle.std.specs.List.{flat_map};
 ghost use Rattle.aig_graph.specs.Graph.{variable, first_latch, variables_end, IsLiteralOf, latch_at};

@@ -1,3 +1,6 @@
+//! What stands for each variable, in one pass over latches and then gates. One pass over the gates suffices, since a gate's
+//! fan-ins come before it: what stands for them is known when it is met. A gate may make a latch equal to another or stuck, so
+//! passes are repeated (`cleaning`).
 ghost use Rattle.std.specs.Prelude.{◌≡◌, IfOk, length};
 ghost use Rattle.cleaned_circuits.specs.Merged.{stands_of};
 

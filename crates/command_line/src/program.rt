@@ -31,7 +31,7 @@ It prints a line for each frame that was taken, and then the numbers of all latc
   frame 1: 2 to 1
   latches 2 to 1
 
-Exit status: 0 done, 1 IN is no circuit, 2 command line, 3 device, 4 out of memory.";
+Exit status: 0 done, 1 IN is no circuit or has no latch NAME, 2 command line, 3 device, 4 out of memory.";
 
 const STAT_EXAMPLE: &str =
     "Latches are free where they have no known reset; free latches never move.

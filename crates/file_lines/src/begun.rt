@@ -1,3 +1,10 @@
+//! A line after the gates, byte by byte.
+//!
+//!     Nothing ──one of i l o b c j f──► Letter ──digit──► Position ──space──► Name, which keeps all further bytes
+//!     Nothing ──any other──► NoSymbol
+//!     Letter c ──no digit──► Comment
+//!     Letter, Position ──any other──► Malformed
+//!     NoSymbol, Comment, Malformed stay
 ghost use Rattle.std.specs.Prelude.{◌≡◌, ◌==◌, ℕ, List, [], ◌∷◌};
 ghost use Rattle.ascii_file.specs.Items as items;
 ghost use Rattle.ascii_file.specs.Raw.{kind_number};

@@ -1,3 +1,4 @@
+-- A walk over the parts of the pushes, to the one that holds a node's row.
 use Rattle.std.proofs.Common.{◌≡◌, ℕ, ◌+◌, ◌-◌, ◌<◌, ◌≤◌, List, ◌∷◌, length, slice_index, get_or, drop, arith, ap, ◌∙◌, subst}
 use Rattle.frame_net.specs.FlowNet.{FlowNet, node_count, start, IsFlowNet}
 use Rattle.flow_part.specs.declared.parts.PushPart.{PushPart}

@@ -1,3 +1,4 @@
+-- Rows that the last phase wrote are cleared, one by one, all or those that are listed.
 use Rattle.std.proofs.Common.{◌≡◌, ℕ, ◌+◌, ◌-◌, ◌<◌, ◌≤◌, ◌≢◌, ◌⊎◌, true, false, List, length, slice_index, slice_set, refl, arith, sym, ap, ◌∙◌, subst, inl, inr, get_or-set_other, get_or-set_same}
 use Rattle.std.specs.Vec.{with_items}
 use Rattle.std.proofs.lemmas.Bool.{cases_lt}

@@ -1,3 +1,4 @@
+-- A walk over the parts of the flow, to the one that holds a node.
 use Rattle.std.proofs.Common.{◌≡◌, ℕ, ◌+◌, ◌<◌, ◌≤◌, List, ◌∷◌, length, get_or, drop, arith, sym, subst}
 use Rattle.frame_net.specs.FlowNet.{FlowNet, IsFlowNet}
 use Rattle.flow_part.specs.declared.parts.FlowPart.{FlowPart}

@@ -1,3 +1,4 @@
+-- What a delivery computes at one node is what the definition says of it.
 use Rattle.std.proofs.Common.{◌≡◌, ℕ, ◌+◌, ◌<◌, ◌&&◌, nat_lt, cond, List, length, slice_index, ap, ◌∙◌}
 use Rattle.std.proofs.lemmas.Bool.{lt-ltb}
 use Rattle.flow_theory.specs.Flow.{sum_below, least_below}

@@ -1,3 +1,4 @@
+-- What a read computes at one node is what the definition says of it.
 use Rattle.std.proofs.Common.{◌≡◌, ℕ, ◌+◌, ◌<◌, ◌==◌, ◌&&◌, nat_lt, cond, List, length, slice_index, arith, refl, ap, ◌∙◌}
 use Rattle.flow_theory.proofs.Sums.{sum_below-same}
 use Rattle.frame_net.specs.FlowNet.{FlowNet, node_count, row_len, head}

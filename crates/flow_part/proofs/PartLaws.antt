@@ -1,3 +1,4 @@
+-- A range of nodes, cut down to those of a part.
 use Rattle.std.proofs.Common.{◌≡◌, ℕ, ◌+◌, min, max, List, length, arith, refl, ap, sym, ◌∙◌, subst, inl, inr}
 use Rattle.std.specs.Vec.{with_items}
 use Rattle.std.proofs.lemmas.List.{with_items_is}

@@ -1,3 +1,4 @@
+-- A row as a slice of longer values, and where an arc's mate lies.
 use Rattle.std.proofs.Common.{◌≡◌, ℕ, ◌+◌, ◌<◌, ◌≤◌, List, length, slice_index, take, drop, arith, sym, subst}
 use Rattle.std.proofs.lemmas.List.{places}
 use Rattle.frame_net.specs.FlowNet.{FlowNet, node_count, start, row_len, head, mate, HasMate, IsFlowNet}

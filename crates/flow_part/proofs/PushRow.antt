@@ -1,3 +1,4 @@
+-- The row of pushes of a node, as a slice of its part's values.
 use Rattle.std.proofs.Common.{◌≡◌, ℕ, ◌+◌, ◌-◌, ◌<◌, ◌≤◌, List, length, slice_index, take, drop, arith, ap, sym, ◌∙◌}
 use Rattle.frame_net.specs.FlowNet.{FlowNet, node_count, start, row_len, IsFlowNet}
 use Rattle.flow_part.specs.declared.parts.PushPart.{PushPart}

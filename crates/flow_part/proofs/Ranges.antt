@@ -1,3 +1,4 @@
+-- Deliveries of a range, node after node, and of ranges end to end.
 use Rattle.std.proofs.Common.{◌≡◌, ℕ, ◌+◌, ◌-◌, ◌<◌, ◌≤◌, ◌&&◌, ◌≢◌, nat_lt, cond, List, length, slice_index, slice_set, take, drop, arith, refl, ap, sym, ◌∙◌, subst, inl, inr, ◌⊎◌, get_or-set_other, get_or-set_same}
 use Rattle.std.proofs.lemmas.Bool.{cases_lt}
 use Rattle.std.proofs.lemmas.List.{length-set}

@@ -1,4 +1,9 @@
-//! Which nodes of a part have something to do in a delivery: those that are active, those that push, and those that are pushed to.
+//! Which nodes of a part have something to do in a delivery: those that are active, those that push, and those that are pushed
+//! to.
+//!
+//! A list has room for each node of the part once. A node may be added more than once, until `rise` leaves it once; where the
+//! room is full before that, or a list that this one is made of isn't complete, it isn't complete either, and all nodes of the
+//! part are visited.
 ghost use Rattle.std.specs.Prelude.{◌≡◌, ℕ, ◌+◌, ◌-◌, ◌<◌, ◌≤◌, true, length, slice_index};
 ghost use Rattle.frame_net.specs.FlowNet.{node_count, row_len};
 ghost use Rattle.flow_part.specs.Parts.{ArePushParts, FlowPartFits, LabelsFit, values_of};

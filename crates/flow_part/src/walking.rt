@@ -1,4 +1,7 @@
 //! Read of a whole part: the rows of its active nodes are walked, and no others, since each other node pushes nothing.
+//!
+//! In this file `first` and `end` bound the part's nodes, `base` is the first arc of its first row, `values` are the pushes of
+//! its rows from that arc on, and `list` or `listed` is about the flow's list of nodes that may be active.
 ghost use Rattle.std.specs.Prelude.{◌≡◌, ◌+◌, ◌<◌, ◌≤◌, IfSome, true, false, length, slice_index};
 ghost use Rattle.frame_net.specs.FlowNet.{node_count, start};
 ghost use Rattle.flow_part.specs.Parts.{AreFlowParts, LabelsFit, PushPartFits, cells_of};

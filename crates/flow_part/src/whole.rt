@@ -1,4 +1,7 @@
 //! Deliver of a whole part, which visits only the nodes that have something to do where lists name them.
+//!
+//! `pulse` decides whether lists are of this flow and of these pushes, and hands that on as `listed`. `active` is the list that
+//! stands; `spare` is room for another, in which the nodes of this delivery are gathered; then the two change places.
 ghost use Rattle.std.specs.Prelude.{◌≡◌, ℕ, ◌+◌, ◌<◌, ◌≤◌, ◌^◌, true, length, slice_index};
 ghost use Rattle.frame_net.specs.FlowNet.{node_count};
 ghost use Rattle.flow_part.specs.Parts.{ArePushParts, FlowPartFits, LabelsFit, RangeFits, part_cells, values_of};

@@ -1,3 +1,4 @@
+-- The excess outside a set and the residual that leaves it make up its cut: so the far side is the greatest least cut.
 use Rattle.std.proofs.Common.{◌≡◌, ℕ, suc, zero, ◌+◌, ◌*◌, ◌<◌, ◌≤◌, ◌==◌, ◌&&◌, not, cond, Bool, true, false, arith, refl, ap, sym, ◌∙◌, subst, inl, inr}
 use Rattle.std.proofs.lemmas.Bool.{cases_lt, cases_Bool, false≢true, eq-eqb, eqb-true, cases_order, ne_eqb, cases_eq}
 use Rattle.flow_theory.specs.Flow.{State, sum_below, IsPreflow, IsValid, is_active, between, IsCut, cut_value, Walk, Reaches, IsSourceSide}

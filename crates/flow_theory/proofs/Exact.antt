@@ -1,3 +1,4 @@
+-- Exact labels are valid, and no smaller than valid ones.
 use Rattle.std.proofs.Common.{◌≡◌, ℕ, suc, zero, ◌+◌, ◌-◌, ◌*◌, ◌<◌, ◌≤◌, cond, true, arith, refl, ap, inl, inr}
 use Rattle.std.proofs.lemmas.Bool.{cases_lt, cases_Bool}
 use Rattle.flow_theory.specs.Flow.{State, sum_below, is_active, IsValid, Walk, greatest_active_label, potential}

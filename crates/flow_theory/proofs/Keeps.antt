@@ -1,3 +1,4 @@
+-- A pulse keeps a preflow with valid labels.
 use Rattle.std.proofs.Common.{◌≡◌, ℕ, ◌+◌, ◌<◌, ◌≤◌, nat_lt, cond, true, arith, refl, ◌∙◌, inl, inr}
 use Rattle.std.proofs.lemmas.Bool.{cases_lt, cases_Bool, and_parts, ltb-true, lt-ltb, and_from}
 use Rattle.flow_theory.specs.Flow.{State, sum_below, push, outflow, is_active, next_res, keeps_excess, relabelled, next_label, next_excess, pulse, IsPreflow, IsValid}

@@ -1,3 +1,4 @@
+-- The potential falls in each pulse that leaves a node active.
 use Rattle.std.proofs.Common.{◌≡◌, ℕ, ◌+◌, ◌-◌, ◌*◌, ◌<◌, ◌≤◌, cond, true, false, arith, refl, sym, ◌∙◌, inl, inr, ◌⊎◌}
 use Rattle.std.proofs.lemmas.Bool.{cases_lt, cases_Bool, false≢true}
 use Rattle.flow_theory.specs.Flow.{State, sum_below, push, outflow, inflow, is_active, keeps_excess, next_label, pulse, IsValid, greatest_active_label, potential}

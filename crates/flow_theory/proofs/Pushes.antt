@@ -1,3 +1,4 @@
+-- What a node pushes: no more than its excess, and all that is admissible where some excess is kept.
 use Rattle.std.proofs.Common.{◌≡◌, ℕ, suc, zero, ◌+◌, ◌<◌, ◌≤◌, ◌==◌, ◌&&◌, nat_lt, min, cond, Bool, true, false, arith, refl, ap}
 use Rattle.std.proofs.lemmas.Bool.{and_parts, ltb-true, eqb-true, lt-ltb, eq-eqb, and_from}
 use Rattle.flow_theory.specs.Flow.{State, sum_below, admissible, push, outflow, is_active}

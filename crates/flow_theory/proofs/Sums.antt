@@ -1,3 +1,4 @@
+-- Sums and least values below a number.
 use Rattle.std.proofs.Common.{◌≡◌, ℕ, suc, zero, ◌+◌, ◌*◌, ◌<◌, ◌≤◌, min, max, arith, refl, sym, subst, inl, inr}
 use Rattle.std.proofs.lemmas.Bool.{cases_lt}
 use Rattle.flow_theory.specs.Flow.{sum_below, least_below, greatest_below}

@@ -1,3 +1,4 @@
+-- A pulse loses no excess.
 use Rattle.std.proofs.Common.{◌≡◌, ℕ, ◌+◌, ◌<◌, ◌≤◌, arith, inl, inr}
 use Rattle.std.proofs.lemmas.Bool.{cases_lt}
 use Rattle.flow_theory.specs.Flow.{State, sum_below, push, outflow, inflow, next_excess, IsValid}

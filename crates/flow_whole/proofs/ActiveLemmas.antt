@@ -1,3 +1,4 @@
+-- Whether some node is active, by the lists of the parts or by all nodes.
 use Rattle.std.proofs.Common.{◌≡◌, ℕ, suc, zero, ◌+◌, ◌-◌, ◌*◌, ◌<◌, ◌≤◌, ◌&&◌, ◌||◌, nat_lt, cond, Bool, true, false, List, [], ◌∷◌, length, slice_index, get_or, drop, arith, refl, ap, sym, ◌∙◌, subst, inl, inr, ◌⊎◌}
 use Rattle.std.proofs.lemmas.Bool.{cases_lt, cases_Bool, cases_eq, false≢true}
 use Rattle.flow_theory.specs.Flow.{State, is_active, pulse, potential, sum_below, greatest_active_label, IsValid}

@@ -1,3 +1,4 @@
+-- States that agree at all nodes have the same pulse.
 use Rattle.std.proofs.Common.{◌≡◌, ℕ, suc, zero, ◌+◌, ◌<◌, ◌==◌, ◌&&◌, nat_lt, cond, Bool, arith, refl, ap, sym, ◌∙◌}
 use Rattle.flow_theory.specs.Flow.{State, greatest_below, admissible, push, outflow, inflow, next_res, relabelled, is_active, pulse, potential}
 use Rattle.flow_theory.proofs.Sums.{sum_below-same}

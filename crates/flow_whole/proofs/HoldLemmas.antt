@@ -1,3 +1,4 @@
+-- Pushes of a state are those of every state that agrees with it.
 use Rattle.std.proofs.Common.{◌≡◌, ℕ, ◌+◌, ◌<◌, ◌≤◌, ◌==◌, ◌&&◌, cond, Bool, true, false, zero, List, slice_index, arith, refl, ap, sym, ◌∙◌, inl, inr}
 use Rattle.std.proofs.lemmas.Bool.{cases_lt}
 use Rattle.flow_theory.specs.Flow.{push, admissible, is_active}

@@ -1,3 +1,4 @@
+-- Parts of a flow have a cell for the new label of each node.
 use Rattle.std.proofs.Common.{◌≡◌, ℕ, List, arith, sym, subst}
 use Rattle.frame_net.specs.FlowNet.{FlowNet, node_count}
 use Rattle.flow_part.specs.declared.parts.FlowPart.{FlowPart}

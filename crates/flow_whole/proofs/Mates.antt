@@ -1,3 +1,4 @@
+-- What comes in over a row's mates is what the pulse sends to its node.
 use Rattle.std.proofs.Common.{◌≡◌, ℕ, ◌+◌, ◌<◌, ◌&&◌, nat_lt, cond, List, slice_index, arith, refl, ap, sym, ◌∙◌, subst}
 use Rattle.flow_theory.specs.Flow.{State, push, outflow, inflow, next_res, next_excess, next_label, relabelled}
 use Rattle.flow_theory.proofs.Sums.{sum_below-same}

@@ -1,3 +1,4 @@
+-- All parts read, delivered and turned are the state after the pulse.
 use Rattle.std.proofs.Common.{◌≡◌, ℕ, ◌<◌, List, length, slice_index, arith, sym, subst}
 use Rattle.flow_theory.specs.Flow.{pulse, IsValid}
 use Rattle.flow_theory.proofs.Keeps.{next_valid}

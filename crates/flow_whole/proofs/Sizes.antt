@@ -1,3 +1,4 @@
+-- How many residuals, excesses and labels the parts have together.
 use Rattle.std.proofs.Common.{◌≡◌, List, length, arith}
 use Rattle.frame_net.specs.FlowNet.{FlowNet, node_count, start, IsFlowNet}
 use Rattle.flow_part.specs.declared.parts.FlowPart.{FlowPart}

@@ -1,3 +1,4 @@
+-- Parts with the residuals and excess of the start are the start on pairs of nodes, however they are parted.
 use Rattle.std.proofs.Common.{◌≡◌, ℕ, suc, ◌+◌, ◌-◌, ◌<◌, ◌≤◌, ◌==◌, cond, Bool, true, false, zero, List, length, slice_index, get_or, arith, refl, sym, ap, ◌∙◌, subst, inl, inr}
 use Rattle.std.proofs.lemmas.Bool.{cases_eq, eq-eqb, ne_eqb, lt-ltb, le-ltb}
 use Rattle.flow_theory.specs.Flow.{sum_below}

@@ -1,3 +1,4 @@
+-- Cells that were delivered by the pushes of a sound state are the pulse's, and no sum wraps.
 use Rattle.std.proofs.Common.{◌≡◌, ℕ, ◌+◌, ◌-◌, ◌<◌, ◌≤◌, ◌^◌, List, length, slice_index, arith, refl, ap, sym, ◌∙◌}
 use Rattle.flow_theory.specs.Flow.{State, push, next_res, next_excess, pulse}
 use Rattle.flow_theory.proofs.Sums.{term-le-sum_below}

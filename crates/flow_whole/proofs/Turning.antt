@@ -1,3 +1,4 @@
+-- The new labels of the parts, copied one part after another, become the labels.
 use Rattle.std.proofs.Common.{◌≡◌, ℕ, ◌+◌, ◌-◌, ◌<◌, ◌≤◌, ◌≢◌, true, List, [], ◌∷◌, length, slice_index, slice_set, get_or, drop, get_or-set_other, get_or-set_same, refl, ap, arith, sym, ◌∙◌, subst, inl, inr, ◌⊎◌}
 use Rattle.std.proofs.lemmas.Bool.{cases_eq, cases_lt}
 use Rattle.std.proofs.lemmas.List.{length-set}

@@ -1,3 +1,8 @@
+//! Which nodes a network has, and what each is linked to. Nodes 0 and 1 are the source and the sink; then comes a node after each
+//! known latch, then for each passable gate one before it and one after it. A variable's number is counted as if a gate had one
+//! node: with two known latches and two passable gates the numbers are 2, 3, 4, 5, and the nodes 2, 3 (after the latches), 4 and
+//! 5 (before and after the first gate), 6 and 7 (the second). So the node before a gate is `2 * number - base`, where `base` is
+//! the first gate's number.
 ghost use Rattle.std.specs.Prelude.{ℕ, Bool, List, ◌≡◌, ◌+◌, ◌-◌, ◌<◌, ◌≤◌, ◌^◌, nat_le, take, length, IfOk, true, if◌then◌else◌};
 ghost use Rattle.std.specs.List.{slice_index_or};
 ghost use Rattle.variable_tables.specs.Counting.{count_below};

@@ -1,3 +1,5 @@
+//! Topological sorting (Kahn, 1962), with a heap of file places, so that of all gates that may follow the first
+//! one of the file does. A file that is in order already is recognised in one pass, and needs no heap.
 ghost use Rattle.std.specs.Prelude.{◌≡◌, ◌<◌, ◌↔◌, ◌^◌, [], length, IfOk, OnOk, IsTrue, MatchOption};
 ghost use Rattle.std.specs.BinaryHeap.{heap_items};
 ghost use Rattle.std.specs.List.{range_with_len};

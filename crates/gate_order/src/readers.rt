@@ -1,3 +1,6 @@
+//! The readers of each gate, as linked lists in two tables: from the last reader of a gate back to the first. A link is one more
+//! than a place in the file, and 0 ends the list, so both tables begin as zeros. There is one pair of tables for each of the two
+//! fan-ins.
 ghost use Rattle.std.specs.Prelude.{◌≡◌, ◌<◌, ◌≤◌, ◌^◌, length, IfOk};
 ghost use Rattle.gate_order.specs.Order.{AreReadsInFile};
 ghost use Rattle.gate_order.specs.Readers.{AreReaders, read_by};

@@ -15,7 +15,7 @@ use std::thread::Threads;
 /// For each step of a block, the values of the literals.
 pub(crate) type Block = Sequence<Sequence<Lanes>>;
 
-// The values of the literals in a step. The table goes from the state before it to the state after it.
+/// The values of the literals in a step. The table goes from the state before it to the state after it.
 fn simulate_step(
     alloc: Global,
     table: &mut [Lanes],
@@ -41,7 +41,7 @@ fn simulate_step(
     Ok(row)
 }
 
-// The number of steps of the longest sequence.
+/// The number of steps of the longest sequence.
 fn longest(sequences: &[InputSequence]) -> usize
     ensures { (k : ℕ) → k < length sequences.now → length (in_lane sequences.now k).steps ≤ result }
 {

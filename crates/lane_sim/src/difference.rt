@@ -28,7 +28,7 @@ pub struct Place {
     pub place: usize,
 }
 
-// The first place where two rows differ in a lane.
+/// The first place where two rows differ in a lane.
 fn row_difference(xs: &[Lanes], ys: &[Lanes], lane: usize) -> Option<usize>
     requires lane { lane < 256 }
     requires places { length ys.now ≡ length xs.now }
@@ -42,7 +42,7 @@ fn row_difference(xs: &[Lanes], ys: &[Lanes], lane: usize) -> Option<usize>
     None
 }
 
-// The first step and place where two blocks differ in a lane that has this many steps.
+/// The first step and place where two blocks differ in a lane that has this many steps.
 fn lane_difference(
     xs: &[Sequence<Lanes>],
     ys: &[Sequence<Lanes>],
@@ -63,7 +63,7 @@ fn lane_difference(
     None
 }
 
-// The first place where two blocks differ. A sequence is numbered by its lane.
+/// The first place where two blocks differ. A sequence is numbered by its lane.
 fn block_difference(
     xs: &[Sequence<Lanes>],
     ys: &[Sequence<Lanes>],
@@ -85,7 +85,7 @@ fn block_difference(
     None
 }
 
-// The rows of a block of the sequences.
+/// The rows of a block of the sequences.
 fn block_rows(
     alloc: Global,
     circuit: &Circuit,
@@ -100,7 +100,7 @@ fn block_rows(
     simulate_block(alloc, circuit.aig(), literals, block(sequences, number))
 }
 
-// The first place where two circuits differ in a block of the sequences.
+/// The first place where two circuits differ in a block of the sequences.
 fn compare_block(
     alloc: Global,
     a: &Circuit,
@@ -121,7 +121,7 @@ fn compare_block(
     Ok(after(found, LANES * number))
 }
 
-// The place, with its sequence counted from a later one on.
+/// The place, with its sequence counted from a later one on.
 fn after(found: Option<Place>, first: usize) -> Option<Place>
     requires { IfSome found (λ p. first + p.sequence < 2 ^ 64) }
     ensures { result ≡ option_map (λ p. record { sequence = first + p.sequence; step = p.step; place = p.place }) found }
@@ -136,7 +136,7 @@ fn after(found: Option<Place>, first: usize) -> Option<Place>
     }
 }
 
-// What comparing each block of the sequences finds, in parallel, in order.
+/// What comparing each block of the sequences finds, in parallel, in order.
 fn compare_blocks(
     rt: &(impl Threads + Sync),
     alloc: Global,
@@ -155,7 +155,7 @@ fn compare_blocks(
     compare_all(rt, alloc, a, p, b, q, sequences)
 }
 
-// The same, with the property literals of each circuit.
+/// The same, with the property literals of each circuit.
 fn compare_all(
     rt: &(impl Threads + Sync),
     alloc: Global,
@@ -183,7 +183,7 @@ fn compare_all(
     found
 }
 
-// The first that was found.
+/// The first that was found.
 fn first_found(found: &[Option<Place>]) -> Option<Place>
     ensures { MatchOption result ((i : ℕ) → i < length found.now → slice_index_or found.now i None ≡ None)
         (λ place. (i : ℕ) × (i < length found.now) × (slice_index_or found.now i None ≡ Some place) × ((j : ℕ) → j < i → slice_index_or found.now j None ≡ None)) }

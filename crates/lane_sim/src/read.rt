@@ -38,7 +38,7 @@ pub fn read_stimulus(
     Ok(Stimulus::new(sequences))
 }
 
-// Takes a line.
+/// Takes a line.
 fn read_line(
     alloc: Global,
     sequences: &mut Vec<InputSequence>,
@@ -62,7 +62,7 @@ fn read_line(
     }
 }
 
-// Begins a sequence.
+/// Begins a sequence.
 fn begin_sequence(
     alloc: Global,
     sequences: &mut Vec<InputSequence>,
@@ -86,7 +86,7 @@ fn begin_sequence(
     Ok(())
 }
 
-// Adds a step to the last sequence.
+/// Adds a step to the last sequence.
 fn add_step(
     alloc: Global,
     sequences: &mut Vec<InputSequence>,
@@ -107,7 +107,7 @@ fn add_step(
     Ok(())
 }
 
-// The sequence with one more step.
+/// The sequence with one more step.
 fn longer(sequence: InputSequence, row: Sequence<bool>) -> Result<InputSequence, AllocError>
     ensures { IfOk result (λ more. more ≡ record { choice = sequence.choice; steps = sequence.steps ++ row ∷ [] }) }
 {
@@ -120,14 +120,14 @@ fn longer(sequence: InputSequence, row: Sequence<bool>) -> Result<InputSequence,
     })
 }
 
-// Whether each byte is 0 or 1.
+/// Whether each byte is 0 or 1.
 fn are_digits(bytes: &[u8]) -> bool
     ensures { result ≡ list_all is_digit bytes.now }
 {
     bytes.iter().all(|byte| *byte == b'0' || *byte == b'1')
 }
 
-// The values that digits spell.
+/// The values that digits spell.
 fn values(alloc: Global, digits: &[u8]) -> Result<Sequence<bool>, AllocError>
     ensures { IfOk result (λ row. row ≡ values_of digits.now) }
 {
@@ -151,7 +151,7 @@ fn next_line(bytes: &[u8]) -> Option<(&[u8], &[u8])>
     }
 }
 
-// Where the first newline stands.
+/// Where the first newline stands.
 fn newline_at(bytes: &[u8]) -> Option<usize>
     ensures { result ≡ position (λ b. b == 10) bytes.now }
 {

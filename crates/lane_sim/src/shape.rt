@@ -20,7 +20,7 @@ pub(crate) fn have_same_shape(a: &Circuit, b: &Circuit) -> bool
         && have_same_sizes(q.justice.as_slice(), p.justice.as_slice())
 }
 
-// Whether the lists have as many literals each.
+/// Whether the lists have as many literals each.
 fn have_same_sizes(a: &[Sequence<Lit>], b: &[Sequence<Lit>]) -> bool
     ensures { IsTrue result ↔ (map length a.now ≡ map length b.now) }
 {

@@ -1,4 +1,8 @@
 //! A table of lanes by variable: one step of a block.
+//!
+//! A table has a row for each variable, of 256 bits: bit k is that of sequence k of the block. The row of the constant is never
+//! written; those of the inputs are cleared and filled at each step, those of the gates written at each step, in order, since
+//! fan-ins come first; and those of the latches are written from their next literals once the step has been read.
 ghost use Rattle.std.specs.Prelude.{ℕ, ◌≡◌, ◌+◌, ◌<◌, ◌≤◌, ◌==◌, ◌&&◌, ◌||◌, false, [], length, All, IfOk, map};
 ghost use Rattle.std.specs.List.{slice_index_or};
 ghost use Rattle.aig_graph.specs.Graph.{IsGraph, variable, variables_end, first_latch, first_gate};
@@ -12,7 +16,7 @@ use crate::stimulus::InputSequence;
 use aig_graph::{Aig, Gate, Lit, NoMemory, Reset, Sequence};
 use std::alloc::Global;
 
-// The digit of each sequence for a free latch.
+/// The digit of each sequence for a free latch.
 fn choice_lanes(sequences: &[InputSequence], place: usize) -> Lanes
     requires { length sequences.now ≤ 256 }
     ensures { (k : ℕ) → k < 256 → lane result k ≡ choice_of (in_lane sequences.now k) place }
@@ -27,7 +31,7 @@ fn choice_lanes(sequences: &[InputSequence], place: usize) -> Lanes
     lanes
 }
 
-// Puts the digits of a step into a lane of the inputs, where there is none yet.
+/// Puts the digits of a step into a lane of the inputs, where there is none yet.
 fn load_row(table: &mut [Lanes], inputs: usize, row: &[bool], place: usize)
     requires inputs { inputs < length table.old }
     requires lane { place < 256 }
@@ -40,7 +44,7 @@ fn load_row(table: &mut [Lanes], inputs: usize, row: &[bool], place: usize)
     }
 }
 
-// Sets the inputs to false in each lane.
+/// Sets the inputs to false in each lane.
 fn clear_inputs(table: &mut [Lanes], inputs: usize)
     requires { inputs < length table.old }
     ensures cleared { (i k : ℕ) → i < inputs → k < 256 → held table.new (1 + i) k ≡ false }
@@ -69,7 +73,7 @@ pub(crate) fn load_inputs(table: &mut [Lanes], aig: &Aig, sequences: &[InputSequ
     }
 }
 
-// The AND of a gate's literals.
+/// The AND of a gate's literals.
 fn gate_lanes(table: &[Lanes], gate: Gate) -> Lanes
     requires first { variable gate.rhs0 < length table.now }
     requires second { variable gate.rhs1 < length table.now }
@@ -94,7 +98,7 @@ pub(crate) fn evaluate(table: &mut [Lanes], aig: &Aig)
     }
 }
 
-// The value of a literal.
+/// The value of a literal.
 fn literal_lanes(table: &[Lanes], lit: Lit) -> Lanes
     requires { variable lit < length table.now }
     ensures { (k : ℕ) → k < 256 → lane result k ≡ signed lit (held table.now (variable lit) k) }
@@ -135,7 +139,7 @@ pub(crate) fn advance(table: &mut [Lanes], next: &mut [Lanes], aig: &Aig)
     }
 }
 
-// What a latch holds at step 0, where it is the free latch with this place if it is free.
+/// What a latch holds at step 0, where it is the free latch with this place if it is free.
 fn opening_lanes(reset: Reset, sequences: &[InputSequence], place: usize) -> Lanes
     requires { length sequences.now ≤ 256 }
     ensures { (k : ℕ) → k < 256 → lane result k ≡ opening reset (choice_of (in_lane sequences.now k) place) }

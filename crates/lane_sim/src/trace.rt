@@ -72,7 +72,7 @@ impl Trace {
     }
 }
 
-// The rows of a block, and none of a block that there isn't.
+/// The rows of a block, and none of a block that there isn't.
 fn rows_of(blocks: &[Block], number: usize) -> &[Sequence<Lanes>]
     ensures { result.now ≡ slice_index_or blocks.now number [] }
 {
@@ -82,7 +82,7 @@ fn rows_of(blocks: &[Block], number: usize) -> &[Sequence<Lanes>]
     }
 }
 
-// The value at a place of a step of a lane that has this many steps.
+/// The value at a place of a step of a lane that has this many steps.
 fn value_in_block(
     rows: &[Sequence<Lanes>],
     lane: usize,
@@ -101,7 +101,7 @@ fn value_in_block(
     Some(lanes.get(lane))
 }
 
-// Puts literals at the end.
+/// Puts literals at the end.
 fn append(literals: &mut Vec<Lit>, more: &[Lit]) -> Result<(), NoMemory>
     ensures { OnOk result (literals.new.items ≡ literals.old.items ++ more.now) }
 {
@@ -126,7 +126,7 @@ pub(crate) fn collect_literals(alloc: Global, props: &Props) -> Result<Vec<Lit>,
     Ok(literals)
 }
 
-// The number of steps of each sequence.
+/// The number of steps of each sequence.
 fn lengths(alloc: Global, sequences: &[InputSequence]) -> Result<Vec<usize>, NoMemory>
     ensures { IfOk result (λ lengths. lengths.items ≡ map (λ s. length s.steps) sequences.now) }
 {

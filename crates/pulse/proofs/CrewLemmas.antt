@@ -1,3 +1,4 @@
+-- What the workers of a phase leave in their parts, together.
 use Rattle.std.proofs.Common.{◌≡◌, ℕ, ◌+◌, ◌-◌, ◌<◌, ◌≤◌, true, false, List, length, slice_index, get_or, refl, arith, sym, ap, ◌∙◌, subst, inl, inr}
 use Rattle.flow_theory.specs.Flow.{pulse}
 use Rattle.frame_net.specs.FlowNet.{FlowNet, node_count, IsFlowNet}

@@ -1,3 +1,4 @@
+-- Reads and deliveries of a range of nodes, over the fields of a flow and of pushes.
 use Rattle.std.proofs.Common.{◌≡◌, ℕ, ◌<◌, Bool, false, List, length, slice_index_or, refl, sym, ap, ◌∙◌, subst}
 use Rattle.frame_net.specs.FlowNet.{FlowNet, node_count, IsFlowNet}
 use Rattle.flow_part.specs.declared.parts.FlowPart.{FlowPart}

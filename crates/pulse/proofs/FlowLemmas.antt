@@ -1,3 +1,4 @@
+-- The fields of a flow and of pushes that aren't spent.
 use Rattle.std.proofs.Common.{◌≡◌, ℕ, Bool, false, true, List, length, sym, ap, ◌∙◌, subst}
 use Rattle.std.proofs.lemmas.Bool.{false≢true}
 use Rattle.frame_net.specs.FlowNet.{FlowNet, node_count, IsFlowNet}

@@ -1,3 +1,4 @@
+-- Marks of the nodes of a range.
 use Rattle.std.proofs.Common.{◌≡◌, ℕ, ◌+◌, ◌<◌, ◌≤◌, nat_le, ◌&&◌, ◌||◌, Bool, true, false, List, length, get_or, slice_set, arith, refl, sym, ap, ◌∙◌, inl, inr, ◌≢◌, get_or-set_other, get_or-set_same}
 use Rattle.std.proofs.lemmas.Bool.{cases_lt, cases_eq, lt-ltb, le-leb, le-ltb, lt-leb}
 use Rattle.flow_whole.specs.Marks.{and_range}

@@ -1,3 +1,4 @@
+-- Phases over the fields of a flow and of pushes.
 use Rattle.std.proofs.Common.{◌≡◌, ℕ, ◌-◌, ◌^◌, min, Bool, true, false, List, length, arith, sym, ap, ◌∙◌, subst}
 use Rattle.frame_net.specs.FlowNet.{FlowNet, node_count, IsFlowNet}
 use Rattle.flow_part.specs.declared.parts.FlowPart.{FlowPart}

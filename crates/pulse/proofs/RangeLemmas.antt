@@ -1,3 +1,4 @@
+-- Ranges of parts, with and without what the parts hold.
 use Rattle.std.proofs.Common.{ℕ, List, [], ◌∷◌, map}
 use Rattle.frame_net.specs.FlowNet.{FlowNet}
 use Rattle.flow_part.specs.declared.parts.FlowPart.{FlowPart}

@@ -1,3 +1,4 @@
+-- The turn of the labels, and the start, over the fields of a flow.
 use Rattle.std.proofs.Common.{◌≡◌, ℕ, ◌<◌, Bool, false, List, length, slice_index, slice_index_or, refl, sym, ap, ◌∙◌, subst, arith}
 use Rattle.flow_theory.specs.Flow.{State, pulse, IsValid}
 use Rattle.flow_theory.proofs.Keeps.{next_valid}

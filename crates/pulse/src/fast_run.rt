@@ -1,4 +1,6 @@
-//! Pulses from the start until no node is active, with exact labels whenever they are worth their walk.
+//! Pulses from the start until no node is active, with exact labels whenever they are worth their walk: the global relabeling of
+//! Cherkassky and Goldberg (1997). A walk goes over all arcs; it is made at the start, and again once the rows walked since hold more
+//! than a quarter of the arcs.
 ghost use Rattle.std.specs.Prelude.{◌≡◌, ◌*◌, ◌<◌, ◌≤◌, ◌⊎◌, IfOk, OnOk, false, length};
 ghost use Rattle.frame_net.specs.FlowNet.{node_count};
 ghost use Rattle.flow_part.specs.Parts.{Agree};

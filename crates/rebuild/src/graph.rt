@@ -1,3 +1,6 @@
+//! The graph after a move. Latches: those that stay, in old order, and then one for each gate of the border, in gate order.
+//! Gates: those outside the set, in old order, and then the copies of the members, which may read any other gate. What each reads
+//! is in the plan.
 ghost use Rattle.std.specs.Prelude.{◌≡◌, ◌++◌, [], IfOk, OnOk, map};
 ghost use Rattle.aig_graph.specs.Graph.{variables_end, first_gate};
 ghost use Rattle.rebuild.specs.Moved.{latches_below, gates_below, copy_for, moved_graph};

@@ -1,3 +1,5 @@
+//! A closed set beside what decides which variables get a latch after the move: what is held, and what is read from outside the
+//! set. The ghost fields say so of the tables, so functions over a `MarkedSet` need no premise.
 ghost use Rattle.std.specs.Prelude.{◌≡◌, ◌<◌, ◌||◌, IfOk};
 ghost use Rattle.aig_graph.specs.Graph.{IsGraph, first_latch, first_gate, variables_end};
 ghost use Rattle.aig_graph.specs.Circuits.{IsNetlist};

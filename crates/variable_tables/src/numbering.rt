@@ -41,8 +41,8 @@ pub fn number_marks(alloc: Global, marks: &[bool], start: u32) -> Result<Vec<u32
     Ok(numbers)
 }
 
-/// By variable, from `first` on, its new number: those marked in `ahead` count up from `start`, others marked in `behind` from
-/// `next`, and the rest keep their own.
+/// By variable, from `first` on, its new number, for two groups of which the first comes ahead of the second: those marked in `ahead`
+/// count up from `start`, others marked in `behind` from `next`, and the rest keep their own.
 pub fn renumber(
     alloc: Global,
     first: u32,

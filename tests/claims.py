@@ -1,0 +1,83 @@
+"""Sizes and counts that documents claim, beside what the tree has."""
+import dataclasses
+import re
+import shutil
+import subprocess
+
+from tree import TOP, crates, is_of_tests, sources
+
+WORDS = 'no one two three four five six seven eight nine ten eleven twelve'.split()
+NUMBERS = {word: number for number, word in enumerate(WORDS)}
+
+
+@dataclasses.dataclass(frozen=True)
+class Claim:
+    """A text of a document, with a number or another value in its group, and what that has to be."""
+    document: str
+    text: str
+    value: object
+
+    def fault(self):
+        """What is wrong with it, if anything is."""
+        found = re.search(self.text, (TOP / self.document).read_text().replace('\n', ' '))
+        if not found:
+            return 'this text is gone'
+        shown = NUMBERS.get(found[1], found[1].replace(',', ''))
+        return '' if str(shown) == str(self.value) else f'{found[1]} in place of {self.value}'
+
+
+def constant(crate, name):
+    """The value of a constant of a crate's source."""
+    for path in sources(crate):
+        found = re.search(rf'const {name}: \w+ = ([^;]+);', path.read_text())
+        if found:
+            return eval(found[1].replace('_', ''), {'__builtins__': {}})
+    raise LookupError(f'{crate} has no constant {name}')
+
+
+def lines_of_source(crate):
+    """How many lines a crate's sources have, without its tests."""
+    return sum(len(path.read_text().splitlines()) for path in sources(crate) if not is_of_tests(path))
+
+
+def power(number):
+    """How a document writes a limit: a power of two, or one less."""
+    return f'2^{number.bit_length() - 1}' if number & (number - 1) == 0 else f'2^{number.bit_length()} - 1'
+
+
+def cases_of(part):
+    """How many cases have such a part."""
+    return sum(f'\n== {part} ' in path.read_text() for path in (TOP / 'tests' / 'cases').rglob('*.case'))
+
+
+def kit():
+    """The kit and its logic: those of the toolchain, where there is one, else those that the documents name in one place."""
+    if shutil.which('rt'):
+        return subprocess.run(['rt', 'version'], capture_output=True, text=True).stdout.strip()
+    return re.search(r'With `([^`]+)`', (TOP / 'docs' / 'PROVED.md').read_text())[1]
+
+
+def claims():
+    """All claims that are computed."""
+    greatest = constant('file_lines', 'GREATEST_VARIABLE')
+    return [
+        Claim('README.md', r'With `([^`]+)`', kit()),
+        Claim('docs/PROVED.md', r'With `([^`]+)`', kit()),
+        Claim('docs/PROVED.md', r'every beginning of (\w+) files', cases_of('beginnings')),
+        Claim('docs/FORMAT.md', r'M past (2\^28 - 1)', power(greatest)),
+        Claim('docs/FORMAT.md', r'J, F past (2\^\d+): `TooLarge`', power(constant('file_lines', 'MAX_PROPERTIES'))),
+        Claim('docs/FORMAT.md', r'sum of the sizes past (2\^\d+)', power(constant('ascii_sections', 'MAX_JUSTICE_LITERALS'))),
+        Claim('docs/FORMAT.md', r'sequence number (2\^\d+), from 0', power(constant('lane_sim', 'MAX_SEQUENCES'))),
+        Claim('docs/FORMAT.md', r'a number above (2\^\d+ - 1)', power(constant('certificate_files', 'MAX_NUMBER'))),
+        Claim('docs/DEFINITIONS.md', r'`MAX_VARIABLES` \((2\^\d+)\)', power(constant('aig_graph', 'MAX_VARIABLES'))),
+        Claim('docs/DECISIONS.md', r'at least (\d+), or a quarter of all', constant('pulse', 'MANY_ACTIVE')),
+        Claim('docs/DECISIONS.md', r'more than (\d+) arcs', constant('flow_part', 'LONG_ROW')),
+        Claim('docs/DECISIONS.md', r'below `(\d+) \* \(p', constant('variable_places', 'VARIABLES_A_PLACE')),
+        Claim('docs/DECISIONS.md', r'\* \(p \+ (\d+)\)`', constant('variable_places', 'SPARE')),
+    ]
+
+
+def faults_of_sizes():
+    """What is wrong with the size of a crate or of a file that ARCHITECTURE claims."""
+    limit = int(re.search(r'past some ([\d,]+) lines', (TOP / 'docs' / 'ARCHITECTURE.md').read_text())[1].replace(',', ''))
+    return [f'{crate} has {lines_of_source(crate)} lines' for crate in crates() if lines_of_source(crate) > limit]

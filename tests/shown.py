@@ -1,0 +1,198 @@
+"""Runs the commands that README.md and docs/TUTORIAL.md show, and compares what they print with what these say.
+
+A block of code is commands where its first word is a program; what is printed where the paragraph before it says 'prints'; and
+else the contents of the file that the paragraph before it names. Commands of programs that aren't installed are left out, and so
+are those after them that rest on their files."""
+import dataclasses
+import os
+import pathlib
+import re
+import shlex
+import shutil
+import subprocess
+import tempfile
+
+import pages
+from tree import TOP
+
+OWN = ('./fretime', 'fretime')
+OTHERS = ('yosys', 'berkeley-abc', 'sed')
+
+
+@dataclasses.dataclass
+class Ran:
+    """A command that was run: its exit status, and what it printed on standard output and standard error."""
+    status: int
+    out: str
+    err: str
+
+
+@dataclasses.dataclass(frozen=True)
+class Saying:
+    """A text of a document, and the run that it speaks of: its arguments, and its exit status."""
+    document: str
+    arguments: str
+    status: int
+    text: str
+
+
+SAYINGS = [
+    Saying('README.md', 'retime examples/refused.aag out.aag', 1, 'examples/refused.aag: DefinedTwice at 16'),
+    Saying('README.md', 'retime examples/two_latches.aag out.aag --keep none', 1, 'NoSuchName'),
+    Saying('README.md', 'retime missing.aag out.aag', 3, 'device'),
+    Saying('README.md', 'retime examples/two_latches.aag out.aag --workers 65', 2, '--workers'),
+    Saying('README.md', 'stat examples/two_latches.aag', 0, 'latches'),
+    Saying('README.md', 'stat examples/two_latches.aag', 0, 'free'),
+    *(Saying('README.md', f'{command} --help', 0, option) for command, options in
+      {'retime': ['--ascii', '--binary', '--workers', '--frames', '--keep'], 'convert': ['--ascii', '--binary']}.items()
+      for option in options),
+    Saying('docs/TUTORIAL.md', 'stat less.aig', 0, 'passable'),
+    Saying('docs/TUTORIAL.md', 'stat free.aig', 0, 'free 16'),
+    Saying('docs/TUTORIAL.md', 'stat free.aig', 0, 'passable 0'),
+    Saying('docs/TUTORIAL.md', 'retime free.aig less.aig', 0, 'latches 16 to 16'),
+    Saying('docs/TUTORIAL.md', 'retime zeroed.aig less.aig', 0, 'latches 16 to 1'),
+    Saying('docs/TUTORIAL.md', 'retime zinit.aig less.aig', 0, 'latches 17 to 17'),
+    Saying('docs/TUTORIAL.md', "retime --keep 'w[0]' named.aig less.aig", 0, 'frame 1: 16 to 5'),
+    Saying('docs/TUTORIAL.md', "retime --keep 'w[0]' named.aig less.aig", 0, 'latches 16 to 5'),
+]
+
+
+def is_command(line):
+    """Whether a line is a command that is run as it stands: a synopsis has its files in capitals, and to build takes too long."""
+    words = line.split('    #')[0].split()
+    return words[:1] != [] and words[0] in OWN + OTHERS and '--build' not in words and not any(word.isupper() for word in words)
+
+
+def is_commands(block):
+    return is_command(block.lines[0])
+
+
+def run(program, command, folder):
+    """A command in a folder, in which our program has the name that the documents give it."""
+    name, _, rest = command.split('    #')[0].partition(' ')
+    words = f'{shlex.quote(str(program)) if name in OWN else name} {rest}'
+    done = subprocess.run(['sh', '-c', words], cwd=folder, stdin=subprocess.DEVNULL, capture_output=True, text=True, timeout=120)
+    return Ran(done.returncode, done.stdout, done.stderr)
+
+
+def indented(block):
+    """A block as it stands in its document."""
+    return '\n'.join('    ' + line if line else '' for line in block.lines)
+
+
+def said_after(path, block, following):
+    """The text right after a block, up to the next block that is commands."""
+    text = path.read_text()
+    start = text.index(indented(block)) + len(indented(block))
+    end = text.index(indented(following), start) if following else len(text)
+    return text[start:end].strip('\n')
+
+
+def printed_words(text):
+    """What stands in backquotes in a text's first sentence, where that is 'prints ..', up to what it says of the exit status."""
+    sentence = re.match(r'prints[ ,][^\n].*?(?:\.\s|[:;]\s|$)', text, re.S)
+    return pages.in_backquotes(sentence[0].replace('\n', ' ').split('with exit')[0]) if sentence else []
+
+
+# What the tutorial says of other forms of its design: how the file is written, from which design, and after which other command.
+VARIANTS = {
+    'named.aig': ('-symbols', '', ''),
+    'free.aig': ('', 'free', ''),
+    'zeroed.aig': ('', 'free', 'setundef -init -zero'),
+    'zinit.aig': ('-zinit', 'free', ''),
+}
+
+
+def write_variants(folder):
+    """Writes the circuits that the tutorial speaks of without a command for all of it."""
+    script = [line for line in (folder / 'to_aiger.ys').read_text().splitlines() if line and not line.startswith('#')]
+    design = (folder / 'match.v').read_text()
+    (folder / 'free.v').write_text(re.sub(r" = 8'h\w+;", ';', design))
+    for name, (options, source, before) in VARIANTS.items():
+        commands = [f'read_verilog {source or "match"}.v', *script[1:-1], before, f'write_aiger {options} {name}']
+        subprocess.run(['yosys', '-q', '-p', '; '.join(filter(None, commands))], cwd=folder, check=True)
+
+
+def folder_of(path):
+    """A copy of the files that a document's commands work on."""
+    folder = pathlib.Path(tempfile.mkdtemp())
+    if path.name == 'TUTORIAL.md':
+        shutil.copytree(TOP / 'examples' / 'match', folder, dirs_exist_ok=True)
+        if shutil.which('yosys'):
+            write_variants(folder)
+    else:
+        shutil.copytree(TOP / 'examples', folder / 'examples')
+    return folder
+
+
+def can_run(command, folder):
+    """Whether the programs that a command needs, and the files that it reads, are there."""
+    words = command.split('    #')[0].split()
+    if words[0] in OWN:
+        files = [word for word in words if re.search(r'\.a[ai]g$', word)]
+        return all((folder / file).exists() for file in files[:1])
+    return shutil.which(words[0]) is not None and (words[0] != 'sed' or (folder / 'match.map').exists())
+
+
+def faults_of_block(program, path, folder, shown, number):
+    """Runs the commands of a block; the faults of what the document says of them."""
+    block = shown[number]
+    commands = [line for line in block.lines if is_command(line)]
+    if not all(can_run(command, folder) for command in commands):
+        yield 'left out', commands[0]
+        return
+    ran = [run(program, command, folder) for command in commands]
+    following = next((other for other in shown[number + 1:] if is_commands(other)), None)
+    for command, done in zip(commands, ran):
+        yield f'{path.name}: {command}', '' if done.status == 0 else f'status {done.status}: {done.err}'
+    for words in printed_words(said_after(path, block, following)):
+        there = any(words in ' '.join(done.out.split()) for done in ran)
+        yield f'{path.name}: {commands[-1]} prints {words}', '' if there else ran[-1].out
+    for other in shown[number + 1:]:
+        if other is following:
+            break
+        if re.search(r'\bprints\b', other.paragraph):
+            there = '\n'.join(other.lines) + '\n' in [done.out for done in ran]
+            yield f'{path.name}: what {commands[0]} prints', '' if there else repr(ran[0].out)
+
+
+def faults_of_files(path, folder, shown):
+    """Blocks that show a file: each of their lines stands in it, in this order."""
+    for block in shown:
+        name = next((word for word in pages.in_backquotes(block.paragraph) if (folder / word).is_file()), None)
+        if name and not is_commands(block) and not re.search(r'\bprints\b', block.paragraph):
+            lines = iter((folder / name).read_text().splitlines())
+            gone = [line for line in block.lines if line and line not in lines]
+            yield f'{path.name}: {name}', '; '.join(gone)
+
+
+def faults_of_saying(program, saying, path, folder):
+    """Whether the document has the text, and the run prints it."""
+    command = 'fretime ' + saying.arguments
+    if not can_run(command, folder) and saying.status == 0:
+        yield 'left out', command
+        return
+    ran = run(program, command, folder)
+    stands = all(saying.text in ' '.join(text.split()) for text in (path.read_text(), ran.out + ran.err))
+    wrong = '' if stands and ran.status == saying.status else f'status {ran.status}: {ran.out}{ran.err}'
+    yield f'{path.name}: {command}: {saying.text}', wrong
+
+
+def faults_of_commands(program):
+    """Each command and printed text of the two documents, with what is wrong; or 'left out' with a command."""
+    for path in (TOP / 'README.md', TOP / 'docs' / 'TUTORIAL.md'):
+        folder = folder_of(path)
+        shown = pages.blocks(path, is_command)
+        yield from faults_of_files(path, folder, shown)
+        for number, block in enumerate(shown):
+            if is_commands(block):
+                yield from faults_of_block(program, path, folder, shown, number)
+        for saying in SAYINGS:
+            if TOP / saying.document == path:
+                yield from faults_of_saying(program, saying, path, folder)
+        shutil.rmtree(folder)
+
+
+def program_of(path):
+    """The program that a path names, from wherever the commands are run."""
+    return pathlib.Path(os.path.abspath(path))

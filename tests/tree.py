@@ -1,0 +1,143 @@
+"""What the repository has, as text: the map of crates.txt, the functions that a crate exports with the words that their clauses
+cite, its words, and its tests."""
+import dataclasses
+import functools
+import pathlib
+import re
+
+TOP = pathlib.Path(__file__).resolve().parent.parent
+CRATES = TOP / 'crates'
+
+
+@dataclasses.dataclass(frozen=True)
+class Function:
+    """An exported function: its crate, its file, its name, and the words of definitions that its clauses cite,
+    each with its crate."""
+    crate: str
+    path: pathlib.Path
+    name: str
+    cites: frozenset
+
+
+def map_of_crates():
+    """The headings of crates.txt, each with its crates, and the names that a crate's line lists."""
+    headings, stands_on = [], {}
+    for line in (TOP / 'crates.txt').read_text().splitlines():
+        row = re.match(r'(\w+)[^:#]*:(.*)', line)
+        if row:
+            stands_on[row[1]] = row[2].split()
+            headings[-1][1].append(row[1])
+        elif re.match(r'# [^:]+$', line):
+            headings.append((line[2:], []))
+    return headings, stands_on
+
+
+def crates():
+    """The crates of crates.txt, in its order."""
+    return list(map_of_crates()[1])
+
+
+def documents():
+    """The documents of the repository."""
+    return sorted([TOP / 'README.md', *(TOP / 'docs').glob('*.md'), *(TOP / 'bench').glob('*.md'), *(TOP / 'tests').glob('*.md')])
+
+
+def sources(crate, suffix='.rt', folders=('src',)):
+    """The files of a crate with this suffix, in these of its folders."""
+    return [path for folder in folders for path in sorted((CRATES / crate / folder).rglob(f'*{suffix}'))]
+
+
+def is_of_tests(path):
+    """Whether a source is compiled for tests alone."""
+    return 'tests' in path.parts or path.stem.endswith('tests')
+
+
+def names_of_files(crate, known):
+    """The libraries that the files of a crate name: as `Rattle.NAME.`, or as `NAME::` where it has no such module."""
+    named, modules = set(), {path.stem for path in (CRATES / crate / 'src').glob('*.rt')}
+    for suffix in ('.rt', '.antt'):
+        for path in sources(crate, suffix, ('src', 'specs', 'proofs')):
+            code = re.sub(r'(//|--).*', '', path.read_text())
+            named.update(re.findall(r'\bRattle\.(\w+)\.', code))
+            if suffix == '.rt':
+                named.update(re.findall(r'(?<![\w:.])(?:::)?([a-z][a-z0-9_]*)::', code))
+    return {name for name in named & known if name not in modules} - {crate}
+
+
+def exported_names(crate):
+    """What a crate's lib hands on of its own modules, by name."""
+    path = CRATES / crate / 'src' / 'lib.rt'
+    found = set()
+    for _, names, name in re.findall(r'^pub use (\w+)::(?:\{([^}]*)\}|(\w+));', path.read_text(), re.M) if path.exists() else ():
+        found.update(word.strip() for word in (names or name).split(','))
+    return found - {''}
+
+
+def imported_words(text):
+    """The words of our own definitions that a source imports, each with its crate."""
+    words = {}
+    for crate, module, names in re.findall(r'ghost use Rattle\.(\w+)\.specs\.([\w.]+)\.\{([^}]*)\}', text):
+        if (CRATES / crate).is_dir() and not module.startswith('declared'):
+            words.update({name.strip(): crate for name in names.split(',')})
+    return words
+
+
+def cited(clauses, words):
+    """Those of the words that stand in the clauses, each with its crate."""
+    return frozenset((words[word], word) for word in set(re.findall(r"(?<![\w'.])[A-Za-z_][\w'-]*", clauses)) & set(words))
+
+
+def functions_of(crate, path):
+    """The exported functions of a source: those at its top that the lib hands on or has, and the methods of types and traits that
+    it hands on."""
+    exported, text = exported_names(crate), path.read_text()
+    words, owner, of_trait = imported_words(text), None, False
+    lines = text.splitlines()
+    for number, line in enumerate(lines):
+        block = re.match(r'(?:pub )?(impl|trait)\b(?:<[^{]*?>)? ?(?:(\w+)(?:<.*?>)? for )?(\w+)', line)
+        if block:
+            owner, of_trait = block[2] or block[3], block[1] == 'trait'
+        elif line == '}':
+            owner, of_trait = None, False
+        head = re.match(r'( *)(pub )?(?:const )?fn (\w+)', line)
+        if head and (head[2] or of_trait) and (path.stem == 'lib' or (owner or head[3]) in exported):
+            yield Function(crate, path, head[3], cited(clauses_after(lines, number, head[1]), words))
+
+
+def clauses_after(lines, number, indent):
+    """The clauses of the function whose head begins at this line."""
+    found = []
+    for line in lines[number + 1:]:
+        if line in (f'{indent}{{', f'{indent}}}', f'{indent}{{}}') or line.strip().startswith('///'):
+            break
+        if re.match(r' *(requires|ensures)\b', line):
+            found.append(re.sub(r'^ *(requires|ensures) *\w*', '', line))
+        elif found:
+            found.append(line)
+    return '\n'.join(found)
+
+
+@functools.cache
+def exported_functions():
+    """All functions that crates export, but for code of tests."""
+    return [function for crate in crates() for path in sources(crate) if not is_of_tests(path)
+            for function in functions_of(crate, path)]
+
+
+def crates_without_a_test():
+    """The crates no source of which has a test."""
+    return [crate for crate in crates() if not any('#[test]' in path.read_text() for path in sources(crate))]
+
+
+def words_of_files():
+    """Every word of the tree's files but the documents, and of the paths of all files."""
+    words = set()
+    for path in TOP.rglob('*'):
+        place = path.relative_to(TOP)
+        if path.is_file() and not {'.git', 'out', 'release'} & set(place.parts):
+            words.update(re.findall(r'\w+', str(place)))
+            if path.suffix not in ('.md', '.aig', '.pyc'):
+                text = path.read_bytes().decode(errors='ignore')
+                words.update(re.findall(r"[A-Za-z_][\w'-]*", text))
+                words.update(re.findall(r'[A-Za-z_]\w*', text))
+    return words
