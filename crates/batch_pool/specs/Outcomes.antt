@@ -1,0 +1,45 @@
+-- What becomes of the bytes of a file by options.
+use Rattle.std.specs.Prelude.{ℕ, ◌≡◌, ⊤, true, List, Some, Ok, Err, length}
+use Rattle.file_words.specs.declared.fault.ReadError.{ReadError}
+use Rattle.file_words.specs.Codes.{is_fault_of_bytes}
+use Rattle.aig_graph.specs.Circuits.{Netlist}
+use Rattle.aig_graph.specs.Keep.{first_missing}
+use Rattle.spellings.specs.Spellings.{spelling_of, read_any}
+use Rattle.aig_binary.specs.declared.reading.SpeltCircuit.{SpeltCircuit}
+use Rattle.retimed_circuits.specs.declared.report.Retimed.{Retimed}
+use Rattle.frames.specs.declared.options.Options.{Options}
+use Rattle.frames.specs.Named.{names_in}
+use Rattle.frames.specs.Answering.{IsAnswer, ReadsBack, text_for}
+use Rattle.batch_pool.specs.declared.job.Outcome.{Outcome}
+use Rattle.batch_pool.specs.declared.job.Outcome.TheVariants.{Done, Refused, NoMemory, NoSuchName}
+
+-- the bytes are those of a circuit in a spelling, and this is its text retimed, which is read as the retimed circuit
+pub record IsDone (bytes : List ℕ) (options : Options) (text : List ℕ) (before after frames : ℕ) : Type 0 where
+  pub spelt : SpeltCircuit
+  pub circuit : read_any bytes ≡ Ok spelt.circuit
+  pub spelling : spelling_of bytes ≡ Some spelt.spelling
+  pub retimed : Retimed
+  pub answer : IsAnswer options spelt retimed
+  pub text_is : text ≡ text_for options spelt retimed
+  pub reads_back : ReadsBack options spelt retimed
+  pub before_is : before ≡ length spelt.circuit.aig.latches
+  pub after_is : after ≡ length retimed.circuit.aig.latches
+  pub frames_is : frames ≡ length retimed.frames
+
+-- the bytes are no circuit, and this is their first fault
+pub record IsRefused (bytes : List ℕ) (fault : ReadError) : Type 0 where
+  pub read : read_any bytes ≡ Err fault
+  pub of_bytes : is_fault_of_bytes fault ≡ true
+
+-- the bytes are those of a circuit, and the name at this place is the first that is that of no latch
+pub record IsUnnamed (bytes : List ℕ) (options : Options) (place : ℕ) : Type 0 where
+  pub circuit : Netlist
+  pub read : read_any bytes ≡ Ok circuit
+  pub missing : first_missing circuit.symbols.latches (names_in options) ≡ Some place
+
+-- what becomes of the bytes of a file; want of memory says nothing of them
+abbrev pub IsOutcome : List ℕ → Options → Outcome → Type 0
+IsOutcome bytes options (Done text before after frames) = IsDone bytes options text.items before after frames
+IsOutcome bytes options (Refused fault) = IsRefused bytes fault
+IsOutcome bytes options NoMemory = ⊤
+IsOutcome bytes options (NoSuchName place) = IsUnnamed bytes options place

@@ -1,0 +1,39 @@
+ghost use Rattle.std.specs.Prelude.{◌≡◌, ℕ, ◌<◌, IfOk, length, slice_index_or};
+ghost use Rattle.batch_pool.specs.declared.job.Job.{Job};
+ghost use Rattle.batch_pool.specs.declared.job.Outcome.{Outcome};
+ghost use Rattle.batch_pool.specs.Outcomes.{IsOutcome};
+
+use crate::error::BatchError;
+use crate::job::{Job, Outcome, retime_file};
+use frames::Options;
+use job_pool::run_jobs;
+use pulse::{Crew, PhaseGate};
+use std::alloc::Global;
+use std::thread::Threads;
+
+/// Retimes the bytes of each job by the options, and returns what became of them in the order of the jobs.
+///
+/// The workers of the crew draw the jobs one at a time, and each runs its jobs on its own thread. Each worker passes phase 0 of the
+/// gate before its first draw and leaves it after its last; it passes phase `1 + k` before it runs job k, from 0, and leaves it
+/// after that. Phases are numbered modulo `2^32`.
+///
+/// # Errors
+///
+/// `NoMemory` where memory for the list is refused; memory that is refused to a job is the outcome of that job alone.
+pub fn run_batch<G: PhaseGate>(
+    rt: &(impl Threads + Sync),
+    alloc: Global,
+    jobs: &[Job],
+    options: &Options,
+    crew: &Crew<G>,
+) -> Result<Vec<Outcome>, BatchError>
+    ensures len { IfOk result (λ outcomes. length outcomes.items ≡ length jobs.now) }
+    ensures each { IfOk result (λ outcomes. (k : ℕ) (job : Job) (outcome : Outcome) → k < length jobs.now → IsOutcome (slice_index_or jobs.now k job).bytes.items options.now (slice_index_or outcomes.items k outcome)) }
+{
+    let retime = |number: u64| -> Outcome
+        requires { number < length jobs.now }
+        ensures { (job : Job) → IsOutcome (slice_index_or jobs.entry.now number job).bytes.items options.entry.now result }
+    { retime_file(rt, alloc, jobs[number as usize].bytes.as_slice(), options) };
+    let outcomes = run_jobs(rt, alloc, jobs.len() as u64, &retime, crew)?;
+    Ok(outcomes)
+}

@@ -1,0 +1,100 @@
+//! A file of a batch, and what becomes of it.
+ghost use Rattle.std.specs.Prelude.{◌≡◌, ◌<◌, ◌^◌, length};
+ghost use Rattle.batch_pool.specs.declared.job.Outcome.TheVariants.{Done};
+ghost use Rattle.batch_pool.specs.Outcomes.{IsOutcome};
+ghost use Rattle.batch_pool.specs.Refusals.{of_fault, of_error};
+
+use counted_io::Counted;
+use file_words::ReadError;
+use frames::{BytesError, Options, RetimeError, Retimed, retime_bytes};
+use pulse::{Crew, OpenGate};
+use std::alloc::Global;
+use std::thread::Threads;
+
+/// A file to be retimed.
+#[derive(Drop)]
+pub struct Job {
+    /// The bytes of a circuit in either spelling.
+    pub bytes: Vec<u8>,
+}
+
+/// What became of a file.
+#[derive(Drop)]
+pub enum Outcome {
+    /// The circuit was retimed.
+    Done {
+        /// The text of the retimed circuit.
+        bytes: Vec<u8>,
+        /// How many latches the circuit that was read has.
+        before: u32,
+        /// How many latches the retimed circuit has.
+        after: u32,
+        /// How many frames were taken.
+        frames: u32,
+    },
+    /// The bytes are no circuit.
+    Refused(ReadError),
+    /// Memory for this file was refused.
+    NoMemory,
+    /// The name at this place, from 0, of those whose latches are to be held is the first that no latch has.
+    NoSuchName(usize),
+}
+
+/// The outcome of a circuit that was retimed, and its text.
+fn done(retimed: Retimed, bytes: Vec<u8>) -> Outcome
+    requires { length retimed.frames < 2 ^ 32 }
+    ensures { result ≡ Done bytes retimed.read_latches (length retimed.circuit.aig.latches) (length retimed.frames) }
+{
+    let before = retimed.read_latches;
+    let after = retimed.circuit.aig().latches().len() as u32;
+    let frames = retimed.frames.as_slice().len() as u32;
+    drop(retimed);
+    Outcome::Done {
+        bytes,
+        before,
+        after,
+        frames,
+    }
+}
+
+/// The outcome of bytes in memory that were not read as a circuit. Reads of them don't fail.
+fn of_fault(fault: ReadError) -> Outcome
+    ensures { result ≡ of_fault fault }
+{
+    match fault {
+        ReadError::NoMemory | ReadError::Device => Outcome::NoMemory,
+        fault => Outcome::Refused(fault),
+    }
+}
+
+/// The outcome of bytes in memory that were not retimed, or whose text was not written into memory: a write there fails only where
+/// memory is refused.
+fn of_error(error: BytesError) -> Outcome
+    ensures { result ≡ of_error error }
+{
+    match error {
+        BytesError::Read(fault) => of_fault(fault),
+        BytesError::Retime(RetimeError::NoMemory) => Outcome::NoMemory,
+        BytesError::Retime(RetimeError::NoSuchName(place)) => Outcome::NoSuchName(place),
+        BytesError::Write(_) => Outcome::NoMemory,
+    }
+}
+
+/// Retimes the bytes of a file by one worker.
+pub(crate) fn retime_file<R: Threads + Sync>(
+    rt: &R,
+    alloc: Global,
+    bytes: &[u8],
+    options: &Options,
+) -> Outcome
+    ensures { IsOutcome bytes.now options.now result }
+{
+    let _max_frames = options.max_frames;
+    let mut reader = Counted::new(bytes);
+    let mut writer = Counted::new(Vec::new(alloc));
+    let crew = Crew::new(1, OpenGate);
+    match retime_bytes(rt, alloc, &mut reader, &mut writer, options, &crew) {
+        Ok(retimed) => done(retimed, writer.into_inner()),
+        Err(error) => of_error(error),
+    }
+}

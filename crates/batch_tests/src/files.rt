@@ -1,0 +1,45 @@
+//! Worked files and their answers.
+use batch_pool::Job;
+use frames::Options;
+use std::alloc::{AllocError, Global};
+
+/// A latch after each of two inputs, and the gate of the latches; and its answer.
+pub(crate) const PAIR: &[u8] = b"aag 5 2 2 1 1\n2\n4\n6 2\n8 4\n10\n10 6 8\n";
+
+pub(crate) const PAIR_ANSWER: &[u8] = b"aag 4 2 1 1 1\n2\n4\n6 8\n6\n8 4 2\n";
+
+/// The same, with the gate of the negated latches.
+const NEGATED: &[u8] = b"aag 5 2 2 1 1\n2\n4\n6 2\n8 4\n10\n10 7 9\n";
+
+pub(crate) const NEGATED_ANSWER: &[u8] = b"aag 4 2 1 1 1\n2\n4\n6 8 1\n6\n8 5 3\n";
+
+/// A gate that reads itself.
+const CYCLIC: &[u8] = b"aag 1 0 0 1 1\n2\n2 2 3\n";
+
+/// Two latches in a row after each of two inputs, and the gate of the last ones.
+const CHAINS: &[u8] = b"aag 7 2 4 1 1\n2\n4\n6 2\n8 6\n10 4\n12 10\n14\n14 8 12\n";
+
+pub(crate) const CHAINS_ANSWER: &[u8] = b"aag 5 2 2 1 1\n2\n4\n6 8\n8 10\n6\n10 4 2\n";
+
+fn job(alloc: Global, text: &[u8]) -> Result<Job, AllocError> {
+    let bytes = Vec::from_slice(alloc, text)?;
+    Ok(Job { bytes })
+}
+
+/// Five files, of which the third is refused.
+pub(crate) fn five_files(alloc: Global) -> Result<Vec<Job>, AllocError> {
+    let mut jobs = Vec::new(alloc);
+    for text in [PAIR, NEGATED, CYCLIC, PAIR, CHAINS] {
+        jobs.push(job(alloc, text)?)?;
+    }
+    Ok(jobs)
+}
+
+/// As many frames as can be, no latch held, each text in the spelling of its file.
+pub(crate) fn defaults(alloc: Global) -> Options {
+    Options {
+        spelling: None,
+        max_frames: 1 << 28,
+        keep: Vec::new(alloc),
+    }
+}

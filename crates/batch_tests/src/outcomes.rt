@@ -1,0 +1,93 @@
+//! What becomes of worked files, whatever the number of workers.
+ghost use Rattle.std.specs.Prelude.{◌<◌, ◌≤◌};
+
+use crate::files::{CHAINS_ANSWER, NEGATED_ANSWER, PAIR_ANSWER, defaults, five_files};
+use batch_pool::{Job, Outcome, run_batch};
+use file_words::ReadError;
+use frames::Options;
+use pulse::{Crew, OpenGate};
+use std::alloc::Global;
+use std::test::Fail;
+use std::thread::Threads;
+
+/// Whether the file was retimed to this text, from so many latches to so many.
+fn is_done(outcome: &Outcome, text: &[u8], from: u32, to: u32) -> bool {
+    match outcome {
+        Outcome::Done {
+            bytes,
+            before,
+            after,
+            frames: _,
+        } => bytes.as_slice() == text && *before == from && *after == to,
+        _ => false,
+    }
+}
+
+fn is_cyclic(outcome: &Outcome) -> bool {
+    match outcome {
+        Outcome::Refused(fault) => *fault == ReadError::Cycle,
+        _ => false,
+    }
+}
+
+/// Whether these are the outcomes of the five files, in their order.
+pub(crate) fn are_answers(outcomes: &[Outcome]) -> bool {
+    outcomes.len() == 5
+        && is_done(&outcomes[0], PAIR_ANSWER, 2, 1)
+        && is_done(&outcomes[1], NEGATED_ANSWER, 2, 1)
+        && is_cyclic(&outcomes[2])
+        && is_done(&outcomes[3], PAIR_ANSWER, 2, 1)
+        && is_done(&outcomes[4], CHAINS_ANSWER, 4, 2)
+}
+
+/// Whether so many workers give each of the five files its outcome.
+fn gives_answers<R: Threads + Sync>(
+    rt: &R,
+    alloc: Global,
+    jobs: &[Job],
+    options: &Options,
+    workers: u32,
+) -> bool
+    requires some { 0 < workers }
+    requires few { workers ≤ 64 }
+{
+    let crew = Crew::new(workers, OpenGate);
+    match run_batch(rt, alloc, jobs, options, &crew) {
+        Ok(outcomes) => are_answers(outcomes.as_slice()),
+        Err(_) => false,
+    }
+}
+
+fn gives_answers_by_all_crews<R: Threads + Sync>(rt: &R, alloc: Global, jobs: &[Job]) -> bool {
+    let options = defaults(alloc);
+    let one = gives_answers(rt, alloc, jobs, &options, 1);
+    let two = gives_answers(rt, alloc, jobs, &options, 2);
+    let seven = gives_answers(rt, alloc, jobs, &options, 7);
+    let many = gives_answers(rt, alloc, jobs, &options, 64);
+    one && two && seven && many
+}
+
+fn gives_no_outcome<R: Threads + Sync>(rt: &R, alloc: Global, workers: u32) -> bool
+    requires some { 0 < workers }
+    requires few { workers ≤ 64 }
+{
+    let options = defaults(alloc);
+    let crew = Crew::new(workers, OpenGate);
+    match run_batch(rt, alloc, &[], &options, &crew) {
+        Ok(outcomes) => outcomes.is_empty(),
+        Err(_) => false,
+    }
+}
+
+#[test]
+fn gives_each_file_its_outcome(rt: HostRuntime) -> Result<(), Fail> {
+    let jobs = five_files(rt.alloc())?;
+    assert!(rt; gives_answers_by_all_crews(&rt, rt.alloc(), jobs.as_slice()));
+    Ok(())
+}
+
+#[test]
+fn runs_no_file(rt: HostRuntime) -> Result<(), Fail> {
+    assert!(rt; gives_no_outcome(&rt, rt.alloc(), 64));
+    Ok(())
+}

@@ -1,0 +1,4 @@
+pub mod Counting
+pub mod Keeps
+pub mod Gathering
+mod CounterLaw

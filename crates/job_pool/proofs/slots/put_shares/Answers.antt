@@ -1,0 +1,33 @@
+use Rattle.std.proofs.Common.{List, All, IfOk, Result, arith, sym, subst, ◌∙◌}
+use Rattle.variable_tables.specs.declared.memory.NoMemory.{NoMemory}
+use Rattle.draws.specs.declared.draws.Drawer.{Drawer}
+use Rattle.draws.specs.Drawing.{IsDrawerOf, IsDone, jobs_of}
+use Rattle.draws.proofs.Gathering.{last_of_all, front_of_all}
+use Rattle.job_pool.specs.declared.share.Share.{Share}
+use Rattle.job_pool.specs.Sharing.{IsShare}
+use Rattle.job_pool.proofs.Sharing.{all_snoc, share_covers}
+use Rattle.job_pool.proofs.slots.put_shares.Goals as goal
+
+pub loop-next-smaller : goal.loop-next-smaller
+loop-next-smaller g c = omega (arith, c.in-Some.ensures.len)
+
+pub loop-next-preserved : goal.loop-next-preserved
+loop-next-preserved g c =
+    let A : Type 0 = Result (Share g.row.X.Denot) NoMemory in
+    let P : A → Type 0 = λ s. IfOk s (IsShare (goal.F-post g c.args.run.now) c.args.draws.now) in
+    let inv = c.loop-next.invariant in
+    let rest = c.pop.new.self.items in
+    let d = c.in_ok-drawer.field-0.drawer in
+    let all = subst (λ (l : List A). All P l) c.in-Some.ensures.items inv.2 in
+    let one = subst P c.in_ok-drawer.was (last_of_all P rest c.in-Some.next all) in
+    let pushed = c.push_reserved.ensures.items in (
+      c.put_outcomes.ensures.len ∙ inv.0,
+      c.put_outcomes.ensures.slots,
+      front_of_all P rest c.in-Some.next all,
+      omega (arith, inv.3, c.in-Some.ensures.len, c.push_reserved.ensures.len),
+      omega (arith, inv.4, c.push_reserved.ensures.capacity),
+      subst (λ (l : List Drawer). All (IsDrawerOf c.args.draws.now) l) (sym pushed) (all_snoc (IsDrawerOf c.args.draws.now) c.loop-next.back.items d inv.5 one.mine),
+      subst (λ (l : List Drawer). All (IsDone c.args.draws.now) l) (sym pushed) (all_snoc (IsDone c.args.draws.now) c.loop-next.back.items d inv.6 one.done),
+      share_covers (jobs_of c.args.draws.now) c.loop-next.slots.items c.put_outcomes.new.slots.items c.loop-next.back.items c.push_reserved.new.self.items d c.in_ok-drawer.field-0.done.items pushed
+          one.numbered c.put_outcomes.ensures.filled inv.7,
+    )
