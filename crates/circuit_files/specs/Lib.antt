@@ -1,2 +1,4 @@
 pub mod Codes
 pub mod Outcomes
+pub mod Reading
+pub mod LazyFiles

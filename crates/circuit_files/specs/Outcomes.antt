@@ -4,6 +4,8 @@ use Rattle.std.specs.Borrow.{Bor}
 use Rattle.counted_io.specs.Output.{Output}
 use Rattle.file_words.specs.declared.fault.ReadError.{ReadError}
 use Rattle.file_words.specs.declared.fault.ReadError.TheVariants as reading
+use Rattle.counted_io.specs.declared.reading.ReadAllError.{ReadAllError}
+use Rattle.counted_io.specs.declared.reading.ReadAllError.TheVariants as whole
 use Rattle.lane_sim.specs.declared.fault.StimError.{StimError}
 use Rattle.lane_sim.specs.declared.fault.StimError.TheVariants as stimuli
 use Rattle.circuit_files.specs.declared.outcome.Outcome.{Outcome}
@@ -23,6 +25,10 @@ abbrev pub failure_of_reading : ReadError → Bor (List ℕ) → Failure
 failure_of_reading reading.NoMemory path = fails.Memory
 failure_of_reading reading.Device path = fails.Device path
 failure_of_reading fault path = fails.Refused path fault
+
+abbrev pub failure_of_bytes : ReadAllError → Bor (List ℕ) → Failure
+failure_of_bytes whole.NoMemory path = fails.Memory
+failure_of_bytes whole.Device path = fails.Device path
 
 abbrev pub failure_of_stimulus : StimError → Bor (List ℕ) → Failure
 failure_of_stimulus stimuli.NoMemory path = fails.Memory

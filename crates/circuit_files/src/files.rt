@@ -1,10 +1,13 @@
 //! Circuits and stimuli of files.
-ghost use Rattle.std.specs.Prelude.{[]};
+ghost use Rattle.std.specs.Prelude.{[], IfErr, IfOk};
+ghost use Rattle.counted_io.specs.Input.{ReadsAll};
+ghost use Rattle.aig_binary.specs.Ending.{IsReadError, Spells};
+ghost use Rattle.circuit_files.specs.Reading.{IsBytesFailure, IsCircuitFailure, IsStimulusOf};
 
 use crate::outcome::Failure;
 use aig_binary::{AnyReader, CircuitReader, SpeltCircuit, read_circuit};
 use aig_graph::Circuit;
-use counted_io::{Counted, CountedRead, ReadAllError, read_all};
+use counted_io::{Counted, CountedRead, read_all};
 use file_words::ReadError;
 use lane_sim::{Stimulus, read_stimulus};
 use std::alloc::Global;
@@ -17,13 +20,25 @@ fn circuit_by<R: CountedRead, C: CircuitReader + Drop>(
     mut circuits: C,
 ) -> Result<SpeltCircuit, ReadError>
     requires { C.holds circuits [] }
+    ensures circuit { IfOk result (Spells (R.input reader.old)) }
+    ensures err { IfErr result (IsReadError (R.input reader.old) (R.input reader.new)) }
 {
     read_circuit(reader, &mut circuits)
 }
 
-/// The circuit of a reader's bytes, of either spelling.
-fn circuit_of<R: CountedRead>(alloc: Global, reader: &mut R) -> Result<SpeltCircuit, ReadError> {
-    circuit_by(reader, AnyReader::new(alloc))
+/// The circuit of a reader's bytes, of either spelling; `path` is their file's.
+fn circuit_of<'a, R: CountedRead>(
+    alloc: Global,
+    reader: &mut R,
+    path: &'a str,
+) -> Result<SpeltCircuit, Failure<'a>>
+    ensures circuit { IfOk result (Spells (R.input reader.old)) }
+    ensures err { IfErr result (IsCircuitFailure (R.input reader.old) (R.input reader.new) path.entry) }
+{
+    match circuit_by(reader, AnyReader::new(alloc)) {
+        Ok(spelt) => Ok(spelt),
+        Err(error) => Err(Failure::of_reading(error, path)),
+    }
 }
 
 /// The circuit of a file, and its spelling.
@@ -35,9 +50,21 @@ pub fn circuit_at<'a, R: Files>(
     let Ok(input) = File::open(rt, path) else {
         return Err(Failure::Device(path));
     };
-    match circuit_of(alloc, &mut Counted::new(input)) {
-        Ok(spelt) => Ok(spelt),
-        Err(error) => Err(Failure::of_reading(error, path)),
+    circuit_of(alloc, &mut Counted::new(input), path)
+}
+
+/// All bytes of a reader; `path` is their file's.
+fn bytes_of<'a, R: CountedRead>(
+    alloc: Global,
+    reader: &mut R,
+    path: &'a str,
+) -> Result<Vec<u8>, Failure<'a>>
+    ensures ok { IfOk result (λ bytes. ReadsAll (R.input reader.old) (R.input reader.new) bytes.items) }
+    ensures err { IfErr result (IsBytesFailure (R.input reader.old) (R.input reader.new) path.entry) }
+{
+    match read_all(alloc, reader) {
+        Ok(bytes) => Ok(bytes),
+        Err(error) => Err(Failure::of_bytes(error, path)),
     }
 }
 
@@ -46,10 +73,23 @@ fn bytes_at<'a, R: Files>(rt: &R, alloc: Global, path: &'a str) -> Result<Vec<u8
     let Ok(input) = File::open(rt, path) else {
         return Err(Failure::Device(path));
     };
-    match read_all(alloc, &mut Counted::new(input)) {
-        Ok(bytes) => Ok(bytes),
-        Err(ReadAllError::NoMemory) => Err(Failure::Memory),
-        Err(ReadAllError::Device) => Err(Failure::Device(path)),
+    bytes_of(alloc, &mut Counted::new(input), path)
+}
+
+/// The stimulus of the bytes of a file, with the widths of the circuit.
+fn stimulus_of<'a>(
+    alloc: Global,
+    bytes: &[u8],
+    path: &'a str,
+    circuit: &Circuit,
+) -> Result<Stimulus, Failure<'a>>
+    ensures { IsStimulusOf circuit.now.aig bytes.now path.entry result }
+{
+    let inputs = circuit.aig().inputs() as usize;
+    let free = circuit.aig().free_latches() as usize;
+    match read_stimulus(alloc, bytes, inputs, free) {
+        Ok(stimulus) => Ok(stimulus),
+        Err(fault) => Err(Failure::of_stimulus(fault, path)),
     }
 }
 
@@ -61,10 +101,5 @@ pub fn stimulus_at<'a, R: Files>(
     circuit: &Circuit,
 ) -> Result<Stimulus, Failure<'a>> {
     let bytes = bytes_at(rt, alloc, path)?;
-    let inputs = circuit.aig().inputs() as usize;
-    let free = circuit.aig().free_latches() as usize;
-    match read_stimulus(alloc, bytes.as_slice(), inputs, free) {
-        Ok(stimulus) => Ok(stimulus),
-        Err(fault) => Err(Failure::of_stimulus(fault, path)),
-    }
+    stimulus_of(alloc, bytes.as_slice(), path, circuit)
 }

@@ -1,4 +1,8 @@
+ghost use Rattle.std.specs.Prelude.{◌≡◌, None};
 ghost use Rattle.std.specs.Option.{option_and_then};
+ghost use Rattle.std.specs.Io.{WritesAtMost};
+ghost use Rattle.std.specs.Io.KnownBytes.{WriteAppends};
+ghost use Rattle.circuit_files.specs.LazyFiles.{WritesFirst};
 
 use std::fs::File;
 use std::io;
@@ -16,7 +20,9 @@ pub struct LazyFile<'a, R: Files> {
 
 impl<'a, R: Files> LazyFile<'a, R> {
     /// Makes no file yet.
-    pub fn new(files: &'a R, path: &'a str) -> LazyFile<'a, R> {
+    pub fn new(files: &'a R, path: &'a str) -> LazyFile<'a, R>
+        ensures { result.file ≡ None }
+    {
         LazyFile {
             files,
             path,
@@ -28,7 +34,11 @@ impl<'a, R: Files> LazyFile<'a, R> {
 impl<R: Files> Write for LazyFile<'_, R> {
     ghost contents = { λ l. option_and_then R.File.contents l.file };
 
-    fn write(&mut self, bytes: &[u8]) -> io::Result<usize> {
+    fn write(&mut self, bytes: &[u8]) -> io::Result<usize>
+        ensures bound { WritesAtMost result bytes.now }
+        ensures bytes { WriteAppends (option_and_then R.File.contents self.old.file) (option_and_then R.File.contents self.new.file) result bytes.now }
+        ensures first { self.old.file ≡ None → WritesFirst R.File.contents self.new.file result bytes.now }
+    {
         if bytes.is_empty() {
             return Ok(0);
         }

@@ -1,6 +1,7 @@
 ghost use Rattle.std.specs.Prelude.{◌≡◌};
-ghost use Rattle.circuit_files.specs.Outcomes.{outcome_of, failure_of_reading, failure_of_stimulus};
+ghost use Rattle.circuit_files.specs.Outcomes.{outcome_of, failure_of_bytes, failure_of_reading, failure_of_stimulus};
 
+use counted_io::ReadAllError;
 use file_words::ReadError;
 use lane_sim::StimError;
 use thiserror::Error;
@@ -81,6 +82,16 @@ impl<'a> Failure<'a> {
         match error {
             StimError::NoMemory => Failure::Memory,
             fault => Failure::RefusedStimulus(path, fault),
+        }
+    }
+
+    /// The failure that an error of reading all bytes is, with the file's path.
+    pub fn of_bytes(error: ReadAllError, path: &'a str) -> Failure<'a>
+        ensures { result ≡ failure_of_bytes error path.entry }
+    {
+        match error {
+            ReadAllError::NoMemory => Failure::Memory,
+            ReadAllError::Device => Failure::Device(path),
         }
     }
 

@@ -1,8 +1,12 @@
 -- What a command line asks for, by the texts of its arguments.
-use Rattle.std.specs.Prelude.{ℕ, ◌≡◌, List, Some, codes}
+use Rattle.std.specs.Prelude.{ℕ, ◌≡◌, ◌<◌, ◌^◌, Bool, true, false, List, [], Option, Some, None, codes, map, option_map, unwrap_or}
 use Rattle.std.specs.Borrow.{Bor}
-use Rattle.clap.specs.Words.{first_value, found_of}
+use Rattle.std.specs.Str.Parse.{IsNumeral, digits_value, without_leading_plus}
+use Rattle.clap.specs.Words.{first_value, found_of, matched_of, one_text, raw_values}
 use Rattle.clap.specs.declared.parser.matches.ArgMatches.{ArgMatches}
+use Rattle.spellings.specs.declared.form.Spelling.{Spelling}
+use Rattle.spellings.specs.declared.form.Spelling.TheVariants.{Ascii, Binary}
+use Rattle.command_line.specs.declared.task.Retiming.{Retiming}
 use Rattle.command_line.specs.declared.task.Task.{Task}
 use Rattle.command_line.specs.declared.task.Task.TheVariants.{Retime, Stat, Convert, Sim, Same}
 
@@ -10,10 +14,41 @@ use Rattle.command_line.specs.declared.task.Task.TheVariants.{Retime, Stat, Conv
 abbrev pub IsGiven : ArgMatches → List ℕ → Bor (List ℕ) → Type 0
 IsGiven matches id text = first_value (found_of matches) id ≡ Some text.now
 
+-- whether the flag with this id is given: its value is the text of a truth value
+pub record IsFlag (matches : ArgMatches) (id : List ℕ) (given : Bool) : Type 0 where
+  pub none : one_text (found_of matches) id ≡ None → given ≡ false
+  pub yes : one_text (found_of matches) id ≡ Some (codes "true") → given ≡ true
+  pub no : one_text (found_of matches) id ≡ Some (codes "false") → given ≡ false
+
+-- the spelling of the flag that is given
+abbrev pub IsSpelling : ArgMatches → Option Spelling → Type 0
+IsSpelling matches (Some Ascii) = IsFlag matches (codes "ascii") true
+IsSpelling matches (Some Binary) = IsFlag matches (codes "ascii") false × IsFlag matches (codes "binary") true
+IsSpelling matches None = IsFlag matches (codes "ascii") false × IsFlag matches (codes "binary") false
+
+-- the number is the value of the argument with this id, where that is a numeral of 32 bits, and the default where there is none
+pub record IsNumber (matches : ArgMatches) (id : List ℕ) (default number : ℕ) : Type 0 where
+  pub none : one_text (found_of matches) id ≡ None → number ≡ default
+  pub value : (text : List ℕ) → one_text (found_of matches) id ≡ Some text → IsNumeral 10 (without_leading_plus text) → digits_value 10 (without_leading_plus text) < 2 ^ 32
+      → number ≡ digits_value 10 (without_leading_plus text)
+
+-- all values of the argument with this id
+abbrev pub values_of : ArgMatches → List ℕ → List (List ℕ)
+values_of matches id = unwrap_or (option_map raw_values (matched_of (found_of matches) id)) []
+
+-- the paths, the options and the names of a retiming are the values of their own arguments
+pub record IsRetiming (matches : ArgMatches) (retiming : Retiming) : Type 0 where
+  pub input : IsGiven matches (codes "IN") retiming.input
+  pub output : IsGiven matches (codes "OUT") retiming.output
+  pub spelling : IsSpelling matches retiming.spelling
+  pub workers : IsNumber matches (codes "workers") 1 retiming.workers
+  pub frames : IsNumber matches (codes "frames") (2 ^ 28) retiming.frames
+  pub names : map (λ name. name.now) retiming.keep.items ≡ values_of matches (codes "keep")
+
 -- each path of the task is the value of its own argument, so that no file is written that was to be read
 abbrev pub AsksFor : ArgMatches → Task → Type 0
-AsksFor matches (Retime retiming) = IsGiven matches (codes "IN") retiming.input × IsGiven matches (codes "OUT") retiming.output
+AsksFor matches (Retime retiming) = IsRetiming matches retiming
 AsksFor matches (Stat input) = IsGiven matches (codes "IN") input
-AsksFor matches (Convert input output spelling) = IsGiven matches (codes "IN") input × IsGiven matches (codes "OUT") output
+AsksFor matches (Convert input output spelling) = IsGiven matches (codes "IN") input × IsGiven matches (codes "OUT") output × IsSpelling matches spelling
 AsksFor matches (Sim input stimulus) = IsGiven matches (codes "IN") input × IsGiven matches (codes "STIM") stimulus
 AsksFor matches (Same first second stimulus) = IsGiven matches (codes "A") first × IsGiven matches (codes "B") second × IsGiven matches (codes "STIM") stimulus

@@ -1,5 +1,5 @@
-ghost use Rattle.std.specs.Prelude.{IfOk, IfSome};
-ghost use Rattle.command_line.specs.Asking.{AsksFor};
+ghost use Rattle.std.specs.Prelude.{◌≡◌, IfOk, IfSome, codes, map};
+ghost use Rattle.command_line.specs.Asking.{AsksFor, IsNumber, IsSpelling, values_of};
 ghost use Rattle.command_line.specs.declared.task.Task.TheVariants.{Retime};
 
 use crate::program::program;
@@ -10,7 +10,9 @@ use spellings::Spelling;
 use std::alloc::{AllocError, Global};
 
 /// The spelling that a flag chooses.
-fn spelling(matches: &ArgMatches<'_>) -> Option<Spelling> {
+fn spelling(matches: &ArgMatches<'_>) -> Option<Spelling>
+    ensures { IsSpelling matches.now result }
+{
     if matches.get_flag("ascii") {
         Some(Spelling::Ascii)
     } else if matches.get_flag("binary") {
@@ -20,13 +22,18 @@ fn spelling(matches: &ArgMatches<'_>) -> Option<Spelling> {
     }
 }
 
+/// The number that an argument has as its value, else the default.
+fn number(matches: &ArgMatches<'_>, id: &str, default: u32) -> u32
+    ensures { IsNumber matches.now id.now default result }
+{
+    matches.get_one(id).unwrap_or(default)
+}
+
 /// The names of the latches that are held.
-fn keep<'a>(alloc: Global, matches: &ArgMatches<'a>) -> Result<Vec<&'a str>, AllocError> {
-    let mut names = Vec::new(alloc);
-    for name in matches.get_strs("keep").unwrap_or(&[]) {
-        names.push(*name)?;
-    }
-    Ok(names)
+fn keep<'a>(alloc: Global, matches: &ArgMatches<'a>) -> Result<Vec<&'a str>, AllocError>
+    ensures { IfOk result (λ names. map (λ name. name.now) names.items ≡ values_of matches.now (codes "keep")) }
+{
+    Vec::from_slice(alloc, matches.get_strs("keep").unwrap_or(&[]))
 }
 
 fn retiming<'a>(alloc: Global, matches: &ArgMatches<'a>) -> Result<Option<Retiming<'a>>, AllocError>
@@ -39,8 +46,8 @@ fn retiming<'a>(alloc: Global, matches: &ArgMatches<'a>) -> Result<Option<Retimi
         input,
         output,
         spelling: spelling(matches),
-        workers: matches.get_one("workers").unwrap_or(1),
-        frames: matches.get_one("frames").unwrap_or(1 << 28),
+        workers: number(matches, "workers", 1),
+        frames: number(matches, "frames", 1 << 28),
         keep: keep(alloc, matches)?,
     }))
 }

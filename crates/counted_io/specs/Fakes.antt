@@ -1,7 +1,8 @@
 -- The devices for tests.
-use Rattle.std.specs.Prelude.{ℕ}
+use Rattle.std.specs.Prelude.{ℕ, ◌≡◌, ◌+◌, ◌<◌, ◌≤◌, Result, Ok, IfOk, IsErr}
 use Rattle.counted_io.specs.declared.fakes.FailAfter.{FailAfter}
 use Rattle.counted_io.specs.declared.fakes.Failure.{Failure}
+use Rattle.counted_io.specs.declared.fakes.Failure.TheVariants as failures
 use Rattle.counted_io.specs.declared.fakes.OneByte.{OneByte}
 
 -- passes so many calls on, and then fails in this way
@@ -14,3 +15,18 @@ fail_after_inner f = f.inner
 
 abbrev pub one_byte_inner : {T : Type 0} → OneByte T → T
 one_byte_inner o = o.inner
+
+-- a call uses up one of those that are passed on; where none is left nothing changes
+pub record IsCounted {T : Type 0} (old new : FailAfter T) : Type 0 where
+  pub failure : new.failure ≡ old.failure
+  pub passed : 0 < old.calls_left → new.calls_left + 1 ≡ old.calls_left
+  pub failed : old.calls_left ≡ 0 → new ≡ old
+
+-- how a write fails
+abbrev pub FailsBy : {E : Type 0} → Failure → Result ℕ E → Type 0
+FailsBy failures.Error result = IsErr result
+FailsBy failures.Nothing result = result ≡ Ok 0
+
+-- a call that takes or gives one byte, or none
+abbrev pub IsOneAtMost : {E : Type 0} → Result ℕ E → Type 0
+IsOneAtMost result = IfOk result (λ n. n ≤ 1)

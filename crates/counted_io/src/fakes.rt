@@ -1,5 +1,8 @@
 //! Devices for tests, to put before a reader or a writer of std and under `Counted`.
-ghost use Rattle.std.specs.Prelude.{◌≡◌};
+ghost use Rattle.std.specs.Prelude.{◌≡◌, IsErr};
+ghost use Rattle.std.specs.Io.{ReadsAtMost, WritesAtMost};
+ghost use Rattle.std.specs.Io.KnownBytes.{ReadConsumes, WriteAppends};
+ghost use Rattle.counted_io.specs.Fakes.{FailsBy, IsCounted, IsOneAtMost};
 
 use std::io;
 use std::io::{Read, Write};
@@ -13,7 +16,7 @@ pub enum Failure {
     Nothing,
 }
 
-/// Passes a number of calls on, and fails the rest.
+/// Passes a number of calls on, and fails the rest. Of a call that is passed on the clauses say no more than those of the traits.
 #[derive(Drop)]
 pub struct FailAfter<T> {
     inner: T,
@@ -45,7 +48,12 @@ impl<T> FailAfter<T> {
 impl<T: Write> Write for FailAfter<T> {
     ghost contents = { λ f. T.contents f.inner };
 
-    fn write(&mut self, bytes: &[u8]) -> io::Result<usize> {
+    fn write(&mut self, bytes: &[u8]) -> io::Result<usize>
+        ensures bound { WritesAtMost result bytes.now }
+        ensures bytes { WriteAppends (T.contents self.old.inner) (T.contents self.new.inner) result bytes.now }
+        ensures counted { IsCounted self.old self.new }
+        ensures failed { self.old.calls_left ≡ 0 → FailsBy self.old.failure result }
+    {
         if self.calls_left == 0 {
             return match self.failure {
                 Failure::Error => Err(io::Error::from(io::ErrorKind::Other)),
@@ -64,7 +72,12 @@ impl<T: Write> Write for FailAfter<T> {
 impl<T: Read> Read for FailAfter<T> {
     ghost remaining = { λ f. T.remaining f.inner };
 
-    fn read(&mut self, buffer: &mut [u8]) -> io::Result<usize> {
+    fn read(&mut self, buffer: &mut [u8]) -> io::Result<usize>
+        ensures bound { ReadsAtMost result buffer.new }
+        ensures bytes { ReadConsumes (T.remaining self.old.inner) (T.remaining self.new.inner) result buffer.new }
+        ensures counted { IsCounted self.old self.new }
+        ensures failed { self.old.calls_left ≡ 0 → IsErr result }
+    {
         if self.calls_left == 0 {
             return Err(io::Error::from(io::ErrorKind::Other));
         }
@@ -99,7 +112,11 @@ impl<T> OneByte<T> {
 impl<T: Write> Write for OneByte<T> {
     ghost contents = { λ o. T.contents o.inner };
 
-    fn write(&mut self, bytes: &[u8]) -> io::Result<usize> {
+    fn write(&mut self, bytes: &[u8]) -> io::Result<usize>
+        ensures bound { WritesAtMost result bytes.now }
+        ensures bytes { WriteAppends (T.contents self.old.inner) (T.contents self.new.inner) result bytes.now }
+        ensures one { IsOneAtMost result }
+    {
         let len = bytes.len().min(1);
         self.inner.write(&bytes[..len])
     }
@@ -112,7 +129,11 @@ impl<T: Write> Write for OneByte<T> {
 impl<T: Read> Read for OneByte<T> {
     ghost remaining = { λ o. T.remaining o.inner };
 
-    fn read(&mut self, buffer: &mut [u8]) -> io::Result<usize> {
+    fn read(&mut self, buffer: &mut [u8]) -> io::Result<usize>
+        ensures bound { ReadsAtMost result buffer.new }
+        ensures bytes { ReadConsumes (T.remaining self.old.inner) (T.remaining self.new.inner) result buffer.new }
+        ensures one { IsOneAtMost result }
+    {
         let len = buffer.len().min(1);
         self.inner.read(&mut buffer[..len])
     }

@@ -1,9 +1,9 @@
 -- The borders of equal parts, and parts that are appended one by one.
-use Rattle.std.proofs.Common.{◌≡◌, ℕ, ◌+◌, ◌*◌, ◌<◌, ◌≤◌, List, [], ◌∷◌, ◌++◌, arith, refl, sym, ◌∙◌, subst}
+use Rattle.std.proofs.Common.{◌≡◌, ℕ, ◌+◌, ◌*◌, ◌<◌, ◌≤◌, List, [], ◌∷◌, ◌++◌, length, arith, refl, sym, ◌∙◌, subst}
 use Rattle.std.proofs.Math.Nat.{div-mul-le_self, div-le_of_le-mul, mul-div_cancel_left, mul-le-mul_right}
 use Rattle.std.proofs.lemmas.Nat.{le-div}
 use Rattle.flow_part.specs.Parts.{IsParted}
-use Rattle.flow_whole.specs.Start.{border_of}
+use Rattle.flow_whole.specs.Start.{border_of, AreShares, IsShare}
 
 pub border_within : (n w k : ℕ) → 0 < w → k ≤ w → border_of n w k ≤ n
 border_within n w k some h = div-le_of_le-mul w {m = k * n} {n = n} (mul-le-mul_right n h)
@@ -26,3 +26,12 @@ cut_weaker {P} fits also first end n u (p ∷ ps) to cut = (cut.0, (to p cut.1.0
 pub cut_pushed : {P : Type 0} (fits : P → Type 0) (first end : P → ℕ) (m n : ℕ) (ps qs : List P) (p : P) → qs ≡ ps ++ p ∷ [] → IsParted fits first end m 0 ps → first p ≡ m → end p ≡ n → fits p → IsParted fits first end n 0 qs
 cut_pushed {P} fits first end m n ps qs p e cut ef ee fit =
     subst (λ (x : List P). IsParted fits first end n 0 x) (sym e) (subst (λ (k : ℕ). IsParted fits first end k 0 (ps ++ p ∷ [])) ee (cut_append fits first end m 0 ps p cut ef fit))
+
+-- one more share at the end of the first ones
+pub shares_append : {P : Type 0} (worker first end : P → ℕ) (n w k m : ℕ) (ps : List P) (p : P) → AreShares worker first end n w k ps → m ≡ k + length ps → IsShare worker first end n w m p → AreShares worker first end n w k (ps ++ p ∷ [])
+shares_append {P} worker first end n w k m [] p shares e share = (subst (λ (x : ℕ). IsShare worker first end n w x p) (omega (arith, e)) share, shares)
+shares_append {P} worker first end n w k m (q ∷ ps) p shares e share = (shares.0, shares_append worker first end n w (k + 1) m ps p shares.1 (omega (arith, e)) share)
+
+pub shares_pushed : {P : Type 0} (worker first end : P → ℕ) (n w m : ℕ) (ps qs : List P) (p : P) → qs ≡ ps ++ p ∷ [] → AreShares worker first end n w 0 ps → length ps ≡ m → IsShare worker first end n w m p → AreShares worker first end n w 0 qs
+shares_pushed {P} worker first end n w m ps qs p e shares len share =
+    subst (λ (x : List P). AreShares worker first end n w 0 x) (sym e) (shares_append worker first end n w 0 m ps p shares (omega (arith, len)) share)

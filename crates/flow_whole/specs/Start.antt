@@ -1,7 +1,8 @@
-use Rattle.std.specs.Prelude.{◌≡◌, ℕ, ◌+◌, ◌*◌, ◌/◌, ◌<◌, ◌==◌, nat_lt, cond, List, length, slice_index}
+use Rattle.std.specs.Prelude.{◌≡◌, ℕ, ◌+◌, ◌*◌, ◌/◌, ◌<◌, ◌==◌, nat_lt, cond, List, [], ◌∷◌, length, slice_index}
 use Rattle.flow_theory.specs.Flow.{sum_below}
 use Rattle.frame_net.specs.FlowNet.{FlowNet, node_count, start, row_len, head, cap_at, IsFlowNet, IsStartable}
 use Rattle.flow_part.specs.declared.parts.FlowPart.{FlowPart}
+use Rattle.flow_part.specs.declared.parts.PushPart.{PushPart}
 use Rattle.flow_part.specs.Parts.{Cells, FlowPartFits, IsParted, AreFlowParts, Agree, IsSound, pair, pairs, cells_of}
 use Rattle.flow_theory.specs.Laws.{started}
 use Rattle.flow_part.specs.Delivering.{back}
@@ -24,6 +25,23 @@ pub record PartHolds (net : FlowNet) (res exc : ℕ → ℕ) (q : FlowPart) : Ty
 -- the first node of a worker's range
 abbrev pub border_of : ℕ → ℕ → ℕ → ℕ
 border_of nodes workers worker = worker * nodes / workers
+
+-- the share of worker k: its number, and its range
+pub record IsShare {P : Type 0} (worker first end : P → ℕ) (nodes workers k : ℕ) (p : P) : Type 0 where
+  pub number : worker p ≡ k
+  pub from : first p ≡ border_of nodes workers k
+  pub to : end p ≡ border_of nodes workers (k + 1)
+
+-- the parts are the shares of the workers from k on, in their order
+abbrev pub AreShares : {P : Type 0} → (P → ℕ) → (P → ℕ) → (P → ℕ) → ℕ → ℕ → ℕ → List P → Type 0
+AreShares worker first end nodes workers k [] = Unit {0}
+AreShares worker first end nodes workers k (p ∷ ps) = IsShare worker first end nodes workers k p × AreShares worker first end nodes workers (k + 1) ps
+
+abbrev pub AreFlowShares : ℕ → ℕ → List FlowPart → Type 0
+AreFlowShares nodes workers qs = AreShares (λ q. q.worker) (λ q. q.first) (λ q. q.end) nodes workers 0 qs
+
+abbrev pub ArePushShares : ℕ → ℕ → List PushPart → Type 0
+ArePushShares nodes workers ps = AreShares (λ p. p.worker) (λ p. p.first) (λ p. p.end) nodes workers 0 ps
 
 -- the parts hold the nodes below m, end to end, with these residuals and this excess
 abbrev pub PartsHold : FlowNet → (ℕ → ℕ) → (ℕ → ℕ) → ℕ → List FlowPart → Type 0

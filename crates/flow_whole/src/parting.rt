@@ -3,7 +3,7 @@ ghost use Rattle.std.specs.Prelude.{◌≡◌, ◌<◌, ◌≤◌, IfOk, length,
 ghost use Rattle.frame_net.specs.FlowNet.{node_count};
 ghost use Rattle.flow_part.specs.Listing.{ListActive, ListsActive};
 ghost use Rattle.flow_part.specs.Parts.{AreFlowParts, ArePushParts, PushPartFits, cells_of};
-ghost use Rattle.flow_whole.specs.Start.{border_of, PartHolds, PartsHold};
+ghost use Rattle.flow_whole.specs.Start.{AreFlowShares, ArePushShares, border_of, PartHolds, PartsHold};
 
 use crate::carrying::list_of;
 use crate::copying::{copied_excess, copied_labels, copied_residuals};
@@ -35,6 +35,7 @@ fn part_anew(
     requires flow { AreFlowParts net.now 0 flow.now }
     requires ordered { first ≤ end }
     requires within { end ≤ node_count net.now }
+    ensures worker { IfOk result (λ q. q.worker ≡ worker) }
     ensures first { IfOk result (λ q. q.first ≡ first) }
     ensures end { IfOk result (λ q. q.end ≡ end) }
     ensures holds { IfOk result (λ q. PartHolds net.now (slice_index (cells_of flow.now).residuals) (slice_index (cells_of flow.now).excess) q) }
@@ -72,6 +73,7 @@ pub fn parted_anew(
     requires flow { AreFlowParts net.now 0 flow.now }
     requires some { 0 < workers }
     ensures len { IfOk result (λ v. length v.items ≡ workers) }
+    ensures shares { IfOk result (λ v. AreFlowShares (node_count net.now) workers v.items) }
     ensures holds { IfOk result (λ v. PartsHold net.now (slice_index (cells_of flow.now).residuals) (slice_index (cells_of flow.now).excess) (node_count net.now) v.items) }
     ensures lists { IfOk result (λ v. ListActive (node_count net.now) labels.now flow.now → ListActive (node_count net.now) labels.now v.items) }
 {
@@ -97,6 +99,7 @@ fn push_part(
 ) -> Result<PushPart, AllocError>
     requires ordered { first ≤ end }
     requires within { end ≤ node_count net.now }
+    ensures worker { IfOk result (λ p. p.worker ≡ worker) }
     ensures first { IfOk result (λ p. p.first ≡ first) }
     ensures end { IfOk result (λ p. p.end ≡ end) }
     ensures fits { IfOk result (λ p. PushPartFits net.now p) }
@@ -122,6 +125,7 @@ fn push_part(
 pub fn push_parts(alloc: Global, net: &Net, workers: u32) -> Result<Vec<PushPart>, AllocError>
     requires { 0 < workers }
     ensures len { IfOk result (λ v. length v.items ≡ workers) }
+    ensures shares { IfOk result (λ v. ArePushShares (node_count net.now) workers v.items) }
     ensures parts { IfOk result (λ v. ArePushParts net.now 0 v.items) }
 {
     let nodes = net.nodes();

@@ -1,7 +1,7 @@
 //! The flow at the start: the arcs out of the source are full, and all others have flow 0.
 ghost use Rattle.std.specs.Prelude.{◌≡◌, ℕ, ◌+◌, ◌<◌, ◌≤◌, IfOk, length, slice_index};
 ghost use Rattle.frame_net.specs.FlowNet.{node_count};
-ghost use Rattle.flow_whole.specs.Start.{start_res, start_excess, PartHolds, PartsHold};
+ghost use Rattle.flow_whole.specs.Start.{AreFlowShares, start_res, start_excess, PartHolds, PartsHold};
 
 use crate::parting::border;
 use flow_part::{FlowPart, NodeList};
@@ -111,6 +111,7 @@ fn start_part(
 pub fn start_parts(alloc: Global, net: &Net, workers: u32) -> Result<Vec<FlowPart>, AllocError>
     requires { 0 < workers }
     ensures len { IfOk result (λ v. length v.items ≡ workers) }
+    ensures shares { IfOk result (λ v. AreFlowShares (node_count net.now) workers v.items) }
     ensures starts { IfOk result (λ v. PartsHold net.now (start_res net.now) (start_excess net.now) (node_count net.now) v.items) }
 {
     let nodes = net.nodes();

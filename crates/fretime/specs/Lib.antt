@@ -1,2 +1,4 @@
 pub mod Printing
 pub mod Comparing
+pub mod RetimingTasks
+pub mod OtherSpelling

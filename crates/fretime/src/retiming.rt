@@ -1,6 +1,7 @@
 //! The command `retime`.
-ghost use Rattle.std.specs.Prelude.{◌≡◌};
+ghost use Rattle.std.specs.Prelude.{◌≡◌, ◌<◌, ◌≤◌, IfOk, map};
 ghost use Rattle.fretime.specs.Printing.{Prints, ending};
+ghost use Rattle.fretime.specs.RetimingTasks.{AreOptionsOf, IsFailureOf};
 
 use crate::ended::ended;
 use circuit_files::{Failure, LazyFile, Outcome};
@@ -18,7 +19,9 @@ use std::thread::Threads;
 const MOST_WORKERS: u32 = 64;
 
 /// The names, each as its bytes.
-fn names(alloc: Global, keep: &[&str]) -> Result<Vec<Vec<u8>>, AllocError> {
+fn names(alloc: Global, keep: &[&str]) -> Result<Vec<Vec<u8>>, AllocError>
+    ensures { IfOk result (λ names. map (λ name. name.items) names.items ≡ map (λ name. name.now) keep.now) }
+{
     let mut names = Vec::new(alloc);
     for name in keep {
         names.push(name.as_bytes().to_vec(alloc)?)?;
@@ -26,7 +29,9 @@ fn names(alloc: Global, keep: &[&str]) -> Result<Vec<Vec<u8>>, AllocError> {
     Ok(names)
 }
 
-fn options(alloc: Global, task: &Retiming<'_>) -> Result<Options, AllocError> {
+fn options(alloc: Global, task: &Retiming<'_>) -> Result<Options, AllocError>
+    ensures { IfOk result (AreOptionsOf task.now) }
+{
     Ok(Options {
         spelling: task.spelling,
         max_frames: task.frames,
@@ -34,12 +39,16 @@ fn options(alloc: Global, task: &Retiming<'_>) -> Result<Options, AllocError> {
     })
 }
 
-fn crew(workers: u32) -> Crew<OpenGate> {
-    Crew::new(workers.clamp(1, MOST_WORKERS), OpenGate)
+fn crew(task: &Retiming<'_>) -> Crew<OpenGate>
+    ensures { 0 < task.now.workers → task.now.workers ≤ 64 → result.workers ≡ task.now.workers }
+{
+    Crew::new(task.workers.clamp(1, MOST_WORKERS), OpenGate)
 }
 
 /// The failure that an error is, with the path of the file or the name that it is about.
-fn failure_of<'a>(error: BytesError, task: &Retiming<'a>) -> Failure<'a> {
+fn failure_of<'a>(error: BytesError, task: &Retiming<'a>) -> Failure<'a>
+    ensures { IsFailureOf task.now error result }
+{
     match error {
         BytesError::Read(error) => Failure::of_reading(error, task.input),
         BytesError::Retime(RetimeError::NoMemory) => Failure::Memory,
@@ -63,7 +72,7 @@ fn retime_file<'a, R: Files + Threads + Sync>(
     };
     let mut reader = Counted::new(input);
     let mut writer = Counted::new(LazyFile::new(rt, task.output));
-    let crew = crew(task.workers);
+    let crew = crew(task);
     match retime_bytes(rt, alloc, &mut reader, &mut writer, options, &crew) {
         Ok(retimed) => Ok(retimed),
         Err(error) => Err(failure_of(error, task)),

@@ -1,5 +1,6 @@
 //! The command `stat`.
-ghost use Rattle.std.specs.Prelude.{◌≡◌};
+ghost use Rattle.std.specs.Prelude.{◌≡◌, [], IfOk, length};
+ghost use Rattle.frame_net.specs.Passable as passing;
 ghost use Rattle.fretime.specs.Printing.{Prints, ending};
 
 use crate::ended::ended;
@@ -12,7 +13,9 @@ use std::alloc::Global;
 use std::rt::Files;
 
 /// The number of passable gates, where no latch is held.
-fn passable_gates(alloc: Global, circuit: &Circuit) -> Result<u32, NoMemory> {
+fn passable_gates(alloc: Global, circuit: &Circuit) -> Result<u32, NoMemory>
+    ensures { IfOk result (λ count. count ≡ length (passing.passable_gates circuit.now.aig [])) }
+{
     let pass = passable(alloc, circuit.aig(), &Keep::none())?;
     Ok(pass.count())
 }

@@ -1,5 +1,5 @@
 -- Phases over the fields of a flow and of pushes.
-use Rattle.std.proofs.Common.{◌≡◌, ℕ, ◌-◌, ◌^◌, min, Bool, true, false, List, length, arith, sym, ap, ◌∙◌, subst}
+use Rattle.std.proofs.Common.{◌≡◌, ℕ, ◌-◌, ◌^◌, min, Bool, true, false, List, length, arith, refl, sym, ap, ◌∙◌, subst}
 use Rattle.frame_net.specs.FlowNet.{FlowNet, node_count, IsFlowNet}
 use Rattle.flow_part.specs.declared.parts.FlowPart.{FlowPart}
 use Rattle.flow_part.specs.declared.parts.PushPart.{PushPart}
@@ -10,7 +10,7 @@ use Rattle.flow_part.proofs.WalkLemmas.{active_few}
 use Rattle.flow_whole.specs.Runs.{AreRead, ArePulsed}
 use Rattle.pulse.specs.Values.{FlowState, PushState, flow_state, push_state}
 use Rattle.pulse.specs.Conditions.{IsFlowOf, ArePushesOf, IsBetween, active_count}
-use Rattle.pulse.specs.Phases.{AfterPulse, AfterDelivery, IsReadPhase}
+use Rattle.pulse.specs.Phases.{AfterPulse, AfterDelivery, AfterRefusal, IsReadPhase}
 use Rattle.pulse.proofs.FlowLemmas.{flow_spent, pushes_with}
 use Rattle.pulse.proofs.RangeLemmas.{push_parts}
 use Rattle.pulse.proofs.TurnLemmas.{after_pulse}
@@ -64,3 +64,12 @@ pub phase_refused : (net : FlowNet) (f : FlowState) (qs us : List FlowPart) (ls 
 phase_refused net f qs us ls lnow ds cs b ef en fits0 =
     let fits : IsFlowOf net (flow_state qs ls ds cs b) = subst (λ (g : FlowState). IsFlowOf net g) (sym ef) fits0 in
     flow_spent net (flow_state qs ls ds cs b) us lnow fits (subst (λ (x : List ℕ). LabelsFit net x) (sym en) fits.labelled)
+
+-- what it leaves
+pub left_refused : (f : FlowState) (qs us : List FlowPart) (ls lnow : List ℕ) (ds : List Bool) (cs : List ℕ) (b : Bool) → flow_state qs ls ds cs b ≡ f → lnow ≡ ls → AfterRefusal f (flow_state us lnow ds cs true)
+left_refused f qs us ls lnow ds cs b ef en = record {
+  spent = refl;
+  labels = en ∙ ap (λ (g : FlowState). g.labels) ef;
+  delivered = ap (λ (g : FlowState). g.delivered) ef;
+  caps = ap (λ (g : FlowState). g.caps) ef;
+}

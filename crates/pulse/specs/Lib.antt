@@ -1,3 +1,4 @@
 pub mod Values
 pub mod Conditions
 pub mod Phases
+pub mod Sharing

@@ -1,5 +1,5 @@
 -- What ranges, turns and phases do.
-use Rattle.std.specs.Prelude.{◌≡◌, ℕ, ◌<◌, ◌≤◌, ◌⊎◌, false, List}
+use Rattle.std.specs.Prelude.{◌≡◌, ℕ, ◌<◌, ◌≤◌, ◌⊎◌, false, true, List}
 use Rattle.flow_theory.specs.Flow.{pulse}
 use Rattle.frame_net.specs.FlowNet.{FlowNet, node_count, start, row_len, IsFlowNet}
 use Rattle.flow_part.specs.Parts.{Cells, IsSound, Agree, pairs}
@@ -53,3 +53,10 @@ pub record AfterDelivery (net : FlowNet) (old new : FlowState) (p : PushState) :
   pub before : old.spent ≡ false
   pub pushes : p.spent ≡ false
   pub pulse : AfterPulse net old new
+
+-- after a refused delivery phase: the flow is spent, and nothing else has changed that is left of a spent flow
+pub record AfterRefusal (old new : FlowState) : Type 0 where
+  pub spent : new.spent ≡ true
+  pub labels : new.labels ≡ old.labels
+  pub delivered : new.delivered ≡ old.delivered
+  pub caps : new.caps ≡ old.caps

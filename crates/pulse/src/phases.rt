@@ -1,7 +1,7 @@
 //! The two phases of a pulse, by the workers of a crew or by fewer.
-ghost use Rattle.std.specs.Prelude.{◌≡◌, ◌<◌, ◌⊎◌, OnErr, OnOk, false, true};
+ghost use Rattle.std.specs.Prelude.{◌≡◌, ◌<◌, OnErr, OnOk, false, true};
 ghost use Rattle.pulse.specs.Conditions.{ArePushesOf, IsFlowOf, NoneDelivered, active_count};
-ghost use Rattle.pulse.specs.Phases.{AfterDelivery, AfterRead, IsReadPhase};
+ghost use Rattle.pulse.specs.Phases.{AfterDelivery, AfterRead, AfterRefusal, IsReadPhase};
 
 use crate::crew::Crew;
 use crate::error::PulseError;
@@ -17,8 +17,8 @@ use std::thread::Threads;
 /// The read phase of a pulse: each node writes its row of pushes. The rows of the active nodes are walked, and no others
 /// (`Pushes::walked`).
 ///
-/// Pushes in parts for another number of workers are parted anew at first. After a refusal the pushes are spent, and the flow is as
-/// it was; a phase over a spent flow or spent pushes is refused.
+/// Pushes in parts for another number of workers are parted anew at first. A phase over a spent flow or spent pushes is refused. After
+/// a refusal, for either reason, the pushes are spent, and the flow is as it was.
 pub fn read_phase<G: PhaseGate>(
     rt: &(impl Threads + Sync),
     alloc: Global,
@@ -33,7 +33,7 @@ pub fn read_phase<G: PhaseGate>(
     ensures fits { ArePushesOf net.now pushes.new }
     ensures ok { OnOk result (AfterRead net.now flow.now pushes.old pushes.new) }
     ensures walked { OnOk result (pushes.new.walked ≡ active_count net.now flow.now) }
-    ensures err { OnErr result ((flow.now.spent ≡ true) ⊎ (pushes.new.spent ≡ true)) }
+    ensures err { OnErr result (pushes.new.spent ≡ true) }
 {
     let share = Share::among(crew.workers());
     read_by(rt, alloc, net, flow, pushes, share, crew.gate())
@@ -42,8 +42,8 @@ pub fn read_phase<G: PhaseGate>(
 /// The delivery phase of a pulse: each node writes its row of flow, its excess and its new label, and then the new labels become the
 /// labels. Where the last delivery phase's lists still hold, the nodes are visited that are active, push, or are pushed to, and no others.
 ///
-/// A flow in parts for another number of workers is parted anew at first. After a refusal the flow is spent; a phase over a spent
-/// flow or spent pushes is refused.
+/// A flow in parts for another number of workers is parted anew at first. A phase over a spent flow or spent pushes is refused. After
+/// a refusal, for either reason, the flow is spent, with the labels and the capacities that it had.
 pub fn deliver_phase<G: PhaseGate>(
     rt: &(impl Threads + Sync),
     alloc: Global,
@@ -57,7 +57,7 @@ pub fn deliver_phase<G: PhaseGate>(
     requires read { flow.old.spent ≡ false → pushes.now.spent ≡ false → IsReadPhase net.now flow.old pushes.now }
     ensures fits { IsFlowOf net.now flow.new }
     ensures ok { OnOk result (AfterDelivery net.now flow.old flow.new pushes.now) }
-    ensures err { OnErr result ((flow.new.spent ≡ true) ⊎ (pushes.now.spent ≡ true)) }
+    ensures err { OnErr result (AfterRefusal flow.old flow.new) }
 {
     let share = Share::among(crew.workers());
     deliver_by(rt, alloc, net, flow, pushes, share, crew.gate())
@@ -80,9 +80,10 @@ pub(crate) fn read_by<R: Threads + Sync, G: PhaseGate>(
     ensures fits { ArePushesOf net.now pushes.new }
     ensures ok { OnOk result (AfterRead net.now flow.now pushes.old pushes.new) }
     ensures walked { OnOk result (pushes.new.walked ≡ active_count net.now flow.now) }
-    ensures err { OnErr result ((flow.now.spent ≡ true) ⊎ (pushes.new.spent ≡ true)) }
+    ensures err { OnErr result (pushes.new.spent ≡ true) }
 {
     if flow.spent || pushes.spent {
+        pushes.spent = true;
         return Err(PulseError::NoMemory);
     }
     let _nodes = net.nodes();
@@ -125,9 +126,10 @@ pub(crate) fn deliver_by<R: Threads + Sync, G: PhaseGate>(
     requires read { flow.old.spent ≡ false → pushes.now.spent ≡ false → IsReadPhase net.now flow.old pushes.now }
     ensures fits { IsFlowOf net.now flow.new }
     ensures ok { OnOk result (AfterDelivery net.now flow.old flow.new pushes.now) }
-    ensures err { OnErr result ((flow.new.spent ≡ true) ⊎ (pushes.now.spent ≡ true)) }
+    ensures err { OnErr result (AfterRefusal flow.old flow.new) }
 {
     if flow.spent || pushes.spent {
+        flow.spent = true;
         return Err(PulseError::NoMemory);
     }
     let _nodes = net.nodes();

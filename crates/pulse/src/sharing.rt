@@ -1,5 +1,6 @@
 //! How a pulse is shared out among workers.
 ghost use Rattle.std.specs.Prelude.{◌≡◌, ◌<◌};
+ghost use Rattle.frame_net.specs.FlowNet.{node_count};
 
 use frame_net::Net;
 
@@ -15,9 +16,11 @@ pub(crate) struct Share {
 }
 
 impl Share {
+    ghost use Rattle.pulse.specs.Sharing.{next_share, share_among};
+
     /// A part for each of so many workers.
     pub(crate) fn among(workers: u32) -> Share
-        ensures { result.parts ≡ workers }
+        ensures { result ≡ share_among workers }
     {
         Share {
             parts: workers,
@@ -33,7 +36,8 @@ impl Share {
     pub(crate) fn next(self, net: &Net, active: usize, due: bool, crew: u32) -> Share
         requires some { 0 < crew }
         requires parts { 0 < self.parts }
-        ensures { 0 < result.parts }
+        ensures share { result ≡ next_share (node_count net.now) active due crew self }
+        ensures some { 0 < result.parts }
     {
         let quarter = (net.nodes() as usize).div_ceil(4);
         if active >= quarter.min(MANY_ACTIVE) {

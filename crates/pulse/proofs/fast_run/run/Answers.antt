@@ -27,7 +27,7 @@ pulses-smaller g c =
 
 pub pulses-preserved : goal.pulses-preserved
 pulses-preserved g c = record {
-  some = c.next-share.ensures;
+  some = c.next-share.ensures.some;
   between = c.relabel_after_walks-walked.ensures.flow;
   pushes = c.in_ok-pulse_by.ensures.pushes;
   usable = c.in_ok-pulse_by.ensures.unspent;

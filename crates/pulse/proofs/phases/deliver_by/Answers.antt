@@ -6,7 +6,7 @@ use Rattle.pulse.specs.Values.{FlowState, PushState}
 use Rattle.pulse.proofs.phases.deliver_by.Goals as goal
 use Rattle.pulse.proofs.CrewLemmas.{lists_seen}
 use Rattle.pulse.proofs.FlowLemmas.{parts_of}
-use Rattle.pulse.proofs.PhaseLemmas.{phase_read, phase_delivered, phase_refused}
+use Rattle.pulse.proofs.PhaseLemmas.{left_refused, phase_read, phase_delivered, phase_refused}
 
 pub deliver_all-requires-clause-flow : goal.deliver_all-requires-clause-flow
 deliver_all-requires-clause-flow g c κs within = parts_of c.args.net.now c.args.flow.now c.flow.inside.parts.items c.flow.inside.labels.items c.flow.inside.delivered.items c.flow.inside.caps.items c.flow.inside.spent c.flow.view_is c.if-flow.false c.requires.flow
@@ -41,6 +41,11 @@ returns-in-Err-clause-fits g c =
     phase_refused c.args.net.now c.args.flow.now c.flow.inside.parts.items c.deliver_all.new.flow.items c.flow.inside.labels.items (with_items c.flow.inside.labels c.deliver_all.new.labels).items c.flow.inside.delivered.items c.flow.inside.caps.items
     c.flow.inside.spent c.flow.view_is (with_items_is c.flow.inside.labels c.deliver_all.new.labels (omega arith) ∙ (c.in-Err.ensures.err ∙ c.as_mut_slice-labels.ensures.value)) c.requires.flow
 
-pub invariant_of-flow : goal.invariant_of-flow
-invariant_of-flow g c on =
+pub returns-in-Err-clause-err : goal.returns-in-Err-clause-err
+returns-in-Err-clause-err g c =
+    left_refused c.args.flow.now c.flow.inside.parts.items c.deliver_all.new.flow.items c.flow.inside.labels.items (with_items c.flow.inside.labels c.deliver_all.new.labels).items c.flow.inside.delivered.items c.flow.inside.caps.items
+    c.flow.inside.spent c.flow.view_is (with_items_is c.flow.inside.labels c.deliver_all.new.labels (omega arith) ∙ (c.in-Err.ensures.err ∙ c.as_mut_slice-labels.ensures.value))
+
+pub invariant_of-flow-in-Ok : goal.invariant_of-flow-in-Ok
+invariant_of-flow-in-Ok g c on =
     subst (λ (x : List ℕ). ListActive (length x) x c.deliver_all.new.flow.items) (sym (with_items_is c.flow.inside.labels c.deliver_all.new.labels (omega arith))) c.in-Ok.ensures.lists

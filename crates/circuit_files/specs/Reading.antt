@@ -1,0 +1,28 @@
+-- What the bytes of a file are read as, and the failure that it is where they can't be.
+use Rattle.std.specs.Prelude.{ℕ, ◌≡◌, ◌⊎◌, List, Result, Ok, Err}
+use Rattle.std.specs.Borrow.{Bor}
+use Rattle.aig_graph.specs.Graph.{Graph, free_latches}
+use Rattle.counted_io.specs.Input.{Input}
+use Rattle.counted_io.specs.Output.{one_more}
+use Rattle.file_words.specs.declared.fault.ReadError.{ReadError}
+use Rattle.lane_sim.specs.Stimuli.{read_text}
+use Rattle.lane_sim.specs.declared.fault.StimError.{StimError}
+use Rattle.lane_sim.specs.declared.stimulus.InputSequence.{InputSequence}
+use Rattle.aig_binary.specs.Ending.{IsReadError}
+use Rattle.circuit_files.specs.Outcomes.{failure_of_reading, failure_of_stimulus}
+use Rattle.circuit_files.specs.declared.outcome.Failure.{Failure}
+use Rattle.circuit_files.specs.declared.outcome.Failure.TheVariants as fails
+
+-- the failure is that of an error that reading the circuit can have
+abbrev pub IsCircuitFailure : Input → Input → Bor (List ℕ) → Failure → Type 0
+IsCircuitFailure old new path failure = (error : ReadError) × IsReadError old new error × (failure ≡ failure_of_reading error path)
+
+-- a read failed, and the file is named, or there was no room for the bytes
+abbrev pub IsBytesFailure : Input → Input → Bor (List ℕ) → Failure → Type 0
+IsBytesFailure old new path failure = ((failure ≡ fails.Device path) × (new.failures ≡ one_more old.failures)) ⊎ ((failure ≡ fails.Memory) × (new.failures ≡ old.failures))
+
+-- the stimulus of the bytes with the widths of a circuit, or the failure that their fault is; memory may run out
+abbrev pub IsStimulusOf : Graph → List ℕ → Bor (List ℕ) → Result (List InputSequence) Failure → Type 0
+IsStimulusOf g bytes path (Ok stimulus) = read_text g.inputs (free_latches g) bytes ≡ Ok stimulus
+IsStimulusOf g bytes path (Err fails.Memory) = Unit {0}
+IsStimulusOf g bytes path (Err failure) = (fault : StimError) × (read_text g.inputs (free_latches g) bytes ≡ Err fault) × (failure ≡ failure_of_stimulus fault path)

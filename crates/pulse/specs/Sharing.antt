@@ -1,0 +1,17 @@
+-- How a pulse is shared out.
+use Rattle.std.specs.Prelude.{ℕ, Bool, false, min, nat_le, nat_lt, if◌then◌else◌}
+use Rattle.std.specs.Int.{div_ceil}
+use Rattle.pulse.specs.declared.sharing.Share.{Share}
+
+-- whether so many active nodes are many: a quarter of all nodes, or 4096
+abbrev pub are_many : ℕ → ℕ → Bool
+are_many nodes active = nat_le (min (div_ceil nodes 4) 4096) active
+
+-- a part for each worker, handed out where there are two workers or more
+abbrev pub share_among : ℕ → Share
+share_among workers = record { parts = workers; handed = nat_lt 1 workers }
+
+-- the crew makes the next pulse where many nodes are active, and else the calling thread; the parts are joined only where exact labels are due
+abbrev pub next_share : ℕ → ℕ → Bool → ℕ → Share → Share
+next_share nodes active due crew share =
+    if are_many nodes active then share_among crew else (if due then share_among 1 else record { parts = share.parts; handed = false })
