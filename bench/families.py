@@ -6,6 +6,7 @@ usage: bench/families.py FAMILY SIZE .. > FILE
 
 The same words give the same bytes.
 """
+import math
 import random
 import sys
 
@@ -60,6 +61,24 @@ class Builder:
             total.append(self.xor(half, carry))
             carry = self.lor(self.land(one, other), self.land(half, carry))
         return total + [carry]
+
+    def subtract(self, a, b):
+        """The difference of two numbers of equal length, and whether the first is no less."""
+        total = self.add_with(a, [bit ^ 1 for bit in b], 1)
+        return total[:-1], total[-1]
+
+    def add_with(self, a, b, carry):
+        """The sum of two numbers of equal length and a carry, one bit longer."""
+        total = []
+        for one, other in zip(a, b):
+            half = self.xor(one, other)
+            total.append(self.xor(half, carry))
+            carry = self.lor(self.land(one, other), self.land(half, carry))
+        return total + [carry]
+
+    def choose(self, test, a, b):
+        """The first word where the test holds, else the second."""
+        return [self.lor(self.land(test, one), self.land(test ^ 1, other)) for one, other in zip(a, b)]
 
     def word(self, bits):
         return [self.input() for _ in range(bits)]
@@ -149,6 +168,59 @@ def rounds(bits, count):
     return c
 
 
+def divider(bits):
+    """A restoring divider with registers between its rows: a bit of the quotient in each."""
+    c = Builder()
+    dividend, divisor = c.held(c.word(bits)), c.held(c.word(bits))
+    rest, quotient = [0] * (bits + 1), []
+    for k in range(bits):
+        rest = [dividend[-1 - k]] + rest[:-1]
+        less, fits = c.subtract(rest, divisor + [0])
+        rest = c.held(c.choose(fits, less, rest))
+        quotient = c.held([fits] + quotient)
+        dividend, divisor = c.held(dividend[: bits - 1 - k]) + dividend[bits - 1 - k :], c.held(divisor)
+    c.outputs = quotient + rest
+    return c
+
+
+def cordic(bits):
+    """A CORDIC rotation with registers between its steps, one for each bit but the last."""
+    c = Builder()
+    x, y, angle = (c.held(c.word(bits)) for _ in range(3))
+    for k in range(bits - 1):
+        turn = int(math.atan(2.0**-k) / (math.pi / 2) * 2 ** (bits - 2))
+        constant = [turn >> place & 1 for place in range(bits)]
+        down = angle[-1]
+        by = lambda word, test: [c.xor(bit, test) for bit in word]
+        shifted = lambda word: word[k:] + word[-1:] * k
+        one, other = shifted(x), shifted(y)
+        x, y, angle = (
+            c.add_with(x, by(other, down ^ 1), down ^ 1)[:-1],
+            c.add_with(y, by(one, down), down)[:-1],
+            c.add_with(angle, by(constant, down ^ 1), down ^ 1)[:-1],
+        )
+        x, y, angle = c.held(x), c.held(y), c.held(angle)
+    c.outputs = x + y
+    return c
+
+
+def fir(taps, bits):
+    """A filter: each of the last samples times a constant, with a register behind each product, and the sum of all."""
+    rng = random.Random(taps)
+    c = Builder()
+    sample, rows = c.word(bits), []
+    for _ in range(taps):
+        sample, product = c.held(sample), [0] * bits
+        for place in range(bits):
+            if rng.randrange(2):
+                product = product[:place] + c.add(product[place:], sample)
+        rows.append(c.held(product))
+    while len(rows) > 1:
+        rows = [c.add(*rows[k : k + 2]) if k + 1 < len(rows) else rows[k] for k in range(0, len(rows), 2)]
+    c.outputs = rows[0]
+    return c
+
+
 def gates(count, latches):
     """Random gates, most of which read something near; one latch in four takes an input."""
     rng = random.Random(count)
@@ -166,7 +238,7 @@ def gates(count, latches):
     return c
 
 
-FAMILIES = {it.__name__: it for it in (products, multiplier, adder_tree, delay_lines, rounds, gates)}
+FAMILIES = {it.__name__: it for it in (products, multiplier, divider, cordic, fir, adder_tree, delay_lines, rounds, gates)}
 
 
 def main(words):

@@ -1,38 +1,52 @@
 -- The excess that the start sends into a node fits a word.
-use Rattle.std.proofs.Common.{◌≡◌, ℕ, suc, ◌+◌, ◌<◌, ◌==◌, ◌-◌, ◌^◌, cond, Bool, List, [], ◌∷◌, ◌++◌, length, slice_index, arith, refl, sym, ap, ◌∙◌, inl, inr}
+use Rattle.std.proofs.Common.{◌≡◌, ℕ, zero, suc, ◌+◌, ◌<◌, ◌==◌, ◌-◌, cond, Bool, List, [], ◌∷◌, ◌++◌, length, slice_index, arith, refl, sym, ap, ◌∙◌, inl, inr}
+use Rattle.std.proofs.Math.Dec.{eqb-suc-zero}
 use Rattle.std.proofs.lemmas.Bool.{eq-eqb, cases_lt}
 use Rattle.std.proofs.lemmas.List.{get_or-append_right, length-append}
 use Rattle.std.proofs.Math.ListN.{get_or-append}
 use Rattle.flow_theory.specs.Flow.{sum_below}
-use Rattle.flow_theory.proofs.Sums.{sum_below-mono, term-le-sum_below}
-use Rattle.frame_net.specs.FlowNet.{FlowNet, node_count, row_len, head, mate, cap_at, HasMate, IsFlowNet, IsStartable}
-use Rattle.arc_rows.proofs.Sparse.{sparse-total}
-use Rattle.flow_part.specs.Parts.{pair}
-use Rattle.flow_part.specs.Delivering.{own, back}
-use Rattle.flow_whole.proofs.Mates.{from_mates}
+use Rattle.flow_theory.proofs.Sums.{sum_below-same, sum_below-zero}
+use Rattle.frame_net.specs.FlowNet.{FlowNet, node_count, row_len, head, mate, cap_at, HasMate, IsFlowNet}
+use Rattle.flow_part.specs.Delivering.{back}
+use Rattle.flow_whole.specs.Start.{start_excess}
 use Rattle.flow_part.proofs.Picks.{arc_in}
-
--- what comes into a node from the source fits a word
-pub comes_in : (net : FlowNet) (v k : ℕ) → IsFlowNet net → IsStartable net → v < node_count net → k < row_len net v
-    → sum_below k (λ j. cond (head net v j == 0) (back net net.caps v j) 0) + cond (head net v k == 0) (back net net.caps v k) 0 < 2 ^ 32
-comes_in net v k ok able vn kl =
-    omega (
-      arith,
-      sum_below-mono (suc k) (row_len net v) (λ j. cond (head net v j == 0) (back net net.caps v j) 0) (omega arith),
-      from_mates net net.caps ok v 0 vn (omega arith),
-      term-le-sum_below (node_count net) v (pair net net.caps 0) vn,
-      sparse-total (node_count net) (row_len net 0) (head net 0) (own net net.caps 0) (λ j l. ok.heads_in 0 j (omega arith) l),
-      able.source_fits,
-    )
 
 pub mate_in : (net : FlowNet) (v k : ℕ) → IsFlowNet net → v < node_count net → k < row_len net v → mate net v k < length net.heads
 mate_in net v k ok vn kl = let m : HasMate net v k = ok.meets v k vn kl in omega (arith, m.arc, arc_in net (head net v k) m.place ok (ok.heads_in v k vn kl) m.inside)
 
-pub comes_more : (net : FlowNet) (v k sum x h m : ℕ) → IsFlowNet net → IsStartable net → v < node_count net → k < row_len net v
-    → sum ≡ sum_below k (λ j. cond (head net v j == 0) (back net net.caps v j) 0) → h ≡ head net v k → h ≡ 0 → m ≡ mate net v k → x ≡ cap_at net m → sum + x < 2 ^ 32
-comes_more net v k sum x h m ok able vn kl es eh ez em ex =
-    let here : cond (head net v k == 0) (back net net.caps v k) 0 ≡ back net net.caps v k = ap (λ (b : Bool). cond b (back net net.caps v k) 0) (eq-eqb (head net v k) 0 (sym eh ∙ ez)) in
-    omega (arith, es, here, ex, ap (λ (y : ℕ). cap_at net y) em, comes_in net v k ok able vn kl)
+-- heads rise, so what comes from the source comes over the first arc of a row, if that leads to the source
+later_zero : (h x : ℕ) → 0 < h → cond (h == 0) x 0 ≡ 0
+later_zero zero x above = absurd (omega (arith, above))
+later_zero (suc h) x above = ap (λ (b : Bool). cond b x 0) (eqb-suc-zero h)
+
+first_alone : (n : ℕ) (f : ℕ → ℕ) → ((k : ℕ) → 0 < k → k < n → f k ≡ 0) → 0 < n → sum_below n f ≡ f 0
+first_alone zero f later some = absurd (omega (arith, some))
+first_alone (suc zero) f later some = omega arith
+first_alone (suc (suc n)) f later some = omega (arith, first_alone (suc n) f (λ k low high. later k low (omega arith)) (omega arith), later (suc n) (omega arith) (omega arith))
+
+all_above : (net : FlowNet) (v : ℕ) → IsFlowNet net → v < node_count net → (0 < row_len net v → 0 < head net v 0) → (k : ℕ) → k < row_len net v → 0 < head net v k
+all_above net v ok vn first zero inside = first inside
+all_above net v ok vn first (suc k) inside = let rise : head net v 0 < head net v (suc k) = ok.heads_rise v 0 (suc k) vn (omega arith) inside in omega (arith, rise)
+
+no_source : (v x : ℕ) → 0 < v → cond (v == 0) 0 x ≡ x
+no_source zero x above = absurd (omega (arith, above))
+no_source (suc v) x above = ap (λ (b : Bool). cond b 0 x) (eqb-suc-zero v)
+
+pub source_excess : (net : FlowNet) (v x h m : ℕ) → IsFlowNet net → v < node_count net → 0 < v → 0 < row_len net v → h ≡ head net v 0 → h ≡ 0 → m ≡ mate net v 0
+    → x ≡ cap_at net m → x ≡ start_excess net v
+source_excess net v x h m ok vn above some eh ez em ex =
+    let f : ℕ → ℕ = λ k. cond (head net v k == 0) (back net net.caps v k) 0 in
+    let here : f 0 ≡ back net net.caps v 0 = ap (λ (b : Bool). cond b (back net net.caps v 0) 0) (eq-eqb (head net v 0) 0 (sym eh ∙ ez)) in
+    let alone : sum_below (row_len net v) f ≡ f 0 = first_alone (row_len net v) f
+    (λ k low high. later_zero (head net v k) (back net net.caps v k) (let rise : head net v 0 < head net v k = ok.heads_rise v 0 k vn low high in omega (arith, rise))) some in
+    ex ∙ ap (λ (y : ℕ). cap_at net y) em ∙ sym here ∙ sym alone ∙ sym (no_source v (sum_below (row_len net v) f) above)
+
+pub no_excess : (net : FlowNet) (v : ℕ) → IsFlowNet net → v < node_count net → 0 < v → (0 < row_len net v → 0 < head net v 0) → 0 ≡ start_excess net v
+no_excess net v ok vn above first =
+    let f : ℕ → ℕ = λ k. cond (head net v k == 0) (back net net.caps v k) 0 in
+    let none : sum_below (row_len net v) f ≡ 0 = sum_below-same (row_len net v) f (λ k. 0)
+    (λ k inside. later_zero (head net v k) (back net net.caps v k) (all_above net v ok vn first k inside)) ∙ sum_below-zero (row_len net v) in
+    sym none ∙ sym (no_source v (sum_below (row_len net v) f) above)
 
 -- one more element is the next value of f
 pub one_more : (f : ℕ → ℕ) (xs ys : List ℕ) (x i : ℕ) → ys ≡ xs ++ x ∷ [] → length xs ≡ i → ((j : ℕ) → j < length xs → slice_index xs j ≡ f j) → x ≡ f i

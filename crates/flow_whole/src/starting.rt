@@ -38,7 +38,7 @@ fn start_residuals(alloc: Global, net: &Net, base: u32, size: u32) -> Result<Vec
     Ok(residuals)
 }
 
-/// The excess of node `v` at the start.
+/// The excess of node `v` at the start. Heads rise, so an arc to the source is the first one of a row.
 fn start_node(net: &Net, v: u32) -> u32
     requires { v < node_count net.now }
     ensures { result ≡ start_excess net.now v }
@@ -46,14 +46,14 @@ fn start_node(net: &Net, v: u32) -> u32
     let _nodes = net.nodes();
     let _arcs = net.arcs();
     let heads = net.heads(v);
-    let mates = net.mates(v);
-    let mut sum = 0;
-    for k in 0..heads.len() {
-        if heads[k] == 0 {
-            sum += net.cap(mates[k]);
-        }
+    if v == 0 {
+        return 0;
     }
-    if v == 0 { 0 } else { sum }
+    if heads.len() > 0 && heads[0] == 0 {
+        net.cap(net.mates(v)[0])
+    } else {
+        0
+    }
 }
 
 /// The excess of `count` nodes from `first` on, at the start.

@@ -181,4 +181,11 @@ impl Net {
     {
         self.caps[arc as usize]
     }
+
+    /// The capacities of all arcs.
+    pub fn caps(&self) -> &[u32]
+        ensures { result.now ≡ self.now.caps }
+    {
+        self.caps.as_slice()
+    }
 }

@@ -1,5 +1,6 @@
 -- What the frames of a run rest on.
-use Rattle.std.proofs.Common.{ℕ, ◌≡◌, ◌<◌, ◌≤◌, ◌++◌, suc, List, [], ◌∷◌, length, filter, get_or, arith, ap, sym, ◌∙◌, subst}
+use Rattle.std.proofs.Common.{ℕ, ◌≡◌, ◌<◌, ◌≤◌, ◌++◌, suc, List, [], ◌∷◌, length, filter, get_or, arith, ap, sym, ◌∙◌, subst, Result, Ok, Err}
+use Rattle.std.specs.Result.{IfOk}
 use Rattle.std.specs.List.{All}
 use Rattle.std.proofs.lemmas.List.Elements.{All-filter, All-map}
 use Rattle.std.proofs.lemmas.List.FromFn.{length-range_with_len}
@@ -13,6 +14,7 @@ use Rattle.aig_graph.specs.Border.{IsGreatestLeast}
 use Rattle.aig_graph.specs.Laws.{all_free, composed}
 use Rattle.aig_graph.specs.Streams.{SameStreams}
 use Rattle.aig_graph.proofs.StreamLaws.{same_streams-transitive}
+use Rattle.clean.specs.declared.cleaning.Cleaned.{Cleaned}
 use Rattle.clean.proofs.CleaningLaws.{composed-all}
 use Rattle.variable_tables.specs.Counting.{places}
 use Rattle.variable_tables.specs.Marking.{has}
@@ -55,6 +57,12 @@ streams-through c d e kept first second =
     omega (arith, here, first.places.each, length-range_with_len 0 free) in
     subst (λ (places : List ℕ). SameStreams c e places) (composed-all free kept below) (same_streams-transitive c d e (all_free c.aig) kept first second)
 
+-- what is so of a circuit with all its free latches is so of a result that is that circuit
+pub own-cleaned : {E : Type 0} (c : Netlist) (P : Netlist → List ℕ → Type 0) (r : Result Cleaned E) → IfOk r (λ d. d.circuit ≡ c) → IfOk r (λ d. d.kept_free ≡ all_free c.aig)
+    → P c (all_free c.aig) → IfOk r (λ d. P d.circuit d.kept_free)
+own-cleaned c P (Ok d) circuit places so = subst (λ (e : Netlist). P e d.kept_free) (sym circuit) (subst (P c) (sym places) so)
+own-cleaned c P (Err e) circuit places so = tt
+
 pub one-more : (names : List (List ℕ)) (c : Netlist) (n : ℕ) (r : Retimed) (taken : Frame) → IsUnderway names c n r → Moves names r.circuit taken
     → IsUnderway names c (suc n) (record { circuit = taken.cleaned.circuit; kept_free = composed r.kept_free taken.cleaned.kept_free; read_latches = r.read_latches; frames = r.frames ++ taken.report ∷ [] })
 one-more names c n r taken before moves = record {
@@ -62,6 +70,7 @@ one-more names c n r taken before moves = record {
   read_latches = before.read_latches;
   streams = same_streams-transitive c r.circuit taken.cleaned.circuit r.kept_free taken.cleaned.kept_free before.streams moves.streams;
   held = moves.held ∙ before.held;
+  tidy = moves.tidy;
 }
 
 -- a run ends at the limit of frames, or where none counts less

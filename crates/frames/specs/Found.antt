@@ -4,6 +4,7 @@ use Rattle.aig_graph.specs.Circuits.{Netlist}
 use Rattle.aig_graph.specs.Streams.{SameStreams}
 use Rattle.retimed_circuits.specs.Names.{held_latches}
 use Rattle.retimed_circuits.specs.Frames.{IsHelpingSet, report_in, IsFrame}
+use Rattle.tidy.specs.Tidy.{IsTidyIn}
 use Rattle.frames.specs.declared.helping.Helping.{Helping}
 use Rattle.frames.specs.declared.frame.Frame.{Frame}
 
@@ -12,8 +13,9 @@ pub record Helps (names : List (List ℕ)) (c : Netlist) (found : Helping) : Typ
   pub set : IsHelpingSet names c found.set
   pub report : found.report ≡ report_in names c found.set
 
--- a frame that keeps the streams, and the latches that the names hold
+-- a frame that keeps the streams, and the latches that the names hold, and leaves nothing to clean
 pub record Moves (names : List (List ℕ)) (c : Netlist) (frame : Frame) : Type 0 where
   pub moves : IsFrame names c frame.cleaned.circuit frame.cleaned.kept_free frame.report
   pub streams : SameStreams c frame.cleaned.circuit frame.cleaned.kept_free
   pub held : held_latches names frame.cleaned.circuit ≡ held_latches names c
+  pub tidy : IsTidyIn names frame.cleaned.circuit

@@ -6,10 +6,12 @@ ghost use Rattle.retimed_circuits.specs.Frames.{CleansIn, IsHelpingSet, NoneSmal
 ghost use Rattle.retimed_circuits.specs.Names.{held_in, held_latches};
 ghost use Rattle.frames.specs.Found.{Moves};
 ghost use Rattle.frames.specs.Named.{NoneMissing, names_in};
+ghost use Rattle.tidy.specs.Tidy.{IsTidyIn};
 
 use crate::helping::helping_set;
-use crate::holding::{cleaned_by_names, held};
+use crate::holding::held;
 use crate::options::Options;
+use crate::settling::settled;
 use aig_graph::{Circuit, ClosedSet, Keep, NoMemory};
 use clean::Cleaned;
 use gate_flows::{GateFlow, after_cleaning, after_move};
@@ -37,19 +39,21 @@ fn moved_over(
     requires keep { keep.now ≡ held_in (names_in options.now) circuit.now }
     requires names { NoneMissing options.now circuit.now }
     requires graph { IsGraph circuit.now.aig }
+    requires tidy { IsTidyIn (names_in options.now) circuit.now }
     requires helps { IsHelpingSet (names_in options.now) circuit.now set.now }
     ensures cleaned { IfOk result (λ d. CleansIn (names_in options.now) (moved_in (names_in options.now) circuit.now set.now) d.circuit d.kept_free) }
     ensures streams { IfOk result (λ d. SameStreams circuit.now d.circuit d.kept_free) }
     ensures held { IfOk result (λ d. held_latches (names_in options.now) d.circuit ≡ held_latches (names_in options.now) circuit.now) }
+    ensures tidy { IfOk result (λ d. IsTidyIn (names_in options.now) d.circuit) }
 {
     let _aig = circuit.aig();
+    let copies = set.vars().len();
     let after = moved(alloc, circuit, set, keep)?;
-    let cleaned = cleaned_by_names(alloc, &after, options);
-    drop(after);
-    cleaned
+    settled(alloc, after, copies, options)
 }
 
-/// What the flow did at each gate, by the gates after a move over the set and a cleaning that keeps gates at these places.
+/// What the flow did at each gate, by the gates after a move over the set and a cleaning that keeps gates at these places; none are
+/// listed where it keeps all.
 fn carried(
     alloc: Global,
     circuit: &Circuit,
@@ -58,6 +62,9 @@ fn carried(
     flows: &[GateFlow],
 ) -> Result<Vec<GateFlow>, NoMemory> {
     let moved = after_move(alloc, circuit.aig(), set, flows)?;
+    if kept_gates.is_empty() {
+        return Ok(moved);
+    }
     after_cleaning(alloc, kept_gates, moved.as_slice())
 }
 
@@ -84,7 +91,8 @@ pub(crate) fn next_frame<G: PhaseGate>(
     crew: &Crew<G>,
     flows: &mut Vec<GateFlow>,
 ) -> Result<Option<Frame>, NoMemory>
-    requires { NoneMissing options.now circuit.now }
+    requires names { NoneMissing options.now circuit.now }
+    requires tidy { IsTidyIn (names_in options.now) circuit.now }
     ensures { IfOk result (λ found. MatchOption found (NoneSmaller (names_in options.now) circuit.now) (Moves (names_in options.now) circuit.now)) }
 {
     let _aig = circuit.aig();

@@ -4,6 +4,7 @@ ghost use Rattle.aig_graph.specs.Streams.{SameStreams};
 ghost use Rattle.retimed_circuits.specs.Frames.{CleansIn};
 ghost use Rattle.retimed_circuits.specs.Names.{held_in, held_latches};
 ghost use Rattle.frames.specs.Named.{NoneMissing, names_in};
+ghost use Rattle.tidy.specs.Tidy.{IsTidyIn};
 
 use crate::options::Options;
 use aig_graph::{Circuit, Keep, KeepError, NoMemory, keep_of};
@@ -33,6 +34,7 @@ pub(crate) fn cleaned(
     ensures cleaned { IfOk result (λ d. CleansIn (names_in options.now) circuit.now d.circuit d.kept_free) }
     ensures streams { IfOk result (λ d. SameStreams circuit.now d.circuit d.kept_free) }
     ensures held { IfOk result (λ d. held_latches (names_in options.now) d.circuit ≡ held_latches (names_in options.now) circuit.now) }
+    ensures tidy { IfOk result (λ d. IsTidyIn (names_in options.now) d.circuit) }
 {
     // That the names are those of latches in range is what a circuit's readers ensure.
     let _aig = circuit.aig();
@@ -49,6 +51,7 @@ pub(crate) fn cleaned_by_names(
     ensures cleaned { IfOk result (λ d. CleansIn (names_in options.now) circuit.now d.circuit d.kept_free) }
     ensures streams { IfOk result (λ d. SameStreams circuit.now d.circuit d.kept_free) }
     ensures held { IfOk result (λ d. held_latches (names_in options.now) d.circuit ≡ held_latches (names_in options.now) circuit.now) }
+    ensures tidy { IfOk result (λ d. IsTidyIn (names_in options.now) d.circuit) }
 {
     let keep = held(alloc, circuit, options)?;
     cleaned(alloc, circuit, &keep, options)

@@ -13,6 +13,7 @@ mod least_set;
 mod limits;
 mod options;
 mod retiming;
+mod settling;
 
 pub use bytes::{retime_bytes, retime_bytes_with};
 pub use errors::{BytesError, RetimeError};

@@ -3,6 +3,7 @@ ghost use Rattle.std.specs.Prelude.{◌≡◌, ◌∷◌, [], IfOk};
 ghost use Rattle.aig_graph.specs.Building.{without_gates};
 ghost use Rattle.aig_graph.specs.Graph.{variables_end};
 
+mod records;
 mod texts;
 mod workers;
 

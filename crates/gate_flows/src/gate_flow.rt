@@ -1,13 +1,12 @@
-//! What a flow did at one gate.
-
+//! What a flow did at one gate, and where its gates lie in a network.
 ghost use Rattle.std.specs.Prelude.{◌<◌};
 ghost use Rattle.frame_net.specs.FlowNet.{node_count};
 
-use aig_graph::{Aig, Gate};
-use frame_net::{Net, Point};
+use aig_graph::Aig;
+use frame_net::Net;
 
 /// What a flow did at a gate: whether a unit came from the output of a fan-in, for each of the two; whether one went through; and how
-/// many went on to before a fan-in that is a gate.
+/// many went on to before a fan-in that is a gate. The first fan-in is the one of the smaller variable.
 #[derive(Clone, Copy, Debug, PartialEq, Eq)]
 pub struct GateFlow {
     pub first_up: bool,
@@ -15,63 +14,6 @@ pub struct GateFlow {
     pub through: bool,
     pub first_down: u32,
     pub second_down: u32,
-}
-
-/// A passable gate, with its variable and its place among the gates.
-#[derive(Clone, Copy)]
-pub(crate) struct PlacedGate {
-    pub(crate) gate: Gate,
-    pub(crate) var: u32,
-    pub(crate) place: usize,
-}
-
-/// The gate before which a node lies.
-pub(crate) fn gate_after(net: &Net, aig: &Aig, v: u32) -> Option<PlacedGate>
-    requires { v < node_count net.now }
-{
-    let point = net.point(v)?;
-    if point.behind {
-        return None;
-    }
-    let gate = aig.gate(point.var)?;
-    Some(PlacedGate {
-        gate,
-        var: point.var,
-        place: point.var.saturating_sub(aig.first_gate()) as usize,
-    })
-}
-
-/// What an arc between the point before a gate and another point is to the gate.
-#[derive(Clone, Copy, Debug, PartialEq, Eq)]
-pub(crate) enum Way {
-    FirstUp,
-    SecondUp,
-    Through,
-    FirstDown,
-    SecondDown,
-}
-
-/// What the arc between the point before a gate and another point is.
-pub(crate) fn way_to(placed: &PlacedGate, other: Point) -> Option<Way> {
-    let gate = placed.gate;
-    let var = placed.var;
-    if other.behind {
-        if other.var == var {
-            Some(Way::Through)
-        } else if other.var == gate.rhs0.var() {
-            Some(Way::FirstUp)
-        } else if other.var == gate.rhs1.var() {
-            Some(Way::SecondUp)
-        } else {
-            None
-        }
-    } else if other.var == gate.rhs0.var() {
-        Some(Way::FirstDown)
-    } else if other.var == gate.rhs1.var() {
-        Some(Way::SecondDown)
-    } else {
-        None
-    }
 }
 
 impl GateFlow {
@@ -86,25 +28,69 @@ impl GateFlow {
         }
     }
 
-    /// The units that went this way.
-    pub(crate) fn units(&self, way: Way) -> u32 {
-        match way {
-            Way::FirstUp => u32::from(self.first_up),
-            Way::SecondUp => u32::from(self.second_up),
-            Way::Through => u32::from(self.through),
-            Way::FirstDown => self.first_down,
-            Way::SecondDown => self.second_down,
+    /// What is wished of a gate whose flow isn't known: a unit from either fan-in, and one through.
+    pub fn unknown() -> GateFlow {
+        GateFlow {
+            first_up: true,
+            second_up: true,
+            through: true,
+            first_down: 0,
+            second_down: 0,
         }
     }
 
-    /// Notes that so many units went this way.
-    pub(crate) fn note(&mut self, way: Way, units: u32) {
-        match way {
-            Way::FirstUp => self.first_up = units > 0,
-            Way::SecondUp => self.second_up = units > 0,
-            Way::Through => self.through = units > 0,
-            Way::FirstDown => self.first_down = units,
-            Way::SecondDown => self.second_down = units,
+    /// Whether a unit came from the output of the second or the first fan-in.
+    pub(crate) fn up(&self, second: bool) -> bool {
+        if second {
+            self.second_up
+        } else {
+            self.first_up
         }
     }
+
+    /// The units that went on to before the second or the first fan-in.
+    pub(crate) fn down(&self, second: bool) -> u32 {
+        if second {
+            self.second_down
+        } else {
+            self.first_down
+        }
+    }
+
+    /// Notes whether a unit came from the output of the second or the first fan-in.
+    pub(crate) fn note_up(&mut self, second: bool, came: bool) {
+        if second {
+            self.second_up = came;
+        } else {
+            self.first_up = came;
+        }
+    }
+
+    /// Notes how many units went on to before the second or the first fan-in.
+    pub(crate) fn note_down(&mut self, second: bool, units: u32) {
+        if second {
+            self.second_down = units;
+        } else {
+            self.first_down = units;
+        }
+    }
+}
+
+/// The node before the first passable gate, in the network of a graph: those of the known latches come before it, and after it come for
+/// each gate in turn the node before and the node after it.
+pub(crate) fn first_before(aig: &Aig) -> u32 {
+    aig.known_latches().saturating_add(2)
+}
+
+/// Whether a node is one before a gate.
+pub(crate) fn is_before(first: u32, v: u32) -> bool {
+    first <= v && (v - first) % 2 == 0
+}
+
+/// The place among the graph's gates of the one before which a node lies.
+pub(crate) fn gate_place(net: &Net, aig: &Aig, v: u32) -> Option<usize>
+    requires { v < node_count net.now }
+{
+    let point = net.point(v)?;
+    Some(point.var.saturating_sub(aig.first_gate()) as usize)
 }

@@ -3,15 +3,15 @@ ghost use Rattle.std.specs.Prelude.{◌<◌};
 ghost use Rattle.frame_net.specs.FlowNet.{node_count};
 ghost use Rattle.pulse.specs.Conditions.{IsMaxPreflow};
 
-use crate::gate_flow::{GateFlow, PlacedGate, Way, gate_after, way_to};
+use crate::gate_flow::{GateFlow, first_before, gate_place, is_before};
 use aig_graph::{Aig, NoMemory};
 use frame_net::Net;
 use pulse::MaxPreflow;
 use std::alloc::Global;
 
-/// What a preflow did at the node before a gate. An arc that carries nothing its own way has what its mate carries as residual above its
-/// capacity.
-fn flow_at(net: &Net, placed: &PlacedGate, preflow: &MaxPreflow, v: u32) -> GateFlow
+/// What a preflow did at the node before a gate. Heads rise: the nodes of the first fan-in come first, then those of the second one, and
+/// then the gate's output. An arc that carries nothing its own way has what its mate carries as residual above its capacity.
+fn flow_at(net: &Net, first: u32, preflow: &MaxPreflow, v: u32) -> GateFlow
     requires preflow { IsMaxPreflow net.now preflow.now }
     requires v { v < node_count net.now }
 {
@@ -19,25 +19,22 @@ fn flow_at(net: &Net, placed: &PlacedGate, preflow: &MaxPreflow, v: u32) -> Gate
     let _arcs = net.arcs();
     let mut flow = GateFlow::none();
     let heads = net.heads(v);
-    let first = net.start(v);
+    let start = net.start(v);
+    let mut second = false;
     for k in 0..heads.len() {
-        // Heads rise, and the node after the gate is the next one: then come the readers'.
-        if heads[k] > v.saturating_add(1) {
-            break;
-        }
-        let arc = (first + k) as u32;
+        let head = heads[k];
+        let arc = (start + k) as u32;
         let cap = net.cap(arc);
         let residual = preflow.residual(arc);
-        let way = match net.point(heads[k]) {
-            Some(other) => way_to(placed, other),
-            None => None,
-        };
-        if let Some(way) = way {
-            let units = match way {
-                Way::FirstUp | Way::SecondUp => residual.saturating_sub(cap),
-                _ => cap.saturating_sub(residual),
-            };
-            flow.note(way, units);
+        if head > v {
+            flow.through = residual < cap;
+            return flow;
+        }
+        if is_before(first, head) {
+            flow.note_down(second, cap.saturating_sub(residual));
+        } else {
+            flow.note_up(second, residual > cap);
+            second = true;
         }
     }
     flow
@@ -64,12 +61,14 @@ pub fn gate_flows(
     requires { IsMaxPreflow net.now preflow.now }
 {
     let nodes = net.nodes();
+    let first = first_before(aig);
     let mut flows = vec![in alloc; GateFlow::none(); aig.gates().len()]?;
-    for v in 2..nodes {
-        if let Some(placed) = gate_after(net, aig, v) {
-            let flow = flow_at(net, &placed, preflow, v);
-            let place = placed.place;
-            put(flows.as_mut_slice(), place, flow);
+    for v in first..nodes {
+        if is_before(first, v) {
+            if let Some(place) = gate_place(net, aig, v) {
+                let flow = flow_at(net, first, preflow, v);
+                put(flows.as_mut_slice(), place, flow);
+            }
         }
     }
     Ok(flows)

@@ -2,67 +2,54 @@
 ghost use Rattle.std.specs.Prelude.{◌<◌};
 ghost use Rattle.frame_net.specs.FlowNet.{node_count};
 
-use crate::gate_flow::{GateFlow, PlacedGate, Way, gate_after, way_to};
+use crate::gate_flow::{GateFlow, first_before, gate_place, is_before};
 use aig_graph::{Aig, NoMemory};
 use frame_net::Net;
 use std::alloc::Global;
+
+/// Wishes so many units over an arc.
+fn wish(wishes: &mut [u32], arc: usize, units: u32) {
+    if let Some(wish) = wishes.get_mut(arc) {
+        *wish = units;
+    }
+}
 
 /// Wishes a unit over each arc into the sink.
 fn wish_into_sink(net: &Net, wishes: &mut [u32]) {
     let _nodes = net.nodes();
     for mate in net.mates(1) {
-        if let Some(wish) = wishes.get_mut(*mate as usize) {
-            *wish = 1;
-        }
+        wish(wishes, *mate as usize, 1);
     }
 }
 
-/// Wishes what went over an arc of the row of the node before a gate.
-fn wish_over(
-    net: &Net,
-    placed: &PlacedGate,
-    flow: &GateFlow,
-    wishes: &mut [u32],
-    arc: usize,
-    mate: usize,
-    head: u32,
-)
-    requires { head < node_count net.now }
-{
-    let way = match net.point(head) {
-        Some(other) => way_to(placed, other),
-        None => None,
-    };
-    if let Some(way) = way {
-        let to = match way {
-            Way::FirstUp | Way::SecondUp => mate,
-            _ => arc,
-        };
-        if let Some(wish) = wishes.get_mut(to) {
-            *wish = flow.units(way);
-        }
-    }
-}
-
-/// Wishes what went on at the node before a gate.
-fn wish_at(net: &Net, placed: &PlacedGate, flow: &GateFlow, wishes: &mut [u32], v: u32)
+/// Wishes what came to the node before a gate, and what went on from it. Heads rise: the nodes of the first fan-in come first, then those
+/// of the second one, and then the gate's output; readers come after it.
+fn wish_at(net: &Net, first: u32, flow: &GateFlow, wishes: &mut [u32], v: u32)
     requires { v < node_count net.now }
 {
     let _nodes = net.nodes();
     let heads = net.heads(v);
     let mates = net.mates(v);
-    let first = net.start(v);
+    let start = net.start(v);
+    let mut second = false;
     for k in 0..heads.len() {
-        // Heads rise, and the node after the gate is the next one: then come the readers'.
-        if heads[k] > v.saturating_add(1) {
-            break;
+        let head = heads[k];
+        let arc = start.saturating_add(k);
+        if head > v {
+            wish(wishes, arc, u32::from(flow.through));
+            return;
         }
-        let arc = first.saturating_add(k);
-        wish_over(net, placed, flow, wishes, arc, mates[k] as usize, heads[k]);
+        if is_before(first, head) {
+            wish(wishes, arc, flow.down(second));
+        } else {
+            wish(wishes, mates[k] as usize, u32::from(flow.up(second)));
+            second = true;
+        }
     }
 }
 
-/// A wish for each arc: what went over it, and a unit for each arc into the sink. There is none where no flow of a gate is known.
+/// A wish for each arc: what went over it, and a unit for each arc into the sink. Where no flow of a gate is known, a unit is wished from
+/// each of its fan-ins and one through it.
 ///
 /// # Errors
 ///
@@ -73,16 +60,15 @@ pub fn wishes(
     aig: &Aig,
     flows: &[GateFlow],
 ) -> Result<Vec<u32>, NoMemory> {
-    if flows.is_empty() {
-        return Ok(Vec::new(alloc));
-    }
     let nodes = net.nodes();
+    let first = first_before(aig);
     let mut wishes = vec![in alloc; 0u32; net.arcs()]?;
     wish_into_sink(net, wishes.as_mut_slice());
-    for v in 2..nodes {
-        if let Some(placed) = gate_after(net, aig, v) {
-            if let Some(flow) = flows.get(placed.place) {
-                wish_at(net, &placed, flow, wishes.as_mut_slice(), v);
+    for v in first..nodes {
+        if is_before(first, v) {
+            if let Some(place) = gate_place(net, aig, v) {
+                let flow = flows.get(place).copied().unwrap_or(GateFlow::unknown());
+                wish_at(net, first, &flow, wishes.as_mut_slice(), v);
             }
         }
     }

@@ -128,10 +128,6 @@ fn capacities(alloc: Global, net: &Net) -> Result<Vec<u32>, AllocError>
     ensures len { IfOk result (λ v. length v.items ≡ length net.now.heads) }
     ensures each { IfOk result (λ v. (arc : ℕ) → arc < length v.items → slice_index v.items arc ≡ cap_at net.now arc) }
 {
-    let arcs = net.arcs();
-    let mut caps = Vec::with_capacity(alloc, arcs)?;
-    for arc in 0..arcs {
-        caps.push(net.cap(arc as u32))?;
-    }
-    Ok(caps)
+    let _nodes = net.nodes();
+    Vec::from_slice(alloc, net.caps())
 }

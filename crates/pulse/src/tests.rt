@@ -4,4 +4,5 @@ mod networks;
 mod random_networks;
 mod runs;
 mod walked;
+mod wished_runs;
 mod worked_pulses;

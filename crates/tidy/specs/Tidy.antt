@@ -10,6 +10,7 @@ use Rattle.variable_tables.specs.Marking.{has}
 use Rattle.cleaned_circuits.specs.Latches.{is_stuck}
 use Rattle.cleaned_circuits.specs.Reached.{HoldsReads}
 use Rattle.rebuild.specs.Moved.{is_latched}
+use Rattle.retimed_circuits.specs.Names.{held_in}
 
 -- two variables, neither the constant; the larger literal is first
 pub record IsPlain (gate : Gate) : Type 0 where
@@ -23,6 +24,10 @@ pub record IsTidy (held : List ℕ) (c : Netlist) : Type 0 where
   pub single : (i j : ℕ) (latch : Latch) → i < j → slice_get c.aig.latches i ≡ Some latch → slice_get c.aig.latches j ≡ Some latch → is_free latch ≡ false → has held j ≡ true
   pub plain : (k : ℕ) (gate : Gate) → slice_get c.aig.gates k ≡ Some gate → IsPlain gate
   pub pairs : (i j : ℕ) (gate : Gate) → slice_get c.aig.gates i ≡ Some gate → slice_get c.aig.gates j ≡ Some gate → i ≡ j
+
+-- nothing is left to clean in a circuit where the latches stay that the names hold
+abbrev pub IsTidyIn : List (List ℕ) → Netlist → Type 0
+IsTidyIn names c = IsTidy (held_in names c) c
 
 -- the gates from number first on are copies; a low one reads a variable that is no copy. Each low copy is plain, and its pair is its own
 pub record AreLowTidy (g : Graph) (first : ℕ) : Type 0 where

@@ -1,12 +1,12 @@
 -- A unit over an arc of a network's row, by the lists of residuals and excess.
-use Rattle.std.proofs.Common.{◌≡◌, ◌≢◌, ℕ, ◌+◌, ◌-◌, ◌<◌, ◌≤◌, ◌^◌, List, [], length, slice_index, slice_set, get_or, arith, refl, ap, sym, ◌∙◌, subst, inl, inr}
+use Rattle.std.proofs.Common.{◌≡◌, ◌≢◌, ℕ, ◌+◌, ◌-◌, ◌<◌, ◌^◌, List, length, slice_index, slice_set, arith, refl, ap, sym, ◌∙◌, subst, inl, inr}
 use Rattle.std.proofs.Math.ListN.{length-set}
 use Rattle.std.proofs.lemmas.List.{get_or-set_same, get_or-set_other}
 use Rattle.std.proofs.lemmas.Bool.{cases_lt, cases_eq}
-use Rattle.flow_theory.specs.Flow.{State, IsPreflow, sum_below}
+use Rattle.flow_theory.specs.Flow.{State, sum_below}
 use Rattle.flow_theory.proofs.Sums.{term-le-sum_below}
 use Rattle.arc_rows.proofs.Sparse.{sparse-at, sparse-none, find_head}
-use Rattle.frame_net.specs.FlowNet.{FlowNet, node_count, start, row_len, head, mate, cap_at, HasMate, IsFlowNet}
+use Rattle.frame_net.specs.FlowNet.{FlowNet, node_count, start, row_len, head, mate, HasMate, IsFlowNet}
 use Rattle.flow_part.specs.Parts.{Agree, IsSound, pair}
 use Rattle.flow_whole.proofs.Mates.{rises}
 use Rattle.flow_whole.proofs.Agreeing.{sound_same}

@@ -1,5 +1,5 @@
 -- A push of one unit keeps a sound flow sound.
-use Rattle.std.proofs.Common.{◌≡◌, ℕ, ◌+◌, ◌-◌, ◌<◌, ◌≤◌, ◌==◌, ◌&&◌, cond, Bool, true, false, arith, refl, ap, sym, ◌∙◌, subst, inl, inr}
+use Rattle.std.proofs.Common.{◌≡◌, ℕ, ◌+◌, ◌-◌, ◌<◌, ◌≤◌, ◌==◌, ◌&&◌, cond, Bool, true, false, arith, refl, ap, sym, ◌∙◌, inl, inr}
 use Rattle.std.proofs.lemmas.Bool.{cases_lt, cases_eq, and_from, eq-eqb, ne_eqb, false≢true}
 use Rattle.flow_theory.specs.Flow.{State, sum_below, IsPreflow, IsValid}
 use Rattle.flow_theory.proofs.Sums.{sum_below-add, sum_below-same, sum_below-swap, sum_below-zero}

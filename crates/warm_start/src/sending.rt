@@ -4,11 +4,12 @@ ghost use Rattle.frame_net.specs.FlowNet.{node_count};
 ghost use Rattle.flow_part.specs.Parts.{AreFlowParts, IsSound, cells_of, pairs, part_cells};
 ghost use Rattle.warm_start.specs.Wished.{IsHeld};
 
-use crate::units::{send_unit, wished_place};
+use crate::units::{next_place, send_unit};
 use flow_part::FlowPart;
 use frame_net::Net;
 
-/// Sends a unit from a node that has one as far as wishes lead it; each arc that it takes has a wish fewer.
+/// Sends a unit from a node that has one as far as wishes lead it, over no more arcs than there are nodes, so that wishes which lead round
+/// and round hold nothing up. Each arc that it takes has a wish fewer.
 fn send_from(
     net: &Net,
     labels: &[u32],
@@ -24,12 +25,17 @@ fn send_from(
     ensures held { IsHeld net.now labels.now residuals.new excess.new }
     ensures wishes { length wishes.new ≡ length wishes.old }
 {
-    let _nodes = net.nodes();
+    let nodes = net.nodes();
     let _arcs = net.arcs();
     let mut at = v;
-    while let Some(place) = wished_place(net, labels, residuals, wishes, at) {
-        wishes[net.start(at) + place] -= 1;
-        at = send_unit(net, labels, residuals, excess, at, place);
+    for _ in 0..nodes {
+        match next_place(net, labels, residuals, wishes, at) {
+            Some(place) => {
+                wishes[net.start(at) + place] -= 1;
+                at = send_unit(net, labels, residuals, excess, at, place);
+            }
+            None => return,
+        }
     }
 }
 

@@ -1,6 +1,6 @@
 //! One unit, over one arc.
-ghost use Rattle.std.specs.Prelude.{◌≡◌, ◌+◌, ◌<◌, IfSome, length, slice_index};
-ghost use Rattle.frame_net.specs.FlowNet.{node_count, head, start};
+ghost use Rattle.std.specs.Prelude.{◌≡◌, ◌+◌, ◌<◌, IfSome, length, slice_index, true};
+ghost use Rattle.frame_net.specs.FlowNet.{node_count, head, row_len, start};
 ghost use Rattle.warm_start.specs.Wished.{CanSend, IsHeld};
 
 use frame_net::Net;
@@ -36,8 +36,81 @@ pub(crate) fn send_unit(
     head
 }
 
-/// The place in a node's row of the first arc over which units are wished and a unit can go. There is none at the sink.
-pub(crate) fn wished_place(
+/// Whether units are wished over the k-th arc of a node's row and one can go over it.
+fn is_wished(net: &Net, labels: &[u32], residuals: &[u32], wishes: &[u32], v: u32, k: usize) -> bool
+    requires v { v < node_count net.now }
+    requires k { k < row_len net.now v }
+    requires labels { length labels.now ≡ node_count net.now }
+    requires residuals { length residuals.now ≡ length net.now.heads }
+    requires wishes { length wishes.now ≡ length net.now.heads }
+    ensures can { result ≡ true → CanSend net.now labels.now residuals.now v k }
+    ensures wished { result ≡ true → 0 < slice_index wishes.now (start net.now v + k) }
+{
+    let _nodes = net.nodes();
+    let arc = net.start(v) + k;
+    if wishes[arc] > 0 && residuals[arc] > 0 {
+        let head = net.heads(v)[k];
+        head != v && labels[head as usize] <= labels[v as usize].saturating_add(1)
+    } else {
+        false
+    }
+}
+
+/// The place in a node's row of the first arc over which units are wished and a unit can go.
+fn wished_place(
+    net: &Net,
+    labels: &[u32],
+    residuals: &[u32],
+    wishes: &[u32],
+    v: u32,
+) -> Option<usize>
+    requires v { v < node_count net.now }
+    requires labels { length labels.now ≡ node_count net.now }
+    requires residuals { length residuals.now ≡ length net.now.heads }
+    requires wishes { length wishes.now ≡ length net.now.heads }
+    ensures can { IfSome result (λ k. CanSend net.now labels.now residuals.now v k) }
+    ensures wished { IfSome result (λ k. 0 < slice_index wishes.now (start net.now v + k)) }
+{
+    let _nodes = net.nodes();
+    for k in 0..net.heads(v).len() {
+        if is_wished(net, labels, residuals, wishes, v, k) {
+            return Some(k);
+        }
+    }
+    None
+}
+
+/// The first such place whose arc leads to the sink, or to a node from which a unit can go on as is wished.
+fn leading_place(
+    net: &Net,
+    labels: &[u32],
+    residuals: &[u32],
+    wishes: &[u32],
+    v: u32,
+) -> Option<usize>
+    requires v { v < node_count net.now }
+    requires labels { length labels.now ≡ node_count net.now }
+    requires residuals { length residuals.now ≡ length net.now.heads }
+    requires wishes { length wishes.now ≡ length net.now.heads }
+    ensures can { IfSome result (λ k. CanSend net.now labels.now residuals.now v k) }
+    ensures wished { IfSome result (λ k. 0 < slice_index wishes.now (start net.now v + k)) }
+{
+    let _nodes = net.nodes();
+    let heads = net.heads(v);
+    for k in 0..heads.len() {
+        if is_wished(net, labels, residuals, wishes, v, k) {
+            let head = heads[k];
+            if head == 1 || wished_place(net, labels, residuals, wishes, head).is_some() {
+                return Some(k);
+            }
+        }
+    }
+    None
+}
+
+/// The place in a node's row of an arc over which units are wished and a unit can go: one that leads on, where there is one. There is none
+/// at the sink.
+pub(crate) fn next_place(
     net: &Net,
     labels: &[u32],
     residuals: &[u32],
@@ -54,18 +127,8 @@ pub(crate) fn wished_place(
     if v == 1 {
         return None;
     }
-    let _nodes = net.nodes();
-    let heads = net.heads(v);
-    let first = net.start(v);
-    let label = labels[v as usize];
-    for k in 0..heads.len() {
-        let arc = first + k;
-        if wishes[arc] > 0 && residuals[arc] > 0 {
-            let head = heads[k];
-            if head != v && labels[head as usize] <= label.saturating_add(1) {
-                return Some(k);
-            }
-        }
+    match leading_place(net, labels, residuals, wishes, v) {
+        Some(k) => Some(k),
+        None => wished_place(net, labels, residuals, wishes, v),
     }
-    None
 }

@@ -1,4 +1,4 @@
-use Rattle.std.proofs.Common.{ℕ, List, ◌≤◌, ◌≡◌, ◌∙◌, None, arith, ap, sym, subst}
+use Rattle.std.proofs.Common.{ℕ, List, ◌+◌, ◌-◌, ◌≤◌, ◌≡◌, ◌∙◌, None, arith, ap, length, sym, subst}
 use Rattle.std.specs.Result.{IfOk}
 use Rattle.aig_graph.specs.declared.literal.TheConstants.{MAX_VARIABLES}
 use Rattle.aig_graph.specs.Circuits.{Netlist}
@@ -8,9 +8,11 @@ use Rattle.aig_graph.specs.Streams.{SameStreams}
 use Rattle.aig_graph.proofs.GraphLemmas.{room}
 use Rattle.rebuild.specs.Moved.{moved_of, moved_size}
 use Rattle.retimed_circuits.specs.Names.{held_latches}
-use Rattle.retimed_circuits.specs.Frames.{CleansIn, count_in, moved_in}
+use Rattle.retimed_circuits.specs.Frames.{CleansIn, count_in, move_in, moved_in}
 use Rattle.retimed_circuits.proofs.HeldLaws.{moving-keeps}
 use Rattle.retimed_circuits.proofs.NameLaws.{names-stay}
+use Rattle.tidy.specs.Tidy.{AreLowTidy, IsTidyIn}
+use Rattle.tidy.proofs.FrameLaws.{copies-within, tidy-moved}
 use Rattle.frames.specs.Named.{names_in}
 use Rattle.frames.proofs.FrameLaws.{streams-through}
 use Rattle.std.proofs.lemmas.Result.{IfOk-from_err, IfOk-weaker}
@@ -24,14 +26,34 @@ moved-requires-clause-room c =
     let P : List ℕ → Type 0 = λ held. moved_size (move_of before held set) ≤ MAX_VARIABLES in
     subst P (sym c.requires.keep) (room before.aig (count_in (names_in c.args.options.now) before set) c.requires.graph (omega (arith, c.requires.helps.fewer)))
 
-pub cleaned_by_names-cleaned-requires : goal.cleaned_by_names-cleaned-requires
-cleaned_by_names-cleaned-requires c =
+pub settled-requires-clause-names : goal.settled-requires-clause-names
+settled-requires-clause-names c =
     let names = names_in c.args.options.now in
     let before = c.args.circuit.now in
     let set = c.args.set.now in
     let P : Netlist → Type 0 = λ d. first_missing d.symbols.latches names ≡ None in
     let same : c.in_ok-after.after ≡ moved_in names before set = c.in_ok-after.ensures.value ∙ ap (λ (held : List ℕ). moved_of (move_of before held set)) c.requires.keep in
     subst P (sym same) (names-stay names before (moved_in names before set) (moving-keeps names before set c.aig-aig.ensures.netlist) c.requires.names)
+
+pub settled-requires-clause-copies : goal.settled-requires-clause-copies
+settled-requires-clause-copies c =
+    let m = move_in (names_in c.args.options.now) c.args.circuit.now c.args.set.now in
+    let same : c.in_ok-after.after ≡ moved_of m = c.in_ok-after.ensures.value ∙ ap (λ (held : List ℕ). moved_of (move_of c.args.circuit.now held c.args.set.now)) c.requires.keep in
+    omega (arith, copies-within m, ap (λ (xs : List ℕ). length xs) c.vars-copies.ensures.value, ap (λ (d : Netlist). length d.aig.gates) same)
+
+pub settled-requires-clause-tidy : goal.settled-requires-clause-tidy
+settled-requires-clause-tidy c =
+    let names = names_in c.args.options.now in
+    let before = c.args.circuit.now in
+    let set = c.args.set.now in
+    let m = move_in names before set in
+    let same : c.in_ok-after.after ≡ moved_of m = c.in_ok-after.ensures.value ∙ ap (λ (held : List ℕ). moved_of (move_of before held set)) c.requires.keep in
+    let long : length c.vars-copies.result.now ≡ length set = ap (λ (xs : List ℕ). length xs) c.vars-copies.ensures.value in
+    let first : ℕ = length (moved_of m).aig.gates - length c.vars-copies.result.now in
+    let ends : first + length set ≡ length (moved_of m).aig.gates = omega (arith, copies-within m, long) in
+    let P : Netlist → Type 0 = λ d. AreLowTidy d.aig (length d.aig.gates - length c.vars-copies.result.now) → IsTidyIn names d in
+    subst P (sym same) (λ lows. tidy-moved names before set first (record { graph = c.aig-aig.ensures.graph; netlist = c.aig-aig.ensures.netlist })
+    c.requires.tidy c.requires.helps.greatest.least.closed ends lows)
 
 pub moved-requires-clause-closed : goal.moved-requires-clause-closed
 moved-requires-clause-closed c =
@@ -46,21 +68,27 @@ returns-in_err-after-clause-streams c = IfOk-from_err c.from_residual.result _ c
 pub returns-in_err-after-clause-held : goal.returns-in_err-after-clause-held
 returns-in_err-after-clause-held c = IfOk-from_err c.from_residual.result _ c.from_residual.ensures.0
 
+pub returns-in_err-after-clause-tidy : goal.returns-in_err-after-clause-tidy
+returns-in_err-after-clause-tidy c = IfOk-from_err c.from_residual.result _ c.from_residual.ensures.0
+
+pub returns-clause-tidy : goal.returns-clause-tidy
+returns-clause-tidy c = c.settled.ensures.tidy
+
 pub returns-clause-cleaned : goal.returns-clause-cleaned
 returns-clause-cleaned c =
     let names = names_in c.args.options.now in
     let before = c.args.circuit.now in
     let set = c.args.set.now in
     let same : c.in_ok-after.after ≡ moved_in names before set = c.in_ok-after.ensures.value ∙ ap (λ (held : List ℕ). moved_of (move_of before held set)) c.requires.keep in
-    let P : Netlist → Type 0 = λ e. IfOk c.cleaned_by_names-cleaned.result (λ d. CleansIn names e d.circuit d.kept_free) in
-    subst P same c.cleaned_by_names-cleaned.ensures.cleaned
+    let P : Netlist → Type 0 = λ e. IfOk c.settled.result (λ d. CleansIn names e d.circuit d.kept_free) in
+    subst P same c.settled.ensures.cleaned
 
 pub returns-clause-streams : goal.returns-clause-streams
 returns-clause-streams c =
     let before = c.args.circuit.now in
     let after = c.in_ok-after.after in
-    IfOk-weaker c.cleaned_by_names-cleaned.result (λ d. SameStreams after d.circuit d.kept_free) (λ d. SameStreams before d.circuit d.kept_free)
-    (λ d streams. streams-through before after d.circuit d.kept_free c.in_ok-after.ensures.streams streams) c.cleaned_by_names-cleaned.ensures.streams
+    IfOk-weaker c.settled.result (λ d. SameStreams after d.circuit d.kept_free) (λ d. SameStreams before d.circuit d.kept_free)
+    (λ d streams. streams-through before after d.circuit d.kept_free c.in_ok-after.ensures.streams streams) c.settled.ensures.streams
 
 pub returns-clause-held : goal.returns-clause-held
 returns-clause-held c =
@@ -69,5 +97,5 @@ returns-clause-held c =
     let set = c.args.set.now in
     let after = c.in_ok-after.after in
     let same : after ≡ moved_in names before set = c.in_ok-after.ensures.value ∙ ap (λ (held : List ℕ). moved_of (move_of before held set)) c.requires.keep in
-    IfOk-weaker c.cleaned_by_names-cleaned.result (λ d. held_latches names d.circuit ≡ held_latches names after) (λ d. held_latches names d.circuit ≡ held_latches names before)
-    (λ d stays. stays ∙ ap (held_latches names) same ∙ moving-keeps names before set c.aig-aig.ensures.netlist) c.cleaned_by_names-cleaned.ensures.held
+    IfOk-weaker c.settled.result (λ d. held_latches names d.circuit ≡ held_latches names after) (λ d. held_latches names d.circuit ≡ held_latches names before)
+    (λ d stays. stays ∙ ap (held_latches names) same ∙ moving-keeps names before set c.aig-aig.ensures.netlist) c.settled.ensures.held

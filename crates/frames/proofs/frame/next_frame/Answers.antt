@@ -8,7 +8,7 @@ use Rattle.frames.specs.Named.{names_in}
 use Rattle.frames.proofs.frame.next_frame.Goals as goal
 
 pub held-requires : goal.held-requires
-held-requires g c = c.requires
+held-requires g c = c.requires.names
 
 pub helping_set-requires-after_bounds : goal.helping_set-requires-after_bounds
 helping_set-requires-after_bounds g c κs within = c.in_ok-keep.ensures
@@ -17,7 +17,10 @@ pub moved_over-requires-clause-keep : goal.moved_over-requires-clause-keep
 moved_over-requires-clause-keep g c = c.in_ok-keep.ensures
 
 pub moved_over-requires-clause-names : goal.moved_over-requires-clause-names
-moved_over-requires-clause-names g c = c.requires
+moved_over-requires-clause-names g c = c.requires.names
+
+pub moved_over-requires-clause-tidy : goal.moved_over-requires-clause-tidy
+moved_over-requires-clause-tidy g c = c.requires.tidy
 
 pub moved_over-requires-clause-graph : goal.moved_over-requires-clause-graph
 moved_over-requires-clause-graph g c = c.aig-aig.ensures.graph
@@ -41,6 +44,7 @@ returns-in-Some g c =
       moves = record { set = c.in-Some.found.set; helps = helps.set; cleaned = d.cleaned; reported = helps.report };
       streams = d.streams;
       held = d.held;
+      tidy = d.tidy;
     }
 
 pub returns : goal.returns

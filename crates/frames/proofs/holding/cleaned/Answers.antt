@@ -1,9 +1,11 @@
-use Rattle.std.proofs.Common.{ℕ, List, ◌<◌, ◌≡◌, length, sym, subst}
+use Rattle.std.proofs.Common.{ℕ, List, ◌<◌, ◌≡◌, length, refl, sym, subst}
 use Rattle.std.specs.List.{All}
 use Rattle.std.specs.Result.{IfOk}
 use Rattle.cleaned_circuits.specs.Cleaned.{Cleans}
 use Rattle.retimed_circuits.specs.Names.{held_in, held_latches}
 use Rattle.retimed_circuits.proofs.HeldLaws.{cleaning-keeps}
+use Rattle.tidy.specs.Tidy.{IsTidyIn}
+use Rattle.tidy.proofs.FrameLaws.{cleans-tidy}
 use Rattle.frames.specs.Named.{names_in}
 use Rattle.frames.proofs.FrameLaws.{held-below}
 use Rattle.std.proofs.lemmas.Result.{IfOk-weaker}
@@ -29,4 +31,13 @@ returns-clause-held c =
     let P : List ℕ → Type 0 = λ held. IfOk c.clean.result (λ d. Cleans d.circuit held before d.kept_free) in
     IfOk-weaker c.clean.result (λ d. Cleans d.circuit (held_in names before) before d.kept_free) (λ d. held_latches names d.circuit ≡ held_latches names before)
     (λ d cleans. cleaning-keeps names before d.circuit d.kept_free (record { graph = c.aig-aig.ensures.graph; netlist = c.aig-aig.ensures.netlist }) cleans)
+    (subst P c.requires c.clean.ensures.cleaned)
+
+pub returns-clause-tidy : goal.returns-clause-tidy
+returns-clause-tidy c =
+    let names = names_in c.args.options.now in
+    let before = c.args.circuit.now in
+    let P : List ℕ → Type 0 = λ held. IfOk c.clean.result (λ d. Cleans d.circuit held before d.kept_free) in
+    IfOk-weaker c.clean.result (λ d. Cleans d.circuit (held_in names before) before d.kept_free) (λ d. IsTidyIn names d.circuit)
+    (λ d cleans. cleans-tidy names d.circuit (held_in names before) before d.kept_free cleans refl (record { graph = c.aig-aig.ensures.graph; netlist = c.aig-aig.ensures.netlist }))
     (subst P c.requires c.clean.ensures.cleaned)

@@ -16,6 +16,9 @@ returns-in_err-keep-clause-streams c = IfOk-from_err c.from_residual.result _ c.
 pub returns-in_err-keep-clause-held : goal.returns-in_err-keep-clause-held
 returns-in_err-keep-clause-held c = IfOk-from_err c.from_residual.result _ c.from_residual.ensures.0
 
+pub returns-in_err-keep-clause-tidy : goal.returns-in_err-keep-clause-tidy
+returns-in_err-keep-clause-tidy c = IfOk-from_err c.from_residual.result _ c.from_residual.ensures.0
+
 pub returns-clause-cleaned : goal.returns-clause-cleaned
 returns-clause-cleaned c = c.cleaned.ensures.cleaned
 
@@ -24,3 +27,6 @@ returns-clause-streams c = c.cleaned.ensures.streams
 
 pub returns-clause-held : goal.returns-clause-held
 returns-clause-held c = c.cleaned.ensures.held
+
+pub returns-clause-tidy : goal.returns-clause-tidy
+returns-clause-tidy c = c.cleaned.ensures.tidy

@@ -16,6 +16,7 @@ returns c =
       read_latches = ap length (c.latches.ensures.value ∙ ap (λ (g : Graph). g.latches) c.aig.ensures.value);
       streams = c.in_ok-start.ensures.streams;
       held = c.in_ok-start.ensures.held;
+      tidy = c.in_ok-start.ensures.tidy;
     }
 
 pub cleaned-requires : goal.cleaned-requires

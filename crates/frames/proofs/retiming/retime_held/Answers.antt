@@ -13,8 +13,11 @@ use Rattle.frames.proofs.retiming.retime_held.Goals as goal
 pub loop-init : goal.loop-init
 loop-init g c = c.in_ok-retimed.ensures
 
-pub next_frame-requires-after_bounds : goal.next_frame-requires-after_bounds
-next_frame-requires-after_bounds g c κs within = names-stay (names_in c.args.options.now) c.args.circuit.now c.loop.retimed.circuit c.loop.invariant.held c.requires.names
+pub next_frame-requires-clause-tidy : goal.next_frame-requires-clause-tidy
+next_frame-requires-clause-tidy g c κs within = c.loop.invariant.tidy
+
+pub next_frame-requires-clause-names : goal.next_frame-requires-clause-names
+next_frame-requires-clause-names g c κs within = names-stay (names_in c.args.options.now) c.args.circuit.now c.loop.retimed.circuit c.loop.invariant.held c.requires.names
 
 pub after_frame-requires-clause-underway : goal.after_frame-requires-clause-underway
 after_frame-requires-clause-underway g c = (c.args.circuit.now, c.loop.counter, c.loop.invariant)

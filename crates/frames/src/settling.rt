@@ -1,0 +1,84 @@
+//! A moved circuit, cleaned where there is something to clean: mostly there is nothing, and a look at its low copies, which costs a
+//! fraction of a cleaning, tells.
+ghost use Rattle.std.specs.Prelude.{◌≡◌, ◌≤◌, ◌-◌, IfOk, length, true};
+ghost use Rattle.aig_graph.specs.Circuits.{IsNetlist};
+ghost use Rattle.aig_graph.specs.Graph.{IsGraph};
+ghost use Rattle.aig_graph.specs.Laws.{all_free};
+ghost use Rattle.aig_graph.specs.Streams.{SameStreams};
+ghost use Rattle.retimed_circuits.specs.Frames.{CleansIn};
+ghost use Rattle.retimed_circuits.specs.Names.{held_latches};
+ghost use Rattle.frames.specs.Named.{NoneMissing, names_in};
+ghost use Rattle.tidy.specs.Tidy.{AreLowTidy, IsTidyIn};
+
+use crate::holding::cleaned_by_names;
+use crate::options::Options;
+use aig_graph::{Circuit, NoMemory};
+use clean::Cleaned;
+use std::alloc::Global;
+use tidy::{all_places, are_low_tidy};
+
+/// A circuit as what it is cleaned to, which it is if it is tidy. The gates that stay aren't listed, since they all do.
+fn as_cleaned(alloc: Global, circuit: Circuit) -> Result<Cleaned, NoMemory>
+    ensures circuit { IfOk result (λ d. d.circuit ≡ circuit) }
+    ensures kept_free { IfOk result (λ d. d.kept_free ≡ all_free circuit.aig) }
+{
+    match all_places(alloc, circuit.aig()) {
+        Ok(kept_free) => Ok(Cleaned {
+            circuit,
+            kept_free,
+            kept_gates: Vec::new(alloc),
+        }),
+        Err(error) => {
+            drop(circuit);
+            Err(error)
+        }
+    }
+}
+
+/// A circuit cleaned, and dropped.
+fn cleaned_over(alloc: Global, circuit: Circuit, options: &Options) -> Result<Cleaned, NoMemory>
+    requires { NoneMissing options.now circuit }
+    ensures cleaned { IfOk result (λ d. CleansIn (names_in options.now) circuit d.circuit d.kept_free) }
+    ensures streams { IfOk result (λ d. SameStreams circuit d.circuit d.kept_free) }
+    ensures held { IfOk result (λ d. held_latches (names_in options.now) d.circuit ≡ held_latches (names_in options.now) circuit) }
+    ensures tidy { IfOk result (λ d. IsTidyIn (names_in options.now) d.circuit) }
+{
+    let cleaned = cleaned_by_names(alloc, &circuit, options);
+    drop(circuit);
+    cleaned
+}
+
+/// Whether the low copies are tidy, of a circuit whose last gates are so many copies.
+fn is_settled(alloc: Global, circuit: &Circuit, copies: usize) -> Result<bool, NoMemory>
+    requires { copies ≤ length circuit.now.aig.gates }
+    ensures lows { IfOk result (λ yes. yes ≡ true → AreLowTidy circuit.now.aig (length circuit.now.aig.gates - copies)) }
+    ensures graph { IsGraph circuit.now.aig }
+    ensures netlist { IsNetlist circuit.now }
+{
+    are_low_tidy(alloc, circuit.aig(), copies)
+}
+
+/// A moved circuit, whose last gates are so many copies, cleaned. It is its own cleaning where its low copies are tidy.
+pub(crate) fn settled(
+    alloc: Global,
+    circuit: Circuit,
+    copies: usize,
+    options: &Options,
+) -> Result<Cleaned, NoMemory>
+    requires copies { copies ≤ length circuit.aig.gates }
+    requires names { NoneMissing options.now circuit }
+    requires tidy { AreLowTidy circuit.aig (length circuit.aig.gates - copies) → IsTidyIn (names_in options.now) circuit }
+    ensures cleaned { IfOk result (λ d. CleansIn (names_in options.now) circuit d.circuit d.kept_free) }
+    ensures streams { IfOk result (λ d. SameStreams circuit d.circuit d.kept_free) }
+    ensures held { IfOk result (λ d. held_latches (names_in options.now) d.circuit ≡ held_latches (names_in options.now) circuit) }
+    ensures tidy { IfOk result (λ d. IsTidyIn (names_in options.now) d.circuit) }
+{
+    match is_settled(alloc, &circuit, copies) {
+        Ok(true) => as_cleaned(alloc, circuit),
+        Ok(false) => cleaned_over(alloc, circuit, options),
+        Err(error) => {
+            drop(circuit);
+            Err(error)
+        }
+    }
+}
