@@ -1,0 +1,12 @@
+mod NearSides
+mod SmallestSets
+mod Lookups
+mod MarkLaws
+mod OpenWalks
+mod Flows
+mod Ways
+mod Orders
+mod Counts
+mod Bounds
+mod Units
+mod NearSets

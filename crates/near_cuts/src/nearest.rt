@@ -1,0 +1,74 @@
+//! The gates of the near side.
+ghost use Rattle.std.specs.Prelude.{◌≡◌, ℕ, ◌<◌, IfOk, List, [], length, slice_index_or, false};
+ghost use Rattle.aig_graph.specs.Circuits.{Netlist};
+ghost use Rattle.aig_graph.specs.Border.{IsSmallestLeast};
+ghost use Rattle.frame_net.specs.FlowNet.{node_count};
+ghost use Rattle.frame_cuts.specs.Cuts.{IsNetworkOf};
+ghost use Rattle.cut_cert.specs.Gates.{gate_of, gates_below};
+ghost use Rattle.cut_cert.specs.Shown.{AreLeastRoutes};
+
+use crate::source_side::source_side;
+use crate::used_arcs::used_arcs;
+use aig_graph::{ClosedSet, NoMemory, Sequence};
+use frame_net::{Net, Point};
+use std::alloc::Global;
+
+/// The gate with this node before it, where the node is marked.
+fn gate_of(net: &Net, marks: &[bool], node: u32) -> Option<u32>
+    requires node { node < node_count net.now }
+    requires long { length marks.now ≡ node_count net.now }
+    ensures { result ≡ gate_of net.now (λ u. slice_index_or marks.now u false) node }
+{
+    if !marks[node as usize] {
+        return None;
+    }
+    match net.point(node) {
+        Some(point) if !point.behind => Some(point.var),
+        _ => None,
+    }
+}
+
+/// The gates with a marked node before them, in the order of the nodes.
+fn gates_of(alloc: Global, net: &Net, marks: &[bool]) -> Result<Vec<u32>, NoMemory>
+    requires { length marks.now ≡ node_count net.now }
+    ensures { IfOk result (λ gates. gates.items ≡ gates_below net.now (λ u. slice_index_or marks.now u false) (node_count net.now)) }
+{
+    let mut gates = Vec::new(alloc);
+    for v in 0..net.nodes() {
+        if let Some(gate) = gate_of(net, marks, v) {
+            gates.push(gate)?;
+        }
+    }
+    Ok(gates)
+}
+
+/// The smallest least set of the circuit whose network it is, by any routes of it that are right, apart from one another,
+/// without a point twice, and as many as the border of a least set has variables, as `cut_cert::routes` finds them; with
+/// other routes, some set of gates. Linear in the network, and in the points of the routes but for a search in a row for each.
+///
+/// # Errors
+///
+/// `NoMemory` where a table or the list of gates is refused.
+pub fn near_cut(
+    alloc: Global,
+    net: &Net,
+    routes: &Sequence<Sequence<Point>>,
+) -> Result<ClosedSet, NoMemory>
+    ensures { IfOk result (λ set. (c : Netlist) (held : List ℕ) → IsNetworkOf c held net.now → AreLeastRoutes c held routes.now → IsSmallestLeast c held set) }
+{
+    let _nodes = net.nodes();
+    let used = used_arcs(alloc, net, routes.as_slice())?;
+    let side = source_side(alloc, net, used.as_slice())?;
+    let gates = gates_of(alloc, net, side.as_slice())?;
+    match ClosedSet::new(gates) {
+        Some(set) => Ok(set),
+        None => Ok(no_gates(alloc)),
+    }
+}
+
+/// The empty set.
+fn no_gates(alloc: Global) -> ClosedSet
+    ensures { result ≡ [] }
+{
+    ClosedSet::new(Vec::new(alloc)).unwrap()
+}
