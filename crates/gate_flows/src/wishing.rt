@@ -48,8 +48,8 @@ fn wish_at(net: &Net, first: u32, flow: &GateFlow, wishes: &mut [u32], v: u32)
     }
 }
 
-/// A wish for each arc: what went over it, and a unit for each arc into the sink. Where no flow of a gate is known, a unit is wished from
-/// each of its fan-ins and one through it.
+/// A wish for each arc: what went over it, and a unit for each arc into the sink. Where the flow of a gate isn't known, a unit is wished
+/// from each of its fan-ins and one through it; where that of none is, there are no wishes.
 ///
 /// # Errors
 ///
@@ -60,6 +60,9 @@ pub fn wishes(
     aig: &Aig,
     flows: &[GateFlow],
 ) -> Result<Vec<u32>, NoMemory> {
+    if flows.is_empty() {
+        return Ok(Vec::new(alloc));
+    }
     let nodes = net.nodes();
     let first = first_before(aig);
     let mut wishes = vec![in alloc; 0u32; net.arcs()]?;
