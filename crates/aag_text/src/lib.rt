@@ -16,6 +16,3 @@ pub use counted_io::{Counted, CountedRead, CountedWrite, FailAfter, Failure, One
 pub use file_words::ReadError;
 pub use read::read_aag;
 pub use reader::AagReader;
-
-#[cfg(test)]
-mod tests;

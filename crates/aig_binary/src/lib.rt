@@ -18,6 +18,3 @@ pub use pieces::CircuitReader;
 pub use read::read_any;
 pub use reading::{SpeltCircuit, read_circuit};
 pub use spellings::{Spelling, spelling, write};
-
-#[cfg(test)]
-mod tests;

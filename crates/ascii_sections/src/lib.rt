@@ -6,6 +6,3 @@ mod items;
 mod sections;
 
 pub use sections::Sections;
-
-#[cfg(test)]
-mod tests;

@@ -12,6 +12,3 @@ pub use header::put_counts;
 pub use properties::put_properties;
 pub use symbols::put_symbols;
 pub use writing::write_aag;
-
-#[cfg(test)]
-mod tests;

@@ -10,6 +10,3 @@ mod reader;
 mod stage;
 
 pub use reader::{AigReader, read_aig};
-
-#[cfg(test)]
-mod tests;

@@ -10,6 +10,3 @@ mod sections;
 mod symbols;
 
 pub use sections::Sections;
-
-#[cfg(test)]
-mod tests;

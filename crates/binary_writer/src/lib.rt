@@ -8,6 +8,3 @@ mod writing;
 
 pub use laws::round_trip_law;
 pub use writing::write_aig;
-
-#[cfg(test)]
-mod tests;

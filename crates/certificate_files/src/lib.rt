@@ -17,6 +17,3 @@ pub use file::{CertFile, Choice};
 pub use laws::{rereading_law, round_trip_law};
 pub use reading::read_cert;
 pub use writing::write_cert;
-
-#[cfg(test)]
-mod tests;

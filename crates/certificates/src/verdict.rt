@@ -1,3 +1,6 @@
+ghost use Rattle.std.specs.Prelude.{◌≡◌};
+ghost use Rattle.certificates.specs.Objections.{code_of};
+
 /// What a certificate is worth for a circuit.
 #[derive(Clone, Copy, Debug, PartialEq, Eq)]
 pub enum Verdict {
@@ -18,4 +21,18 @@ pub enum Objection {
     UsedTwice,
     /// The stated count, the size of the border and the number of routes aren't all equal.
     CountDiffers,
+}
+
+impl Objection {
+    /// The number of the objection, from 1, in the order of the tests.
+    pub fn code(self) -> u8
+        ensures { result ≡ code_of self }
+    {
+        match self {
+            Objection::NotClosed => 1,
+            Objection::BadRoute => 2,
+            Objection::UsedTwice => 3,
+            Objection::CountDiffers => 4,
+        }
+    }
 }

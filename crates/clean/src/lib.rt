@@ -17,6 +17,3 @@ mod substitution;
 mod trim;
 
 pub use cleaning::{Cleaned, clean, composed};
-
-#[cfg(test)]
-mod tests;

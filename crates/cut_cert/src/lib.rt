@@ -12,6 +12,7 @@ mod carried;
 mod certifying;
 mod gathering;
 mod greatest;
+mod least_set;
 mod sink_side;
 mod trail;
 mod walk;
@@ -21,8 +22,4 @@ pub use certificates::{Certificate, Objection, Routes, Verdict, check};
 pub use certifying::certificate;
 pub use gathering::routes;
 pub use greatest::greatest_cut;
-
-#[cfg(test)]
-mod route_tests;
-#[cfg(test)]
-mod tests;
+pub use least_set::{greatest_least, greatest_least_along};

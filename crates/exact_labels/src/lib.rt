@@ -9,6 +9,3 @@ mod walk;
 
 pub use laws::distance_law;
 pub use walk::exact_labels;
-
-#[cfg(test)]
-mod tests;

@@ -10,6 +10,3 @@ mod symbols;
 pub use header::HeaderLine;
 pub use numbers::NumberLine;
 pub use symbols::{SymbolLine, SymbolText};
-
-#[cfg(test)]
-mod tests;

@@ -12,6 +12,3 @@ pub use by_kind::props;
 pub use laws::netlist_law;
 pub use lists::PropertyLists;
 pub use names::Names;
-
-#[cfg(test)]
-mod tests;

@@ -13,6 +13,3 @@ mod pass_set;
 pub use layout::leaving_marks;
 pub use net::{Net, Point};
 pub use pass_set::{PassSet, passable};
-
-#[cfg(test)]
-mod tests;

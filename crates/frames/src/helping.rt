@@ -5,9 +5,9 @@ ghost use Rattle.retimed_circuits.specs.Names.{held_in};
 ghost use Rattle.frames.specs.Found.{Helps};
 ghost use Rattle.frames.specs.Named.{names_in};
 
-use crate::least_set::greatest_least;
 use crate::options::Options;
 use aig_graph::{Circuit, ClosedSet, Keep, NoMemory, count};
+use cut_cert::greatest_least_along;
 use gate_flows::GateFlow;
 use pulse::{Crew, PhaseGate};
 use retimed_circuits::FrameReport;
@@ -34,7 +34,7 @@ pub(crate) fn helping_set<G: PhaseGate>(
     requires { keep.now ≡ held_in (names_in options.now) circuit.now }
     ensures { IfOk result (λ found. MatchOption found (NoneSmaller (names_in options.now) circuit.now) (Helps (names_in options.now) circuit.now)) }
 {
-    let set = greatest_least(rt, alloc, circuit, keep, crew, flows)?;
+    let set = greatest_least_along(rt, alloc, circuit, keep, crew, flows)?;
     let _aig = circuit.aig();
     let report = FrameReport {
         before: circuit.aig().known_latches(),

@@ -9,7 +9,6 @@ mod helping;
 mod history;
 mod holding;
 mod laws;
-mod least_set;
 mod limits;
 mod options;
 mod retiming;
@@ -22,6 +21,3 @@ pub use limits::{read_limits_law, retimed_limits_law};
 pub use options::Options;
 pub use retimed_circuits::{FrameReport, Retimed};
 pub use retiming::retime;
-
-#[cfg(test)]
-mod tests;

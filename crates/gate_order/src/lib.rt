@@ -13,6 +13,3 @@ mod reads;
 pub use laws::{cycle_laws, in_order_law, order_laws};
 pub use order::{are_in_file, gate_order};
 pub use reads::Reads;
-
-#[cfg(test)]
-mod tests;

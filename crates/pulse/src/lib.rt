@@ -36,6 +36,3 @@ pub use phases::{deliver_phase, read_phase};
 pub use pushes::Pushes;
 pub use ranges::{deliver_range, read_range};
 pub use run::run_to_end;
-
-#[cfg(test)]
-mod tests;

@@ -12,6 +12,3 @@ mod starting;
 
 pub use moving::moved;
 pub use starting::resets;
-
-#[cfg(test)]
-mod tests;

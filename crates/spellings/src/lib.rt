@@ -10,6 +10,3 @@ pub use first_bytes::spelling;
 pub use form::Spelling;
 pub use laws::spelling_law;
 pub use writing::write;
-
-#[cfg(test)]
-mod tests;

@@ -6,6 +6,3 @@
 mod places;
 
 pub use places::Places;
-
-#[cfg(test)]
-mod tests;

@@ -1,0 +1,10 @@
+-- The numbers of the objections to a certificate.
+use Rattle.std.specs.Prelude.{ℕ}
+use Rattle.certificates.specs.declared.verdict.Objection.{Objection}
+use Rattle.certificates.specs.declared.verdict.Objection.TheVariants.{NotClosed, BadRoute, UsedTwice, CountDiffers}
+
+abbrev pub code_of : Objection → ℕ
+code_of NotClosed = 1
+code_of BadRoute = 2
+code_of UsedTwice = 3
+code_of CountDiffers = 4

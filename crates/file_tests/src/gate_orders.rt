@@ -1,0 +1,39 @@
+//! The order that gates of a file take in a circuit.
+use gate_order::{Reads, are_in_file, gate_order};
+use std::alloc::Global;
+use std::test::Fail;
+
+/// Whether the gates take this order.
+fn are_ordered_as(alloc: Global, gates: &[Reads], wanted: &[u32]) -> bool {
+    if gates.len() >= 1 << 20 || !are_in_file(gates) {
+        return false;
+    }
+    match gate_order(alloc, gates) {
+        Ok(Some(order)) => order.as_slice() == wanted,
+        Ok(None) | Err(_) => false,
+    }
+}
+
+#[test]
+fn puts_gates_after_those_they_read(rt: HostRuntime) -> Result<(), Fail> {
+    let gates = [
+        Reads {
+            first: Some(2),
+            second: None,
+        },
+        Reads {
+            first: None,
+            second: None,
+        },
+        Reads {
+            first: Some(1),
+            second: Some(1),
+        },
+        Reads {
+            first: Some(0),
+            second: Some(2),
+        },
+    ];
+    assert!(rt; are_ordered_as(rt.alloc(), &gates, &[1, 2, 0, 3]));
+    Ok(())
+}

@@ -1,0 +1,26 @@
+//! Tests of the public calls that read and write circuits in both spellings, and of the parts that their readers are made of. They stand
+//! in a crate of their own, since a crate with tests is proved twice.
+#![tactic(auto)]
+
+#[cfg(test)]
+mod any_spelling;
+#[cfg(test)]
+mod ascii;
+#[cfg(test)]
+mod binary;
+#[cfg(test)]
+mod faults;
+#[cfg(test)]
+mod gate_orders;
+#[cfg(test)]
+mod names_and_properties;
+#[cfg(test)]
+mod open_lines;
+#[cfg(test)]
+mod places;
+#[cfg(test)]
+mod sections_of_ascii;
+#[cfg(test)]
+mod sections_of_binary;
+#[cfg(test)]
+mod writing;

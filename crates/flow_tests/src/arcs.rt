@@ -1,0 +1,76 @@
+//! The passable gates of the first worked circuit, and the arcs and rows of its network.
+use crate::nets::{TWO_LATCHES, net_of_text};
+use aag_text::read_aag;
+use aig_graph::{Circuit, Keep, NoMemory};
+use frame_net::{Net, PassSet, Point, passable};
+use std::alloc::Global;
+use std::test::Fail;
+
+fn has_arcs(net: &Net, heads: &[u32], mates: &[u32], caps: &[u32]) -> bool {
+    for k in 0..net.arcs() {
+        let arc = k as u32;
+        if heads.get(k).copied() != Some(net.head(arc))
+            || mates.get(k).copied() != Some(net.mate(arc))
+            || caps.get(k).copied() != Some(net.cap(arc))
+        {
+            return false;
+        }
+    }
+    heads.len() == net.arcs()
+}
+
+/// The rows begin at these arcs, and each gives its heads and mates.
+fn has_rows(net: &Net, starts: &[u32]) -> bool {
+    for v in 0..net.nodes() {
+        let row = net.row(v);
+        let begins = starts.get(v as usize).copied() == Some(row.start)
+            && net.start(v) == row.start as usize;
+        if !begins || net.heads(v).len() != net.mates(v).len() {
+            return false;
+        }
+    }
+    starts.len() == net.nodes() as usize
+}
+
+/// Whether the gate alone is passable.
+fn passes_gate(alloc: Global, circuit: &Circuit) -> Result<bool, NoMemory> {
+    let pass: PassSet = passable(alloc, circuit.aig(), &Keep::none())?;
+    Ok(pass.has(5) && !pass.has(4) && pass.count() == 1)
+}
+
+#[test]
+fn tells_passable_gates(rt: HostRuntime) -> Result<(), Fail> {
+    let circuit = read_aag(rt.alloc(), TWO_LATCHES)?;
+    assert!(rt; passes_gate(rt.alloc(), &circuit)?);
+    Ok(())
+}
+
+#[test]
+fn builds_the_arcs(rt: HostRuntime) -> Result<(), Fail> {
+    let net = net_of_text(rt.alloc(), TWO_LATCHES)?;
+    assert!(rt;
+        has_arcs(
+            &net,
+            &[2, 3, 5, 0, 4, 0, 4, 2, 3, 5, 1, 4],
+            &[3, 5, 10, 0, 7, 1, 8, 4, 6, 11, 2, 9],
+            &[1, 1, 0, 0, 3, 0, 3, 0, 0, 1, 3, 0],
+        )
+    );
+    Ok(())
+}
+
+/// The point of node 4, if there is one.
+fn fourth_point(net: &Net) -> Option<Point> {
+    if 4 < net.nodes() { net.point(4) } else { None }
+}
+
+#[test]
+fn builds_the_rows(rt: HostRuntime) -> Result<(), Fail> {
+    let net = net_of_text(rt.alloc(), TWO_LATCHES)?;
+    let before = Point {
+        var: 5,
+        behind: false,
+    };
+    assert!(rt; has_rows(&net, &[0, 2, 3, 5, 7, 10]) && fourth_point(&net) == Some(before));
+    Ok(())
+}

@@ -1,0 +1,30 @@
+//! Distances in the first worked network, at the start of the flow.
+use crate::nets::{TWO_LATCHES, net_of_text};
+use exact_labels::exact_labels;
+use flow_whole::start_parts;
+use frame_net::Net;
+use std::alloc::{AllocError, Global};
+use std::test::Fail;
+
+/// Whether these are the distances at the start, when the source's arcs are full.
+fn starts_with(alloc: Global, net: &Net, distances: &[u32]) -> Result<bool, AllocError> {
+    let nodes = net.nodes();
+    let _arcs = net.arcs();
+    let parts = start_parts(alloc, net, 2)?;
+    let mut labels = vec![in alloc; 0u32; nodes as usize]?;
+    let mut queue = vec![in alloc; 0u32; nodes as usize]?;
+    exact_labels(
+        net,
+        parts.as_slice(),
+        labels.as_mut_slice(),
+        queue.as_mut_slice(),
+    );
+    Ok(labels.as_slice() == distances)
+}
+
+#[test]
+fn finds_the_distances_at_the_start(rt: HostRuntime) -> Result<(), Fail> {
+    let net = net_of_text(rt.alloc(), TWO_LATCHES)?;
+    assert!(rt; starts_with(rt.alloc(), &net, &[6, 0, 3, 3, 2, 1])?);
+    Ok(())
+}

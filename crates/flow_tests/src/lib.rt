@@ -1,0 +1,32 @@
+//! Tests of the public calls from a circuit to its greatest least set: the network of a frame, exact labels, pulses and runs by crews of
+//! several sizes, cuts, routes, certificates and their files. They stand in a crate of their own, since a crate with tests is proved twice.
+#![tactic(auto)]
+
+#[cfg(test)]
+mod arcs;
+#[cfg(test)]
+mod augmenting;
+#[cfg(test)]
+mod between_pulses;
+#[cfg(test)]
+mod certificate_texts;
+#[cfg(test)]
+mod certified;
+#[cfg(test)]
+mod cuts;
+#[cfg(test)]
+mod distances;
+#[cfg(test)]
+mod least_sets;
+#[cfg(test)]
+mod nets;
+#[cfg(test)]
+mod random_nets;
+#[cfg(test)]
+mod runs;
+#[cfg(test)]
+mod walked;
+#[cfg(test)]
+mod wished_runs;
+#[cfg(test)]
+mod worked_pulses;

@@ -1,0 +1,236 @@
+//! The pulses of both worked networks, phase by phase, by crews of several sizes.
+ghost use Rattle.std.specs.Prelude.{◌≡◌, OnOk, false};
+ghost use Rattle.pulse.specs.Conditions.{ArePushesOf, IsBetween, IsFlowOf};
+
+use crate::nets::{FOUR_LATCHES, TWO_LATCHES, net_of_text};
+use aig_graph::NoMemory;
+use frame_net::Net;
+use pulse::{
+    Crew, Flow, OpenGate, PulseError, Pushes, deliver_phase, deliver_range, read_phase, read_range,
+};
+use std::alloc::Global;
+use std::test::Fail;
+use std::thread::Threads;
+
+/// Numbers of workers: one, some that divide the nodes unevenly, one for each node of the second network, and the most.
+const CREWS: [u32; 6] = [1, 2, 5, 7, 12, 64];
+
+/// Labels of all nodes, and excess of all but the source.
+#[derive(Clone, Copy)]
+struct State {
+    labels: &'static [u32],
+    excess: &'static [u32],
+}
+
+/// The first network at the start, and after each of six pulses.
+const STATES: [State; 7] = [
+    State {
+        labels: &[6, 0, 0, 0, 0, 0],
+        excess: &[0, 1, 1, 0, 0],
+    },
+    State {
+        labels: &[6, 0, 1, 1, 0, 0],
+        excess: &[0, 1, 1, 0, 0],
+    },
+    State {
+        labels: &[6, 0, 1, 1, 0, 0],
+        excess: &[0, 0, 0, 2, 0],
+    },
+    State {
+        labels: &[6, 0, 1, 1, 1, 0],
+        excess: &[0, 0, 0, 2, 0],
+    },
+    State {
+        labels: &[6, 0, 1, 1, 2, 0],
+        excess: &[0, 0, 0, 1, 1],
+    },
+    State {
+        labels: &[6, 0, 1, 1, 2, 1],
+        excess: &[0, 1, 0, 0, 1],
+    },
+    State {
+        labels: &[6, 0, 3, 1, 2, 1],
+        excess: &[1, 1, 0, 0, 0],
+    },
+];
+
+/// The second network after eleven pulses. In the eleventh the node after the first gate delivers to the node before it, which keeps
+/// its own unit and relabels.
+const AFTER_ELEVEN: State = State {
+    labels: &[12, 0, 3, 3, 3, 3, 4, 3, 4, 1, 2, 1],
+    excess: &[1, 0, 0, 0, 0, 2, 0, 1, 0, 0, 0],
+};
+
+/// Whether the flow is in this state.
+fn is_at(net: &Net, flow: &Flow, state: &State) -> bool
+    requires flow { IsFlowOf net.now flow.now }
+    requires unspent { flow.now.spent ≡ false }
+{
+    for v in 0..net.nodes() {
+        if state.labels.get(v as usize).copied() != Some(flow.label(v)) {
+            return false;
+        }
+        if v > 0 && state.excess.get(v as usize - 1).copied() != Some(flow.excess(v)) {
+            return false;
+        }
+    }
+    true
+}
+
+/// Whether the flow is in this state, and still is after the read phase of a pulse. Makes that pulse.
+fn pulses_from<R: Threads + Sync>(
+    rt: &R,
+    alloc: Global,
+    net: &Net,
+    flow: &mut Flow,
+    pushes: &mut Pushes,
+    crew: &Crew<OpenGate>,
+    state: &State,
+) -> Result<bool, PulseError>
+    requires flow { IsBetween net.now flow.old }
+    requires pushes { ArePushesOf net.now pushes.old }
+    requires usable { pushes.old.spent ≡ false }
+    ensures flow { OnOk result (IsBetween net.now flow.new) }
+    ensures pushes { OnOk result (ArePushesOf net.now pushes.new) }
+    ensures usable { OnOk result (pushes.new.spent ≡ false) }
+{
+    let before = is_at(net, flow, state);
+    read_phase(rt, alloc, net, flow, pushes, crew)?;
+    let between = is_at(net, flow, state);
+    deliver_phase(rt, alloc, net, flow, pushes, crew)?;
+    Ok(before && between)
+}
+
+/// Whether the pulses of a crew go through the states.
+fn follows_states<R: Threads + Sync>(
+    rt: &R,
+    alloc: Global,
+    net: &Net,
+    crew: &Crew<OpenGate>,
+) -> Result<bool, PulseError> {
+    let _nodes = net.nodes();
+    let mut flow = Flow::start(alloc, net)?;
+    let mut pushes = Pushes::new(alloc, net)?;
+    for state in &STATES {
+        if !pulses_from(rt, alloc, net, &mut flow, &mut pushes, crew, state)? {
+            return Ok(false);
+        }
+    }
+    Ok(true)
+}
+
+/// Whether the pulses of every crew do.
+fn all_follow_states<R: Threads + Sync>(
+    rt: &R,
+    alloc: Global,
+    net: &Net,
+) -> Result<bool, PulseError> {
+    for workers in CREWS {
+        let crew = Crew::new(workers.clamp(1, 64), OpenGate);
+        if !follows_states(rt, alloc, net, &crew)? {
+            return Ok(false);
+        }
+    }
+    Ok(true)
+}
+
+#[test]
+fn follows_the_worked_states_by_every_crew(rt: HostRuntime) -> Result<(), Fail> {
+    let net = net_of_text(rt.alloc(), TWO_LATCHES)?;
+    assert!(rt; all_follow_states(&rt, rt.alloc(), &net)?);
+    Ok(())
+}
+
+fn pulse<R: Threads + Sync>(
+    rt: &R,
+    alloc: Global,
+    net: &Net,
+    flow: &mut Flow,
+    pushes: &mut Pushes,
+    crew: &Crew<OpenGate>,
+) -> Result<(), PulseError>
+    requires flow { IsBetween net.now flow.old }
+    requires pushes { ArePushesOf net.now pushes.old }
+    requires usable { pushes.old.spent ≡ false }
+    ensures flow { OnOk result (IsBetween net.now flow.new) }
+    ensures pushes { OnOk result (ArePushesOf net.now pushes.new) }
+    ensures usable { OnOk result (pushes.new.spent ≡ false) }
+{
+    read_phase(rt, alloc, net, flow, pushes, crew)?;
+    deliver_phase(rt, alloc, net, flow, pushes, crew)?;
+    Ok(())
+}
+
+/// Whether the flow is in the second network's state after eleven pulses of a crew.
+fn is_at_after_eleven<R: Threads + Sync>(
+    rt: &R,
+    alloc: Global,
+    net: &Net,
+    crew: &Crew<OpenGate>,
+) -> Result<bool, PulseError> {
+    let _nodes = net.nodes();
+    let mut flow = Flow::start(alloc, net)?;
+    let mut pushes = Pushes::new(alloc, net)?;
+    for _ in 0..11u32 {
+        pulse(rt, alloc, net, &mut flow, &mut pushes, crew)?;
+    }
+    pulses_from(rt, alloc, net, &mut flow, &mut pushes, crew, &AFTER_ELEVEN)
+}
+
+/// Whether it is after eleven pulses of every crew.
+fn all_are_at_after_eleven<R: Threads + Sync>(
+    rt: &R,
+    alloc: Global,
+    net: &Net,
+) -> Result<bool, PulseError> {
+    for workers in CREWS {
+        let crew = Crew::new(workers.clamp(1, 64), OpenGate);
+        if !is_at_after_eleven(rt, alloc, net, &crew)? {
+            return Ok(false);
+        }
+    }
+    Ok(true)
+}
+
+#[test]
+fn relabels_over_the_arcs_after_delivery_by_every_crew(rt: HostRuntime) -> Result<(), Fail> {
+    let net = net_of_text(rt.alloc(), FOUR_LATCHES)?;
+    assert!(rt; all_are_at_after_eleven(&rt, rt.alloc(), &net)?);
+    Ok(())
+}
+
+/// A pulse by the ranges of all nodes.
+pub(crate) fn pulse_by_ranges(net: &Net, flow: &mut Flow, pushes: &mut Pushes)
+    requires flow { IsBetween net.now flow.old }
+    requires pushes { ArePushesOf net.now pushes.old }
+    requires usable { pushes.old.spent ≡ false }
+    ensures flow { IsBetween net.now flow.new }
+    ensures pushes { ArePushesOf net.now pushes.new }
+    ensures usable { pushes.new.spent ≡ false }
+{
+    let nodes = net.nodes();
+    read_range(net, flow, pushes, 0, nodes);
+    deliver_range(net, flow, pushes, 0, nodes);
+    flow.turn();
+}
+
+/// Whether the pulses by ranges go through the states.
+fn follows_states_by_ranges(alloc: Global, net: &Net) -> Result<bool, NoMemory> {
+    let _nodes = net.nodes();
+    let mut flow = Flow::start(alloc, net)?;
+    let mut pushes = Pushes::new(alloc, net)?;
+    for state in &STATES {
+        if !is_at(net, &flow, state) {
+            return Ok(false);
+        }
+        pulse_by_ranges(net, &mut flow, &mut pushes);
+    }
+    Ok(true)
+}
+
+#[test]
+fn follows_the_worked_states_by_ranges(rt: HostRuntime) -> Result<(), Fail> {
+    let net = net_of_text(rt.alloc(), TWO_LATCHES)?;
+    assert!(rt; follows_states_by_ranges(rt.alloc(), &net)?);
+    Ok(())
+}

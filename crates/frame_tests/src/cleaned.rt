@@ -1,0 +1,36 @@
+//! A circuit with something for each rule of cleaning.
+use aag_text::read_aag;
+use aig_graph::{Circuit, Keep, Latch, Lit, NoMemory, Reset};
+use clean::{Cleaned, clean};
+use std::alloc::Global;
+use std::test::Fail;
+
+/// An input; a latch that reads itself, two that read the input, the gate of these two, and the gate of that one and the negation of
+/// the first latch, which is the output.
+const REDUNDANT: &[u8] = b"aag 6 1 3 1 2\n2\n4 4\n6 2\n8 2\n12\n10 8 6\n12 10 5\n";
+
+/// Whether one latch that reads the input is left, and is the output.
+fn is_a_latch(cleaned: &Cleaned) -> bool {
+    let latch = Latch {
+        next: Lit::new(1, false),
+        reset: Reset::Zero,
+    };
+    cleaned.circuit.aig().inputs() == 1
+        && cleaned.circuit.aig().latches() == [latch].as_slice()
+        && cleaned.circuit.aig().gates().is_empty()
+        && cleaned.circuit.props().outputs.as_slice() == [Lit::new(2, false)].as_slice()
+        && cleaned.kept_free.is_empty()
+}
+
+/// Whether this is what is left of the circuit, no latch held.
+fn cleans_to_a_latch(alloc: Global, circuit: &Circuit) -> Result<bool, NoMemory> {
+    let cleaned = clean(alloc, circuit, &Keep::none())?;
+    Ok(is_a_latch(&cleaned))
+}
+
+#[test]
+fn cleans_a_stuck_latch_a_twin_and_equal_fan_ins(rt: HostRuntime) -> Result<(), Fail> {
+    let circuit = read_aag(rt.alloc(), REDUNDANT)?;
+    assert!(rt; cleans_to_a_latch(rt.alloc(), &circuit)?);
+    Ok(())
+}

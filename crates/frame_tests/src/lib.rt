@@ -1,0 +1,22 @@
+//! Tests of the public calls on whole circuits: cleaning, moving over a set of gates, frames by crews, from bytes to bytes, and
+//! simulating. They stand in a crate of their own, since a crate with tests is proved twice.
+#![tactic(auto)]
+
+#[cfg(test)]
+mod circuits;
+#[cfg(test)]
+mod cleaned;
+#[cfg(test)]
+mod errors;
+#[cfg(test)]
+mod moves;
+#[cfg(test)]
+mod records;
+#[cfg(test)]
+mod retimed_texts;
+#[cfg(test)]
+mod retiming;
+#[cfg(test)]
+mod simulated;
+#[cfg(test)]
+mod workers;
