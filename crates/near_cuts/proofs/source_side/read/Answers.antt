@@ -16,7 +16,7 @@ reach-requires c =
     let start : Front = record { marks = c.args.marks.now; queue = c.args.queue.now.items } in
     let at : slice_index c.heads-heads.result.now k ≡ head net c.args.node k = c.heads-heads.ensures.value k less in
     let long : length c.loop-place.marks ≡ node_count net = ap (λ (s : Front). length s.marks) c.loop-place.invariant ∙ open-long net c.args.used.now c.args.node k start ∙ c.requires.marks in
-    omega (arith, at, long, c.nodes-nodes.ensures.netlist.heads_in c.args.node k c.requires.node less)
+    omega (arith, at, long, c.nodes-nodes.ensures.network.heads_in c.args.node k c.requires.node less)
 
 pub loop-place-preserved : goal.loop-place-preserved
 loop-place-preserved c =

@@ -11,7 +11,7 @@ loop-node-init c =
     let net : FlowNet = c.args.net.now in
     let front : List Bool → List ℕ → Front = λ m q. record { marks = m; queue = q } in
     let none : front c.args.marks.now c.new-queue.result.items ≡ no_front net c.args.used.now = ap₂ front c.requires.none c.new-queue.ensures.items in
-    sweeps-start net c.args.used.now (front c.reach.new.marks c.reach.new.queue.items) (omega (arith, c.nodes-nodes.ensures.netlist.two)) (c.in_ok-reach.ensures ∙ ap (λ (r : Front). reach r 0) none)
+    sweeps-start net c.args.used.now (front c.reach.new.marks c.reach.new.queue.items) (omega (arith, c.nodes-nodes.ensures.network.two)) (c.in_ok-reach.ensures ∙ ap (λ (r : Front). reach r 0) none)
 
 pub read-requires-clause-node : goal.read-requires-clause-node
 read-requires-clause-node c =
@@ -32,7 +32,7 @@ loop-node-preserved c =
     let r : Front = record { marks = c.loop-node.marks; queue = c.loop-node.queue.items } in
     let t : Front = record { marks = c.read.new.marks; queue = c.read.new.queue.items } in
     let there : slice_get r.queue c.loop-node.place ≡ Some c.in-Some.node = ap (λ (q : List ℕ). slice_get q c.loop-node.place) (sym c.as_slice.ensures.value) ∙ sym c.queued.ensures ∙ c.in-Some.is in
-    sweeps-more net c.args.used.now c.nodes-nodes.ensures.netlist r t c.loop-node.place c.in-Some.node c.loop-node.invariant there c.in_ok-read.ensures
+    sweeps-more net c.args.used.now c.nodes-nodes.ensures.network r t c.loop-node.place c.in-Some.node c.loop-node.invariant there c.in_ok-read.ensures
 
 pub returns : goal.returns
 returns c =
