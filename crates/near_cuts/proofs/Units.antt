@@ -204,5 +204,5 @@ module _ (c : Netlist) (held : List ℕ) (net : FlowNet) (is : IsNetworkOf c hel
   places-below (p ∷ rest) places = (number-in c held net is p places.0, places-below rest places.1)
 
   pub ways-below : (two : 1 < node_count net) (routes : List (List Point)) → AreRight routes → AllBelow (node_count net) two (paths c held net is routes)
-  ways-below two [] right = tt
+  ways-below two [] _ = tt
   ways-below two (route ∷ routes) all = (places-below route (route-places c held net is route all.0), ways-below two routes all.1)
