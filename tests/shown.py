@@ -127,11 +127,13 @@ def folder_of(path):
 
 def can_run(command, folder):
     """Whether the programs that a command needs, and the files that it reads, are there."""
-    words = command.split('    #')[0].split()
-    if words[0] in OWN:
-        files = [word for word in words if re.search(r'\.a[ai]g$', word)]
-        return all((folder / file).exists() for file in files[:1])
-    return shutil.which(words[0]) is not None and (words[0] != 'sed' or (folder / 'match.map').exists())
+    command = command.split('    #')[0]
+    name = command.split()[0]
+    circuits = re.findall(r'(?<!write_aiger )\b[\w./]+\.a[ai]g\b', command)
+    if name in OWN:
+        return all((folder / circuit).exists() for circuit in circuits[:1])
+    files = circuits if name == 'berkeley-abc' else ['match.map'] if name == 'sed' else []
+    return shutil.which(name) is not None and all((folder / file).exists() for file in files)
 
 
 def faults_of_block(program, path, folder, shown, number):
