@@ -1,5 +1,5 @@
 """Random circuits, the files that spell them, stimuli, and files that are damaged."""
-from plain.circuit import FREE, KINDS, Circuit, delta, header, joined, ordered, property_lines, reset_of, symbol_lines
+from reference.circuit import FREE, KINDS, Circuit, delta, header, joined, ordered, property_lines, reset_of, symbol_lines
 
 NAMES = [b'', b'a', b'b', b'a b', b'c0', b'\xff\x01', b'x' * 40]
 

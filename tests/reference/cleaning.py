@@ -1,5 +1,5 @@
 """Structural cleaning: passes until one changes nothing. Positions of held latches are `held`."""
-from plain.circuit import FREE, ordered
+from reference.circuit import FREE, ordered
 
 
 def replacements(c, held):

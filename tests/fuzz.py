@@ -1,7 +1,7 @@
 #!/usr/bin/env python3
-"""Compares the program with the plain model on random circuits: what is printed, what is written, the exit status.
+"""Compares the program with the reference model on random circuits: what is printed, what is written, the exit status.
 
-usage: tests/model.py PROGRAM [COUNT] [SEED]
+usage: tests/fuzz.py PROGRAM [COUNT] [SEED]
 
 Of COUNT circuits (300 where it isn't given) some are small, with all sections in both spellings, some are pipelines of
 several frames, and some files are damaged; a small circuit of each family of bench/families.py comes first, and large ones, on which
@@ -16,10 +16,10 @@ import sys
 import tempfile
 
 import random_files
-from plain import program as model
-from plain.circuit import ordered
-from plain.reading import Fault, read
-from plain.retiming import greatest_least_by_flow, greatest_least_of_all, held_latches, passable
+from reference import program as model
+from reference.circuit import ordered
+from reference.reading import Fault, read
+from reference.retiming import greatest_least_by_flow, greatest_least_of_all, held_latches, passable
 
 BENCH = pathlib.Path(__file__).resolve().parent.parent / 'bench'
 WORKERS = [1, 2, 7, 64]

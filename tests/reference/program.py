@@ -1,10 +1,10 @@
 """The commands over files: what is printed, what is written, and the exit status."""
 import os
 
-from plain.circuit import text
-from plain.reading import Fault, read
-from plain.retiming import NoSuchName, passable, retimed
-from plain.simulation import difference_text, read_stimulus, trace, trace_text
+from reference.circuit import text
+from reference.reading import Fault, read
+from reference.retiming import NoSuchName, passable, retimed
+from reference.simulation import difference_text, read_stimulus, trace, trace_text
 
 PATHS = {'retime': 2, 'stat': 1, 'convert': 2, 'sim': 2, 'same': 3}
 OPTIONS = {'retime': {'--ascii', '--binary', '--workers', '--frames', '--keep'}, 'convert': {'--ascii', '--binary'}}

@@ -2,7 +2,7 @@
 import heapq
 import re
 
-from plain.circuit import FREE, KINDS, Circuit, ordered
+from reference.circuit import FREE, KINDS, Circuit, ordered
 
 MOST_VARIABLES = 2**28 - 1
 MOST_PROPERTIES = 2**24

@@ -1,8 +1,8 @@
 """Closed sets of gates, moving latches over them, and frames until none helps."""
 import itertools
 
-from plain.circuit import FREE, ordered
-from plain.cleaning import cleaned
+from reference.circuit import FREE, ordered
+from reference.cleaning import cleaned
 
 MOST_ENUMERATED = 9
 

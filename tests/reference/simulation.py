@@ -1,8 +1,8 @@
 """What a circuit does: stimuli, traces and differences."""
 import re
 
-from plain.circuit import FREE
-from plain.reading import Fault
+from reference.circuit import FREE
+from reference.reading import Fault
 
 MOST_SEQUENCES = 2**20
 
