@@ -1,5 +1,7 @@
 """Trees of their own for the tests of ./fretime, ./test and release/make: these scripts, few and small crates, a stand-in for the
-release that prints its words, and a stand-in for rt where one is wanted."""
+release that prints its words, and a stand-in for rt where one is wanted. So each way that the scripts can go is tried without a
+proof, and none of this tree's files changes."""
+import argparse
 import concurrent.futures
 import hashlib
 import os
@@ -174,7 +176,9 @@ def passes(test):
 
 def run_all(tests, words):
     """Runs the tests, several at once, each in a tree of its own, and returns the exit status."""
-    only = words[words.index('--only') + 1] if '--only' in words else ''
+    parser = argparse.ArgumentParser()
+    parser.add_argument('--only', default='', metavar='TEXT', help='only the tests whose names have this text')
+    only = parser.parse_args(words).only
     tests = [test for test in tests if only in test.__name__]
     with concurrent.futures.ThreadPoolExecutor(os.cpu_count()) as pool:
         passed = list(pool.map(passes, tests))
