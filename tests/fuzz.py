@@ -1,13 +1,12 @@
 #!/usr/bin/env python3
-"""Compares the program with the reference model on random circuits: what is printed, what is written, the exit status.
+"""Compares the program with the reference model (tests/reference) on random circuits: exit status, printed text, written file.
 
-usage: tests/fuzz.py PROGRAM [COUNT] [SEED]
-
-Of COUNT circuits (300 where it isn't given) some are small, with all sections in both spellings, some are pipelines of
-several frames, and some files are damaged; a small circuit of each family of bench/families.py comes first, and large ones, on which
-crews are compared with one worker. The last line is 'N passed, M failed', a comparison each.
-"""
+Some circuits are small, with all sections in both spellings, some are pipelines of several frames, and some files are damaged; a
+small circuit of each family of bench/families.py comes first, and large ones, on which crews are compared with one worker. The
+last line is 'N passed, M failed', a comparison each."""
+import argparse
 import contextlib
+import dataclasses
 import os
 import pathlib
 import random
@@ -16,7 +15,7 @@ import sys
 import tempfile
 
 import random_files
-from reference import program as model
+from reference import program as reference_program
 from reference.circuit import ordered
 from reference.reading import Fault, read
 from reference.retiming import greatest_least_by_flow, greatest_least_of_all, held_latches, passable
@@ -25,32 +24,34 @@ BENCH = pathlib.Path(__file__).resolve().parent.parent / 'bench'
 WORKERS = [1, 2, 7, 64]
 # With more than 4096 nodes of the flow active in some pulses, so that crews share these.
 LARGE = ['products 70', 'gates 20000 9000', 'delay_lines 4200 8']
-FAMILIES = ['products 6', 'multiplier 5', 'divider 5', 'cordic 6', 'fir 4 4', 'adder_tree 8 4', 'delay_lines 16 4', 'rounds 8 4', 'gates 300 40']
+FAMILIES = ['products 6', 'multiplier 5', 'divider 5', 'cordic 6', 'fir 4 4', 'adder_tree 8 4', 'delay_lines 16 4', 'rounds 8 4',
+            'gates 300 40']
 
 
+@dataclasses.dataclass
 class Comparison:
-    """One program against the model, and how often they agreed."""
+    """The program beside the reference, and how often they agreed."""
+    program: str
+    passed: int = 0
+    failed: int = 0
 
-    def __init__(self, program):
-        self.program, self.passed, self.failed = program, 0, 0
-
-    def count(self, well, what):
-        self.passed, self.failed = self.passed + well, self.failed + (not well)
-        if not well:
+    def count(self, agrees: bool, what: str):
+        self.passed, self.failed = self.passed + agrees, self.failed + (not agrees)
+        if not agrees:
             print(f'FAILED {what}')
 
-    def run(self, words, files):
-        """Runs both on the same words; OUT stands for a file of its own for each."""
+    def run(self, words: list, files: dict):
+        """Runs both on the same words, where OUT stands for a file of its own for each; returns what the reference wrote."""
         for name, data in files.items():
             write(name, data)
-        wanted = model.run(['model.out' if word == 'OUT' else word for word in words])
+        expected = reference_program.run(['reference.out' if word == 'OUT' else word for word in words])
         ran = subprocess.run([self.program, *('program.out' if word == 'OUT' else word for word in words)],
                              capture_output=True, timeout=60, check=False)
         got = ran.returncode, ran.stdout.decode('latin-1'), ran.stderr.decode('latin-1')
-        same = got == wanted and content('program.out') == content('model.out')
-        self.count(same, f'{words} on {files}\nwanted {wanted} {content("model.out")}\ngot {got} {content("program.out")}')
-        written = content('model.out')
-        for name in ('model.out', 'program.out'):
+        written, written_by_program = content('reference.out'), content('program.out')
+        self.count(got == expected and written_by_program == written,
+                   f'{words} on {files}\nexpected {expected} {written}\ngot {got} {written_by_program}')
+        for name in ('reference.out', 'program.out'):
             with contextlib.suppress(FileNotFoundError):
                 os.remove(name)
         return written
@@ -85,7 +86,8 @@ def both_least_sets_agree(c):
     return len(passable(c)) > 8 or greatest_least_of_all(c, held) == greatest_least_by_flow(c, held)
 
 
-def small(rng, comparison):
+def compare_small(rng, comparison):
+    """All commands on one small circuit."""
     c = random_files.tree(rng) if rng.random() < 0.6 else random_files.circuit(rng, 3, 5, 9)
     data = random_files.any_file(rng, c)
     comparison.count(both_least_sets_agree(c), f'least sets of {data}')
@@ -98,8 +100,8 @@ def small(rng, comparison):
         comparison.run(['same', 'in', 'other', 'stim'], {'in': data, 'other': retimed, 'stim': stim})
 
 
-def different(rng, comparison):
-    """Two circuits of one shape, which mostly differ somewhere."""
+def compare_two(rng, comparison):
+    """Two circuits of one shape, which mostly differ somewhere, and a damaged stimulus."""
     c = random_files.circuit(rng, 3, 5, 9)
     gates = [ordered(a ^ (rng.random() < 0.2), b) for a, b in c.gates]
     d = c.with_parts(c.latches, gates, lambda lit: lit, {})
@@ -109,7 +111,8 @@ def different(rng, comparison):
     comparison.run(['sim', 'a', 'stim'], {'stim': random_files.damaged(rng, stim)})
 
 
-def damage(rng, comparison):
+def compare_damaged(rng, comparison):
+    """A command on a damaged file, unless the damage has made so many inputs that the reference takes long."""
     data = random_files.damaged(rng, random_files.any_file(rng, random_files.circuit(rng, 3, 3, 4)))
     with contextlib.suppress(Fault):
         if read(data)[0].inputs > 1000:
@@ -117,24 +120,24 @@ def damage(rng, comparison):
     comparison.run(rng.choice([['retime', 'in', 'OUT'], ['convert', 'in', 'OUT'], ['stat', 'in']]), {'in': data})
 
 
-def staged(rng, comparison):
-    """A pipeline of some hundred gates: every number of workers gives the bytes of the model."""
+def compare_pipeline(rng, comparison):
     c = random_files.pipeline(rng, rng.choice([4, 8, 16, 24]), rng.randint(1, 5))
-    with_each_crew(comparison, random_files.any_file(rng, c))
+    compare_crews(comparison, random_files.any_file(rng, c))
 
 
-def with_each_crew(comparison, data):
+def compare_crews(comparison, data):
+    """Every number of workers gives the bytes of the reference."""
     for workers in WORKERS:
         comparison.run(['retime', 'in', 'OUT', '--workers', str(workers)], {'in': data})
 
 
-def made(family):
+def circuit_of(family):
     return subprocess.run([BENCH / 'families.py', *family.split()], capture_output=True, check=True).stdout
 
 
-def alike(comparison, family):
-    """Every crew prints and writes what one worker does. (The model would take minutes here.)"""
-    write('in', made(family))
+def compare_with_one_worker(comparison, family):
+    """Every crew prints and writes what one worker does. (The reference would take minutes here.)"""
+    write('in', circuit_of(family))
     answers = []
     for workers in WORKERS:
         ran = subprocess.run([comparison.program, 'retime', 'in', 'out', '--workers', str(workers)],
@@ -143,23 +146,31 @@ def alike(comparison, family):
         comparison.count(ran.returncode == 0 and answers[-1] == answers[0], f'{workers} workers on {family}')
 
 
-def main(words):
-    program = os.path.abspath(words[0])
-    count = int(words[1]) if len(words) > 1 else 300
-    rng = random.Random(int(words[2]) if len(words) > 2 else 1)
-    comparison = Comparison(program)
-    with tempfile.TemporaryDirectory(prefix='fretime-model-') as room:
-        os.chdir(room)
-        for family in FAMILIES:
-            with_each_crew(comparison, made(family))
-        for family in LARGE:
-            alike(comparison, family)
-        for k in range(count):
-            (staged if k % 10 == 9 else rng.choice([small, small, different, damage]))(rng, comparison)
+def compare_all(comparison, count, rng):
+    """All comparisons, in the current folder."""
+    for family in FAMILIES:
+        compare_crews(comparison, circuit_of(family))
+    for family in LARGE:
+        compare_with_one_worker(comparison, family)
+    for k in range(count):
+        compare = rng.choice([compare_small, compare_small, compare_two, compare_damaged]) if k % 10 != 9 else compare_pipeline
+        compare(rng, comparison)
+
+
+def main():
+    parser = argparse.ArgumentParser(description='Compares the program with the reference model on random circuits.')
+    parser.add_argument('program', help='the program')
+    parser.add_argument('count', nargs='?', type=int, default=300, help='how many random circuits (300)')
+    parser.add_argument('seed', nargs='?', type=int, default=1, help='the seed of the random numbers (1)')
+    given = parser.parse_args()
+    comparison = Comparison(os.path.abspath(given.program))
+    with tempfile.TemporaryDirectory(prefix='fretime-fuzz-') as folder:
+        os.chdir(folder)
+        compare_all(comparison, given.count, random.Random(given.seed))
         os.chdir('/')
     print(f'{comparison.passed} passed, {comparison.failed} failed')
     return 1 if comparison.failed else 0
 
 
 if __name__ == '__main__':
-    sys.exit(main(sys.argv[1:]))
+    sys.exit(main())

@@ -1,4 +1,4 @@
-"""Random circuits, the files that spell them, stimuli, and files that are damaged."""
+"""Random circuits, the files that spell them, stimuli, and damaged files, for fuzz.py. A seed gives the same files everywhere."""
 from reference.circuit import FREE, KINDS, Circuit, delta, header, joined, ordered, property_lines, reset_of, symbol_lines
 
 NAMES = [b'', b'a', b'b', b'a b', b'c0', b'\xff\x01', b'x' * 40]
@@ -27,8 +27,13 @@ def circuit(rng, inputs, latches, gates):
     resets = [0, 0, 0, 1, 1] + rng.choice([[], [FREE], [FREE]])
     first_latch, first_gate = 1 + inputs, 1 + inputs + latches
     end = first_gate + gates
-    pick = lambda at: literal(rng, at, first_latch)
-    several = lambda most: [pick(end) for _ in range(max(0, rng.randint(-2, most)))]
+
+    def pick(bound):
+        return literal(rng, bound, first_latch)
+
+    def several(most):
+        return [pick(end) for _ in range(max(0, rng.randint(-2, most)))]
+
     outputs, bad, constraints, fairness = several(3), several(2), several(2), several(2)
     justice = [several(3) for _ in range(max(0, rng.randint(-2, 2)))]
     counts = (inputs, latches, len(outputs), len(bad), len(constraints), len(justice), len(fairness))
@@ -40,7 +45,7 @@ def circuit(rng, inputs, latches, gates):
 
 
 def pipeline(rng, width, stages):
-    """Latches in stages with a layer of gates behind each: frame after frame helps."""
+    """Latches in stages with layers of gates after each: frame after frame helps."""
     inputs, layers = width, []
     latches, gates, first_gate = [], [], 1 + width + width * stages
     sources = list(range(1, 1 + width))
@@ -57,7 +62,10 @@ def pipeline(rng, width, stages):
         sources += [rng.choice(sources) for _ in range(width - len(sources))]
         layers.append(sources)
     missing = first_gate - 1 - inputs - len(latches)
-    shift = lambda lit: lit - 2 * missing if lit // 2 >= first_gate else lit
+
+    def shift(lit):
+        return lit - 2 * missing if lit // 2 >= first_gate else lit
+
     outputs = [2 * v for v in layers[-1][: max(1, width // 4)]]
     return Circuit(inputs, [(shift(n), r) for n, r in latches], [tuple(map(shift, g)) for g in gates], map(shift, outputs))
 
@@ -72,12 +80,12 @@ def tree(rng):
         gates.append(ordered(*(2 * v + rng.randrange(2) for v in fan_ins)))
         unread = [v for v in unread if v not in fan_ins] + [first_gate + k]
     end = first_gate + len(gates)
-    following = [2 * rng.randrange(1, first_latch if rng.random() < 0.6 else end) + rng.randrange(2) for _ in range(latches)]
+    next_lits = [2 * rng.randrange(1, first_latch if rng.random() < 0.6 else end) + rng.randrange(2) for _ in range(latches)]
     free = rng.random() < 0.3
     resets = [FREE if free and rng.random() < 0.3 else rng.randrange(2) for _ in range(latches)]
     outputs = [2 * v + rng.randrange(2) for v in unread if v >= first_gate]
     counts = (inputs, latches, len(outputs), 0, 0, 0, 0)
-    return Circuit(inputs, list(zip(following, resets)), gates, outputs, symbols=symbols(rng, counts))
+    return Circuit(inputs, list(zip(next_lits, resets)), gates, outputs, symbols=symbols(rng, counts))
 
 
 def shuffled_symbols(rng, c):
@@ -90,12 +98,15 @@ def ascii_file(rng, c):
     """A file of a circuit with other variables, gates in any order, symbols in any order, and perhaps a comment."""
     holes = rng.randint(0, 3)
     numbers = [0, *rng.sample(range(1, c.end() + holes), c.end() - 1)]
-    new = lambda lit: 2 * numbers[lit // 2] + (lit & 1)
+
+    def new(lit):
+        return 2 * numbers[lit // 2] + (lit & 1)
+
     lines = [header(c, 'aag').replace(f'aag {c.end() - 1}', f'aag {c.end() - 1 + holes}', 1)]
     lines += [str(new(2 * v)) for v in range(1, 1 + c.inputs)]
-    for k, (following, reset) in enumerate(c.latches):
+    for k, (next_lit, reset) in enumerate(c.latches):
         lit = new(2 * (c.first_latch() + k))
-        lines.append(f'{lit} {new(following)}{reset_of(lit, reset)}')
+        lines.append(f'{lit} {new(next_lit)}{reset_of(lit, reset)}')
     mapped = c.with_parts(c.latches, c.gates, new, c.symbols['l'])
     lines += property_lines(mapped)
     gates = [(2 * (c.first_gate() + k), *rng.sample(gate, 2)) for k, gate in enumerate(c.gates)]
@@ -115,8 +126,8 @@ def longer(rng, number):
 
 def binary_file(rng, c):
     lines = [header(c, 'aig')]
-    for k, (following, reset) in enumerate(c.latches):
-        lines.append(f'{following}{reset_of(2 * (c.first_latch() + k), reset)}')
+    for k, (next_lit, reset) in enumerate(c.latches):
+        lines.append(f'{next_lit}{reset_of(2 * (c.first_latch() + k), reset)}')
     deltas = [longer(rng, 2 * (c.first_gate() + k) - a) + longer(rng, a - b) for k, (a, b) in enumerate(c.gates)]
     return joined(lines + property_lines(c)) + b''.join(deltas) + shuffled_symbols(rng, c)
 
