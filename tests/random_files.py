@@ -67,7 +67,8 @@ def pipeline(rng, width, stages):
         return lit - 2 * missing if lit // 2 >= first_gate else lit
 
     outputs = [2 * v for v in layers[-1][: max(1, width // 4)]]
-    return Circuit(inputs, [(shift(n), r) for n, r in latches], [tuple(map(shift, g)) for g in gates], map(shift, outputs))
+    return Circuit(inputs, [(shift(n), r) for n, r in latches], [tuple(map(shift, g)) for g in gates],
+                   list(map(shift, outputs)))
 
 
 def tree(rng):

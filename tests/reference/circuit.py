@@ -1,20 +1,28 @@
-"""A circuit and its text in both spellings. Literals are AIGER numbers."""
+"""A circuit and its text in both spellings of AIGER. A literal is the number that AIGER gives it: twice its variable, one more
+where it is negated."""
+import dataclasses
 
 FREE = None
 KINDS = 'ilobcjf'
 
 
+def no_symbols():
+    return {kind: {} for kind in KINDS}
+
+
+@dataclasses.dataclass
 class Circuit:
-    """Inputs are 1..inputs, then latches (next literal, reset), then gates (two literals, the larger first).
-
-    `symbols` has, for each kind of symbol, names by position.
-    """
-
-    def __init__(self, inputs, latches, gates, outputs, bad=(), constraints=(), justice=(), fairness=(), symbols=None):
-        self.inputs, self.latches, self.gates = inputs, list(latches), list(gates)
-        self.outputs, self.bad, self.constraints = list(outputs), list(bad), list(constraints)
-        self.justice, self.fairness = [list(it) for it in justice], list(fairness)
-        self.symbols = symbols or {kind: {} for kind in KINDS}
+    """The variables are 1 to `inputs`, then those of the latches (next literal, reset), then those of the gates (two fan-ins, the
+    larger literal first). `symbols` has, for each kind of symbol, names by position."""
+    inputs: int
+    latches: list
+    gates: list
+    outputs: list
+    bad: list = dataclasses.field(default_factory=list)
+    constraints: list = dataclasses.field(default_factory=list)
+    justice: list = dataclasses.field(default_factory=list)
+    fairness: list = dataclasses.field(default_factory=list)
+    symbols: dict = dataclasses.field(default_factory=no_symbols)
 
     def first_latch(self):
         return 1 + self.inputs
@@ -54,10 +62,10 @@ class Circuit:
 
     def with_parts(self, latches, gates, mapped, latch_names):
         """The same inputs, properties and names over other latches and gates."""
-        lists = [list(map(mapped, lits)) for lits in (self.outputs, self.bad, self.constraints)]
-        justice = [map(mapped, lits) for lits in self.justice]
+        outputs, bad, constraints, fairness, *justice = [
+            list(map(mapped, lits)) for lits in (self.outputs, self.bad, self.constraints, self.fairness, *self.justice)]
         symbols = {**self.symbols, 'l': latch_names}
-        return Circuit(self.inputs, latches, gates, *lists, justice, map(mapped, self.fairness), symbols)
+        return Circuit(self.inputs, latches, gates, outputs, bad, constraints, justice, fairness, symbols)
 
 
 def ordered(a, b):
@@ -82,8 +90,8 @@ def reset_of(lit, reset):
 
 
 def property_lines(c):
-    lines = [*c.outputs, *c.bad, *c.constraints, *map(len, c.justice)]
-    return [str(it) for it in lines + [lit for lits in c.justice for lit in lits] + c.fairness]
+    numbers = [*c.outputs, *c.bad, *c.constraints, *map(len, c.justice)]
+    return [str(number) for number in numbers + [lit for lits in c.justice for lit in lits] + c.fairness]
 
 
 def joined(lines):
@@ -92,9 +100,9 @@ def joined(lines):
 
 def ascii_text(c):
     lines = [header(c, 'aag'), *(str(2 * v) for v in range(1, 1 + c.inputs))]
-    for k, (following, reset) in enumerate(c.latches):
+    for k, (next_lit, reset) in enumerate(c.latches):
         lit = 2 * (c.first_latch() + k)
-        lines.append(f'{lit} {following}{reset_of(lit, reset)}')
+        lines.append(f'{lit} {next_lit}{reset_of(lit, reset)}')
     lines += property_lines(c)
     lines += [f'{2 * (c.first_gate() + k)} {a} {b}' for k, (a, b) in enumerate(c.gates)]
     return joined(lines + symbol_lines(c))
@@ -112,8 +120,8 @@ def delta(number):
 
 def binary_text(c):
     lines = [header(c, 'aig')]
-    for k, (following, reset) in enumerate(c.latches):
-        lines.append(f'{following}{reset_of(2 * (c.first_latch() + k), reset)}')
+    for k, (next_lit, reset) in enumerate(c.latches):
+        lines.append(f'{next_lit}{reset_of(2 * (c.first_latch() + k), reset)}')
     deltas = [delta(2 * (c.first_gate() + k) - a) + delta(a - b) for k, (a, b) in enumerate(c.gates)]
     return joined(lines + property_lines(c)) + b''.join(deltas) + joined(symbol_lines(c))
 

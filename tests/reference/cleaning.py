@@ -1,70 +1,82 @@
-"""Structural cleaning: passes until one changes nothing. Positions of held latches are `held`."""
+"""Structural cleaning: passes of constant propagation, structural hashing and reachability, until one changes nothing. `held` has
+the positions of the latches that are held."""
 from reference.circuit import FREE, ordered
 
 
-def replacements(c, held):
-    """The literal that stands for a replaced latch, and for each gate, in one pass; and the gates that are kept."""
-    stands, firsts = {}, {}
-    for k, (following, reset) in enumerate(c.latches):
+def replaced(lit, replacements):
+    """The literal that stands for this one."""
+    return replacements.get(lit // 2, 2 * (lit // 2)) ^ (lit & 1)
+
+
+def latch_replacements(c, held):
+    """For each latch that is stuck at its reset, or is like an earlier one, the literal that stands for it."""
+    replacements, first_alike = {}, {}
+    for k, (next_lit, reset) in enumerate(c.latches):
         var = c.first_latch() + k
         if reset is FREE:
             continue
-        if k not in held and following in (2 * var, reset):
-            stands[var] = reset
+        if k not in held and next_lit in (2 * var, reset):
+            replacements[var] = reset
             continue
-        first = firsts.setdefault((following, reset), var)
+        first = first_alike.setdefault((next_lit, reset), var)
         if k not in held:
-            stands[var] = 2 * first
-    kept = {}
-    for k, gate in enumerate(c.gates):
+            replacements[var] = 2 * first
+    return replacements
+
+
+def replacements_of(c, held):
+    """The literals that stand for latches and gates after one pass, by variable; and the fan-ins of the gates that are kept."""
+    replacements, kept = latch_replacements(c, held), {}
+    for k, fan_ins in enumerate(c.gates):
         var = c.first_gate() + k
-        a, b = ordered(*(stands.get(lit // 2, 2 * (lit // 2)) ^ (lit & 1) for lit in gate))
+        a, b = ordered(*(replaced(lit, replacements) for lit in fan_ins))
         if b == 0 or a == b ^ 1:
-            stands[var] = 0
+            replacements[var] = 0
         elif b == 1 or a == b:
-            stands[var] = a
+            replacements[var] = a
         elif (a, b) in kept:
-            stands[var] = 2 * kept[a, b]
+            replacements[var] = 2 * kept[a, b]
         else:
             kept[a, b] = var
-    return stands, {var: pair for pair, var in kept.items()}
+    return replacements, {var: fan_ins for fan_ins, var in kept.items()}
 
 
-def reached(c, held, following, kept, properties):
-    """Latches and kept gates that a property or a held latch rests on."""
-    found, todo = set(), [lit // 2 for lit in properties] + [c.first_latch() + k for k in held]
-    while todo:
-        var = todo.pop()
+def reached(c, held, next_lits, kept, properties):
+    """The latches and kept gates in the fan-in cones of properties and held latches."""
+    found, waiting = set(), [lit // 2 for lit in properties] + [c.first_latch() + k for k in held]
+    while waiting:
+        var = waiting.pop()
         if var < c.first_latch() or var in found:
             continue
         found.add(var)
-        todo += [following[var] // 2] if var in following else [lit // 2 for lit in kept[var]]
+        waiting += [next_lits[var] // 2] if var in next_lits else [lit // 2 for lit in kept[var]]
     return found
 
 
 def cleaned_once(c, held):
-    stands, kept = replacements(c, held)
-    put = lambda lit: stands.get(lit // 2, 2 * (lit // 2)) ^ (lit & 1)
-    following = {c.first_latch() + k: put(latch[0]) for k, latch in enumerate(c.latches)}
-    stay = sorted(reached(c, held, following, kept, map(put, c.properties())))
-    number = {var: c.first_latch() + k for k, var in enumerate(stay)}
-    mapped = lambda lit: 2 * number.get(lit // 2, lit // 2) + (lit & 1)
-    latches = [v for v in stay if v in following]
-    names = c.symbols['l']
-    positions = {v - c.first_latch(): k for k, v in enumerate(latches)}
+    replacements, kept = replacements_of(c, held)
+    next_lits = {c.first_latch() + k: replaced(next_lit, replacements) for k, (next_lit, _) in enumerate(c.latches)}
+    left = sorted(reached(c, held, next_lits, kept, [replaced(lit, replacements) for lit in c.properties()]))
+    numbers = {var: c.first_latch() + k for k, var in enumerate(left)}
+
+    def renumbered(lit):
+        return 2 * numbers.get(lit // 2, lit // 2) + (lit & 1)
+
+    latches = [var for var in left if var in next_lits]
+    positions = {var - c.first_latch(): k for k, var in enumerate(latches)}
     d = c.with_parts(
-        [(mapped(following[v]), c.latch(v)[1]) for v in latches],
-        [ordered(*map(mapped, kept[v])) for v in stay if v not in following],
-        lambda lit: mapped(put(lit)),
-        {positions[k]: name for k, name in names.items() if k in positions},
+        [(renumbered(next_lits[var]), c.latch(var)[1]) for var in latches],
+        [ordered(*map(renumbered, kept[var])) for var in left if var not in next_lits],
+        lambda lit: renumbered(replaced(lit, replacements)),
+        {positions[k]: name for k, name in c.symbols['l'].items() if k in positions},
     )
     return d, {positions[k] for k in held}
 
 
 def cleaned(c, held=frozenset()):
-    """The cleaned circuit, and where its held latches are."""
+    """The cleaned circuit, and the positions of its held latches."""
     while True:
-        d, places = cleaned_once(c, held)
+        d, positions = cleaned_once(c, held)
         if (len(d.latches), len(d.gates)) == (len(c.latches), len(c.gates)):
-            return d, places
-        c, held = d, places
+            return d, positions
+        c, held = d, positions

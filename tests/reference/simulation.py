@@ -1,4 +1,4 @@
-"""What a circuit does: stimuli, traces and differences."""
+"""Simulation, one step of one sequence at a time: stimuli, traces, and the first difference of two circuits."""
 import re
 
 from reference.circuit import FREE
@@ -8,7 +8,7 @@ MOST_SEQUENCES = 2**20
 
 
 def read_stimulus(data, inputs, free):
-    """Sequences: the digits of the free latches, and those of the inputs at each step."""
+    """Sequences: the digits of the uninitialised latches, and those of the inputs at each step."""
     sequences, offset = [], 0
     lines = data.split(b'\n')
     if lines[-1] == b'':
@@ -29,17 +29,22 @@ def read_stimulus(data, inputs, free):
     return sequences
 
 
+def value_of(lit, values):
+    """The value of a literal, where each variable has its value."""
+    return values[lit // 2] != bool(lit & 1)
+
+
 def steps(c, choice, rows):
-    """The values of the properties at each step of one sequence."""
+    """The values of the properties at each step of one sequence: `choice` are the values of the uninitialised latches at the start,
+    `rows` those of the inputs, step by step."""
     choice = iter(choice)
     state = [bool(next(choice)) if reset is FREE else bool(reset) for _, reset in c.latches]
     for row in rows:
         values = [False, *row, *state]
-        value = lambda lit: values[lit // 2] != bool(lit & 1)
         for a, b in c.gates:
-            values.append(value(a) and value(b))
-        yield [value(lit) for lit in c.properties()]
-        state = [value(following) for following, _ in c.latches]
+            values.append(value_of(a, values) and value_of(b, values))
+        yield [value_of(lit, values) for lit in c.properties()]
+        state = [value_of(next_lit, values) for next_lit, _ in c.latches]
 
 
 def trace(c, sequences):
