@@ -1,4 +1,4 @@
-"""The commands over files: what is printed, what is written, and the exit status."""
+"""The commands of fretime over files: what is printed, what is written, and the exit status."""
 import os
 
 from reference.circuit import text

@@ -97,8 +97,8 @@ def header_of(line, is_ascii):
 
 
 class Reader:
-    """The items of a file, one after another: literals are those of the file. `positions` has for each variable that an ASCII file
-    defines how many were defined before it."""
+    """The items of a file, one after another: literals are those of the file. `positions` has, for each variable that an ASCII
+    file defines, how many were defined before it."""
 
     def __init__(self, data):
         self.source = Bytes(data)

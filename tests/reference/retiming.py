@@ -1,4 +1,4 @@
-"""Closed sets of gates, moving latches over them, and frames until none helps."""
+"""Retiming by definition: closed sets of gates, least ones found in two ways, latches moved over them, frame by frame."""
 import itertools
 
 from reference.circuit import FREE, ordered
@@ -20,15 +20,15 @@ def held_latches(c, names):
 
 def passable(c, held=frozenset()):
     """Gates whose fan-ins all are known latches that aren't held, or such gates, in order."""
-    found = set()
-    passes = lambda var: var in found or (c.is_known(var) and var - c.first_latch() not in held)
-    for k, gate in enumerate(c.gates):
-        if all(passes(lit // 2) for lit in gate):
-            found.add(c.first_gate() + k)
-    return sorted(found)
+    passed = {c.first_latch() + k for k in range(len(c.latches)) if c.is_known(c.first_latch() + k) and k not in held}
+    for k, fan_ins in enumerate(c.gates):
+        if all(lit // 2 in passed for lit in fan_ins):
+            passed.add(c.first_gate() + k)
+    return sorted(var for var in passed if var >= c.first_gate())
 
 
 def closed_sets(c, held):
+    """All sets of passable gates that have each gate that a member reads."""
     gates = passable(c, held)
     for size in range(len(gates) + 1):
         for chosen in itertools.combinations(gates, size):
@@ -37,10 +37,16 @@ def closed_sets(c, held):
                 yield members
 
 
+def read_outside(c, members, held):
+    """The variables that a next literal, a property or a gate outside a set reads, and the held latches."""
+    read = {lit // 2 for k, fan_ins in enumerate(c.gates) if c.first_gate() + k not in members for lit in fan_ins}
+    read |= {next_lit // 2 for next_lit, _ in c.latches} | {lit // 2 for lit in c.properties()}
+    return read | {c.first_latch() + k for k in held}
+
+
 def border(c, members, held):
-    read = {lit // 2 for k, gate in enumerate(c.gates) if c.first_gate() + k not in members for lit in gate}
-    read |= {following // 2 for following, _ in c.latches} | {lit // 2 for lit in c.properties()}
-    read |= {c.first_latch() + k for k in held}
+    """The known latches, and gates of a set, that are read outside it: each needs a latch after the move."""
+    read = read_outside(c, members, held)
     return [v for v in range(c.first_latch(), c.end()) if v in read and (c.is_known(v) or v in members)]
 
 
@@ -52,8 +58,9 @@ def greatest_least_of_all(c, held):
 
 
 def arcs_of(c, held):
-    """The network, node by node: heads with their capacities. A node is a variable and the side of it."""
-    gates, big = passable(c, held), len(c.latches) + 1
+    """The flow network, node by node: heads with their capacities. A gate has a node for its fan-in side, '-', and one for its
+    fan-out side, '+'; a latch has the latter alone."""
+    gates, unlimited = passable(c, held), len(c.latches) + 1
     inside = set(gates)
     arcs = {'source': {}, 'sink': {}}
     for v in range(c.first_latch(), c.first_gate()):
@@ -64,32 +71,29 @@ def arcs_of(c, held):
         arcs[v, '-'], arcs[v, '+'] = {(v, '+'): 1}, {}
     for v in gates:
         for var in {lit // 2 for lit in c.gate(v)}:
-            arcs[var, '+'][v, '-'] = big
+            arcs[var, '+'][v, '-'] = unlimited
             if var in inside:
-                arcs[v, '-'][var, '-'] = big
-    read = {lit // 2 for k, gate in enumerate(c.gates) if c.first_gate() + k not in inside for lit in gate}
-    read |= {following // 2 for following, _ in c.latches} | {lit // 2 for lit in c.properties()}
-    read |= {c.first_latch() + k for k in held}
-    for v in read:
+                arcs[v, '-'][var, '-'] = unlimited
+    for v in read_outside(c, inside, held):
         if (v, '+') in arcs:
-            arcs[v, '+']['sink'] = big
+            arcs[v, '+']['sink'] = unlimited
     return arcs
 
 
 def path_to_sink(residual):
-    """The shortest path from the source to the sink, as arcs, or None."""
-    before, queue = {'source': None}, ['source']
+    """The shortest augmenting path from the source to the sink, as arcs, or None."""
+    parent, queue = {'source': None}, ['source']
     for node in queue:
-        for head, room in residual[node].items():
-            if room and head not in before:
-                before[head] = node
+        for head, capacity in residual[node].items():
+            if capacity and head not in parent:
+                parent[head] = node
                 queue.append(head)
-    if 'sink' not in before:
+    if 'sink' not in parent:
         return None
     arcs, node = [], 'sink'
-    while before[node] is not None:
-        arcs.append((before[node], node))
-        node = before[node]
+    while parent[node] is not None:
+        arcs.append((parent[node], node))
+        node = parent[node]
     return arcs
 
 
@@ -130,22 +134,28 @@ def values_at_start(c):
 
 
 def moved(c, members, held=frozenset()):
-    kept, values = set(border(c, members, held)), values_at_start(c)
-    staying = [v for v in range(c.first_latch(), c.first_gate()) if v in kept or c.latch(v)[1] is FREE]
-    new = [v for v in sorted(members) if v in kept]
-    outer = [v for v in range(c.first_gate(), c.end()) if v not in members]
-    holders, start = staying + new, c.first_latch()
-    outside = {v: start + k for k, v in enumerate(holders)}
-    for k, v in enumerate(outer):
-        outside.setdefault(v, start + len(holders) + k)
-    copies = {v: start + len(holders) + len(outer) + k for k, v in enumerate(sorted(members))}
-    out = lambda lit: 2 * outside.get(lit // 2, lit // 2) + (lit & 1)
-    ahead = lambda lit: (2 * copies[lit // 2] if lit // 2 in members else out(c.latch(lit // 2)[0])) ^ (lit & 1)
+    """The circuit with its latches moved over a closed set, and the positions of its held latches. Its latches are those that stay,
+    then a new one for each gate of the border; its gates those outside the set, then the members, whose fan-ins are now those
+    before the latches."""
+    needed, values = set(border(c, members, held)), values_at_start(c)
+    staying = [v for v in range(c.first_latch(), c.first_gate()) if v in needed or c.latch(v)[1] is FREE]
+    new = [v for v in sorted(members) if v in needed]
+    outside = [v for v in range(c.first_gate(), c.end()) if v not in members]
+    start = c.first_latch()
+    variables = {v: start + k for k, v in enumerate(staying + new + outside)}
+    copies = {v: start + len(variables) + k for k, v in enumerate(sorted(members))}
+
+    def now(lit):
+        return 2 * variables.get(lit // 2, lit // 2) + (lit & 1)
+
+    def before_latch(lit):
+        return (2 * copies[lit // 2] if lit // 2 in members else now(c.latch(lit // 2)[0])) ^ (lit & 1)
+
     names = c.symbols['l']
     d = c.with_parts(
-        [(out(c.latch(v)[0]), c.latch(v)[1]) for v in staying] + [(2 * copies[v], int(values[v])) for v in new],
-        [ordered(*map(out, c.gate(v))) for v in outer] + [ordered(*map(ahead, c.gate(v))) for v in sorted(members)],
-        out,
+        [(now(c.latch(v)[0]), c.latch(v)[1]) for v in staying] + [(2 * copies[v], int(values[v])) for v in new],
+        [ordered(*map(now, c.gate(v))) for v in outside] + [ordered(*map(before_latch, c.gate(v))) for v in sorted(members)],
+        now,
         {k: names[v - start] for k, v in enumerate(staying) if v - start in names},
     )
     return d, {staying.index(start + k) for k in held}

@@ -35,8 +35,8 @@ def value_of(lit, values):
 
 
 def steps(c, choice, rows):
-    """The values of the properties at each step of one sequence: `choice` are the values of the uninitialised latches at the start,
-    `rows` those of the inputs, step by step."""
+    """The values of the properties at each step of one sequence: `choice` has the values of the uninitialised latches at the
+    start, `rows` those of the inputs, step by step."""
     choice = iter(choice)
     state = [bool(next(choice)) if reset is FREE else bool(reset) for _, reset in c.latches]
     for row in rows:
