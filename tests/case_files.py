@@ -1,4 +1,4 @@
-"""Case files: what one says. tests/README.md has the form."""
+"""Case files, read: their parts, and the bytes that these spell. tests/README.md has the form."""
 import os
 import re
 import shlex
@@ -27,6 +27,11 @@ def lines_of(printed):
 def escaped(lines):
     """Lines with newlines between them, none at the end; backslash, x and two digits stand for a byte."""
     return '\n'.join(lines).encode('latin-1').decode('unicode_escape').encode('latin-1')
+
+
+def byte_of(found):
+    """The byte whose two hexadecimal digits a match has as its group."""
+    return bytes([int(found[1], 16)])
 
 
 def content(words, lines):
@@ -81,8 +86,7 @@ class Case:
     @staticmethod
     def words(arguments):
         """The words of a line as a shell would take them; in quotes, backslash, x and two digits stand for a byte."""
-        byte = lambda found: bytes([int(found[1], 16)])
-        return [re.sub(rb'\\x([0-9a-f]{2})', byte, os.fsencode(word)) for word in shlex.split(arguments)]
+        return [re.sub(rb'\\x([0-9a-f]{2})', byte_of, os.fsencode(word)) for word in shlex.split(arguments)]
 
     def files(self):
         """The files that are there before, with their bytes."""

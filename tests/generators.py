@@ -1,7 +1,5 @@
-"""Large files whose retimed form follows from how they are made, without a run of any program.
-
-A case names one as `== made FILE GENERATOR NUMBER ..`, and what has to come of it as `== after FILE made GENERATOR ..`.
-"""
+"""Large files whose retimed form follows from how they are made, without a run of any program. A case names one as `== made FILE
+GENERATOR NUMBER ..`, and what has to come of it as `== after FILE made GENERATOR ..`."""
 import functools
 
 
@@ -29,14 +27,13 @@ def chain(gates):
     lines += [f'{2 * v}\n' for v in range(1, inputs + 1)]
     lines.append(f'{2 * (first + gates - 1)}\n')
     for k in range(gates):
-        below = 2 * (first + k - 1) if k else 4
-        other = 2 * (2 + k) if k else 2
-        lines.append(f'{2 * (first + k)} {below} {other}\n')
+        first_fan_in, second_fan_in = (2 * (first + k - 1), 2 * (2 + k)) if k else (4, 2)
+        lines.append(f'{2 * (first + k)} {first_fan_in} {second_fan_in}\n')
     return ''.join(lines)
 
 
 def pair_then_chain(gates):
-    """Two latches that feed a gate, and behind it a chain of further gates over inputs."""
+    """Two latches that feed a gate, and after it a chain of further gates over inputs."""
     inputs = gates + 2
     first_latch = 1 + inputs
     first_gate = first_latch + 2
@@ -65,11 +62,12 @@ def pair_then_chain_moved(gates):
 
 
 def outputs(count):
-    """One input that is given out many times."""
+    """One input that many outputs have."""
     return header(1, 0, count, 0) + '2\n' + '2\n' * count
 
 
 def delta(number):
+    """Groups of seven bits, the lowest first; all but the last have the eighth bit."""
     groups = []
     while number > 127:
         groups.append(128 | number & 127)
@@ -83,8 +81,8 @@ def chain_in_binary(gates):
     first = 1 + inputs
     text = [f'aig {inputs + gates} {inputs} 0 1 {gates}\n{2 * (first + gates - 1)}\n'.encode()]
     for k in range(gates):
-        below, other = (2 * (first + k - 1), 2 * (2 + k)) if k else (4, 2)
-        text.append(delta(2 * (first + k) - below) + delta(below - other))
+        first_fan_in, second_fan_in = (2 * (first + k - 1), 2 * (2 + k)) if k else (4, 2)
+        text.append(delta(2 * (first + k) - first_fan_in) + delta(first_fan_in - second_fan_in))
     return b''.join(text)
 
 
@@ -92,13 +90,13 @@ def backward(gates, last):
     """Gates each of which reads the next line's twice; the last reads a given literal twice. Literal 2 is the one input."""
     lines = [header(1, 0, 1, gates), '2\n4\n']
     for k in range(gates):
-        below = 2 * (k + 3) if k + 1 < gates else last
-        lines.append(f'{2 * (k + 2)} {below} {below}\n')
+        fan_in = 2 * (k + 3) if k + 1 < gates else last
+        lines.append(f'{2 * (k + 2)} {fan_in} {fan_in}\n')
     return ''.join(lines)
 
 
 def refused_early(lines):
-    """A file whose second line is none of an input, and many lines behind it."""
+    """A file whose second line is none of an input, and many lines after it."""
     return header(1, 0, 0, 0) + 'x\n' * lines
 
 
@@ -108,6 +106,7 @@ def zeros(count):
 
 
 def empty():
+    """A circuit without a part."""
     return header(0, 0, 0, 0)
 
 
@@ -132,6 +131,7 @@ def sequences(count):
 
 
 def bare_sequences(count):
+    """A stimulus of sequences without a step, for no free latch."""
     return '=\n' * count
 
 

@@ -134,9 +134,9 @@ def values_at_start(c):
 
 
 def moved(c, members, held=frozenset()):
-    """The circuit with its latches moved over a closed set, and the positions of its held latches. Its latches are those that stay,
-    then a new one for each gate of the border; its gates those outside the set, then the members, whose fan-ins are now those
-    before the latches."""
+    """The circuit with its latches moved over a closed set, and the positions of its held latches. Its latches are those that
+    stay, then a new one for each gate of the border; its gates those outside the set, then the members, whose fan-ins are now
+    those before the latches."""
     needed, values = set(border(c, members, held)), values_at_start(c)
     staying = [v for v in range(c.first_latch(), c.first_gate()) if v in needed or c.latch(v)[1] is FREE]
     new = [v for v in sorted(members) if v in needed]
