@@ -1,9 +1,6 @@
 #!/usr/bin/env python3
-"""Compares the program with the reference model (tests/reference) on random circuits: exit status, printed text, written file.
-
-Some circuits are small, with all sections in both spellings, some are pipelines of several frames, and some files are damaged; a
-small circuit of each family of bench/families.py comes first, and large ones, on which crews are compared with one worker. The
-last line is 'N passed, M failed', a comparison each."""
+"""Compares the program with the reference model (tests/reference) on random circuits, whose answers nobody has to work out: exit
+status, printed text, written file. The last line is 'N passed, M failed', a comparison each."""
 import argparse
 import contextlib
 import dataclasses
@@ -146,7 +143,9 @@ def compare_with_one_worker(comparison, family):
 
 
 def compare_all(comparison, count, rng):
-    """All comparisons, in the current folder."""
+    """All comparisons, in the current folder: a small circuit of each family of bench/families.py; large ones, on which crews are
+    compared with one worker; then small circuits with all sections in both spellings, pipelines of several frames, and damaged
+    files."""
     for family in FAMILIES:
         compare_crews(comparison, circuit_of(family))
     for family in LARGE:

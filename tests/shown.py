@@ -1,8 +1,6 @@
-"""Runs the commands that README.md and docs/TUTORIAL.md show, and compares what they print with what these say.
-
-A block of code is commands where its first word is a program; what is printed where the paragraph before it says 'prints'; and
-else the contents of the file that the paragraph before it names. Commands of programs that aren't installed are left out, and so
-are those after them that rest on their files."""
+"""Runs the commands that README.md and docs/TUTORIAL.md show, and compares what they print with what these say, so that a reader
+gets what the text promises. Commands of programs that aren't installed are left out, and so are those after them that rest on
+their files."""
 import dataclasses
 import os
 import pathlib
@@ -181,7 +179,9 @@ def faults_of_saying(program, saying, path, folder):
 
 
 def faults_of_commands(program):
-    """Each command and printed text of the two documents, with what is wrong; or 'left out' with a command."""
+    """Each command and printed text of the two documents, with what is wrong; or 'left out' with a command. A block of code is
+    commands where its first word is a program; what is printed where the paragraph before it says 'prints'; and else the contents
+    of the file that the paragraph before it names."""
     for path in (TOP / 'README.md', TOP / 'docs' / 'TUTORIAL.md'):
         folder = folder_of(path)
         shown = pages.blocks(path, is_command)
