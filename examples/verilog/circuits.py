@@ -1,0 +1,83 @@
+"""Circuits of ASCII AIGER as the netlist's script needs them: read, and written with other inputs in binary. Only inputs, latches,
+outputs and gates: Yosys writes no other properties of the netlists that are accepted."""
+import dataclasses
+
+
+@dataclasses.dataclass
+class Latch:
+    """A latch: its variable, the literal of its next value, and its reset: 0, 1, or None where it has none."""
+    variable: int
+    following: int
+    reset: int | None
+
+
+@dataclasses.dataclass
+class Circuit:
+    """A circuit: variables of inputs, latches, literals of outputs, gates (variable and two literals), symbols of latches."""
+    inputs: list
+    latches: list
+    outputs: list
+    gates: list
+    symbols: dict
+
+
+def read(path):
+    """The circuit of an ASCII file."""
+    lines = path.read_text().splitlines()
+    _, inputs, latches, outputs, gates = map(int, lines[0].split()[1:6])
+    rows = iter(lines[1:])
+    take = lambda count: [list(map(int, next(rows).split())) for _ in range(count)]
+    circuit = Circuit([row[0] >> 1 for row in take(inputs)], [latch_of(*row) for row in take(latches)],
+                      [row[0] for row in take(outputs)], [(row[0] >> 1, *row[1:]) for row in take(gates)], {})
+    for row in rows:
+        if row == 'c':
+            break
+        if row.startswith('l'):
+            place, name = row[1:].split(' ', 1)
+            circuit.symbols[int(place)] = name
+    return circuit
+
+
+def latch_of(literal, following, reset=0):
+    return Latch(literal >> 1, following, None if reset == literal else reset)
+
+
+def with_symbols(path, symbols):
+    """The text of an ASCII file, with these symbols of latches alone."""
+    lines = path.read_text().splitlines()
+    numbers = list(map(int, lines[0].split()[1:6]))
+    body = lines[:1 + sum(numbers[1:])]
+    return '\n'.join(body + [f'l{place} {name}' for place, name in enumerate(symbols)]) + '\n'
+
+
+def renumbered(circuit, order):
+    """The circuit's literals in binary form: inputs in this order (None is an input that nothing reads), then latches, then gates."""
+    news = {0: 0}
+    variables = [*order, *(latch.variable for latch in circuit.latches), *(gate[0] for gate in circuit.gates)]
+    for new, old in enumerate(variables, 1):
+        if old is not None:
+            news[old] = new
+    return lambda literal: news[literal >> 1] * 2 + (literal & 1)
+
+
+def delta(number):
+    """A number in groups of seven bits, the lowest first."""
+    groups = bytearray()
+    while number > 127:
+        groups.append(number & 127 | 128)
+        number >>= 7
+    return bytes(groups + bytes([number]))
+
+
+def binary(circuit, order, outputs):
+    """The bytes of a binary file of the circuit, with its inputs in this order, and these literals as outputs. Every latch has a
+    reset of 0."""
+    literal = renumbered(circuit, order)
+    counts = len(order), len(circuit.latches), len(outputs), len(circuit.gates)
+    lines = [f'aig {counts[0] + counts[1] + counts[3]} {" ".join(map(str, counts))}']
+    lines += [str(literal(latch.following)) for latch in circuit.latches] + [str(literal(output)) for output in outputs]
+    written = bytearray(('\n'.join(lines) + '\n').encode())
+    for variable, *fanins in circuit.gates:
+        larger, smaller = sorted(map(literal, fanins), reverse=True)
+        written += delta(literal(variable * 2) - larger) + delta(larger - smaller)
+    return bytes(written)

@@ -1,0 +1,153 @@
+"""Netlists of Yosys: what of a netlist can't be kept, and the names of its registers."""
+import dataclasses
+
+LATCHES = {'$dlatch', '$adlatch', '$dlatchsr', '$sr'}
+CLOCKED = {'$dff', '$dffe', '$sdff', '$sdffe', '$sdffce'}
+RESETS = {'$adff', '$adffe'}
+LOADS = {'$aldff', '$aldffe', '$dffsr', '$dffsre'}
+# Cells that are no logic: they can't be written as gates.
+REFUSED = {'$tribuf', '$assert', '$assume', '$cover', '$live', '$fair', '$ff', '$anyconst', '$anyseq', '$allconst', '$allseq',
+           '$initstate', '$specify2', '$specify3', '$specrule', '$print', '$equiv'}
+
+
+class Refused(Exception):
+    """The design isn't accepted: a word, and what it is about."""
+
+    def __init__(self, word, about):
+        super().__init__(f'{word} {about}')
+
+
+@dataclasses.dataclass(frozen=True)
+class Clock:
+    """The clock: its port, and whether registers take their values at its rising edge."""
+    port: str
+    rising: bool
+
+
+@dataclasses.dataclass
+class Names:
+    """Names of the netlist's latches, in the order of the file: for each all of its names, and the one that it keeps. A name is that
+    of a wire, with the place of the bit in it, from 0."""
+    all_names: list
+    kept: list
+
+
+class Netlist:
+    """A module as Yosys writes it in JSON."""
+
+    def __init__(self, module):
+        self.ports, self.cells, self.wires = module['ports'], module['cells'], module['netnames']
+        self.named = {}
+        for name, wire in self.wires.items():
+            for bit in wire['bits']:
+                if not wire['hide_name'] and name not in self.named.get(bit, []):
+                    self.named.setdefault(bit, []).append(name)
+        self.inputs = {bit: name for name, port in self.ports.items() if port['direction'] == 'input' for bit in port['bits']}
+
+    def name_of(self, bit):
+        return self.named.get(bit, ['(no name)'])[0]
+
+    def cells_of(self, types):
+        return [(name, cell) for name, cell in self.cells.items() if cell['type'] in types]
+
+    def output_of(self, cell):
+        """The name of what a cell drives."""
+        port = next((port for port in ('Q', 'Y') if port in cell['connections']), None)
+        return self.name_of(cell['connections'][port][0]) if port else '(no name)'
+
+
+def refuse_cells(netlist):
+    """Refuses what no circuit of one clock has."""
+    for name, port in netlist.ports.items():
+        if port['direction'] == 'inout':
+            raise Refused('Inout', f'{name}: a port is input or output')
+    if not any(port['direction'] == 'output' for port in netlist.ports.values()):
+        raise Refused('NoOutput', 'the top module has no output')
+    for _, cell in netlist.cells_of(LATCHES):
+        raise Refused('Latch', f'{netlist.output_of(cell)}: a latch has no clock')
+    for name, cell in netlist.cells.items():
+        kind = cell['type']
+        if kind.startswith('$mem'):
+            raise Refused('Memory', f'{cell["parameters"].get("MEMID", name)}: the memory can\'t be mapped to registers')
+        if kind in REFUSED or not kind.startswith('$'):
+            raise Refused('Cell', f'{name}: {kind} isn\'t written as gates and registers')
+    for _, cell in netlist.cells_of(LOADS):
+        raise Refused('AsynchronousLoad', f'{netlist.output_of(cell)}: what it is set to isn\'t a constant')
+    for _, cell in netlist.cells_of(RESETS):
+        reset = cell['connections']['ARST'][0]
+        if reset not in netlist.inputs:
+            raise Refused('AsynchronousReset', f'{netlist.output_of(cell)}: its reset {netlist.name_of(reset)} is no input')
+
+
+def clock_of(netlist, asked):
+    """The one clock of the netlist, or a refusal."""
+    clocks = {}
+    for _, cell in netlist.cells_of(CLOCKED | RESETS):
+        rising = int(cell['parameters']['CLK_POLARITY'], 2) == 1
+        clocks.setdefault((cell['connections']['CLK'][0], rising), cell)
+    if not clocks:
+        raise Refused('NoRegister', 'the design has no register')
+    if len(clocks) > 1:
+        told = sorted(f'{netlist.name_of(bit)} ({"rising" if rising else "falling"})' for bit, rising in clocks)
+        raise Refused('SeveralClocks', f'{", ".join(told)}: registers have one clock, and one edge of it')
+    bit, rising = next(iter(clocks))
+    port = netlist.inputs.get(bit)
+    if port is None or len(netlist.ports[port]['bits']) != 1:
+        raise Refused('DerivedClock', f'{netlist.name_of(bit)}: the clock is no input of one bit')
+    if asked not in (None, port):
+        raise Refused('NoSuchClock', f'{asked}: the registers\' clock is {port}')
+    readers = [name for name, cell in netlist.cells.items() for pin, bits in cell['connections'].items() if pin != 'CLK' and bit in bits]
+    if readers or any(bit in it['bits'] for it in netlist.ports.values() if it['direction'] == 'output'):
+        raise Refused('ClockAsData', f'{port}: the clock is read by logic, or is an output')
+    return Clock(port, rising)
+
+
+def resets_made_synchronous(netlist):
+    """A line for each asynchronous reset."""
+    found = {}
+    for _, cell in netlist.cells_of(RESETS):
+        found.setdefault(netlist.name_of(cell['connections']['ARST'][0]), []).append(netlist.output_of(cell))
+    return [f'asynchronous reset {reset}, of {", ".join(sorted(set(names)))}: taken to change with the clock alone'
+            for reset, names in found.items()]
+
+
+def renames(before, after):
+    """Public names for registers without one, (old, new) for each: those that async2sync made get that of the register, with $held."""
+    clocked = {bit: None for _, cell in after.cells_of(CLOCKED) for bit in cell['connections']['Q']}
+    hidden = {bit: name for name, wire in after.wires.items() if wire['hide_name'] for bit in wire['bits']}
+    fresh = {}
+    for _, cell in after.cells_of({'$mux'}):
+        pins = cell['connections']
+        for value, bit in zip(pins['A'] if pins['A'][0] in clocked else pins['B'], pins['Y']):
+            names = [name for name in after.named.get(bit, []) if name in before.wires]
+            if value in clocked and value in hidden and value not in after.named and names:
+                fresh.setdefault(hidden[value], f'{preferred(after, names)}$held')
+    for bit in clocked:
+        if bit not in after.named and bit in hidden:
+            fresh.setdefault(hidden[bit], f'unnamed${len(fresh)}')
+    return list(fresh.items())
+
+
+def preferred(netlist, names):
+    """Of several names of one register the one that it was declared by."""
+    return min(names, key=lambda name: ('fretime_register' not in netlist.wires[name]['attributes'], name.count('.')))
+
+
+def read_map(path):
+    """The lines of a map that Yosys wrote beside a circuit: for each kind, position and names with the places of their bits."""
+    found = {}
+    for line in path.read_text().splitlines():
+        kind, position, index, name = line.split(' ', 3)
+        found.setdefault(kind, {}).setdefault(int(position), []).append((name, int(index)))
+    return found
+
+
+def names_of_latches(netlist, found, count):
+    """All names of each latch, and the one that it keeps, or None."""
+    found = found.get('latch', {})
+    all_names = [found.get(place, []) for place in range(count)]
+    kept = []
+    for names in all_names:
+        best = preferred(netlist, [name for name, _ in names]) if names else None
+        kept.append(next(((name, index) for name, index in names if name == best), None))
+    return Names(all_names, kept)

@@ -1,0 +1,163 @@
+"""The netlist of a retimed circuit, in Yosys' RTLIL: the ports of the old netlist, its registers that stay, new registers, gates."""
+import dataclasses
+
+
+@dataclasses.dataclass
+class Register:
+    """A register: its name, its wire (width and range, as in JSON), and its latches, the lowest bit first."""
+    name: str
+    wire: dict
+    latches: list
+
+
+def index_of(wire, place):
+    """The index that Verilog gives the bit at a place of a wire."""
+    offset = wire.get('offset', 0)
+    return offset + (len(wire['bits']) - 1 - place if wire.get('upto') else place)
+
+
+class Registers:
+    """The registers of the retimed circuit, and which latch of the old circuit each of their bits was."""
+
+    def __init__(self, netlist, names, circuit, found):
+        self.netlist, self.circuit = netlist, circuit
+        self.port_literals = output_literals(circuit, found)
+        self.taken, self.found, self.old = set(netlist.ports), [], {}
+        stay = {place: int(symbol.split(' ')[0]) for place, symbol in circuit.symbols.items()}
+        groups = {}
+        for latch, old in stay.items():
+            name, bit = names.kept[old]
+            groups.setdefault(name, {})[bit] = latch
+        for name, bits in groups.items():
+            self.add_named(name, bits)
+        for register in self.found:
+            self.old.update({(register.name, bit): stay[latch] for bit, latch in enumerate(register.latches)})
+        new = [latch for latch in range(len(circuit.latches)) if latch not in stay]
+        if new:
+            self.add(self.fresh('retimed'), {'bits': new}, new)
+
+    def add(self, name, wire, latches):
+        self.taken.add(name)
+        self.found.append(Register(name, wire, latches))
+
+    def fresh(self, name):
+        return next(it for it in [name, *(f'{name}_{k}' for k in range(2, 10 ** 6))] if it not in self.taken)
+
+    def is_own_port(self, name, wire, bits):
+        """Whether an output port is the register itself, as before."""
+        literals = [self.circuit.latches[bits[bit]].variable * 2 for bit in range(len(wire['bits']))]
+        return self.netlist.ports[name]['direction'] == 'output' and self.port_literals.get(name) == literals
+
+    def add_named(self, name, bits):
+        """A register all of whose bits stay has its own name, else each bit that stays has the name with its index."""
+        wire = self.netlist.wires[name]
+        shown = name.removesuffix('$held') if name.endswith('$held') else name
+        whole = len(bits) == len(wire['bits'])
+        if whole and shown == name and name in self.netlist.ports and self.is_own_port(name, wire, bits):
+            self.add(name, wire, [bits[bit] for bit in range(len(bits))])
+            return
+        if shown in self.taken and whole:
+            shown = self.fresh(f'{shown}_held')
+        if whole:
+            self.add(shown, wire, [bits[bit] for bit in range(len(bits))])
+            return
+        for bit, latch in sorted(bits.items()):
+            self.add(self.fresh(f'{shown}[{index_of(wire, bit)}]'), {'bits': [latch]}, [latch])
+
+
+def identifier(name):
+    return '\\' + name
+
+
+def declared(name, wire, *more):
+    """A wire of RTLIL: its width, its range, and other words."""
+    words = [f'width {len(wire["bits"])}', *([f'offset {wire["offset"]}'] if wire.get('offset') else [])]
+    words += [word for word in ('upto', 'signed') if wire.get(word)]
+    return f'  wire {" ".join([*words, *more])} {identifier(name)}'
+
+
+def bits_of(name, width):
+    """The bits of a wire, the lowest first."""
+    return [identifier(name)] if width == 1 else [f'{identifier(name)} [{bit}]' for bit in range(width)]
+
+
+def joined(signals):
+    return '{ ' + ' '.join(reversed(signals)) + ' }'
+
+
+class Module:
+    """The lines of a module, gate by gate."""
+
+    def __init__(self, netlist, registers, circuit, found):
+        self.wires, self.cells, self.nets, self.inverted = [], [], {0: "1'0"}, {}
+        self.netlist, self.circuit = netlist, circuit
+        for position, names in found.get('input', {}).items():
+            name, bit = names[0]
+            self.nets[circuit.inputs[position]] = bits_of(name, len(netlist.ports[name]['bits']))[bit]
+        for register in registers.found:
+            for signal, latch in zip(bits_of(register.name, len(register.latches)), register.latches):
+                self.nets[circuit.latches[latch].variable] = signal
+        for variable, *_ in circuit.gates:
+            self.nets[variable] = f'$gate{variable}'
+
+    def cell(self, kind, parameters, pins):
+        self.cells += [f'  cell {kind} $cell{len(self.cells)}', *(f'    parameter \\{name} {value}' for name, value in parameters),
+                       *(f'    connect \\{name} {signal}' for name, signal in pins), '  end']
+
+    def signal(self, literal):
+        """The net of a literal, with an inverter where one is needed."""
+        variable = literal >> 1
+        if literal & 1 == 0:
+            return self.nets[variable]
+        if variable == 0:
+            return "1'1"
+        if variable not in self.inverted:
+            self.inverted[variable] = f'$not{variable}'
+            self.wires.append(f'  wire $not{variable}')
+            self.cell('$_NOT_', [], [('A', self.nets[variable]), ('Y', f'$not{variable}')])
+        return self.inverted[variable]
+
+    def add_gates(self):
+        for variable, left, right in self.circuit.gates:
+            self.wires.append(f'  wire $gate{variable}')
+            self.cell('$_AND_', [], [('A', self.signal(left)), ('B', self.signal(right)), ('Y', f'$gate{variable}')])
+
+    def add_register(self, register, clock):
+        latches = [self.circuit.latches[latch] for latch in register.latches]
+        parameters = [('WIDTH', len(latches)), ('CLK_POLARITY', f"1'{int(clock.rising)}")]
+        self.cell('$dff', parameters, [('CLK', identifier(clock.port)), ('Q', identifier(register.name)),
+                                       ('D', joined([self.signal(latch.following) for latch in latches]))])
+
+    def reset_of(self, register):
+        """The attribute with a register's initial value, where it has one."""
+        resets = [self.circuit.latches[latch].reset for latch in reversed(register.latches)]
+        bits = ''.join('x' if reset is None else str(reset) for reset in resets)
+        return [f"  attribute \\init {len(bits)}'{bits}"] if set(bits) != {'x'} else []
+
+
+def output_literals(circuit, found):
+    """The literals of each output port, the lowest bit first."""
+    literals = {}
+    for position, names in sorted(found.get('output', {}).items()):
+        name, bit = names[0]
+        literals.setdefault(name, {})[bit] = circuit.outputs[position]
+    return {name: [bits[bit] for bit in range(len(bits))] for name, bits in literals.items()}
+
+
+def rtlil(top, netlist, registers, circuit, found, clock):
+    """The text of the module."""
+    module = Module(netlist, registers, circuit, found)
+    module.add_gates()
+    own = {register.name for register in registers.found}
+    for number, (name, port) in enumerate(netlist.ports.items(), 1):
+        held = next((module.reset_of(it) for it in registers.found if it.name == name), [])
+        module.wires += [*held, declared(name, port, port['direction'], str(number))]
+    for register in registers.found:
+        if register.name not in netlist.ports:
+            module.wires += [*module.reset_of(register), declared(register.name, register.wire)]
+        module.add_register(register, clock)
+    for name, literals in registers.port_literals.items():
+        if name not in own:
+            signals = [module.signal(literal) for literal in literals]
+            module.cells.append(f'  connect {identifier(name)} {joined(signals)}')
+    return '\n'.join([f'module {identifier(top)}', *module.wires, *module.cells, 'end', ''])
