@@ -68,8 +68,8 @@ def refuse_cells(netlist):
     for name, cell in netlist.cells.items():
         kind = cell['type']
         if kind.startswith('$mem'):
-            raise Refused('Memory', f'{cell["parameters"].get("MEMID", name)}: the memory can\'t be mapped to registers')
-        if kind in REFUSED or not kind.startswith('$'):
+            raise Refused('Memory', f'{cell["parameters"].get("MEMID", name).lstrip(chr(92))}: the memory can\'t be mapped to registers')
+        if kind in REFUSED or not kind.startswith('$') or kind.startswith('$_'):
             raise Refused('Cell', f'{name}: {kind} isn\'t written as gates and registers')
     for _, cell in netlist.cells_of(LOADS):
         raise Refused('AsynchronousLoad', f'{netlist.output_of(cell)}: what it is set to isn\'t a constant')

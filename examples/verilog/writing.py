@@ -49,17 +49,20 @@ class Registers:
         return self.netlist.ports[name]['direction'] == 'output' and self.port_literals.get(name) == literals
 
     def add_named(self, name, bits):
-        """A register all of whose bits stay has its own name, else each bit that stays has the name with its index."""
+        """A register has its own name, with a range of its bits that stay where these are neighbours; else each bit that stays has
+        the name with its index."""
         wire = self.netlist.wires[name]
         shown = name.removesuffix('$held') if name.endswith('$held') else name
+        latches = [bits[bit] for bit in sorted(bits)]
         whole = len(bits) == len(wire['bits'])
+        neighbours = len(bits) > 1 and max(bits) - min(bits) == len(bits) - 1 and shown not in self.netlist.ports
         if whole and shown == name and name in self.netlist.ports and self.is_own_port(name, wire, bits):
-            self.add(name, wire, [bits[bit] for bit in range(len(bits))])
+            self.add(name, wire, latches)
             return
-        if shown in self.taken and whole:
-            shown = self.fresh(f'{shown}_held')
-        if whole:
-            self.add(shown, wire, [bits[bit] for bit in range(len(bits))])
+        if whole or neighbours:
+            lowest = min(index_of(wire, bit) for bit in bits)
+            part = {**wire, 'bits': latches, 'offset': lowest}
+            self.add(self.fresh(f'{shown}_held') if shown in self.taken else shown, part, latches)
             return
         for bit, latch in sorted(bits.items()):
             self.add(self.fresh(f'{shown}[{index_of(wire, bit)}]'), {'bits': [latch]}, [latch])
