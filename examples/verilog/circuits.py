@@ -1,4 +1,4 @@
-"""Circuits of ASCII AIGER as the netlist's script needs them: read, and written with other inputs in binary. Only inputs, latches,
+"""Circuits of ASCII AIGER as the script needs them: read, and written with other inputs in binary. They have inputs, latches,
 outputs and gates: Yosys writes no other properties of the netlists that are accepted."""
 import dataclasses
 
@@ -13,12 +13,14 @@ class Latch:
 
 @dataclasses.dataclass
 class Circuit:
-    """A circuit: variables of inputs, latches, literals of outputs, gates (variable and two literals), symbols of latches."""
+    """A circuit: variables of inputs, latches, literals of outputs, gates (variable and two literals), symbols of latches and of
+    outputs by their positions."""
     inputs: list
     latches: list
     outputs: list
     gates: list
     symbols: dict
+    output_symbols: dict
 
 
 def read(path):
@@ -28,13 +30,13 @@ def read(path):
     rows = iter(lines[1:])
     take = lambda count: [list(map(int, next(rows).split())) for _ in range(count)]
     circuit = Circuit([row[0] >> 1 for row in take(inputs)], [latch_of(*row) for row in take(latches)],
-                      [row[0] for row in take(outputs)], [(row[0] >> 1, *row[1:]) for row in take(gates)], {})
+                      [row[0] for row in take(outputs)], [(row[0] >> 1, *row[1:]) for row in take(gates)], {}, {})
     for row in rows:
         if row == 'c':
             break
-        if row.startswith('l'):
-            place, name = row[1:].split(' ', 1)
-            circuit.symbols[int(place)] = name
+        place, name = row[1:].split(' ', 1)
+        if row[0] in 'lo':
+            (circuit.symbols if row[0] == 'l' else circuit.output_symbols)[int(place)] = name
     return circuit
 
 
@@ -51,7 +53,7 @@ def with_symbols(path, symbols):
 
 
 def renumbered(circuit, order):
-    """The circuit's literals in binary form: inputs in this order (None is an input that nothing reads), then latches, then gates."""
+    """The circuit's literals in binary form: inputs in this order (None is one that nothing reads), then latches, then gates."""
     news = {0: 0}
     variables = [*order, *(latch.variable for latch in circuit.latches), *(gate[0] for gate in circuit.gates)]
     for new, old in enumerate(variables, 1):

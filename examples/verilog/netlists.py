@@ -26,8 +26,8 @@ class Clock:
 
 @dataclasses.dataclass
 class Names:
-    """Names of the netlist's latches, in the order of the file: for each all of its names, and the one that it keeps. A name is that
-    of a wire, with the place of the bit in it, from 0."""
+    """Names of the netlist's latches, in the order of the file: for each all of its names, and the one that it keeps. A name is
+    that of a wire, with the place of the bit in it, from 0."""
     all_names: list
     kept: list
 
@@ -56,6 +56,18 @@ class Netlist:
         return self.name_of(cell['connections'][port][0]) if port else '(no name)'
 
 
+def refuse_drivers(netlist):
+    """Refuses nets with several drivers: inputs, or outputs of cells. A net that a constant drives too is that constant."""
+    drivers = [(bit, name) for name, port in netlist.ports.items() if port['direction'] == 'input' for bit in port['bits']]
+    drivers += [(bit, netlist.name_of(bit)) for cell in netlist.cells.values() for pin, bits in cell['connections'].items()
+                if cell.get('port_directions', {}).get(pin) == 'output' for bit in bits]
+    driven = set()
+    for bit, name in drivers:
+        if bit in driven or isinstance(bit, str):
+            raise Refused('Drivers', f'{name}: it has more than one driver')
+        driven.add(bit)
+
+
 def refuse_cells(netlist):
     """Refuses what no circuit of one clock has."""
     for name, port in netlist.ports.items():
@@ -68,9 +80,11 @@ def refuse_cells(netlist):
     for name, cell in netlist.cells.items():
         kind = cell['type']
         if kind.startswith('$mem'):
-            raise Refused('Memory', f'{cell["parameters"].get("MEMID", name).lstrip(chr(92))}: the memory can\'t be mapped to registers')
+            memory = cell['parameters'].get('MEMID', name).lstrip('\\')
+            raise Refused('Memory', f'{memory}: the memory can\'t be mapped to registers')
         if kind in REFUSED or not kind.startswith('$') or kind.startswith('$_'):
             raise Refused('Cell', f'{name}: {kind} isn\'t written as gates and registers')
+    refuse_drivers(netlist)
     for _, cell in netlist.cells_of(LOADS):
         raise Refused('AsynchronousLoad', f'{netlist.output_of(cell)}: what it is set to isn\'t a constant')
     for _, cell in netlist.cells_of(RESETS):
@@ -96,8 +110,9 @@ def clock_of(netlist, asked):
         raise Refused('DerivedClock', f'{netlist.name_of(bit)}: the clock is no input of one bit')
     if asked not in (None, port):
         raise Refused('NoSuchClock', f'{asked}: the registers\' clock is {port}')
-    readers = [name for name, cell in netlist.cells.items() for pin, bits in cell['connections'].items() if pin != 'CLK' and bit in bits]
-    if readers or any(bit in it['bits'] for it in netlist.ports.values() if it['direction'] == 'output'):
+    pins = [pin for cell in netlist.cells.values() for pin in cell['connections'].items()]
+    outputs = [bit for port in netlist.ports.values() if port['direction'] == 'output' for bit in port['bits']]
+    if bit in outputs or any(pin != 'CLK' and bit in bits for pin, bits in pins):
         raise Refused('ClockAsData', f'{port}: the clock is read by logic, or is an output')
     return Clock(port, rising)
 
@@ -112,7 +127,7 @@ def resets_made_synchronous(netlist):
 
 
 def renames(before, after):
-    """Public names for registers without one, (old, new) for each: those that async2sync made get that of the register, with $held."""
+    """Public names for registers without one, (old, new) for each: what async2sync made gets the register's name, with $held."""
     clocked = {bit: None for _, cell in after.cells_of(CLOCKED) for bit in cell['connections']['Q']}
     hidden = {bit: name for name, wire in after.wires.items() if wire['hide_name'] for bit in wire['bits']}
     fresh = {}
@@ -143,11 +158,24 @@ def read_map(path):
 
 
 def names_of_latches(netlist, found, count):
-    """All names of each latch, and the one that it keeps, or None."""
+    """All names of each latch, and the one that it keeps."""
     found = found.get('latch', {})
     all_names = [found.get(place, []) for place in range(count)]
     kept = []
     for names in all_names:
-        best = preferred(netlist, [name for name, _ in names]) if names else None
-        kept.append(next(((name, index) for name, index in names if name == best), None))
+        if not names:
+            raise Refused('Names', 'a register has no name')
+        best = preferred(netlist, [name for name, _ in names])
+        kept.append(next((name, index) for name, index in names if name == best))
     return Names(all_names, kept)
+
+
+def outputs_of(netlist, circuit):
+    """The port and bit of each output, by position. (The map has none for those that are constant.)"""
+    widths = {name: len(port['bits']) for name, port in netlist.ports.items() if port['direction'] == 'output'}
+    bits = [(name, bit) for name, width in widths.items() for bit in range(width)]
+    shown = {name if widths[name] == 1 else f'{name}[{bit}]': (name, bit) for name, bit in bits}
+    found = {position: shown.get(symbol) for position, symbol in circuit.output_symbols.items()}
+    if len(shown) < len(bits) or sorted(found) != list(range(len(circuit.outputs))) or set(found.values()) != set(bits):
+        raise Refused('Names', 'the bits of the outputs can\'t be told apart by their names')
+    return found

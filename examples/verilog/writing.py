@@ -1,4 +1,4 @@
-"""The netlist of a retimed circuit, in Yosys' RTLIL: the ports of the old netlist, its registers that stay, new registers, gates."""
+"""The netlist of a retimed circuit, in Yosys' RTLIL: ports of the old netlist, its registers that stay, new registers, gates."""
 import dataclasses
 
 
@@ -19,9 +19,9 @@ def index_of(wire, place):
 class Registers:
     """The registers of the retimed circuit, and which latch of the old circuit each of their bits was."""
 
-    def __init__(self, netlist, names, circuit, found):
+    def __init__(self, netlist, names, circuit, outputs):
         self.netlist, self.circuit = netlist, circuit
-        self.port_literals = output_literals(circuit, found)
+        self.port_literals = output_literals(circuit, outputs)
         self.taken, self.found, self.old = set(netlist.ports), [], {}
         stay = {place: int(symbol.split(' ')[0]) for place, symbol in circuit.symbols.items()}
         groups = {}
@@ -49,8 +49,8 @@ class Registers:
         return self.netlist.ports[name]['direction'] == 'output' and self.port_literals.get(name) == literals
 
     def add_named(self, name, bits):
-        """A register has its own name, with a range of its bits that stay where these are neighbours; else each bit that stays has
-        the name with its index."""
+        """A register has its own name, with the range of its bits that stay where these are neighbours; else each of them has the
+        name with its index."""
         wire = self.netlist.wires[name]
         shown = name.removesuffix('$held') if name.endswith('$held') else name
         latches = [bits[bit] for bit in sorted(bits)]
@@ -104,7 +104,8 @@ class Module:
             self.nets[variable] = f'$gate{variable}'
 
     def cell(self, kind, parameters, pins):
-        self.cells += [f'  cell {kind} $cell{len(self.cells)}', *(f'    parameter \\{name} {value}' for name, value in parameters),
+        self.cells += [f'  cell {kind} $cell{len(self.cells)}',
+                       *(f'    parameter \\{name} {value}' for name, value in parameters),
                        *(f'    connect \\{name} {signal}' for name, signal in pins), '  end']
 
     def signal(self, literal):
@@ -138,11 +139,10 @@ class Module:
         return [f"  attribute \\init {len(bits)}'{bits}"] if set(bits) != {'x'} else []
 
 
-def output_literals(circuit, found):
+def output_literals(circuit, outputs):
     """The literals of each output port, the lowest bit first."""
     literals = {}
-    for position, names in sorted(found.get('output', {}).items()):
-        name, bit = names[0]
+    for position, (name, bit) in outputs.items():
         literals.setdefault(name, {})[bit] = circuit.outputs[position]
     return {name: [bits[bit] for bit in range(len(bits))] for name, bits in literals.items()}
 
