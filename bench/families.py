@@ -1,10 +1,10 @@
 #!/usr/bin/env python3
 """Families of circuits by size, as binary AIGER files.
 
-usage: bench/families.py FAMILY SIZE .. > FILE
+usage: bench/families.py [copies COUNT] FAMILY SIZE .. > FILE
        bench/families.py --list
 
-The same words give the same bytes.
+The same words give the same bytes. `copies COUNT` gives that many copies of the circuit side by side, each with inputs of its own.
 """
 import math
 import random
@@ -87,20 +87,30 @@ class Builder:
         """The word one step later."""
         return [self.latch(bit) if bit > 1 else bit for bit in word]
 
-    def file(self):
-        number = {0: 0}
-        for node in self.inputs + self.latches + self.gates:
-            number[node] = len(number)
-        new = lambda lit: 2 * number[lit // 2] + (lit & 1)
-        sizes = (len(self.inputs), len(self.latches), len(self.outputs), len(self.gates))
-        lines = [f'aig {sum(sizes) - sizes[2]} {sizes[0]} {sizes[1]} {sizes[2]} {sizes[3]}']
-        lines += [str(new(self.following[node])) for node in self.latches] + [str(new(lit)) for lit in self.outputs]
-        deltas = bytearray()
-        for node in self.gates:
-            low, high = sorted(map(new, self.fan_ins[node]))
-            put_delta(deltas, 2 * number[node] - high)
-            put_delta(deltas, high - low)
-        return ''.join(f'{line}\n' for line in lines).encode() + deltas
+    def numbers(self, count, which):
+        """The variable of each node in one of so many copies: all inputs come first, then all latches, then all gates."""
+        number, first = {0: 0}, 1
+        for kind in (self.inputs, self.latches, self.gates):
+            number.update(zip(kind, range(first + which * len(kind), first + (which + 1) * len(kind))))
+            first += count * len(kind)
+        return number
+
+    def pieces(self, count=1):
+        """The file of so many copies side by side, in pieces."""
+        new = lambda number, lit: 2 * number[lit // 2] + (lit & 1)
+        sizes = [count * len(kind) for kind in (self.inputs, self.latches, self.outputs, self.gates)]
+        yield f'aig {sum(sizes) - sizes[2]} {sizes[0]} {sizes[1]} {sizes[2]} {sizes[3]}\n'.encode()
+        for lits in ([self.following[node] for node in self.latches], self.outputs):
+            for which in range(count):
+                number = self.numbers(count, which)
+                yield ''.join(f'{new(number, lit)}\n' for lit in lits).encode()
+        for which in range(count):
+            number, deltas = self.numbers(count, which), bytearray()
+            for node in self.gates:
+                low, high = sorted(new(number, lit) for lit in self.fan_ins[node])
+                put_delta(deltas, 2 * number[node] - high)
+                put_delta(deltas, high - low)
+            yield deltas
 
 
 def put_delta(deltas, value):
@@ -137,10 +147,7 @@ def multiplier(bits):
 def adder_tree(words, bits):
     """The sum of many words, each in a register: the registers can move to the sum."""
     c = Builder()
-    rows = [c.held(c.word(bits)) for _ in range(words)]
-    while len(rows) > 1:
-        rows = [c.add(*rows[k : k + 2]) if k + 1 < len(rows) else rows[k] for k in range(0, len(rows), 2)]
-    c.outputs = rows[0]
+    c.outputs = sum_of(c, [c.held(c.word(bits)) for _ in range(words)])
     return c
 
 
@@ -204,20 +211,38 @@ def cordic(bits):
     return c
 
 
-def fir(taps, bits):
-    """A filter: each of the last samples times a constant, with a register behind each product, and the sum of all."""
+def filter_products(c, taps, bits):
+    """Each of the last samples times a constant."""
     rng = random.Random(taps)
-    c = Builder()
-    sample, rows = c.word(bits), []
+    sample = c.word(bits)
     for _ in range(taps):
         sample, product = c.held(sample), [0] * bits
         for place in range(bits):
             if rng.randrange(2):
                 product = product[:place] + c.add(product[place:], sample)
-        rows.append(c.held(product))
+        yield product
+
+
+def sum_of(c, rows):
+    """The sum of words, by a tree."""
     while len(rows) > 1:
         rows = [c.add(*rows[k : k + 2]) if k + 1 < len(rows) else rows[k] for k in range(0, len(rows), 2)]
-    c.outputs = rows[0]
+    return rows[0]
+
+
+def fir(taps, bits):
+    """A filter: each of the last samples times a constant, with a register behind each product, and the sum of all."""
+    c = Builder()
+    c.outputs = sum_of(c, [c.held(product) for product in filter_products(c, taps, bits)])
+    return c
+
+
+def two_stages(taps, bits):
+    """A filter as `fir`, with registers behind the first sums of two products too: two frames."""
+    c = Builder()
+    rows = [c.held(row) for row in filter_products(c, taps, bits)]
+    rows = [c.held(c.add(*rows[k : k + 2])) if k + 1 < len(rows) else c.held(rows[k]) for k in range(0, len(rows), 2)]
+    c.outputs = sum_of(c, rows)
     return c
 
 
@@ -238,7 +263,7 @@ def gates(count, latches):
     return c
 
 
-FAMILIES = {it.__name__: it for it in (products, multiplier, divider, cordic, fir, adder_tree, delay_lines, rounds, gates)}
+FAMILIES = {it.__name__: it for it in (products, multiplier, divider, cordic, fir, two_stages, adder_tree, delay_lines, rounds, gates)}
 
 
 def main(words):
@@ -246,10 +271,13 @@ def main(words):
         for name, family in FAMILIES.items():
             print(f'{name}: {family.__doc__}')
         return 0
-    if not words or words[0] not in FAMILIES:
+    count = int(words[1]) if words[:1] == ['copies'] and len(words) > 2 else 1
+    family = words[2:] if words[:1] == ['copies'] else words
+    if not family or family[0] not in FAMILIES:
         print(__doc__, file=sys.stderr)
         return 2
-    sys.stdout.buffer.write(FAMILIES[words[0]](*map(int, words[1:])).file())
+    for piece in FAMILIES[family[0]](*map(int, family[1:])).pieces(count):
+        sys.stdout.buffer.write(piece)
     return 0
 
 

@@ -12,15 +12,17 @@ import time
 TOP = os.path.dirname(os.path.dirname(os.path.abspath(__file__)))
 ABC = next((it for it in ('berkeley-abc', 'abc') if shutil.which(it)), None)
 TIME = shutil.which('time')
+BUILT = os.path.join(TOP, 'crates', 'fretime', 'out', 'fretime')
 
 
 class Run:
-    """One run: its status, what it printed, its seconds, its peak in megabytes, and whether it was stopped. The peak is what
-    GNU `time` says; without it there is none, since a process that Python starts counts Python's own memory too."""
+    """One run: its status, what it printed, its seconds, those of processors (user and system), its peak in megabytes, and
+    whether it was stopped. Processor time and peak are what GNU `time` says; without it there are none, since a process that
+    Python starts counts Python's own memory too."""
 
     def __init__(self, words, most_seconds):
         with tempfile.NamedTemporaryFile() as peak:
-            timed = [TIME, '-q', '-o', peak.name, '-f', '%M', *words] if TIME else words
+            timed = [TIME, '-q', '-o', peak.name, '-f', '%M %U %S', *words] if TIME else words
             start = time.perf_counter()
             child = subprocess.Popen(timed, stdout=subprocess.PIPE, stderr=subprocess.STDOUT, stdin=subprocess.DEVNULL,
                                      start_new_session=True)
@@ -31,8 +33,9 @@ class Run:
             self.seconds = time.perf_counter() - start
             self.stopped = not timer.is_alive()
             timer.cancel()
-            kilobytes = peak.read().strip()
-            self.megabytes = int(kilobytes) / 1024 if kilobytes else None
+            said = peak.read().split()
+            self.megabytes = int(said[0]) / 1024 if said else None
+            self.processor = round(float(said[1]) + float(said[2]), 2) if said else None
 
 
 def best(words, runs, most_seconds):
@@ -45,6 +48,12 @@ def best(words, runs, most_seconds):
     return found
 
 
+def ending(status):
+    """How a failed run ended. GNU `time` ends with 128 and the signal's number more where a signal ended what it ran."""
+    number = -status if status < 0 else status - 128
+    return f'ended by signal {number}' if 0 < number < 65 else f'ends with {status}'
+
+
 def cells(run, most_seconds):
     """Seconds and megabytes, or why there are none."""
     if run is None:
@@ -52,22 +61,32 @@ def cells(run, most_seconds):
     if run.stopped:
         return [f'over {most_seconds}', '']
     if run.status != 0:
-        return [f'ends with {run.status}', '']
+        return [ending(run.status), '']
     return [f'{run.seconds:.2f}', '' if run.megabytes is None else f'{run.megabytes:.0f}']
+
+
+def content(path):
+    with open(path, 'rb') as file:
+        return file.read()
+
+
+def kind():
+    """The machine's kind and its cores."""
+    name = platform.processor() or platform.machine()
+    with open('/proc/cpuinfo', encoding='utf-8') as file:
+        name = next((line.split(':')[1].strip() for line in file if line.startswith('model name')), name)
+    return f'{name}, {os.cpu_count()} cores'
 
 
 def machine():
     """The machine's kind, its cores, and today."""
-    kind = platform.processor() or platform.machine()
-    with open('/proc/cpuinfo', encoding='utf-8') as file:
-        kind = next((line.split(':')[1].strip() for line in file if line.startswith('model name')), kind)
-    return f'{kind}, {os.cpu_count()} cores, {datetime.date.today()}'
+    return f'{kind()}, {datetime.date.today()}'
 
 
 def program_of(words):
     """The program that the words name, else the built one."""
     given = [word for word in words if not word.startswith('--')]
-    return os.path.abspath(given[0]) if given else os.path.join(TOP, 'crates', 'fretime', 'out', 'fretime')
+    return os.path.abspath(given[0]) if given else BUILT
 
 
 def value(words, name, default):
