@@ -4,7 +4,7 @@
 usage: bench/families.py [copies COUNT] FAMILY SIZE .. > FILE
        bench/families.py --list
 
-The same words give the same bytes. `copies COUNT` gives that many copies of the circuit side by side, each with inputs of its own.
+The same words give the same bytes. `copies COUNT` gives so many copies of the circuit side by side, each with its own inputs.
 """
 import math
 import random
@@ -263,7 +263,8 @@ def gates(count, latches):
     return c
 
 
-FAMILIES = {it.__name__: it for it in (products, multiplier, divider, cordic, fir, two_stages, adder_tree, delay_lines, rounds, gates)}
+FAMILIES = {it.__name__: it for it in (products, multiplier, divider, cordic, fir, two_stages, adder_tree, delay_lines, rounds,
+                                       gates)}
 
 
 def main(words):
