@@ -99,7 +99,7 @@ def made(name, number):
 
 
 def headers():
-    """Headers that announce what isn't there: each number at each limit, the greatest variable too or the greatest there may be."""
+    """Headers that announce what isn't there: each number at each limit, and the greatest variable there or at its limit."""
     for letters in ('aag', 'aig'):
         for place in range(9):
             for value in LIMITS:
