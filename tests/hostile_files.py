@@ -1,6 +1,6 @@
 """Large files, and small ones with numbers around each limit. Each is what its function returns for the words of a table."""
 import generators
-from plain.circuit import delta
+from reference.circuit import delta
 
 AROUND = {2**bits + add for bits in (7, 8, 14, 16, 21, 24, 28, 29, 31, 32, 35, 63, 64) for add in (-2, -1, 0, 1, 2)}
 LIMITS = sorted(AROUND | {10**19, 10**20 - 1, 10**40})
