@@ -137,10 +137,12 @@ def compare_with_one_worker(comparison, family):
     write('in', circuit_of(family))
     answers = []
     for workers in WORKERS:
+        pathlib.Path('out').unlink(missing_ok=True)
         ran = subprocess.run([comparison.program, 'retime', 'in', 'out', '--workers', str(workers)],
                              capture_output=True, timeout=120, check=False)
         answers.append((ran.returncode, ran.stdout, ran.stderr, content('out')))
-        comparison.count(ran.returncode == 0 and answers[-1] == answers[0], f'{workers} workers on {family}')
+        well = ran.returncode == 0 and answers[-1] == answers[0] and bool(answers[-1][-1])
+        comparison.count(well, f'{workers} workers on {family}')
 
 
 def compare_all(comparison, count, rng):
