@@ -19,10 +19,9 @@ def text_of(stored):
 
 
 def quicker(one, other):
-    """Of two runs that did the same, the quicker; one that failed is the slower."""
-    if 'seconds' not in one or 'seconds' not in other:
-        return one if 'seconds' in one else other
-    return min(one, other, key=lambda run: run['seconds'])
+    """Of two runs that did the same, the quicker; one that failed is the slower, and one that isn't there the slowest."""
+    rank = lambda run: (not run, 'seconds' not in run, run.get('seconds', 0))
+    return min(one, other, key=rank)
 
 
 def merged(old, new):

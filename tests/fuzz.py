@@ -21,8 +21,8 @@ BENCH = pathlib.Path(__file__).resolve().parent.parent / 'bench'
 WORKERS = [1, 2, 7, 64]
 # With more than 4096 nodes of the flow active in some pulses, so that crews share these.
 LARGE = ['products 70', 'gates 20000 9000', 'delay_lines 4200 8']
-FAMILIES = ['products 6', 'multiplier 5', 'divider 5', 'cordic 6', 'fir 4 4', 'two_stages 4 4', 'adder_tree 8 4', 'delay_lines 16 4',
-            'rounds 8 4', 'gates 300 40']
+FAMILIES = ['products 6', 'multiplier 5', 'divider 5', 'cordic 6', 'fir 4 4', 'two_stages 4 4', 'adder_tree 8 4',
+            'delay_lines 16 4', 'rounds 8 4', 'gates 300 40']
 
 
 @dataclasses.dataclass
