@@ -33,7 +33,7 @@ version:
 
 install: all
 	install -d $(DESTDIR)$(PREFIX)/bin $(DESTDIR)$(MANDIR) $(DESTDIR)$(BASHDIR) $(DESTDIR)$(ZSHDIR) $(DESTDIR)$(FISHDIR)
-	install -d $(DESTDIR)$(DOCDIR)/docs $(DESTDIR)$(DOCDIR)/examples
+	install -d $(DESTDIR)$(DOCDIR)/docs/pictures $(DESTDIR)$(DOCDIR)/examples
 	install -m 755 "$$(release/make --program)" $(DESTDIR)$(PREFIX)/bin/fretime
 	$(FILLED) install/fretime.1 > $(DESTDIR)$(MANDIR)/fretime.1
 	chmod 644 $(DESTDIR)$(MANDIR)/fretime.1
@@ -42,6 +42,7 @@ install: all
 	install -m 644 install/fretime.fish $(DESTDIR)$(FISHDIR)/fretime.fish
 	install -m 644 README.md LICENSE-APACHE LICENSE-MIT release/record $(DESTDIR)$(DOCDIR)
 	install -m 644 docs/*.md $(DESTDIR)$(DOCDIR)/docs
+	install -m 644 docs/pictures/*.svg $(DESTDIR)$(DOCDIR)/docs/pictures
 	install -m 644 examples/*.aag $(DESTDIR)$(DOCDIR)/examples
 
 uninstall:
