@@ -1,5 +1,6 @@
 """The netlist of a retimed circuit, in Yosys' RTLIL: ports of the old netlist, its registers that stay, new registers, gates."""
 import dataclasses
+import itertools
 
 
 @dataclasses.dataclass
@@ -41,7 +42,8 @@ class Registers:
         self.found.append(Register(name, wire, latches))
 
     def fresh(self, name):
-        return next(it for it in [name, *(f'{name}_{k}' for k in range(2, 10 ** 6))] if it not in self.taken)
+        numbered = (f'{name}_{number}' for number in itertools.count(2))
+        return next(it for it in itertools.chain([name], numbered) if it not in self.taken)
 
     def is_own_port(self, name, wire, bits):
         """Whether an output port is the register itself, as before."""
