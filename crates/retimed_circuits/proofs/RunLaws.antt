@@ -5,7 +5,8 @@ use Rattle.std.proofs.lemmas.List.{length-append}
 use Rattle.aig_graph.specs.Graph.{known_latches}
 use Rattle.aig_graph.specs.Circuits.{Netlist}
 use Rattle.aig_graph.specs.Laws.{composed}
-use Rattle.aig_graph.proofs.SetLaws.{at_most_one}
+use Rattle.least_sets.specs.declared.choice.Choice.{Choice}
+use Rattle.least_sets.proofs.ChosenLaws.{chosen-least, chosen-one}
 use Rattle.cleaned_circuits.proofs.CleanedLaws.{cleans-one}
 use Rattle.retimed_circuits.specs.declared.report.FrameReport.{FrameReport}
 use Rattle.retimed_circuits.specs.declared.report.Retimed.{Retimed}
@@ -19,74 +20,74 @@ pub record SameEnd {A : Type 0} (d e : Netlist) (kept left : List ℕ) (r s : A)
   pub free : kept ≡ left
   pub reports : r ≡ s
 
-pub frame-one : (names : List (List ℕ)) (c d e : Netlist) (kept left : List ℕ) (r s : FrameReport) → IsFrame names c d kept r → IsFrame names c e left s → SameEnd d e kept left r s
-frame-one names c d e kept left r s p q =
-    let same : p.set ≡ q.set = (at_most_one c (held_in names c) p.set q.set).greatest p.helps.greatest q.helps.greatest in
+pub frame-one : (choice : Choice) (names : List (List ℕ)) (c d e : Netlist) (kept left : List ℕ) (r s : FrameReport) → IsFrame choice names c d kept r → IsFrame choice names c e left s → SameEnd d e kept left r s
+frame-one choice names c d e kept left r s p q =
+    let same : p.set ≡ q.set = chosen-one choice c (held_in names c) p.set q.set p.helps.chosen q.helps.chosen in
     let P : List ℕ → Type 0 = λ set. CleansIn names (moved_in names c set) e left in
     let other : CleansIn names (moved_in names c p.set) e left = subst P (sym same) q.cleaned in
     let both = cleans-one d (held_in names (moved_in names c p.set)) (moved_in names c p.set) kept p.cleaned e left other in
     record { circuit = both.0; free = both.1; reports = p.reported ∙ ap (report_in names c) same ∙ sym q.reported }
 
-pub after-one : (names : List (List ℕ)) (c : Netlist) (n : ℕ) (d : Netlist) (kept : List ℕ) (r : List FrameReport) → AfterFrames names c n d kept r
-    → (e : Netlist) (left : List ℕ) (s : List FrameReport) → AfterFrames names c n e left s → SameEnd d e kept left r s
-after-one names c _ _ _ _ (cleaned d kept cleans) e left s other = from_start names c _ d e kept left s cleans refl other
+pub after-one : (choice : Choice) (names : List (List ℕ)) (c : Netlist) (n : ℕ) (d : Netlist) (kept : List ℕ) (r : List FrameReport) → AfterFrames choice names c n d kept r
+    → (e : Netlist) (left : List ℕ) (s : List FrameReport) → AfterFrames choice names c n e left s → SameEnd d e kept left r s
+after-one choice names c _ _ _ _ (cleaned d kept cleans) e left s other = from_start choice names c _ d e kept left s cleans refl other
   where
-    from_start : (names : List (List ℕ)) (c : Netlist) (n : ℕ) (d e : Netlist) (kept left : List ℕ) (s : List FrameReport) → CleansIn names c d kept → n ≡ 0 → AfterFrames names c n e left s
+    from_start : (choice : Choice) (names : List (List ℕ)) (c : Netlist) (n : ℕ) (d e : Netlist) (kept left : List ℕ) (s : List FrameReport) → CleansIn names c d kept → n ≡ 0 → AfterFrames choice names c n e left s
         → SameEnd d e kept left [] s
-    from_start names c _ d _ kept _ _ cleans start (cleaned e left other) =
+    from_start choice names c _ d _ kept _ _ cleans start (cleaned e left other) =
         let both = cleans-one d (held_in names c) c kept cleans e left other in record { circuit = both.0; free = both.1; reports = refl }
-    from_start names c _ d _ kept _ _ cleans start (frame n a e before left reports report run last) = absurd (omega (arith, start))
-after-one names c _ _ _ _ (frame n a d kept more reports report run last) e left s other =
-    from_frame names c _ n a d e kept more left reports report s (λ b places rs before. after-one names c n a kept reports run b places rs before) last refl other
+    from_start choice names c _ d _ kept _ _ cleans start (frame n a e before left reports report run last) = absurd (omega (arith, start))
+after-one choice names c _ _ _ _ (frame n a d kept more reports report run last) e left s other =
+    from_frame choice names c _ n a d e kept more left reports report s (λ b places rs before. after-one choice names c n a kept reports run b places rs before) last refl other
   where
-    from_frame : (names : List (List ℕ)) (c : Netlist) (m n : ℕ) (a d e : Netlist) (kept more left : List ℕ) (reports : List FrameReport) (report : FrameReport) (s : List FrameReport)
-        → ((b : Netlist) (places : List ℕ) (rs : List FrameReport) → AfterFrames names c n b places rs → SameEnd a b kept places reports rs)
-        → IsFrame names a d more report → m ≡ suc n → AfterFrames names c m e left s → SameEnd d e (composed kept more) left (reports ++ report ∷ []) s
-    from_frame names c _ n a d _ kept more _ reports report _ again last start (cleaned e left other) = absurd (omega (arith, start))
-    from_frame names c _ n a d _ kept more _ reports report _ again last start (frame k b e places left rs report2 before last2) =
-        let P : ℕ → Type 0 = λ j. AfterFrames names c j b places rs in
+    from_frame : (choice : Choice) (names : List (List ℕ)) (c : Netlist) (m n : ℕ) (a d e : Netlist) (kept more left : List ℕ) (reports : List FrameReport) (report : FrameReport) (s : List FrameReport)
+        → ((b : Netlist) (places : List ℕ) (rs : List FrameReport) → AfterFrames choice names c n b places rs → SameEnd a b kept places reports rs)
+        → IsFrame choice names a d more report → m ≡ suc n → AfterFrames choice names c m e left s → SameEnd d e (composed kept more) left (reports ++ report ∷ []) s
+    from_frame choice names c _ n a d _ kept more _ reports report _ again last start (cleaned e left other) = absurd (omega (arith, start))
+    from_frame choice names c _ n a d _ kept more _ reports report _ again last start (frame k b e places left rs report2 before last2) =
+        let P : ℕ → Type 0 = λ j. AfterFrames choice names c j b places rs in
         let same = again b places rs (subst P (omega (arith, start)) before) in
-        let Q : Netlist → Type 0 = λ x. IsFrame names x e left report2 in
-        let ends = frame-one names a d e more left report report2 last (subst Q (sym same.circuit) last2) in
+        let Q : Netlist → Type 0 = λ x. IsFrame choice names x e left report2 in
+        let ends = frame-one choice names a d e more left report report2 last (subst Q (sym same.circuit) last2) in
         record {
           circuit = ends.circuit;
           free = ap₂ composed same.free ends.free;
           reports = ap₂ (λ (xs : List FrameReport) (x : FrameReport). xs ++ x ∷ []) same.reports ends.reports;
         }
 
-pub after-length : (names : List (List ℕ)) (c : Netlist) (n : ℕ) (d : Netlist) (kept : List ℕ) (r : List FrameReport) → AfterFrames names c n d kept r → length r ≡ n
-after-length names c _ _ _ _ (cleaned d kept cleans) = refl
-after-length names c _ _ _ _ (frame n d e kept left reports report run last) =
-    let before : length reports ≡ n = after-length names c n d kept reports run in omega (arith, before, length-append reports (report ∷ []))
+pub after-length : (choice : Choice) (names : List (List ℕ)) (c : Netlist) (n : ℕ) (d : Netlist) (kept : List ℕ) (r : List FrameReport) → AfterFrames choice names c n d kept r → length r ≡ n
+after-length choice names c _ _ _ _ (cleaned d kept cleans) = refl
+after-length choice names c _ _ _ _ (frame n d e kept left reports report run last) =
+    let before : length reports ≡ n = after-length choice names c n d kept reports run in omega (arith, before, length-append reports (report ∷ []))
 
 -- a shorter run goes on with a frame of a longer one
-pub after-more : (names : List (List ℕ)) (c : Netlist) (n : ℕ) (d : Netlist) (kept : List ℕ) (r : List FrameReport) → AfterFrames names c n d kept r
-    → (m : ℕ) (e : Netlist) (left : List ℕ) (s : List FrameReport) → AfterFrames names c m e left s → n < m → (set : List ℕ) × IsHelpingSet names d set
-after-more names c n d kept r run _ _ _ _ (cleaned e left cleans) less = absurd (omega (arith, less))
-after-more names c n d kept r run _ _ _ _ (frame m a e places left rs report before last) less = elim (cases_order n m) [
+pub after-more : (choice : Choice) (names : List (List ℕ)) (c : Netlist) (n : ℕ) (d : Netlist) (kept : List ℕ) (r : List FrameReport) → AfterFrames choice names c n d kept r
+    → (m : ℕ) (e : Netlist) (left : List ℕ) (s : List FrameReport) → AfterFrames choice names c m e left s → n < m → (set : List ℕ) × IsHelpingSet choice names d set
+after-more choice names c n d kept r run _ _ _ _ (cleaned e left cleans) less = absurd (omega (arith, less))
+after-more choice names c n d kept r run _ _ _ _ (frame m a e places left rs report before last) less = elim (cases_order n m) [
   | inl here ↦ (
-      let P : ℕ → Type 0 = λ j. AfterFrames names c j a places rs in
-      let same = after-one names c n d kept r run a places rs (subst P (sym here) before) in
-      let Q : Netlist → Type 0 = λ x. (set : List ℕ) × IsHelpingSet names x set in
+      let P : ℕ → Type 0 = λ j. AfterFrames choice names c j a places rs in
+      let same = after-one choice names c n d kept r run a places rs (subst P (sym here) before) in
+      let Q : Netlist → Type 0 = λ x. (set : List ℕ) × IsHelpingSet choice names x set in
       subst Q (sym same.circuit) (last.set, last.helps))
-  | inr (inl more) ↦ after-more names c n d kept r run m a places rs before more
+  | inr (inl more) ↦ after-more choice names c n d kept r run m a places rs before more
   | inr (inr past) ↦ absurd (omega (arith, past, less))
 ]
 
 -- a run that ended doesn't stop before another one
-shorter : (c : Netlist) (names : List (List ℕ)) (max_frames : ℕ) (r s : Retimed) → IsRetimed c names max_frames r → IsRetimed c names max_frames s → length r.frames < length s.frames → ⊥
-shorter c names max_frames r s p q less =
-    let more = after-more names c (length r.frames) r.circuit r.kept_free r.frames p.frames (length s.frames) s.circuit s.kept_free s.frames q.frames less in
-    let none : known_latches r.circuit.aig ≤ count_in names r.circuit more.0 = p.last (omega (arith, less, q.within)) more.0 more.1.greatest.least.closed in
+shorter : (choice : Choice) (c : Netlist) (names : List (List ℕ)) (max_frames : ℕ) (r s : Retimed) → IsRetimed choice c names max_frames r → IsRetimed choice c names max_frames s → length r.frames < length s.frames → ⊥
+shorter choice c names max_frames r s p q less =
+    let more = after-more choice names c (length r.frames) r.circuit r.kept_free r.frames p.frames (length s.frames) s.circuit s.kept_free s.frames q.frames less in
+    let none : known_latches r.circuit.aig ≤ count_in names r.circuit more.0 = p.last (omega (arith, less, q.within)) more.0 (chosen-least choice r.circuit (held_in names r.circuit) more.0 more.1.chosen).closed in
     omega (arith, none, more.1.fewer)
 
-pub retiming-one : (c : Netlist) (names : List (List ℕ)) (max_frames : ℕ) (r s : Retimed) → IsRetimed c names max_frames r → IsRetimed c names max_frames s → r ≡ s
-retiming-one c names max_frames r s p q = elim (cases_order (length r.frames) (length s.frames)) [
+pub retiming-one : (choice : Choice) (c : Netlist) (names : List (List ℕ)) (max_frames : ℕ) (r s : Retimed) → IsRetimed choice c names max_frames r → IsRetimed choice c names max_frames s → r ≡ s
+retiming-one choice c names max_frames r s p q = elim (cases_order (length r.frames) (length s.frames)) [
   | inl here ↦ (
-      let P : ℕ → Type 0 = λ j. AfterFrames names c j s.circuit s.kept_free s.frames in
-      let ends = after-one names c (length r.frames) r.circuit r.kept_free r.frames p.frames s.circuit s.kept_free s.frames (subst P (sym here) q.frames) in
+      let P : ℕ → Type 0 = λ j. AfterFrames choice names c j s.circuit s.kept_free s.frames in
+      let ends = after-one choice names c (length r.frames) r.circuit r.kept_free r.frames p.frames s.circuit s.kept_free s.frames (subst P (sym here) q.frames) in
       let latches : r.read_latches ≡ s.read_latches = p.read_latches ∙ sym q.read_latches in
       λ i. record { circuit = ends.circuit i; kept_free = ends.free i; read_latches = latches i; frames = ends.reports i })
-  | inr (inl less) ↦ absurd (shorter c names max_frames r s p q less)
-  | inr (inr less) ↦ absurd (shorter c names max_frames s r q p less)
+  | inr (inl less) ↦ absurd (shorter choice c names max_frames r s p q less)
+  | inr (inr less) ↦ absurd (shorter choice c names max_frames s r q p less)
 ]

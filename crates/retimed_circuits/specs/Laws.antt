@@ -3,14 +3,15 @@ use Rattle.std.specs.Prelude.{ℕ, ◌≡◌, List, None}
 use Rattle.aig_graph.specs.Graph.{IsGraph}
 use Rattle.aig_graph.specs.Circuits.{Netlist, IsNetlist}
 use Rattle.aig_graph.specs.Keep.{first_missing}
+use Rattle.least_sets.specs.declared.choice.Choice.{Choice}
 use Rattle.retimed_circuits.specs.declared.report.Retimed.{Retimed}
 use Rattle.retimed_circuits.specs.Names.{held_latches}
 use Rattle.retimed_circuits.specs.Frames.{CleansIn, moved_in}
 use Rattle.retimed_circuits.specs.Retiming.{IsRetimed}
 
--- what a circuit is retimed to is one, by the names and the limit of frames alone
-abbrev pub IsDetermined : Netlist → List (List ℕ) → ℕ → Type 0
-IsDetermined c names max_frames = (r s : Retimed) → IsRetimed c names max_frames r → IsRetimed c names max_frames s → r ≡ s
+-- what a circuit is retimed to is one, by the choice, the names and the limit of frames alone
+abbrev pub IsDetermined : Choice → Netlist → List (List ℕ) → ℕ → Type 0
+IsDetermined choice c names max_frames = (r s : Retimed) → IsRetimed choice c names max_frames r → IsRetimed choice c names max_frames s → r ≡ s
 
 -- cleaning keeps the latches that the names hold
 abbrev pub CleaningKeepsHeld : List (List ℕ) → Netlist → Type 0

@@ -1,5 +1,6 @@
 ghost use Rattle.std.specs.Prelude.{ℕ, List};
 ghost use Rattle.aig_graph.specs.Circuits.{Netlist};
+ghost use Rattle.least_sets.specs.declared.choice.Choice.{Choice};
 ghost use Rattle.retimed_circuits.specs.Laws.{
   CleaningKeepsHeld,
   IsDetermined,
@@ -7,9 +8,9 @@ ghost use Rattle.retimed_circuits.specs.Laws.{
   NamesStay,
 };
 
-/// What a circuit is retimed to, with its reports, rests on the circuit, the names and the limit of frames alone.
+/// What a circuit is retimed to, with its reports, rests on the circuit, the choice of least sets, the names and the limit of frames alone.
 pub fn retiming_law()
-    ensures { (c : Netlist) (names : List (List ℕ)) (max_frames : ℕ) → IsDetermined c names max_frames }
+    ensures { (choice : Choice) (c : Netlist) (names : List (List ℕ)) (max_frames : ℕ) → IsDetermined choice c names max_frames }
 {}
 
 /// Cleaning and moving keep the latches that names hold: as many, in their order, with their names and resets. So no name
