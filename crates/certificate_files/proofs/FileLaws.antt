@@ -5,8 +5,8 @@ use Rattle.file_words.specs.Lines.{lines}
 use Rattle.certificates.specs.declared.certificate.Certificate.{Certificate}
 use Rattle.certificate_files.specs.declared.fault.CertError.{CertError}
 use Rattle.certificate_files.specs.declared.fault.CertError.TheVariants.{BadHeader, BadLine, Truncated}
-use Rattle.certificate_files.specs.declared.file.Choice.{Choice}
-use Rattle.certificate_files.specs.declared.file.Choice.TheVariants.{Greatest}
+use Rattle.least_sets.specs.declared.choice.Choice.{Choice}
+use Rattle.least_sets.specs.declared.choice.Choice.TheVariants.{Greatest}
 use Rattle.certificate_files.specs.declared.file.CertFile.{CertFile}
 use Rattle.certificate_files.specs.Files.{is_word, choice_of, nothing_read, read_blocks, read_chosen, read_second, read_file, read_text, with_choice}
 use Rattle.certificate_files.specs.Steps.{IsFirst, read_rest}

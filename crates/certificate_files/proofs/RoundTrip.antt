@@ -10,8 +10,8 @@ use Rattle.frame_net.specs.declared.net.Point.{Point}
 use Rattle.certificates.specs.declared.certificate.Certificate.{Certificate}
 use Rattle.certificate_files.specs.declared.fault.CertError.{CertError}
 use Rattle.certificate_files.specs.declared.fault.CertError.TheVariants.{TooLarge}
-use Rattle.certificate_files.specs.declared.file.Choice.{Choice}
-use Rattle.certificate_files.specs.declared.file.Choice.TheVariants.{Greatest, Smallest}
+use Rattle.least_sets.specs.declared.choice.Choice.{Choice}
+use Rattle.least_sets.specs.declared.choice.Choice.TheVariants.{Greatest, Smallest}
 use Rattle.certificate_files.specs.declared.file.CertFile.{CertFile}
 use Rattle.certificate_files.specs.declared.forms.FrameLine.{FrameLine}
 use Rattle.certificate_files.specs.Cutting.{lacks}

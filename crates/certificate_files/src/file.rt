@@ -1,12 +1,6 @@
 use aig_graph::Sequence;
 use certificates::Certificate;
-
-/// Which of the least sets a frame takes: there is one that holds all others, and one that lies in all others.
-#[derive(Clone, Copy, Debug, PartialEq, Eq)]
-pub enum Choice {
-    Greatest,
-    Smallest,
-}
+use least_sets::Choice;
 
 /// The certificates of a retiming, frame by frame.
 #[derive(Drop)]

@@ -13,7 +13,8 @@ mod words;
 mod writing;
 
 pub use fault::CertError;
-pub use file::{CertFile, Choice};
+pub use file::CertFile;
 pub use laws::{rereading_law, round_trip_law};
+pub use least_sets::Choice;
 pub use reading::read_cert;
 pub use writing::write_cert;

@@ -7,8 +7,9 @@ ghost use Rattle.certificate_files.specs.Steps.{read_rest};
 
 use crate::blocks::read_blocks;
 use crate::fault::CertError;
-use crate::file::{CertFile, Choice};
+use crate::file::CertFile;
 use crate::lines::Lines;
+use least_sets::Choice;
 use std::alloc::Global;
 
 fn is_word(text: &[u8], word: &[u8]) -> bool

@@ -4,11 +4,12 @@ ghost use Rattle.counted_io.specs.Buffered.{Puts};
 ghost use Rattle.counted_io.specs.Output.{Writes};
 ghost use Rattle.certificate_files.specs.Texts.{sign_code, point_text, route_text, gate_text, frame_text, block_text, choice_text, file_text};
 
-use crate::file::{CertFile, Choice};
+use crate::file::CertFile;
 use aig_graph::Sequence;
 use certificates::Certificate;
 use counted_io::{Buffered, CountedWrite, WriteError};
 use frame_net::Point;
+use least_sets::Choice;
 
 fn sign(behind: bool) -> u8
     ensures { result ≡ sign_code behind }

@@ -13,7 +13,11 @@ use std::alloc::Global;
 use std::thread::Threads;
 
 /// The network of a circuit and its held latches.
-fn network(alloc: Global, circuit: &Circuit, keep: &Keep) -> Result<Net, NoMemory>
+///
+/// # Errors
+///
+/// `NoMemory`.
+pub fn network(alloc: Global, circuit: &Circuit, keep: &Keep) -> Result<Net, NoMemory>
     ensures { IfOk result (IsNetworkOf circuit.now keep.now) }
 {
     let pass = passable(alloc, circuit.aig(), keep)?;
@@ -56,8 +60,13 @@ fn note(
     }
 }
 
-/// A maximum preflow of a circuit's network, from a start along what the last flow did at each gate; then what this one did there.
-fn preflow_along<G: PhaseGate>(
+/// A maximum preflow of a circuit's network, from a start along `flows`, what the last flow did at the circuit's gates; then `flows` is
+/// what this one did there. They are hints: what is returned is a maximum preflow whatever they say.
+///
+/// # Errors
+///
+/// `NoMemory`; then `flows` may be those of before, or of this run.
+pub fn preflow_along<G: PhaseGate>(
     rt: &(impl Threads + Sync),
     alloc: Global,
     circuit: &Circuit,

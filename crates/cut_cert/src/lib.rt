@@ -22,4 +22,4 @@ pub use certificates::{Certificate, Objection, Routes, Verdict, check};
 pub use certifying::certificate;
 pub use gathering::routes;
 pub use greatest::greatest_cut;
-pub use least_set::{greatest_least, greatest_least_along};
+pub use least_set::{greatest_least, greatest_least_along, network, preflow_along};
