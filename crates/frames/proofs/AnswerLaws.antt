@@ -28,6 +28,6 @@ one-spelt bytes input other a b first second p q =
 pub one-answer : (bytes : List ℕ) (options : Options) → IsOneAnswer bytes options
 one-answer bytes options input other old new before after r s first second p q =
     let spelt : p.spelt ≡ q.spelt = one-spelt bytes input other p.spelt q.spelt first second p.read q.read in
-    let P : SpeltCircuit → Type 0 = λ a. IsRetimed a.circuit (names_in options) options.max_frames r in
-    let same : r ≡ s = retiming-one q.spelt.circuit (names_in options) options.max_frames r s (subst P spelt p.written.answer.retimed) q.written.answer.retimed in
+    let P : SpeltCircuit → Type 0 = λ a. IsRetimed options.choice a.circuit (names_in options) options.max_frames r in
+    let same : r ≡ s = retiming-one options.choice q.spelt.circuit (names_in options) options.max_frames r s (subst P spelt p.written.answer.retimed) q.written.answer.retimed in
     (same, ap₂ (text_for options) spelt same)

@@ -10,7 +10,7 @@ use Rattle.aig_graph.specs.Graph.{Graph, IsGraph, variables_end, free_latches, k
 use Rattle.aig_graph.specs.Circuits.{Netlist, IsNetlist}
 use Rattle.aig_graph.specs.Closed.{IsClosedSet}
 use Rattle.aig_graph.specs.Keep.{is_named, held_by}
-use Rattle.aig_graph.specs.Border.{IsGreatestLeast}
+use Rattle.aig_graph.specs.Border.{IsLeast}
 use Rattle.aig_graph.specs.Laws.{all_free, composed}
 use Rattle.aig_graph.specs.Streams.{SameStreams}
 use Rattle.aig_graph.proofs.StreamLaws.{same_streams-transitive}
@@ -21,9 +21,11 @@ use Rattle.variable_tables.specs.Marking.{has}
 use Rattle.variable_tables.proofs.MemberLemmas.{places-members}
 use Rattle.variable_tables.proofs.PlacesLemmas.{length-places, count-bound}
 use Rattle.rebuild.proofs.MovedLaws.{members-below}
+use Rattle.least_sets.specs.declared.choice.Choice.{Choice}
+use Rattle.least_sets.proofs.ChosenLaws.{chosen-least}
 use Rattle.retimed_circuits.specs.declared.report.Retimed.{Retimed}
 use Rattle.retimed_circuits.specs.Names.{held_in}
-use Rattle.retimed_circuits.specs.Frames.{AfterFrames, NoneSmaller, count_in, frame}
+use Rattle.retimed_circuits.specs.Frames.{AfterFrames, IsHelpingSet, NoneSmaller, count_in, frame}
 use Rattle.retimed_circuits.specs.Retiming.{IsRetimed}
 use Rattle.retimed_circuits.proofs.RunLaws.{after-length}
 use Rattle.frames.specs.declared.frame.Frame.{Frame}
@@ -44,9 +46,13 @@ closed-length g held s valid set =
     let long : length (places (has s) (variables_end g)) ≡ length s = ap (λ (xs : List ℕ). length xs) same in
     omega (arith, long, length-places (has s) (variables_end g), count-bound (has s) (variables_end g), valid.small)
 
--- where the greatest least set counts no less than the known latches, no closed set does
-pub none-smaller : (names : List (List ℕ)) (c : Netlist) (s : List ℕ) → IsGreatestLeast c (held_in names c) s → known_latches c.aig ≤ count_in names c s → NoneSmaller names c
-none-smaller names c s greatest many r closed = let least = greatest.least.least r closed in omega (arith, least, many)
+-- where a least set counts no less than the known latches, no closed set does
+pub none-smaller : (names : List (List ℕ)) (c : Netlist) (s : List ℕ) → IsLeast c (held_in names c) s → known_latches c.aig ≤ count_in names c s → NoneSmaller names c
+none-smaller names c s is_least many r closed = let least = is_least.least r closed in omega (arith, least, many)
+
+-- a helping set is closed
+pub helping-closed : (choice : Choice) (names : List (List ℕ)) (c : Netlist) (s : List ℕ) → IsHelpingSet choice names c s → IsClosedSet c.aig (held_in names c) s
+helping-closed choice names c s helps = (chosen-least choice c (held_in names c) s helps.chosen).closed
 
 -- every free latch stays, and then some of them
 pub streams-through : (c d e : Netlist) (kept : List ℕ) → SameStreams c d (all_free c.aig) → SameStreams d e kept → SameStreams c e kept
@@ -63,9 +69,9 @@ pub own-cleaned : {E : Type 0} (c : Netlist) (P : Netlist → List ℕ → Type 
 own-cleaned c P (Ok d) circuit places so = subst (λ (e : Netlist). P e d.kept_free) (sym circuit) (subst (P c) (sym places) so)
 own-cleaned c P (Err e) circuit places so = tt
 
-pub one-more : (names : List (List ℕ)) (c : Netlist) (n : ℕ) (r : Retimed) (taken : Frame) → IsUnderway names c n r → Moves names r.circuit taken
-    → IsUnderway names c (suc n) (record { circuit = taken.cleaned.circuit; kept_free = composed r.kept_free taken.cleaned.kept_free; read_latches = r.read_latches; frames = r.frames ++ taken.report ∷ [] })
-one-more names c n r taken before moves = record {
+pub one-more : (choice : Choice) (names : List (List ℕ)) (c : Netlist) (n : ℕ) (r : Retimed) (taken : Frame) → IsUnderway choice names c n r → Moves choice names r.circuit taken
+    → IsUnderway choice names c (suc n) (record { circuit = taken.cleaned.circuit; kept_free = composed r.kept_free taken.cleaned.kept_free; read_latches = r.read_latches; frames = r.frames ++ taken.report ∷ [] })
+one-more choice names c n r taken before moves = record {
   frames = frame n r.circuit taken.cleaned.circuit r.kept_free taken.cleaned.kept_free r.frames taken.report before.frames moves.moves;
   read_latches = before.read_latches;
   streams = same_streams-transitive c r.circuit taken.cleaned.circuit r.kept_free taken.cleaned.kept_free before.streams moves.streams;
@@ -74,11 +80,11 @@ one-more names c n r taken before moves = record {
 }
 
 -- a run ends at the limit of frames, or where none counts less
-pub ended : (names : List (List ℕ)) (c : Netlist) (n max_frames : ℕ) (r : Retimed) → IsUnderway names c n r → n ≤ max_frames → (n < max_frames → NoneSmaller names r.circuit) → IsRetimed c names max_frames r
-ended names c n max_frames r run within last =
-    let long : length r.frames ≡ n = after-length names c n r.circuit r.kept_free r.frames run.frames in
+pub ended : (choice : Choice) (names : List (List ℕ)) (c : Netlist) (n max_frames : ℕ) (r : Retimed) → IsUnderway choice names c n r → n ≤ max_frames → (n < max_frames → NoneSmaller names r.circuit) → IsRetimed choice c names max_frames r
+ended choice names c n max_frames r run within last =
+    let long : length r.frames ≡ n = after-length choice names c n r.circuit r.kept_free r.frames run.frames in
     record {
-      frames = subst (λ (m : ℕ). AfterFrames names c m r.circuit r.kept_free r.frames) (sym long) run.frames;
+      frames = subst (λ (m : ℕ). AfterFrames choice names c m r.circuit r.kept_free r.frames) (sym long) run.frames;
       within = omega (arith, long, within);
       last = λ less. last (omega (arith, long, less));
       read_latches = run.read_latches;

@@ -12,6 +12,7 @@ use Rattle.cleaned_circuits.specs.Cleaned.{IsPass, Cleans, unchanged, after_pass
 use Rattle.variable_tables.specs.Counting.{count_below}
 use Rattle.rebuild.specs.Moved.{is_latched, moved_symbols, stays}
 use Rattle.ascii_file.specs.Laws.{all_names}
+use Rattle.least_sets.specs.declared.choice.Choice.{Choice}
 use Rattle.retimed_circuits.specs.declared.report.FrameReport.{FrameReport}
 use Rattle.retimed_circuits.specs.Names.{held_in}
 use Rattle.retimed_circuits.specs.Frames.{AfterFrames, move_in, moved_in, cleaned, frame}
@@ -35,14 +36,14 @@ moved-names names c set all =
     let m = move_in names c set in
     with_latches c.symbols _ all (picked (λ x. count_below (is_latched m) (first_latch c.aig + x.position)) (stays m) c.symbols.latches)
 
-after-names : (names : List (List ℕ)) (c : Netlist) (n : ℕ) (d : Netlist) (kept : List ℕ) (reports : List FrameReport) → AfterFrames names c n d kept reports → HasOneLineNames c → HasOneLineNames d
-after-names names c _ _ _ _ (cleaned d kept cleans) all = cleans-names d (held_in names c) c kept cleans all
-after-names names c _ _ _ _ (frame n d e kept left reports report run last) all =
+after-names : (choice : Choice) (names : List (List ℕ)) (c : Netlist) (n : ℕ) (d : Netlist) (kept : List ℕ) (reports : List FrameReport) → AfterFrames choice names c n d kept reports → HasOneLineNames c → HasOneLineNames d
+after-names choice names c _ _ _ _ (cleaned d kept cleans) all = cleans-names d (held_in names c) c kept cleans all
+after-names choice names c _ _ _ _ (frame n d e kept left reports report run last) all =
     let moved : Netlist = moved_in names d last.set in
-    cleans-names e (held_in names moved) moved left last.cleaned (moved-names names d last.set (after-names names c n d kept reports run all))
+    cleans-names e (held_in names moved) moved left last.cleaned (moved-names names d last.set (after-names choice names c n d kept reports run all))
 
-pub stays-within : (c : Netlist) (names : List (List ℕ)) (max_frames : ℕ) → StaysWithin c names max_frames
-stays-within c names max_frames r retimed within =
+pub stays-within : (choice : Choice) (c : Netlist) (names : List (List ℕ)) (max_frames : ℕ) → StaysWithin choice c names max_frames
+stays-within choice c names max_frames r retimed within =
     let shape = retimed.streams.shape in
     let sizes : sum (map length r.circuit.props.justice) ≡ sum (map length c.props.justice) = ap sum shape.justice in
     let same : length (map length r.circuit.props.justice) ≡ length (map length c.props.justice) = ap (λ (ns : List ℕ). length ns) shape.justice in
@@ -54,5 +55,5 @@ stays-within c names max_frames r retimed within =
       justice = omega (arith, same, within.justice, length-map r.circuit.props.justice (λ (lits : List ℕ). length lits), length-map c.props.justice (λ (lits : List ℕ). length lits));
       justice_literals = omega (arith, sizes, within.justice_literals);
       fairness = omega (arith, shape.fairness, within.fairness);
-      names = All-from_recursion IsOneLine (all_names r.circuit.symbols) (after-names names c (length r.frames) r.circuit r.kept_free r.frames retimed.frames clean);
+      names = All-from_recursion IsOneLine (all_names r.circuit.symbols) (after-names choice names c (length r.frames) r.circuit r.kept_free r.frames retimed.frames clean);
     }

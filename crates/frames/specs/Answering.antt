@@ -22,7 +22,7 @@ text_for options spelt r = text_in (unwrap_or options.spelling spelt.spelling) r
 -- the circuit that was read has latches of all names, and this is it retimed
 pub record IsAnswer (options : Options) (spelt : SpeltCircuit) (r : Retimed) : Type 0 where
   pub names : NoneMissing options spelt.circuit
-  pub retimed : IsRetimed spelt.circuit (names_in options) options.max_frames r
+  pub retimed : IsRetimed options.choice spelt.circuit (names_in options) options.max_frames r
 
 -- the text of a retimed circuit is read as that circuit
 abbrev pub ReadsBack : Options → SpeltCircuit → Retimed → Type 0

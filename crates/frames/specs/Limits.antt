@@ -3,6 +3,7 @@ use Rattle.std.specs.Prelude.{ℕ, ◌≡◌, List, Ok}
 use Rattle.aig_graph.specs.Circuits.{Netlist}
 use Rattle.ascii_file.specs.Laws.{IsWithinLimits}
 use Rattle.spellings.specs.Spellings.{read_any}
+use Rattle.least_sets.specs.declared.choice.Choice.{Choice}
 use Rattle.retimed_circuits.specs.declared.report.Retimed.{Retimed}
 use Rattle.retimed_circuits.specs.Retiming.{IsRetimed}
 
@@ -11,5 +12,5 @@ abbrev pub ReadsWithin : List ℕ → Type 0
 ReadsWithin bytes = (c : Netlist) → read_any bytes ≡ Ok c → IsWithinLimits c
 
 -- what a circuit within the limits is retimed to is within them
-abbrev pub StaysWithin : Netlist → List (List ℕ) → ℕ → Type 0
-StaysWithin c names max_frames = (r : Retimed) → IsRetimed c names max_frames r → IsWithinLimits c → IsWithinLimits r.circuit
+abbrev pub StaysWithin : Choice → Netlist → List (List ℕ) → ℕ → Type 0
+StaysWithin choice c names max_frames = (r : Retimed) → IsRetimed choice c names max_frames r → IsWithinLimits c → IsWithinLimits r.circuit

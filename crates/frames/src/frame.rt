@@ -1,4 +1,4 @@
-//! One frame: the latches of a cleaned circuit move over its greatest least set, and the circuit is cleaned again.
+//! One frame: the latches of a cleaned circuit move over its chosen least set, and the circuit is cleaned again.
 ghost use Rattle.std.specs.Prelude.{◌≡◌, IfOk, MatchOption};
 ghost use Rattle.aig_graph.specs.Graph.{IsGraph};
 ghost use Rattle.aig_graph.specs.Streams.{SameStreams};
@@ -40,7 +40,7 @@ fn moved_over(
     requires names { NoneMissing options.now circuit.now }
     requires graph { IsGraph circuit.now.aig }
     requires tidy { IsTidyIn (names_in options.now) circuit.now }
-    requires helps { IsHelpingSet (names_in options.now) circuit.now set.now }
+    requires helps { IsHelpingSet options.now.choice (names_in options.now) circuit.now set.now }
     ensures cleaned { IfOk result (λ d. CleansIn (names_in options.now) (moved_in (names_in options.now) circuit.now set.now) d.circuit d.kept_free) }
     ensures streams { IfOk result (λ d. SameStreams circuit.now d.circuit d.kept_free) }
     ensures held { IfOk result (λ d. held_latches (names_in options.now) d.circuit ≡ held_latches (names_in options.now) circuit.now) }
@@ -93,7 +93,7 @@ pub(crate) fn next_frame<G: PhaseGate>(
 ) -> Result<Option<Frame>, NoMemory>
     requires names { NoneMissing options.now circuit.now }
     requires tidy { IsTidyIn (names_in options.now) circuit.now }
-    ensures { IfOk result (λ found. MatchOption found (NoneSmaller (names_in options.now) circuit.now) (Moves (names_in options.now) circuit.now)) }
+    ensures { IfOk result (λ found. MatchOption found (NoneSmaller (names_in options.now) circuit.now) (Moves options.now.choice (names_in options.now) circuit.now)) }
 {
     let _aig = circuit.aig();
     let keep = held(alloc, circuit, options)?;

@@ -1,4 +1,4 @@
-//! The greatest least set of a circuit, where it needs fewer latches.
+//! The chosen least set of a circuit, where it needs fewer latches.
 ghost use Rattle.std.specs.Prelude.{◌≡◌, IfOk, MatchOption};
 ghost use Rattle.retimed_circuits.specs.Frames.{NoneSmaller};
 ghost use Rattle.retimed_circuits.specs.Names.{held_in};
@@ -7,7 +7,7 @@ ghost use Rattle.frames.specs.Named.{names_in};
 
 use crate::options::Options;
 use aig_graph::{Circuit, ClosedSet, Keep, NoMemory, count};
-use cut_cert::greatest_least_along;
+use chosen_cuts::chosen_least_along;
 use gate_flows::GateFlow;
 use pulse::{Crew, PhaseGate};
 use retimed_circuits::FrameReport;
@@ -21,7 +21,7 @@ pub(crate) struct Helping {
     pub report: FrameReport,
 }
 
-/// The greatest least set, with its report, where it counts less than the circuit has known latches.
+/// The chosen least set, with its report, where it counts less than the circuit has known latches.
 pub(crate) fn helping_set<G: PhaseGate>(
     rt: &(impl Threads + Sync),
     alloc: Global,
@@ -32,9 +32,9 @@ pub(crate) fn helping_set<G: PhaseGate>(
     flows: &mut Vec<GateFlow>,
 ) -> Result<Option<Helping>, NoMemory>
     requires { keep.now ≡ held_in (names_in options.now) circuit.now }
-    ensures { IfOk result (λ found. MatchOption found (NoneSmaller (names_in options.now) circuit.now) (Helps (names_in options.now) circuit.now)) }
+    ensures { IfOk result (λ found. MatchOption found (NoneSmaller (names_in options.now) circuit.now) (Helps options.now.choice (names_in options.now) circuit.now)) }
 {
-    let set = greatest_least_along(rt, alloc, circuit, keep, crew, flows)?;
+    let set = chosen_least_along(rt, alloc, circuit, keep, options.choice, crew, flows)?;
     let _aig = circuit.aig();
     let report = FrameReport {
         before: circuit.aig().known_latches(),

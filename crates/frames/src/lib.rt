@@ -1,4 +1,4 @@
-//! Minimum-register forward retiming, frame after frame: the latches of a cleaned circuit move over its greatest least set, and
+//! Minimum-register forward retiming, frame after frame: the latches of a cleaned circuit move over its chosen least set, the greatest or the smallest, and
 //! the circuit is cleaned again, until no closed set needs fewer latches (Hurst, Mishchenko and Brayton, 2007).
 #![tactic(auto)]
 
@@ -17,6 +17,7 @@ mod settling;
 pub use bytes::{retime_bytes, retime_bytes_with};
 pub use errors::{BytesError, RetimeError};
 pub use laws::answer_law;
+pub use least_sets::Choice;
 pub use limits::{read_limits_law, retimed_limits_law};
 pub use options::Options;
 pub use retimed_circuits::{FrameReport, Retimed};

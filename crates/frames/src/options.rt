@@ -1,3 +1,4 @@
+use least_sets::Choice;
 use spellings::Spelling;
 
 /// How a circuit is retimed.
@@ -7,6 +8,8 @@ pub struct Options {
     pub spelling: Option<Spelling>,
     /// How many frames are taken at most; 0 takes none, and the circuit is cleaned alone.
     pub max_frames: u32,
+    /// Over which of the least sets latches move.
+    pub choice: Choice,
     /// The latches whose symbol has one of these names are held: they stay, with their resets and names.
     pub keep: Vec<Vec<u8>>,
 }

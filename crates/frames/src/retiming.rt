@@ -29,7 +29,7 @@ fn begun(
     options: &Options,
 ) -> Result<Retimed, NoMemory>
     requires { keep.now ≡ held_in (names_in options.now) circuit.now }
-    ensures { IfOk result (IsUnderway (names_in options.now) circuit.now 0) }
+    ensures { IfOk result (IsUnderway options.now.choice (names_in options.now) circuit.now 0) }
 {
     let read_latches = circuit.aig().latches().len() as u32;
     let start = cleaned(alloc, circuit, keep, options)?;
@@ -53,9 +53,9 @@ fn after_frame(
     frame: Frame,
     options: &Options,
 ) -> Result<Retimed, NoMemory>
-    requires underway { (c : Netlist) × (n : ℕ) × IsUnderway (names_in options.now) c n retimed }
-    requires moves { Moves (names_in options.now) retimed.circuit frame }
-    ensures { IfOk result (λ after. (c : Netlist) (n : ℕ) → IsUnderway (names_in options.now) c n retimed → IsUnderway (names_in options.now) c (suc n) after) }
+    requires underway { (c : Netlist) × (n : ℕ) × IsUnderway options.now.choice (names_in options.now) c n retimed }
+    requires moves { Moves options.now.choice (names_in options.now) retimed.circuit frame }
+    ensures { IfOk result (λ after. (c : Netlist) (n : ℕ) → IsUnderway options.now.choice (names_in options.now) c n retimed → IsUnderway options.now.choice (names_in options.now) c (suc n) after) }
 {
     let Frame { cleaned, report } = frame;
     let places = cleaned.kept_free.as_slice();
@@ -84,7 +84,7 @@ fn retime_held<G: PhaseGate>(
 ) -> Result<Retimed, NoMemory>
     requires keep { keep.now ≡ held_in (names_in options.now) circuit.now }
     requires names { NoneMissing options.now circuit.now }
-    ensures { IfOk result (IsRetimed circuit.now (names_in options.now) options.now.max_frames) }
+    ensures { IfOk result (IsRetimed options.now.choice circuit.now (names_in options.now) options.now.max_frames) }
 {
     let mut retimed = begun(alloc, circuit, keep, options)?;
     let mut flows = Vec::new(alloc);
@@ -101,7 +101,7 @@ fn retime_held<G: PhaseGate>(
     Ok(retimed)
 }
 
-/// Cleans a circuit and retimes it forward, frame by frame: the latches move over the greatest least set of the circuit, and the
+/// Cleans a circuit and retimes it forward, frame by frame: the latches move over the chosen least set of the circuit, and the
 /// circuit is cleaned again. It ends where no closed set needs fewer latches than there are, or at the limit of frames. The
 /// latches whose names the options have stay. The answer is the same for every crew.
 ///
@@ -119,7 +119,7 @@ pub fn retime<G: PhaseGate>(
     options: &Options,
     crew: &Crew<G>,
 ) -> Result<Retimed, RetimeError>
-    ensures retimed { IfOk result (IsRetimed circuit.now (names_in options.now) options.now.max_frames) }
+    ensures retimed { IfOk result (IsRetimed options.now.choice circuit.now (names_in options.now) options.now.max_frames) }
     ensures none_missing { OnOk result (NoneMissing options.now circuit.now) }
     ensures missing { (place : ℕ) → IsErrOf result (NoSuchName place) → first_missing circuit.now.symbols.latches (names_in options.now) ≡ Some place }
 {

@@ -14,7 +14,7 @@ use Rattle.retimed_circuits.proofs.NameLaws.{names-stay}
 use Rattle.tidy.specs.Tidy.{AreLowTidy, IsTidyIn}
 use Rattle.tidy.proofs.FrameLaws.{copies-within, tidy-moved}
 use Rattle.frames.specs.Named.{names_in}
-use Rattle.frames.proofs.FrameLaws.{streams-through}
+use Rattle.frames.proofs.FrameLaws.{helping-closed, streams-through}
 use Rattle.std.proofs.lemmas.Result.{IfOk-from_err, IfOk-weaker}
 use Rattle.aig_graph.specs.Closed.{IsClosedSet}
 use Rattle.frames.proofs.frame.moved_over.Goals as goal
@@ -53,11 +53,12 @@ settled-requires-clause-tidy c =
     let ends : first + length set ≡ length (moved_of m).aig.gates = omega (arith, copies-within m, long) in
     let P : Netlist → Type 0 = λ d. AreLowTidy d.aig (length d.aig.gates - length c.vars-copies.result.now) → IsTidyIn names d in
     subst P (sym same) (λ lows. tidy-moved names before set first (record { graph = c.aig-aig.ensures.graph; netlist = c.aig-aig.ensures.netlist })
-    c.requires.tidy c.requires.helps.greatest.least.closed ends lows)
+    c.requires.tidy (helping-closed c.args.options.now.choice names before set c.requires.helps) ends lows)
 
 pub moved-requires-clause-closed : goal.moved-requires-clause-closed
 moved-requires-clause-closed c =
-    subst (λ (held : List ℕ). IsClosedSet c.args.circuit.now.aig held c.args.set.now) (sym c.requires.keep) c.requires.helps.greatest.least.closed
+    subst (λ (held : List ℕ). IsClosedSet c.args.circuit.now.aig held c.args.set.now) (sym c.requires.keep)
+    (helping-closed c.args.options.now.choice (names_in c.args.options.now) c.args.circuit.now c.args.set.now c.requires.helps)
 
 pub returns-in_err-after-clause-cleaned : goal.returns-in_err-after-clause-cleaned
 returns-in_err-after-clause-cleaned c = IfOk-from_err c.from_residual.result _ c.from_residual.ensures.0

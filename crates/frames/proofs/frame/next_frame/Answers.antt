@@ -29,16 +29,16 @@ pub moved_over-requires-clause-helps : goal.moved_over-requires-clause-helps
 moved_over-requires-clause-helps g c =
     let names = names_in c.args.options.now in
     let before = c.args.circuit.now in
-    let P : Option Helping → Type 0 = λ found. MatchOption found (NoneSmaller names before) (Helps names before) in
-    let helps : Helps names before c.in-Some.found = subst P c.in-Some.is c.in_ok-found.ensures in
+    let P : Option Helping → Type 0 = λ found. MatchOption found (NoneSmaller names before) (Helps c.args.options.now.choice names before) in
+    let helps : Helps c.args.options.now.choice names before c.in-Some.found = subst P c.in-Some.is c.in_ok-found.ensures in
     helps.set
 
 pub returns-in-Some : goal.returns-in-Some
 returns-in-Some g c =
     let names = names_in c.args.options.now in
     let before = c.args.circuit.now in
-    let P : Option Helping → Type 0 = λ found. MatchOption found (NoneSmaller names before) (Helps names before) in
-    let helps : Helps names before c.in-Some.found = subst P c.in-Some.is c.in_ok-found.ensures in
+    let P : Option Helping → Type 0 = λ found. MatchOption found (NoneSmaller names before) (Helps c.args.options.now.choice names before) in
+    let helps : Helps c.args.options.now.choice names before c.in-Some.found = subst P c.in-Some.is c.in_ok-found.ensures in
     let d = c.in_ok-cleaned-in-Some.ensures in
     record {
       moves = record { set = c.in-Some.found.set; helps = helps.set; cleaned = d.cleaned; reported = helps.report };
@@ -51,7 +51,7 @@ pub returns : goal.returns
 returns g c =
     let names = names_in c.args.options.now in
     let before = c.args.circuit.now in
-    let P : Option Helping → Type 0 = λ found. MatchOption found (NoneSmaller names before) (Helps names before) in
+    let P : Option Helping → Type 0 = λ found. MatchOption found (NoneSmaller names before) (Helps c.args.options.now.choice names before) in
     subst P c.in-None.is c.in_ok-found.ensures
 
 pub returns-in_err-keep : goal.returns-in_err-keep

@@ -1,8 +1,11 @@
 use Rattle.std.proofs.Common.{ℕ, List, ◌≡◌, ◌∙◌, arith, ap, length, subst}
-use Rattle.aig_graph.specs.Border.{IsGreatestLeast, border_size}
+use Rattle.aig_graph.specs.Border.{border_size}
 use Rattle.aig_graph.specs.Graph.{known_latches}
 use Rattle.aig_graph.specs.Move.{move_of}
+use Rattle.retimed_circuits.specs.Names.{held_in}
 use Rattle.retimed_circuits.specs.Frames.{count_in}
+use Rattle.least_sets.specs.Chosen.{IsChosen}
+use Rattle.least_sets.proofs.ChosenLaws.{chosen-least}
 use Rattle.frames.specs.Named.{names_in}
 use Rattle.frames.proofs.FrameLaws.{closed-length, none-smaller}
 use Rattle.std.proofs.lemmas.Result.{IfOk-from_err}
@@ -10,7 +13,8 @@ use Rattle.frames.proofs.helping.helping_set.Goals as goal
 
 pub overflow_cast-report : goal.overflow_cast-report
 overflow_cast-report g c =
-    let short = closed-length c.args.circuit.now.aig c.args.keep.now c.in_ok-set.set c.aig-aig.ensures.graph c.in_ok-set.ensures.least.closed in
+    let short = closed-length c.args.circuit.now.aig c.args.keep.now c.in_ok-set.set c.aig-aig.ensures.graph
+    (chosen-least c.args.options.now.choice c.args.circuit.now c.args.keep.now c.in_ok-set.set c.in_ok-set.ensures).closed in
     omega (arith, short, ap (λ (xs : List ℕ). length xs) c.vars.ensures.value)
 
 pub returns-in_err-set : goal.returns-in_err-set
@@ -28,7 +32,7 @@ returns-then-report g c =
     let counted : c.in_ok-count.field-0 ≡ count_in names before set = c.in_ok-count.ensures ∙ ap (λ (held : List ℕ). border_size (move_of before held set)) c.requires in
     let long : length c.vars.result.now ≡ length set = ap (λ (xs : List ℕ). length xs) c.vars.ensures.value in
     record {
-      set = record { greatest = subst (λ (held : List ℕ). IsGreatestLeast before held set) c.requires c.in_ok-set.ensures; fewer = omega (arith, known, counted, c.if-report.true) };
+      set = record { chosen = subst (λ (held : List ℕ). IsChosen c.args.options.now.choice before held set) c.requires c.in_ok-set.ensures; fewer = omega (arith, known, counted, c.if-report.true) };
       report = λ i. record { before = known i; after = counted i; moved = long i };
     }
 
@@ -39,4 +43,6 @@ returns-else-report g c =
     let set = c.in_ok-set.set in
     let known : c.known_latches.result ≡ known_latches before.aig = c.known_latches.ensures ∙ ap known_latches c.aig.ensures.value in
     let counted : c.in_ok-count.field-0 ≡ count_in names before set = c.in_ok-count.ensures ∙ ap (λ (held : List ℕ). border_size (move_of before held set)) c.requires in
-    none-smaller names before set (subst (λ (held : List ℕ). IsGreatestLeast before held set) c.requires c.in_ok-set.ensures) (omega (arith, known, counted, c.if-report.false))
+    let choice = c.args.options.now.choice in
+    let chosen : IsChosen choice before (held_in names before) set = subst (λ (held : List ℕ). IsChosen choice before held set) c.requires c.in_ok-set.ensures in
+    none-smaller names before set (chosen-least choice before (held_in names before) set chosen) (omega (arith, known, counted, c.if-report.false))

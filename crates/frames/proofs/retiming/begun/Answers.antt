@@ -10,7 +10,7 @@ pub returns : goal.returns
 returns c =
     let names = names_in c.args.options.now in
     let d = c.in_ok-start.start in
-    let P : List FrameReport → Type 0 = λ reports. AfterFrames names c.args.circuit.now 0 d.circuit d.kept_free reports in
+    let P : List FrameReport → Type 0 = λ reports. AfterFrames c.args.options.now.choice names c.args.circuit.now 0 d.circuit d.kept_free reports in
     record {
       frames = subst P (sym c.empty.ensures) (cleaned d.circuit d.kept_free c.in_ok-start.ensures.cleaned);
       read_latches = ap length (c.latches.ensures.value ∙ ap (λ (g : Graph). g.latches) c.aig.ensures.value);

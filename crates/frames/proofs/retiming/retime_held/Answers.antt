@@ -25,19 +25,19 @@ after_frame-requires-clause-underway g c = (c.args.circuit.now, c.loop.counter, 
 pub returns-in-Ok-None : goal.returns-in-Ok-None
 returns-in-Ok-None g c =
     let names = names_in c.args.options.now in
-    let P : Option Frame → Type 0 = λ found. MatchOption found (NoneSmaller names c.loop.retimed.circuit) (Moves names c.loop.retimed.circuit) in
+    let P : Option Frame → Type 0 = λ found. MatchOption found (NoneSmaller names c.loop.retimed.circuit) (Moves c.args.options.now.choice names c.loop.retimed.circuit) in
     let none : NoneSmaller names c.loop.retimed.circuit = subst P c.in-Ok-None.field-0-is c.in-Ok-None.ensures in
-    ended names c.args.circuit.now c.loop.counter c.args.options.now.max_frames c.loop.retimed c.loop.invariant c.loop.auto.counter-end (λ less. none)
+    ended c.args.options.now.choice names c.args.circuit.now c.loop.counter c.args.options.now.max_frames c.loop.retimed c.loop.invariant c.loop.auto.counter-end (λ less. none)
 
 pub loop-preserved : goal.loop-preserved
 loop-preserved g c =
-    let P : ℕ → Type 0 = λ n. IsUnderway (names_in c.args.options.now) c.args.circuit.now n c.in_ok-retimed-in-Ok-Some.retimed in
+    let P : ℕ → Type 0 = λ n. IsUnderway c.args.options.now.choice (names_in c.args.options.now) c.args.circuit.now n c.in_ok-retimed-in-Ok-Some.retimed in
     let next : suc c.loop.counter ≡ c.loop.counter + 1 = omega arith in
     subst P next (c.in_ok-retimed-in-Ok-Some.ensures c.args.circuit.now c.loop.counter c.loop.invariant)
 
 pub returns : goal.returns
 returns g c =
-    ended (names_in c.args.options.now) c.args.circuit.now c.loop.counter c.args.options.now.max_frames c.loop.retimed c.loop.invariant c.loop.auto.counter-end
+    ended c.args.options.now.choice (names_in c.args.options.now) c.args.circuit.now c.loop.counter c.args.options.now.max_frames c.loop.retimed c.loop.invariant c.loop.auto.counter-end
     (λ less. absurd (omega (arith, c.loop-test.false, less)))
 
 pub begun-requires : goal.begun-requires
@@ -46,7 +46,7 @@ begun-requires g c = c.requires.keep
 pub after_frame-requires-clause-moves : goal.after_frame-requires-clause-moves
 after_frame-requires-clause-moves g c =
     let names = names_in c.args.options.now in
-    let P : Option Frame → Type 0 = λ found. MatchOption found (NoneSmaller names c.loop.retimed.circuit) (Moves names c.loop.retimed.circuit) in
+    let P : Option Frame → Type 0 = λ found. MatchOption found (NoneSmaller names c.loop.retimed.circuit) (Moves c.args.options.now.choice names c.loop.retimed.circuit) in
     subst P c.in-Ok-Some.field-0-is c.in-Ok-Some.ensures
 
 pub returns-in_err-retimed : goal.returns-in_err-retimed

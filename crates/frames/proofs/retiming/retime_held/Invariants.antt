@@ -3,4 +3,4 @@ use Rattle.frames.specs.Underway.{IsUnderway}
 use Rattle.frames.proofs.retiming.retime_held.Given as goal
 
 abbrev pub invariant-loop : goal.invariant-loop
-invariant-loop g l = IsUnderway (names_in l.options) l.circuit l.counter l.retimed
+invariant-loop g l = IsUnderway l.options.choice (names_in l.options) l.circuit l.counter l.retimed
