@@ -1,6 +1,6 @@
 //! Worked files and their answers.
 use batch_pool::Job;
-use frames::Options;
+use frames::{Choice, Options};
 use std::alloc::{AllocError, Global};
 
 /// A latch after each of two inputs, and the gate of the latches; and its answer.
@@ -35,11 +35,12 @@ pub(crate) fn five_files(alloc: Global) -> Result<Vec<Job>, AllocError> {
     Ok(jobs)
 }
 
-/// As many frames as can be, no latch held, each text in the spelling of its file.
+/// As many frames as can be, each over the greatest least set, no latch held, each text in the spelling of its file.
 pub(crate) fn defaults(alloc: Global) -> Options {
     Options {
         spelling: None,
         max_frames: 1 << 28,
+        choice: Choice::Greatest,
         keep: Vec::new(alloc),
     }
 }

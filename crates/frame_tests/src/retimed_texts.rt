@@ -1,7 +1,7 @@
 //! Worked files of both spellings, from bytes to bytes.
 use crate::circuits::CHAINS;
 use aag_text::{Counted, FailAfter, Failure, ReadError, WriteError};
-use frames::{BytesError, Options, retime_bytes};
+use frames::{BytesError, Choice, Options, retime_bytes};
 use pulse::{Crew, OpenGate};
 use std::alloc::Global;
 use std::test::Fail;
@@ -19,17 +19,19 @@ const TWO_LATCHES: &[u8] = b"aig 5 2 2 1 1\n2\n4\n10\n\x02\x02";
 
 const ONE_LATCH: &[u8] = b"aig 4 2 1 1 1\n8\n6\n\x04\x02";
 
-/// Whether the text is that of the bytes retimed by one worker in so many frames at most.
+/// Whether the text is that of the bytes retimed by one worker in so many frames at most, by the choice.
 fn gives<R: Threads + Sync>(
     rt: &R,
     alloc: Global,
     bytes: &[u8],
     max_frames: u32,
+    choice: Choice,
     text: &[u8],
 ) -> bool {
     let options = Options {
         spelling: None,
         max_frames,
+        choice,
         keep: Vec::new(alloc),
     };
     let crew = Crew::new(1, OpenGate);
@@ -41,16 +43,65 @@ fn gives<R: Threads + Sync>(
 
 #[test]
 fn retimes_an_ascii_file_to_the_limit_of_frames(rt: HostRuntime) -> Result<(), Fail> {
-    let cleaned = gives(&rt, rt.alloc(), CHAINS, 0, CLEANED);
-    let once = gives(&rt, rt.alloc(), CHAINS, 1, AFTER_ONE);
-    let twice = gives(&rt, rt.alloc(), CHAINS, 2, AFTER_TWO);
+    let cleaned = gives(&rt, rt.alloc(), CHAINS, 0, Choice::Greatest, CLEANED);
+    let once = gives(&rt, rt.alloc(), CHAINS, 1, Choice::Greatest, AFTER_ONE);
+    let twice = gives(&rt, rt.alloc(), CHAINS, 2, Choice::Greatest, AFTER_TWO);
     assert!(rt; cleaned && once && twice);
     Ok(())
 }
 
 #[test]
 fn retimes_a_binary_file(rt: HostRuntime) -> Result<(), Fail> {
-    assert!(rt; gives(&rt, rt.alloc(), TWO_LATCHES, 1 << 28, ONE_LATCH));
+    assert!(rt;
+        gives(
+            &rt,
+            rt.alloc(),
+            TWO_LATCHES,
+            1 << 28,
+            Choice::Greatest,
+            ONE_LATCH
+        )
+    );
+    Ok(())
+}
+
+/// Three latches, the gate of the first two and the gate of that one and the third: two latches are left after a move over the first
+/// gate, and as many after one over both.
+const TWO_LEAST_SETS: &[u8] =
+    b"aag 8 3 3 2 2\n2\n4\n6\n8 2\n10 4\n12 6\n16\n12\n14 10 8\n16 14 12\n";
+
+/// After a move over both gates; over the first one.
+const OVER_BOTH: &[u8] = b"aag 7 3 2 2 2\n2\n4\n6\n8 6\n10 14\n10\n8\n12 4 2\n14 12 6\n";
+
+const OVER_FIRST: &[u8] = b"aag 7 3 2 2 2\n2\n4\n6\n8 6\n10 14\n12\n8\n12 10 8\n14 4 2\n";
+
+#[test]
+fn moves_over_the_greatest_least_set(rt: HostRuntime) -> Result<(), Fail> {
+    assert!(rt;
+        gives(
+            &rt,
+            rt.alloc(),
+            TWO_LEAST_SETS,
+            1 << 28,
+            Choice::Greatest,
+            OVER_BOTH
+        )
+    );
+    Ok(())
+}
+
+#[test]
+fn moves_over_the_smallest_least_set(rt: HostRuntime) -> Result<(), Fail> {
+    assert!(rt;
+        gives(
+            &rt,
+            rt.alloc(),
+            TWO_LEAST_SETS,
+            1 << 28,
+            Choice::Smallest,
+            OVER_FIRST
+        )
+    );
     Ok(())
 }
 
@@ -62,6 +113,7 @@ fn end<R: Threads + Sync>(rt: &R, alloc: Global, bytes: &[u8], writes: u64) -> O
     let options = Options {
         spelling: None,
         max_frames: 1,
+        choice: Choice::Greatest,
         keep: Vec::new(alloc),
     };
     let crew = Crew::new(1, OpenGate);

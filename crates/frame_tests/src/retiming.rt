@@ -2,7 +2,7 @@
 use crate::circuits::{CHAINS, TWO_LATCHES};
 use aag_text::read_aag;
 use aig_graph::{Circuit, Gate, Latch, Lit, Reset};
-use frames::{FrameReport, Options, RetimeError, Retimed, retime};
+use frames::{Choice, FrameReport, Options, RetimeError, Retimed, retime};
 use pulse::{Crew, OpenGate};
 use std::alloc::Global;
 use std::test::Fail;
@@ -18,6 +18,7 @@ fn retimed<R: Threads + Sync>(
     let options = Options {
         spelling: None,
         max_frames,
+        choice: Choice::Greatest,
         keep: Vec::new(alloc),
     };
     retime(rt, alloc, circuit, &options, &Crew::new(1, OpenGate)).ok()
@@ -82,6 +83,7 @@ fn refuses_name<R: Threads + Sync>(
     let options = Options {
         spelling: None,
         max_frames: 1,
+        choice: Choice::Greatest,
         keep,
     };
     let refused = retime(rt, alloc, circuit, &options, &Crew::new(1, OpenGate)).err();

@@ -2,7 +2,7 @@
 use crate::circuits::TWO_LATCHES;
 use aag_text::read_aag;
 use aig_graph::Circuit;
-use frames::{Options, retime};
+use frames::{Choice, Options, retime};
 use pulse::{Crew, PhaseGate};
 use std::alloc::Global;
 use std::sync::atomic::{AtomicU64, Ordering};
@@ -90,6 +90,7 @@ fn works_at_once<R: Threads + Sync>(rt: &R, alloc: Global, circuit: &Circuit, he
     let options = Options {
         spelling: None,
         max_frames: 1,
+        choice: Choice::Greatest,
         keep: Vec::new(alloc),
     };
     let crew = Crew::new(2, HeldGate::new(held));
