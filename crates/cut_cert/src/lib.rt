@@ -19,7 +19,7 @@ mod walk;
 
 pub use certificate_files::{CertError, CertFile, Choice, read_cert, write_cert};
 pub use certificates::{Certificate, Objection, Routes, Verdict, check};
-pub use certifying::certificate;
+pub use certifying::{certificate, certificate_of};
 pub use gathering::routes;
 pub use greatest::greatest_cut;
 pub use least_set::{greatest_least, greatest_least_along, network, preflow_along};
