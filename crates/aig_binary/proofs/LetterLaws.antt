@@ -1,5 +1,6 @@
 -- The first three bytes, and the spelling that they name.
 use Rattle.std.proofs.Common.{ℕ, ◌+◌, ◌<◌, ◌≤◌, ◌≡◌, inl, inr, List, [], ◌∷◌, ◌++◌, length, take, drop, get_or, Option, Some, None, Bool, true, false, ◌&&◌, nat_eq, refl, sym, ap, subst, ◌∙◌, append_assoc, arith}
+use Rattle.std.proofs.Math.Bool.{and-false}
 use Rattle.std.proofs.lemmas.Bool.{cases_lt}
 use Rattle.std.proofs.lemmas.List.{take_more, take-append-drop}
 use Rattle.spellings.specs.declared.form.Spelling.{Spelling}
@@ -76,15 +77,11 @@ by_letters (a ∷ []) = refl
 by_letters (a ∷ b ∷ []) = refl
 by_letters (a ∷ b ∷ d ∷ xs) = refl
 
-and_false : (b : Bool) → (b && false) ≡ false
-and_false true = refl
-and_false false = refl
-
 -- fewer than three name none
 pub none_short : (xs : List ℕ) → length xs < 3 → spelling_of xs ≡ None
 none_short [] few = refl
-none_short (a ∷ []) few = rw (and_false (nat_eq 97 a)) refl
-none_short (a ∷ b ∷ []) few = rw (and_false (nat_eq 97 b), and_false (nat_eq 105 b), and_false (nat_eq 97 a)) refl
+none_short (a ∷ []) few = rw (and-false (nat_eq 97 a)) refl
+none_short (a ∷ b ∷ []) few = rw (and-false (nat_eq 97 b), and-false (nat_eq 105 b), and-false (nat_eq 97 a)) refl
 none_short (a ∷ b ∷ d ∷ xs) few = absurd (omega (arith, few))
 
 -- what follows changes nothing

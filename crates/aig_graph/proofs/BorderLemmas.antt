@@ -1,5 +1,6 @@
 -- What marks from the first latch on say of the border.
 use Rattle.std.proofs.Common.{ℕ, ◌+◌, ◌-◌, ◌<◌, ◌≤◌, ◌≡◌, ◌||◌, ◌&&◌, Bool, true, false, List, length, get_or, Option, is_some, suc, refl, arith, ap, ap₂, sym, ◌∙◌, inl, inr, subst}
+use Rattle.std.proofs.Math.Bool.{and_comm, or_comm}
 use Rattle.std.proofs.lemmas.Bool.{cases_lt, lt-leb}
 use Rattle.variable_tables.specs.Counting.{count_below}
 use Rattle.variable_tables.specs.Marking.{has, mark_at, AreMarks}
@@ -49,18 +50,6 @@ unfolding in_border
 in_border-early c held s v h =
     ap₂ (λ (latch : Option Latch) (gate : Option Gate). (is_known latch || (is_some gate && has s v)) && (is_held c.aig held v || is_read c s v))
     (latch_at-before c.aig v h) (gate_at-before c.aig v (omega arith))
-
-or_comm : (a b : Bool) → (a || b) ≡ (b || a)
-or_comm true true = refl
-or_comm true false = refl
-or_comm false true = refl
-or_comm false false = refl
-
-and_comm : (a b : Bool) → (a && b) ≡ (b && a)
-and_comm true true = refl
-and_comm true false = refl
-and_comm false true = refl
-and_comm false false = refl
 
 turned : (a b c d : Bool) → ((a || b) && (c || d)) ≡ ((d || c) && (b || a))
 turned a b c d = and_comm (a || b) (c || d) ∙ ap₂ (λ (x y : Bool). x && y) (or_comm c d) (or_comm a b)

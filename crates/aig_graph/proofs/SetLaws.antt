@@ -1,5 +1,6 @@
 -- Passable gates, the empty set, and sets that are one.
 use Rattle.std.proofs.Common.{ℕ, ◌+◌, ◌<◌, ◌≤◌, ◌≡◌, ◌⊎◌, inl, inr, Bool, ◌&&◌, ◌||◌, List, [], ◌∷◌, get_or, IsTrue, refl, arith, ap, sym, ◌∙◌, subst, suc, zero}
+use Rattle.std.proofs.Math.Bool.{or-false}
 use Rattle.std.specs.Prelude.{◌↔◌}
 use Rattle.std.specs.List.{Contains}
 use Rattle.std.specs.List.Sorted.{IsStrictlyIncreasing}
@@ -14,7 +15,6 @@ use Rattle.aig_graph.specs.Laws.{MayMoveOrPassable, PassableLaw, EmptySetLaws, A
 use Rattle.aig_graph.proofs.ClosedLaws.{settled_where, is_settled-gate, and_true, and_left, and_right}
 use Rattle.aig_graph.proofs.ClosedBorder.{closed-border_size}
 use Rattle.variable_tables.proofs.CountingLemmas.{count_below-same}
-use Rattle.variable_tables.proofs.MarkingLemmas.{or_false}
 
 -- a variable is settled exactly where it is a known latch that isn't held or a passable gate
 settled_iff : (g : Graph) (held : List ℕ) (v : ℕ) → IsTrue (is_settled g held v) ↔ MayMoveOrPassable g held v
@@ -54,7 +54,7 @@ pub empty_set_laws : (c : Netlist) (held : List ℕ) → EmptySetLaws c held
 empty_set_laws c held = record {
   closed = empty-closed c.aig held;
   count = closed-border_size c held [] (empty-closed c.aig held)
-      ∙ count_below-same _ _ (variables_end c.aig) (λ v h. ap (λ b. b && (is_held c.aig held v || is_read c [] v)) (or_false (is_known (latch_at c.aig v))));
+      ∙ count_below-same _ _ (variables_end c.aig) (λ v h. ap (λ b. b && (is_held c.aig held v || is_read c [] v)) (or-false (is_known (latch_at c.aig v))));
 }
 
 contains_head : (x : ℕ) (xs : List ℕ) → Contains (x ∷ xs) x

@@ -1,5 +1,6 @@
 -- Signs of literals, for any values that respect negation.
 use Rattle.std.proofs.Common.{ℕ, ◌+◌, ◌*◌, ◌%◌, ◌<◌, ◌≤◌, ◌≡◌, ◌⊎◌, inl, inr, Bool, true, false, not, ◌&&◌, cond, nat_eq, refl, arith, ap, sym, ◌∙◌}
+use Rattle.std.proofs.Math.Bool.{and_comm, not-not}
 use Rattle.std.proofs.lemmas.Bool.{cases_lt, cases_eq}
 use Rattle.aig_graph.specs.Graph.{variable}
 use Rattle.aig_graph.specs.Value.{signed, signed_as}
@@ -16,10 +17,6 @@ signed-odd lit b e = ap (λ (m : ℕ). cond (nat_eq m 1) (not b) b) e
 
 parity : (n : ℕ) → (n % 2 ≡ 0) ⊎ (n % 2 ≡ 1)
 parity n = elim (cases_eq (n % 2) 0) [ inl even ↦ inl even | inr other ↦ inr (omega arith) ]
-
-not_not : (b : Bool) → not (not b) ≡ b
-not_not true = refl
-not_not false = refl
 
 -- a literal's value is its variable's, negated where it is
 pub value_signed : (values : ℕ → Bool) → ((v : ℕ) → values (2 * v + 1) ≡ not (values (2 * v))) → (lit : ℕ) → values lit ≡ signed lit (values (2 * variable lit))
@@ -41,7 +38,7 @@ value_signed_as values negated lit base = elim (parity lit) [
     | inr negative ↦ (
         let place : signed_as lit base ≡ 2 * variable base = omega arith in
         let here : base ≡ 2 * variable base + 1 = omega arith in
-        ap values place ∙ sym (not_not (values (2 * variable base))) ∙ ap not (sym (negated (variable base))) ∙ ap (λ (n : ℕ). not (values n)) (sym here) ∙ sym (signed-odd lit (values base) odd))
+        ap values place ∙ sym (not-not (values (2 * variable base))) ∙ ap not (sym (negated (variable base))) ∙ ap (λ (n : ℕ). not (values n)) (sym here) ∙ sym (signed-odd lit (values base) odd))
   ]
 ]
 
@@ -50,12 +47,6 @@ variable-signed_as lit base = omega arith
 
 pub variable-signed_as_twice : (lit v : ℕ) → variable (signed_as lit (2 * v)) ≡ v
 variable-signed_as_twice lit v = omega arith
-
-and_comm : (a b : Bool) → (a && b) ≡ (b && a)
-and_comm true true = refl
-and_comm true false = refl
-and_comm false true = refl
-and_comm false false = refl
 
 -- a gate has the AND of its literals in whichever order they were given
 pub value-gate_of : (values : ℕ → Bool) (a b : ℕ) → (values (gate_of a b).rhs0 && values (gate_of a b).rhs1) ≡ (values a && values b)

@@ -1,5 +1,6 @@
 -- Counts without their last zeros.
 use Rattle.std.proofs.Common.{ℕ, ◌+◌, ◌<◌, ◌≡◌, ◌≢◌, Bool, true, false, ◌==◌, ◌&&◌, List, [], ◌∷◌, ◌++◌, length, take, get_or, refl, arith, ap, sym, ◌∙◌, suc, rules}
+use Rattle.std.proofs.Math.Bool.{and-false}
 use Rattle.std.proofs.lemmas.List.{take_more}
 use Rattle.std.specs.List.{list_all}
 use Rattle.aig_graph.specs.Circuits.{Netlist}
@@ -9,10 +10,6 @@ use Rattle.ascii_writer.specs.Header.{header_counts}
 list_all-zero : (ns : List ℕ) → list_all (λ m. m == 0) (ns ++ 0 ∷ []) ≡ list_all (λ m. m == 0) ns
 list_all-zero [] = refl
 list_all-zero (n ∷ ns) = ap (λ b. (n == 0) && b) (list_all-zero ns)
-
-and-false : (b : Bool) → (b && false) ≡ false
-and-false true = refl
-and-false false = refl
 
 not_zero : (n : ℕ) → n ≢ 0 → (n == 0) ≡ false
 not_zero n h = search rules

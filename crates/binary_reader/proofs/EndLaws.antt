@@ -1,6 +1,6 @@
 -- Where lines end.
 use Rattle.std.proofs.Common.{ℕ, ◌≡◌, ◌+◌, List, length, Result, Ok, Bool, true, false, ◌&&◌, refl, ap, ◌∙◌}
-use Rattle.std.proofs.lemmas.Bool.{cond-true, cond-false}
+use Rattle.std.proofs.lemmas.Bool.{cond-true, cond-false, and_from, and_left, and_right}
 use Rattle.file_words.specs.declared.fault.ReadError.{ReadError}
 use Rattle.ascii_file.specs.declared.header.Header.{Header}
 use Rattle.ascii_file.specs.Raw.{Raw}
@@ -24,16 +24,6 @@ pub comment_line : (h : Header) (raw : Raw) (at : ℕ) (line : List ℕ) → (is
 unfolding end_line
 comment_line h raw at line e = cond-true (is_symbols (next_section h raw) && begins_comment line) (Ok (InComment h raw)) (read_line h raw at line >>= λ more. Ok (before_item h more (at + length line + 1))) e
 
-pub left_false : (a b : Bool) → a ≡ false → (a && b) ≡ false
-left_false a b e = ap (λ (x : Bool). x && b) e
-
-pub right_false : (a b : Bool) → b ≡ false → (a && b) ≡ false
-right_false true b e = e
-right_false false b e = refl
-
-pub both_true : (a b : Bool) → a ≡ true → b ≡ true → (a && b) ≡ true
-both_true a b e f = ap (λ (x : Bool). x && b) e ∙ f
-
 -- the newline after an item's line
 ended : (h : Header) (raw : Raw) (at offset : ℕ) (line : List ℕ) (state : State) → state ≡ InLine h raw at line → at + length line ≡ offset → (is_symbols (next_section h raw) && begins_comment line) ≡ false
     → step state 10 ≡ (read_line h raw at line >>= λ more. Ok (before_item h more (offset + 1)))
@@ -54,19 +44,19 @@ failed h raw at offset line state e is place item fails =
 -- of a line of numbers
 module _ (c : Contents) (at offset : ℕ) (line : NumberLine) (state : State) (is : IsInNumbers c at offset line state) where
   pub numbers_done : (after : ℕ) (more : Raw) → offset + 1 ≡ after → read_line is.h is.raw at is.bytes ≡ Ok more → step state 10 ≡ Ok (before_item is.h more after)
-  numbers_done after more next read = done is.h is.raw more at offset after is.bytes state is.is is.place next (left_false (is_symbols (next_section is.h is.raw)) (begins_comment is.bytes) is.section) read
+  numbers_done after more next read = done is.h is.raw more at offset after is.bytes state is.is is.place next (and_left (is_symbols (next_section is.h is.raw)) (begins_comment is.bytes) is.section) read
 
   pub numbers_failed : (e : ReadError) → Fails e (read_line is.h is.raw at is.bytes) → Fails e (step state 10)
-  numbers_failed e fails = failed is.h is.raw at offset is.bytes state e is.is is.place (left_false (is_symbols (next_section is.h is.raw)) (begins_comment is.bytes) is.section) fails
+  numbers_failed e fails = failed is.h is.raw at offset is.bytes state e is.is is.place (and_left (is_symbols (next_section is.h is.raw)) (begins_comment is.bytes) is.section) fails
 
 -- of a line after the gates
 module _ (c : Contents) (at offset : ℕ) (line : SymbolLine) (state : State) (is : IsInSymbol c at offset line state) where
   pub symbol_done : (after : ℕ) (more : Raw) → offset + 1 ≡ after → begins_comment is.bytes ≡ false → read_line is.h is.raw at is.bytes ≡ Ok more → step state 10 ≡ Ok (before_item is.h more after)
-  symbol_done after more next begins read = done is.h is.raw more at offset after is.bytes state is.is is.place next (right_false (is_symbols (next_section is.h is.raw)) (begins_comment is.bytes) begins) read
+  symbol_done after more next begins read = done is.h is.raw more at offset after is.bytes state is.is is.place next (and_right (is_symbols (next_section is.h is.raw)) (begins_comment is.bytes) begins) read
 
   pub symbol_failed : (e : ReadError) → begins_comment is.bytes ≡ false → Fails e (read_line is.h is.raw at is.bytes) → Fails e (step state 10)
-  symbol_failed e begins fails = failed is.h is.raw at offset is.bytes state e is.is is.place (right_false (is_symbols (next_section is.h is.raw)) (begins_comment is.bytes) begins) fails
+  symbol_failed e begins fails = failed is.h is.raw at offset is.bytes state e is.is is.place (and_right (is_symbols (next_section is.h is.raw)) (begins_comment is.bytes) begins) fails
 
   pub comment_done : begins_comment is.bytes ≡ true → step state 10 ≡ Ok (InComment is.h is.raw)
   comment_done begins =
-      ap (λ (s : State). step s 10) is.is ∙ comment_line is.h is.raw at is.bytes (both_true (is_symbols (next_section is.h is.raw)) (begins_comment is.bytes) (ap is_symbols is.section) begins)
+      ap (λ (s : State). step s 10) is.is ∙ comment_line is.h is.raw at is.bytes (and_from (is_symbols (next_section is.h is.raw)) (begins_comment is.bytes) (ap is_symbols is.section) begins)

@@ -1,6 +1,6 @@
 -- The end of the input.
 use Rattle.std.proofs.Common.{ℕ, ◌≡◌, ◌+◌, List, [], ◌∷◌, length, Result, Ok, Err, Bool, true, false, ◌&&◌, cond, refl, sym, ap, subst, ◌∙◌, arith}
-use Rattle.std.proofs.lemmas.Bool.{cond-true, cond-false}
+use Rattle.std.proofs.lemmas.Bool.{cond-true, cond-false, and_from, and_right}
 use Rattle.aig_graph.specs.Circuits.{Netlist}
 use Rattle.file_words.specs.declared.fault.ReadError.{ReadError}
 use Rattle.file_words.specs.declared.fault.ReadError.TheVariants.{Truncated}
@@ -18,7 +18,7 @@ use Rattle.binary_sections.specs.Taking.{circuit_at_end}
 use Rattle.binary_sections.specs.Contents.{Contents, IsAt}
 use Rattle.binary_reader.specs.Opened.{TakesText}
 use Rattle.binary_reader.specs.Standing.{circuit_at}
-use Rattle.binary_reader.proofs.EndLaws.{item_line, comment_line, right_false, both_true}
+use Rattle.binary_reader.proofs.EndLaws.{item_line, comment_line}
 
 abbrev pub circuit : Result (Header × Raw) ReadError → Result Netlist ReadError
 circuit r = r >>= λ all. Ok (circuit_of all.0 all.1)
@@ -74,12 +74,12 @@ module _ (end : ℕ) (h : Header) (raw : Raw) (at : ℕ) (bytes : List ℕ) (sta
 
   pub comment_ends : next_section h raw ≡ Symbols → begins_comment bytes ≡ true → circuit_at end state ≡ circuit_at_end end h raw
   comment_ends here begins =
-      ap circuit (line_ends end h raw at bytes state is place later ∙ ap (λ (r : Result State ReadError). r >>= complete end) (comment_line h raw at bytes (both_true (is_symbols (next_section h raw)) (begins_comment bytes) (ap is_symbols here) begins)))
+      ap circuit (line_ends end h raw at bytes state is place later ∙ ap (λ (r : Result State ReadError). r >>= complete end) (comment_line h raw at bytes (and_from (is_symbols (next_section h raw)) (begins_comment bytes) (ap is_symbols here) begins)))
       ∙ sym (cond-true (is_symbols (next_section h raw)) (Ok (circuit_of h raw)) (Err (Truncated end)) (ap is_symbols here))
 
   -- a symbol or the comment
   pub symbol_ended : next_section h raw ≡ Symbols → (new : Contents) (is_item : Bool) → TakesText h new raw at bytes (Ok is_item) → (more : Raw) × (circuit_at end state ≡ circuit_at_end end h more) × IsAt new h more
-  symbol_ended here new true (begins, took) = (took.0, item_done took.0 (right_false (is_symbols (next_section h raw)) (begins_comment bytes) begins) took.1, took.2)
+  symbol_ended here new true (begins, took) = (took.0, item_done took.0 (and_right (is_symbols (next_section h raw)) (begins_comment bytes) begins) took.1, took.2)
   symbol_ended here new false (begins, contents) = (raw, comment_ends here begins, contents)
 
 pub in_comment : (end : ℕ) (h : Header) (raw : Raw) (state : State) → state ≡ InComment h raw → next_section h raw ≡ Symbols → circuit_at end state ≡ circuit_at_end end h raw

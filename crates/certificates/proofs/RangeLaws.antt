@@ -1,6 +1,6 @@
 -- What routes pass are latches and gates.
 use Rattle.std.proofs.Common.{◌≡◌, ℕ, suc, ◌+◌, ◌-◌, ◌<◌, ◌≤◌, Bool, true, false, ◌&&◌, nat_le, List, [], ◌∷◌, ◌++◌, length, replicate, get_or, All, arith, refl, ap, sym, ◌∙◌, subst, inl, inr}
-use Rattle.std.proofs.lemmas.Bool.{cases_Bool, cases_lt, or_left, and_right}
+use Rattle.std.proofs.lemmas.Bool.{cases_Bool, cases_lt, or_left, and_right, and_parts}
 use Rattle.std.proofs.lemmas.List.{get_or-replicate, length-replicate, get_or_past}
 use Rattle.std.proofs.lemmas.List.Elements.{All-nil, All-cons, All-append}
 use Rattle.variable_tables.specs.Marking.{mark_at}
@@ -10,7 +10,7 @@ use Rattle.frame_net.specs.declared.net.Point.{Point}
 use Rattle.frame_net.specs.Capacity.{leaves}
 use Rattle.certificates.specs.Routes.{is_on, begins_at, may_step, goes_on, is_route, passed, all_passed}
 use Rattle.certificates.specs.Verdicts.{AreRoutes}
-use Rattle.certificates.proofs.RouteLaws.{and_parts, passed-behind, passed-before}
+use Rattle.certificates.proofs.RouteLaws.{passed-behind, passed-before}
 use Rattle.certificates.proofs.WalkLaws.{step-on, on-range}
 
 abbrev pub IsIn : Graph → ℕ → Type 0

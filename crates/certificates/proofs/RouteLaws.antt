@@ -1,7 +1,7 @@
 -- On each route there is a variable of each closed set's border.
 use Rattle.std.proofs.Common.{◌≡◌, ℕ, suc, zero, ◌+◌, ◌<◌, ◌≤◌, ◌==◌, Bool, true, false, not, ◌&&◌, ◌||◌, nat_lt, cond, IsTrue, is_some, List, [], ◌∷◌, ◌++◌, length, All, Option, Some, None, arith, refl, ap, ap₂, sym, ◌∙◌, subst, inl, inr}
 use Rattle.std.specs.List.{Contains, count_by}
-use Rattle.std.proofs.lemmas.Bool.{cases_Bool, cond-true, cond-false, eqb-true, lt-ltb, and_from, or_cases, or_left, or_right}
+use Rattle.std.proofs.lemmas.Bool.{cases_Bool, cond-true, cond-false, eqb-true, lt-ltb, and_from, or_cases, or_left, or_right, and_parts, not-true}
 use Rattle.std.proofs.lemmas.Option.{none-some}
 use Rattle.variable_tables.specs.Counting.{count_below}
 use Rattle.variable_tables.specs.Marking.{has}
@@ -29,11 +29,6 @@ use Rattle.certificates.proofs.ApartLaws.{count-le, count-none, count-distinct, 
 true_false : true ≡ false → ⊥
 true_false e = absurd (cc)
 
-pub and_parts : (a b : Bool) → (a && b) ≡ true → (a ≡ true) × (b ≡ true)
-and_parts true true e = (refl, refl)
-and_parts true false e = absurd (cc)
-and_parts false b e = absurd (cc)
-
 -- the parts of a conjunction of four
 abbrev pub Four : (a b c d : Bool) → Type 0
 Four a b c d = (a ≡ true) × (b ≡ true) × (c ≡ true) × (d ≡ true)
@@ -44,10 +39,6 @@ four_parts a b c d e =
     let y = and_parts (a && b) c x.0 in
     let z = and_parts a b y.0 in
     (z.0, z.1, y.1, x.1)
-
-not_true : (a : Bool) → not a ≡ true → a ≡ false
-not_true true e = absurd (cc)
-not_true false e = refl
 
 -- the variables of a route from a point on
 pub passed-behind : (p : Point) (rest : List Point) → p.behind ≡ true → passed (p ∷ rest) ≡ p.var ∷ passed rest
@@ -147,21 +138,21 @@ module _ (c : Netlist) (held t : List ℕ) (set : IsClosedSet c.aig held t) wher
       elim (or_cases (passes c.aig held p q) (enters c.aig held p q || returns_to c.aig held p q) parts.0) [
         | inl through ↦ (
             let a = four_parts (not p.behind) q.behind (p.var == q.var) (is_passable c.aig held p.var) through in
-            let member : has t p.var ≡ true = sym (inside-before p (not_true p.behind a.0)) ∙ inside in
+            let member : has t p.var ≡ true = sym (inside-before p (not-true p.behind a.0)) ∙ inside in
             let next : is_inside q ≡ true = inside-behind q a.1 ∙ ap holds (sym (eqb-true p.var q.var a.2)) ∙ held-by p.var member in
             passes-later p (q ∷ rest) (walk q rest next parts.1))
         | inr other ↦ elim (or_cases (enters c.aig held p q) (returns_to c.aig held p q) other) [
           | inl on ↦ (
               let a = four_parts p.behind (not q.behind) (is_passable c.aig held q.var) (gate_reads p.var (gate_at c.aig q.var)) on in
               elim (cases_Bool (has t q.var)) [
-                | inl member ↦ passes-later p (q ∷ rest) (walk q rest (inside-before q (not_true q.behind a.1) ∙ member) parts.1)
+                | inl member ↦ passes-later p (q ∷ rest) (walk q rest (inside-before q (not-true q.behind a.1) ∙ member) parts.1)
                 | inr out ↦ passes-here p (q ∷ rest) a.0 (enters-borders p.var q.var (sym (inside-behind p a.0) ∙ inside) a.3 out)
               ])
           | inr back ↦ (
               let e = and_parts (not p.behind && not q.behind && is_passable c.aig held p.var && is_some (gate_at c.aig q.var)) (gate_reads q.var (gate_at c.aig p.var)) back in
               let a = four_parts (not p.behind) (not q.behind) (is_passable c.aig held p.var) (is_some (gate_at c.aig q.var)) e.0 in
-              let member : has t p.var ≡ true = sym (inside-before p (not_true p.behind a.0)) ∙ inside in
-              let next : is_inside q ≡ true = inside-before q (not_true q.behind a.1) ∙ fan-in-member q.var p.var member a.3 e.1 in
+              let member : has t p.var ≡ true = sym (inside-before p (not-true p.behind a.0)) ∙ inside in
+              let next : is_inside q ≡ true = inside-before q (not-true q.behind a.1) ∙ fan-in-member q.var p.var member a.3 e.1 in
               passes-later p (q ∷ rest) (walk q rest next parts.1))
         ]
       ]

@@ -1,6 +1,6 @@
 -- What a walk through points keeps.
 use Rattle.std.proofs.Common.{◌≡◌, ℕ, suc, ◌+◌, ◌<◌, ◌≤◌, ◌==◌, Bool, true, false, not, ◌&&◌, ◌||◌, is_some, List, [], ◌∷◌, length, slice_index_or, drop, drop-cons, Option, Some, None, arith, refl, ap, sym, ◌∙◌, subst, inl, inr}
-use Rattle.std.proofs.lemmas.Bool.{cases_Bool, eqb-true, and_from, and_left, or_cases, or_left, or_right}
+use Rattle.std.proofs.lemmas.Bool.{cases_Bool, eqb-true, and_from, and_left, or_cases, or_left, or_right, and_parts}
 use Rattle.std.proofs.lemmas.List.{drop_all}
 use Rattle.variable_tables.specs.Marking.{mark_at}
 use Rattle.variable_tables.specs.Tables.{table}
@@ -17,7 +17,7 @@ use Rattle.frame_net.specs.Passable.{is_passable, IsPassSet}
 use Rattle.frame_net.specs.Capacity.{leaves}
 use Rattle.frame_net.proofs.PassableLaws.{passable-means}
 use Rattle.certificates.specs.Routes.{is_on, passes, enters, returns_to, may_step, goes_on}
-use Rattle.certificates.proofs.RouteLaws.{and_parts, four_parts}
+use Rattle.certificates.proofs.RouteLaws.{four_parts}
 
 gate-on : (g : Graph) (v : ℕ) → is_some (gate_at g v) ≡ true → is_on g v ≡ true
 gate-on g v e = or_right (is_known (latch_at g v)) (is_some (gate_at g v)) e

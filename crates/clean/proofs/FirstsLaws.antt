@@ -1,5 +1,6 @@
 -- The first latch of each next literal and reset, one latch after another.
 use Rattle.std.proofs.Common.{zero-add, ℕ, ◌+◌, ◌-◌, ◌*◌, ◌<◌, ◌≡◌, inl, inr, suc, List, [], ◌∷◌, ◌++◌, Bool, true, false, not, ◌&&◌, ◌||◌, cond, nat_eq, nat_lt, Option, Some, None, slice_get, refl, arith, ap, sym, ◌∙◌, subst, add-one}
+use Rattle.std.proofs.Math.Bool.{and-false}
 use Rattle.std.specs.Map.{lookup}
 use Rattle.std.proofs.lemmas.Bool.{cases_Bool, cases_lt, cases_eq, cond-true, cond-false, lt-ltb, le-ltb, eqb-true, and_parts}
 use Rattle.aig_graph.specs.declared.graph.Latch.{Latch}
@@ -114,15 +115,11 @@ module _ (g : Graph) (held : List ℕ) where
   free-apart One Zero a b known free = absurd (cc)
   free-apart One One a b known free = absurd (cc)
 
-  and_false : (b : Bool) → (b && false) ≡ false
-  and_false true = refl
-  and_false false = refl
-
   pub firsts-free : (n : ℕ) (own : Latch) (entries : List (Latch × ℕ)) → slice_get g.latches n ≡ Some own → is_free own ≡ true → AreFirsts g held n entries → AreFirsts g held (n + 1) entries
   firsts-free n own entries there free firsts = skipped n entries (λ latch known.
       alike-here latch own n there
       ∙ ap (λ (b : Bool). not (is_stuck g held n own) && (nat_eq latch.next own.next && b)) (free-apart latch.reset own.reset latch.next own.next known free)
-      ∙ ap (λ (b : Bool). not (is_stuck g held n own) && b) (and_false (nat_eq latch.next own.next)) ∙ and_false (not (is_stuck g held n own)))
+      ∙ ap (λ (b : Bool). not (is_stuck g held n own) && b) (and-false (nat_eq latch.next own.next)) ∙ and-false (not (is_stuck g held n own)))
       firsts
 
   lookup-push : (test : Latch → Bool) (entries : List (Latch × ℕ)) (key : Latch) (value : ℕ) → lookup test (entries ++ (key, value) ∷ []) ≡ or_else (lookup test entries) (cond (test key) (Some value) None)

@@ -1,5 +1,6 @@
 -- What stands for a variable always has its value, and no later variable stands for it.
 use Rattle.std.proofs.Common.{zero-add, ℕ, ◌+◌, ◌*◌, ◌<◌, ◌≤◌, ◌≡◌, ◌⊎◌, inl, inr, suc, List, [], ◌∷◌, ◌++◌, length, Bool, true, false, not, ◌&&◌, cond, nat_eq, Option, Some, None, slice_get, get_or, refl, arith, ap, sym, ◌∙◌, subst}
+use Rattle.std.proofs.Math.Bool.{and-false, and-not_self, and-true, and_self, not-and_self}
 use Rattle.std.specs.Map.{lookup}
 use Rattle.std.proofs.lemmas.Bool.{cases_Bool, cases_lt, cases_eq, eqb-true, eqb-false, and_parts, cond-true, cond-false}
 use Rattle.std.proofs.lemmas.Option.{none-some, same_Some}
@@ -158,26 +159,6 @@ module _ (vals : ℕ → Bool) (negated : (v : ℕ) → vals (2 * v + 1) ≡ not
       value-gate_of vals (replaced stands gate.rhs0) (replaced stands gate.rhs1)
       ∙ ap (λ (b : Bool). b && vals (replaced stands gate.rhs1)) first ∙ ap (λ (b : Bool). vals gate.rhs0 && b) second
 
-  and_false : (a : Bool) → (a && false) ≡ false
-  and_false true = refl
-  and_false false = refl
-
-  and_true : (a : Bool) → (a && true) ≡ a
-  and_true true = refl
-  and_true false = refl
-
-  and_same : (a : Bool) → (a && a) ≡ a
-  and_same true = refl
-  and_same false = refl
-
-  and_not : (a : Bool) → (a && not a) ≡ false
-  and_not true = refl
-  and_not false = refl
-
-  not_and : (a : Bool) → (not a && a) ≡ false
-  not_and true = refl
-  not_and false = refl
-
   opposite : (a b : ℕ) → (a ≡ b → ⊥) → variable a ≡ variable b → (vals a && vals b) ≡ false
   opposite a b other same = elim (cases_lt a b) [
     | inl less ↦ (
@@ -185,23 +166,23 @@ module _ (vals : ℕ → Bool) (negated : (v : ℕ) → vals (2 * v + 1) ≡ not
         let second : b ≡ 2 * variable a + 1 = omega arith in
         let va : vals a ≡ vals (2 * variable a) = ap vals first in
         let vb : vals b ≡ not (vals (2 * variable a)) = ap vals second ∙ negated (variable a) in
-        ap (λ (p : Bool). p && vals b) va ∙ ap (λ (p : Bool). vals (2 * variable a) && p) vb ∙ and_not (vals (2 * variable a)))
+        ap (λ (p : Bool). p && vals b) va ∙ ap (λ (p : Bool). vals (2 * variable a) && p) vb ∙ and-not_self (vals (2 * variable a)))
     | inr more ↦ (
         let first : a ≡ 2 * variable b + 1 = omega arith in
         let second : b ≡ 2 * variable b = omega arith in
         let va : vals a ≡ not (vals (2 * variable b)) = ap vals first ∙ negated (variable b) in
         let vb : vals b ≡ vals (2 * variable b) = ap vals second in
-        ap (λ (p : Bool). p && vals b) va ∙ ap (λ (p : Bool). not (vals (2 * variable b)) && p) vb ∙ not_and (vals (2 * variable b)))
+        ap (λ (p : Bool). p && vals b) va ∙ ap (λ (p : Bool). not (vals (2 * variable b)) && p) vb ∙ not-and_self (vals (2 * variable b)))
   ]
 
   stand-value : (kept : List (Gate × ℕ)) (gate : Gate) (stand : ℕ) → ((w : ℕ) → lookup (is_gate gate) kept ≡ Some w → vals w ≡ (vals gate.rhs0 && vals gate.rhs1))
       → known_stand kept gate ≡ Some stand → vals stand ≡ (vals gate.rhs0 && vals gate.rhs1)
   stand-value kept gate stand known some = elim (gate_stands kept gate) [
-    | with_false a e ↦ ap vals (same_Some stand 0 (sym some ∙ e)) ∙ constant ∙ sym (ap (λ (n : ℕ). vals gate.rhs0 && vals n) a ∙ ap (λ (b : Bool). vals gate.rhs0 && b) constant ∙ and_false (vals gate.rhs0))
+    | with_false a e ↦ ap vals (same_Some stand 0 (sym some ∙ e)) ∙ constant ∙ sym (ap (λ (n : ℕ). vals gate.rhs0 && vals n) a ∙ ap (λ (b : Bool). vals gate.rhs0 && b) constant ∙ and-false (vals gate.rhs0))
     | with_true a e ↦ (
         let one : vals 1 ≡ true = negated 0 ∙ ap not constant in
-        ap vals (same_Some stand gate.rhs0 (sym some ∙ e)) ∙ sym (ap (λ (n : ℕ). vals gate.rhs0 && vals n) a ∙ ap (λ (b : Bool). vals gate.rhs0 && b) one ∙ and_true (vals gate.rhs0)))
-    | with_equal a e ↦ ap vals (same_Some stand gate.rhs0 (sym some ∙ e)) ∙ sym (ap (λ (n : ℕ). vals gate.rhs0 && vals n) (sym a) ∙ and_same (vals gate.rhs0))
+        ap vals (same_Some stand gate.rhs0 (sym some ∙ e)) ∙ sym (ap (λ (n : ℕ). vals gate.rhs0 && vals n) a ∙ ap (λ (b : Bool). vals gate.rhs0 && b) one ∙ and-true (vals gate.rhs0)))
+    | with_equal a e ↦ ap vals (same_Some stand gate.rhs0 (sym some ∙ e)) ∙ sym (ap (λ (n : ℕ). vals gate.rhs0 && vals n) (sym a) ∙ and_self (vals gate.rhs0))
     | with_opposite a b e ↦ ap vals (same_Some stand 0 (sym some ∙ e)) ∙ constant ∙ sym (opposite gate.rhs0 gate.rhs1 a b)
     | with_earlier e ↦ known stand (sym e ∙ some)
   ]

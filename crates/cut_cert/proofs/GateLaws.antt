@@ -1,7 +1,7 @@
 -- The gates of a set of nodes, in the order of the nodes, rise.
 use Rattle.std.proofs.Common.{ℕ, zero, suc, ◌+◌, ◌<◌, ◌≤◌, ◌≡◌, ◌⊎◌, ◌==◌, ◌||◌, inl, inr, List, [], ◌∷◌, ◌++◌, length, Bool, true, false, not, IsTrue, if◌then◌else◌, Option, Some, None, slice_index, get_or, refl, arith, ap, ap₂, sym, ◌∙◌, subst}
 use Rattle.std.specs.List.Sorted.{IsStrictlyIncreasing}
-use Rattle.std.proofs.lemmas.Bool.{cases_lt, cases_eq, cond-true, cond-false, or_cases, or_left, or_right, eqb-true, eq-eqb}
+use Rattle.std.proofs.lemmas.Bool.{cases_lt, cases_eq, cond-true, cond-false, or_cases, or_left, or_right, eqb-true, eq-eqb, not-false, not-true}
 use Rattle.std.proofs.lemmas.Option.{none-some, same_Some}
 use Rattle.std.proofs.lemmas.List.{length_push, get_or_append_left, get_or_default}
 use Rattle.std.proofs.lemmas.List.Folds.{list_any-append}
@@ -32,14 +32,6 @@ abbrev pub before_gate : ℕ → Point
 before_gate v = record { var = v; behind = false }
 
 -- ---- one node
-
-pub not-true : (b : Bool) → not b ≡ true → b ≡ false
-not-true true e = absurd (cc)
-not-true false e = refl
-
-pub not-false : (b : Bool) → not b ≡ false → b ≡ true
-not-false true e = refl
-not-false false e = absurd (cc)
 
 split-behind : (p : Point) (v : ℕ) (b : Bool) → p.behind ≡ b → (if b then None else Some p.var) ≡ Some v → p ≡ before_gate v
 split-behind p v true e some = absurd (none-some v some)

@@ -1,6 +1,6 @@
 -- What an arc with a capacity says of the points at its ends.
 use Rattle.std.proofs.Common.{◌≡◌, ℕ, ◌<◌, ◌≤◌, ◌==◌, Bool, true, false, ◌&&◌, is_some, cond, List, [], Option, Some, None, arith, refl, ap, sym, ◌∙◌, subst, inl, inr}
-use Rattle.std.proofs.lemmas.Bool.{cases_lt, eqb-true, and_from, or_left}
+use Rattle.std.proofs.lemmas.Bool.{cases_lt, eqb-true, and_from, or_left, and_parts}
 use Rattle.std.proofs.lemmas.Option.{none-some, same_Some}
 use Rattle.aig_graph.specs.declared.graph.Latch.{Latch}
 use Rattle.aig_graph.specs.declared.properties.Props.{Props}
@@ -18,7 +18,6 @@ use Rattle.frame_net.proofs.ArcLaws.{cap-at}
 use Rattle.frame_cuts.specs.Cuts.{IsNetworkOf}
 use Rattle.frame_cuts.proofs.NetLaws.{nodes, node-is}
 use Rattle.certificates.specs.Routes.{begins_at, may_step, goes_on}
-use Rattle.certificates.proofs.RouteLaws.{and_parts}
 
 abbrev pub point : ℕ → Bool → Point
 point v behind = record { var = v; behind = behind }

@@ -1,6 +1,6 @@
 -- A walk backward from the sink marks the nodes that reach it.
 use Rattle.std.proofs.Common.{ℕ, zero, suc, ◌+◌, ◌<◌, ◌≤◌, ◌≡◌, ◌⊎◌, inl, inr, List, [], ◌∷◌, ◌++◌, length, replicate, Bool, true, false, not, cond, nat_lt, Some, None, slice_get, slice_index, set, get_or, count_by, refl, arith, ap, sym, ◌∙◌, subst}
-use Rattle.std.proofs.lemmas.Bool.{cases_Bool, cases_eq, cases_lt, cond-true, cond-false, lt-ltb, le-ltb}
+use Rattle.std.proofs.lemmas.Bool.{cases_Bool, cases_eq, cases_lt, cond-true, cond-false, lt-ltb, le-ltb, not-false, not_from_true}
 use Rattle.std.proofs.lemmas.Option.{none-some, slice_get_within, same_Some}
 use Rattle.std.proofs.lemmas.List.{length-set, get_or-set_same, get_or-set_other, get_or_past, length_push, length-replicate, get_or-replicate}
 use Rattle.std.proofs.lemmas.List.Sums.{sum_by-set, count_by-le-length}
@@ -264,19 +264,11 @@ module _ (n : ℕ) (s : State) where
       let goes = reach-goes no_front 0 1 sweeps-start two (0, refl) in
       subst (λ (t : Front). Sweeping t 0) (sym e) (record { sweeps = goes.0.sweeps; sink = goes.1 })
 
-  not-true : (b : Bool) → b ≡ true → not b ≡ false
-  not-true true e = refl
-  not-true false e = absurd (cc)
-
-  not-false : (b : Bool) → not b ≡ false → b ≡ true
-  not-false true e = refl
-  not-false false e = absurd (cc)
-
   -- where the queue is at its end, the marked nodes are those that reach the sink
   pub sweeping-end : (r : Front) (k : ℕ) → Sweeping r k → slice_get r.queue k ≡ None → IsSourceSide n s (λ v. not (is_marked r v))
   sweeping-end r k sweep last = λ v h. (
     (λ e. sweep.sweeps.reaches v (not-false (is_marked r v) e)),
-    (λ way. not-true (is_marked r v) (walk way.0 v h way.1)),
+    (λ way. not_from_true (is_marked r v) (walk way.0 v h way.1)),
   )
     where
       read : (w : ℕ) → is_marked r w ≡ true → HasRead r w

@@ -1,7 +1,7 @@
 -- A walk back from the sink, and what it leaves.
 use Rattle.std.proofs.Common.{◌≡◌, ℕ, ◌+◌, ◌<◌, ◌==◌, Bool, true, false, ◌⊎◌, inl, inr, List, [], ◌∷◌, ◌++◌, Some, None, arith, refl, ap, sym, ◌∙◌, subst}
 use Rattle.std.specs.List.{AllByRecursion, IsDistinct}
-use Rattle.std.proofs.lemmas.Bool.{cases_Bool, cases_lt, cases_eq, and_from, or_cases, or_parts, or_right, eqb-true, eq-eqb}
+use Rattle.std.proofs.lemmas.Bool.{cases_Bool, cases_lt, cases_eq, and_from, or_cases, or_parts, or_right, eqb-true, eq-eqb, and_parts}
 use Rattle.std.proofs.lemmas.Option.{none-some, same_Some}
 use Rattle.variable_tables.specs.Marking.{has}
 use Rattle.aig_graph.specs.Circuits.{Netlist}
@@ -10,7 +10,7 @@ use Rattle.frame_net.specs.FlowNet.{FlowNet, IsFlowNet, node_count, head, point_
 use Rattle.flow_part.specs.Parts.{pair}
 use Rattle.frame_cuts.specs.Cuts.{IsNetworkOf}
 use Rattle.certificates.specs.Routes.{begins_at, may_step, goes_on, is_route, passed}
-use Rattle.certificates.proofs.RouteLaws.{and_parts, passed-behind, passed-before}
+use Rattle.certificates.proofs.RouteLaws.{passed-behind, passed-before}
 use Rattle.certificates.proofs.PassedLaws.{passed-none}
 use Rattle.certificates.proofs.DistinctLaws.{distinct-none}
 use Rattle.cut_cert.specs.Walks.{into, Comes, lowered, Holds, Spent, Ready, Walked}

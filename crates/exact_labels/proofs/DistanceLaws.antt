@@ -1,6 +1,6 @@
 -- Residual distances: what is computed is what is defined, and agreeing states have the same.
 use Rattle.std.proofs.Common.{◌≡◌, ℕ, zero, suc, ◌<◌, ◌≤◌, ◌&&◌, nat_lt, cond, Bool, true, false, refl, arith, sym, ◌∙◌, subst, inl, inr}
-use Rattle.std.proofs.lemmas.Bool.{cases_lt, cases_Bool, lt-ltb, le-ltb, eqb-true, eq-eqb, cond-true, cond-false, false≢true}
+use Rattle.std.proofs.lemmas.Bool.{cases_lt, cases_Bool, lt-ltb, le-ltb, eqb-true, eq-eqb, cond-true, cond-false, false≢true, and_from, and_parts}
 use Rattle.flow_theory.specs.Flow.{State, Walk, least_below}
 use Rattle.flow_theory.specs.Laws.{IsDistance}
 use Rattle.flow_theory.proofs.Sums.{least_below-le, least_below-le_start}
@@ -16,14 +16,6 @@ least_some (suc n) f m h = elim (cases_lt (least_below n f m) (f n)) [
   | inr more ↦ (n, (omega arith, omega (arith, more)))
 ]
 
-both : (a b : Bool) → a && b ≡ true → (a ≡ true) × (b ≡ true)
-both true b e = (refl, e)
-both false b e = absurd (false≢true e)
-
-and_true : (a b : Bool) → a ≡ true → b ≡ true → a && b ≡ true
-and_true true b p q = q
-and_true false b p q = absurd (false≢true p)
-
 above : (m : ℕ) → nat_lt 0 m ≡ true → 0 < m
 above m e = elim (cases_lt 0 m) [ inl yes' ↦ yes' | inr no' ↦ absurd (false≢true (sym (le-ltb 0 m no') ∙ e)) ]
 
@@ -31,14 +23,14 @@ walk_in : (n : ℕ) (s : State) (k v : ℕ) → reaches_in n s k v ≡ true → 
 walk_in n s zero v e = eqb-true v 1 e
 walk_in n s (suc k) v e =
     let r = some_at n (λ w. nat_lt 0 (s.res v w) && reaches_in n s k w) e in
-    let p = both (nat_lt 0 (s.res v r.0)) (reaches_in n s k r.0) r.1.1 in
+    let p = and_parts (nat_lt 0 (s.res v r.0)) (reaches_in n s k r.0) r.1.1 in
     (r.0, (r.1.0, (above (s.res v r.0) p.0, walk_in n s k r.0 p.1)))
 
 in_walk : (n : ℕ) (s : State) (k v : ℕ) → Walk n s k v → reaches_in n s k v ≡ true
 in_walk n s zero v e = eq-eqb v 1 e
 in_walk n s (suc k) v t =
     any_from n (λ w. nat_lt 0 (s.res v w) && reaches_in n s k w) t.0 t.1.0
-    (and_true (nat_lt 0 (s.res v t.0)) (reaches_in n s k t.0) (lt-ltb 0 (s.res v t.0) t.1.1.0) (in_walk n s k t.0 t.1.1.1))
+    (and_from (nat_lt 0 (s.res v t.0)) (reaches_in n s k t.0) (lt-ltb 0 (s.res v t.0) t.1.1.0) (in_walk n s k t.0 t.1.1.1))
 
 module _ (n : ℕ) (s : State) where
   length_of : ℕ → ℕ → ℕ

@@ -6,7 +6,7 @@ use Rattle.std.specs.Ordering.{nat_cmp, is_eq, match_ordering}
 use Rattle.std.specs.declared.cmp.Ordering.TheVariants.{Less, Equal, Greater}
 use Rattle.std.specs.Map.{lookup}
 use Rattle.std.specs.BTreeMap.{is_at, insert_entry}
-use Rattle.std.proofs.Math.Bool.{or_comm}
+use Rattle.std.proofs.Math.Bool.{or_comm, or_assoc}
 use Rattle.std.proofs.lemmas.Bool.{ltb-true, ne_eqb, eq-eqb, eqb-true, eqb-false}
 use Rattle.std.proofs.lemmas.List.Sums.{fold-append}
 use Rattle.aig_graph.specs.declared.properties.Symbol.{Symbol}
@@ -101,10 +101,6 @@ position-with_symbol kind p name names s = by_test (nat_eq (kind_number kind) (k
     by_test false is =
         ap (λ (same : Bool). has_position (cond same (with_name names (record { position = s.position; name = s.name })) names) p) is
         ∙ or_comm false (has_position names p)
-
-or_assoc : (a b c : Bool) → ((a || b) || c) ≡ (a || (b || c))
-or_assoc true b c = refl
-or_assoc false b c = refl
 
 positions : (kind : SymbolKind) (p : ℕ) (name : List ℕ) (names : List Symbol) (symbols : List RawSymbol)
     → has_position (fold (with_symbol kind) names symbols) p ≡ (has_position names p || list_any (is_of_same (symbol_at kind p name)) symbols)

@@ -1,5 +1,6 @@
 -- The excess outside a set and the residual that leaves it make up its cut: so the far side is the greatest least cut.
 use Rattle.std.proofs.Common.{◌≡◌, ℕ, suc, zero, ◌+◌, ◌*◌, ◌<◌, ◌≤◌, ◌==◌, ◌&&◌, not, cond, Bool, true, false, arith, refl, ap, sym, ◌∙◌, subst, inl, inr}
+use Rattle.std.proofs.Math.Bool.{and_comm}
 use Rattle.std.proofs.lemmas.Bool.{cases_lt, cases_Bool, false≢true, eq-eqb, eqb-true, cases_order, ne_eqb, cases_eq}
 use Rattle.flow_theory.specs.Flow.{State, sum_below, IsPreflow, IsValid, is_active, between, IsCut, cut_value, Walk, Reaches, IsSourceSide}
 use Rattle.flow_theory.specs.Laws.{IsGreatestLeastCut}
@@ -22,12 +23,6 @@ between-add n a b f g =
     (λ v h. sum_below-same n (λ w. cond (a v && b w) (f v w + g v w) 0) (λ w. cond (a v && b w) (f v w) 0 + cond (a v && b w) (g v w) 0) (λ w k. cond-add (a v && b w) (f v w) (g v w))
     ∙ sum_below-add n (λ w. cond (a v && b w) (f v w) 0) (λ w. cond (a v && b w) (g v w) 0))
     ∙ sum_below-add n (λ v. sum_below n (λ w. cond (a v && b w) (f v w) 0)) (λ v. sum_below n (λ w. cond (a v && b w) (g v w) 0))
-
-and_comm : (x y : Bool) → (x && y) ≡ (y && x)
-and_comm true true = refl
-and_comm true false = refl
-and_comm false true = refl
-and_comm false false = refl
 
 pub between-swap : (n : ℕ) (a b : ℕ → Bool) (f : ℕ → ℕ → ℕ) → between n a b (λ v w. f w v) ≡ between n b a f
 between-swap n a b f =

@@ -1,6 +1,6 @@
 -- Reads and deliveries in any order leave the state after the pulse.
 use Rattle.std.proofs.Common.{◌≡◌, ℕ, suc, zero, ◌+◌, ◌<◌, ◌==◌, ◌&&◌, ◌||◌, nat_lt, cond, Bool, true, false, List, [], ◌∷◌, arith, refl, ap, sym, ◌∙◌, inl, inr}
-use Rattle.std.proofs.lemmas.Bool.{cases_Bool, eqb-true, false≢true}
+use Rattle.std.proofs.lemmas.Bool.{cases_Bool, eqb-true, false≢true, or_parts}
 use Rattle.flow_theory.specs.Flow.{State, sum_below, least_below, push, is_active, next_res}
 use Rattle.flow_theory.specs.Events.{Moment, state_of, read_at, deliver_at, delivered_res, delivered_excess, delivered_label, read_all, deliver_all, among, Distinct, EachOnce, IsAfterPulse}
 use Rattle.flow_theory.proofs.Sums.{sum_below-same}
@@ -20,11 +20,6 @@ reads_push n t (v ∷ vs) u w = reads_push n (read_at n t v) vs u w ∙ both (u 
     both false true x y = refl
     both false false x y = refl
 
-or_false : (a b : Bool) → (a || b) ≡ false → (a ≡ false) × (b ≡ false)
-or_false true true h = (h, h)
-or_false true false h = (h, refl)
-or_false false b h = (refl, h)
-
 or_true : (a b : Bool) → a ≡ false → (a || b) ≡ true → b ≡ true
 or_true true b e h = absurd (false≢true (sym e))
 or_true false b e h = h
@@ -43,7 +38,7 @@ record At (n : ℕ) (t : Moment) (u : ℕ) (res : ℕ → ℕ) (excess next : �
 deliver_other : (n : ℕ) (t : Moment) (vs : List ℕ) (u : ℕ) → among u vs ≡ false → At n (deliver_all n t vs) u (t.res u) (t.excess u) (t.next u)
 deliver_other n t [] u off = record { row = λ w. refl; kept = refl; label = refl }
 deliver_other n t (v ∷ vs) u off =
-    let p = or_false (u == v) (among u vs) off in
+    let p = or_parts (u == v) (among u vs) off in
     let r = deliver_other n (deliver_at n t v) vs u p.1 in
     let e : (u == v) ≡ false = p.0 in
     record {

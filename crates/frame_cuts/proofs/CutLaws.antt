@@ -1,7 +1,7 @@
 -- Cuts that no great arc leaves are closed sets, and the other way round.
 use Rattle.std.proofs.Common.{◌≡◌, ℕ, suc, zero, ◌+◌, ◌<◌, ◌≤◌, ◌==◌, Bool, true, false, not, ◌&&◌, ◌||◌, cond, IsTrue, List, Option, Some, None, arith, refl, ap, ap₂, sym, ◌∙◌, subst, inl, inr}
 use Rattle.std.specs.List.{Contains}
-use Rattle.std.proofs.lemmas.Bool.{cases_lt, cases_Bool, cond-true, cond-false, eq-eqb, or_left, or_right, or_parts, false_from_ne_true}
+use Rattle.std.proofs.lemmas.Bool.{cases_lt, cases_Bool, cond-true, cond-false, eq-eqb, or_left, or_right, or_parts, false_from_ne_true, and_parts}
 use Rattle.flow_theory.specs.Flow.{IsCut, cut_value}
 use Rattle.variable_tables.specs.Counting.{count_below}
 use Rattle.variable_tables.specs.Marking.{has}
@@ -46,11 +46,6 @@ count-more p q (suc n) h = omega (arith, count-next p n, count-next q n, count-m
 
 cond-pos : (t : Bool) (m : ℕ) → t ≡ true → cond t m 0 ≡ m
 cond-pos t m e = cond-true t m 0 e
-
-and_parts : (a b : Bool) → (a && b) ≡ true → (a ≡ true) × (b ≡ true)
-and_parts true true e = (refl, refl)
-and_parts true false e = absurd (cc)
-and_parts false b e = absurd (cc)
 
 -- ---- a cut that no great arc leaves
 

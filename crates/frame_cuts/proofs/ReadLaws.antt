@@ -1,7 +1,7 @@
 -- What is read from outside two sets of gates.
 use Rattle.std.proofs.Common.{◌≡◌, ℕ, suc, zero, ◌+◌, ◌-◌, Bool, true, false, not, ◌&&◌, ◌||◌, List, [], ◌∷◌, Option, Some, None, slice_get, arith, refl, ap, ap₂, sym, ◌∙◌, subst, inl, inr}
 use Rattle.std.specs.List.{list_any, enumerate_from}
-use Rattle.std.proofs.lemmas.Bool.{or_cases, or_parts, or_left, or_right}
+use Rattle.std.proofs.lemmas.Bool.{or_cases, or_parts, or_left, or_right, and_parts, not-true}
 use Rattle.std.proofs.lemmas.Option.{none-some, same_Some}
 use Rattle.aig_graph.specs.declared.graph.Gate.{Gate}
 use Rattle.aig_graph.specs.declared.graph.Latch.{Latch}
@@ -41,15 +41,6 @@ any-here p first (y ∷ ys) (suc k) x e a =
 abbrev reader : (ℕ → Bool) → ℕ → ℕ × Gate → Bool
 reader inside v e = not (inside e.0) && is_fan_in v e.1
 
-and_parts : (a b : Bool) → (a && b) ≡ true → (a ≡ true) × (b ≡ true)
-and_parts true true e = (refl, refl)
-and_parts true false e = absurd (cc)
-and_parts false b e = absurd (cc)
-
-not_true : (a : Bool) → not a ≡ true → a ≡ false
-not_true true e = absurd (cc)
-not_true false e = refl
-
 left_false : (a b : Bool) → (not a && b) ≡ false → b ≡ true → a ≡ true
 left_false true b e h = refl
 left_false false true e h = absurd (cc)
@@ -69,7 +60,7 @@ read-split g props f h v a b =
     let at : gate_at g (first_gate g + t.0) ≡ Some t.1 = gate_at-first_gate g t.0 ∙ t.2 in (
       first_gate g + t.0,
       ap (λ (o : Option Gate). gate_reads v o) at ∙ is.1,
-      not_true (f (first_gate g + t.0)) is.0,
+      not-true (f (first_gate g + t.0)) is.0,
       left_false (h (first_gate g + t.0)) (is_fan_in v t.1) t.4 is.1,
     )
   where

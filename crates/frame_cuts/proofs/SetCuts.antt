@@ -1,6 +1,6 @@
 -- A cut for each closed set.
 use Rattle.std.proofs.Common.{◌≡◌, ℕ, suc, zero, ◌<◌, ◌==◌, Bool, true, false, not, ◌&&◌, ◌||◌, cond, IsTrue, List, Option, Some, None, arith, refl, ap, ap₂, sym, ◌∙◌, subst, inl, inr}
-use Rattle.std.proofs.lemmas.Bool.{cases_lt, cases_Bool, or_cases, or_parts, eqb-true}
+use Rattle.std.proofs.lemmas.Bool.{cases_lt, cases_Bool, or_cases, or_parts, eqb-true, and_parts}
 use Rattle.std.proofs.lemmas.Option.{none-some}
 use Rattle.flow_theory.specs.Flow.{IsCut, cut_value}
 use Rattle.variable_tables.specs.Counting.{count_below}
@@ -34,11 +34,6 @@ use Rattle.frame_cuts.proofs.NetLaws.{gate-range, nodes, leaving-is, point-befor
 is_true : (b : Bool) → IsTrue b → b ≡ true
 is_true true t = refl
 is_true false t = absurd (cc)
-
-and_parts : (a b : Bool) → (a && b) ≡ true → (a ≡ true) × (b ≡ true)
-and_parts true true e = (refl, refl)
-and_parts true false e = absurd (cc)
-and_parts false b e = absurd (cc)
 
 -- a passable gate rests on some known latch
 some-latch : (g : Graph) (held : List ℕ) → IsGraph g → (n v : ℕ) → v < n → is_passable g held v ≡ true → 0 < latch_count g held

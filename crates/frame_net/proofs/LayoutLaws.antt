@@ -1,6 +1,6 @@
 -- The tables by which a network is built.
 use Rattle.std.proofs.Common.{◌≡◌, ℕ, ◌+◌, ◌-◌, ◌<◌, ◌≤◌, ◌^◌, Bool, true, false, not, ◌&&◌, ◌||◌, List, length, replicate, take, slice_get, get_or, Option, Some, None, arith, refl, ap, ap₂, sym, ◌∙◌, subst, inl, inr}
-use Rattle.std.proofs.lemmas.Bool.{cases_lt}
+use Rattle.std.proofs.lemmas.Bool.{cases_lt, and_parts}
 use Rattle.std.proofs.lemmas.Option.{slice_get-get_or}
 use Rattle.std.proofs.lemmas.List.{get_or-take, length-take}
 use Rattle.variable_tables.specs.Tables.{table}
@@ -106,11 +106,6 @@ settled-node g held u e = merge (is_passable g held u) (is_held g held u) (is_kn
     merge false true k e = absurd (cc)
     merge false false true e = refl
     merge false false false e = absurd (cc)
-
-and_parts : (a b : Bool) → (a && b) ≡ true → (a ≡ true) × (b ≡ true)
-and_parts true true e = (refl, refl)
-and_parts true false e = absurd (cc)
-and_parts false b e = absurd (cc)
 
 pub fan_ins-nodes : (g : Graph) (held : List ℕ) → IsGraph g → (w : ℕ) (gate : Gate) → gate_at g w ≡ Some gate → is_passable g held w ≡ true
     → (has_node g held (variable gate.rhs0) ≡ true) × (has_node g held (variable gate.rhs1) ≡ true)

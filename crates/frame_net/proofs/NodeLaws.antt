@@ -1,5 +1,6 @@
 -- The numbers of the nodes.
 use Rattle.std.proofs.Common.{◌≡◌, ℕ, ◌+◌, ◌-◌, ◌*◌, ◌/◌, ◌%◌, ◌<◌, ◌≤◌, ◌==◌, nat_lt, Bool, true, false, ◌||◌, cond, List, length, get_or, Option, arith, refl, ap, sym, ◌∙◌, inl, inr}
+use Rattle.std.proofs.Math.Bool.{or-false}
 use Rattle.std.proofs.lemmas.Bool.{cases_lt, cases_eq, cond-true, cond-false, lt-ltb, le-ltb, ne_eqb, eq-eqb}
 use Rattle.std.proofs.lemmas.Option.{same_Some, slice_get-get_or}
 use Rattle.variable_tables.proofs.PlacesLemmas.{length-places, count-le, count-lt, at_rank, Ranks, rank_at}
@@ -46,11 +47,7 @@ node_at-after latches variables m =
 
 pub has_node-latch : (g : Graph) (held : List ℕ) (v : ℕ) → v < first_gate g → has_node g held v ≡ is_known (latch_at g v)
 unfolding has_node
-has_node-latch g held v h = ap (λ (b : Bool). is_known (latch_at g v) || b) (passable-before g held v h) ∙ or_false (is_known (latch_at g v))
-  where
-    or_false : (b : Bool) → (b || false) ≡ b
-    or_false true = refl
-    or_false false = refl
+has_node-latch g held v h = ap (λ (b : Bool). is_known (latch_at g v) || b) (passable-before g held v h) ∙ or-false (is_known (latch_at g v))
 
 pub has_node-gate : (g : Graph) (held : List ℕ) (v : ℕ) → first_gate g ≤ v → has_node g held v ≡ is_passable g held v
 unfolding has_node

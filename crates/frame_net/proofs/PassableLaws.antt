@@ -1,5 +1,6 @@
 -- Which gates are passable, gate by gate.
 use Rattle.std.proofs.Common.{◌≡◌, ℕ, ◌+◌, ◌-◌, ◌<◌, ◌≤◌, Bool, true, false, not, ◌&&◌, ◌||◌, nat_le, IsTrue, List, [], ◌∷◌, ◌++◌, length, get_or, Option, Some, None, is_some, arith, refl, ap, ap₂, sym, ◌∙◌, subst, inl, inr, ◌⊎◌}
+use Rattle.std.proofs.Math.Bool.{or-false}
 use Rattle.std.specs.Prelude.{◌↔◌}
 use Rattle.std.proofs.lemmas.Bool.{cases_lt, and_right}
 use Rattle.std.proofs.lemmas.Option.{none-some, slice_get-get_or}
@@ -62,10 +63,6 @@ settled-leaf : (g : Graph) (held : List ℕ) (v : ℕ) → gate_at g v ≡ None 
 unfolding is_settled
 settled-leaf g held v e = fold_gates-leaf g (may_move g held) both v e
 
-or_false : (b : Bool) → (b || false) ≡ b
-or_false true = refl
-or_false false = refl
-
 -- a settled variable is a passable gate or a latch that may move
 pub settled-split : (g : Graph) (held : List ℕ) (v : ℕ) → is_settled g held v ≡ (is_passable g held v || may_move g held v)
 settled-split g held v = elim (gate_cases g v) [
@@ -73,7 +70,7 @@ settled-split g held v = elim (gate_cases g v) [
   | inr some ↦ (
       let place : GatePlace g v some.0 = gate_place g v some.0 some.1 in
       let stays : may_move g held v ≡ false = ap (λ (o : Option _). not (is_held g held v) && is_known o) (latch_at-gates g v place.from) ∙ and_right (not (is_held g held v)) false refl in
-      sym (ap₂ (λ (a b : Bool). a || b) (passable-at_gate g held v some.0 some.1) stays ∙ or_false (is_settled g held v)))
+      sym (ap₂ (λ (a b : Bool). a || b) (passable-at_gate g held v some.0 some.1) stays ∙ or-false (is_settled g held v)))
 ]
 
 pub pass-marks : (g : Graph) (held : List ℕ) (n : ℕ) (marks : List Bool) → marks ≡ table (first_latch g) n (is_passable g held) → AreAllMarks (first_latch g) marks (is_passable g held)

@@ -1,5 +1,6 @@
 -- The gates that may follow, step by step.
 use Rattle.std.proofs.Common.{ℕ, ◌+◌, ◌<◌, ◌≤◌, ◌≡◌, inl, inr, suc, List, [], ◌∷◌, ◌++◌, length, Bool, true, false, not, ◌&&◌, ◌||◌, nat_eq, nat_le, nat_lt, nat_cmp, cond, Option, Some, None, slice_get, get_or, refl, arith, ap, sym, ◌∙◌}
+use Rattle.std.proofs.Math.Bool.{and-not_self, and-true, or-false}
 use Rattle.std.specs.List.{range_with_len}
 use Rattle.std.specs.List.Sorted.{IsPermutation}
 use Rattle.std.specs.Option.{option_eq}
@@ -172,11 +173,7 @@ before_all n test past g = elim (cases_lt g n) [
 -- a gate that reads none may follow at the start
 pub may_follow-start : (gates : List Reads) (g : ℕ) (reads : Reads) → slice_get gates g ≡ Some reads → may_follow gates [] g ≡ are_met (λ h. false) (Some reads)
 unfolding may_follow
-may_follow-start gates g reads e = ap (λ (o : Option Reads). are_met (has []) o && not (has [] g)) e ∙ and_true (are_met (λ h. false) (Some reads))
-  where
-    and_true : (b : Bool) → (b && true) ≡ b
-    and_true true = refl
-    and_true false = refl
+may_follow-start gates g reads e = ap (λ (o : Option Reads). are_met (has []) o && not (has [] g)) e ∙ and-true (are_met (λ h. false) (Some reads))
 
 pub may_follow-past : (gates : List Reads) (placed : List ℕ) (g : ℕ) → length gates ≤ g → may_follow gates placed g ≡ false
 may_follow-past gates placed g past = false_from_ne_true (may_follow gates placed g) (λ e.
@@ -225,11 +222,7 @@ from-all test g = sym (from-at 0 g test (omega arith))
 
 -- one more gate is placed
 has-push : (placed : List ℕ) (g h : ℕ) → has (placed ++ g ∷ []) h ≡ (has placed h || nat_eq h g)
-has-push placed g h = list_any-append (nat_eq h) placed (g ∷ []) ∙ ap (λ (b : Bool). has placed h || b) (or_false (nat_eq h g))
-  where
-    or_false : (b : Bool) → (b || false) ≡ b
-    or_false true = refl
-    or_false false = refl
+has-push placed g h = list_any-append (nat_eq h) placed (g ∷ []) ∙ ap (λ (b : Bool). has placed h || b) (or-false (nat_eq h g))
 
 mark_of-push : (marks : List Bool) (placed : List ℕ) (g : ℕ) → g < length marks → ((h : ℕ) → mark_of marks h ≡ has placed h)
     → (h : ℕ) → mark_of (set marks g true) h ≡ has (placed ++ g ∷ []) h
@@ -292,30 +285,18 @@ met_other placed g o fresh met = false_from_ne_true (is_gate o g) (λ e.
 second-is : (a b : Option ℕ) (g : ℕ) → is_gate (cond (option_eq nat_eq b a) None b) g ≡ (is_gate b g && not (is_gate a g))
 second-is None None g = refl
 second-is (Some j) None g = refl
-second-is None (Some i) g = sym (and_true (nat_eq i g))
-  where
-    and_true : (b : Bool) → (b && true) ≡ b
-    and_true true = refl
-    and_true false = refl
+second-is None (Some i) g = sym (and-true (nat_eq i g))
 second-is (Some j) (Some i) g = elim (cases_eq i j) [
   | inl same ↦
       ap (λ (b : Bool). is_gate (cond b None (Some i)) g) (eq-eqb i j same)
-      ∙ sym (and_not (nat_eq i g)) ∙ ap (λ (k : ℕ). nat_eq i g && not (nat_eq k g)) same
+      ∙ sym (and-not_self (nat_eq i g)) ∙ ap (λ (k : ℕ). nat_eq i g && not (nat_eq k g)) same
   | inr other ↦ ap (λ (b : Bool). is_gate (cond b None (Some i)) g) (ne_eqb i j other) ∙ elim (cases_eq i g) [
     | inl here ↦ (
         let away : nat_eq j g ≡ false = ne_eqb j g (λ there. other (here ∙ sym there)) in
-        sym (ap (λ (b : Bool). nat_eq i g && not b) away ∙ and_true (nat_eq i g)))
+        sym (ap (λ (b : Bool). nat_eq i g && not b) away ∙ and-true (nat_eq i g)))
     | inr away ↦ ne_eqb i g away ∙ sym (and_left (nat_eq i g) (not (nat_eq j g)) (ne_eqb i g away))
   ]
 ]
-  where
-    and_true : (b : Bool) → (b && true) ≡ b
-    and_true true = refl
-    and_true false = refl
-
-    and_not : (b : Bool) → (b && not b) ≡ false
-    and_not true = refl
-    and_not false = refl
 
 may_follow-at : (gates : List Reads) (placed : List ℕ) (h : ℕ) (reads : Reads) → slice_get gates h ≡ Some reads
     → may_follow gates placed h ≡ ((is_met (has placed) reads.first && is_met (has placed) reads.second) && not (has placed h))

@@ -1,5 +1,6 @@
 -- Laws of lanes, from those of the bits of words.
 use Rattle.std.proofs.Common.{ℕ, ◌-◌, ◌*◌, ◌/◌, ◌%◌, ◌<◌, ◌≡◌, ◌≢◌, ◌^◌, ◌==◌, ◌&&◌, ◌||◌, Bool, true, false, not, min, suc, zero, w64, bit_and, bit_or, arith, refl, sym, ap, ap₂, ◌∙◌, get_or, set, List, length, replicate, get_or-set_same, get_or-set_other, ne_eqb, nat_eq, nat_lt, length-set, subst}
+use Rattle.std.proofs.Math.Bool.{and-false, and-true}
 use Rattle.std.specs.Int.{bit_at, bit_not}
 use Rattle.std.proofs.lemmas.Nat.{and_le_l, or_lt}
 use Rattle.std.proofs.lemmas.Nat.Bits.{bit_at_and, bit_at_ones, bit_at_not, bit_at-lt, bit_at-zero, shr_and_one, bit_at_set_same, bit_at_set_other}
@@ -11,14 +12,6 @@ use Rattle.std.proofs.lemmas.List.{set-get_or}
 use Rattle.std.proofs.lemmas.Bool.{eqb-true, eqb-false, eq-eqb, ltb-true, ltb-false}
 use Rattle.lane_sim.specs.Words.{negated_if, and_words, signed_if}
 use Rattle.lane_sim.specs.Lanes.{AreLanes, lane}
-
-and_true : (b : Bool) → (b && true) ≡ b
-and_true true = refl
-and_true false = refl
-
-and_false : (b : Bool) → (b && false) ≡ false
-and_false true = refl
-and_false false = refl
 
 one_of_not : (x : ℕ) → x < 2 → (1 - x == 1) ≡ not (x == 1)
 one_of_not zero h = refl
@@ -113,11 +106,11 @@ with-false word i = let none : 0 * 2 ^ i % 18446744073709551616 ≡ 0 = omega ar
 pub lane-with : (words : List ℕ) (p k : ℕ) (value : Bool) → length words ≡ 4 → p < 256 → k < 256
     → lane (set words (p / 64) (with_value (get_or words (p / 64) 0) value (p % 64))) k ≡ (((k == p) && value) || lane words k)
 lane-with words p k true four inside within =
-    lane-with_one words p k four inside within ∙ ap (λ b. b || lane words k) (sym (and_true (k == p)))
+    lane-with_one words p k four inside within ∙ ap (λ b. b || lane words k) (sym (and-true (k == p)))
 lane-with words p k false four inside within =
     ap (λ w. lane (set words (p / 64) w) k) (with-false (get_or words (p / 64) 0) (p % 64))
     ∙ ap (λ ws. lane ws k) (set-get_or words (p / 64) 0)
-    ∙ ap (λ b. b || lane words k) (sym (and_false (k == p)))
+    ∙ ap (λ b. b || lane words k) (sym (and-false (k == p)))
 
 -- ---- the words of lanes stay words of lanes
 

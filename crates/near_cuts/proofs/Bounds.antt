@@ -1,7 +1,7 @@
 -- Steps of routes are over arcs with a capacity, and no arc is used beyond it.
 use Rattle.std.proofs.Common.{◌≡◌, ℕ, ◌<◌, ◌≤◌, ◌==◌, cond, Bool, true, false, List, [], ◌∷◌, arith, refl, ap, sym, ◌∙◌, subst, inl, inr}
 use Rattle.std.specs.List.{AllByRecursion}
-use Rattle.std.proofs.lemmas.Bool.{cases_lt, cases_eq, cond-true, cond-false, ne_eqb}
+use Rattle.std.proofs.lemmas.Bool.{cases_lt, cases_eq, cond-true, cond-false, ne_eqb, and_parts}
 use Rattle.std.proofs.lemmas.Option.{same_Some}
 use Rattle.aig_graph.specs.Circuits.{Netlist}
 use Rattle.frame_net.specs.declared.net.Point.{Point}
@@ -10,7 +10,6 @@ use Rattle.frame_net.specs.FlowNet.Node.{sink, before, after}
 use Rattle.frame_net.specs.Capacity.{great, leaves, arc_capacity}
 use Rattle.frame_cuts.specs.Cuts.{IsNetworkOf}
 use Rattle.certificates.specs.Routes.{begins_at, may_step, goes_on, is_route}
-use Rattle.certificates.proofs.RouteLaws.{and_parts}
 use Rattle.cut_cert.specs.Walks.{here}
 use Rattle.cut_cert.specs.Shown.{HasNoPointTwice}
 use Rattle.cut_cert.proofs.Lowering.{here-one, here-zero}

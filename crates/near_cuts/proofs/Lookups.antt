@@ -1,9 +1,8 @@
 -- The order of the points in a row.
 use Rattle.std.proofs.Common.{◌≡◌, ℕ, ◌+◌, ◌<◌, ◌≤◌, ◌==◌, nat_lt, Bool, true, false, not, ◌&&◌, Option, Some, None, arith, ap, sym, ◌∙◌, subst, inl, inr}
-use Rattle.std.proofs.lemmas.Bool.{cases_lt, cases_order, le-ltb, or_cases, eqb-true, false≢true}
+use Rattle.std.proofs.lemmas.Bool.{cases_lt, cases_order, le-ltb, or_cases, eqb-true, false≢true, and_parts}
 use Rattle.frame_net.specs.declared.net.Point.{Point}
 use Rattle.frame_net.specs.FlowNet.{FlowNet, IsFlowNet, node_count, row_len, head, point_of}
-use Rattle.certificates.proofs.RouteLaws.{and_parts}
 use Rattle.near_cuts.specs.Steps.{precedes, PointsRise}
 
 lt-true : (a b : ℕ) → nat_lt a b ≡ true → a < b

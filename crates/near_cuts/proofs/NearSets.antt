@@ -1,6 +1,6 @@
 -- The gates to which open arcs lead from the source are the smallest least set.
 use Rattle.std.proofs.Common.{◌≡◌, ℕ, suc, zero, ◌+◌, ◌*◌, ◌<◌, ◌≤◌, ◌&&◌, nat_lt, not, Bool, true, false, List, [], length, slice_index_or, Some, None, Option, arith, refl, ap, sym, ◌∙◌, subst, inl, inr}
-use Rattle.std.proofs.lemmas.Bool.{cases_lt, cases_Bool, lt-ltb, le-ltb, and_from}
+use Rattle.std.proofs.lemmas.Bool.{cases_lt, cases_Bool, lt-ltb, le-ltb, and_from, false_from_ne_true, not-true, and_parts}
 use Rattle.aig_graph.specs.Circuits.{Netlist}
 use Rattle.aig_graph.specs.Move.{move_of}
 use Rattle.aig_graph.specs.Closed.{IsClosedSet}
@@ -19,7 +19,6 @@ use Rattle.cut_cert.specs.Walks.{here}
 use Rattle.cut_cert.specs.Shown.{AreLeastRoutes}
 use Rattle.cut_cert.proofs.Lowering.{here-one, here-zero}
 use Rattle.cut_cert.proofs.Points.{one-arc}
-use Rattle.certificates.proofs.RouteLaws.{and_parts}
 use Rattle.near_cuts.specs.Cuts.{NoneLeaves, IsNearSide}
 use Rattle.near_cuts.specs.Steps.{is_open, is_used, is_behind, all_steps, AreUsed, NoneOpen, IsOpenSide, Leads}
 use Rattle.near_cuts.proofs.NearSides.{none_leaves-cut, near_side_is_smallest-law}
@@ -33,14 +32,6 @@ use Rattle.near_cuts.proofs.Units.{right, uses-few, uses-fit, ways-below, arc-ki
 
 lt-true : (a b : ℕ) → nat_lt a b ≡ true → a < b
 lt-true a b e = elim (cases_lt a b) [ inl less ↦ less | inr ge ↦ (let clash : false ≡ true = sym (le-ltb a b ge) ∙ e in absurd (cc)) ]
-
-not-true : (b : Bool) → not b ≡ true → b ≡ false
-not-true true e = absurd (cc)
-not-true false e = refl
-
-not-both : (b : Bool) → (b ≡ true → ⊥) → b ≡ false
-not-both true e = absurd (e refl)
-not-both false e = refl
 
 -- that there is no least set is refuted
 least-there : (c : Netlist) (held : List ℕ) → ((r : List ℕ) → IsLeast c held r → ⊥) → ⊥
@@ -133,7 +124,7 @@ module _ (c : Netlist) (held : List ℕ) (net : FlowNet) (is : IsNetworkOf c hel
         | inl back ↦ open-back net used x k (mate-used x k h l other ∙ lt-ltb 0 (u y x) back)
         | inr none ↦ (
             let room : 0 < cap_at net (start net x + k) = omega (arith, some, none, cap-is x k h l) in
-            let free : (is_behind (point_of net y) && is_used net used x k) ≡ false = not-both _ (λ e.
+            let free : (is_behind (point_of net y) && is_used net used x k) ≡ false = false_from_ne_true _ (λ e.
             let parts = and_parts (is_behind (point_of net y)) (is_used net used x k) e in
             let once : 0 < u x y = lt-true 0 (u x y) (sym (used-is x k h l (behind-inner y parts.0)) ∙ parts.1) in
             elim (arc-kinds c held net is x y h inside (omega (arith, room, cap-is x k h l))) [
@@ -173,7 +164,7 @@ module _ (c : Netlist) (held : List ℕ) (net : FlowNet) (is : IsNetworkOf c hel
 
   -- the sink isn't reached, since the cut of no least set lets it be
   no-sink : side 1 ≡ false
-  no-sink = not-both (side 1) (λ on. least-there c held (λ r least.
+  no-sink = false_from_ne_true (side 1) (λ on. least-there c held (λ r least.
       let t = closed_sets_are_cuts-law c held net r is least.closed in
       let tight = none_leaves-cut n cap s t.0 two preflow t.1.is_cut (omega (arith, t.1.count, shown.count r least, reached)) in
       let there = spread.within t.0 t.1.is_cut.with_source (none-open t.0 t.1.is_cut.without_sink tight) 1 on in

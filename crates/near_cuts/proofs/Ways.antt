@@ -1,7 +1,7 @@
 -- The nodes of a route's points.
 use Rattle.std.proofs.Common.{◌≡◌, ℕ, ◌+◌, ◌<◌, ◌≤◌, ◌==◌, ◌&&◌, ◌||◌, nat_lt, not, cond, Bool, true, false, IsTrue, is_some, List, [], ◌∷◌, Option, Some, None, arith, refl, ap, ap₂, sym, ◌∙◌, subst, inl, inr}
 use Rattle.std.specs.List.{AllByRecursion}
-use Rattle.std.proofs.lemmas.Bool.{cases_lt, cases_Bool, cond-true, cond-false, lt-ltb, le-ltb, eqb-true, or_cases, or_right, or_left}
+use Rattle.std.proofs.lemmas.Bool.{cases_lt, cases_Bool, cond-true, cond-false, lt-ltb, le-ltb, eqb-true, or_cases, or_right, or_left, not-true, and_parts}
 use Rattle.aig_graph.specs.declared.graph.Gate.{Gate}
 use Rattle.aig_graph.specs.declared.graph.Latch.{Latch}
 use Rattle.aig_graph.specs.Graph.{Graph, IsGraph, variable, first_gate, variables_end, latch_at, gate_at, is_known}
@@ -20,7 +20,7 @@ use Rattle.frame_cuts.specs.Cuts.{IsNetworkOf}
 use Rattle.frame_cuts.proofs.NetLaws.{gate-range, nodes, node-is}
 use Rattle.arc_rows.proofs.Sparse.{sparse-none, find_head}
 use Rattle.certificates.specs.Routes.{begins_at, passes, enters, returns_to, may_step, goes_on, is_route}
-use Rattle.certificates.proofs.RouteLaws.{and_parts, four_parts}
+use Rattle.certificates.proofs.RouteLaws.{four_parts}
 use Rattle.cut_cert.proofs.Points.{capacity-is}
 use Rattle.near_cuts.specs.Steps.{Leads, IsWay, AreWays}
 
@@ -48,10 +48,6 @@ fan-in-passable g held valid w v p reads gate =
           let clash : false ≡ true = sym (ap (λ (o : Option Latch). is_known o) no-latch) ∙ known in
           absurd (cc))
     ]
-
-not-true : (b : Bool) → not b ≡ true → b ≡ false
-not-true true e = absurd (cc)
-not-true false e = refl
 
 module _ (g : Graph) (held : List ℕ) where
   -- a point with a node: after a known latch or on either side of a passable gate

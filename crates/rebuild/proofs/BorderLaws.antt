@@ -1,7 +1,7 @@
 -- What is read from outside a closed set, and what holds it.
 use Rattle.std.proofs.Common.{ℕ, ◌+◌, ◌-◌, ◌<◌, ◌≤◌, ◌≡◌, ◌⊎◌, inl, inr, suc, zero, List, [], ◌∷◌, Bool, true, false, ◌&&◌, ◌||◌, not, nat_le, nat_eq, Option, Some, None, is_some, slice_get, refl, arith, ap, ◌∙◌}
 use Rattle.std.specs.List.{list_any, enumerate_from}
-use Rattle.std.proofs.lemmas.Bool.{cases_Bool, and_from, and_parts, and_left, and_right, or_left, or_right, or_from, le-leb, lt-leb, eq-eqb, false_from_ne_true, cond-true, cond-false, both_ways, leb-true}
+use Rattle.std.proofs.lemmas.Bool.{cases_Bool, and_from, and_parts, and_left, and_right, or_left, or_right, or_from, le-leb, lt-leb, eq-eqb, false_from_ne_true, cond-true, cond-false, both_ways, leb-true, not-true}
 use Rattle.std.proofs.lemmas.Option.{none-some, same_Some, slice_get_within, get_or_from_slice_get}
 use Rattle.std.proofs.lemmas.List.Folds.{list_any_at}
 use Rattle.aig_graph.proofs.ClosedBorder.{is_gate_in-same}
@@ -127,11 +127,7 @@ module _ (m : Move) where
   unfolding is_outside
   outside_parts v outer =
       let parts = and_parts (nat_le (first_gate m.circuit.aig) v) (not (has m.set v)) outer in
-      (parts.0, not_true (has m.set v) parts.1)
-    where
-      not_true : (b : Bool) → not b ≡ true → b ≡ false
-      not_true true h = absurd (cc)
-      not_true false h = refl
+      (parts.0, not-true (has m.set v) parts.1)
 
 -- what has a latch is read at its latch
 pub new_variable-where_latched : (m : Move) (v : ℕ) → is_latched m v ≡ true → new_variable m v ≡ first_latch m.circuit.aig + count_below (is_latched m) v

@@ -1,5 +1,6 @@
 -- The tables of a plan.
 use Rattle.std.proofs.Common.{subst, ℕ, ◌+◌, ◌-◌, ◌<◌, ◌≤◌, ◌≡◌, inl, inr, List, [], ◌∷◌, ◌++◌, length, Bool, true, false, ◌&&◌, ◌||◌, replicate, arith, ap, sym, ◌∙◌, Option, Some, None, refl}
+use Rattle.std.proofs.Math.Bool.{or_comm}
 use Rattle.std.proofs.lemmas.Bool.{cases_Bool}
 use Rattle.std.proofs.lemmas.List.{length-replicate}
 use Rattle.aig_graph.proofs.KindLaws.{LatchPlace, latch_at-before, latch_place}
@@ -99,12 +100,6 @@ pub members-table : (g : Graph) (first n : ℕ) (s vars : List ℕ) (items : Lis
 members-table g first n s vars items filled starts long same =
     filled ∙ ap (λ (k : ℕ). table k n (has vars)) starts ∙ ap (λ (k : ℕ). table (first_latch g) k (has vars)) long
     ∙ ap (λ (ws : List ℕ). table (first_latch g) (latches_and_gates g) (has ws)) same
-
-or_comm : (a b : Bool) → (a || b) ≡ (b || a)
-or_comm true true = refl
-or_comm true false = refl
-or_comm false true = refl
-or_comm false false = refl
 
 -- what is marked as latched
 latched-here : (m : Move) (inside old new latched : List Bool) → ArePassable m.circuit.aig m.held m.set → inside ≡ by_variable m.circuit.aig (has m.set)

@@ -1,6 +1,6 @@
 -- The value at step 0 of a passable gate rests on no input and no choice.
 use Rattle.std.proofs.Common.{ℕ, cond, cond, ◌+◌, ◌-◌, ◌*◌, ◌<◌, ◌≡◌, inl, inr, suc, zero, List, Bool, true, false, not, ◌&&◌, Option, Some, None, refl, arith, ap, sym, ◌∙◌}
-use Rattle.std.proofs.lemmas.Bool.{and_parts, cond-true, cond-false}
+use Rattle.std.proofs.lemmas.Bool.{and_parts, cond-true, cond-false, not-true}
 use Rattle.aig_graph.proofs.ClosedLaws.{is_settled-gate, movable-latch}
 use Rattle.aig_graph.proofs.FoldingLaws.{fold_gates-leaf, gate_at-before, gate_at-is}
 use Rattle.aig_graph.proofs.KindLaws.{GatePlace, LatchPlace, gate_place, latch_place}
@@ -66,11 +66,7 @@ start-gate g valid v gate e =
 movable-known : (g : Graph) (held : List ℕ) (v : ℕ) (latch : Latch) → latch_at g v ≡ Some latch → may_move g held v ≡ true → is_free latch ≡ false
 movable-known g held v latch e movable =
     let parts = and_parts (not (is_held g held v)) (is_known (latch_at g v)) movable in
-    not_true (is_free latch) (ap is_known (sym e) ∙ parts.1)
-  where
-    not_true : (b : Bool) → not b ≡ true → b ≡ false
-    not_true true h = absurd (cc)
-    not_true false h = refl
+    not-true (is_free latch) (ap is_known (sym e) ∙ parts.1)
 
 module _ (g : Graph) (held : List ℕ) (valid : IsGraph g) (x y : Inputs) (f e : Choice) where
   same_start : (n v : ℕ) → v < n → MayMoveOrPassable g held v → value g x f 0 (2 * v) ≡ value g y e 0 (2 * v)

@@ -2,7 +2,7 @@
 use Rattle.std.proofs.Common.{ℕ, ◌≡◌, ◌<◌, ◌≤◌, not, inl, inr, List, [], length, filter, get_or, Bool, true, false, cond, nat_lt, Some, None, arith, ap, sym, ◌∙◌}
 use Rattle.std.specs.List.{list_any, position_or_len}
 use Rattle.std.specs.Str.{bytes_eq}
-use Rattle.std.proofs.lemmas.Bool.{cases_Bool, ltb-false}
+use Rattle.std.proofs.lemmas.Bool.{cases_Bool, ltb-false, not-false}
 use Rattle.std.proofs.lemmas.Option.{none-some}
 use Rattle.std.proofs.lemmas.List.Folds.{list_any_at}
 use Rattle.std.proofs.lemmas.List.Sums.{fails_before_first}
@@ -26,12 +26,8 @@ none-missing symbols names none k h =
       | inl within ↦ absurd (none-some n (sym none ∙ ap (λ (b : Bool). cond b (Some n) None) within))
       | inr past ↦ (
           let high : length names ≤ n = ltb-false n (length names) past in
-          passes (has_name symbols (get_or names k [])) (fails_before_first test names k [] (omega (arith, high, h))))
+          not-false (has_name symbols (get_or names k [])) (fails_before_first test names k [] (omega (arith, high, h))))
     ]
-  where
-    passes : (b : Bool) → not b ≡ false → b ≡ true
-    passes true e = sym (ap not e)
-    passes false e = sym e
 
 -- whether a held latch has the name
 unfoldable holder : List (List ℕ) → Netlist → List ℕ → Bool

@@ -1,5 +1,6 @@
 -- Marks of one test after another, and what is counted of them.
 use Rattle.std.proofs.Common.{[], ◌∷◌, ◌++◌, ℕ, ◌+◌, ◌-◌, ◌<◌, ◌≤◌, ◌≡◌, List, length, Bool, true, false, ◌||◌, ◌&&◌, nat_eq, get_or, take, cond, refl, arith, ap, sym, ◌∙◌, set, inl, inr, replicate, suc}
+use Rattle.std.proofs.Math.Bool.{or-false, or-true, or_assoc}
 use Rattle.std.proofs.Math.ListN.{length-set}
 use Rattle.std.proofs.lemmas.Bool.{cases_eq, cases_lt, eq-eqb, ne_eqb, le-leb, lt-leb}
 use Rattle.std.proofs.lemmas.List.{get_or-set_same, get_or-set_other, take_all, length-replicate, get_or-replicate}
@@ -10,18 +11,6 @@ use Rattle.variable_tables.specs.Marking.{Marks, AreMarks, AreAllMarks, mark_at}
 use Rattle.variable_tables.specs.Tables.{table}
 use Rattle.variable_tables.proofs.CountingLemmas.{count-none, places-none}
 use Rattle.variable_tables.proofs.TableLemmas.{table-from, table-at, length-table}
-
-or_assoc : (a b c : Bool) → ((a || b) || c) ≡ (a || (b || c))
-or_assoc true b c = refl
-or_assoc false b c = refl
-
-pub or_false : (a : Bool) → (a || false) ≡ a
-or_false true = refl
-or_false false = refl
-
-or_true : (a : Bool) → (a || true) ≡ true
-or_true true = refl
-or_true false = refl
 
 pub Marks-then : (first : ℕ) (xs ys zs : List Bool) (p q : ℕ → Bool) → Marks first xs ys p → Marks first ys zs q → Marks first xs zs (λ v. p v || q v)
 Marks-then first xs ys zs p q before after = record {
@@ -41,15 +30,15 @@ pub Marks-same : (first : ℕ) (xs ys : List Bool) (p q : ℕ → Bool) → Mark
 Marks-same first xs ys p q marks same = Marks-alike first xs ys p q marks (λ v low high. same v)
 
 pub Marks-none : (first : ℕ) (xs : List Bool) → Marks first xs xs (λ v. false)
-Marks-none first xs = record { as_long = refl; each = λ k h. sym (or_false (get_or xs k false)) }
+Marks-none first xs = record { as_long = refl; each = λ k h. sym (or-false (get_or xs k false)) }
 
 -- a variable that the table covers
 pub Marks-one : (first : ℕ) (xs : List Bool) (w : ℕ) → first ≤ w → w - first < length xs → Marks first xs (set xs (w - first) true) (λ v. nat_eq w v)
 Marks-one first xs w low h = record {
   as_long = length-set xs (w - first) true;
   each = λ k within. elim (cases_eq k (w - first)) [
-    | inl same ↦ rw (same, get_or-set_same xs (w - first) true false h, eq-eqb w (first + (w - first)) (omega arith)) (sym (or_true (get_or xs (w - first) false)))
-    | inr other ↦ rw (get_or-set_other xs (w - first) k true false other, ne_eqb w (first + k) (λ e. other (omega arith))) (sym (or_false (get_or xs k false)))
+    | inl same ↦ rw (same, get_or-set_same xs (w - first) true false h, eq-eqb w (first + (w - first)) (omega arith)) (sym (or-true (get_or xs (w - first) false)))
+    | inr other ↦ rw (get_or-set_other xs (w - first) k true false other, ne_eqb w (first + k) (λ e. other (omega arith))) (sym (or-false (get_or xs k false)))
   ];
 }
 
@@ -57,7 +46,7 @@ Marks-one first xs w low h = record {
 pub Marks-outside : (first : ℕ) (xs : List Bool) (w : ℕ) → ((k : ℕ) → k < length xs → w ≡ first + k → ⊥) → Marks first xs xs (λ v. nat_eq w v)
 Marks-outside first xs w outside = record {
   as_long = refl;
-  each = λ k h. rw (ne_eqb w (first + k) (outside k h)) (sym (or_false (get_or xs k false)));
+  each = λ k h. rw (ne_eqb w (first + k) (outside k h)) (sym (or-false (get_or xs k false)));
 }
 
 -- one more element, y, of a list

@@ -1,7 +1,7 @@
+use Rattle.std.proofs.lemmas.Bool.{and_right}
 use Rattle.ascii_file.specs.Items.{begins_comment}
 use Rattle.ascii_file.specs.Reading.{is_symbols}
 use Rattle.binary_file.specs.Items.{next_section}
-use Rattle.binary_reader.proofs.EndLaws.{right_false}
 use Rattle.binary_reader.proofs.FinishLaws.{symbol_ended, item_failed, gives_same}
 use Rattle.binary_reader.proofs.items.finish_symbol.Goals as goal
 
@@ -13,4 +13,4 @@ returns-in-Ok c state is =
 pub returns-in-Err : goal.returns-in-Err
 returns-in-Err c state is =
     let took = c.in-Err.ensures is.h is.raw is.bytes is.contents is.section is.line_is in
-    item_failed c.args.end is.h is.raw c.args.at is.bytes state is.is is.place c.if-at-end.false c.in-Err.fault (right_false (is_symbols (next_section is.h is.raw)) (begins_comment is.bytes) took.0) took.1
+    item_failed c.args.end is.h is.raw c.args.at is.bytes state is.is is.place c.if-at-end.false c.in-Err.fault (and_right (is_symbols (next_section is.h is.raw)) (begins_comment is.bytes) took.0) took.1

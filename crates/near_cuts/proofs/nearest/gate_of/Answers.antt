@@ -1,6 +1,7 @@
 use Rattle.std.proofs.Common.{◌∙◌, ap, sym, Bool, slice_index_or, false, Some}
+use Rattle.std.proofs.lemmas.Bool.{not-false, not-true}
 use Rattle.cut_cert.specs.Gates.{gate_after}
-use Rattle.cut_cert.proofs.GateLaws.{gate-in, gate-out, not-true, not-false}
+use Rattle.cut_cert.proofs.GateLaws.{gate-in, gate-out}
 use Rattle.near_cuts.proofs.nearest.gate_of.Goals as goal
 
 pub returns-then-not-marks-node : goal.returns-then-not-marks-node
