@@ -4,19 +4,12 @@ use Rattle.std.proofs.lemmas.Option.{none-some, same_Some, slice_get-get_or, sli
 use Rattle.std.proofs.Math.Seq.{take-length}
 use Rattle.std.proofs.lemmas.List.Sums.{sum_by-cons}
 use Rattle.std.specs.List.{All, count_by}
+use Rattle.variable_tables.proofs.PlacesLemmas.{slice_get_push}
 use Rattle.aig_graph.specs.declared.literal.TheConstants.{MAX_VARIABLES}
 use Rattle.aig_graph.specs.declared.graph.Gate.{Gate}
 use Rattle.aig_graph.specs.declared.graph.Latch.{Latch}
 use Rattle.aig_graph.specs.Graph.{Graph, IsGraph, IsGateAt, IsLiteralOf, variable, variables_end, first_latch, first_gate, is_free, free_latches, known_latches}
 use Rattle.aig_graph.specs.Building.{gate_of, with_gate, next_at, with_next}
-
--- an element of a list with one more at the end
-pub slice_get_push : {A : Type 0} (xs : List A) (y : A) (k : ℕ) (x : A) → slice_get (xs ++ y ∷ []) k ≡ Some x
-    → (slice_get xs k ≡ Some x) ⊎ ((k ≡ length xs) × (x ≡ y))
-slice_get_push [] y zero x e = inr (refl, same_Some x y (sym e))
-slice_get_push [] y (suc k) x e = absurd (none-some x e)
-slice_get_push (z ∷ zs) y zero x e = inl e
-slice_get_push (z ∷ zs) y (suc k) x e = elim (slice_get_push zs y k x e) [ inl h ↦ inl h | inr h ↦ inr (ap suc h.0, h.1) ]
 
 gate_of-at : (v a b : ℕ) → variable a < v → variable b < v → IsGateAt v (gate_of a b)
 gate_of-at v a b p q = record { ordered = omega arith; below = omega arith }

@@ -5,10 +5,10 @@ use Rattle.std.proofs.lemmas.Bool.{not-true}
 use Rattle.std.proofs.lemmas.List.{length_push}
 use Rattle.std.proofs.lemmas.List.Elements.{All-push}
 use Rattle.variable_tables.specs.declared.memory.NoMemory.{NoMemory}
+use Rattle.variable_tables.proofs.PlacesLemmas.{slice_get_push}
 use Rattle.aig_graph.specs.declared.graph.Gate.{Gate}
 use Rattle.aig_graph.specs.declared.properties.Symbols.{Symbols}
 use Rattle.aig_graph.specs.Graph.{IsGateAt}
-use Rattle.aig_graph.proofs.GraphLemmas.{slice_get_push}
 use Rattle.ascii_file.specs.Raw.{RawSymbol, count_of}
 use Rattle.ascii_file.specs.Reading.{is_of_same}
 use Rattle.ascii_file.proofs.Apart.{pairs_from}
