@@ -1,9 +1,10 @@
 -- The first line.
 use Rattle.std.proofs.Common.{ℕ, ◌≡◌, ◌+◌, ◌-◌, Bool, true, false, not, ◌&&◌, nat_eq, List, [], ◌∷◌, ◌++◌, length, Result, Ok, Err, refl, ap, ap₂, sym, ◌∙◌, subst, arith, append_assoc, append-nil, length-append, codes}
-use Rattle.std.specs.List.{list_all}
 use Rattle.aig_graph.specs.Circuits.{Netlist}
 use Rattle.file_words.specs.declared.fault.ReadError.{ReadError}
 use Rattle.file_words.specs.declared.fault.ReadError.TheVariants.{NoMemory}
+use Rattle.file_words.specs.Cuts.{HasNoNewline, Cuts}
+use Rattle.file_words.proofs.Decimals.{lacks-append}
 use Rattle.ascii_file.specs.declared.header.Header.{Header}
 use Rattle.ascii_file.specs.Headers.{header_of}
 use Rattle.ascii_file.specs.Raw.{Raw, nothing_yet}
@@ -18,7 +19,6 @@ use Rattle.ascii_sections.specs.declared.sections.Sections.{Sections}
 use Rattle.ascii_sections.specs.Taking.{raw_of, IsAt}
 use Rattle.aag_text.specs.declared.items.Items.{Items}
 use Rattle.aag_text.specs.Beginning.{Awaits}
-use Rattle.aag_text.specs.Cutting.{HasNoNewline, Cuts}
 use Rattle.aag_text.specs.Standing.{StandAt, Hold}
 use Rattle.aag_text.proofs.FeedingLaws.{fails_stays, fed-newline, behind_line}
 use Rattle.aag_text.proofs.FinishingLaws.{read-closed, Closes}
@@ -29,14 +29,6 @@ fails_as NoMemory r is = tt
 fails_as e r is = is
 
 -- ---- bytes of one line
-
-joined_line : (xs ys : List ℕ) → HasNoNewline xs → HasNoNewline ys → HasNoNewline (xs ++ ys)
-joined_line [] ys one other = other
-joined_line (x ∷ xs) ys one other = by_test (not (nat_eq x 10)) one (joined_line xs ys)
-  where
-    by_test : (b : Bool) → (b && list_all (λ c. not (nat_eq c 10)) xs) ≡ true → (HasNoNewline xs → HasNoNewline ys → HasNoNewline (xs ++ ys)) → (b && list_all (λ c. not (nat_eq c 10)) (xs ++ ys)) ≡ true
-    by_test true later joined = joined later other
-    by_test false later joined = absurd (cc)
 
 -- no line has ended
 pub none_ended : (first : List ℕ) → HasNoNewline first → fed first ≡ Ok AtHeader
@@ -52,7 +44,7 @@ fed-first first one_line = fed-newline first AtHeader (none_ended first one_line
 
 pub awaits_more : (old new : HeaderLine) (bytes part : List ℕ) → HasNoNewline part → ((rest : List ℕ) → header_with new rest ≡ header_with old (part ++ rest)) → Awaits old bytes → Awaits new (bytes ++ part)
 awaits_more old new bytes part one_line extends awaits = record {
-  one_line = joined_line bytes part awaits.one_line one_line;
+  one_line = lacks-append 10 bytes part awaits.one_line one_line;
   row = λ rest. extends rest ∙ awaits.row (part ++ rest) ∙ ap (header_row (codes "aag ")) (sym (append_assoc bytes part rest));
 }
 
@@ -65,7 +57,7 @@ header_is line first r awaits is = sym (is first (awaits.row [] ∙ ap (header_r
 
 -- ---- the end of the first line
 
-module _ (line : HeaderLine) (bytes part rest piece : List ℕ) (cuts : Cuts piece part rest) (awaits : Awaits line (bytes ++ part)) where
+module _ (line : HeaderLine) (bytes part rest piece : List ℕ) (cuts : Cuts 10 piece part rest) (awaits : Awaits line (bytes ++ part)) where
   abbrev pub to_line_end : List ℕ
   to_line_end = (bytes ++ part) ++ 10 ∷ []
 

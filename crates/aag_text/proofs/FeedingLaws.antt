@@ -2,6 +2,7 @@
 use Rattle.std.proofs.Common.{ℕ, ◌≡◌, ◌+◌, ◌-◌, Bool, List, [], ◌∷◌, ◌++◌, length, Result, Ok, Err, refl, ap, sym, ◌∙◌, subst, arith, append_assoc, append-nil, length-append}
 use Rattle.file_words.specs.declared.fault.ReadError.{ReadError}
 use Rattle.file_words.specs.declared.fault.ReadError.TheVariants.{NoMemory}
+use Rattle.file_words.specs.Cuts.{HasNoNewline, Cuts}
 use Rattle.ascii_file.specs.Reading.{◌>>=◌, State, AtHeader, is_complete, take_line, take_lines}
 use Rattle.ascii_file.specs.Pieces.{ended_lines, open_line, fed}
 use Rattle.ascii_file.specs.Answering.{Fails}
@@ -11,7 +12,6 @@ use Rattle.ascii_sections.specs.declared.sections.Sections.{Sections}
 use Rattle.ascii_sections.specs.Taking.{raw_of}
 use Rattle.aag_text.specs.declared.lines.OpenLine.{OpenLine}
 use Rattle.aag_text.specs.declared.items.Items.{Items}
-use Rattle.aag_text.specs.Cutting.{HasNoNewline, Cuts}
 use Rattle.aag_text.specs.Lines.{IsOpen, is_comment}
 use Rattle.aag_text.specs.Standing.{state_of, StandAt, Hold, HoldBefore}
 
@@ -89,17 +89,17 @@ module _ (items : Items) (bytes : List ℕ) (hold : Hold items bytes) where
 
 -- ---- a line of the bytes that are left
 
-pub behind_line : (taken part rest left bytes : List ℕ) → Cuts left part rest → taken ++ left ≡ bytes → ((taken ++ part) ++ 10 ∷ []) ++ rest ≡ bytes
+pub behind_line : (taken part rest left bytes : List ℕ) → Cuts 10 left part rest → taken ++ left ≡ bytes → ((taken ++ part) ++ 10 ∷ []) ++ rest ≡ bytes
 behind_line taken part rest left bytes cuts parts =
     append_assoc (taken ++ part) (10 ∷ []) rest ∙ append_assoc taken part (10 ∷ rest) ∙ ap (λ (xs : List ℕ). taken ++ xs) (sym cuts.whole) ∙ parts
 
-module _ (items : Items) (new_line : OpenLine) (part rest left bytes : List ℕ) (cuts : Cuts left part rest) (same_kind : is_comment new_line ≡ is_comment items.line)
+module _ (items : Items) (new_line : OpenLine) (part rest left bytes : List ℕ) (cuts : Cuts 10 left part rest) (same_kind : is_comment new_line ≡ is_comment items.line)
     (goes_on : (complete : Bool) (begun : List ℕ) → IsOpen items.line complete begun → IsOpen new_line complete (begun ++ part)) (before : HoldBefore items left bytes) where
   abbrev with_part : Items
   with_part = record items { line = new_line }
 
   part_taken_in : Hold with_part (before.taken ++ part)
-  part_taken_in = part_held items new_line before.taken part cuts.one_line same_kind goes_on before.hold
+  part_taken_in = part_held items new_line before.taken part cuts.clean same_kind goes_on before.hold
 
   pub line_fails_in : (e : ReadError) → ((state : State) (line : List ℕ) → StandAt items.sections new_line items.at state line → Fails e (take_line state line)) → Fails e (fed bytes)
   line_fails_in e fails =

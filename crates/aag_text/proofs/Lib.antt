@@ -1,4 +1,3 @@
-pub mod CutLaws
 pub mod TakingLaws
 pub mod FeedingLaws
 pub mod FinishingLaws

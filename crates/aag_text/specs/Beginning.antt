@@ -1,12 +1,12 @@
 -- A file whose first line is open.
 use Rattle.std.specs.Prelude.{ℕ, ◌≡◌, List, ◌++◌, Option, Some, None, Result, Ok, Err, codes}
 use Rattle.file_words.specs.declared.fault.ReadError.{ReadError}
+use Rattle.file_words.specs.Cuts.{HasNoNewline}
 use Rattle.ascii_file.specs.Pieces.{fed}
 use Rattle.ascii_file.specs.Answering.{Fails}
 use Rattle.file_lines.specs.declared.header.HeaderLine.{HeaderLine}
 use Rattle.file_lines.specs.Header.{header_row, header_with}
 use Rattle.aag_text.specs.declared.items.Items.{Items}
-use Rattle.aag_text.specs.Cutting.{HasNoNewline}
 use Rattle.aag_text.specs.Standing.{Hold}
 
 -- the bytes are a part of the first line: whatever the rest, it makes of the line what the whole line is

@@ -1,10 +1,9 @@
 ghost use Rattle.std.specs.Prelude.{ℕ, List, ◌≡◌, ◌≤◌, ◌++◌, length};
 ghost use Rattle.aag_text.specs.Beginning.{Awaits, Begins};
 
-use crate::cut::cut_line;
 use crate::items::Items;
 use file_lines::HeaderLine;
-use file_words::ReadError;
+use file_words::{ReadError, cut};
 use std::alloc::Global;
 
 /// Takes the next bytes, which end at the offset, where the first line is open: the items, where these bytes end it.
@@ -17,7 +16,7 @@ pub(crate) fn begin(
     requires { length piece.now ≤ end }
     ensures { (bytes : List ℕ) → Awaits line.old bytes → length (bytes ++ piece.now) ≡ end → Begins line.new (bytes ++ piece.now) result }
 {
-    let Some((part, rest)) = cut_line(piece) else {
+    let Some((part, rest)) = cut(piece, b'\n') else {
         line.extend(piece);
         return Ok(None);
     };

@@ -6,13 +6,12 @@ ghost use Rattle.ascii_sections.specs.Taking.{raw_of, IsAt};
 ghost use Rattle.aag_text.specs.Standing.{state_of};
 
 use crate::circuit::resolve;
-use crate::cut::cut_line;
 use crate::lines::{OpenLine, line_of};
 use aig_graph::Circuit;
 use ascii_file::{Header, Section};
 use ascii_sections::Sections;
 use file_lines::{NumberLine, SymbolLine, SymbolText};
-use file_words::ReadError;
+use file_words::{ReadError, cut};
 use std::alloc::Global;
 use std::mem;
 
@@ -62,7 +61,7 @@ impl Items {
             → Follows (Hold self.new (bytes ++ piece.now)) result (fed (bytes ++ piece.now)) }
     {
         let mut left = piece;
-        while let Some((part, rest)) = cut_line(left) {
+        while let Some((part, rest)) = cut(left, b'\n') {
             self.line.extend(part)?;
             self.take_line()?;
             self.at = end - rest.len() as u64;

@@ -3,7 +3,6 @@
 #![tactic(auto)]
 
 mod circuit;
-mod cut;
 mod header;
 mod items;
 mod lines;

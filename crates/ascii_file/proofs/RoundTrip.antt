@@ -12,7 +12,8 @@ use Rattle.aig_graph.specs.Circuits.{Netlist, IsNetlist}
 use Rattle.gate_order.proofs.CycleLaws.{exists_law}
 use Rattle.file_words.specs.Lines.{numbers_of}
 use Rattle.file_words.specs.Text.{without_last_zeros, header_row, text}
-use Rattle.file_words.proofs.Decimals.{lacks, AreSmall, row_line, numbers_of-row_line}
+use Rattle.file_words.specs.Cuts.{lacks}
+use Rattle.file_words.proofs.Decimals.{AreSmall, row_line, numbers_of-row_line}
 use Rattle.ascii_file.specs.declared.header.Header.{Header}
 use Rattle.ascii_file.specs.declared.raw.RawLatch.{RawLatch}
 use Rattle.ascii_file.specs.declared.raw.RawGate.{RawGate}

@@ -1,4 +1,4 @@
--- Lines and deltas in pieces.
+-- Deltas in pieces.
 use Rattle.std.proofs.Common.{ℕ, ◌+◌, ◌-◌, ◌*◌, ◌%◌, ◌<◌, ◌≤◌, ◌≡◌, suc, zero, List, [], ◌∷◌, ◌++◌, length, take, drop, get_or, position, Option, Some, None, Result, Ok, Err, refl, arith, Bool, true, false, cond, nat_eq, nat_lt, ◌&&◌, inl, inr, ap, sym, subst, ◌∙◌}
 use Rattle.std.proofs.lemmas.Bool.{cond-true, cond-false, eqb-true, ltb-false, lt-ltb, le-ltb, eq-eqb, ne_eqb, cases_lt, and_from}
 use Rattle.std.proofs.lemmas.List.{length_push, length-append, take_rest}
@@ -13,37 +13,7 @@ use Rattle.deltas.specs.declared.decode.DeltaError.TheVariants.{TooLong}
 use Rattle.ascii_file.specs.Reading.{◌>>=◌}
 use Rattle.binary_file.specs.Reading.{State, feed}
 use Rattle.binary_file.proofs.Steps.{delta_fed}
-use Rattle.binary_reader.specs.Cutting.{HasNoNewline, BeginsWithDelta, IsShortDelta, AreDeltaStates, IsTaken}
-
-cut_at : (bytes : List ℕ) (i : ℕ) → i < length bytes → nat_eq (get_or bytes i 0) 10 ≡ true → ((k : ℕ) → k < i → nat_eq (get_or bytes k 0) 10 ≡ false)
-    → HasNoNewline (take i bytes) × (bytes ≡ take i bytes ++ 10 ∷ drop (suc i) bytes)
-cut_at [] i within here before = absurd (omega arith)
-cut_at (b ∷ bytes) zero within here before = (tt, ap (λ (x : ℕ). x ∷ bytes) (eqb-true b 10 here))
-cut_at (b ∷ bytes) (suc i) within here before =
-    let later = cut_at bytes i (omega arith) here (λ k less. before (suc k) (omega arith)) in
-    ((before zero (omega arith), later.0), ap (λ (bs : List ℕ). b ∷ bs) later.1)
-
-none_in : (bytes : List ℕ) → ((k : ℕ) → k < length bytes → nat_eq (get_or bytes k 0) 10 ≡ false) → HasNoNewline bytes
-none_in [] none = tt
-none_in (b ∷ bytes) none = (none zero (omega arith), none_in bytes (λ k less. none (suc k) (omega arith)))
-
-pub cut_at_newline : (bytes : List ℕ) (i : ℕ) → position (λ b. nat_eq b 10) bytes ≡ Some i → HasNoNewline (take i bytes) × (bytes ≡ take i bytes ++ 10 ∷ drop (i + 1) bytes)
-cut_at_newline bytes i e =
-    let found = position-Some (λ b. nat_eq b 10) bytes i 0 e in
-    let parts = cut_at bytes i found.0 found.1 found.2 in
-    (parts.0, parts.1 ∙ ap (λ (n : ℕ). take i bytes ++ 10 ∷ drop n bytes) next)
-  where
-    next : suc i ≡ i + 1
-    next = omega arith
-
-pub without_newline : (bytes : List ℕ) → position (λ b. nat_eq b 10) bytes ≡ None → HasNoNewline bytes
-without_newline bytes e =
-    let past : length bytes ≤ position_or_len (λ x. nat_eq x 10) bytes = ltb-false _ _ (by_test _ _ e) in
-    none_in bytes (λ k less. fails_before_first (λ x. nat_eq x 10) bytes k 0 (omega (arith, less, past)))
-  where
-    by_test : (i : ℕ) (t : Bool) → cond t (Some i) None ≡ None → t ≡ false
-    by_test i true e = absurd (cc)
-    by_test i false e = refl
+use Rattle.binary_reader.specs.Cutting.{BeginsWithDelta, IsShortDelta, AreDeltaStates, IsTaken}
 
 -- ---- deltas of at most three bytes
 

@@ -1,8 +1,9 @@
 -- Bytes of a piece, taken item by item.
-use Rattle.std.proofs.Common.{ℕ, Option, Some, None, ◌≡◌, ◌+◌, ◌-◌, List, [], ◌∷◌, ◌++◌, length, take, drop, Result, Ok, Bool, true, false, nat_eq, refl, sym, ap, subst, ◌∙◌, arith}
-use Rattle.std.proofs.lemmas.Bool.{cond-false, eqb-true}
+use Rattle.std.proofs.Common.{ℕ, Option, Some, None, ◌≡◌, ◌+◌, ◌-◌, List, [], ◌∷◌, ◌++◌, length, take, drop, Result, Ok, Bool, true, false, not, nat_eq, refl, sym, ap, subst, ◌∙◌, arith}
+use Rattle.std.proofs.lemmas.Bool.{and_parts, cond-false, eqb-true, not-true}
 use Rattle.std.proofs.lemmas.List.{append-nil, append_assoc, length-append, take_rest, drop_all}
 use Rattle.file_words.specs.declared.fault.ReadError.{ReadError}
+use Rattle.file_words.specs.Cuts.{lacks, HasNoNewline, Cuts}
 use Rattle.ascii_file.specs.declared.header.Header.{Header}
 use Rattle.ascii_file.specs.Raw.{Raw}
 use Rattle.ascii_file.specs.Reading.{◌>>=◌}
@@ -20,7 +21,7 @@ use Rattle.binary_sections.specs.Contents.{Contents}
 use Rattle.binary_reader.specs.declared.items.Items.{Items}
 use Rattle.binary_reader.specs.declared.opened.Opened.{Opened}
 use Rattle.binary_reader.specs.declared.opened.Opened.TheVariants.{Comment}
-use Rattle.binary_reader.specs.Cutting.{HasNoNewline, IsTaken}
+use Rattle.binary_reader.specs.Cutting.{IsTaken}
 use Rattle.binary_reader.specs.Opened.{IsInNumbers, IsInSymbol, IsInComment, IsOpened}
 use Rattle.binary_reader.specs.Standing.{Stands, IsFed}
 
@@ -29,8 +30,9 @@ module _ (state : List ℕ → State) (steps : (line : List ℕ) (b : ℕ) → n
   pub part_fed : (part line left : List ℕ) → HasNoNewline part → feed (state line) (part ++ left) ≡ feed (state (line ++ part)) left
   unfolding feed
   part_fed [] line left none = ap (λ (l : List ℕ). feed (state l) left) (sym (append-nil line))
-  part_fed (b ∷ part) line left (other, none) =
-      ap (λ (r : Result State ReadError). r >>= λ s. feed s (part ++ left)) (steps line b other) ∙ part_fed part (line ++ b ∷ []) left none ∙ ap (λ (l : List ℕ). feed (state l) left) (append_assoc line (b ∷ []) part)
+  part_fed (b ∷ part) line left none =
+      let parts = and_parts (not (nat_eq b 10)) (lacks 10 part) none in
+      ap (λ (r : Result State ReadError). r >>= λ s. feed s (part ++ left)) (steps line b (not-true (nat_eq b 10) parts.0)) ∙ part_fed part (line ++ b ∷ []) left parts.1 ∙ ap (λ (l : List ℕ). feed (state l) left) (append_assoc line (b ∷ []) part)
 
   -- up to its newline
   pub line_fed : (part line left piece : List ℕ) → HasNoNewline part → piece ≡ part ++ 10 ∷ left → feed (state line) piece ≡ (step (state (line ++ part)) 10 >>= λ s. feed s left)
@@ -97,9 +99,9 @@ module _ (c : Contents) (at offset : ℕ) where
     place = let place = is.place in omega (arith, place, length-append is.bytes part);
   }
 
-  module _ (end after : ℕ) (part left piece : List ℕ) (cut : HasNoNewline part × (piece ≡ part ++ 10 ∷ left)) (place : offset + length piece ≡ end) (next : (o : ℕ) → o + length left ≡ end → after ≡ o) where
+  module _ (end after : ℕ) (part left piece : List ℕ) (cuts : Cuts 10 piece part left) (place : offset + length piece ≡ end) (next : (o : ℕ) → o + length left ≡ end → after ≡ o) where
     at_newline : offset + length part + 1 + length left ≡ end
-    at_newline = omega (arith, place, ap length cut.1, length-append part (10 ∷ left))
+    at_newline = omega (arith, place, ap length cuts.whole, length-append part (10 ∷ left))
 
     rest_place : after + length left ≡ end
     rest_place = ap (λ (n : ℕ). n + length left) (next (offset + length part + 1) at_newline) ∙ at_newline
@@ -112,7 +114,7 @@ module _ (c : Contents) (at offset : ℕ) where
       is_in = numbers_extended line new state is part extended;
       next = sym (next (offset + length part + 1) at_newline);
       place = rest_place;
-      fed = ap (λ (s : State). feed s piece) is.is ∙ line_fed (InLine is.h is.raw at) (in_line is.h is.raw at) part is.bytes left piece cut.0 cut.1;
+      fed = ap (λ (s : State). feed s piece) is.is ∙ line_fed (InLine is.h is.raw at) (in_line is.h is.raw at) part is.bytes left piece cuts.clean cuts.whole;
     }
 
     pub symbol_line : (line new : SymbolLine) (state : State) → IsInSymbol c at offset line state → ((rest : List ℕ) → text_with new rest ≡ text_with line (part ++ rest))
@@ -123,7 +125,7 @@ module _ (c : Contents) (at offset : ℕ) where
       is_in = symbol_extended line new state is part extended;
       next = sym (next (offset + length part + 1) at_newline);
       place = rest_place;
-      fed = ap (λ (s : State). feed s piece) is.is ∙ line_fed (InLine is.h is.raw at) (in_line is.h is.raw at) part is.bytes left piece cut.0 cut.1;
+      fed = ap (λ (s : State). feed s piece) is.is ∙ line_fed (InLine is.h is.raw at) (in_line is.h is.raw at) part is.bytes left piece cuts.clean cuts.whole;
     }
 
 pub open_line_fed : (h : Header) (raw : Raw) (at : ℕ) (line piece : List ℕ) (state : State) → state ≡ InLine h raw at line → HasNoNewline piece → feed state piece ≡ feed (InLine h raw at (line ++ piece)) []

@@ -3,6 +3,7 @@ use Rattle.std.proofs.Common.{ℕ, ◌≡◌, ◌+◌, List, [], ◌∷◌, ◌+
 use Rattle.std.proofs.lemmas.Bool.{cond-false}
 use Rattle.std.proofs.lemmas.List.{append_assoc, append-nil, length-append}
 use Rattle.file_words.specs.declared.fault.ReadError.{ReadError}
+use Rattle.file_words.specs.Cuts.{HasNoNewline}
 use Rattle.ascii_file.specs.declared.header.Header.{Header}
 use Rattle.ascii_file.specs.Raw.{nothing_yet}
 use Rattle.ascii_file.specs.Reading.{◌>>=◌}
@@ -15,7 +16,6 @@ use Rattle.binary_file.specs.Reading.{State, AtHeader, before_item, end_header, 
 use Rattle.binary_file.proofs.Pieces.{the_pieces_law}
 use Rattle.binary_sections.specs.Taking.{circuit_at_end}
 use Rattle.binary_reader.specs.declared.items.Items.{Items}
-use Rattle.binary_reader.specs.Cutting.{HasNoNewline}
 use Rattle.binary_reader.specs.Standing.{Stands, circuit_at}
 use Rattle.binary_reader.specs.Stages.{HoldsHeader, HoldsItems}
 use Rattle.binary_reader.proofs.FeedLaws.{line_fed, all_fed}

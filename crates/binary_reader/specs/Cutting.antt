@@ -1,14 +1,9 @@
--- Pieces and the lines and deltas in them.
+-- Pieces and the deltas in them.
 use Rattle.std.specs.Prelude.{ℕ, ◌+◌, ◌<◌, ◌≤◌, ◌≡◌, ◌==◌, true, false, List, [], ◌∷◌, ◌++◌, length, drop, Option, Some, None, Result}
 use Rattle.file_words.specs.declared.fault.ReadError.{ReadError}
 use Rattle.deltas.specs.Deltas.{is_delta, delta_value}
 use Rattle.ascii_file.specs.Reading.{◌>>=◌}
 use Rattle.binary_file.specs.Reading.{State, step, feed, delta_step}
-
--- no byte is a newline
-abbrev pub HasNoNewline : List ℕ → Type 0
-HasNoNewline [] = Unit {0}
-HasNoNewline (b ∷ bytes) = ((b == 10) ≡ false) × HasNoNewline bytes
 
 -- the bytes begin with a delta of at most five bytes
 pub record BeginsWithDelta (bytes : List ℕ) (number : ℕ) (rest : List ℕ) : Type 0 where

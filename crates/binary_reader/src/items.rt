@@ -12,14 +12,13 @@ ghost use Rattle.binary_reader.specs.Opened.{IsInNumbers, IsInSymbol};
 ghost use Rattle.binary_reader.specs.Standing.{circuit_at};
 
 use crate::delta::take_delta;
-use crate::lines::split_line;
 use crate::opened::{Opened, take_numbers, take_text};
 use aig_graph::Circuit;
 use ascii_file::Header;
 use binary_sections::Sections;
 use deltas::DeltaReader;
 use file_lines::{NumberLine, SymbolLine};
-use file_words::ReadError;
+use file_words::{ReadError, cut};
 use std::alloc::Global;
 use std::mem;
 
@@ -134,7 +133,7 @@ impl Items {
         ensures shorter { 0 < length piece.now → IfOk result (λ left. length left.now < length piece.now) }
     {
         let mut line = line;
-        match split_line(piece) {
+        match cut(piece, b'\n') {
             Some((part, left)) => {
                 line.extend(part);
                 match self.end_numbers(alloc, line, offset_of(left, end)) {
@@ -162,7 +161,7 @@ impl Items {
         ensures shorter { 0 < length piece.now → IfOk result (λ left. length left.now < length piece.now) }
     {
         let mut line = line;
-        match split_line(piece) {
+        match cut(piece, b'\n') {
             Some((part, left)) => {
                 line.extend(part)?;
                 match self.end_symbol(alloc, line, offset_of(left, end)) {

@@ -4,7 +4,6 @@
 mod delta;
 mod header;
 mod items;
-mod lines;
 mod opened;
 mod reader;
 mod stage;

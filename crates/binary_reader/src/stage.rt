@@ -9,12 +9,11 @@ ghost use Rattle.binary_reader.specs.Stages.{HoldsHeader, HoldsResult};
 
 use crate::header::binary_header;
 use crate::items::{Items, offset_of};
-use crate::lines::split_line;
 use aig_graph::Circuit;
 use ascii_file::Header;
 use binary_sections::Sections;
 use file_lines::HeaderLine;
-use file_words::ReadError;
+use file_words::{ReadError, cut};
 use std::alloc::Global;
 
 /// How far a reader has come.
@@ -104,7 +103,7 @@ fn feed_header(alloc: Global, line: HeaderLine, end: u64, piece: &[u8]) -> Resul
     ensures { (bytes : List ℕ) → HoldsHeader line bytes → length bytes + length piece.now ≡ end → HoldsResult result (bytes ++ piece.now) }
 {
     let mut line = line;
-    match split_line(piece) {
+    match cut(piece, b'\n') {
         Some((part, left)) => {
             line.extend(part);
             match binary_header(&mut line) {

@@ -4,7 +4,8 @@ use Rattle.std.specs.Option.{option_and_then}
 use Rattle.std.proofs.lemmas.Bool.{and_parts, not-true, cond-false, eqb-true}
 use Rattle.counted_io.specs.Line.{line}
 use Rattle.file_words.specs.Lines.{numbers_of}
-use Rattle.file_words.proofs.Decimals.{lacks, row_line, row-is_line, row_line-lacks_newline, numbers_of-row_line}
+use Rattle.file_words.specs.Cuts.{lacks}
+use Rattle.file_words.proofs.Decimals.{row_line, row-is_line, row_line-lacks_newline, numbers_of-row_line}
 use Rattle.deltas.specs.Deltas.{bytes_within, delta_of}
 use Rattle.deltas.proofs.DeltaLemmas.{delta_laws}
 use Rattle.ascii_file.specs.declared.header.Header.{Header}

@@ -2,6 +2,7 @@
 use Rattle.std.proofs.Common.{ℕ, ◌+◌, ◌-◌, ◌≤◌, ◌≡◌, ◌⊎◌, inl, inr, length, List, [], Option, Some, None, Result, Ok, Err, refl, arith, Bool, true, false, ◌==◌, cond, ap, ap₂, ◌∙◌, subst, codes}
 use Rattle.std.proofs.lemmas.Bool.{eqb-true, and_parts}
 use Rattle.file_words.specs.Lines.{lines}
+use Rattle.file_words.specs.Cuts.{IsFirst}
 use Rattle.certificates.specs.declared.certificate.Certificate.{Certificate}
 use Rattle.certificate_files.specs.declared.fault.CertError.{CertError}
 use Rattle.certificate_files.specs.declared.fault.CertError.TheVariants.{BadHeader, BadLine, Truncated}
@@ -9,7 +10,7 @@ use Rattle.least_sets.specs.declared.choice.Choice.{Choice}
 use Rattle.least_sets.specs.declared.choice.Choice.TheVariants.{Greatest}
 use Rattle.certificate_files.specs.declared.file.CertFile.{CertFile}
 use Rattle.certificate_files.specs.Files.{is_word, choice_of, nothing_read, read_blocks, read_chosen, read_second, read_file, read_text, with_choice}
-use Rattle.certificate_files.specs.Steps.{IsFirst, read_rest}
+use Rattle.certificate_files.specs.Steps.{read_rest}
 use Rattle.certificate_files.proofs.StepLaws.{same_start}
 
 -- where the blocks begin, after a line

@@ -1,5 +1,3 @@
-pub mod CutLaws
-pub mod LineLaws
 pub mod FormLaws
 pub mod AnsweringLaws
 pub mod WordLaws

@@ -5,6 +5,7 @@ use Rattle.std.proofs.lemmas.Bool.{and_parts, and_from, cond-true, leb-true}
 use Rattle.std.specs.List.{list_all, flat_map}
 use Rattle.counted_io.specs.Line.{line}
 use Rattle.file_words.specs.Lines.{lines, pieces, is_number, digits_value}
+use Rattle.file_words.specs.Cuts.{lacks}
 use Rattle.file_words.proofs.Decimals.{decimal-is_number, decimal-value, decimal-lacks, lacks-append, row_line, row-is_line, row_line-lacks_newline, numbers_of-row_line, lines-at_newline}
 use Rattle.frame_net.specs.declared.net.Point.{Point}
 use Rattle.certificates.specs.declared.certificate.Certificate.{Certificate}
@@ -14,7 +15,6 @@ use Rattle.least_sets.specs.declared.choice.Choice.{Choice}
 use Rattle.least_sets.specs.declared.choice.Choice.TheVariants.{Greatest, Smallest}
 use Rattle.certificate_files.specs.declared.file.CertFile.{CertFile}
 use Rattle.certificate_files.specs.declared.forms.FrameLine.{FrameLine}
-use Rattle.certificate_files.specs.Cutting.{lacks}
 use Rattle.certificate_files.specs.Files.{sign_of, is_point, point_of, is_small, Route, frame_of, gate_of, route_of, saying_of, Progress, settled, taken, and_then, read_blocks, nothing_read, with_choice, read_file, read_text}
 use Rattle.certificate_files.specs.Forms.{framed, gated, routed, are_small}
 use Rattle.certificate_files.specs.Laws.{is_writable_route, is_writable_block, RoundTripLaw}

@@ -2,6 +2,7 @@
 use Rattle.std.proofs.Common.{ℕ, suc, ◌+◌, ◌-◌, ◌≤◌, ◌≡◌, ◌⊎◌, inl, inr, length, List, [], ◌∷◌, Option, Some, None, Result, Ok, Err, refl, arith, Bool, true, false, ◌&&◌, ◌==◌, cond, ap, ◌∙◌}
 use Rattle.std.proofs.lemmas.Bool.{eqb-true}
 use Rattle.file_words.specs.Lines.{lines}
+use Rattle.file_words.specs.Cuts.{IsFirst}
 use Rattle.frame_net.specs.declared.net.Point.{Point}
 use Rattle.certificates.specs.declared.certificate.Certificate.{Certificate}
 use Rattle.certificate_files.specs.declared.fault.CertError.{CertError}
@@ -10,7 +11,7 @@ use Rattle.certificate_files.specs.declared.forms.FrameLine.{FrameLine}
 use Rattle.certificate_files.specs.Answering.{Gives, Leads}
 use Rattle.certificate_files.specs.Files.{is_small, Saying, Frame, Gate, Route, saying_of, Progress, settled, taken, and_then, ended, read_blocks}
 use Rattle.certificate_files.specs.Forms.{framed, gated, routed, are_small}
-use Rattle.certificate_files.specs.Steps.{IsFirst, read_rest, block_of, with_gate, with_route, closed}
+use Rattle.certificate_files.specs.Steps.{read_rest, block_of, with_gate, with_route, closed}
 use Rattle.certificate_files.proofs.AnsweringLaws.{Fails-where}
 
 -- ---- one line

@@ -10,7 +10,7 @@ use Rattle.file_lines.specs.Rows.{clamped}
 use Rattle.frame_net.specs.declared.net.Point.{Point}
 use Rattle.certificate_files.specs.declared.fault.CertError.{CertError}
 use Rattle.certificate_files.specs.declared.fault.CertError.TheVariants.{BadLine, TooLarge}
-use Rattle.certificate_files.specs.Cutting.{lacks, Cuts}
+use Rattle.file_words.specs.Cuts.{lacks, Cuts}
 use Rattle.certificate_files.specs.Files.{sign_of, is_point, point_of, is_small, Route, route_of}
 use Rattle.certificate_files.specs.Forms.{number_of, side_of, clamped_point, spelt_point, spelt_at, onto, are_small, sized_points, routed}
 use Rattle.certificate_files.proofs.FormLaws.{small_same, small_is}

@@ -1,7 +1,6 @@
 pub mod Files
 pub mod Texts
 pub mod Answering
-pub mod Cutting
 pub mod Steps
 pub mod Forms
 pub mod Laws

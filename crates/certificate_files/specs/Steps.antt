@@ -6,12 +6,6 @@ use Rattle.certificates.specs.declared.certificate.Certificate.{Certificate}
 use Rattle.certificate_files.specs.declared.fault.CertError.{CertError}
 use Rattle.certificate_files.specs.Files.{Progress, read_blocks}
 
--- the first line of a text, and what follows it: where there is more, it follows a newline
-pub record IsFirst (text line more : List ℕ) : Type 0 where
-  pub shorter : length more < length text
-  pub whole : lines text ≡ line ∷ lines more
-  pub starts : (more ≡ []) ⊎ (length text ≡ length line + 1 + length more)
-
 -- what is read of the end of a text of this length
 abbrev pub read_rest : ℕ → List ℕ → Progress → Result (List Certificate) CertError
 read_rest end rest p = read_blocks (end - length rest) end p (lines rest)

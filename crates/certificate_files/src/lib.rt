@@ -2,7 +2,6 @@
 #![tactic(auto)]
 
 mod blocks;
-mod cut;
 mod fault;
 mod file;
 mod forms;

@@ -1,8 +1,7 @@
-ghost use Rattle.std.specs.Prelude.{◌≡◌, ◌<◌, ◌≤◌, length};
-ghost use Rattle.certificate_files.specs.Steps.{IsFirst};
+ghost use Rattle.std.specs.Prelude.{◌≤◌, length};
 
-use crate::cut::cut;
 use crate::fault::CertError;
+use file_words::first_line;
 
 /// A line, without its newline.
 #[derive(Clone, Copy)]
@@ -24,7 +23,7 @@ pub(crate) struct Lines<'a> {
 impl<'a> Lines<'a> {
     ghost use Rattle.std.specs.Prelude.{◌≡◌, ◌≤◌, ◌-◌, ◌==◌, [], length, IfOk, IfErr};
     ghost use Rattle.certificate_files.specs.declared.fault.CertError.TheVariants.{Truncated};
-    ghost use Rattle.certificate_files.specs.Steps.{IsFirst};
+    ghost use Rattle.file_words.specs.Cuts.{IsFirst};
 
     pub(crate) fn new(text: &'a [u8]) -> Lines<'a>
         ensures rest { result.rest.now ≡ text.now }
@@ -60,16 +59,5 @@ impl<'a> Lines<'a> {
         let (text, rest) = first_line(self.rest);
         self.rest = rest;
         Ok(Line { at, text })
-    }
-}
-
-/// The first line of a text that isn't empty, and what follows it.
-fn first_line(text: &[u8]) -> (&[u8], &[u8])
-    requires { 0 < length text.now }
-    ensures { IsFirst text.now result.0.now result.1.now }
-{
-    match cut(text, b'\n') {
-        Some(parts) => parts,
-        None => (text, &text[text.len()..]),
     }
 }

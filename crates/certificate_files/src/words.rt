@@ -5,11 +5,11 @@ ghost use Rattle.certificate_files.specs.Answering.{Gives, Leads};
 ghost use Rattle.certificate_files.specs.Files.{saying_of};
 ghost use Rattle.certificate_files.specs.Forms.{are_small, number_of, onto, routed, side_of, sized_points, spelt_at, spelt_point};
 
-use crate::cut::cut;
 use crate::fault::CertError;
 use crate::forms::{after_letters, is_small};
 use crate::lines::Line;
 use aig_graph::Sequence;
+use file_words::cut;
 use frame_net::Point;
 use std::alloc::Global;
 

@@ -9,6 +9,7 @@ use Rattle.std.proofs.lemmas.Fmt.{digits_decimal, digits_value-decimal, decimal_
 use Rattle.std.proofs.lemmas.Str.Parse.{IsNumeralModel, numerals_by_fold}
 use Rattle.counted_io.specs.Line.{line, spaced}
 use Rattle.file_words.specs.Lines.{with_front, lines, pieces, is_number, digits_value, numbers_of}
+use Rattle.file_words.specs.Cuts.{lacks}
 
 -- ---- the digits of a number
 
@@ -26,10 +27,6 @@ pub decimal-value : (n : ℕ) → n < 2 ^ 64 → digits_value (decimal n) ≡ n
 decimal-value n small = digits_value-decimal digits_model n small
 
 -- ---- what no digit is
-
--- no byte of the text is this one
-abbrev pub lacks : ℕ → List ℕ → Bool
-lacks b text = list_all (λ c. not (nat_eq c b)) text
 
 -- digits are from 48 on
 digits_onto-lacks : (b k n : ℕ) (acc : List ℕ) → b < 48 → lacks b acc ≡ true → lacks b (digits_onto k 10 false n acc) ≡ true

@@ -1,2 +1,4 @@
 pub mod Examples
 pub mod Decimals
+pub mod CutLaws
+pub mod FirstLaws

@@ -1,3 +1,4 @@
 pub mod Codes
+pub mod Cuts
 pub mod Lines
 pub mod Text

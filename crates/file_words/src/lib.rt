@@ -2,6 +2,8 @@
 //! bytes that are no circuit.
 #![tactic(auto)]
 
+mod cutting;
 mod fault;
 
+pub use cutting::{cut, first_line};
 pub use fault::ReadError;

@@ -3,7 +3,6 @@ pub mod LaneLaws
 pub mod TableLaws
 pub mod BlockLaws
 pub mod TraceLaws
-pub mod LineLaws
 pub mod StimulusLaws
 pub mod ComparingLaws
 pub mod DifferenceLaws

@@ -4,6 +4,5 @@ pub mod Traces
 pub mod Blocks
 pub mod Stimuli
 pub mod Codes
-pub mod Cutting
 pub mod Differences
 pub mod Comparing

@@ -1,19 +1,10 @@
 -- The text of a stimulus.
 use Rattle.std.specs.Prelude.{ℕ, ◌≡◌, ◌+◌, ◌^◌, ◌==◌, ◌||◌, Bool, ◌++◌, List, [], ◌∷◌, length, map, Result, Ok, Err, if◌then◌else◌}
 use Rattle.std.specs.List.{list_all}
+use Rattle.file_words.specs.Lines.{lines}
 use Rattle.lane_sim.specs.declared.stimulus.InputSequence.{InputSequence}
 use Rattle.lane_sim.specs.declared.fault.StimError.{StimError}
 use Rattle.lane_sim.specs.declared.fault.StimError.TheVariants.{BadLine, Width, TooMany, NoMemory}
-
--- a byte more in front of the first line
-abbrev pub with_front : ℕ → List (List ℕ) → List (List ℕ)
-with_front b [] = (b ∷ []) ∷ []
-with_front b (line ∷ lines) = (b ∷ line) ∷ lines
-
--- the lines of a text: a line runs up to a newline or to the end, and there is none where no byte is left
-unfoldable pub lines : List ℕ → List (List ℕ)
-lines [] = []
-lines (b ∷ bytes) = if b == 10 then [] ∷ lines bytes else with_front b (lines bytes)
 
 abbrev pub is_digit : ℕ → Bool
 is_digit b = b == 48 || b == 49

@@ -1,13 +1,14 @@
 //! Reading a stimulus.
-ghost use Rattle.std.specs.Prelude.{◌≡◌, ◌==◌, ◌++◌, ◌∷◌, [], IfOk, MatchOption, length, position};
+ghost use Rattle.std.specs.Prelude.{◌≡◌, ◌==◌, ◌++◌, ◌∷◌, [], IfOk, MatchOption, length};
 ghost use Rattle.std.specs.List.{list_all};
+ghost use Rattle.file_words.specs.Cuts.{IsFirst};
 ghost use Rattle.lane_sim.specs.Stimuli.{Gives, is_digit, values_of, begin, step};
 ghost use Rattle.lane_sim.specs.Stimuli as stimuli;
-ghost use Rattle.lane_sim.specs.Cutting.{Cuts};
 
 use crate::fault::StimError;
 use crate::stimulus::{InputSequence, Stimulus};
 use aig_graph::Sequence;
+use file_words::first_line;
 use std::alloc::{AllocError, Global};
 
 /// The sequences that a stimulus may have.
@@ -140,20 +141,10 @@ fn values(alloc: Global, digits: &[u8]) -> Result<Sequence<bool>, AllocError>
 
 /// The first line of the bytes and what follows its newline, or `None` where no byte is left.
 fn next_line(bytes: &[u8]) -> Option<(&[u8], &[u8])>
-    ensures { MatchOption result (bytes.now ≡ []) (λ parts. Cuts bytes.now parts.0.now parts.1.now) }
+    ensures { MatchOption result (bytes.now ≡ []) (λ parts. IsFirst bytes.now parts.0.now parts.1.now) }
 {
     if bytes.is_empty() {
         return None;
     }
-    match newline_at(bytes) {
-        Some(end) => Some((&bytes[..end], &bytes[end + 1..])),
-        None => Some((bytes, &bytes[bytes.len()..])),
-    }
-}
-
-/// Where the first newline stands.
-fn newline_at(bytes: &[u8]) -> Option<usize>
-    ensures { result ≡ position (λ b. b == 10) bytes.now }
-{
-    bytes.iter().position(|byte| *byte == b'\n')
+    Some(first_line(bytes))
 }

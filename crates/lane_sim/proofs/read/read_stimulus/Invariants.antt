@@ -1,5 +1,6 @@
 use Rattle.std.proofs.Common.{◌≡◌, ◌-◌, ◌≤◌, length}
-use Rattle.lane_sim.specs.Stimuli.{lines, read_lines, read_text}
+use Rattle.file_words.specs.Lines.{lines}
+use Rattle.lane_sim.specs.Stimuli.{read_lines, read_text}
 use Rattle.lane_sim.proofs.read.read_stimulus.Given as goal
 
 abbrev pub invariant-loop-line : goal.invariant-loop-line

@@ -2,9 +2,8 @@
 use Rattle.std.proofs.Common.{ℕ, ◌+◌, ◌<◌, ◌≡◌, length, List, [], ◌∷◌, refl, arith, true, not, nat_eq, ap, sym, inl, inr, ◌∙◌, length-append}
 use Rattle.std.proofs.lemmas.Bool.{and_parts, not-true, cond-false}
 use Rattle.file_words.specs.Lines.{with_front, lines}
+use Rattle.file_words.specs.Cuts.{lacks, Cuts, IsFirst}
 use Rattle.file_words.proofs.Decimals.{lines-at_newline}
-use Rattle.certificate_files.specs.Cutting.{lacks, Cuts}
-use Rattle.certificate_files.specs.Steps.{IsFirst}
 
 -- a line that no newline ends
 pub lines-at_end : (b : ℕ) (line : List ℕ) → lacks 10 (b ∷ line) ≡ true → lines (b ∷ line) ≡ (b ∷ line) ∷ []
@@ -37,3 +36,10 @@ first_only (b ∷ text) more some clean none = record {
   whole = lines-at_end b text clean ∙ ap (λ (ls : List (List ℕ)). (b ∷ text) ∷ ls) (sym (ap lines none ∙ no_lines));
   starts = inl none;
 }
+
+-- where there is more, the newline stands between
+pub apart : (text line more : List ℕ) → IsFirst text line more → 0 < length more → length line + 1 + length more ≡ length text
+apart text line more first some = elim first.starts [
+  | inl none ↦ absurd (omega (arith, some, ap length none))
+  | inr long ↦ sym long
+]

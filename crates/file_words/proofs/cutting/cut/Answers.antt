@@ -1,7 +1,7 @@
 use Rattle.std.proofs.Common.{sym}
 use Rattle.std.proofs.lemmas.List.{take_rest}
-use Rattle.certificate_files.proofs.CutLaws.{cuts_at, no_mark}
-use Rattle.certificate_files.proofs.cut.cut.Goals as goal
+use Rattle.file_words.proofs.CutLaws.{cuts_at, no_mark}
+use Rattle.file_words.proofs.cutting.cut.Goals as goal
 
 pub returns-in-Some : goal.returns-in-Some
 returns-in-Some c = rw take_rest (cuts_at c.args.mark c.args.bytes.now c.in-Some.end (sym c.in-Some.ensures)).1

@@ -1,6 +1,6 @@
 use Rattle.std.proofs.Common.{arith, rules}
-use Rattle.certificate_files.proofs.LineLaws.{first_cut, first_only}
-use Rattle.certificate_files.proofs.lines.first_line.Goals as goal
+use Rattle.file_words.proofs.FirstLaws.{first_cut, first_only}
+use Rattle.file_words.proofs.cutting.first_line.Goals as goal
 
 pub returns-in-Some : goal.returns-in-Some
 returns-in-Some c = first_cut _ _ _ c.in-Some.ensures
