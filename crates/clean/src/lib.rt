@@ -7,7 +7,6 @@ mod gates;
 mod held;
 mod kept;
 mod latches;
-mod mapping;
 mod merged;
 mod names;
 mod pass;

@@ -3,7 +3,6 @@ ghost use Rattle.aig_graph.specs.Graph.{variable, variables_end};
 ghost use Rattle.cleaned_circuits.specs.Merged.{stands_of, replaced_latch, replaced_gate, replaced_graph, merged_of};
 
 use crate::held::Held;
-use crate::mapping::mapped_props;
 use crate::stands::stands_of;
 use crate::substitution::Substitution;
 use aig_graph::{Aig, Circuit, Gate, Latch, NoMemory, Props};
@@ -65,6 +64,6 @@ pub(crate) fn merged_of(
 {
     let stands = stands_of(alloc, circuit.aig(), held)?;
     let aig = merged_aig(alloc, circuit.aig(), held, &stands)?;
-    let props = mapped_props(alloc, &stands, circuit.props())?;
+    let props = circuit.props().mapped(alloc, &stands)?;
     Ok(Merged { aig, props })
 }

@@ -3,7 +3,7 @@ ghost use Rattle.aig_graph.specs.Graph.{variable};
 ghost use Rattle.cleaned_circuits.specs.Merged.{replaced, replaced_gate, replaced_latch};
 ghost use Rattle.clean.specs.Substitutions.{own_literals};
 
-use aig_graph::{Gate, Latch, Lit, NoMemory};
+use aig_graph::{Gate, Latch, Lit, NoMemory, Substitute};
 use std::alloc::Global;
 use std::marker::Model;
 
@@ -83,5 +83,18 @@ impl Substitution {
         ensures { result ≡ replaced_gate self.now gate }
     {
         Gate::of(self.literal(gate.rhs0), self.literal(gate.rhs1))
+    }
+}
+
+impl Substitute for Substitution {
+    ghost use Rattle.std.specs.Prelude.{length};
+    ghost use Rattle.cleaned_circuits.specs.Merged.{replaced};
+
+    ghost known = { length };
+
+    ghost literal_of = { replaced };
+
+    fn literal(&self, lit: Lit) -> Lit {
+        Substitution::literal(self, lit)
     }
 }

@@ -7,7 +7,6 @@ ghost use Rattle.cleaned_circuits.specs.Trimmed.{new_position, picked, renumbere
 ghost use Rattle.clean.specs.Substitutions.{new_literals};
 ghost use Rattle.clean.specs.Sweep.{is_marked};
 
-use crate::mapping::mapped_props;
 use crate::names::trimmed_symbols;
 use crate::reached::Reached;
 use crate::substitution::Substitution;
@@ -152,7 +151,7 @@ impl<'a> Trim<'a> {
             (record { aig = self.now.aig.now; props = props.now; symbols = symbols.now }) (is_marked self.now.reached.now)) }
     {
         let aig = self.graph(alloc)?;
-        let props = mapped_props(alloc, &self.literals, props)?;
+        let props = props.mapped(alloc, &self.literals)?;
         let symbols = trimmed_symbols(alloc, self, symbols)?;
         Ok(Circuit::new(aig, props, symbols))
     }

@@ -6,8 +6,8 @@ use Rattle.cleaned_circuits.specs.Merged.{stands_of}
 use Rattle.clean.proofs.MappingLaws.{stands-long, props-within}
 use Rattle.clean.proofs.merged.merged_of.Goals as goal
 
-pub mapped_props-requires : goal.mapped_props-requires
-mapped_props-requires c =
+pub mapped-requires : goal.mapped-requires
+mapped-requires c =
     let g : Graph = c.args.circuit.now.aig in
     let held : List ℕ = c.args.held.now.positions.now in
     let stands : List ℕ = c.in_ok-stands.stands in

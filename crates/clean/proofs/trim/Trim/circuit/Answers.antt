@@ -6,8 +6,8 @@ use Rattle.aig_graph.specs.Mapped.{OfProps}
 use Rattle.clean.proofs.TrimLaws.{length-new_literals, props-new, netlist-is}
 use Rattle.clean.proofs.trim.Trim.circuit.Goals as goal
 
-pub mapped_props-requires : goal.mapped_props-requires
-mapped_props-requires c =
+pub mapped-requires : goal.mapped-requires
+mapped-requires c =
     let long : length c.args.self.now.literals ≡ variables_end c.args.self.now.aig.now =
     ap (λ (xs : List ℕ). length xs) c.args.self.now.renumbers ∙ length-new_literals c.args.self.now.aig.now (is_marked c.args.self.now.reached.now) in
     subst (λ (n : ℕ). OfProps (λ (lit : ℕ). variable lit < n) c.args.props.now) (sym long) c.requires.props
