@@ -1,8 +1,8 @@
 -- A delivery that visits the nodes of a list: the others have nothing to do, so Deliver of them changes nothing.
-use Rattle.std.proofs.Common.{◌≡◌, ℕ, ◌+◌, ◌-◌, ◌<◌, ◌≤◌, ◌&&◌, ◌⊎◌, nat_lt, Bool, true, false, List, [], ◌++◌, ◌∷◌, length, slice_index, refl, arith, sym, ap, ◌∙◌, subst, inl, inr}
+use Rattle.std.proofs.Common.{◌≡◌, ℕ, ◌+◌, ◌-◌, ◌<◌, ◌≤◌, ◌&&◌, ◌⊎◌, nat_lt, false, List, [], ◌++◌, ◌∷◌, length, slice_index, refl, arith, sym, ap, ◌∙◌, subst, inl, inr}
 use Rattle.std.specs.Vec.{with_items}
 use Rattle.std.proofs.lemmas.List.{with_items_is}
-use Rattle.std.proofs.lemmas.Bool.{cases_lt, cond-false, false≢true}
+use Rattle.std.proofs.lemmas.Bool.{cases_lt, cond-false, and_left}
 use Rattle.flow_theory.proofs.Sums.{sum_below-same, sum_below-zero}
 use Rattle.frame_net.specs.FlowNet.{FlowNet, node_count, start, row_len, IsFlowNet}
 use Rattle.flow_part.specs.declared.parts.FlowPart.{FlowPart}
@@ -12,10 +12,6 @@ use Rattle.flow_part.specs.Listing.{active_by, AreWithin, HasTurning, IsListed, 
 use Rattle.flow_part.specs.Visiting.{CoversWork, IsStill}
 use Rattle.flow_part.proofs.Lists.{listed_last, listed_more, places, within_more}
 use Rattle.flow_part.proofs.Ranges.{lies, range_then}
-
-and_off : (a b : Bool) → a ≡ false → a && b ≡ false
-and_off false b h = refl
-and_off true b h = absurd (false≢true (sym h))
 
 -- ---- nodes that have nothing to do
 
@@ -31,7 +27,7 @@ still_given net labels xs v i s c still = record {
   excess = omega (arith, no_outflow net labels xs v (slice_index c.excess i) (slice_index c.next i) still, no_inflow net labels xs v (slice_index c.excess i) (slice_index c.next i) still);
   next = still.label ∙ sym (cond-false {A = ℕ} (active_by (node_count net) v (slice_index c.excess i) (slice_index labels v) && nat_lt (row_outflow net xs v) (slice_index c.excess i))
       (delivered_relabel net labels xs v (λ j. slice_index c.residuals (s + j))) (slice_index labels v)
-      (and_off (active_by (node_count net) v (slice_index c.excess i) (slice_index labels v)) (nat_lt (row_outflow net xs v) (slice_index c.excess i)) still.inactive));
+      (and_left (active_by (node_count net) v (slice_index c.excess i) (slice_index labels v)) (nat_lt (row_outflow net xs v) (slice_index c.excess i)) still.inactive));
 }
 
 stills : (net : FlowNet) (labels xs : List ℕ) (base first low high : ℕ) (c : Cells) → ((v : ℕ) → low ≤ v → v < high → IsStill net labels xs v (slice_index c.excess (v - first)) (slice_index c.next (v - first)))

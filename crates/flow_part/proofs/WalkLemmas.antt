@@ -1,6 +1,6 @@
 -- Read of the active nodes alone is Read of all.
 use Rattle.std.proofs.Common.{◌≡◌, ℕ, suc, zero, ◌+◌, ◌-◌, ◌<◌, ◌≤◌, ◌&&◌, ◌==◌, ◌++◌, cond, Bool, true, false, List, [], ◌∷◌, length, slice_index, refl, arith, sym, ap, ◌∙◌, subst, inl, inr}
-use Rattle.std.proofs.lemmas.Bool.{cases_Bool, cases_lt, cond-false, false≢true}
+use Rattle.std.proofs.lemmas.Bool.{cases_Bool, cases_lt, cond-false, false≢true, and_left}
 use Rattle.std.proofs.lemmas.List.{get_or-append_right, length-append}
 use Rattle.std.proofs.Math.ListN.{get_or-append}
 use Rattle.flow_theory.proofs.Sums.{sum_below-le_const}
@@ -38,16 +38,12 @@ within_more list first low high v h up fv vh i l = elim (cases_lt i (length list
 
 -- ---- nodes that aren't active
 
-and_off : (a b : Bool) → a ≡ false → a && b ≡ false
-and_off false b h = refl
-and_off true b h = absurd (false≢true (sym h))
-
 -- a node that isn't active pushes nothing
 pub idle_push : (net : FlowNet) (labels : List ℕ) (c : Cells) (v k : ℕ) → cells_active net labels c v ≡ false → cells_push net labels c v k ≡ 0
 idle_push net labels c v k off =
     let none : arc_admissible net labels v (λ j. slice_index c.residuals (start net v + j)) (slice_index c.excess v) k ≡ 0 =
     cond-false {A = ℕ} (cells_active net labels c v && (slice_index labels (head net v k) + 1 == slice_index labels v)) (slice_index c.residuals (start net v + k)) 0
-    (and_off (cells_active net labels c v) (slice_index labels (head net v k) + 1 == slice_index labels v) off) in
+    (and_left (cells_active net labels c v) (slice_index labels (head net v k) + 1 == slice_index labels v) off) in
     omega (arith, none)
 
 cond_one : (b : Bool) → cond b 1 0 ≤ 1

@@ -1,6 +1,6 @@
 -- Whether some node is active, by the lists of the parts or by all nodes.
-use Rattle.std.proofs.Common.{◌≡◌, ℕ, suc, zero, ◌+◌, ◌-◌, ◌*◌, ◌<◌, ◌≤◌, ◌&&◌, ◌||◌, nat_lt, cond, Bool, true, false, List, [], ◌∷◌, length, slice_index, get_or, drop, arith, refl, ap, sym, ◌∙◌, subst, inl, inr, ◌⊎◌}
-use Rattle.std.proofs.lemmas.Bool.{cases_lt, cases_Bool, cases_eq, false≢true}
+use Rattle.std.proofs.Common.{◌≡◌, ℕ, suc, zero, ◌+◌, ◌-◌, ◌*◌, ◌<◌, ◌≤◌, ◌&&◌, nat_lt, cond, Bool, true, false, List, [], ◌∷◌, length, slice_index, get_or, drop, arith, refl, ap, sym, ◌∙◌, subst, inl, inr}
+use Rattle.std.proofs.lemmas.Bool.{cases_lt, cases_Bool, cases_eq, false≢true, or_cases, or_from, or_left, or_parts, or_right}
 use Rattle.flow_theory.specs.Flow.{State, is_active, pulse, potential, sum_below, greatest_active_label, IsValid}
 use Rattle.flow_theory.proofs.Sums.{sum_below-le_const, term-le-sum_below, greatest_below-le}
 use Rattle.flow_theory.proofs.Measure.{potential_falls}
@@ -13,26 +13,6 @@ use Rattle.flow_part.proofs.Left.{Left, left_all, left_more, left_here, left_at}
 use Rattle.flow_part.proofs.AtPart.{by_node, excess_piece}
 use Rattle.flow_whole.proofs.Agreeing.{active_same, potential_same}
 
-or_left : (a b : Bool) → a ≡ true → (a || b) ≡ true
-or_left true b h = refl
-or_left false b h = absurd (false≢true h)
-
-or_right : (a b : Bool) → b ≡ true → (a || b) ≡ true
-or_right true b h = refl
-or_right false b h = h
-
-or_none : (a b : Bool) → a ≡ false → b ≡ false → (a || b) ≡ false
-or_none true b h k = h
-or_none false b h k = k
-
-or_parts : (a b : Bool) → (a || b) ≡ false → (a ≡ false) × (b ≡ false)
-or_parts true b h = absurd (false≢true (sym h))
-or_parts false b h = (refl, h)
-
-or_some : (a b : Bool) → (a || b) ≡ true → (a ≡ true) ⊎ (b ≡ true)
-or_some true b h = inl refl
-or_some false b h = inr h
-
 pub any_from : (n : ℕ) (p : ℕ → Bool) (v : ℕ) → v < n → p v ≡ true → any_below n p ≡ true
 any_from zero p v h e = absurd (omega arith)
 any_from (suc n) p v h e = elim (cases_eq v n) [
@@ -42,7 +22,7 @@ any_from (suc n) p v h e = elim (cases_eq v n) [
 
 pub none_from : (n : ℕ) (p : ℕ → Bool) → ((v : ℕ) → v < n → p v ≡ false) → any_below n p ≡ false
 none_from zero p e = refl
-none_from (suc n) p e = or_none (any_below n p) (p n) (none_from n p (λ v h. e v (omega arith))) (e n (omega arith))
+none_from (suc n) p e = or_from (any_below n p) (p n) (none_from n p (λ v h. e v (omega arith))) (e n (omega arith))
 
 pub none_at : (n : ℕ) (p : ℕ → Bool) → any_below n p ≡ false → (v : ℕ) → v < n → p v ≡ false
 none_at zero p e v h = absurd (omega arith)
@@ -53,7 +33,7 @@ none_at (suc n) p e v h = let q = or_parts (any_below n p) (p n) e in elim (case
 
 pub some_at : (n : ℕ) (p : ℕ → Bool) → any_below n p ≡ true → (v : ℕ) × ((v < n) × (p v ≡ true))
 some_at zero p e = absurd (false≢true e)
-some_at (suc n) p e = elim (or_some (any_below n p) (p n) e) [
+some_at (suc n) p e = elim (or_cases (any_below n p) (p n) e) [
   | inl rest ↦ let r = some_at n p rest in (r.0, (omega (arith, r.1.0), r.1.1))
   | inr here ↦ (n, (omega arith, here))
 ]

@@ -1,6 +1,7 @@
 -- Marks of the nodes that were read or delivered so far.
 use Rattle.std.proofs.Common.{◌≡◌, ℕ, ◌+◌, ◌<◌, ◌≤◌, ◌&&◌, ◌||◌, nat_lt, nat_le, Bool, true, false, List, length, slice_index, refl, sym, ◌∙◌, inl, inr, ◌⊎◌}
-use Rattle.std.proofs.lemmas.Bool.{cases_lt, lt-ltb, le-leb, le-ltb, lt-leb, false≢true}
+use Rattle.std.proofs.Math.Bool.{and-false}
+use Rattle.std.proofs.lemmas.Bool.{cases_lt, lt-ltb, le-leb, le-ltb, lt-leb, false≢true, or_parts}
 use Rattle.flow_theory.specs.Flow.{pulse}
 use Rattle.frame_net.specs.FlowNet.{FlowNet, node_count, start, IsFlowNet}
 use Rattle.flow_part.specs.declared.parts.FlowPart.{FlowPart}
@@ -14,10 +15,6 @@ use Rattle.flow_whole.proofs.Whole.{whole_given, whole_kept}
 use Rattle.flow_whole.proofs.WholeRead.{whole_read, whole_unread}
 use Rattle.flow_whole.proofs.Step.{hold_pushes, given_is_pulse, node_safe, parts_safe_by}
 
-both_true : (a b : Bool) → (a && b) ≡ true → (a ≡ true) × (b ≡ true)
-both_true true b h = (refl, h)
-both_true false b h = absurd (false≢true h)
-
 or_first : (a b : Bool) → a ≡ false → (a || b) ≡ true → b ≡ true
 or_first true b e h = absurd (false≢true (sym e))
 or_first false b e h = h
@@ -26,21 +23,13 @@ or_second : (a b : Bool) → b ≡ false → (a || b) ≡ true → a ≡ true
 or_second true b e h = refl
 or_second false b e h = absurd (false≢true (sym e ∙ h))
 
-or_neither : (a b : Bool) → (a || b) ≡ false → (a ≡ false) × (b ≡ false)
-or_neither true b h = absurd (false≢true (sym h))
-or_neither false b h = (refl, h)
-
 in_range : (first end v : ℕ) → first ≤ v → v < end → (nat_le first v && nat_lt v end) ≡ true
 in_range first end v lo hi = rw (le-leb first v lo, lt-ltb v end hi) refl
-
-and_off : (a : Bool) → (a && false) ≡ false
-and_off true = refl
-and_off false = refl
 
 off_range : (first end v : ℕ) → (v < first) ⊎ (end ≤ v) → (nat_le first v && nat_lt v end) ≡ false
 off_range first end v out = elim out [
   | inl lt ↦ rw (lt-leb first v lt) refl
-  | inr ge ↦ rw (le-ltb v end ge) (and_off (nat_le first v))
+  | inr ge ↦ rw (le-ltb v end ge) (and-false (nat_le first v))
 ]
 
 -- a node lies in a range or not
@@ -75,7 +64,7 @@ give_more net labels xs marks first end c qs us ok cut len gives none g = record
         (whole_kept net labels xs first end qs us ok cut len gives v vn out)
   ];
   kept = λ v vn m.
-      let apart = or_neither (marks v) (nat_le first v && nat_lt v end) m in
+      let apart = or_parts (marks v) (nat_le first v && nat_lt v end) m in
       elim (sides first end v) [
         | inl inside ↦ absurd (false≢true (sym apart.1 ∙ in_range first end v inside.0 inside.1))
         | inr out ↦ both_kept v (g.kept v vn apart.0) (whole_kept net labels xs first end qs us ok cut len gives v vn out)

@@ -1,28 +1,17 @@
 -- Marks of the nodes of a range.
-use Rattle.std.proofs.Common.{◌≡◌, ℕ, ◌+◌, ◌<◌, ◌≤◌, nat_le, ◌&&◌, ◌||◌, Bool, true, false, List, length, get_or, slice_set, arith, refl, sym, ap, ◌∙◌, inl, inr, ◌≢◌, get_or-set_other, get_or-set_same}
+use Rattle.std.proofs.Common.{◌≡◌, ℕ, ◌+◌, ◌<◌, ◌≤◌, nat_le, Bool, true, false, List, length, get_or, slice_set, arith, sym, ap, ◌∙◌, inl, inr, ◌≢◌, get_or-set_other, get_or-set_same}
+use Rattle.std.proofs.Math.Bool.{and-false, or-false, or-true}
 use Rattle.std.proofs.lemmas.Bool.{cases_lt, cases_eq, lt-ltb, le-leb, le-ltb, lt-leb}
 use Rattle.flow_whole.specs.Marks.{and_range}
 
-and_off : (a : Bool) → (a && false) ≡ false
-and_off true = refl
-and_off false = refl
-
-or_off : (a : Bool) → (a || false) ≡ a
-or_off true = refl
-or_off false = refl
-
-or_on : (a : Bool) → (a || true) ≡ true
-or_on true = refl
-or_on false = refl
-
 pub range_in : (marks : ℕ → Bool) (first end v : ℕ) → first ≤ v → v < end → and_range marks first end v ≡ true
-range_in marks first end v lo hi = rw (le-leb first v lo, lt-ltb v end hi) (or_on (marks v))
+range_in marks first end v lo hi = rw (le-leb first v lo, lt-ltb v end hi) (or-true (marks v))
 
 pub range_out : (marks : ℕ → Bool) (first end v : ℕ) → end ≤ v → and_range marks first end v ≡ marks v
-range_out marks first end v hi = rw (le-ltb v end hi, and_off (nat_le first v)) (or_off (marks v))
+range_out marks first end v hi = rw (le-ltb v end hi, and-false (nat_le first v)) (or-false (marks v))
 
 pub range_below : (marks : ℕ → Bool) (first end v : ℕ) → v < first → and_range marks first end v ≡ marks v
-range_below marks first end v lo = rw (lt-leb first v lo) (or_off (marks v))
+range_below marks first end v lo = rw (lt-leb first v lo) (or-false (marks v))
 
 -- an empty range marks nothing
 pub range_none : (marks : ℕ → Bool) (first v : ℕ) → and_range marks first first v ≡ marks v

@@ -1,6 +1,6 @@
 -- A flow whose labels become exact, and when that is due.
-use Rattle.std.proofs.Common.{◌≡◌, ℕ, ◌<◌, ◌≤◌, ◌%◌, ◌==◌, ◌&&◌, Bool, true, false, List, length, slice_index, refl, sym, ap, ◌∙◌, subst}
-use Rattle.std.proofs.lemmas.Bool.{eq-eqb, ne_eqb, false≢true}
+use Rattle.std.proofs.Common.{◌≡◌, ℕ, ◌<◌, ◌≤◌, ◌%◌, ◌==◌, Bool, true, false, List, length, slice_index, refl, sym, ap, ◌∙◌, subst}
+use Rattle.std.proofs.lemmas.Bool.{eq-eqb, ne_eqb, and_from, and_left, and_right}
 use Rattle.flow_theory.specs.Flow.{State}
 use Rattle.flow_theory.specs.Laws.{IsDistance}
 use Rattle.flow_theory.proofs.Exact.{exact-rises}
@@ -59,31 +59,19 @@ relabelled net f qs seen ls lseen next lnow ds cs b ok ef es el en size between 
 
 -- ---- whether exact labels are due
 
-and_both : (a b : Bool) → a ≡ true → b ≡ true → a && b ≡ true
-and_both true b p q = q
-and_both false b p q = absurd (false≢true p)
-
-and_first : (a b : Bool) → a ≡ false → a && b ≡ false
-and_first false b p = refl
-and_first true b p = absurd (false≢true (sym p))
-
-and_second : (a b : Bool) → b ≡ false → a && b ≡ false
-and_second true b q = q
-and_second false b q = refl
-
 pub when_due : (n k m : ℕ) (s t : State) → m ≡ n → k % m ≡ 0 → true ≡ any_active n s → Agree n (exact n s) t → Agree n (after_pulse n k s) t
 when_due n k m s t em due on agree =
     let e : k % n == 0 ≡ true = eq-eqb (k % n) 0 (ap (λ (x : ℕ). k % x) (sym em) ∙ due) in
-    subst (λ (x : State). Agree n x t) (sym (after-due n k s (and_both (k % n == 0) (any_active n s) e (sym on)))) agree
+    subst (λ (x : State). Agree n x t) (sym (after-due n k s (and_from (k % n == 0) (any_active n s) e (sym on)))) agree
 
 pub when_not_due : (n k m : ℕ) (s : State) → m ≡ n → (k % m ≡ 0 → ⊥) → Agree n (after_pulse n k s) s
 when_not_due n k m s em other =
     let e : k % n == 0 ≡ false = ne_eqb (k % n) 0 (λ h. other (ap (λ (x : ℕ). k % x) em ∙ h)) in
-    subst (λ (x : State). Agree n x s) (sym (after-not n k s (and_first (k % n == 0) (any_active n s) e))) (agree_self n s)
+    subst (λ (x : State). Agree n x s) (sym (after-not n k s (and_left (k % n == 0) (any_active n s) e))) (agree_self n s)
 
 pub when_ended : (n k : ℕ) (s : State) → false ≡ any_active n s → Agree n (after_pulse n k s) s
 when_ended n k s off =
-    subst (λ (x : State). Agree n x s) (sym (after-not n k s (and_second (k % n == 0) (any_active n s) (sym off)))) (agree_self n s)
+    subst (λ (x : State). Agree n x s) (sym (after-not n k s (and_right (k % n == 0) (any_active n s) (sym off)))) (agree_self n s)
 
 -- ---- parts that hold the exact labels
 

@@ -1,6 +1,6 @@
 -- A push of one unit keeps a sound flow sound.
-use Rattle.std.proofs.Common.{◌≡◌, ℕ, ◌+◌, ◌-◌, ◌<◌, ◌≤◌, ◌==◌, ◌&&◌, cond, Bool, true, false, arith, refl, ap, sym, ◌∙◌, inl, inr}
-use Rattle.std.proofs.lemmas.Bool.{cases_lt, cases_eq, and_from, eq-eqb, ne_eqb, false≢true}
+use Rattle.std.proofs.Common.{◌≡◌, ℕ, ◌+◌, ◌-◌, ◌<◌, ◌≤◌, ◌==◌, ◌&&◌, cond, Bool, arith, refl, ap, ◌∙◌, inl, inr}
+use Rattle.std.proofs.lemmas.Bool.{cases_lt, cases_eq, and_from, eq-eqb, ne_eqb, and_left, and_right}
 use Rattle.flow_theory.specs.Flow.{State, sum_below, IsPreflow, IsValid}
 use Rattle.flow_theory.proofs.Sums.{sum_below-add, sum_below-same, sum_below-swap, sum_below-zero}
 use Rattle.arc_rows.proofs.Sparse.{sum_one}
@@ -56,14 +56,6 @@ sent_total n s p ok =
 
 abbrev pub unit : ℕ → ℕ → ℕ → ℕ → ℕ
 unit v w x y = cond (x == v && y == w) 1 0
-
-and_left : (a b : Bool) → a ≡ false → a && b ≡ false
-and_left false b e = refl
-and_left true b e = absurd (false≢true (sym e))
-
-and_right : (a b : Bool) → b ≡ false → a && b ≡ false
-and_right true b e = e
-and_right false b e = refl
 
 pub unit-on : (v w x y : ℕ) → x ≡ v → y ≡ w → unit v w x y ≡ 1
 unit-on v w x y p q = ap (λ (b : Bool). cond {A = ℕ} b 1 0) (and_from (x == v) (y == w) (eq-eqb x v p) (eq-eqb y w q))
