@@ -6,7 +6,7 @@ use Rattle.std.specs.List.{list_all, flat_map}
 use Rattle.counted_io.specs.Line.{line}
 use Rattle.file_words.specs.Lines.{lines, pieces, is_number, digits_value}
 use Rattle.file_words.specs.Cuts.{lacks}
-use Rattle.file_words.proofs.Decimals.{decimal-is_number, decimal-value, decimal-lacks, lacks-append, row_line, row-is_line, row_line-lacks_newline, numbers_of-row_line, lines-at_newline}
+use Rattle.file_words.proofs.Decimals.{decimal-is_number, decimal-value, decimal-lacks, lacks-append, row_line, row-is_line, row_line-lacks_newline, numbers_of-row_line, lines-at_newline, pieces-at_space, pieces-at_end}
 use Rattle.frame_net.specs.declared.net.Point.{Point}
 use Rattle.certificates.specs.declared.certificate.Certificate.{Certificate}
 use Rattle.certificate_files.specs.declared.fault.CertError.{CertError}
@@ -22,7 +22,7 @@ use Rattle.certificate_files.specs.Steps.{block_of, with_gate, with_route, close
 use Rattle.certificate_files.specs.Texts.{sign_code, point_text, route_text, gate_text, frame_text, block_text, choice_text, file_text}
 use Rattle.certificate_files.proofs.FormLaws.{saying-frame, saying-gate, saying-route}
 use Rattle.certificate_files.proofs.StepLaws.{gate_next, route_next, frame_next}
-use Rattle.certificate_files.proofs.WordLaws.{pieces-at_space, pieces-at_end, last_of}
+use Rattle.certificate_files.proofs.WordLaws.{last_of}
 
 -- ---- a small number is one that a row may have
 

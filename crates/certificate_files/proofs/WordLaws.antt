@@ -1,38 +1,22 @@
 -- The points of a route, word by word.
-use Rattle.std.proofs.Common.{ℕ, ◌+◌, ◌-◌, ◌*◌, ◌<◌, ◌≡◌, length, List, [], ◌∷◌, ◌++◌, take, Option, Some, None, Result, Ok, Err, refl, arith, Bool, true, false, not, ◌&&◌, ◌||◌, ◌==◌, nat_eq, cond, ap, ap₂, sym, ◌∙◌, map, get_or, length-append, append_assoc}
+use Rattle.std.proofs.Common.{ℕ, ◌+◌, ◌-◌, ◌*◌, ◌<◌, ◌≡◌, length, List, [], ◌∷◌, ◌++◌, take, Option, Some, None, Result, Ok, Err, refl, arith, Bool, true, false, ◌&&◌, ◌||◌, ◌==◌, cond, ap, ap₂, sym, ◌∙◌, map, get_or, length-append, append_assoc}
 use Rattle.std.proofs.Math.Seq.{take-append_seam}
-use Rattle.std.proofs.lemmas.Bool.{and_parts, not-true, cond-false}
+use Rattle.std.proofs.lemmas.Bool.{and_parts}
 use Rattle.std.proofs.lemmas.List.{take_more}
 use Rattle.std.proofs.lemmas.List.Sums.{fold-append}
 use Rattle.std.specs.List.{list_all}
-use Rattle.file_words.specs.Lines.{with_front, pieces, is_number, digits_value}
+use Rattle.file_words.specs.Lines.{pieces, is_number, digits_value}
+use Rattle.file_words.specs.Cuts.{Cuts}
+use Rattle.file_words.proofs.Decimals.{pieces-at_space}
 use Rattle.file_lines.specs.Rows.{clamped}
 use Rattle.frame_net.specs.declared.net.Point.{Point}
 use Rattle.certificate_files.specs.declared.fault.CertError.{CertError}
 use Rattle.certificate_files.specs.declared.fault.CertError.TheVariants.{BadLine, TooLarge}
-use Rattle.file_words.specs.Cuts.{lacks, Cuts}
 use Rattle.certificate_files.specs.Files.{sign_of, is_point, point_of, is_small, Route, route_of}
 use Rattle.certificate_files.specs.Forms.{number_of, side_of, clamped_point, spelt_point, spelt_at, onto, are_small, sized_points, routed}
 use Rattle.certificate_files.proofs.FormLaws.{small_same, small_is}
 
 -- ---- words
-
--- a piece runs up to the first space, or to the end
-pub pieces-at_space : (piece rest : List ℕ) → lacks 32 piece ≡ true → pieces (piece ++ 32 ∷ rest) ≡ piece ∷ pieces rest
-unfolding pieces
-pieces-at_space [] rest clean = refl
-pieces-at_space (b ∷ piece) rest clean =
-    let parts = and_parts (not (nat_eq b 32)) (lacks 32 piece) clean in
-    cond-false (nat_eq b 32) ([] ∷ pieces (piece ++ 32 ∷ rest)) (with_front b (pieces (piece ++ 32 ∷ rest))) (not-true (nat_eq b 32) parts.0)
-    ∙ ap (with_front b) (pieces-at_space piece rest parts.1)
-
-pub pieces-at_end : (piece : List ℕ) → lacks 32 piece ≡ true → pieces piece ≡ piece ∷ []
-unfolding pieces
-pieces-at_end [] clean = refl
-pieces-at_end (b ∷ piece) clean =
-    let parts = and_parts (not (nat_eq b 32)) (lacks 32 piece) clean in
-    cond-false (nat_eq b 32) ([] ∷ pieces piece) (with_front b (pieces piece)) (not-true (nat_eq b 32) parts.0)
-    ∙ ap (with_front b) (pieces-at_end piece parts.1)
 
 pub pieces_cut : (text word rest : List ℕ) → Cuts 32 text word rest → pieces text ≡ word ∷ pieces rest
 pieces_cut text word rest cuts = ap pieces cuts.whole ∙ pieces-at_space word rest cuts.clean

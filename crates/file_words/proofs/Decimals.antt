@@ -1,5 +1,5 @@
 -- The numbers of a row that was written.
-use Rattle.std.proofs.Common.{ℕ, suc, zero, ◌+◌, ◌-◌, ◌*◌, ◌/◌, ◌%◌, ◌^◌, ◌<◌, ◌≡◌, List, [], ◌∷◌, ◌++◌, length, map, fold, Some, None, Bool, true, false, cond, not, nat_lt, nat_eq, refl, sym, ap, ap₂, ◌∙◌, append_assoc, append-nil, arith, rules, decimal}
+use Rattle.std.proofs.Common.{ℕ, suc, zero, ◌+◌, ◌-◌, ◌*◌, ◌/◌, ◌%◌, ◌^◌, ◌<◌, ◌≡◌, List, [], ◌∷◌, ◌++◌, length, map, fold, Some, None, true, false, cond, not, nat_lt, nat_eq, refl, sym, ap, ap₂, ◌∙◌, append_assoc, append-nil, arith, rules, decimal}
 use Rattle.std.specs.Char.{is_ascii_digit}
 use Rattle.std.specs.Fmt.{digits, digits_onto, digit_glyph}
 use Rattle.std.specs.List.{list_all, flat_map, AllByRecursion}
@@ -69,7 +69,7 @@ row_line-lacks_newline [] = refl
 row_line-lacks_newline (n ∷ ns) = lacks-append 10 (decimal n) (flat_map spaced ns) (decimal-lacks 10 n (omega arith)) (spaced-lacks_newline ns)
 
 -- a piece runs up to the first space, or to the end
-pieces-at_space : (piece rest : List ℕ) → lacks 32 piece ≡ true → pieces (piece ++ 32 ∷ rest) ≡ piece ∷ pieces rest
+pub pieces-at_space : (piece rest : List ℕ) → lacks 32 piece ≡ true → pieces (piece ++ 32 ∷ rest) ≡ piece ∷ pieces rest
 unfolding pieces
 pieces-at_space [] rest clean = refl
 pieces-at_space (b ∷ piece) rest clean =
@@ -77,7 +77,7 @@ pieces-at_space (b ∷ piece) rest clean =
     cond-false (nat_eq b 32) ([] ∷ pieces (piece ++ 32 ∷ rest)) (with_front b (pieces (piece ++ 32 ∷ rest))) (not-true (nat_eq b 32) parts.0)
     ∙ ap (with_front b) (pieces-at_space piece rest parts.1)
 
-pieces-at_end : (piece : List ℕ) → lacks 32 piece ≡ true → pieces piece ≡ piece ∷ []
+pub pieces-at_end : (piece : List ℕ) → lacks 32 piece ≡ true → pieces piece ≡ piece ∷ []
 unfolding pieces
 pieces-at_end [] clean = refl
 pieces-at_end (b ∷ piece) clean =
