@@ -1,5 +1,5 @@
 -- What marks from the first latch on say of the border.
-use Rattle.std.proofs.Common.{ℕ, ◌+◌, ◌-◌, ◌<◌, ◌≤◌, ◌≡◌, ◌||◌, ◌&&◌, Bool, true, false, List, length, get_or, Option, is_some, suc, refl, arith, ap, ap₂, sym, ◌∙◌, inl, inr, subst}
+use Rattle.std.proofs.Common.{ℕ, ◌+◌, ◌-◌, ◌<◌, ◌≤◌, ◌≡◌, ◌||◌, ◌&&◌, Bool, true, false, List, length, get_or, Option, is_some, suc, arith, ap, ap₂, sym, ◌∙◌, inl, inr, subst}
 use Rattle.std.proofs.Math.Bool.{and_comm, or_comm}
 use Rattle.std.proofs.lemmas.Bool.{cases_lt, lt-leb}
 use Rattle.variable_tables.specs.Counting.{count_below}

@@ -1,6 +1,6 @@
 -- What keeps a graph a graph, and what follows from being one.
 use Rattle.std.proofs.Common.{get_or, cond, not, Bool, true, false, ℕ, ◌+◌, ◌<◌, ◌≤◌, ◌≡◌, ◌^◌, suc, zero, List, [], ◌∷◌, ◌++◌, length, Some, refl, arith, slice_get, slice_set, ap, sym, subst, ◌⊎◌, inl, inr, length-append}
-use Rattle.std.proofs.lemmas.Option.{none-some, same_Some, slice_get-get_or, slice_get_within}
+use Rattle.std.proofs.lemmas.Option.{same_Some, slice_get-get_or, slice_get_within}
 use Rattle.std.proofs.Math.Seq.{take-length}
 use Rattle.std.proofs.lemmas.List.Sums.{sum_by-cons}
 use Rattle.std.specs.List.{All, count_by}

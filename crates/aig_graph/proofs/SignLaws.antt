@@ -1,5 +1,5 @@
 -- Signs of literals, for any values that respect negation.
-use Rattle.std.proofs.Common.{ℕ, ◌+◌, ◌*◌, ◌%◌, ◌<◌, ◌≤◌, ◌≡◌, ◌⊎◌, inl, inr, Bool, true, false, not, ◌&&◌, cond, nat_eq, refl, arith, ap, sym, ◌∙◌}
+use Rattle.std.proofs.Common.{ℕ, ◌+◌, ◌*◌, ◌%◌, ◌<◌, ◌≤◌, ◌≡◌, ◌⊎◌, inl, inr, Bool, not, ◌&&◌, cond, nat_eq, arith, ap, sym, ◌∙◌}
 use Rattle.std.proofs.Math.Bool.{and_comm, not-not}
 use Rattle.std.proofs.lemmas.Bool.{cases_lt, cases_eq}
 use Rattle.aig_graph.specs.Graph.{variable}

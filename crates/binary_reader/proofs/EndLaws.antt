@@ -1,5 +1,5 @@
 -- Where lines end.
-use Rattle.std.proofs.Common.{ℕ, ◌≡◌, ◌+◌, List, length, Result, Ok, Bool, true, false, ◌&&◌, refl, ap, ◌∙◌}
+use Rattle.std.proofs.Common.{ℕ, ◌≡◌, ◌+◌, List, length, Result, Ok, true, false, ◌&&◌, ap, ◌∙◌}
 use Rattle.std.proofs.lemmas.Bool.{cond-true, cond-false, and_from, and_left, and_right}
 use Rattle.file_words.specs.declared.fault.ReadError.{ReadError}
 use Rattle.ascii_file.specs.declared.header.Header.{Header}

@@ -1,5 +1,5 @@
 -- Pieces and the deltas in them.
-use Rattle.std.specs.Prelude.{ℕ, ◌+◌, ◌<◌, ◌≤◌, ◌≡◌, ◌==◌, true, false, List, [], ◌∷◌, ◌++◌, length, drop, Option, Some, None, Result}
+use Rattle.std.specs.Prelude.{ℕ, ◌+◌, ◌<◌, ◌≤◌, ◌≡◌, true, List, [], ◌∷◌, ◌++◌, length, drop, Option, Some, None, Result}
 use Rattle.file_words.specs.declared.fault.ReadError.{ReadError}
 use Rattle.deltas.specs.Deltas.{is_delta, delta_value}
 use Rattle.ascii_file.specs.Reading.{◌>>=◌}

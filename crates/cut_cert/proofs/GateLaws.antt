@@ -1,7 +1,7 @@
 -- The gates of a set of nodes, in the order of the nodes, rise.
-use Rattle.std.proofs.Common.{ℕ, zero, suc, ◌+◌, ◌<◌, ◌≤◌, ◌≡◌, ◌⊎◌, ◌==◌, ◌||◌, inl, inr, List, [], ◌∷◌, ◌++◌, length, Bool, true, false, not, IsTrue, if◌then◌else◌, Option, Some, None, slice_index, get_or, refl, arith, ap, ap₂, sym, ◌∙◌, subst}
+use Rattle.std.proofs.Common.{ℕ, zero, suc, ◌+◌, ◌<◌, ◌≤◌, ◌≡◌, ◌⊎◌, ◌==◌, ◌||◌, inl, inr, List, [], ◌∷◌, ◌++◌, length, Bool, true, false, IsTrue, if◌then◌else◌, Option, Some, None, slice_index, get_or, refl, arith, ap, ap₂, sym, ◌∙◌, subst}
 use Rattle.std.specs.List.Sorted.{IsStrictlyIncreasing}
-use Rattle.std.proofs.lemmas.Bool.{cases_lt, cases_eq, cond-true, cond-false, or_cases, or_left, or_right, eqb-true, eq-eqb, not-false, not-true}
+use Rattle.std.proofs.lemmas.Bool.{cases_lt, cases_eq, cond-true, cond-false, or_cases, or_left, or_right, eqb-true, eq-eqb}
 use Rattle.std.proofs.lemmas.Option.{none-some, same_Some}
 use Rattle.std.proofs.lemmas.List.{length_push, get_or_append_left, get_or_default}
 use Rattle.std.proofs.lemmas.List.Folds.{list_any-append}

@@ -1,5 +1,5 @@
 -- Residual distances: what is computed is what is defined, and agreeing states have the same.
-use Rattle.std.proofs.Common.{◌≡◌, ℕ, zero, suc, ◌<◌, ◌≤◌, ◌&&◌, nat_lt, cond, Bool, true, false, refl, arith, sym, ◌∙◌, subst, inl, inr}
+use Rattle.std.proofs.Common.{◌≡◌, ℕ, zero, suc, ◌<◌, ◌≤◌, ◌&&◌, nat_lt, cond, true, arith, sym, ◌∙◌, subst, inl, inr}
 use Rattle.std.proofs.lemmas.Bool.{cases_lt, cases_Bool, lt-ltb, le-ltb, eqb-true, eq-eqb, cond-true, cond-false, false≢true, and_from, and_parts}
 use Rattle.flow_theory.specs.Flow.{State, Walk, least_below}
 use Rattle.flow_theory.specs.Laws.{IsDistance}

@@ -1,5 +1,5 @@
 -- A name of a held latch isn't missing where the same latches are held.
-use Rattle.std.proofs.Common.{ℕ, ◌≡◌, ◌<◌, ◌≤◌, not, inl, inr, List, [], length, filter, get_or, Bool, true, false, cond, nat_lt, Some, None, arith, ap, sym, ◌∙◌}
+use Rattle.std.proofs.Common.{ℕ, ◌≡◌, ◌<◌, ◌≤◌, not, inl, inr, List, [], length, filter, get_or, Bool, true, cond, nat_lt, Some, None, arith, ap, sym, ◌∙◌}
 use Rattle.std.specs.List.{list_any, position_or_len}
 use Rattle.std.specs.Str.{bytes_eq}
 use Rattle.std.proofs.lemmas.Bool.{cases_Bool, ltb-false, not-false}
