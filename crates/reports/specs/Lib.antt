@@ -2,3 +2,4 @@ pub mod Traces
 pub mod Differences
 pub mod Counts
 pub mod Retimings
+pub mod Batches

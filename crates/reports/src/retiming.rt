@@ -7,7 +7,7 @@ use counted_io::{Buffered, CountedWrite, WriteError};
 use retimed_circuits::{FrameReport, Retimed};
 
 /// Puts two numbers with `to` between, and the newline.
-fn put_change<W: CountedWrite>(out: &mut Buffered<'_, W>, before: u64, after: u64)
+pub(crate) fn put_change<W: CountedWrite>(out: &mut Buffered<'_, W>, before: u64, after: u64)
     ensures { Puts W.output out.old out.new (change before after) }
 {
     out.put_number(before);

@@ -1,0 +1,4 @@
+pub mod Codes
+pub mod Lists
+pub mod Entries
+pub mod Cutting

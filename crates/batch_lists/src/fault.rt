@@ -1,0 +1,44 @@
+ghost use Rattle.std.specs.Prelude.{◌≡◌};
+
+use std::alloc::AllocFailed;
+use thiserror::Error;
+
+/// Why bytes were not read as a list. The number is the offset of the first byte of the line at fault.
+#[derive(Clone, Copy, Debug, PartialEq, Eq, Error)]
+pub enum ListError {
+    /// A line isn't two paths in UTF-8 with one tab between.
+    #[error("BadLine at {0}")]
+    BadLine(u64),
+    /// There are more than 2^20 lines.
+    #[error("TooLarge at {0}")]
+    TooLarge(u64),
+    /// Memory was refused.
+    #[error("out of memory")]
+    NoMemory,
+}
+
+impl ListError {
+    ghost use Rattle.batch_lists.specs.Codes.{code_of};
+
+    /// The number of the kind of fault.
+    pub fn code(self) -> u8
+        ensures { result ≡ code_of self }
+    {
+        match self {
+            ListError::BadLine(_) => 1,
+            ListError::TooLarge(_) => 2,
+            ListError::NoMemory => 3,
+        }
+    }
+}
+
+impl<T: Drop> From<AllocFailed<T>> for ListError {
+    ghost use Rattle.std.specs.Prelude.{◌≡◌};
+    ghost use Rattle.batch_lists.specs.declared.fault.ListError.TheVariants.{NoMemory};
+
+    ghost from_gives = { λ _ e. e ≡ NoMemory };
+
+    fn from(_error: AllocFailed<T>) -> ListError {
+        ListError::NoMemory
+    }
+}

@@ -1,0 +1,5 @@
+use Rattle.counted_io.proofs.BufferedLemmas.{puts-then}
+use Rattle.reports.proofs.batch.put_job.Goals as goal
+
+pub returns : goal.returns
+returns g c = puts-then c.put_number.ensures c.put_report.ensures

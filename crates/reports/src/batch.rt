@@ -1,0 +1,128 @@
+ghost use Rattle.std.specs.Prelude.{◌≡◌, ◌++◌, decimal};
+ghost use Rattle.counted_io.specs.Buffered.{Puts};
+ghost use Rattle.counted_io.specs.Output.{Writes};
+ghost use Rattle.reports.specs.Batches.{job_line, offset_text, refusal_text, report_text};
+ghost use Rattle.reports.specs.Batches as texts;
+
+use crate::retiming::put_change;
+use counted_io::{Buffered, CountedWrite, WriteError};
+use file_words::ReadError;
+
+/// What became of a file of a batch.
+#[derive(Clone, Copy, Debug, PartialEq, Eq)]
+pub enum JobReport {
+    /// It was retimed, from so many latches to so many.
+    Done(u32, u32),
+    /// It is no circuit.
+    Refused(ReadError),
+    /// Memory for it was refused.
+    NoMemory,
+    /// A name that is to be held is that of no latch.
+    NoSuchName,
+}
+
+fn fault_name(fault: ReadError) -> &'static [u8]
+    ensures { result.now ≡ texts.fault_name fault }
+{
+    match fault {
+        ReadError::BadHeader(_) => b"BadHeader",
+        ReadError::TooLarge(_) => b"TooLarge",
+        ReadError::MaxIndex(_) => b"MaxIndex",
+        ReadError::BadLine(_) => b"BadLine",
+        ReadError::BadLiteral(_) => b"BadLiteral",
+        ReadError::DefinedTwice(_) => b"DefinedTwice",
+        ReadError::Undefined => b"Undefined",
+        ReadError::Cycle => b"Cycle",
+        ReadError::BadReset(_) => b"BadReset",
+        ReadError::BadDelta(_) => b"BadDelta",
+        ReadError::Truncated(_) => b"Truncated",
+        ReadError::BadSymbol(_) => b"BadSymbol",
+        ReadError::Trailing(_) => b"Trailing",
+        ReadError::NoMemory => b"NoMemory",
+        ReadError::Device => b"Device",
+    }
+}
+
+fn fault_offset(fault: ReadError) -> Option<u64>
+    ensures { result ≡ texts.fault_offset fault }
+{
+    match fault {
+        ReadError::BadHeader(at)
+        | ReadError::TooLarge(at)
+        | ReadError::MaxIndex(at)
+        | ReadError::BadLine(at)
+        | ReadError::BadLiteral(at)
+        | ReadError::DefinedTwice(at)
+        | ReadError::BadReset(at)
+        | ReadError::BadDelta(at)
+        | ReadError::Truncated(at)
+        | ReadError::BadSymbol(at)
+        | ReadError::Trailing(at) => Some(at),
+        ReadError::Undefined | ReadError::Cycle | ReadError::NoMemory | ReadError::Device => None,
+    }
+}
+
+fn put_offset<W: CountedWrite>(out: &mut Buffered<'_, W>, offset: Option<u64>)
+    ensures { Puts W.output out.old out.new (offset_text offset) }
+{
+    match offset {
+        Some(at) => {
+            out.put(b" at ");
+            out.put_number(at);
+        }
+        None => {}
+    }
+}
+
+fn put_refusal<W: CountedWrite>(out: &mut Buffered<'_, W>, fault: ReadError)
+    ensures { Puts W.output out.old out.new (refusal_text fault) }
+{
+    out.put(b" refused ");
+    out.put(fault_name(fault));
+    put_offset(out, fault_offset(fault));
+    out.put_byte(b'\n');
+}
+
+fn put_done<W: CountedWrite>(out: &mut Buffered<'_, W>, before: u32, after: u32)
+    ensures { Puts W.output out.old out.new (texts.done_text before after) }
+{
+    out.put(b" done ");
+    put_change(out, u64::from(before), u64::from(after));
+}
+
+fn put_report<W: CountedWrite>(out: &mut Buffered<'_, W>, report: JobReport)
+    ensures { Puts W.output out.old out.new (report_text report) }
+{
+    match report {
+        JobReport::Done(before, after) => put_done(out, before, after),
+        JobReport::Refused(fault) => put_refusal(out, fault),
+        JobReport::NoMemory => out.put(b" memory\n"),
+        JobReport::NoSuchName => out.put(b" refused NoSuchName\n"),
+    }
+}
+
+fn put_job<W: CountedWrite>(out: &mut Buffered<'_, W>, number: u64, report: JobReport)
+    ensures { Puts W.output out.old out.new (job_line number report) }
+{
+    out.put_number(number);
+    put_report(out, report);
+}
+
+/// Prints the line of a file of a batch; files are numbered from 1 on.
+///
+/// Takes no memory.
+///
+/// # Errors
+///
+/// `Device` where a write failed: a beginning of the line was written then, and the writer isn't called again.
+pub fn print_job<W: CountedWrite>(
+    number: u64,
+    report: JobReport,
+    writer: &mut W,
+) -> Result<(), WriteError>
+    ensures { Writes (W.output writer.old) (W.output writer.new) result (job_line number report) }
+{
+    let mut out = Buffered::new(writer);
+    put_job(&mut out, number, report);
+    out.flush()
+}
