@@ -17,7 +17,7 @@ mod cuts;
 #[cfg(test)]
 mod distances;
 #[cfg(test)]
-mod least_sets;
+mod greatest_sets;
 #[cfg(test)]
 mod nets;
 #[cfg(test)]
