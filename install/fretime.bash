@@ -8,7 +8,7 @@ _fretime() {
         return
     fi
     case ${COMP_WORDS[1]} in
-        retime) options="--ascii --binary --workers --frames --keep --help" ;;
+        retime) options="--ascii --binary --workers --frames --near --keep --help" ;;
         convert) options="--ascii --binary --help" ;;
         stat | sim | same) options="--help" ;;
         help)

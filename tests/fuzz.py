@@ -15,7 +15,7 @@ import random_files
 from reference import program as reference_program
 from reference.circuit import ordered
 from reference.reading import Fault, read
-from reference.retiming import greatest_least_by_flow, greatest_least_of_all, held_latches, passable
+from reference.retiming import greatest_least_by_flow, held_latches, least_of_all, passable, smallest_least_by_flow
 
 BENCH = pathlib.Path(__file__).resolve().parent.parent / 'bench'
 WORKERS = [1, 2, 7, 64]
@@ -69,7 +69,7 @@ def content(name):
 def options(rng, c):
     """A number of workers, and at random a spelling, a limit of frames, and names of latches, one of which may be missing."""
     words = ['--workers', str(rng.choice(WORKERS))] + rng.choice([[], [], ['--ascii'], ['--binary']])
-    words += rng.choice([[], [], ['--frames', str(rng.randint(1, 3))]])
+    words += rng.choice([[], [], ['--frames', str(rng.randint(1, 3))]]) + rng.choice([[], ['--near']])
     names = sorted({name for name in c.symbols['l'].values() if name.isascii()})
     if rng.random() < 0.4:
         names = rng.sample(names, rng.randint(0, len(names))) + ([b'no latch'] if rng.random() < 0.1 else [])
@@ -80,7 +80,10 @@ def options(rng, c):
 def both_least_sets_agree(c):
     """Every closed set tried, against augmenting paths."""
     held = set() if len(c.latches) % 2 else held_latches(c, list(c.symbols['l'].values())[:1])
-    return len(passable(c)) > 8 or greatest_least_of_all(c, held) == greatest_least_by_flow(c, held)
+    if len(passable(c)) > 8:
+        return True
+    by_flow = greatest_least_by_flow(c, held), smallest_least_by_flow(c, held)
+    return by_flow == (least_of_all(c, held, smallest=False), least_of_all(c, held, smallest=True))
 
 
 def compare_small(rng, comparison):

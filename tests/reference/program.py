@@ -7,7 +7,7 @@ from reference.retiming import NoSuchName, passable, retimed
 from reference.simulation import difference_text, read_stimulus, trace, trace_text
 
 PATHS = {'retime': 2, 'stat': 1, 'convert': 2, 'sim': 2, 'same': 3}
-OPTIONS = {'retime': {'--ascii', '--binary', '--workers', '--frames', '--keep'}, 'convert': {'--ascii', '--binary'}}
+OPTIONS = {'retime': {'--ascii', '--binary', '--workers', '--frames', '--near', '--keep'}, 'convert': {'--ascii', '--binary'}}
 GREATEST = {'--workers': 64, '--frames': 2**28}
 
 
@@ -80,7 +80,8 @@ def retime(paths, options):
     c, letters = circuit_of(paths[0])
     most = int(options['--frames'][0]) if '--frames' in options else None
     try:
-        d, frames = retimed(c, most, [os.fsencode(name) for name in options.get('--keep', [])])
+        names = [os.fsencode(name) for name in options.get('--keep', [])]
+        d, frames = retimed(c, most, names, '--near' in options)
     except NoSuchName as missing:
         raise Ends(1, f'{paths[0]}: NoSuchName {os.fsdecode(missing.args[0])}') from missing
     write(paths[1], text(d, letters_of(options, letters)))

@@ -50,11 +50,12 @@ def border(c, members, held):
     return [v for v in range(c.first_latch(), c.end()) if v in read and (c.is_known(v) or v in members)]
 
 
-def greatest_least_of_all(c, held):
+def least_of_all(c, held, smallest):
     """By trying every closed set."""
     sets = [(len(border(c, members, held)), members) for members in closed_sets(c, held)]
     least = min(count for count, _ in sets)
-    return least, set().union(*(members for count, members in sets if count == least))
+    sets = [members for count, members in sets if count == least]
+    return least, set.intersection(*sets) if smallest else set.union(*sets)
 
 
 def arcs_of(c, held):
@@ -97,8 +98,8 @@ def path_to_sink(residual):
     return arcs
 
 
-def greatest_least_by_flow(c, held):
-    """By augmenting paths of one unit each: the gates before which the sink can't be reached any more."""
+def maximum_flow(c, held):
+    """By augmenting paths of one unit each: the units, and what room is left on each arc."""
     residual = {tail: dict(heads) for tail, heads in arcs_of(c, held).items()}
     for tail, heads in arcs_of(c, held).items():
         for head in heads:
@@ -110,6 +111,12 @@ def greatest_least_by_flow(c, held):
             residual[tail][head] -= 1
             residual[head][tail] += 1
         path = path_to_sink(residual)
+    return count, residual
+
+
+def greatest_least_by_flow(c, held):
+    """The gates before which the sink can't be reached any more."""
+    count, residual = maximum_flow(c, held)
     reaching, queue = {'sink'}, ['sink']
     for node in queue:
         for tail in residual[node]:
@@ -119,9 +126,26 @@ def greatest_least_by_flow(c, held):
     return count, {v for v in passable(c, held) if (v, '-') not in reaching}
 
 
+def smallest_least_by_flow(c, held):
+    """The gates whose fan-in side can be reached from the source still."""
+    count, residual = maximum_flow(c, held)
+    reached, queue = {'source'}, ['source']
+    for node in queue:
+        for head, room in residual[node].items():
+            if room and head not in reached:
+                reached.add(head)
+                queue.append(head)
+    return count, {v for v in passable(c, held) if (v, '-') in reached}
+
+
 def greatest_least(c, held=frozenset()):
     few = len(passable(c, held)) <= MOST_ENUMERATED
-    return greatest_least_of_all(c, held) if few else greatest_least_by_flow(c, held)
+    return least_of_all(c, held, False) if few else greatest_least_by_flow(c, held)
+
+
+def smallest_least(c, held=frozenset()):
+    few = len(passable(c, held)) <= MOST_ENUMERATED
+    return least_of_all(c, held, True) if few else smallest_least_by_flow(c, held)
 
 
 def values_at_start(c):
@@ -161,12 +185,13 @@ def moved(c, members, held=frozenset()):
     return d, {staying.index(start + k) for k in held}
 
 
-def retimed(c, most=None, names=()):
+def retimed(c, most=None, names=(), smallest=False):
     """The retimed circuit, and for each frame its known latches before and the count of its set."""
+    least_set = smallest_least if smallest else greatest_least
     frames = []
     c, held = cleaned(c, held_latches(c, names))
     while most is None or len(frames) < most:
-        count, members = greatest_least(c, held)
+        count, members = least_set(c, held)
         if count >= c.known_latches():
             break
         frames.append((c.known_latches(), count))

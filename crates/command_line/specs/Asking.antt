@@ -6,6 +6,8 @@ use Rattle.clap.specs.Words.{first_value, found_of, matched_of, one_text, raw_va
 use Rattle.clap.specs.declared.parser.matches.ArgMatches.{ArgMatches}
 use Rattle.spellings.specs.declared.form.Spelling.{Spelling}
 use Rattle.spellings.specs.declared.form.Spelling.TheVariants.{Ascii, Binary}
+use Rattle.least_sets.specs.declared.choice.Choice.{Choice}
+use Rattle.least_sets.specs.declared.choice.Choice.TheVariants.{Greatest, Smallest}
 use Rattle.command_line.specs.declared.task.Retiming.{Retiming}
 use Rattle.command_line.specs.declared.task.Task.{Task}
 use Rattle.command_line.specs.declared.task.Task.TheVariants.{Retime, Stat, Convert, Sim, Same}
@@ -26,6 +28,11 @@ IsSpelling matches (Some Ascii) = IsFlag matches (codes "ascii") true
 IsSpelling matches (Some Binary) = IsFlag matches (codes "ascii") false × IsFlag matches (codes "binary") true
 IsSpelling matches None = IsFlag matches (codes "ascii") false × IsFlag matches (codes "binary") false
 
+-- the smallest least set exactly where its flag is given
+abbrev pub IsChoice : ArgMatches → Choice → Type 0
+IsChoice matches Greatest = IsFlag matches (codes "near") false
+IsChoice matches Smallest = IsFlag matches (codes "near") true
+
 -- the number is the value of the argument with this id, where that is a numeral of 32 bits, and the default where there is none
 pub record IsNumber (matches : ArgMatches) (id : List ℕ) (default number : ℕ) : Type 0 where
   pub none : one_text (found_of matches) id ≡ None → number ≡ default
@@ -43,6 +50,7 @@ pub record IsRetiming (matches : ArgMatches) (retiming : Retiming) : Type 0 wher
   pub spelling : IsSpelling matches retiming.spelling
   pub workers : IsNumber matches (codes "workers") 1 retiming.workers
   pub frames : IsNumber matches (codes "frames") (2 ^ 28) retiming.frames
+  pub choice : IsChoice matches retiming.choice
   pub names : map (λ name. name.now) retiming.keep.items ≡ values_of matches (codes "keep")
 
 -- each path of the task is the value of its own argument, so that no file is written that was to be read

@@ -1,11 +1,12 @@
 ghost use Rattle.std.specs.Prelude.{◌≡◌, IfOk, IfSome, codes, map};
-ghost use Rattle.command_line.specs.Asking.{AsksFor, IsNumber, IsSpelling, values_of};
+ghost use Rattle.command_line.specs.Asking.{AsksFor, IsChoice, IsNumber, IsSpelling, values_of};
 ghost use Rattle.command_line.specs.declared.task.Task.TheVariants.{Retime};
 
 use crate::program::program;
 use crate::task::{Retiming, Task};
 use clap::error::ErrorKind;
 use clap::{ArgMatches, Command, Error};
+use least_sets::Choice;
 use spellings::Spelling;
 use std::alloc::{AllocError, Global};
 
@@ -19,6 +20,17 @@ fn spelling(matches: &ArgMatches<'_>) -> Option<Spelling>
         Some(Spelling::Binary)
     } else {
         None
+    }
+}
+
+/// The least set that a flag chooses: the smallest, else the greatest.
+fn choice(matches: &ArgMatches<'_>) -> Choice
+    ensures { IsChoice matches.now result }
+{
+    if matches.get_flag("near") {
+        Choice::Smallest
+    } else {
+        Choice::Greatest
     }
 }
 
@@ -48,6 +60,7 @@ fn retiming<'a>(alloc: Global, matches: &ArgMatches<'a>) -> Result<Option<Retimi
         spelling: spelling(matches),
         workers: number(matches, "workers", 1),
         frames: number(matches, "frames", 1 << 28),
+        choice: choice(matches),
         keep: keep(alloc, matches)?,
     }))
 }

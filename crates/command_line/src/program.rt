@@ -71,6 +71,14 @@ fn number<'a>(alloc: Global, id: &'a str, most: u64, default: &'a str, help: &'a
         .help(help)
 }
 
+fn near<'a>(alloc: Global) -> Arg<'a> {
+    flag(
+        alloc,
+        "near",
+        "Move each latch as few gates forward as a least count allows",
+    )
+}
+
 fn names<'a>(alloc: Global) -> Arg<'a> {
     Arg::new(alloc, "keep")
         .long("keep")
@@ -136,7 +144,8 @@ fn with_limits<'a>(
     command: Result<Command<'a>, AllocError>,
 ) -> Result<Command<'a>, AllocError> {
     let command = with(command, workers(alloc));
-    with(with(command, frames(alloc)), names(alloc))
+    let command = with(command, frames(alloc));
+    with(with(command, near(alloc)), names(alloc))
 }
 
 fn retime<'a>(alloc: Global) -> Result<Command<'a>, AllocError> {

@@ -1,3 +1,4 @@
+use least_sets::Choice;
 use spellings::Spelling;
 
 /// What `retime` is to do.
@@ -13,6 +14,8 @@ pub struct Retiming<'a> {
     pub workers: u32,
     /// The most frames that are taken.
     pub frames: u32,
+    /// Which of the least sets a frame takes.
+    pub choice: Choice,
     /// The names of the latches that are held in their places.
     pub keep: Vec<&'a str>,
 }

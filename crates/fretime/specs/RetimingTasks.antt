@@ -1,7 +1,6 @@
 -- What the task of a retiming makes of its options, and of an error.
 use Rattle.std.specs.Prelude.{ℕ, ◌≡◌, List, Some, map, slice_get}
 use Rattle.std.specs.Borrow.{Bor}
-use Rattle.least_sets.specs.declared.choice.Choice.TheVariants.{Greatest}
 use Rattle.command_line.specs.declared.task.Retiming.{Retiming}
 use Rattle.frames.specs.declared.options.Options.{Options}
 use Rattle.frames.specs.declared.errors.BytesError.{BytesError}
@@ -11,11 +10,11 @@ use Rattle.circuit_files.specs.Outcomes.{failure_of_reading}
 use Rattle.circuit_files.specs.declared.outcome.Failure.{Failure}
 use Rattle.circuit_files.specs.declared.outcome.Failure.TheVariants as fails
 
--- the options are the task's, with the greatest least sets
+-- the options are the task's
 pub record AreOptionsOf (task : Retiming) (options : Options) : Type 0 where
   pub spelling : options.spelling ≡ task.spelling
   pub frames : options.max_frames ≡ task.frames
-  pub choice : options.choice ≡ Greatest
+  pub choice : options.choice ≡ task.choice
   pub names : map (λ name. name.items) options.keep.items ≡ map (λ name. name.now) task.keep.items
 
 -- the failure that an error is: of the file that is read, of the one that is written, or of a name that no latch has

@@ -7,7 +7,7 @@ use crate::ended::ended;
 use circuit_files::{Failure, LazyFile, Outcome};
 use command_line::Retiming;
 use counted_io::{Counted, CountedWrite};
-use frames::{BytesError, Choice, Options, RetimeError, Retimed, retime_bytes};
+use frames::{BytesError, Options, RetimeError, Retimed, retime_bytes};
 use pulse::{Crew, OpenGate};
 use reports::print_retiming;
 use std::alloc::{AllocError, Global};
@@ -35,7 +35,7 @@ fn options(alloc: Global, task: &Retiming<'_>) -> Result<Options, AllocError>
     Ok(Options {
         spelling: task.spelling,
         max_frames: task.frames,
-        choice: Choice::Greatest,
+        choice: task.choice,
         keep: names(alloc, task.keep.as_slice())?,
     })
 }
