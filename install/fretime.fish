@@ -1,6 +1,7 @@
 # Completions of fretime for fish.
 
 complete -c fretime -n __fish_use_subcommand -f -a retime -d 'Moves latches forward over gates, frame by frame, until none helps'
+complete -c fretime -n __fish_use_subcommand -f -a batch -d 'Retimes the circuits of a list, many at once'
 complete -c fretime -n __fish_use_subcommand -f -a stat -d 'Counts what a circuit has, as it was read'
 complete -c fretime -n __fish_use_subcommand -f -a convert -d 'Writes a circuit as it was read; without a flag in the other spelling'
 complete -c fretime -n __fish_use_subcommand -f -a sim -d 'Prints the values of all properties under a stimulus'
@@ -8,7 +9,7 @@ complete -c fretime -n __fish_use_subcommand -f -a same -d 'Finds the first diff
 complete -c fretime -n __fish_use_subcommand -f -a help -d 'Print this message or the help of the given subcommand(s)'
 complete -c fretime -n __fish_use_subcommand -s V -l version -d 'Print version'
 complete -c fretime -n 'not __fish_seen_subcommand_from help' -s h -l help -d 'Print help'
-complete -c fretime -n '__fish_seen_subcommand_from help' -f -a 'retime stat convert sim same help'
+complete -c fretime -n '__fish_seen_subcommand_from help' -f -a 'retime batch stat convert sim same help'
 
 complete -c fretime -n '__fish_seen_subcommand_from retime' -l ascii -d 'Write ASCII'
 complete -c fretime -n '__fish_seen_subcommand_from retime' -l binary -d 'Write binary'
@@ -16,6 +17,12 @@ complete -c fretime -n '__fish_seen_subcommand_from retime' -x -l workers -d 'Th
 complete -c fretime -n '__fish_seen_subcommand_from retime' -x -l frames -d 'The most frames to take'
 complete -c fretime -n '__fish_seen_subcommand_from retime' -l near -d 'Move each latch as few gates forward as a least count allows'
 complete -c fretime -n '__fish_seen_subcommand_from retime' -x -l keep -d 'Hold each latch with this name in its place; may be given more than once'
+
+complete -c fretime -n '__fish_seen_subcommand_from batch' -l ascii -d 'Write ASCII'
+complete -c fretime -n '__fish_seen_subcommand_from batch' -l binary -d 'Write binary'
+complete -c fretime -n '__fish_seen_subcommand_from batch' -x -l workers -d 'Threads, each of which retimes a circuit at a time'
+complete -c fretime -n '__fish_seen_subcommand_from batch' -x -l frames -d 'The most frames to take'
+complete -c fretime -n '__fish_seen_subcommand_from batch' -l near -d 'Move each latch as few gates forward as a least count allows'
 
 complete -c fretime -n '__fish_seen_subcommand_from convert' -l ascii -d 'Write ASCII'
 complete -c fretime -n '__fish_seen_subcommand_from convert' -l binary -d 'Write binary'

@@ -105,6 +105,16 @@ def zeros(count):
     return f'aag {"0" * count} 0 0 0 0\n'
 
 
+def entries(count):
+    """A list of so many lines, each of two empty paths."""
+    return b'\t\n' * count
+
+
+def entries_and_a_bad_one(count):
+    """The same, and a line without a tab after them."""
+    return entries(count) + b'\n'
+
+
 def empty():
     """A circuit without a part."""
     return header(0, 0, 0, 0)
@@ -137,5 +147,5 @@ def bare_sequences(count):
 
 GENERATORS = {it.__name__: it for it in (
     chain, chain_in_binary, pair_then_chain, pair_then_chain_moved, backward, refused_early, outputs, zeros, empty, long_literal,
-    alternating_stimulus, alternating_trace, sequences, bare_sequences,
+    alternating_stimulus, alternating_trace, sequences, bare_sequences, entries, entries_and_a_bad_one,
 )}

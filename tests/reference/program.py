@@ -6,9 +6,13 @@ from reference.reading import Fault, read
 from reference.retiming import NoSuchName, passable, retimed
 from reference.simulation import difference_text, read_stimulus, trace, trace_text
 
-PATHS = {'retime': 2, 'stat': 1, 'convert': 2, 'sim': 2, 'same': 3}
-OPTIONS = {'retime': {'--ascii', '--binary', '--workers', '--frames', '--near', '--keep'}, 'convert': {'--ascii', '--binary'}}
+PATHS = {'retime': 2, 'batch': 1, 'stat': 1, 'convert': 2, 'sim': 2, 'same': 3}
+OPTIONS = {'retime': {'--ascii', '--binary', '--workers', '--frames', '--near', '--keep'},
+           'batch': {'--ascii', '--binary', '--workers', '--frames', '--near'}, 'convert': {'--ascii', '--binary'}}
 GREATEST = {'--workers': 64, '--frames': 2**28}
+
+
+LINES = 2**20
 
 
 class Ends(Exception):
@@ -89,6 +93,48 @@ def retime(paths, options):
     return 0, ''.join(lines) + f'latches {len(c.latches)} to {len(d.latches)}\n'
 
 
+def entries_of(path):
+    """The paths of each line of a list."""
+    data, at, found = bytes_of(path), 0, []
+    lines = data.split(b'\n')
+    for line in lines[:-1] if lines[-1] == b'' else lines:
+        try:
+            input_path, output_path = line.decode().split('\t')
+        except ValueError as error:
+            raise Ends(1, f'{path}: BadLine at {at}') from error
+        if len(found) == LINES:
+            raise Ends(1, f'{path}: TooLarge at {at}')
+        found.append((input_path, output_path))
+        at += len(line) + 1
+    return found
+
+
+def say(line):
+    """Prints a line at once."""
+    try:
+        os.write(1, line.encode())
+    except OSError as error:
+        raise Ends(3, 'stdout: device') from error
+
+
+def batch(paths, options):
+    entries = entries_of(paths[0])
+    jobs = [bytes_of(input_path) for input_path, _ in entries]
+    most = int(options['--frames'][0]) if '--frames' in options else None
+    ended = 0
+    for k, (data, (_, output_path)) in enumerate(zip(jobs, entries)):
+        try:
+            c, letters = read(data)
+        except Fault as fault:
+            ended = ended or 1
+            say(f'{k + 1} refused {fault}\n')
+            continue
+        d, _ = retimed(c, most, [], '--near' in options)
+        write(output_path, text(d, letters_of(options, letters)))
+        say(f'{k + 1} done {len(c.latches)} to {len(d.latches)}\n')
+    return ended, ''
+
+
 def stat(paths, _):
     c, _ = circuit_of(paths[0])
     counts = {
@@ -116,7 +162,7 @@ def same(paths, _):
     return {'same\n': 0, 'shapes differ\n': 1}.get(said, 5), said
 
 
-COMMANDS = {'retime': retime, 'stat': stat, 'convert': convert, 'sim': sim, 'same': same}
+COMMANDS = {'retime': retime, 'batch': batch, 'stat': stat, 'convert': convert, 'sim': sim, 'same': same}
 
 
 def run(words):

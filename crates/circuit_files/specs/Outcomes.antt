@@ -6,6 +6,8 @@ use Rattle.file_words.specs.declared.fault.ReadError.{ReadError}
 use Rattle.file_words.specs.declared.fault.ReadError.TheVariants as reading
 use Rattle.counted_io.specs.declared.reading.ReadAllError.{ReadAllError}
 use Rattle.counted_io.specs.declared.reading.ReadAllError.TheVariants as whole
+use Rattle.batch_lists.specs.declared.fault.ListError.{ListError}
+use Rattle.batch_lists.specs.declared.fault.ListError.TheVariants as lists
 use Rattle.lane_sim.specs.declared.fault.StimError.{StimError}
 use Rattle.lane_sim.specs.declared.fault.StimError.TheVariants as stimuli
 use Rattle.circuit_files.specs.declared.outcome.Outcome.{Outcome}
@@ -16,6 +18,7 @@ use Rattle.circuit_files.specs.declared.outcome.Failure.TheVariants as fails
 abbrev pub outcome_of : Failure → Outcome
 outcome_of (fails.Refused path fault) = ends.Refused
 outcome_of (fails.RefusedStimulus path fault) = ends.Refused
+outcome_of (fails.RefusedList path fault) = ends.Refused
 outcome_of (fails.NoSuchName path name) = ends.Refused
 outcome_of (fails.Device path) = ends.Device
 outcome_of fails.Memory = ends.Memory
@@ -33,6 +36,10 @@ failure_of_bytes whole.Device path = fails.Device path
 abbrev pub failure_of_stimulus : StimError → Bor (List ℕ) → Failure
 failure_of_stimulus stimuli.NoMemory path = fails.Memory
 failure_of_stimulus fault path = fails.RefusedStimulus path fault
+
+abbrev pub failure_of_list : ListError → Bor (List ℕ) → Failure
+failure_of_list lists.NoMemory path = fails.Memory
+failure_of_list fault path = fails.RefusedList path fault
 
 -- nothing is printed, unless all was done, circuits were compared, or a device failed
 abbrev pub IsQuiet : Outcome → Output → Output → Type 0

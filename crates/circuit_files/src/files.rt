@@ -69,7 +69,11 @@ fn bytes_of<'a, R: CountedRead>(
 }
 
 /// All bytes of a file.
-fn bytes_at<'a, R: Files>(rt: &R, alloc: Global, path: &'a str) -> Result<Vec<u8>, Failure<'a>> {
+pub fn bytes_at<'a, R: Files>(
+    rt: &R,
+    alloc: Global,
+    path: &'a str,
+) -> Result<Vec<u8>, Failure<'a>> {
     let Ok(input) = File::open(rt, path) else {
         return Err(Failure::Device(path));
     };

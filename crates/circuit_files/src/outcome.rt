@@ -1,6 +1,7 @@
 ghost use Rattle.std.specs.Prelude.{◌≡◌};
-ghost use Rattle.circuit_files.specs.Outcomes.{outcome_of, failure_of_bytes, failure_of_reading, failure_of_stimulus};
+ghost use Rattle.circuit_files.specs.Outcomes.{outcome_of, failure_of_bytes, failure_of_list, failure_of_reading, failure_of_stimulus};
 
+use batch_lists::ListError;
 use counted_io::ReadAllError;
 use file_words::ReadError;
 use lane_sim::StimError;
@@ -52,6 +53,9 @@ pub enum Failure<'a> {
     /// The stimulus has a fault.
     #[error("{0}: {1}")]
     RefusedStimulus(&'a str, StimError),
+    /// The list of files has a fault.
+    #[error("{0}: {1}")]
+    RefusedList(&'a str, ListError),
     /// No latch of the circuit has the name.
     #[error("{0}: NoSuchName {1}")]
     NoSuchName(&'a str, &'a str),
@@ -85,6 +89,16 @@ impl<'a> Failure<'a> {
         }
     }
 
+    /// The failure that an error of reading a list of files is, with the list's path.
+    pub fn of_list(error: ListError, path: &'a str) -> Failure<'a>
+        ensures { result ≡ failure_of_list error path.entry }
+    {
+        match error {
+            ListError::NoMemory => Failure::Memory,
+            fault => Failure::RefusedList(path, fault),
+        }
+    }
+
     /// The failure that an error of reading all bytes is, with the file's path.
     pub fn of_bytes(error: ReadAllError, path: &'a str) -> Failure<'a>
         ensures { result ≡ failure_of_bytes error path.entry }
@@ -100,8 +114,10 @@ impl<'a> Failure<'a> {
         ensures { result ≡ outcome_of self.entry }
     {
         match self {
-            Failure::Refused(_, _) | Failure::RefusedStimulus(_, _) | Failure::NoSuchName(_, _) =>
-                Outcome::Refused,
+            Failure::Refused(_, _)
+            | Failure::RefusedStimulus(_, _)
+            | Failure::RefusedList(_, _)
+            | Failure::NoSuchName(_, _) => Outcome::Refused,
             Failure::Device(_) => Outcome::Device,
             Failure::Memory => Outcome::Memory,
         }

@@ -9,8 +9,9 @@ use Rattle.spellings.specs.declared.form.Spelling.TheVariants.{Ascii, Binary}
 use Rattle.least_sets.specs.declared.choice.Choice.{Choice}
 use Rattle.least_sets.specs.declared.choice.Choice.TheVariants.{Greatest, Smallest}
 use Rattle.command_line.specs.declared.task.Retiming.{Retiming}
+use Rattle.command_line.specs.declared.task.Batch.{Batch as Batching}
 use Rattle.command_line.specs.declared.task.Task.{Task}
-use Rattle.command_line.specs.declared.task.Task.TheVariants.{Retime, Stat, Convert, Sim, Same}
+use Rattle.command_line.specs.declared.task.Task.TheVariants.{Retime, Batch, Stat, Convert, Sim, Same}
 
 -- the text is the first value of the argument with this id
 abbrev pub IsGiven : ArgMatches → List ℕ → Bor (List ℕ) → Type 0
@@ -53,9 +54,18 @@ pub record IsRetiming (matches : ArgMatches) (retiming : Retiming) : Type 0 wher
   pub choice : IsChoice matches retiming.choice
   pub names : map (λ name. name.now) retiming.keep.items ≡ values_of matches (codes "keep")
 
+-- the list and the options of a batch are the values of their own arguments
+pub record IsBatch (matches : ArgMatches) (batch : Batching) : Type 0 where
+  pub list : IsGiven matches (codes "LIST") batch.list
+  pub spelling : IsSpelling matches batch.spelling
+  pub workers : IsNumber matches (codes "workers") 1 batch.workers
+  pub frames : IsNumber matches (codes "frames") (2 ^ 28) batch.frames
+  pub choice : IsChoice matches batch.choice
+
 -- each path of the task is the value of its own argument, so that no file is written that was to be read
 abbrev pub AsksFor : ArgMatches → Task → Type 0
 AsksFor matches (Retime retiming) = IsRetiming matches retiming
+AsksFor matches (Batch batch) = IsBatch matches batch
 AsksFor matches (Stat input) = IsGiven matches (codes "IN") input
 AsksFor matches (Convert input output spelling) = IsGiven matches (codes "IN") input × IsGiven matches (codes "OUT") output × IsSpelling matches spelling
 AsksFor matches (Sim input stimulus) = IsGiven matches (codes "IN") input × IsGiven matches (codes "STIM") stimulus

@@ -1,9 +1,9 @@
-ghost use Rattle.std.specs.Prelude.{◌≡◌, IfOk, IfSome, codes, map};
+ghost use Rattle.std.specs.Prelude.{◌≡◌, ◌^◌, IfOk, IfSome, codes, map};
 ghost use Rattle.command_line.specs.Asking.{AsksFor, IsChoice, IsNumber, IsSpelling, values_of};
 ghost use Rattle.command_line.specs.declared.task.Task.TheVariants.{Retime};
 
 use crate::program::program;
-use crate::task::{Retiming, Task};
+use crate::task::{Batch, Retiming, Task};
 use clap::error::ErrorKind;
 use clap::{ArgMatches, Command, Error};
 use least_sets::Choice;
@@ -41,6 +41,18 @@ fn number(matches: &ArgMatches<'_>, id: &str, default: u32) -> u32
     matches.get_one(id).unwrap_or(default)
 }
 
+fn workers(matches: &ArgMatches<'_>) -> u32
+    ensures { IsNumber matches.now (codes "workers") 1 result }
+{
+    number(matches, "workers", 1)
+}
+
+fn frames(matches: &ArgMatches<'_>) -> u32
+    ensures { IsNumber matches.now (codes "frames") (2 ^ 28) result }
+{
+    number(matches, "frames", 1 << 28)
+}
+
 /// The names of the latches that are held.
 fn keep<'a>(alloc: Global, matches: &ArgMatches<'a>) -> Result<Vec<&'a str>, AllocError>
     ensures { IfOk result (λ names. map (λ name. name.now) names.items ≡ values_of matches.now (codes "keep")) }
@@ -58,10 +70,22 @@ fn retiming<'a>(alloc: Global, matches: &ArgMatches<'a>) -> Result<Option<Retimi
         input,
         output,
         spelling: spelling(matches),
-        workers: number(matches, "workers", 1),
-        frames: number(matches, "frames", 1 << 28),
+        workers: workers(matches),
+        frames: frames(matches),
         choice: choice(matches),
         keep: keep(alloc, matches)?,
+    }))
+}
+
+fn batch<'a>(matches: &ArgMatches<'a>) -> Option<Task<'a>>
+    ensures { IfSome result (AsksFor matches.now) }
+{
+    Some(Task::Batch(Batch {
+        list: matches.get_str("LIST")?,
+        spelling: spelling(matches),
+        workers: workers(matches),
+        frames: frames(matches),
+        choice: choice(matches),
     }))
 }
 
@@ -95,6 +119,7 @@ fn task<'a>(
 ) -> Result<Option<Task<'a>>, AllocError> {
     let task = match name {
         "retime" => retiming(alloc, matches)?.map(|retiming| Task::Retime(retiming)),
+        "batch" => batch(matches),
         "stat" => matches.get_str("IN").map(|input| Task::Stat(input)),
         "convert" => conversion(matches),
         "sim" => simulation(matches),

@@ -33,6 +33,23 @@ It prints a line for each frame that was taken, and then the numbers of all latc
 
 Exit status: 0 done, 1 IN is no circuit or has no latch NAME, 2 command line, 3 device, 4 out of memory.";
 
+const BATCH_ABOUT: &str = "Retimes the circuits of a list, many at once";
+
+const BATCH_LONG_ABOUT: &str =
+    "Reads a list of circuits, retimes each as 'retime' does, and writes each to a file of its own.
+
+A line of LIST is the path of a circuit, a tab, and the path of the file to write. All circuits are read before the first is
+retimed. The workers take them one at a time; what is written is the same for every number of workers.";
+
+const BATCH_EXAMPLE: &str =
+    "It prints a line for each circuit, in the order of the list, once its file is written:
+  1 done 2 to 1
+  2 refused BadLine at 18
+  3 memory
+
+Exit status: 0 all are done, else 1 or 4 by the first that is refused or lacked memory; 1 LIST is no list, 2 command line,
+3 device, 4 out of memory.";
+
 const STAT_EXAMPLE: &str =
     "Latches are free where they have no known reset; free latches never move.
 
@@ -125,8 +142,8 @@ fn with_spelling<'a>(
     with(command, flag(alloc, "binary", "Write binary"))
 }
 
-fn workers<'a>(alloc: Global) -> Arg<'a> {
-    number(alloc, "workers", 64, "1", "Threads that work on the flow")
+fn workers<'a>(alloc: Global, help: &'a str) -> Arg<'a> {
+    number(alloc, "workers", 64, "1", help)
 }
 
 fn frames<'a>(alloc: Global) -> Arg<'a> {
@@ -142,10 +159,11 @@ fn frames<'a>(alloc: Global) -> Arg<'a> {
 fn with_limits<'a>(
     alloc: Global,
     command: Result<Command<'a>, AllocError>,
+    threads: &'a str,
 ) -> Result<Command<'a>, AllocError> {
-    let command = with(command, workers(alloc));
+    let command = with(command, workers(alloc, threads));
     let command = with(command, frames(alloc));
-    with(with(command, near(alloc)), names(alloc))
+    with(command, near(alloc))
 }
 
 fn retime<'a>(alloc: Global) -> Result<Command<'a>, AllocError> {
@@ -156,7 +174,28 @@ fn retime<'a>(alloc: Global) -> Result<Command<'a>, AllocError> {
         .after_help(RETIME_EXAMPLE)
         .arg_required_else_help(true);
     let command = with_spelling(alloc, with_files(alloc, command), ascii);
-    with_limits(alloc, command)
+    let command = with_limits(alloc, command, "Threads that work on the flow");
+    with(command, names(alloc))
+}
+
+fn batch<'a>(alloc: Global) -> Result<Command<'a>, AllocError> {
+    let ascii = ascii(alloc)?;
+    let command = Command::new(alloc, "batch")
+        .about(BATCH_ABOUT)
+        .long_about(BATCH_LONG_ABOUT)
+        .after_help(BATCH_EXAMPLE)
+        .arg_required_else_help(true)
+        .arg(path(
+            alloc,
+            "LIST",
+            "The list: a line for each circuit, IN, a tab, and OUT",
+        ));
+    let command = with_spelling(alloc, command, ascii);
+    with_limits(
+        alloc,
+        command,
+        "Threads, each of which retimes a circuit at a time",
+    )
 }
 
 fn stat<'a>(alloc: Global) -> Result<Command<'a>, AllocError> {
@@ -211,6 +250,7 @@ fn bare_program<'a>(alloc: Global) -> Command<'a> {
 /// The program's commands.
 pub(crate) fn program<'a>(alloc: Global) -> Result<Command<'a>, AllocError> {
     let program = with_command(Ok(bare_program(alloc)), retime(alloc));
+    let program = with_command(program, batch(alloc));
     let program = with_command(program, stat(alloc));
     let program = with_command(program, convert(alloc));
     let program = with_command(program, sim(alloc));

@@ -20,11 +20,28 @@ pub struct Retiming<'a> {
     pub keep: Vec<&'a str>,
 }
 
+/// What `batch` is to do.
+#[derive(Drop)]
+pub struct Batch<'a> {
+    /// The path of the list of files.
+    pub list: &'a str,
+    /// The spelling of the written files; `None` is that of the read one, for each.
+    pub spelling: Option<Spelling>,
+    /// The number of workers, from 1 to 64, each of which takes a file at a time.
+    pub workers: u32,
+    /// The most frames that are taken of a circuit.
+    pub frames: u32,
+    /// Which of the least sets a frame takes.
+    pub choice: Choice,
+}
+
 /// What a command line asks for. Each text is a path, as it was given.
 #[derive(Drop)]
 pub enum Task<'a> {
     /// Retime a circuit.
     Retime(Retiming<'a>),
+    /// Retime the circuits of a list.
+    Batch(Batch<'a>),
     /// Count what a circuit has.
     Stat(&'a str),
     /// Write a circuit in a spelling; `None` is the one that wasn't read.

@@ -2,3 +2,4 @@ pub mod Printing
 pub mod Comparing
 pub mod RetimingTasks
 pub mod OtherSpelling
+pub mod Batches

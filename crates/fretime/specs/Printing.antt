@@ -1,11 +1,12 @@
 -- What a run may have given standard output, by how it ended.
-use Rattle.std.specs.Prelude.{ℕ, ◌≡◌, List, Result, Ok, Err, MatchResult}
+use Rattle.std.specs.Prelude.{ℕ, ◌≡◌, ◌⊎◌, List, Result, Ok, Err, MatchResult}
 use Rattle.counted_io.specs.Output.{Output, WritesAll, WritesPart}
 use Rattle.reports.specs.Differences.{shapes_text}
 use Rattle.circuit_files.specs.Outcomes.{outcome_of}
 use Rattle.circuit_files.specs.declared.outcome.Outcome.{Outcome}
 use Rattle.circuit_files.specs.declared.outcome.Outcome.TheVariants.{Done, Refused, ShapesDiffer, CommandLine, Device, Memory, Differ}
 use Rattle.circuit_files.specs.declared.outcome.Failure.{Failure}
+use Rattle.fretime.specs.Batches.{PrintsList}
 
 -- how the run of a command ends
 abbrev pub ending : Result Outcome Failure → Outcome
@@ -17,7 +18,7 @@ abbrev pub EndsPrinting : Outcome → List ℕ → Output → Output → Result 
 EndsPrinting outcome text old new result =
     MatchResult result (λ ended. (ended ≡ outcome) × WritesAll old new text) (λ failure. (outcome_of failure ≡ Device) × WritesPart old new text)
 
--- a command prints once all else is done: nothing is printed where it failed before that
+-- a command but `batch` prints once all else is done: nothing is printed where it failed before that
 abbrev pub Prints : Outcome → Output → Output → Type 0
 Prints Done old new = Unit {0}
 Prints Differ old new = Unit {0}
@@ -26,3 +27,7 @@ Prints ShapesDiffer old new = WritesAll old new shapes_text
 Prints Refused old new = new ≡ old
 Prints CommandLine old new = new ≡ old
 Prints Memory old new = new ≡ old
+
+-- what a run may have printed
+abbrev pub MayPrint : Outcome → Output → Output → Type 0
+MayPrint outcome old new = Prints outcome old new ⊎ PrintsList outcome old new

@@ -1,7 +1,8 @@
-//! The program `fretime`: reads AIGER circuits, moves latches forward over gates so that fewer are left, simulates,
-//! compares and converts.
+//! The program `fretime`: reads AIGER circuits, moves latches forward over gates so that fewer are left, one or
+//! many at once, simulates, compares and converts.
 #![tactic(auto)]
 
+mod batch;
 mod comparison;
 mod conversion;
 mod ended;

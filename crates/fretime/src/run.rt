@@ -1,12 +1,15 @@
-ghost use Rattle.std.specs.Prelude.{◌≡◌, ◌⊎◌, ◌≤◌};
+ghost use Rattle.std.specs.Prelude.{◌≡◌, ◌⊎◌, ◌≤◌, IfOk};
 ghost use Rattle.counted_io.specs.Output.{WritesAll};
 ghost use Rattle.reports.specs.Differences.{shapes_text};
 ghost use Rattle.circuit_files.specs.Outcomes.{outcome_of};
-ghost use Rattle.circuit_files.specs.declared.outcome.Outcome.TheVariants.{Done, CommandLine, Memory};
-ghost use Rattle.fretime.specs.Printing.{Prints, ending};
+ghost use Rattle.circuit_files.specs.declared.outcome.Outcome.TheVariants.{Done, Refused, CommandLine, Memory};
+ghost use Rattle.fretime.specs.Printing.{MayPrint, ending};
+ghost use Rattle.fretime.specs.Batches.{PrintsFiles};
 
+use crate::batch::retime_list;
 use crate::comparison::print_comparison;
 use crate::conversion::convert_file;
+use crate::ended::report_failure;
 use crate::retiming::print_retimed;
 use crate::simulation::print_simulation;
 use crate::statistics::print_statistics;
@@ -21,36 +24,55 @@ use std::io;
 use std::rt::Files;
 use std::thread::Threads;
 
-/// Does what the command line asks for.
-fn run_task<'a, R: Files + Threads + Sync, O: CountedWrite>(
+/// How a command ends. Where it failed, reports why.
+fn reported<'a, E: CountedWrite>(ended: Result<Outcome, Failure<'a>>, err: &mut E) -> Outcome
+    ensures { result ≡ ending ended.entry }
+{
+    match ended {
+        Ok(outcome) => outcome,
+        Err(failure) => report_failure(failure, err),
+    }
+}
+
+fn converted<'a>(written: Result<(), Failure<'a>>) -> Result<Outcome, Failure<'a>>
+    ensures { IfOk result (λ ended. ended ≡ Done) }
+{
+    match written {
+        Ok(()) => Ok(Outcome::Done),
+        Err(failure) => Err(failure),
+    }
+}
+
+/// Does what the command line asks for, and returns how the run ends.
+fn run_task<'a, R: Files + Threads + Sync, O: CountedWrite, E: CountedWrite>(
     rt: &R,
     alloc: Global,
     task: &Task<'a>,
     out: &mut O,
-) -> Result<Outcome, Failure<'a>>
-    ensures { Prints (ending result) (O.output out.old) (O.output out.new) }
+    err: &mut E,
+) -> Outcome
+    ensures { MayPrint result (O.output out.old) (O.output out.new) }
 {
     match task {
-        Task::Retime(retiming) => print_retimed(rt, alloc, retiming, out),
-        Task::Stat(input) => print_statistics(rt, alloc, input, out),
+        Task::Retime(retiming) => reported(print_retimed(rt, alloc, retiming, out), err),
+        Task::Batch(batch) => retime_list(rt, alloc, batch, out, err),
+        Task::Stat(input) => reported(print_statistics(rt, alloc, input, out), err),
         Task::Convert(input, output, spelling) => {
-            convert_file(rt, alloc, input, output, *spelling).map(|_| Outcome::Done)
+            reported(
+                converted(convert_file(rt, alloc, input, output, *spelling)),
+                err,
+            )
         }
-        Task::Sim(input, stimulus) => print_simulation(rt, alloc, input, stimulus, out),
+        Task::Sim(input, stimulus) => {
+            reported(print_simulation(rt, alloc, input, stimulus, out), err)
+        }
         Task::Same(first, second, stimulus) => {
-            print_comparison(rt, alloc, first, second, stimulus, out)
+            reported(
+                print_comparison(rt, alloc, first, second, stimulus, out),
+                err,
+            )
         }
     }
-}
-
-/// Reports a failure on one line, and returns how the run ends. A failed write changes nothing.
-fn report_failure<E: CountedWrite>(failure: Failure<'_>, err: &mut E) -> Outcome
-    ensures { result ≡ outcome_of failure.entry }
-{
-    let mut out = Buffered::new(err);
-    let _ = writeln!(out, "{failure}");
-    let _ = out.flush();
-    failure.outcome()
 }
 
 /// Prints help, the version, or what is wrong with the arguments, and returns how the run ends. A failed write changes
@@ -93,13 +115,10 @@ fn run_command<R: Files + Threads + Sync, O: CountedWrite, E: CountedWrite>(
     out: &mut O,
     err: &mut E,
 ) -> Outcome
-    ensures { Prints result (O.output out.old) (O.output out.new) }
+    ensures { MayPrint result (O.output out.old) (O.output out.new) }
 {
     match parse_arguments(alloc, words) {
-        Ok(task) => match run_task(rt, alloc, &task, out) {
-            Ok(outcome) => outcome,
-            Err(failure) => report_failure(failure, err),
-        },
+        Ok(task) => run_task(rt, alloc, &task, out, err),
         Err(error) => report_usage(&error, err),
     }
 }
@@ -107,7 +126,7 @@ fn run_command<R: Files + Threads + Sync, O: CountedWrite, E: CountedWrite>(
 /// Runs the program on these arguments, its own name first, and returns the exit status: 0 done, 1 a file that is refused, or
 /// circuits that can't be compared, 2 command line, 3 device, 4 memory, 5 circuits that differ.
 ///
-/// What was done is printed to `out` once the file is written. Why nothing was done goes to `err`, and so do help and
+/// What was done is printed to `out` once the file is written; of a batch, file by file. Why nothing was done goes to `err`, and so do help and
 /// the version; a failed write to `err` doesn't change the status. The texts on `err` are only tested.
 pub fn run_words<R: Files + Threads + Sync, O: CountedWrite, E: CountedWrite>(
     rt: &R,
@@ -117,8 +136,9 @@ pub fn run_words<R: Files + Threads + Sync, O: CountedWrite, E: CountedWrite>(
     err: &mut E,
 ) -> u8
     ensures status { result ≤ 5 }
-    ensures refused { (result ≡ 1) → (O.output out.new ≡ O.output out.old) ⊎ WritesAll (O.output out.old) (O.output out.new) shapes_text }
-    ensures quiet { (result ≡ 2) ⊎ (result ≡ 4) → O.output out.new ≡ O.output out.old }
+    ensures refused { (result ≡ 1) → (O.output out.new ≡ O.output out.old) ⊎ WritesAll (O.output out.old) (O.output out.new) shapes_text ⊎ PrintsFiles Refused (O.output out.old) (O.output out.new) }
+    ensures quiet { (result ≡ 2) → O.output out.new ≡ O.output out.old }
+    ensures memory { (result ≡ 4) → (O.output out.new ≡ O.output out.old) ⊎ PrintsFiles Memory (O.output out.old) (O.output out.new) }
 {
     run_command(rt, alloc, words, out, err).status()
 }

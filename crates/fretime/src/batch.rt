@@ -1,0 +1,239 @@
+//! The command `batch`.
+ghost use Rattle.std.specs.Prelude.{◌≡◌, ◌+◌, IfErr, IfOk, MatchResult, OnOk, length, map};
+ghost use Rattle.counted_io.specs.Output.{WritesAll};
+ghost use Rattle.reports.specs.Batches.{job_line};
+ghost use Rattle.circuit_files.specs.Outcomes.{outcome_of};
+ghost use Rattle.circuit_files.specs.declared.outcome.Outcome.TheVariants.{Device};
+ghost use Rattle.fretime.specs.Batches.{Printed, PrintsList};
+ghost use Rattle.fretime.specs.Batches as wanted;
+
+use crate::ended::report_failure;
+use batch_lists::{Entry, read_list};
+use batch_pool::{Job, run_batch};
+use circuit_files::{Failure, LazyFile, Outcome, bytes_at};
+use command_line::Batch;
+use counted_io::{Counted, CountedWrite, write_all};
+use frames::Options;
+use pulse::{Crew, OpenGate};
+use reports::{JobReport, print_job};
+use std::alloc::Global;
+use std::rt::Files;
+use std::thread::Threads;
+
+/// The most workers of a crew.
+const MOST_WORKERS: u32 = 64;
+
+fn add_job<'a>(jobs: &mut Vec<Job>, job: Job) -> Result<(), Failure<'a>>
+    ensures { OnOk result (length jobs.new.items ≡ length jobs.old.items + 1) }
+{
+    match jobs.push(job) {
+        Ok(()) => Ok(()),
+        Err(_) => Err(Failure::Memory),
+    }
+}
+
+/// Reads the files of the entries, all of them.
+fn read_jobs<'a, R: Files>(
+    rt: &R,
+    alloc: Global,
+    entries: &[Entry<'a>],
+) -> Result<Vec<Job>, Failure<'a>>
+    ensures { IfOk result (λ jobs. length jobs.items ≡ length entries.now) }
+{
+    let mut jobs = Vec::new(alloc);
+    for entry in entries {
+        let bytes = bytes_at(rt, alloc, entry.input)?;
+        add_job(&mut jobs, Job { bytes })?;
+    }
+    Ok(jobs)
+}
+
+/// What becomes of the jobs.
+fn run_jobs<'a, R: Threads + Sync>(
+    rt: &R,
+    alloc: Global,
+    jobs: &[Job],
+    task: &Batch<'_>,
+) -> Result<Vec<batch_pool::Outcome>, Failure<'a>>
+    ensures { IfOk result (λ outcomes. length outcomes.items ≡ length jobs.now) }
+{
+    let options = Options {
+        spelling: task.spelling,
+        max_frames: task.frames,
+        choice: task.choice,
+        keep: Vec::new(alloc),
+    };
+    let crew = Crew::new(task.workers.clamp(1, MOST_WORKERS), OpenGate);
+    match run_batch(rt, alloc, jobs, &options, &crew) {
+        Ok(outcomes) => Ok(outcomes),
+        Err(_) => Err(Failure::Memory),
+    }
+}
+
+/// What becomes of the files of the entries.
+fn outcomes<'a, R: Files + Threads + Sync>(
+    rt: &R,
+    alloc: Global,
+    entries: &[Entry<'a>],
+    task: &Batch<'_>,
+) -> Result<Vec<batch_pool::Outcome>, Failure<'a>>
+    ensures { IfOk result (λ outcomes. length outcomes.items ≡ length entries.now) }
+{
+    match read_jobs(rt, alloc, entries) {
+        Ok(jobs) => run_jobs(rt, alloc, jobs.as_slice(), task),
+        Err(failure) => Err(failure),
+    }
+}
+
+/// What is printed of an outcome.
+fn report_of(outcome: &batch_pool::Outcome) -> JobReport
+    ensures { result ≡ wanted.report_of outcome.now }
+{
+    match outcome {
+        batch_pool::Outcome::Done { before, after, .. } => JobReport::Done(*before, *after),
+        batch_pool::Outcome::Refused(fault) => JobReport::Refused(*fault),
+        batch_pool::Outcome::NoMemory => JobReport::NoMemory,
+        batch_pool::Outcome::NoSuchName(_) => JobReport::NoSuchName,
+    }
+}
+
+fn write_file<'a, R: Files>(rt: &R, output: &'a str, bytes: &[u8]) -> Result<(), Failure<'a>>
+    ensures { IfErr result (λ failure. outcome_of failure ≡ Device) }
+{
+    let mut writer = Counted::new(LazyFile::new(rt, output));
+    match write_all(&mut writer, bytes) {
+        Ok(()) => Ok(()),
+        Err(_) => Err(Failure::Device(output)),
+    }
+}
+
+/// Writes the circuit of a job, where it was retimed.
+fn write_answer<'a, R: Files>(
+    rt: &R,
+    output: &'a str,
+    outcome: &batch_pool::Outcome,
+) -> Result<(), Failure<'a>>
+    ensures { IfErr result (λ failure. outcome_of failure ≡ Device) }
+{
+    match outcome {
+        batch_pool::Outcome::Done { bytes, .. } => write_file(rt, output, bytes.as_slice()),
+        _ => Ok(()),
+    }
+}
+
+fn print_report<'a, O: CountedWrite>(
+    number: u64,
+    report: JobReport,
+    out: &mut O,
+) -> Result<(), Failure<'a>>
+    ensures { MatchResult result (λ _. WritesAll (O.output out.old) (O.output out.new) (job_line number report)) (λ failure. outcome_of failure ≡ Device) }
+{
+    match print_job(number, report, out) {
+        Ok(()) => Ok(()),
+        Err(_) => Err(Failure::Device("stdout")),
+    }
+}
+
+/// Writes the circuit of a job, and then prints its line.
+fn finish_job<'a, R: Files, O: CountedWrite>(
+    rt: &R,
+    output: &'a str,
+    outcome: &batch_pool::Outcome,
+    number: u64,
+    out: &mut O,
+) -> Result<JobReport, Failure<'a>>
+    ensures ok { IfOk result (λ report. (report ≡ wanted.report_of outcome.now) × WritesAll (O.output out.old) (O.output out.new) (job_line number report)) }
+    ensures err { IfErr result (λ failure. outcome_of failure ≡ Device) }
+{
+    write_answer(rt, output, outcome)?;
+    let report = report_of(outcome);
+    print_report(number, report, out)?;
+    Ok(report)
+}
+
+/// How a batch ends after one more job.
+fn after(ended: Outcome, report: JobReport) -> Outcome
+    ensures { result ≡ wanted.after ended report }
+{
+    match ended {
+        Outcome::Done => match report {
+            JobReport::Done(_, _) => Outcome::Done,
+            JobReport::Refused(_) | JobReport::NoSuchName => Outcome::Refused,
+            JobReport::NoMemory => Outcome::Memory,
+        },
+        ended => ended,
+    }
+}
+
+/// Writes the circuits and prints the lines of all jobs in their order, and returns how the batch ends.
+fn finish_jobs<'a, R: Files, O: CountedWrite>(
+    rt: &R,
+    entries: &[Entry<'a>],
+    outcomes: &[batch_pool::Outcome],
+    out: &mut O,
+) -> Result<Outcome, Failure<'a>>
+    requires { length outcomes.now ≡ length entries.now }
+    ensures ok { IfOk result (λ ended. Printed (map wanted.report_of outcomes.now) ended (O.output out.old) (O.output out.new)) }
+    ensures err { IfErr result (λ failure. outcome_of failure ≡ Device) }
+{
+    let mut ended = Outcome::Done;
+    for (k, outcome) in outcomes.iter().enumerate() {
+        let report = finish_job(rt, entries[k].output, outcome, 1 + k as u64, out)?;
+        ended = after(ended, report);
+    }
+    Ok(ended)
+}
+
+/// Does the jobs of the entries.
+fn retime_entries<R: Files + Threads + Sync, O: CountedWrite, E: CountedWrite>(
+    rt: &R,
+    alloc: Global,
+    entries: &[Entry<'_>],
+    task: &Batch<'_>,
+    out: &mut O,
+    err: &mut E,
+) -> Outcome
+    ensures { PrintsList result (O.output out.old) (O.output out.new) }
+{
+    match outcomes(rt, alloc, entries, task) {
+        Ok(outcomes) => match finish_jobs(rt, entries, outcomes.as_slice(), out) {
+            Ok(ended) => ended,
+            Err(failure) => report_failure(failure, err),
+        },
+        Err(failure) => report_failure(failure, err),
+    }
+}
+
+/// Does the jobs of a list's bytes.
+fn retime_lines<R: Files + Threads + Sync, O: CountedWrite, E: CountedWrite>(
+    rt: &R,
+    alloc: Global,
+    bytes: &[u8],
+    task: &Batch<'_>,
+    out: &mut O,
+    err: &mut E,
+) -> Outcome
+    ensures { PrintsList result (O.output out.old) (O.output out.new) }
+{
+    match read_list(alloc, bytes) {
+        Ok(entries) => retime_entries(rt, alloc, entries.as_slice(), task, out, err),
+        Err(error) => report_failure(Failure::of_list(error, task.list), err),
+    }
+}
+
+/// Reads all files of a list and retimes them; then, job by job, writes its circuit and prints its line. Reports why it ended
+/// before that, and returns how the run ends.
+pub fn retime_list<R: Files + Threads + Sync, O: CountedWrite, E: CountedWrite>(
+    rt: &R,
+    alloc: Global,
+    task: &Batch<'_>,
+    out: &mut O,
+    err: &mut E,
+) -> Outcome
+    ensures { PrintsList result (O.output out.old) (O.output out.new) }
+{
+    match bytes_at(rt, alloc, task.list) {
+        Ok(bytes) => retime_lines(rt, alloc, bytes.as_slice(), task, out, err),
+        Err(failure) => report_failure(failure, err),
+    }
+}
