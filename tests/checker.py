@@ -4,9 +4,9 @@ reference model.
 
 usage: tests/checker.py IN CERT [--keep NAME]...
 
-Prints what `fretime verify` prints: a line for each block, then how the blocks end. The status is 0 where each block shows that
-its set is least, 5 where one doesn't or blocks follow the end, 1 where a file is refused, 3 where one can't be read. The word
-`verify` may stand before IN.
+Prints a line for each block, then how the blocks end. The status is 0 where each block shows that its set is least, 5 where one
+doesn't or blocks follow the end, 1 where a file is refused, 3 where one can't be read. The word `verify` may stand before IN, as
+in the cases.
 """
 import argparse
 import heapq
