@@ -95,6 +95,16 @@ module _ {W : Type 0} {output : W → Output} where
     };
   }
 
+  -- after a write that failed, what follows is dropped without being put
+  pub puts-no_more : {b c : Buffered W} {xs : List ℕ} (ys : List ℕ) → c.failed ≡ true → Puts output b c xs → Puts output b c (xs ++ ys)
+  puts-no_more {c = c} ys bad p = puts-then p record {
+    same_writer = refl;
+    after = λ start before h. record {
+      so_far = λ f. absurd (cc);
+      failed = λ f. part-more start (output c.writer.now) before ys (h.failed bad);
+    };
+  }
+
   -- a text in two pieces, and a flush between
   pub puts-piece : {b c d e : Buffered W} (n : ℕ) (xs : List ℕ) → Puts output b c (take n xs) → Puts output c d [] → Puts output d e (drop n xs) → Puts output b e xs
   puts-piece {b} {c} {d} {e} n xs p q r =
@@ -201,6 +211,19 @@ module _ {W : Type 0} {output : W → Output} where
   puts-range_next {b = b} {d = d} f first n before line =
       subst (λ (ys : List ℕ). Puts output b d ys) (flat_map-more f (range_with_len first n) (first + n) ∙ ap (flat_map f) (sym (range_with_len-more first n)))
       (puts-then before line)
+
+  -- the lines of the numbers that are left, after a write that failed
+  pub puts-range_ended : {b c : Buffered W} (f : ℕ → List ℕ) (first n left : ℕ) → c.failed ≡ true
+      → Puts output b c (flat_map f (range_with_len first n)) → Puts output b c (flat_map f (range_with_len first (n + left)))
+  puts-range_ended {b} {c} f first n zero bad before =
+      let same : n ≡ n + 0 = omega arith in
+      subst (λ (m : ℕ). Puts output b c (flat_map f (range_with_len first m))) same before
+  puts-range_ended {b} {c} f first n (suc left) bad before =
+      let next : n + left + 1 ≡ n + suc left = omega arith in
+      subst (λ (m : ℕ). Puts output b c (flat_map f (range_with_len first m))) next
+      (subst (λ (ys : List ℕ). Puts output b c ys)
+      (flat_map-more f (range_with_len first (n + left)) (first + (n + left)) ∙ ap (flat_map f) (sym (range_with_len-more first (n + left))))
+      (puts-no_more (f (first + (n + left))) bad (puts-range_ended f first n left bad before)))
 
 -- for a function that puts a few texts
 pub ruleset putting = (puts-then, puts-byte)

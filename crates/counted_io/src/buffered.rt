@@ -67,6 +67,13 @@ impl<'a, W: CountedWrite> Buffered<'a, W> {
         }
     }
 
+    /// Whether a write has failed, so that what is put is dropped. A long loop may end there.
+    pub fn has_failed(&self) -> bool
+        ensures { result ≡ self.now.failed }
+    {
+        self.failed
+    }
+
     /// Puts a piece of any length, and writes what waits as often as there is no room for more.
     pub fn put(&mut self, bytes: &[u8])
         ensures { Puts W.output self.old self.new bytes.now }
