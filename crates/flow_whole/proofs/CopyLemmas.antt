@@ -60,10 +60,10 @@ copied_on {P} fits first end values pos n low high all p ps a b xs ys slice up p
     }
 
 -- the values at the places from one up to another
-slice_len : (values : List ℕ) (from to : ℕ) → from ≤ to → to ≤ length values → length (take (to - from) (drop from values)) ≡ to - from
+pub slice_len : (values : List ℕ) (from to : ℕ) → from ≤ to → to ≤ length values → length (take (to - from) (drop from values)) ≡ to - from
 slice_len values from to ordered within = length-take-le (to - from) (drop from values) (omega (arith, length-drop from values))
 
-slice_at : (values : List ℕ) (from to j : ℕ) → j < to - from → slice_index (take (to - from) (drop from values)) j ≡ slice_index values (from + j)
+pub slice_at : (values : List ℕ) (from to j : ℕ) → j < to - from → slice_index (take (to - from) (drop from values)) j ≡ slice_index values (from + j)
 slice_at values from to j h = get_or-take (to - from) (drop from values) j 0 h ∙ get_or-drop from values j 0
 
 -- the places of a range within a part

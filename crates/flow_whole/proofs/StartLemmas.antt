@@ -1,14 +1,14 @@
 -- The excess that the start sends into a node fits a word.
-use Rattle.std.proofs.Common.{◌≡◌, ℕ, zero, suc, ◌+◌, ◌<◌, ◌==◌, ◌-◌, cond, Bool, List, [], ◌∷◌, ◌++◌, length, slice_index, arith, refl, sym, ap, ◌∙◌, inl, inr}
+use Rattle.std.proofs.Common.{◌≡◌, ℕ, zero, suc, ◌+◌, ◌<◌, ◌==◌, ◌-◌, cond, Bool, true, false, ◌||◌, nat_lt, List, [], ◌∷◌, ◌++◌, length, slice_index, arith, refl, sym, ap, ◌∙◌, inl, inr}
 use Rattle.std.proofs.Math.Dec.{eqb-suc-zero}
-use Rattle.std.proofs.lemmas.Bool.{eq-eqb, cases_lt}
+use Rattle.std.proofs.lemmas.Bool.{eq-eqb, cases_lt, true≢false}
 use Rattle.std.proofs.lemmas.List.{get_or-append_right, length-append}
 use Rattle.std.proofs.Math.ListN.{get_or-append}
 use Rattle.flow_theory.specs.Flow.{sum_below}
 use Rattle.flow_theory.proofs.Sums.{sum_below-same, sum_below-zero}
-use Rattle.frame_net.specs.FlowNet.{FlowNet, node_count, row_len, head, mate, cap_at, HasMate, IsFlowNet}
+use Rattle.frame_net.specs.FlowNet.{FlowNet, node_count, start, row_len, head, mate, cap_at, HasMate, IsFlowNet}
 use Rattle.flow_part.specs.Delivering.{back}
-use Rattle.flow_whole.specs.Start.{start_excess}
+use Rattle.flow_whole.specs.Start.{start_excess, start_res}
 use Rattle.flow_part.proofs.Picks.{arc_in}
 
 pub mate_in : (net : FlowNet) (v k : ℕ) → IsFlowNet net → v < node_count net → k < row_len net v → mate net v k < length net.heads
@@ -47,6 +47,22 @@ no_excess net v ok vn above first =
     let none : sum_below (row_len net v) f ≡ 0 = sum_below-same (row_len net v) f (λ k. 0)
     (λ k inside. later_zero (head net v k) (back net net.caps v k) (all_above net v ok vn first k inside)) ∙ sum_below-zero (row_len net v) in
     sym none ∙ sym (no_source v (sum_below (row_len net v) f) above)
+
+two_off : (a b : Bool) (x y : ℕ) → (a || b) ≡ false → cond a 0 (cond b x y) ≡ y
+two_off false false x y e = refl
+two_off false true x y e = absurd (true≢false e)
+two_off true b x y e = absurd (true≢false e)
+
+-- away from the source the residual of the start is the capacity
+pub stays : (net : FlowNet) (arc : ℕ) → (nat_lt arc (start net 1) || slice_index net.heads arc == 0) ≡ false → cap_at net arc ≡ start_res net arc
+stays net arc off = sym (two_off (nat_lt arc (start net 1)) (slice_index net.heads arc == 0) (cap_at net arc + cap_at net (slice_index net.mates arc)) (cap_at net arc) off)
+
+pub done_next : (res : ℕ → ℕ) (i : ℕ) (xs ys : List ℕ) → ((j : ℕ) → j < i → slice_index xs j ≡ res j) → ((j : ℕ) → j < i → slice_index ys j ≡ slice_index xs j) → slice_index ys i ≡ res i
+    → (j : ℕ) → j < i + 1 → slice_index ys j ≡ res j
+done_next res i xs ys done same here j h = elim (cases_lt j i) [
+  | inl lt ↦ same j lt ∙ done j lt
+  | inr ge ↦ let e : j ≡ i = omega (arith, ge, h) in ap (λ (k : ℕ). slice_index ys k) e ∙ here ∙ ap res (sym e)
+]
 
 -- one more element is the next value of f
 pub one_more : (f : ℕ → ℕ) (xs ys : List ℕ) (x i : ℕ) → ys ≡ xs ++ x ∷ [] → length xs ≡ i → ((j : ℕ) → j < length xs → slice_index xs j ≡ f j) → x ≡ f i

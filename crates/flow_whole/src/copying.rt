@@ -8,7 +8,12 @@ use frame_net::Net;
 use std::alloc::{AllocError, Global};
 
 /// Adds the values at the places from `from` up to `to`.
-fn add(values: &[u32], from: usize, to: usize, all: &mut Vec<u32>) -> Result<(), AllocError>
+pub(crate) fn add(
+    values: &[u32],
+    from: usize,
+    to: usize,
+    all: &mut Vec<u32>,
+) -> Result<(), AllocError>
     requires ordered { from ≤ to }
     requires within { to ≤ length values.now }
     ensures { OnOk result (all.new.items ≡ all.old.items ++ take (to - from) (drop from values.now)) }

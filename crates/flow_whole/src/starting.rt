@@ -1,8 +1,9 @@
 //! The flow at the start: the arcs out of the source are full, and all others have flow 0.
-ghost use Rattle.std.specs.Prelude.{◌≡◌, ℕ, ◌+◌, ◌<◌, ◌≤◌, IfOk, length, slice_index};
-ghost use Rattle.frame_net.specs.FlowNet.{node_count};
+ghost use Rattle.std.specs.Prelude.{◌≡◌, ℕ, ◌+◌, ◌<◌, ◌≤◌, ◌==◌, ◌||◌, nat_lt, IfOk, length, slice_index};
+ghost use Rattle.frame_net.specs.FlowNet.{cap_at, node_count, start};
 ghost use Rattle.flow_whole.specs.Start.{AreFlowShares, start_res, start_excess, PartHolds, PartsHold};
 
+use crate::copying::add;
 use crate::parting::border;
 use flow_part::{FlowPart, NodeList};
 use frame_net::Net;
@@ -24,17 +25,44 @@ fn start_arc(net: &Net, arc: u32) -> u32
     }
 }
 
-/// The residuals of `size` arcs from `base` on, at the start.
+/// Whether the arc leaves the source or leads to it. At all others the residual of the start is the capacity.
+fn is_at_source(net: &Net, arc: u32) -> bool
+    requires { arc < length net.now.heads }
+    ensures { result ≡ (nat_lt arc (start net.now 1) || slice_index net.now.heads arc == 0) }
+{
+    let _nodes = net.nodes();
+    (arc as usize) < net.start(1) || net.head(arc) == 0
+}
+
+/// Puts the residuals of the start in place of the capacities of the arcs from `base` on.
+fn replace_caps(net: &Net, base: u32, residuals: &mut [u32])
+    requires within { base + length residuals.old ≤ length net.now.heads }
+    requires caps { (i : ℕ) → i < length residuals.old → slice_index residuals.old i ≡ cap_at net.now (base + i) }
+    ensures len { length residuals.new ≡ length residuals.old }
+    ensures each { (i : ℕ) → i < length residuals.new → slice_index residuals.new i ≡ start_res net.now (base + i) }
+{
+    let _arcs = net.arcs();
+    for i in 0..residuals.len() {
+        let arc = base + i as u32;
+        if is_at_source(net, arc) {
+            residuals[i] = start_arc(net, arc);
+        }
+    }
+}
+
+/// The residuals of `size` arcs from `base` on, at the start: a copy of the capacities, but for the arcs at the source.
 fn start_residuals(alloc: Global, net: &Net, base: u32, size: u32) -> Result<Vec<u32>, AllocError>
     requires { base + size ≤ length net.now.heads }
     ensures len { IfOk result (λ v. length v.items ≡ size) }
     ensures each { IfOk result (λ v. (i : ℕ) → i < length v.items → slice_index v.items i ≡ start_res net.now (base + i)) }
 {
+    let _nodes = net.nodes();
     let _arcs = net.arcs();
     let mut residuals = Vec::with_capacity(alloc, size as usize)?;
-    for i in 0..size {
-        residuals.push(start_arc(net, base + i))?;
-    }
+    let from = base as usize;
+    let to = from + size as usize;
+    add(net.caps(), from, to, &mut residuals)?;
+    replace_caps(net, base, residuals.as_mut_slice());
     Ok(residuals)
 }
 
