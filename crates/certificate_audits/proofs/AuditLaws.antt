@@ -1,0 +1,96 @@
+-- Audits, block after block.
+use Rattle.std.proofs.Common.{ℕ, ◌+◌, ◌≡◌, ◌≢◌, ◌<◌, ◌≤◌, suc, List, [], ◌∷◌, length, drop, get_or, nat_eq, true, false, refl, arith, ap, sym, ◌∙◌, subst}
+use Rattle.std.proofs.lemmas.List.{drop_more, length-drop}
+use Rattle.aig_graph.specs.Circuits.{Netlist}
+use Rattle.certificates.specs.declared.certificate.Certificate.{Certificate}
+use Rattle.certificates.specs.declared.verdict.Verdict.TheVariants.{Yes}
+use Rattle.certificates.proofs.RouteLaws.{yes-law}
+use Rattle.retimed_circuits.specs.Names.{held_in, held_latches}
+use Rattle.retimed_circuits.specs.Frames.{NoneSmaller}
+use Rattle.certificate_audits.specs.declared.outcome.Audit.{Audit}
+use Rattle.certificate_audits.specs.declared.outcome.End.{End}
+use Rattle.certificate_audits.specs.declared.outcome.End.TheVariants.{NoBlocks, Certified}
+use Rattle.certificate_audits.specs.Audits.{Audits, IsVerdictIn, SavesNone, IsNext, IsAudit, no_blocks, objected, open_end, certified_end, past_end, goes_on}
+use Rattle.certificate_audits.specs.Findings.{GoesOn}
+use Rattle.certificate_audits.specs.Laws.{IsLeastIn, AreLeast, IsCertified, last, move}
+
+pub not-empty : {X : Type 0} (xs : List X) → nat_eq (length xs) 0 ≡ false → xs ≢ []
+not-empty xs some none = let clash : nat_eq (length xs) 0 ≡ true = ap (λ (ys : List _). nat_eq (length ys) 0) none in absurd (cc)
+
+filled : {X : Type 0} (xs : List X) → xs ≢ [] → 0 < length xs
+filled [] some = absurd (some refl)
+filled (x ∷ xs) some = omega arith
+
+-- no more blocks are confirmed than there are
+pub audits-within : (names : List (List ℕ)) (c : Netlist) (blocks : List Certificate) (n : ℕ) (end : End) → Audits names c blocks n end → n ≤ length blocks
+audits-within names _ _ _ _ (no_blocks c) = omega arith
+audits-within names _ _ _ _ (objected c block rest objection verdict) = omega arith
+audits-within names _ _ _ _ (open_end c block saves) = omega arith
+audits-within names _ _ _ _ (certified_end c block none) = omega arith
+audits-within names _ _ _ _ (past_end c block rest none follows) = omega arith
+audits-within names _ _ _ _ (goes_on c d block rest n end saves follows next more) = omega (arith, audits-within names d rest n end more)
+
+-- the blocks below k are confirmed and saved latches, and this is the circuit of the k-th one; where there are blocks, there is a k-th
+pub record LeadsTo (names : List (List ℕ)) (first : Netlist) (blocks : List Certificate) (k : ℕ) (circuit : Netlist) : Type 0 where
+  pub onward : (n : ℕ) (end : End) → Audits names circuit (drop k blocks) n end → Audits names first blocks (k + n) end
+  pub held : held_latches names circuit ≡ held_latches names first
+  pub another : 0 < length blocks → k < length blocks
+
+pub leads-first : (names : List (List ℕ)) (first : Netlist) (blocks : List Certificate) → LeadsTo names first blocks 0 first
+leads-first names first blocks = record {
+  onward = λ n end audits. let same : n ≡ 0 + n = omega arith in subst (λ (m : ℕ). Audits names first blocks m end) same audits;
+  held = refl;
+  another = λ some. some;
+}
+
+-- the k-th block, and those after it
+here : (blocks : List Certificate) (k : ℕ) (block : Certificate) → k < length blocks → block ≡ get_or blocks k block → drop k blocks ≡ block ∷ drop (k + 1) blocks
+here blocks k block within there = drop_more blocks k block within ∙ ap (λ (b : Certificate). b ∷ drop (k + 1) blocks) (sym there)
+
+pub leads-next : (names : List (List ℕ)) (first circuit d : Netlist) (blocks : List Certificate) (k : ℕ) (block : Certificate) → k < length blocks → block ≡ get_or blocks k block
+    → GoesOn names circuit block (drop (k + 1) blocks) → IsNext names circuit block d → held_latches names d ≡ held_latches names circuit
+    → LeadsTo names first blocks k circuit → LeadsTo names first blocks (k + 1) d
+leads-next names first circuit d blocks k block within there goes next held leads = record {
+  onward = λ n end audits.
+      let rest : List Certificate = drop (k + 1) blocks in
+      let all : Audits names circuit (drop k blocks) (suc n) end =
+      subst (λ (bs : List Certificate). Audits names circuit bs (suc n) end) (sym (here blocks k block within there)) (goes_on circuit d block rest n end goes.saves goes.follows next audits) in
+      let same : k + suc n ≡ k + 1 + n = omega arith in
+      subst (λ (m : ℕ). Audits names first blocks m end) same (leads.onward (suc n) end all);
+  held = held ∙ leads.held;
+  another = λ some. omega (arith, filled (drop (k + 1) blocks) goes.follows, length-drop (k + 1) blocks);
+}
+
+pub ends-at : (names : List (List ℕ)) (first circuit : Netlist) (blocks : List Certificate) (k : ℕ) (block : Certificate) (n : ℕ) (end : End) → k < length blocks
+    → block ≡ get_or blocks k block → Audits names circuit (block ∷ drop (k + 1) blocks) n end → LeadsTo names first blocks k circuit → Audits names first blocks (k + n) end
+ends-at names first circuit blocks k block n end within there audits leads =
+    leads.onward n end (subst (λ (bs : List Certificate). Audits names circuit bs n end) (sym (here blocks k block within there)) audits)
+
+-- the loop ends by itself only where there is no block
+pub none-left : (names : List (List ℕ)) (first circuit : Netlist) (blocks : List Certificate) (k : ℕ) → length blocks ≤ k → LeadsTo names first blocks k circuit → Audits names first blocks 0 NoBlocks
+none-left names first circuit [] k past leads = no_blocks first
+none-left names first circuit (block ∷ rest) k past leads = absurd (omega (arith, past, leads.another (omega arith)))
+
+-- ---- what an audit shows
+
+least-in : (names : List (List ℕ)) (c : Netlist) (block : Certificate) → IsVerdictIn names c block Yes → IsLeastIn names c block
+least-in names c block verdict = let shown = yes-law c (held_in names c) block verdict in record { least = shown.0; counted = shown.1 }
+
+none-smaller : (names : List (List ℕ)) (c : Netlist) (block : Certificate) → SavesNone names c block → NoneSmaller names c
+none-smaller names c block none r closed =
+    let shown = least-in names c block none.confirmed in
+    let least = shown.least.least r closed in omega (arith, least, shown.counted, none.no_fewer)
+
+certified : (names : List (List ℕ)) (c : Netlist) (blocks : List Certificate) (n : ℕ) (end : End) → Audits names c blocks n end → end ≡ Certified → (n ≡ length blocks) × AreLeast names c blocks
+certified names _ _ _ _ (no_blocks c) e = absurd (cc)
+certified names _ _ _ _ (objected c block rest objection verdict) e = absurd (cc)
+certified names _ _ _ _ (open_end c block saves) e = absurd (cc)
+certified names _ _ _ _ (certified_end c block none) e = (refl, last c block (least-in names c block none.confirmed) (none-smaller names c block none))
+certified names _ _ _ _ (past_end c block rest none follows) e = absurd (cc)
+certified names _ _ _ _ (goes_on c d block rest n end saves follows next more) e =
+    let after = certified names d rest n end more e in (ap suc after.0, move c d block rest (least-in names c block saves.confirmed) saves.fewer next after.1)
+
+pub certified-law : (names : List (List ℕ)) (c : Netlist) (blocks : List Certificate) (audit : Audit) → IsAudit names c blocks audit → audit.end ≡ Certified → IsCertified names c blocks audit
+certified-law names c blocks audit is e =
+    let shown = certified names is.first blocks audit.confirmed audit.end is.audits e in
+    record { all_confirmed = shown.0; first = is.first; kept = is.kept; cleaned = is.cleaned; least = shown.1 }

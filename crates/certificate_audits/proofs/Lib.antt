@@ -1,0 +1,3 @@
+pub mod HoldingLaws
+pub mod AuditLaws
+pub mod UniqueLaws

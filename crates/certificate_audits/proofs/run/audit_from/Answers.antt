@@ -1,0 +1,47 @@
+use Rattle.std.proofs.Common.{◌+◌, ◌∷◌, List, Option, arith, drop, subst}
+use Rattle.std.specs.Option.{MatchOption}
+use Rattle.std.proofs.lemmas.List.{length-drop, take_rest}
+use Rattle.retimed_circuits.proofs.NameLaws.{names-stay}
+use Rattle.certificates.specs.declared.certificate.Certificate.{Certificate}
+use Rattle.certificate_audits.specs.declared.outcome.Audit.{Audit}
+use Rattle.certificate_audits.specs.Audits.{Audits}
+use Rattle.certificate_audits.specs.Findings.{GoesOn}
+use Rattle.certificate_audits.specs.Named.{names_of}
+use Rattle.certificate_audits.proofs.AuditLaws.{audits-within, leads-next, none-left}
+use Rattle.certificate_audits.proofs.run.audit_from.Goals as goal
+
+pub end_at-requires : goal.end_at-requires
+end_at-requires c = names-stay (names_of c.args.names.now) c.args.first c.loop-place.circuit c.loop-place.invariant.held c.requires
+
+pub after_block-requires-clause-names : goal.after_block-requires-clause-names
+after_block-requires-clause-names c = names-stay (names_of c.args.names.now) c.args.first c.loop-place.circuit c.loop-place.invariant.held c.requires
+
+pub overflow_add-result : goal.overflow_add-result
+overflow_add-result c =
+    let names = names_of c.args.names.now in
+    let blocks = c.args.blocks.now in
+    let k = c.loop-place.place in
+    let block = c.index-blocks-place.result in
+    let last = c.in-Ok-Some.last in
+    let Q : List Certificate → Option Audit → Type 0 = λ rest found. MatchOption found (GoesOn names c.loop-place.circuit block rest) (λ audit. Audits names c.loop-place.circuit (block ∷ rest) audit.confirmed audit.end) in
+    let audits : Audits names c.loop-place.circuit (block ∷ drop (k + 1) blocks) last.confirmed last.end =
+    subst (Q (drop (k + 1) blocks)) c.in-Ok-Some.field-0-is (subst (λ (rest : List Certificate). Q rest c.in-Ok-Some.field-0) (take_rest blocks (k + 1)) c.in-Ok-Some.ensures) in
+    let within = audits-within names c.loop-place.circuit (block ∷ drop (k + 1) blocks) last.confirmed last.end audits in
+    omega (arith, within, length-drop (k + 1) blocks, c.loop-place-test.true)
+
+pub loop-place-preserved : goal.loop-place-preserved
+loop-place-preserved c =
+    let names = names_of c.args.names.now in
+    let blocks = c.args.blocks.now in
+    let k = c.loop-place.place in
+    let block = c.index-blocks-place.result in
+    let Q : List Certificate → Option Audit → Type 0 = λ rest found. MatchOption found (GoesOn names c.loop-place.circuit block rest) (λ audit. Audits names c.loop-place.circuit (block ∷ rest) audit.confirmed audit.end) in
+    let goes : GoesOn names c.loop-place.circuit block (drop (k + 1) blocks) =
+    subst (Q (drop (k + 1) blocks)) c.in-Ok-None.field-0-is (subst (λ (rest : List Certificate). Q rest c.in-Ok-None.field-0) (take_rest blocks (k + 1)) c.in-Ok-None.ensures) in
+    let after = c.in_ok-circuit-in-Ok-None.ensures in
+    let within = c.loop-place-test.true in
+    leads-next names c.args.first c.loop-place.circuit c.in_ok-circuit-in-Ok-None.circuit blocks k block within c.index-blocks-place.is
+    goes after.next after.held c.loop-place.invariant
+
+pub returns : goal.returns
+returns c = none-left (names_of c.args.names.now) c.args.first c.loop-place.circuit c.args.blocks.now c.loop-place.place (omega (arith, c.loop-place-test.false)) c.loop-place.invariant

@@ -1,0 +1,37 @@
+-- What an audit shows.
+use Rattle.std.specs.Prelude.{ℕ, ◌≡◌, ◌<◌, List, [], ◌∷◌, length}
+use Rattle.aig_graph.specs.Graph.{known_latches}
+use Rattle.aig_graph.specs.Circuits.{Netlist}
+use Rattle.aig_graph.specs.Border.{IsLeast}
+use Rattle.certificates.specs.declared.certificate.Certificate.{Certificate}
+use Rattle.retimed_circuits.specs.Names.{held_in}
+use Rattle.retimed_circuits.specs.Frames.{CleansIn, NoneSmaller, count_in}
+use Rattle.certificate_audits.specs.declared.outcome.Audit.{Audit}
+use Rattle.certificate_audits.specs.declared.outcome.End.TheVariants.{Certified}
+use Rattle.certificate_audits.specs.Audits.{IsAudit, IsNext}
+
+-- the block's gates are a least set of c, and its count is what they count
+pub record IsLeastIn (names : List (List ℕ)) (c : Netlist) (block : Certificate) : Type 0 where
+  pub least : IsLeast c (held_in names c) block.gates
+  pub counted : block.count ≡ count_in names c block.gates
+
+-- c's latches move over the blocks' sets, one after another; each is least and saves latches, but for the last one: there, none does
+pub data AreLeast (names : List (List ℕ)) : Netlist → List Certificate → Type 0 where
+  last : (c : Netlist) (block : Certificate) → IsLeastIn names c block → NoneSmaller names c → AreLeast names c (block ∷ [])
+  move : (c d : Netlist) (block : Certificate) (rest : List Certificate) → IsLeastIn names c block → block.count < known_latches c.aig → IsNext names c block d
+      → AreLeast names d rest → AreLeast names c (block ∷ rest)
+
+-- what blocks show of a circuit whose audit ends certified
+pub record IsCertified (names : List (List ℕ)) (c : Netlist) (blocks : List Certificate) (audit : Audit) : Type 0 where
+  pub all_confirmed : audit.confirmed ≡ length blocks
+  pub first : Netlist
+  pub kept : List ℕ
+  pub cleaned : CleansIn names c first kept
+  pub least : AreLeast names first blocks
+
+abbrev pub CertifiedLaw : List (List ℕ) → Netlist → List Certificate → Type 0
+CertifiedLaw names c blocks = (audit : Audit) → IsAudit names c blocks audit → audit.end ≡ Certified → IsCertified names c blocks audit
+
+-- there is one audit
+abbrev pub AuditLaw : List (List ℕ) → Netlist → List Certificate → Type 0
+AuditLaw names c blocks = (a b : Audit) → IsAudit names c blocks a → IsAudit names c blocks b → a ≡ b

@@ -1,0 +1,5 @@
+pub mod Named
+pub mod Ends
+pub mod Audits
+pub mod Findings
+pub mod Laws

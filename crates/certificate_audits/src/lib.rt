@@ -1,0 +1,14 @@
+//! Audits of retimed circuits by files of certificates: each block is judged for the circuit that the blocks before it make, and
+//! where it is confirmed, latches move over its set and the circuit is cleaned, whoever found the sets.
+#![tactic(auto)]
+
+mod holding;
+mod judging;
+mod laws;
+mod moving;
+mod outcome;
+mod run;
+
+pub use laws::{audit_law, certified_law};
+pub use outcome::{Audit, End};
+pub use run::audit_blocks;

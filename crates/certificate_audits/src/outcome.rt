@@ -1,0 +1,41 @@
+ghost use Rattle.std.specs.Prelude.{◌≡◌};
+
+use certificates::Objection;
+
+/// How an audit ended.
+#[derive(Clone, Copy, Debug, PartialEq, Eq)]
+pub enum End {
+    /// There was no block.
+    NoBlocks,
+    /// The last block is confirmed, and no closed set of its circuit needs fewer latches than there are.
+    Certified,
+    /// The last block is confirmed, and fewer latches are needed after the move over its set.
+    Open,
+    /// A block is confirmed and no closed set of its circuit needs fewer latches, but another block follows.
+    BlocksFollow,
+    /// A block isn't confirmed.
+    Objected(Objection),
+}
+
+impl End {
+    ghost use Rattle.certificate_audits.specs.Ends.{is_accepted};
+
+    /// Whether each block is confirmed and none follows the end.
+    pub fn is_accepted(self) -> bool
+        ensures { result ≡ is_accepted self }
+    {
+        match self {
+            End::NoBlocks | End::Certified | End::Open => true,
+            End::BlocksFollow | End::Objected(_) => false,
+        }
+    }
+}
+
+/// What an audit found.
+#[derive(Clone, Copy, Debug, PartialEq, Eq)]
+pub struct Audit {
+    /// How many blocks are confirmed: those before the one that ended the audit, and it where its certificate passes.
+    pub confirmed: usize,
+    /// How the audit ended.
+    pub end: End,
+}
