@@ -1,1 +1,2 @@
 pub mod TraceTextLaws
+pub mod AuditTextLaws

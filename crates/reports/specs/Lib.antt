@@ -3,3 +3,4 @@ pub mod Differences
 pub mod Counts
 pub mod Retimings
 pub mod Batches
+pub mod Audits

@@ -1,13 +1,16 @@
-//! What the program prints on standard output: the frames of a retiming, the files of a batch, counts, traces and differences.
+//! What the program prints on standard output: the frames of a retiming, the files of a batch, the audit of certificates, counts,
+//! traces and differences.
 //! Each text goes through a buffer, line by line, and takes no memory.
 #![tactic(auto)]
 
+mod audit;
 mod batch;
 mod counts;
 mod difference;
 mod retiming;
 mod trace;
 
+pub use audit::print_audit;
 pub use batch::{JobReport, print_job};
 pub use counts::print_counts;
 pub use difference::{print_difference, print_shapes_differ};

@@ -1,0 +1,5 @@
+use Rattle.counted_io.proofs.BufferedLemmas.{puts-then}
+use Rattle.reports.proofs.audit.put_audit.Goals as goal
+
+pub returns : goal.returns
+returns g c = rw c.first_blocks.ensures at (puts-then c.put_blocks.ensures c.put_end.ensures)

@@ -1,0 +1,34 @@
+-- The text of an audit.
+use Rattle.std.specs.Prelude.{ℕ, List, [], ◌∷◌, ◌++◌, take, decimal, codes}
+use Rattle.counted_io.specs.Line.{numbered_lines}
+use Rattle.certificates.specs.declared.certificate.Certificate.{Certificate}
+use Rattle.certificates.specs.declared.verdict.Objection.{Objection}
+use Rattle.certificates.specs.declared.verdict.Objection.TheVariants.{NotClosed, BadRoute, UsedTwice, CountDiffers}
+use Rattle.certificate_audits.specs.declared.outcome.Audit.{Audit}
+use Rattle.certificate_audits.specs.declared.outcome.End.{End}
+use Rattle.certificate_audits.specs.declared.outcome.End.TheVariants.{NoBlocks, Certified, Open, BlocksFollow, Objected}
+
+-- the line of a confirmed block
+abbrev pub block_line : ℕ → Certificate → List ℕ
+block_line number block = codes "block " ++ (decimal number ++ (codes ": yes, count " ++ (decimal block.count ++ 10 ∷ [])))
+
+abbrev pub objection_name : Objection → List ℕ
+objection_name NotClosed = codes "NotClosed"
+objection_name BadRoute = codes "BadRoute"
+objection_name UsedTwice = codes "UsedTwice"
+objection_name CountDiffers = codes "CountDiffers"
+
+-- the line of the block with this number, which isn't confirmed
+abbrev pub objection_line : ℕ → Objection → List ℕ
+objection_line number objection = codes "block " ++ (decimal number ++ (codes ": no, " ++ (objection_name objection ++ 10 ∷ [])))
+
+abbrev pub end_text : ℕ → End → List ℕ
+end_text number NoBlocks = []
+end_text number Certified = codes "end certified\n"
+end_text number Open = codes "end open\n"
+end_text number BlocksFollow = codes "blocks follow the end\n"
+end_text number (Objected objection) = objection_line number objection
+
+-- a line for each confirmed block, which are numbered from 0 on, and one for the end
+abbrev pub audit_text : List Certificate → Audit → List ℕ
+audit_text blocks audit = numbered_lines block_line 0 (take audit.confirmed blocks) ++ end_text audit.confirmed audit.end

@@ -1,0 +1,101 @@
+ghost use Rattle.std.specs.Prelude.{◌≡◌, take};
+ghost use Rattle.counted_io.specs.Buffered.{Puts};
+ghost use Rattle.counted_io.specs.Line.{numbered_lines};
+ghost use Rattle.counted_io.specs.Output.{Writes};
+ghost use Rattle.reports.specs.Audits.{audit_text, block_line, end_text, objection_line, objection_name};
+
+use certificate_audits::{Audit, End};
+use certificates::{Certificate, Objection};
+use counted_io::{Buffered, CountedWrite, WriteError};
+
+/// Puts the line of a confirmed block, whose number counts from 0.
+fn put_block<W: CountedWrite>(out: &mut Buffered<'_, W>, number: u64, block: &Certificate)
+    ensures { Puts W.output out.old out.new (block_line number block.now) }
+{
+    out.put(b"block ");
+    out.put_number(number);
+    out.put(b": yes, count ");
+    out.put_number(u64::from(block.count));
+    out.put_byte(b'\n');
+}
+
+/// Puts the lines of confirmed blocks.
+fn put_blocks<W: CountedWrite>(out: &mut Buffered<'_, W>, blocks: &[Certificate])
+    ensures { Puts W.output out.old out.new (numbered_lines block_line 0 blocks.now) }
+{
+    for (number, block) in blocks.iter().enumerate() {
+        put_block(out, number as u64, block);
+    }
+}
+
+fn put_name<W: CountedWrite>(out: &mut Buffered<'_, W>, objection: Objection)
+    ensures { Puts W.output out.old out.new (objection_name objection) }
+{
+    match objection {
+        Objection::NotClosed => out.put(b"NotClosed"),
+        Objection::BadRoute => out.put(b"BadRoute"),
+        Objection::UsedTwice => out.put(b"UsedTwice"),
+        Objection::CountDiffers => out.put(b"CountDiffers"),
+    }
+}
+
+/// Puts the line of a block that isn't confirmed, whose number counts from 0.
+fn put_objection<W: CountedWrite>(out: &mut Buffered<'_, W>, number: u64, objection: Objection)
+    ensures { Puts W.output out.old out.new (objection_line number objection) }
+{
+    out.put(b"block ");
+    out.put_number(number);
+    out.put(b": no, ");
+    put_name(out, objection);
+    out.put_byte(b'\n');
+}
+
+/// Puts how an audit ended behind so many confirmed blocks.
+fn put_end<W: CountedWrite>(out: &mut Buffered<'_, W>, confirmed: u64, end: End)
+    ensures { Puts W.output out.old out.new (end_text confirmed end) }
+{
+    match end {
+        End::NoBlocks => out.put(b""),
+        End::Certified => out.put(b"end certified\n"),
+        End::Open => out.put(b"end open\n"),
+        End::BlocksFollow => out.put(b"blocks follow the end\n"),
+        End::Objected(objection) => put_objection(out, confirmed, objection),
+    }
+}
+
+/// The first blocks, so many as are confirmed.
+fn first_blocks(blocks: &[Certificate], confirmed: usize) -> &[Certificate]
+    ensures { result.now ≡ take confirmed blocks.now }
+{
+    if confirmed < blocks.len() {
+        &blocks[..confirmed]
+    } else {
+        blocks
+    }
+}
+
+fn put_audit<W: CountedWrite>(out: &mut Buffered<'_, W>, blocks: &[Certificate], audit: Audit)
+    ensures { Puts W.output out.old out.new (audit_text blocks.now audit) }
+{
+    put_blocks(out, first_blocks(blocks, audit.confirmed));
+    put_end(out, audit.confirmed as u64, audit.end);
+}
+
+/// Prints a line for each confirmed block, with its count, and one for how the audit of the blocks ended; of no blocks nothing.
+///
+/// Takes no memory.
+///
+/// # Errors
+///
+/// `Device` where a write failed: a beginning of the text was written then, and the writer isn't called again.
+pub fn print_audit<W: CountedWrite>(
+    blocks: &[Certificate],
+    audit: Audit,
+    writer: &mut W,
+) -> Result<(), WriteError>
+    ensures { Writes (W.output writer.old) (W.output writer.new) result (audit_text blocks.now audit) }
+{
+    let mut out = Buffered::new(writer);
+    put_audit(&mut out, blocks, audit);
+    out.flush()
+}
