@@ -41,6 +41,7 @@ pub(crate) fn defaults(alloc: Global) -> Options {
         spelling: None,
         max_frames: 1 << 28,
         choice: Choice::Greatest,
+        certify: false,
         keep: Vec::new(alloc),
     }
 }

@@ -1,55 +1,126 @@
-ghost use Rattle.std.specs.Prelude.{IfOk, ℕ, List};
-ghost use Rattle.aig_graph.specs.Circuits.{Netlist};
-ghost use Rattle.aig_graph.specs.Border.{IsSmallestLeast};
+ghost use Rattle.std.specs.Prelude.{IfOk, ◌≡◌};
+ghost use Rattle.aig_graph.specs.Border.{IsGreatestLeast, IsLeast, IsSmallestLeast};
+ghost use Rattle.chosen_cuts.specs.Certified.{AddsOne};
+ghost use Rattle.cut_cert.specs.Shown.{AreLeastRoutes};
 ghost use Rattle.frame_cuts.specs.Cuts.{IsNetworkOf};
 ghost use Rattle.least_sets.specs.Chosen.{IsChosen};
 ghost use Rattle.pulse.specs.Conditions.{IsMaxPreflow};
 
+use crate::records::Records;
 use aig_graph::{Circuit, ClosedSet, Keep, NoMemory};
+use certificates::Routes;
 use cut_cert::{greatest_cut, network, preflow_along, routes};
 use frame_net::Net;
-use gate_flows::GateFlow;
 use least_sets::Choice;
 use near_cuts::near_cut;
 use pulse::{Crew, MaxPreflow, PhaseGate};
 use std::alloc::Global;
 use std::thread::Threads;
 
-/// The smallest least set of the circuit whose network it is, by any maximum preflow of that network.
-fn smallest_cut(alloc: Global, net: &Net, preflow: &MaxPreflow) -> Result<ClosedSet, NoMemory>
-    requires { IsMaxPreflow net.now preflow.now }
-    ensures { IfOk result (λ set. (c : Netlist) (held : List ℕ) → IsNetworkOf c held net.now → IsSmallestLeast c held set) }
-{
-    let routes = routes(alloc, net, preflow)?;
-    let set = near_cut(alloc, net, &routes);
-    drop(routes);
-    set
-}
-
-/// The chosen least set of the circuit whose network it is, by any maximum preflow of that network.
-fn chosen_cut(
+/// The set; its certificate is added, where certificates are wanted.
+fn recorded(
     alloc: Global,
-    net: &Net,
-    preflow: &MaxPreflow,
-    choice: Choice,
+    circuit: &Circuit,
+    keep: &Keep,
+    set: ClosedSet,
+    routes: Routes,
+    records: &mut Records,
 ) -> Result<ClosedSet, NoMemory>
-    requires { IsMaxPreflow net.now preflow.now }
-    ensures { IfOk result (λ set. (c : Netlist) (held : List ℕ) → IsNetworkOf c held net.now → IsChosen choice c held set) }
+    requires least { IsLeast circuit.now keep.now set }
+    requires routes { AreLeastRoutes circuit.now keep.now routes }
+    ensures set { IfOk result (λ same. same ≡ set) }
+    ensures certificate { IfOk result (AddsOne circuit.now keep.now records.old records.new) }
 {
-    match choice {
-        Choice::Greatest => greatest_cut(alloc, net, preflow),
-        Choice::Smallest => smallest_cut(alloc, net, preflow),
+    match records.add(alloc, circuit, keep, &set, routes) {
+        Ok(()) => Ok(set),
+        Err(error) => {
+            drop(set);
+            Err(error)
+        }
     }
 }
 
-/// The chosen least set of a circuit whose held latches stay where they are, from a start along `flows`, what the last flow did at the
-/// circuit's gates; then `flows` is what this one did there. They are hints: the set is the same whatever they say.
+/// The greatest least set, by a maximum preflow of the circuit's network; routes are looked for where certificates are wanted.
+fn greatest_set(
+    alloc: Global,
+    circuit: &Circuit,
+    keep: &Keep,
+    net: &Net,
+    preflow: &MaxPreflow,
+    records: &mut Records,
+) -> Result<ClosedSet, NoMemory>
+    requires network { IsNetworkOf circuit.now keep.now net.now }
+    requires preflow { IsMaxPreflow net.now preflow.now }
+    ensures set { IfOk result (IsGreatestLeast circuit.now keep.now) }
+    ensures certificate { IfOk result (AddsOne circuit.now keep.now records.old records.new) }
+{
+    if !records.certify {
+        return greatest_cut(alloc, net, preflow);
+    }
+    let routes = routes(alloc, net, preflow)?;
+    match greatest_cut(alloc, net, preflow) {
+        Ok(set) => recorded(alloc, circuit, keep, set, routes, records),
+        Err(error) => {
+            drop(routes);
+            Err(error)
+        }
+    }
+}
+
+/// The smallest least set, by the routes of a maximum preflow of the circuit's network.
+fn smallest_set(
+    alloc: Global,
+    circuit: &Circuit,
+    keep: &Keep,
+    net: &Net,
+    preflow: &MaxPreflow,
+    records: &mut Records,
+) -> Result<ClosedSet, NoMemory>
+    requires network { IsNetworkOf circuit.now keep.now net.now }
+    requires preflow { IsMaxPreflow net.now preflow.now }
+    ensures set { IfOk result (IsSmallestLeast circuit.now keep.now) }
+    ensures certificate { IfOk result (AddsOne circuit.now keep.now records.old records.new) }
+{
+    let routes = routes(alloc, net, preflow)?;
+    match near_cut(alloc, net, &routes) {
+        Ok(set) => recorded(alloc, circuit, keep, set, routes, records),
+        Err(error) => {
+            drop(routes);
+            Err(error)
+        }
+    }
+}
+
+/// The chosen least set, by a maximum preflow of the circuit's network.
+fn chosen_set(
+    alloc: Global,
+    circuit: &Circuit,
+    keep: &Keep,
+    net: &Net,
+    preflow: &MaxPreflow,
+    choice: Choice,
+    records: &mut Records,
+) -> Result<ClosedSet, NoMemory>
+    requires network { IsNetworkOf circuit.now keep.now net.now }
+    requires preflow { IsMaxPreflow net.now preflow.now }
+    ensures set { IfOk result (IsChosen choice circuit.now keep.now) }
+    ensures certificate { IfOk result (AddsOne circuit.now keep.now records.old records.new) }
+{
+    match choice {
+        Choice::Greatest => greatest_set(alloc, circuit, keep, net, preflow, records),
+        Choice::Smallest => smallest_set(alloc, circuit, keep, net, preflow, records),
+    }
+}
+
+/// The chosen least set of a circuit whose held latches stay where they are, from a start along the records' flows; then they are what
+/// this flow did at the circuit's gates. They are hints: the set is the same whatever they say. Where the records want certificates, one
+/// of the set is added to them, which passes all tests of `certificates::check`.
 ///
 /// What is made on the way (the network, its flow, for the smallest set the routes of the flow) is dropped.
 ///
 /// # Errors
 ///
-/// `NoMemory`; then `flows` may be those of before, or of this run.
+/// `NoMemory`; then the records may be those of before, or of this run.
 pub fn chosen_least_along<G: PhaseGate>(
     rt: &(impl Threads + Sync),
     alloc: Global,
@@ -57,12 +128,15 @@ pub fn chosen_least_along<G: PhaseGate>(
     keep: &Keep,
     choice: Choice,
     crew: &Crew<G>,
-    flows: &mut Vec<GateFlow>,
+    records: &mut Records,
 ) -> Result<ClosedSet, NoMemory>
-    ensures { IfOk result (IsChosen choice circuit.now keep.now) }
+    ensures set { IfOk result (IsChosen choice circuit.now keep.now) }
+    ensures certificate { IfOk result (AddsOne circuit.now keep.now records.old records.new) }
 {
     let net = network(alloc, circuit, keep)?;
-    let preflow = preflow_along(rt, alloc, circuit, &net, crew, flows)?;
-    let set = chosen_cut(alloc, &net, &preflow, choice)?;
-    Ok(set)
+    let preflow = preflow_along(rt, alloc, circuit, &net, crew, &mut records.flows)?;
+    let set = chosen_set(alloc, circuit, keep, &net, &preflow, choice, records);
+    drop(preflow);
+    drop(net);
+    set
 }

@@ -32,6 +32,7 @@ fn gives<R: Threads + Sync>(
         spelling: None,
         max_frames,
         choice,
+        certify: false,
         keep: Vec::new(alloc),
     };
     let crew = Crew::new(1, OpenGate);
@@ -114,6 +115,7 @@ fn end<R: Threads + Sync>(rt: &R, alloc: Global, bytes: &[u8], writes: u64) -> O
         spelling: None,
         max_frames: 1,
         choice: Choice::Greatest,
+        certify: false,
         keep: Vec::new(alloc),
     };
     let crew = Crew::new(1, OpenGate);

@@ -19,6 +19,7 @@ fn retimed<R: Threads + Sync>(
         spelling: None,
         max_frames,
         choice: Choice::Greatest,
+        certify: false,
         keep: Vec::new(alloc),
     };
     retime(rt, alloc, circuit, &options, &Crew::new(1, OpenGate)).ok()
@@ -84,6 +85,7 @@ fn refuses_name<R: Threads + Sync>(
         spelling: None,
         max_frames: 1,
         choice: Choice::Greatest,
+        certify: false,
         keep,
     };
     let refused = retime(rt, alloc, circuit, &options, &Crew::new(1, OpenGate)).err();

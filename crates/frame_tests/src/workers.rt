@@ -91,6 +91,7 @@ fn works_at_once<R: Threads + Sync>(rt: &R, alloc: Global, circuit: &Circuit, he
         spelling: None,
         max_frames: 1,
         choice: Choice::Greatest,
+        certify: false,
         keep: Vec::new(alloc),
     };
     let crew = Crew::new(2, HeldGate::new(held));

@@ -1,4 +1,5 @@
 -- An answer rests on the bytes and the options alone.
+use Rattle.std.specs.Option.{unwrap_or}
 use Rattle.std.proofs.Common.{ℕ, ◌≡◌, List, Option, Some, Result, Ok, ap₂, sym, subst, ◌∙◌}
 use Rattle.counted_io.specs.Input.{Input}
 use Rattle.aig_graph.specs.Circuits.{Netlist}
@@ -6,11 +7,13 @@ use Rattle.file_words.specs.declared.fault.ReadError.{ReadError}
 use Rattle.spellings.specs.declared.form.Spelling.{Spelling}
 use Rattle.aig_binary.specs.declared.reading.SpeltCircuit.{SpeltCircuit}
 use Rattle.aig_binary.specs.Ending.{Spells}
+use Rattle.retimed_circuits.specs.Certified.{IsSameRetiming}
 use Rattle.retimed_circuits.specs.Retiming.{IsRetimed}
 use Rattle.retimed_circuits.proofs.RunLaws.{retiming-one}
 use Rattle.frames.specs.declared.options.Options.{Options}
 use Rattle.frames.specs.Named.{names_in}
-use Rattle.frames.specs.Answering.{text_for, IsOneAnswer}
+use Rattle.spellings.specs.Spellings.{text_in}
+use Rattle.frames.specs.Answering.{IsOneAnswer}
 
 same_circuit : (c d : Netlist) → ◌≡◌ {A = Result Netlist ReadError} (Ok c) (Ok d) → c ≡ d
 same_circuit c d e = cc
@@ -26,8 +29,9 @@ one-spelt bytes input other a b first second p q =
     λ i. record { circuit = circuit i; spelling = spelling i }
 
 pub one-answer : (bytes : List ℕ) (options : Options) → IsOneAnswer bytes options
-one-answer bytes options input other old new before after r s first second p q =
+one-answer bytes options certify input other old new before after r s first second p q =
     let spelt : p.spelt ≡ q.spelt = one-spelt bytes input other p.spelt q.spelt first second p.read q.read in
-    let P : SpeltCircuit → Type 0 = λ a. IsRetimed options.choice a.circuit (names_in options) options.max_frames r in
-    let same : r ≡ s = retiming-one options.choice q.spelt.circuit (names_in options) options.max_frames r s (subst P spelt p.written.answer.retimed) q.written.answer.retimed in
-    (same, ap₂ (text_for options) spelt same)
+    let P : SpeltCircuit → Type 0 = λ a. IsRetimed options.choice a.circuit (names_in options) options.max_frames options.certify r in
+    let same : IsSameRetiming options.certify certify r s =
+    retiming-one options.choice q.spelt.circuit (names_in options) options.max_frames options.certify certify r s (subst P spelt p.written.answer.retimed) q.written.answer.retimed in
+    (same, ap₂ (λ (a : SpeltCircuit) (d : Netlist). text_in (unwrap_or options.spelling a.spelling) d) spelt same.circuit)

@@ -1,5 +1,5 @@
 -- What the frames of a run rest on.
-use Rattle.std.proofs.Common.{ℕ, ◌≡◌, ◌<◌, ◌≤◌, ◌++◌, suc, List, [], ◌∷◌, length, filter, get_or, arith, ap, sym, ◌∙◌, subst, Result, Ok, Err}
+use Rattle.std.proofs.Common.{ℕ, Bool, ◌≡◌, ◌<◌, ◌≤◌, ◌++◌, suc, refl, List, [], ◌∷◌, length, filter, get_or, arith, ap, sym, ◌∙◌, subst, Result, Ok, Err}
 use Rattle.std.specs.Result.{IfOk}
 use Rattle.std.specs.List.{All}
 use Rattle.std.proofs.lemmas.List.Elements.{All-filter, All-map}
@@ -14,6 +14,8 @@ use Rattle.aig_graph.specs.Border.{IsLeast}
 use Rattle.aig_graph.specs.Laws.{all_free, composed}
 use Rattle.aig_graph.specs.Streams.{SameStreams}
 use Rattle.aig_graph.proofs.StreamLaws.{same_streams-transitive}
+use Rattle.certificates.specs.declared.certificate.Certificate.{Certificate}
+use Rattle.chosen_cuts.specs.declared.records.Records.{Records}
 use Rattle.clean.specs.declared.cleaning.Cleaned.{Cleaned}
 use Rattle.clean.proofs.CleaningLaws.{composed-all}
 use Rattle.variable_tables.specs.Counting.{places}
@@ -30,7 +32,8 @@ use Rattle.retimed_circuits.specs.Retiming.{IsRetimed}
 use Rattle.retimed_circuits.proofs.RunLaws.{after-length}
 use Rattle.frames.specs.declared.frame.Frame.{Frame}
 use Rattle.frames.specs.Found.{Moves}
-use Rattle.frames.specs.Underway.{IsUnderway}
+use Rattle.frames.specs.Underway.{IsUnderway, IsRun}
+use Rattle.frames.proofs.CertificateLaws.{certified}
 
 pub held-below : (names : List (List ℕ)) (c : Netlist) → IsNetlist c → All (λ j. j < length c.aig.latches) (held_in names c)
 unfolding held_by
@@ -69,9 +72,11 @@ pub own-cleaned : {E : Type 0} (c : Netlist) (P : Netlist → List ℕ → Type 
 own-cleaned c P (Ok d) circuit places so = subst (λ (e : Netlist). P e d.kept_free) (sym circuit) (subst (P c) (sym places) so)
 own-cleaned c P (Err e) circuit places so = tt
 
-pub one-more : (choice : Choice) (names : List (List ℕ)) (c : Netlist) (n : ℕ) (r : Retimed) (taken : Frame) → IsUnderway choice names c n r → Moves choice names r.circuit taken
-    → IsUnderway choice names c (suc n) (record { circuit = taken.cleaned.circuit; kept_free = composed r.kept_free taken.cleaned.kept_free; read_latches = r.read_latches; frames = r.frames ++ taken.report ∷ [] })
-one-more choice names c n r taken before moves = record {
+-- whatever certificates the next state has
+pub one-more : (choice : Choice) (names : List (List ℕ)) (c : Netlist) (n : ℕ) (r : Retimed) (taken : Frame) (certs : List Certificate) → IsUnderway choice names c n r → Moves choice names r.circuit taken
+    → IsUnderway choice names c (suc n)
+    (record { circuit = taken.cleaned.circuit; kept_free = composed r.kept_free taken.cleaned.kept_free; read_latches = r.read_latches; frames = r.frames ++ taken.report ∷ []; certificates = certs })
+one-more choice names c n r taken certs before moves = record {
   frames = frame n r.circuit taken.cleaned.circuit r.kept_free taken.cleaned.kept_free r.frames taken.report before.frames moves.moves;
   read_latches = before.read_latches;
   streams = same_streams-transitive c r.circuit taken.cleaned.circuit r.kept_free taken.cleaned.kept_free before.streams moves.streams;
@@ -79,15 +84,21 @@ one-more choice names c n r taken before moves = record {
   tidy = moves.tidy;
 }
 
--- a run ends at the limit of frames, or where none counts less
-pub ended : (choice : Choice) (names : List (List ℕ)) (c : Netlist) (n max_frames : ℕ) (r : Retimed) → IsUnderway choice names c n r → n ≤ max_frames → (n < max_frames → NoneSmaller names r.circuit) → IsRetimed choice c names max_frames r
-ended choice names c n max_frames r run within last =
-    let long : length r.frames ≡ n = after-length choice names c n r.circuit r.kept_free r.frames run.frames in
+-- a run ends at the limit of frames, or where none counts less; it has the certificates that were collected
+pub ended : (choice : Choice) (names : List (List ℕ)) (c : Netlist) (max_frames : ℕ) (certify : Bool) (records : Records) (r : Retimed) → IsRun choice names c max_frames certify records r
+    → IsRetimed choice c names max_frames certify
+    (record { circuit = r.circuit; kept_free = r.kept_free; read_latches = r.read_latches; frames = r.frames; certificates = records.certificates.items })
+ended choice names c max_frames certify records r run =
+    let s : Retimed = record { circuit = r.circuit; kept_free = r.kept_free; read_latches = r.read_latches; frames = r.frames; certificates = records.certificates.items } in
+    let taken : AfterFrames choice names c run.taken r.circuit r.kept_free r.frames = run.underway.frames in
+    let long : length r.frames ≡ run.taken = after-length choice names c run.taken r.circuit r.kept_free r.frames taken in
     record {
-      frames = subst (λ (m : ℕ). AfterFrames choice names c m r.circuit r.kept_free r.frames) (sym long) run.frames;
-      within = omega (arith, long, within);
-      last = λ less. last (omega (arith, long, less));
-      read_latches = run.read_latches;
-      streams = run.streams;
-      held = run.held;
+      frames = subst (λ (m : ℕ). AfterFrames choice names c m r.circuit r.kept_free r.frames) (sym long) taken;
+      within = omega (arith, long, run.within);
+      last = λ less. run.last (omega (arith, long, less));
+      read_latches = run.underway.read_latches;
+      streams = run.underway.streams;
+      certified = certified choice names c certify run.looked max_frames s records run.collected refl run.taken taken
+          (λ limit. run.limited (sym long ∙ limit) ∙ sym long) (λ less. run.ended (omega (arith, long, less)) ∙ ap suc (sym long));
+      held = run.underway.held;
     }

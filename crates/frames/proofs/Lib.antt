@@ -1,3 +1,4 @@
+pub mod CertificateLaws
 pub mod FrameLaws
 pub mod AnswerLaws
 pub mod StopLaws

@@ -1,5 +1,5 @@
 -- Cleaning and moving keep the number of properties and make no new name.
-use Rattle.std.proofs.Common.{ℕ, ◌+◌, ◌≡◌, List, length, map, ap, sym, subst, arith}
+use Rattle.std.proofs.Common.{ℕ, Bool, ◌+◌, ◌≡◌, List, length, map, ap, sym, subst, arith}
 use Rattle.std.specs.List.{sum}
 use Rattle.std.proofs.lemmas.List.{length-map}
 use Rattle.std.proofs.lemmas.List.Elements.{All-from_recursion, recursion_from_All}
@@ -42,8 +42,8 @@ after-names choice names c _ _ _ _ (frame n d e kept left reports report run las
     let moved : Netlist = moved_in names d last.set in
     cleans-names e (held_in names moved) moved left last.cleaned (moved-names names d last.set (after-names choice names c n d kept reports run all))
 
-pub stays-within : (choice : Choice) (c : Netlist) (names : List (List ℕ)) (max_frames : ℕ) → StaysWithin choice c names max_frames
-stays-within choice c names max_frames r retimed within =
+pub stays-within : (choice : Choice) (c : Netlist) (names : List (List ℕ)) (max_frames : ℕ) (certify : Bool) → StaysWithin choice c names max_frames certify
+stays-within choice c names max_frames certify r retimed within =
     let shape = retimed.streams.shape in
     let sizes : sum (map length r.circuit.props.justice) ≡ sum (map length c.props.justice) = ap sum shape.justice in
     let same : length (map length r.circuit.props.justice) ≡ length (map length c.props.justice) = ap (λ (ns : List ℕ). length ns) shape.justice in

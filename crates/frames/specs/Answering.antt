@@ -1,5 +1,5 @@
 -- What becomes of a reader's bytes: the retimed circuit of those bytes, whose text is written, or an error.
-use Rattle.std.specs.Prelude.{ℕ, ◌≡◌, List, Some, Ok, unwrap_or}
+use Rattle.std.specs.Prelude.{ℕ, ◌≡◌, Bool, List, Some, Ok, unwrap_or}
 use Rattle.counted_io.specs.Input.{Input}
 use Rattle.counted_io.specs.Output.{Output, WritesAll, WritesPart}
 use Rattle.aig_graph.specs.Keep.{first_missing}
@@ -8,6 +8,7 @@ use Rattle.spellings.specs.Spellings.{read_any, text_in}
 use Rattle.aig_binary.specs.declared.reading.SpeltCircuit.{SpeltCircuit}
 use Rattle.aig_binary.specs.Ending.{ReadsToEnd, Spells, IsReadError}
 use Rattle.retimed_circuits.specs.declared.report.Retimed.{Retimed}
+use Rattle.retimed_circuits.specs.Certified.{IsSameRetiming}
 use Rattle.retimed_circuits.specs.Retiming.{IsRetimed}
 use Rattle.frames.specs.declared.errors.BytesError.{BytesError}
 use Rattle.frames.specs.declared.errors.BytesError.TheVariants.{Read, Retime, Write}
@@ -22,7 +23,7 @@ text_for options spelt r = text_in (unwrap_or options.spelling spelt.spelling) r
 -- the circuit that was read has latches of all names, and this is it retimed
 pub record IsAnswer (options : Options) (spelt : SpeltCircuit) (r : Retimed) : Type 0 where
   pub names : NoneMissing options spelt.circuit
-  pub retimed : IsRetimed options.choice spelt.circuit (names_in options) options.max_frames r
+  pub retimed : IsRetimed options.choice spelt.circuit (names_in options) options.max_frames options.certify r
 
 -- the text of a retimed circuit is read as that circuit
 abbrev pub ReadsBack : Options → SpeltCircuit → Retimed → Type 0
@@ -54,10 +55,15 @@ pub record IsAnswered (input : Input) (old new : Output) (options : Options) (r 
   pub written : IsWritten options spelt old new r
   pub reads_back : (left : List ℕ) → input.bytes ≡ Some left → ReadsBack options spelt r
 
--- of the same bytes by the same options there is one answer, and one text of it
+-- the same options, but for whether certificates are wanted
+abbrev pub certifying : Options → Bool → Options
+certifying options certify = record { spelling = options.spelling; max_frames = options.max_frames; choice = options.choice; certify = certify; keep = options.keep }
+
+-- of the same bytes by the same options, with certificates or without, there is one answer but for the routes of certificates, and one text of it
 abbrev pub IsOneAnswer : List ℕ → Options → Type 0
-IsOneAnswer bytes options = (input other : Input) (old new before after : Output) (r s : Retimed) → input.bytes ≡ Some bytes → other.bytes ≡ Some bytes
-    → (p : IsAnswered input old new options r) (q : IsAnswered other before after options s) → (r ≡ s) × (text_for options p.spelt r ≡ text_for options q.spelt s)
+IsOneAnswer bytes options = (certify : Bool) (input other : Input) (old new before after : Output) (r s : Retimed) → input.bytes ≡ Some bytes → other.bytes ≡ Some bytes
+    → (p : IsAnswered input old new options r) (q : IsAnswered other before after (certifying options certify) s)
+    → IsSameRetiming options.certify certify r s × (text_for options p.spelt r ≡ text_for options q.spelt s)
 
 -- the bytes were read to their end, and are those of a circuit in a spelling, but there is no whole answer
 pub record IsStopped (options : Options) (old new : Input) (before after : Output) (e : BytesError) : Type 0 where

@@ -1,5 +1,5 @@
 -- The limits of a header, from what is read to what is written.
-use Rattle.std.specs.Prelude.{ℕ, ◌≡◌, List, Ok}
+use Rattle.std.specs.Prelude.{ℕ, Bool, ◌≡◌, List, Ok}
 use Rattle.aig_graph.specs.Circuits.{Netlist}
 use Rattle.ascii_file.specs.Laws.{IsWithinLimits}
 use Rattle.spellings.specs.Spellings.{read_any}
@@ -12,5 +12,5 @@ abbrev pub ReadsWithin : List ℕ → Type 0
 ReadsWithin bytes = (c : Netlist) → read_any bytes ≡ Ok c → IsWithinLimits c
 
 -- what a circuit within the limits is retimed to is within them
-abbrev pub StaysWithin : Choice → Netlist → List (List ℕ) → ℕ → Type 0
-StaysWithin choice c names max_frames = (r : Retimed) → IsRetimed choice c names max_frames r → IsWithinLimits c → IsWithinLimits r.circuit
+abbrev pub StaysWithin : Choice → Netlist → List (List ℕ) → ℕ → Bool → Type 0
+StaysWithin choice c names max_frames certify = (r : Retimed) → IsRetimed choice c names max_frames certify r → IsWithinLimits c → IsWithinLimits r.circuit

@@ -1,9 +1,10 @@
 //! One frame: the latches of a cleaned circuit move over its chosen least set, and the circuit is cleaned again.
-ghost use Rattle.std.specs.Prelude.{◌≡◌, IfOk, MatchOption};
+ghost use Rattle.std.specs.Prelude.{◌≡◌, IfOk, OnOk, MatchOption};
 ghost use Rattle.aig_graph.specs.Graph.{IsGraph};
 ghost use Rattle.aig_graph.specs.Streams.{SameStreams};
 ghost use Rattle.retimed_circuits.specs.Frames.{CleansIn, IsHelpingSet, NoneSmaller, moved_in};
 ghost use Rattle.retimed_circuits.specs.Names.{held_in, held_latches};
+ghost use Rattle.frames.specs.Certified.{AddsChosen};
 ghost use Rattle.frames.specs.Found.{Moves};
 ghost use Rattle.frames.specs.Named.{NoneMissing, names_in};
 ghost use Rattle.tidy.specs.Tidy.{IsTidyIn};
@@ -13,6 +14,7 @@ use crate::holding::held;
 use crate::options::Options;
 use crate::settling::settled;
 use aig_graph::{Circuit, ClosedSet, Keep, NoMemory};
+use chosen_cuts::Records;
 use clean::Cleaned;
 use gate_flows::{GateFlow, after_cleaning, after_move};
 use pulse::{Crew, PhaseGate};
@@ -89,19 +91,20 @@ pub(crate) fn next_frame<G: PhaseGate>(
     circuit: &Circuit,
     options: &Options,
     crew: &Crew<G>,
-    flows: &mut Vec<GateFlow>,
+    records: &mut Records,
 ) -> Result<Option<Frame>, NoMemory>
     requires names { NoneMissing options.now circuit.now }
     requires tidy { IsTidyIn (names_in options.now) circuit.now }
-    ensures { IfOk result (λ found. MatchOption found (NoneSmaller (names_in options.now) circuit.now) (Moves options.now.choice (names_in options.now) circuit.now)) }
+    ensures found { IfOk result (λ found. MatchOption found (NoneSmaller (names_in options.now) circuit.now) (Moves options.now.choice (names_in options.now) circuit.now)) }
+    ensures certificate { OnOk result (AddsChosen options.now.choice (names_in options.now) circuit.now records.old records.new) }
 {
     let _aig = circuit.aig();
     let keep = held(alloc, circuit, options)?;
-    match helping_set(rt, alloc, circuit, &keep, options, crew, flows)? {
+    match helping_set(rt, alloc, circuit, &keep, options, crew, records)? {
         Some(found) => {
             let cleaned = moved_over(alloc, circuit, &keep, &found.set, options)?;
             let kept_gates = cleaned.kept_gates.as_slice();
-            carry(alloc, circuit, &found.set, kept_gates, flows);
+            carry(alloc, circuit, &found.set, kept_gates, &mut records.flows);
             Ok(Some(Frame {
                 cleaned,
                 report: found.report,

@@ -1,14 +1,14 @@
 //! The chosen least set of a circuit, where it needs fewer latches.
-ghost use Rattle.std.specs.Prelude.{◌≡◌, IfOk, MatchOption};
+ghost use Rattle.std.specs.Prelude.{◌≡◌, IfOk, OnOk, MatchOption};
 ghost use Rattle.retimed_circuits.specs.Frames.{NoneSmaller};
 ghost use Rattle.retimed_circuits.specs.Names.{held_in};
+ghost use Rattle.frames.specs.Certified.{AddsChosen};
 ghost use Rattle.frames.specs.Found.{Helps};
 ghost use Rattle.frames.specs.Named.{names_in};
 
 use crate::options::Options;
 use aig_graph::{Circuit, ClosedSet, Keep, NoMemory, count};
-use chosen_cuts::chosen_least_along;
-use gate_flows::GateFlow;
+use chosen_cuts::{Records, chosen_least_along};
 use pulse::{Crew, PhaseGate};
 use retimed_circuits::FrameReport;
 use std::alloc::Global;
@@ -21,7 +21,8 @@ pub(crate) struct Helping {
     pub report: FrameReport,
 }
 
-/// The chosen least set, with its report, where it counts less than the circuit has known latches.
+/// The chosen least set, with its report, where it counts less than the circuit has known latches. A certificate of the set is added in any
+/// case, where certificates are wanted.
 pub(crate) fn helping_set<G: PhaseGate>(
     rt: &(impl Threads + Sync),
     alloc: Global,
@@ -29,12 +30,13 @@ pub(crate) fn helping_set<G: PhaseGate>(
     keep: &Keep,
     options: &Options,
     crew: &Crew<G>,
-    flows: &mut Vec<GateFlow>,
+    records: &mut Records,
 ) -> Result<Option<Helping>, NoMemory>
     requires { keep.now ≡ held_in (names_in options.now) circuit.now }
-    ensures { IfOk result (λ found. MatchOption found (NoneSmaller (names_in options.now) circuit.now) (Helps options.now.choice (names_in options.now) circuit.now)) }
+    ensures found { IfOk result (λ found. MatchOption found (NoneSmaller (names_in options.now) circuit.now) (Helps options.now.choice (names_in options.now) circuit.now)) }
+    ensures certificate { OnOk result (AddsChosen options.now.choice (names_in options.now) circuit.now records.old records.new) }
 {
-    let set = chosen_least_along(rt, alloc, circuit, keep, options.choice, crew, flows)?;
+    let set = chosen_least_along(rt, alloc, circuit, keep, options.choice, crew, records)?;
     let _aig = circuit.aig();
     let report = FrameReport {
         before: circuit.aig().known_latches(),

@@ -16,7 +16,7 @@ pub(crate) struct History {
     pub frames: Sequence<FrameReport>,
 }
 
-/// The history of a retimed circuit; the circuit is dropped.
+/// The history of a retimed circuit; the circuit is dropped, and so are certificates.
 pub(crate) fn history_of(retimed: Retimed) -> History
     ensures kept_free { result.kept_free ≡ retimed.kept_free }
     ensures read_latches { result.read_latches ≡ retimed.read_latches }
@@ -27,6 +27,7 @@ pub(crate) fn history_of(retimed: Retimed) -> History
         kept_free,
         read_latches,
         frames,
+        ..
     } = retimed;
     drop(circuit);
     History {

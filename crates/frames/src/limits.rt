@@ -1,4 +1,4 @@
-ghost use Rattle.std.specs.Prelude.{ℕ, List};
+ghost use Rattle.std.specs.Prelude.{ℕ, Bool, List};
 ghost use Rattle.aig_graph.specs.Circuits.{Netlist};
 ghost use Rattle.least_sets.specs.declared.choice.Choice.{Choice};
 ghost use Rattle.frames.specs.Limits.{ReadsWithin, StaysWithin};
@@ -11,5 +11,5 @@ pub fn read_limits_law()
 /// A circuit that is retimed keeps the number of its properties and gets no new name: so it stays within the limits of a
 /// header.
 pub fn retimed_limits_law()
-    ensures { (choice : Choice) (c : Netlist) (names : List (List ℕ)) (max_frames : ℕ) → StaysWithin choice c names max_frames }
+    ensures { (choice : Choice) (c : Netlist) (names : List (List ℕ)) (max_frames : ℕ) (certify : Bool) → StaysWithin choice c names max_frames certify }
 {}

@@ -4,9 +4,10 @@ ghost use Rattle.aig_graph.specs.Circuits.{Netlist};
 ghost use Rattle.aig_graph.specs.Keep.{first_missing};
 ghost use Rattle.retimed_circuits.specs.Names.{held_in};
 ghost use Rattle.retimed_circuits.specs.Retiming.{IsRetimed};
+ghost use Rattle.frames.specs.Certified.{AreCollected};
 ghost use Rattle.frames.specs.Found.{Moves};
 ghost use Rattle.frames.specs.Named.{NoneMissing, names_in};
-ghost use Rattle.frames.specs.Underway.{IsUnderway};
+ghost use Rattle.frames.specs.Underway.{IsRun, IsUnderway};
 ghost use Rattle.frames.specs.declared.errors.RetimeError.TheVariants.{NoSuchName};
 
 use crate::errors::RetimeError;
@@ -15,6 +16,7 @@ use crate::history::{history_of, with_frame};
 use crate::holding::cleaned;
 use crate::options::Options;
 use aig_graph::{Circuit, Keep, NoMemory, Sequence, keep_of};
+use chosen_cuts::Records;
 use clean::Cleaned;
 use pulse::{Crew, PhaseGate};
 use retimed_circuits::Retimed;
@@ -43,6 +45,7 @@ fn begun(
         kept_free,
         read_latches,
         frames: Sequence::empty(alloc),
+        certificates: Sequence::empty(alloc),
     })
 }
 
@@ -65,6 +68,7 @@ fn after_frame(
             kept_free: after.kept_free,
             read_latches: after.read_latches,
             frames: after.frames,
+            certificates: Sequence::empty(alloc),
         }),
         Err(error) => {
             drop(cleaned);
@@ -73,23 +77,25 @@ fn after_frame(
     }
 }
 
-/// The circuit cleaned, and then retimed frame by frame.
-fn retime_held<G: PhaseGate>(
+/// The circuit cleaned, and then retimed frame by frame; the records get a certificate of each circuit that is looked at, where they are
+/// wanted.
+fn all_frames<G: PhaseGate>(
     rt: &(impl Threads + Sync),
     alloc: Global,
     circuit: &Circuit,
     keep: &Keep,
     options: &Options,
     crew: &Crew<G>,
+    records: &mut Records,
 ) -> Result<Retimed, NoMemory>
     requires keep { keep.now ≡ held_in (names_in options.now) circuit.now }
     requires names { NoneMissing options.now circuit.now }
-    ensures { IfOk result (IsRetimed options.now.choice circuit.now (names_in options.now) options.now.max_frames) }
+    requires none { AreCollected options.now.choice (names_in options.now) circuit.now options.now.certify 0 records.old }
+    ensures { IfOk result (IsRun options.now.choice (names_in options.now) circuit.now options.now.max_frames options.now.certify records.new) }
 {
     let mut retimed = begun(alloc, circuit, keep, options)?;
-    let mut flows = Vec::new(alloc);
     for _ in 0..options.max_frames {
-        match next_frame(rt, alloc, &retimed.circuit, options, crew, &mut flows) {
+        match next_frame(rt, alloc, &retimed.circuit, options, crew, records) {
             Ok(Some(frame)) => retimed = after_frame(alloc, retimed, frame, options)?,
             Ok(None) => return Ok(retimed),
             Err(error) => {
@@ -101,9 +107,57 @@ fn retime_held<G: PhaseGate>(
     Ok(retimed)
 }
 
+/// The retimed circuit with the certificates that were recorded.
+fn with_certificates(retimed: Retimed, records: Records) -> Retimed
+    ensures circuit { result.circuit ≡ retimed.circuit }
+    ensures kept_free { result.kept_free ≡ retimed.kept_free }
+    ensures read_latches { result.read_latches ≡ retimed.read_latches }
+    ensures frames { result.frames ≡ retimed.frames }
+    ensures certificates { result.certificates ≡ records.certificates.items }
+{
+    let Retimed {
+        circuit,
+        kept_free,
+        read_latches,
+        frames,
+        ..
+    } = retimed;
+    let Records { certificates, .. } = records;
+    Retimed {
+        circuit,
+        kept_free,
+        read_latches,
+        frames,
+        certificates: Sequence::from_vec(certificates),
+    }
+}
+
+/// The circuit cleaned and retimed, with the certificates of its frames.
+fn retime_held<G: PhaseGate>(
+    rt: &(impl Threads + Sync),
+    alloc: Global,
+    circuit: &Circuit,
+    keep: &Keep,
+    options: &Options,
+    crew: &Crew<G>,
+) -> Result<Retimed, NoMemory>
+    requires keep { keep.now ≡ held_in (names_in options.now) circuit.now }
+    requires names { NoneMissing options.now circuit.now }
+    ensures { IfOk result (IsRetimed options.now.choice circuit.now (names_in options.now) options.now.max_frames options.now.certify) }
+{
+    let mut records = Records::new(alloc, options.certify);
+    match all_frames(rt, alloc, circuit, keep, options, crew, &mut records) {
+        Ok(retimed) => Ok(with_certificates(retimed, records)),
+        Err(error) => {
+            drop(records);
+            Err(error)
+        }
+    }
+}
+
 /// Cleans a circuit and retimes it forward, frame by frame: the latches move over the chosen least set of the circuit, and the
 /// circuit is cleaned again. It ends where no closed set needs fewer latches than there are, or at the limit of frames. The
-/// latches whose names the options have stay. The answer is the same for every crew.
+/// latches whose names the options have stay. The answer is the same for every crew, but for the routes of certificates.
 ///
 /// A frame costs what its maximum flow costs, and is linear in the circuit but for that; what it made is dropped before the next
 /// one begins.
@@ -119,7 +173,7 @@ pub fn retime<G: PhaseGate>(
     options: &Options,
     crew: &Crew<G>,
 ) -> Result<Retimed, RetimeError>
-    ensures retimed { IfOk result (IsRetimed options.now.choice circuit.now (names_in options.now) options.now.max_frames) }
+    ensures retimed { IfOk result (IsRetimed options.now.choice circuit.now (names_in options.now) options.now.max_frames options.now.certify) }
     ensures none_missing { OnOk result (NoneMissing options.now circuit.now) }
     ensures missing { (place : ℕ) → IsErrOf result (NoSuchName place) → first_missing circuit.now.symbols.latches (names_in options.now) ≡ Some place }
 {

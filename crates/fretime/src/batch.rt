@@ -61,6 +61,7 @@ fn run_jobs<'a, R: Threads + Sync>(
         spelling: task.spelling,
         max_frames: task.frames,
         choice: task.choice,
+        certify: false,
         keep: Vec::new(alloc),
     };
     let crew = Crew::new(task.workers.clamp(1, MOST_WORKERS), OpenGate);

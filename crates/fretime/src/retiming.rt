@@ -36,6 +36,7 @@ fn options(alloc: Global, task: &Retiming<'_>) -> Result<Options, AllocError>
         spelling: task.spelling,
         max_frames: task.frames,
         choice: task.choice,
+        certify: false,
         keep: names(alloc, task.keep.as_slice())?,
     })
 }

@@ -1,3 +1,5 @@
+pub mod CertifiedLaws
+pub mod ReportLaws
 pub mod RunLaws
 pub mod HeldLaws
 pub mod NameLaws

@@ -1,5 +1,5 @@
 -- A run of frames is one.
-use Rattle.std.proofs.Common.{ℕ, suc, inl, inr, ◌≡◌, ◌<◌, ◌≤◌, ◌++◌, List, [], ◌∷◌, length, refl, arith, ap, ap₂, sym, ◌∙◌, subst}
+use Rattle.std.proofs.Common.{ℕ, Bool, suc, inl, inr, ◌≡◌, ◌<◌, ◌≤◌, ◌++◌, List, [], ◌∷◌, length, refl, arith, ap, ap₂, sym, ◌∙◌, subst}
 use Rattle.std.proofs.lemmas.Bool.{cases_order}
 use Rattle.std.proofs.lemmas.List.{length-append}
 use Rattle.aig_graph.specs.Graph.{known_latches}
@@ -12,7 +12,9 @@ use Rattle.retimed_circuits.specs.declared.report.FrameReport.{FrameReport}
 use Rattle.retimed_circuits.specs.declared.report.Retimed.{Retimed}
 use Rattle.retimed_circuits.specs.Names.{held_in}
 use Rattle.retimed_circuits.specs.Frames.{CleansIn, moved_in, count_in, report_in, IsHelpingSet, IsFrame, AfterFrames, cleaned, frame}
+use Rattle.retimed_circuits.specs.Certified.{AreCertified, IsSameRetiming}
 use Rattle.retimed_circuits.specs.Retiming.{IsRetimed}
+use Rattle.retimed_circuits.proofs.CertifiedLaws.{same-certificates}
 
 -- one circuit, one list of free latches, and the same reports
 pub record SameEnd {A : Type 0} (d e : Netlist) (kept left : List ℕ) (r s : A) : Type 0 where
@@ -75,19 +77,26 @@ after-more choice names c n d kept r run _ _ _ _ (frame m a e places left rs rep
 ]
 
 -- a run that ended doesn't stop before another one
-shorter : (choice : Choice) (c : Netlist) (names : List (List ℕ)) (max_frames : ℕ) (r s : Retimed) → IsRetimed choice c names max_frames r → IsRetimed choice c names max_frames s → length r.frames < length s.frames → ⊥
-shorter choice c names max_frames r s p q less =
+shorter : (choice : Choice) (c : Netlist) (names : List (List ℕ)) (max_frames : ℕ) (certify other : Bool) (r s : Retimed) → IsRetimed choice c names max_frames certify r → IsRetimed choice c names max_frames other s → length r.frames < length s.frames → ⊥
+shorter choice c names max_frames certify other r s p q less =
     let more = after-more choice names c (length r.frames) r.circuit r.kept_free r.frames p.frames (length s.frames) s.circuit s.kept_free s.frames q.frames less in
     let none : known_latches r.circuit.aig ≤ count_in names r.circuit more.0 = p.last (omega (arith, less, q.within)) more.0 (chosen-least choice r.circuit (held_in names r.circuit) more.0 more.1.chosen).closed in
     omega (arith, none, more.1.fewer)
 
-pub retiming-one : (choice : Choice) (c : Netlist) (names : List (List ℕ)) (max_frames : ℕ) (r s : Retimed) → IsRetimed choice c names max_frames r → IsRetimed choice c names max_frames s → r ≡ s
-retiming-one choice c names max_frames r s p q = elim (cases_order (length r.frames) (length s.frames)) [
+pub retiming-one : (choice : Choice) (c : Netlist) (names : List (List ℕ)) (max_frames : ℕ) (certify other : Bool) (r s : Retimed) → IsRetimed choice c names max_frames certify r → IsRetimed choice c names max_frames other s → IsSameRetiming certify other r s
+retiming-one choice c names max_frames certify other r s p q = elim (cases_order (length r.frames) (length s.frames)) [
   | inl here ↦ (
       let P : ℕ → Type 0 = λ j. AfterFrames choice names c j s.circuit s.kept_free s.frames in
       let ends = after-one choice names c (length r.frames) r.circuit r.kept_free r.frames p.frames s.circuit s.kept_free s.frames (subst P (sym here) q.frames) in
       let latches : r.read_latches ≡ s.read_latches = p.read_latches ∙ sym q.read_latches in
-      λ i. record { circuit = ends.circuit i; kept_free = ends.free i; read_latches = latches i; frames = ends.reports i })
-  | inr (inl less) ↦ absurd (shorter choice c names max_frames r s p q less)
-  | inr (inr less) ↦ absurd (shorter choice c names max_frames s r q p less)
+      let Q : Bool → Type 0 = λ wanted. AreCertified choice c names max_frames wanted s in
+      record {
+        circuit = ends.circuit;
+        free = ends.free;
+        latches = latches;
+        frames = ends.reports;
+        certificates = λ same. same-certificates choice c names max_frames certify r s p.frames p.certified (subst Q (sym same) q.certified) p.within here;
+      })
+  | inr (inl less) ↦ absurd (shorter choice c names max_frames certify other r s p q less)
+  | inr (inr less) ↦ absurd (shorter choice c names max_frames other certify s r q p less)
 ]

@@ -1,17 +1,19 @@
 -- Laws of frames.
-use Rattle.std.specs.Prelude.{ℕ, ◌≡◌, List, None}
+use Rattle.std.specs.Prelude.{ℕ, Bool, ◌≡◌, List, None}
 use Rattle.aig_graph.specs.Graph.{IsGraph}
 use Rattle.aig_graph.specs.Circuits.{Netlist, IsNetlist}
 use Rattle.aig_graph.specs.Keep.{first_missing}
 use Rattle.least_sets.specs.declared.choice.Choice.{Choice}
 use Rattle.retimed_circuits.specs.declared.report.Retimed.{Retimed}
 use Rattle.retimed_circuits.specs.Names.{held_latches}
+use Rattle.retimed_circuits.specs.Certified.{IsSameRetiming}
 use Rattle.retimed_circuits.specs.Frames.{CleansIn, moved_in}
 use Rattle.retimed_circuits.specs.Retiming.{IsRetimed}
 
--- what a circuit is retimed to is one, by the choice, the names and the limit of frames alone
+-- what a circuit is retimed to is one, by the choice, the names and the limit of frames alone, and so are its certificates but for their routes
 abbrev pub IsDetermined : Choice → Netlist → List (List ℕ) → ℕ → Type 0
-IsDetermined choice c names max_frames = (r s : Retimed) → IsRetimed choice c names max_frames r → IsRetimed choice c names max_frames s → r ≡ s
+IsDetermined choice c names max_frames = (certify other : Bool) (r s : Retimed) → IsRetimed choice c names max_frames certify r
+    → IsRetimed choice c names max_frames other s → IsSameRetiming certify other r s
 
 -- cleaning keeps the latches that the names hold
 abbrev pub CleaningKeepsHeld : List (List ℕ) → Netlist → Type 0

@@ -1,4 +1,5 @@
 pub mod Names
 pub mod Frames
+pub mod Certified
 pub mod Retiming
 pub mod Laws

@@ -8,7 +8,8 @@ ghost use Rattle.retimed_circuits.specs.Laws.{
   NamesStay,
 };
 
-/// What a circuit is retimed to, with its reports, rests on the circuit, the choice of least sets, the names and the limit of frames alone.
+/// What a circuit is retimed to, with its reports, rests on the circuit, the choice of least sets, the names and the limit of frames
+/// alone, whether certificates are wanted or not. Of certificates their number, counts and gates do; their routes may differ.
 pub fn retiming_law()
     ensures { (choice : Choice) (c : Netlist) (names : List (List ℕ)) (max_frames : ℕ) → IsDetermined choice c names max_frames }
 {}

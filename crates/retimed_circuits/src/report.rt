@@ -1,4 +1,5 @@
 use aig_graph::{Circuit, Sequence};
+use certificates::Certificate;
 
 /// A frame: a move of latches forward over a set of gates.
 #[derive(Clone, Copy, Debug, PartialEq, Eq)]
@@ -22,4 +23,7 @@ pub struct Retimed {
     pub read_latches: u32,
     /// The frames taken, in order.
     pub frames: Sequence<FrameReport>,
+    /// Where certificates were wanted, one of each circuit that a frame was taken of, and one of the last circuit where the limit of
+    /// frames didn't end the run.
+    pub certificates: Sequence<Certificate>,
 }

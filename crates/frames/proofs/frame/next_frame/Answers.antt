@@ -30,15 +30,15 @@ moved_over-requires-clause-helps g c =
     let names = names_in c.args.options.now in
     let before = c.args.circuit.now in
     let P : Option Helping → Type 0 = λ found. MatchOption found (NoneSmaller names before) (Helps c.args.options.now.choice names before) in
-    let helps : Helps c.args.options.now.choice names before c.in-Some.found = subst P c.in-Some.is c.in_ok-found.ensures in
+    let helps : Helps c.args.options.now.choice names before c.in-Some.found = subst P c.in-Some.is c.in_ok-found.ensures.found in
     helps.set
 
-pub returns-in-Some : goal.returns-in-Some
-returns-in-Some g c =
+pub returns-in-Some-clause-found : goal.returns-in-Some-clause-found
+returns-in-Some-clause-found g c =
     let names = names_in c.args.options.now in
     let before = c.args.circuit.now in
     let P : Option Helping → Type 0 = λ found. MatchOption found (NoneSmaller names before) (Helps c.args.options.now.choice names before) in
-    let helps : Helps c.args.options.now.choice names before c.in-Some.found = subst P c.in-Some.is c.in_ok-found.ensures in
+    let helps : Helps c.args.options.now.choice names before c.in-Some.found = subst P c.in-Some.is c.in_ok-found.ensures.found in
     let d = c.in_ok-cleaned-in-Some.ensures in
     record {
       moves = record { set = c.in-Some.found.set; helps = helps.set; cleaned = d.cleaned; reported = helps.report };
@@ -47,18 +47,40 @@ returns-in-Some g c =
       tidy = d.tidy;
     }
 
-pub returns : goal.returns
-returns g c =
+pub returns-clause-found : goal.returns-clause-found
+returns-clause-found g c =
     let names = names_in c.args.options.now in
     let before = c.args.circuit.now in
     let P : Option Helping → Type 0 = λ found. MatchOption found (NoneSmaller names before) (Helps c.args.options.now.choice names before) in
-    subst P c.in-None.is c.in_ok-found.ensures
+    subst P c.in-None.is c.in_ok-found.ensures.found
 
-pub returns-in_err-keep : goal.returns-in_err-keep
-returns-in_err-keep g c = IfOk-from_err c.from_residual.result _ c.from_residual.ensures.0
+pub returns-in_err-keep-clause-found : goal.returns-in_err-keep-clause-found
+returns-in_err-keep-clause-found g c = IfOk-from_err c.from_residual.result _ c.from_residual.ensures.0
 
-pub returns-in_err-found : goal.returns-in_err-found
-returns-in_err-found g c = IfOk-from_err c.from_residual-in_err-found.result _ c.from_residual-in_err-found.ensures.0
+pub returns-in_err-keep-clause-certificate : goal.returns-in_err-keep-clause-certificate
+returns-in_err-keep-clause-certificate g c = IfOk-from_err c.from_residual.result _ c.from_residual.ensures.0
 
-pub returns-in_err-cleaned-in-Some : goal.returns-in_err-cleaned-in-Some
-returns-in_err-cleaned-in-Some g c = IfOk-from_err c.from_residual-in_err-cleaned-in-Some.result _ c.from_residual-in_err-cleaned-in-Some.ensures.0
+pub returns-in_err-found-clause-found : goal.returns-in_err-found-clause-found
+returns-in_err-found-clause-found g c = IfOk-from_err c.from_residual-in_err-found.result _ c.from_residual-in_err-found.ensures.0
+
+pub returns-in_err-found-clause-certificate : goal.returns-in_err-found-clause-certificate
+returns-in_err-found-clause-certificate g c = IfOk-from_err c.from_residual-in_err-found.result _ c.from_residual-in_err-found.ensures.0
+
+pub returns-in_err-cleaned-in-Some-clause-found : goal.returns-in_err-cleaned-in-Some-clause-found
+returns-in_err-cleaned-in-Some-clause-found g c = IfOk-from_err c.from_residual-in_err-cleaned-in-Some.result _ c.from_residual-in_err-cleaned-in-Some.ensures.0
+
+pub returns-in_err-cleaned-in-Some-clause-certificate : goal.returns-in_err-cleaned-in-Some-clause-certificate
+returns-in_err-cleaned-in-Some-clause-certificate g c = IfOk-from_err c.from_residual-in_err-cleaned-in-Some.result _ c.from_residual-in_err-cleaned-in-Some.ensures.0
+
+pub returns-clause-certificate : goal.returns-clause-certificate
+returns-clause-certificate g c = c.in_ok-found.ensures.certificate
+
+-- the flows that are carried on are none of the certificates' business
+pub returns-in-Some-clause-certificate : goal.returns-in-Some-clause-certificate
+returns-in-Some-clause-certificate g c =
+    let found = c.in_ok-found.ensures.certificate in
+    record {
+      set = found.set;
+      chosen = found.chosen;
+      adds = record { certify = found.adds.certify; added = found.adds.added; none = found.adds.none };
+    }

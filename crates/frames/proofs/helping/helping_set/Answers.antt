@@ -6,6 +6,7 @@ use Rattle.retimed_circuits.specs.Names.{held_in}
 use Rattle.retimed_circuits.specs.Frames.{count_in}
 use Rattle.least_sets.specs.Chosen.{IsChosen}
 use Rattle.least_sets.proofs.ChosenLaws.{chosen-least}
+use Rattle.chosen_cuts.specs.Certified.{AddsOne}
 use Rattle.frames.specs.Named.{names_in}
 use Rattle.frames.proofs.FrameLaws.{closed-length, none-smaller}
 use Rattle.std.proofs.lemmas.Result.{IfOk-from_err}
@@ -14,17 +15,23 @@ use Rattle.frames.proofs.helping.helping_set.Goals as goal
 pub overflow_cast-report : goal.overflow_cast-report
 overflow_cast-report g c =
     let short = closed-length c.args.circuit.now.aig c.args.keep.now c.in_ok-set.set c.aig-aig.ensures.graph
-    (chosen-least c.args.options.now.choice c.args.circuit.now c.args.keep.now c.in_ok-set.set c.in_ok-set.ensures).closed in
+    (chosen-least c.args.options.now.choice c.args.circuit.now c.args.keep.now c.in_ok-set.set c.in_ok-set.ensures.set).closed in
     omega (arith, short, ap (λ (xs : List ℕ). length xs) c.vars.ensures.value)
 
-pub returns-in_err-set : goal.returns-in_err-set
-returns-in_err-set g c = IfOk-from_err c.from_residual.result _ c.from_residual.ensures.0
+pub returns-in_err-set-clause-found : goal.returns-in_err-set-clause-found
+returns-in_err-set-clause-found g c = IfOk-from_err c.from_residual.result _ c.from_residual.ensures.0
 
-pub returns-in_err-count : goal.returns-in_err-count
-returns-in_err-count g c = IfOk-from_err c.from_residual-in_err-count.result _ c.from_residual-in_err-count.ensures.0
+pub returns-in_err-set-clause-certificate : goal.returns-in_err-set-clause-certificate
+returns-in_err-set-clause-certificate g c = IfOk-from_err c.from_residual.result _ c.from_residual.ensures.0
 
-pub returns-then-report : goal.returns-then-report
-returns-then-report g c =
+pub returns-in_err-count-clause-found : goal.returns-in_err-count-clause-found
+returns-in_err-count-clause-found g c = IfOk-from_err c.from_residual-in_err-count.result _ c.from_residual-in_err-count.ensures.0
+
+pub returns-in_err-count-clause-certificate : goal.returns-in_err-count-clause-certificate
+returns-in_err-count-clause-certificate g c = IfOk-from_err c.from_residual-in_err-count.result _ c.from_residual-in_err-count.ensures.0
+
+pub returns-then-report-clause-found : goal.returns-then-report-clause-found
+returns-then-report-clause-found g c =
     let before = c.args.circuit.now in
     let names = names_in c.args.options.now in
     let set = c.in_ok-set.set in
@@ -32,17 +39,39 @@ returns-then-report g c =
     let counted : c.in_ok-count.field-0 ≡ count_in names before set = c.in_ok-count.ensures ∙ ap (λ (held : List ℕ). border_size (move_of before held set)) c.requires in
     let long : length c.vars.result.now ≡ length set = ap (λ (xs : List ℕ). length xs) c.vars.ensures.value in
     record {
-      set = record { chosen = subst (λ (held : List ℕ). IsChosen c.args.options.now.choice before held set) c.requires c.in_ok-set.ensures; fewer = omega (arith, known, counted, c.if-report.true) };
+      set = record { chosen = subst (λ (held : List ℕ). IsChosen c.args.options.now.choice before held set) c.requires c.in_ok-set.ensures.set; fewer = omega (arith, known, counted, c.if-report.true) };
       report = λ i. record { before = known i; after = counted i; moved = long i };
     }
 
-pub returns-else-report : goal.returns-else-report
-returns-else-report g c =
+pub returns-else-report-clause-found : goal.returns-else-report-clause-found
+returns-else-report-clause-found g c =
     let before = c.args.circuit.now in
     let names = names_in c.args.options.now in
     let set = c.in_ok-set.set in
     let known : c.known_latches.result ≡ known_latches before.aig = c.known_latches.ensures ∙ ap known_latches c.aig.ensures.value in
     let counted : c.in_ok-count.field-0 ≡ count_in names before set = c.in_ok-count.ensures ∙ ap (λ (held : List ℕ). border_size (move_of before held set)) c.requires in
     let choice = c.args.options.now.choice in
-    let chosen : IsChosen choice before (held_in names before) set = subst (λ (held : List ℕ). IsChosen choice before held set) c.requires c.in_ok-set.ensures in
+    let chosen : IsChosen choice before (held_in names before) set = subst (λ (held : List ℕ). IsChosen choice before held set) c.requires c.in_ok-set.ensures.set in
     none-smaller names before set (chosen-least choice before (held_in names before) set chosen) (omega (arith, known, counted, c.if-report.false))
+
+pub returns-then-report-clause-certificate : goal.returns-then-report-clause-certificate
+returns-then-report-clause-certificate g c =
+    let choice = c.args.options.now.choice in
+    let before = c.args.circuit.now in
+    let set = c.in_ok-set.set in
+    record {
+      set = set;
+      chosen = subst (λ (held : List ℕ). IsChosen choice before held set) c.requires c.in_ok-set.ensures.set;
+      adds = subst (λ (held : List ℕ). AddsOne before held c.args.records.now c.chosen_least_along.new.records set) c.requires c.in_ok-set.ensures.certificate;
+    }
+
+pub returns-else-report-clause-certificate : goal.returns-else-report-clause-certificate
+returns-else-report-clause-certificate g c =
+    let choice = c.args.options.now.choice in
+    let before = c.args.circuit.now in
+    let set = c.in_ok-set.set in
+    record {
+      set = set;
+      chosen = subst (λ (held : List ℕ). IsChosen choice before held set) c.requires c.in_ok-set.ensures.set;
+      adds = subst (λ (held : List ℕ). AddsOne before held c.args.records.now c.chosen_least_along.new.records set) c.requires c.in_ok-set.ensures.certificate;
+    }

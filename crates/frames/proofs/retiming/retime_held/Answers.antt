@@ -1,56 +1,34 @@
-use Rattle.std.proofs.Common.{◌+◌, ◌≡◌, Option, suc, arith, subst, ℕ}
-use Rattle.std.specs.Option.{MatchOption}
-use Rattle.retimed_circuits.specs.Frames.{NoneSmaller}
-use Rattle.retimed_circuits.proofs.NameLaws.{names-stay}
-use Rattle.frames.specs.declared.frame.Frame.{Frame}
-use Rattle.frames.specs.Found.{Moves}
+use Rattle.std.proofs.Common.{◌≡◌, sym, subst}
+use Rattle.retimed_circuits.specs.declared.report.Retimed.{Retimed}
+use Rattle.retimed_circuits.specs.Retiming.{IsRetimed}
 use Rattle.frames.specs.Named.{names_in}
-use Rattle.frames.specs.Underway.{IsUnderway}
+use Rattle.frames.proofs.CertificateLaws.{none-collected}
 use Rattle.frames.proofs.FrameLaws.{ended}
-use Rattle.std.proofs.lemmas.Result.{IfOk-from_err}
 use Rattle.frames.proofs.retiming.retime_held.Goals as goal
 
-pub loop-init : goal.loop-init
-loop-init g c = c.in_ok-retimed.ensures
+pub all_frames-requires-clause-keep : goal.all_frames-requires-clause-keep
+all_frames-requires-clause-keep g c = c.requires.keep
 
-pub next_frame-requires-clause-tidy : goal.next_frame-requires-clause-tidy
-next_frame-requires-clause-tidy g c κs within = c.loop.invariant.tidy
+pub all_frames-requires-clause-names : goal.all_frames-requires-clause-names
+all_frames-requires-clause-names g c = c.requires.names
 
-pub next_frame-requires-clause-names : goal.next_frame-requires-clause-names
-next_frame-requires-clause-names g c κs within = names-stay (names_in c.args.options.now) c.args.circuit.now c.loop.retimed.circuit c.loop.invariant.held c.requires.names
+pub all_frames-requires-clause-none : goal.all_frames-requires-clause-none
+all_frames-requires-clause-none g c =
+    none-collected c.args.options.now.choice (names_in c.args.options.now) c.args.circuit.now c.args.options.now.certify c.new.result c.new.ensures.certify c.new.ensures.certificates
 
-pub after_frame-requires-clause-underway : goal.after_frame-requires-clause-underway
-after_frame-requires-clause-underway g c = (c.args.circuit.now, c.loop.counter, c.loop.invariant)
-
-pub returns-in-Ok-None : goal.returns-in-Ok-None
-returns-in-Ok-None g c =
-    let names = names_in c.args.options.now in
-    let P : Option Frame → Type 0 = λ found. MatchOption found (NoneSmaller names c.loop.retimed.circuit) (Moves c.args.options.now.choice names c.loop.retimed.circuit) in
-    let none : NoneSmaller names c.loop.retimed.circuit = subst P c.in-Ok-None.field-0-is c.in-Ok-None.ensures in
-    ended c.args.options.now.choice names c.args.circuit.now c.loop.counter c.args.options.now.max_frames c.loop.retimed c.loop.invariant c.loop.auto.counter-end (λ less. none)
-
-pub loop-preserved : goal.loop-preserved
-loop-preserved g c =
-    let P : ℕ → Type 0 = λ n. IsUnderway c.args.options.now.choice (names_in c.args.options.now) c.args.circuit.now n c.in_ok-retimed-in-Ok-Some.retimed in
-    let next : suc c.loop.counter ≡ c.loop.counter + 1 = omega arith in
-    subst P next (c.in_ok-retimed-in-Ok-Some.ensures c.args.circuit.now c.loop.counter c.loop.invariant)
-
-pub returns : goal.returns
-returns g c =
-    ended c.args.options.now.choice (names_in c.args.options.now) c.args.circuit.now c.loop.counter c.args.options.now.max_frames c.loop.retimed c.loop.invariant c.loop.auto.counter-end
-    (λ less. absurd (omega (arith, c.loop-test.false, less)))
-
-pub begun-requires : goal.begun-requires
-begun-requires g c = c.requires.keep
-
-pub after_frame-requires-clause-moves : goal.after_frame-requires-clause-moves
-after_frame-requires-clause-moves g c =
-    let names = names_in c.args.options.now in
-    let P : Option Frame → Type 0 = λ found. MatchOption found (NoneSmaller names c.loop.retimed.circuit) (Moves c.args.options.now.choice names c.loop.retimed.circuit) in
-    subst P c.in-Ok-Some.field-0-is c.in-Ok-Some.ensures
-
-pub returns-in_err-retimed : goal.returns-in_err-retimed
-returns-in_err-retimed g c = IfOk-from_err c.from_residual.result _ c.from_residual.ensures.0
-
-pub returns-in_err-retimed-in-Ok-Some : goal.returns-in_err-retimed-in-Ok-Some
-returns-in_err-retimed-in-Ok-Some g c = IfOk-from_err c.from_residual-in_err-retimed-in-Ok-Some.result _ c.from_residual-in_err-retimed-in-Ok-Some.ensures.0
+pub returns-in-Ok : goal.returns-in-Ok
+returns-in-Ok g c =
+    let options = c.args.options.now in
+    let r = c.in-Ok.retimed in
+    let records = c.all_frames.new.records in
+    let whole = c.with_certificates.ensures in
+    let s : Retimed = record { circuit = r.circuit; kept_free = r.kept_free; read_latches = r.read_latches; frames = r.frames; certificates = records.certificates.items } in
+    let same : c.with_certificates.result ≡ s = λ i. record {
+      circuit = whole.circuit i;
+      kept_free = whole.kept_free i;
+      read_latches = whole.read_latches i;
+      frames = whole.frames i;
+      certificates = whole.certificates i;
+    } in
+    subst (IsRetimed options.choice c.args.circuit.now (names_in options) options.max_frames options.certify) (sym same)
+    (ended options.choice (names_in options) c.args.circuit.now options.max_frames options.certify records r c.in-Ok.ensures)

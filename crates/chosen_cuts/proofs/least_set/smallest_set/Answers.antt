@@ -1,0 +1,23 @@
+use Rattle.std.proofs.Common.{sym, subst}
+use Rattle.std.proofs.lemmas.Result.{IfOk-weaker}
+use Rattle.aig_graph.specs.Border.{IsSmallestLeast}
+use Rattle.chosen_cuts.proofs.least_set.smallest_set.Goals as goal
+
+pub routes-requires : goal.routes-requires
+routes-requires c = c.requires.preflow
+
+pub recorded-requires-clause-least : goal.recorded-requires-clause-least
+recorded-requires-clause-least c =
+    let circuit = c.args.circuit.now in
+    let held = c.args.keep.now in
+    (c.in-Ok.ensures circuit held c.requires.network (c.in_ok-routes.ensures circuit held c.requires.network)).least
+
+pub recorded-requires-clause-routes : goal.recorded-requires-clause-routes
+recorded-requires-clause-routes c = c.in_ok-routes.ensures c.args.circuit.now c.args.keep.now c.requires.network
+
+pub returns-in-Ok-clause-set : goal.returns-in-Ok-clause-set
+returns-in-Ok-clause-set c =
+    let circuit = c.args.circuit.now in
+    let held = c.args.keep.now in
+    let smallest = c.in-Ok.ensures circuit held c.requires.network (c.in_ok-routes.ensures circuit held c.requires.network) in
+    IfOk-weaker c.recorded.result _ (IsSmallestLeast circuit held) (λ set same. subst (IsSmallestLeast circuit held) (sym same) smallest) c.recorded.ensures.set

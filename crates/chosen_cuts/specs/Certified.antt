@@ -1,0 +1,18 @@
+-- Certificates of the sets that are found, one after another.
+use Rattle.std.specs.Prelude.{ℕ, ◌≡◌, ◌++◌, List, [], ◌∷◌, true, false}
+use Rattle.aig_graph.specs.Circuits.{Netlist}
+use Rattle.certificates.specs.declared.certificate.Certificate.{Certificate}
+use Rattle.certificates.specs.declared.verdict.Verdict.TheVariants.{Yes}
+use Rattle.certificates.specs.Verdicts.{IsVerdict}
+use Rattle.chosen_cuts.specs.declared.records.Records.{Records}
+
+-- the certificate has the set, and passes all tests
+pub record Certifies (c : Netlist) (held set : List ℕ) (cert : Certificate) : Type 0 where
+  pub gates : cert.gates ≡ set
+  pub passes : IsVerdict c held cert Yes
+
+-- a certificate of the set is added where certificates are wanted, else none
+pub record AddsOne (c : Netlist) (held : List ℕ) (old new : Records) (set : List ℕ) : Type 0 where
+  pub certify : new.certify ≡ old.certify
+  pub added : old.certify ≡ true → (cert : Certificate) × Certifies c held set cert × (new.certificates.items ≡ old.certificates.items ++ cert ∷ [])
+  pub none : old.certify ≡ false → new.certificates.items ≡ old.certificates.items

@@ -1,0 +1,55 @@
+use aig_graph::{Circuit, ClosedSet, Keep, NoMemory};
+use certificates::{Certificate, Routes};
+use cut_cert::certificate_of;
+use gate_flows::GateFlow;
+use std::alloc::Global;
+
+/// What is kept from circuit to circuit.
+#[derive(Drop)]
+pub struct Records {
+    /// What the last flow did at the gates of the circuit that comes next: hints.
+    pub flows: Vec<GateFlow>,
+    /// Whether certificates are wanted. Where they aren't, none is made.
+    pub certify: bool,
+    /// The certificates of the sets that were found, in order.
+    pub certificates: Vec<Certificate>,
+}
+
+impl Records {
+    ghost use Rattle.std.specs.Prelude.{◌≡◌, [], OnOk};
+    ghost use Rattle.aig_graph.specs.Border.{IsLeast};
+    ghost use Rattle.cut_cert.specs.Shown.{AreLeastRoutes};
+    ghost use Rattle.chosen_cuts.specs.Certified.{AddsOne};
+
+    /// Nothing is known yet.
+    pub fn new(alloc: Global, certify: bool) -> Records
+        ensures certify { result.certify ≡ certify }
+        ensures certificates { result.certificates.items ≡ [] }
+    {
+        Records {
+            flows: Vec::new(alloc),
+            certify,
+            certificates: Vec::new(alloc),
+        }
+    }
+
+    /// Adds the certificate of a least set, where certificates are wanted.
+    pub(crate) fn add(
+        &mut self,
+        alloc: Global,
+        circuit: &Circuit,
+        keep: &Keep,
+        set: &ClosedSet,
+        routes: Routes,
+    ) -> Result<(), NoMemory>
+        requires least { IsLeast circuit.now keep.now set.now }
+        requires routes { AreLeastRoutes circuit.now keep.now routes }
+        ensures { OnOk result (AddsOne circuit.now keep.now self.old self.new set.now) }
+    {
+        if self.certify {
+            let certificate = certificate_of(alloc, circuit, keep, set, routes)?;
+            self.certificates.push(certificate)?;
+        }
+        Ok(())
+    }
+}

@@ -1,0 +1,78 @@
+-- The certificates of a run, frame after frame.
+use Rattle.std.proofs.Common.{ℕ, suc, inl, inr, ◌≡◌, ◌<◌, ◌++◌, Bool, true, false, List, [], ◌∷◌, Some, slice_get, length, arith, refl, ap, sym, ◌∙◌, subst}
+use Rattle.std.proofs.lemmas.List.{length-append}
+use Rattle.std.proofs.lemmas.Option.{slice_get_within}
+use Rattle.aig_graph.specs.Circuits.{Netlist}
+use Rattle.variable_tables.proofs.PlacesLemmas.{slice_get_push}
+use Rattle.certificates.specs.declared.certificate.Certificate.{Certificate}
+use Rattle.chosen_cuts.specs.declared.records.Records.{Records}
+use Rattle.least_sets.specs.declared.choice.Choice.{Choice}
+use Rattle.least_sets.specs.Chosen.{IsChosen}
+use Rattle.retimed_circuits.specs.declared.report.FrameReport.{FrameReport}
+use Rattle.retimed_circuits.specs.declared.report.Retimed.{Retimed}
+use Rattle.retimed_circuits.specs.Names.{held_in}
+use Rattle.retimed_circuits.specs.Frames.{AfterFrames}
+use Rattle.retimed_circuits.specs.Certified.{IsCertificate, AreOfFrames, AreCertified}
+use Rattle.retimed_circuits.proofs.ReportLaws.{all-reported}
+use Rattle.retimed_circuits.proofs.RunLaws.{after-one}
+use Rattle.frames.specs.Certified.{AddsChosen, AreCollected}
+
+none-yet : (choice : Choice) (names : List (List ℕ)) (c : Netlist) → AreOfFrames choice names c []
+none-yet choice names c i d kept reports cert run at =
+    let within : i < 0 = slice_get_within {A = Certificate} [] i cert at in absurd (omega (arith, within))
+
+pub none-collected : (choice : Choice) (names : List (List ℕ)) (c : Netlist) (certify : Bool) (records : Records) → records.certify ≡ certify → records.certificates.items ≡ []
+    → AreCollected choice names c certify 0 records
+none-collected choice names c certify records wanted empty = record {
+  wanted = wanted;
+  each = λ yes. subst (AreOfFrames choice names c) (sym empty) (none-yet choice names c);
+  many = λ yes. ap (λ (certs : List Certificate). length certs) empty;
+  none = λ no. empty;
+}
+
+-- the circuit that so many frames make is one, so a certificate of it is one of any
+one-more-certificate : (choice : Choice) (names : List (List ℕ)) (c : Netlist) (certs : List Certificate) (cert : Certificate) (d : Netlist) (kept : List ℕ) (reports : List FrameReport)
+    → AreOfFrames choice names c certs → AfterFrames choice names c (length certs) d kept reports → IsCertificate choice names d cert → AreOfFrames choice names c (certs ++ cert ∷ [])
+one-more-certificate choice names c certs cert d kept reports before run is i e left s other again at = elim (slice_get_push certs cert i other at) [
+  | inl here ↦ before i e left s other again here
+  | inr last ↦ (
+      let P : ℕ → Type 0 = λ j. AfterFrames choice names c j e left s in
+      let same : d ≡ e = (after-one choice names c (length certs) d kept reports run e left s (subst P last.0 again)).circuit in
+      subst (IsCertificate choice names e) (sym last.1) (subst (λ (x : Netlist). IsCertificate choice names x cert) same is))
+]
+
+pub one-collected : (choice : Choice) (names : List (List ℕ)) (c : Netlist) (certify : Bool) (n : ℕ) (mid new : Records) (d : Netlist) (kept : List ℕ) (reports : List FrameReport)
+    → AreCollected choice names c certify n mid → AfterFrames choice names c n d kept reports → AddsChosen choice names d mid new → AreCollected choice names c certify (suc n) new
+one-collected choice names c certify n mid new d kept reports before run adds = record {
+  wanted = adds.adds.certify ∙ before.wanted;
+  each = λ yes.
+      let added = adds.adds.added (before.wanted ∙ yes) in
+      let is : IsCertificate choice names d added.0 = record { chosen = subst (IsChosen choice d (held_in names d)) (sym added.1.gates) adds.chosen; passes = added.1.passes } in
+      let P : ℕ → Type 0 = λ m. AfterFrames choice names c m d kept reports in
+      let all = one-more-certificate choice names c mid.certificates.items added.0 d kept reports (before.each yes) (subst P (sym (before.many yes)) run) is in
+      subst (AreOfFrames choice names c) (sym added.2) all;
+  many = λ yes.
+      let added = adds.adds.added (before.wanted ∙ yes) in
+      let long : length new.certificates.items ≡ length (mid.certificates.items ++ added.0 ∷ []) = ap (λ (certs : List Certificate). length certs) added.2 in
+      omega (arith, long, length-append mid.certificates.items (added.0 ∷ []), before.many yes);
+  none = λ no. adds.adds.none (before.wanted ∙ no) ∙ before.none no;
+}
+
+-- the certificates of r are those that were collected of the first n circuits: as many as frames at the limit, one more before it
+pub certified : (choice : Choice) (names : List (List ℕ)) (c : Netlist) (certify : Bool) (n max_frames : ℕ) (r : Retimed) (records : Records)
+    → AreCollected choice names c certify n records → r.certificates ≡ records.certificates.items → (taken : ℕ) → AfterFrames choice names c taken r.circuit r.kept_free r.frames
+    → (length r.frames ≡ max_frames → n ≡ length r.frames) → (length r.frames < max_frames → n ≡ suc (length r.frames)) → AreCertified choice c names max_frames certify r
+certified choice names c certify n max_frames r records all same taken run limit before =
+    let each : AreOfFrames choice names c r.certificates = subst (AreOfFrames choice names c) (sym same) (of-frames choice names c certify n records all) in
+    record {
+      each = each;
+      reported = all-reported choice names c taken r.circuit r.kept_free r.frames r.certificates run each;
+      limited = λ yes at. ap (λ (certs : List Certificate). length certs) same ∙ all.many yes ∙ limit at;
+      ended = λ yes less. ap (λ (certs : List Certificate). length certs) same ∙ all.many yes ∙ before less;
+      none = λ no. same ∙ all.none no;
+    }
+  where
+    of-frames : (choice : Choice) (names : List (List ℕ)) (c : Netlist) (certify : Bool) (n : ℕ) (records : Records) → AreCollected choice names c certify n records
+        → AreOfFrames choice names c records.certificates.items
+    of-frames choice names c true n records all = all.each refl
+    of-frames choice names c false n records all = subst (AreOfFrames choice names c) (sym (all.none refl)) (none-yet choice names c)

@@ -1,0 +1,87 @@
+use Rattle.std.proofs.Common.{◌+◌, ◌≡◌, Option, suc, arith, subst, ℕ, refl}
+use Rattle.std.specs.Option.{MatchOption}
+use Rattle.retimed_circuits.specs.Frames.{NoneSmaller}
+use Rattle.retimed_circuits.proofs.NameLaws.{names-stay}
+use Rattle.frames.specs.declared.frame.Frame.{Frame}
+use Rattle.frames.specs.Certified.{AreCollected}
+use Rattle.frames.specs.Found.{Moves}
+use Rattle.frames.specs.Named.{names_in}
+use Rattle.frames.specs.Underway.{IsUnderway}
+use Rattle.frames.proofs.CertificateLaws.{one-collected}
+use Rattle.std.proofs.lemmas.Result.{IfOk-from_err}
+use Rattle.frames.proofs.retiming.all_frames.Goals as goal
+
+pub loop-init : goal.loop-init
+loop-init g c = (c.in_ok-retimed.ensures, c.requires.none)
+
+pub next_frame-requires-clause-tidy : goal.next_frame-requires-clause-tidy
+next_frame-requires-clause-tidy g c κs within = c.loop.invariant.0.tidy
+
+pub next_frame-requires-clause-names : goal.next_frame-requires-clause-names
+next_frame-requires-clause-names g c κs within = names-stay (names_in c.args.options.now) c.args.circuit.now c.loop.retimed.circuit c.loop.invariant.0.held c.requires.names
+
+pub after_frame-requires-clause-underway : goal.after_frame-requires-clause-underway
+after_frame-requires-clause-underway g c = (c.args.circuit.now, c.loop.counter, c.loop.invariant.0)
+
+-- the last circuit was looked at, and none counts less
+pub returns-in-Ok-None : goal.returns-in-Ok-None
+returns-in-Ok-None g c =
+    let choice = c.args.options.now.choice in
+    let names = names_in c.args.options.now in
+    let before = c.loop.retimed in
+    let P : Option Frame → Type 0 = λ found. MatchOption found (NoneSmaller names before.circuit) (Moves choice names before.circuit) in
+    let none : NoneSmaller names before.circuit = subst P c.in-Ok-None.field-0-is c.in-Ok-None.ensures.found in
+    record {
+      taken = c.loop.counter;
+      underway = c.loop.invariant.0;
+      within = c.loop.auto.counter-end;
+      last = λ less. none;
+      looked = suc c.loop.counter;
+      collected = one-collected choice names c.args.circuit.now c.args.options.now.certify c.loop.counter c.loop.records c.next_frame.new.records before.circuit before.kept_free before.frames
+          c.loop.invariant.1 c.loop.invariant.0.frames c.in-Ok-None.ensures.certificate;
+      limited = λ at. absurd (omega (arith, at, c.loop-test.true));
+      ended = λ less. refl;
+    }
+
+pub loop-preserved : goal.loop-preserved
+loop-preserved g c =
+    let choice = c.args.options.now.choice in
+    let names = names_in c.args.options.now in
+    let certify = c.args.options.now.certify in
+    let first = c.args.circuit.now in
+    let before = c.loop.retimed in
+    let P : ℕ → Type 0 = λ n. IsUnderway choice names first n c.in_ok-retimed-in-Ok-Some.retimed in
+    let Q : ℕ → Type 0 = λ n. AreCollected choice names first certify n c.next_frame.new.records in
+    let next : suc c.loop.counter ≡ c.loop.counter + 1 = omega arith in (
+      subst P next (c.in_ok-retimed-in-Ok-Some.ensures first c.loop.counter c.loop.invariant.0),
+      subst Q next (one-collected choice names first certify c.loop.counter c.loop.records c.next_frame.new.records before.circuit before.kept_free before.frames c.loop.invariant.1 c.loop.invariant.0.frames
+          c.in-Ok-Some.ensures.certificate),
+    )
+
+-- at the limit the last circuit isn't looked at
+pub returns : goal.returns
+returns g c = record {
+  taken = c.loop.counter;
+  underway = c.loop.invariant.0;
+  within = c.loop.auto.counter-end;
+  last = λ less. absurd (omega (arith, c.loop-test.false, less));
+  looked = c.loop.counter;
+  collected = c.loop.invariant.1;
+  limited = λ at. refl;
+  ended = λ less. absurd (omega (arith, c.loop-test.false, less));
+}
+
+pub begun-requires : goal.begun-requires
+begun-requires g c = c.requires.keep
+
+pub after_frame-requires-clause-moves : goal.after_frame-requires-clause-moves
+after_frame-requires-clause-moves g c =
+    let names = names_in c.args.options.now in
+    let P : Option Frame → Type 0 = λ found. MatchOption found (NoneSmaller names c.loop.retimed.circuit) (Moves c.args.options.now.choice names c.loop.retimed.circuit) in
+    subst P c.in-Ok-Some.field-0-is c.in-Ok-Some.ensures.found
+
+pub returns-in_err-retimed : goal.returns-in_err-retimed
+returns-in_err-retimed g c = IfOk-from_err c.from_residual.result _ c.from_residual.ensures.0
+
+pub returns-in_err-retimed-in-Ok-Some : goal.returns-in_err-retimed-in-Ok-Some
+returns-in_err-retimed-in-Ok-Some g c = IfOk-from_err c.from_residual-in_err-retimed-in-Ok-Some.result _ c.from_residual-in_err-retimed-in-Ok-Some.ensures.0

@@ -1,0 +1,54 @@
+-- Certificates of a retiming.
+use Rattle.std.specs.Prelude.{ℕ, suc, ◌≡◌, ◌<◌, Bool, true, false, List, [], length, Some, slice_get}
+use Rattle.aig_graph.specs.Circuits.{Netlist}
+use Rattle.certificates.specs.declared.certificate.Certificate.{Certificate}
+use Rattle.certificates.specs.declared.verdict.Verdict.TheVariants.{Yes}
+use Rattle.certificates.specs.Verdicts.{IsVerdict}
+use Rattle.least_sets.specs.declared.choice.Choice.{Choice}
+use Rattle.least_sets.specs.Chosen.{IsChosen}
+use Rattle.retimed_circuits.specs.declared.report.FrameReport.{FrameReport}
+use Rattle.retimed_circuits.specs.declared.report.Retimed.{Retimed}
+use Rattle.retimed_circuits.specs.Names.{held_in}
+use Rattle.retimed_circuits.specs.Frames.{AfterFrames}
+
+-- the gates are c's chosen least set, and the certificate passes all tests
+pub record IsCertificate (choice : Choice) (names : List (List ℕ)) (c : Netlist) (cert : Certificate) : Type 0 where
+  pub chosen : IsChosen choice c (held_in names c) cert.gates
+  pub passes : IsVerdict c (held_in names c) cert Yes
+
+-- certificate i, from 0, is one of the circuit that i frames make of c
+abbrev pub AreOfFrames : Choice → List (List ℕ) → Netlist → List Certificate → Type 0
+AreOfFrames choice names c certs = (i : ℕ) (d : Netlist) (kept : List ℕ) (reports : List FrameReport) (cert : Certificate)
+    → AfterFrames choice names c i d kept reports → slice_get certs i ≡ Some cert → IsCertificate choice names d cert
+
+-- the certificate has the count and as many gates as are reported
+pub record IsReported (cert : Certificate) (report : FrameReport) : Type 0 where
+  pub count : cert.count ≡ report.after
+  pub moved : length cert.gates ≡ report.moved
+
+-- certificate i is that of frame i's report
+abbrev pub AreReported : List Certificate → List FrameReport → Type 0
+AreReported certs reports = (i : ℕ) (cert : Certificate) (report : FrameReport) → slice_get certs i ≡ Some cert → slice_get reports i ≡ Some report → IsReported cert report
+
+-- where certificates are wanted, there is one of each circuit that a frame was taken of, and one of the last circuit where the limit of
+-- frames didn't end the run; else there are none
+pub record AreCertified (choice : Choice) (c : Netlist) (names : List (List ℕ)) (max_frames : ℕ) (certify : Bool) (r : Retimed) : Type 0 where
+  pub each : AreOfFrames choice names c r.certificates
+  pub reported : AreReported r.certificates r.frames
+  pub limited : certify ≡ true → length r.frames ≡ max_frames → length r.certificates ≡ length r.frames
+  pub ended : certify ≡ true → length r.frames < max_frames → length r.certificates ≡ suc (length r.frames)
+  pub none : certify ≡ false → r.certificates ≡ []
+
+-- as many certificates, with the same gates and counts: the routes may differ
+pub record SameButRoutes (certs others : List Certificate) : Type 0 where
+  pub many : length certs ≡ length others
+  pub gates : (i : ℕ) (cert other : Certificate) → slice_get certs i ≡ Some cert → slice_get others i ≡ Some other → cert.gates ≡ other.gates
+  pub counts : (i : ℕ) (cert other : Certificate) → slice_get certs i ≡ Some cert → slice_get others i ≡ Some other → cert.count ≡ other.count
+
+-- one retiming, whether certificates are wanted or not; where they are of both or of none, the same but for their routes
+pub record IsSameRetiming (certify other : Bool) (r s : Retimed) : Type 0 where
+  pub circuit : r.circuit ≡ s.circuit
+  pub free : r.kept_free ≡ s.kept_free
+  pub latches : r.read_latches ≡ s.read_latches
+  pub frames : r.frames ≡ s.frames
+  pub certificates : certify ≡ other → SameButRoutes r.certificates s.certificates
