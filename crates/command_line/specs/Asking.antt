@@ -10,8 +10,9 @@ use Rattle.least_sets.specs.declared.choice.Choice.{Choice}
 use Rattle.least_sets.specs.declared.choice.Choice.TheVariants.{Greatest, Smallest}
 use Rattle.command_line.specs.declared.task.Retiming.{Retiming}
 use Rattle.command_line.specs.declared.task.Batch.{Batch as Batching}
+use Rattle.command_line.specs.declared.task.Verification.{Verification}
 use Rattle.command_line.specs.declared.task.Task.{Task}
-use Rattle.command_line.specs.declared.task.Task.TheVariants.{Retime, Batch, Stat, Convert, Sim, Same}
+use Rattle.command_line.specs.declared.task.Task.TheVariants.{Retime, Batch, Stat, Convert, Sim, Same, Verify}
 
 -- the text is the first value of the argument with this id
 abbrev pub IsGiven : ArgMatches → List ℕ → Bor (List ℕ) → Type 0
@@ -52,6 +53,7 @@ pub record IsRetiming (matches : ArgMatches) (retiming : Retiming) : Type 0 wher
   pub workers : IsNumber matches (codes "workers") 1 retiming.workers
   pub frames : IsNumber matches (codes "frames") (2 ^ 28) retiming.frames
   pub choice : IsChoice matches retiming.choice
+  pub certificates : option_map (λ path. path.now) retiming.certificates ≡ first_value (found_of matches) (codes "cert")
   pub names : map (λ name. name.now) retiming.keep.items ≡ values_of matches (codes "keep")
 
 -- the list and the options of a batch are the values of their own arguments
@@ -62,6 +64,12 @@ pub record IsBatch (matches : ArgMatches) (batch : Batching) : Type 0 where
   pub frames : IsNumber matches (codes "frames") (2 ^ 28) batch.frames
   pub choice : IsChoice matches batch.choice
 
+-- the paths and the names of a verification are the values of their own arguments
+pub record IsVerification (matches : ArgMatches) (verification : Verification) : Type 0 where
+  pub input : IsGiven matches (codes "IN") verification.input
+  pub certificates : IsGiven matches (codes "CERT") verification.certificates
+  pub names : map (λ name. name.now) verification.keep.items ≡ values_of matches (codes "keep")
+
 -- each path of the task is the value of its own argument, so that no file is written that was to be read
 abbrev pub AsksFor : ArgMatches → Task → Type 0
 AsksFor matches (Retime retiming) = IsRetiming matches retiming
@@ -70,3 +78,4 @@ AsksFor matches (Stat input) = IsGiven matches (codes "IN") input
 AsksFor matches (Convert input output spelling) = IsGiven matches (codes "IN") input × IsGiven matches (codes "OUT") output × IsSpelling matches spelling
 AsksFor matches (Sim input stimulus) = IsGiven matches (codes "IN") input × IsGiven matches (codes "STIM") stimulus
 AsksFor matches (Same first second stimulus) = IsGiven matches (codes "A") first × IsGiven matches (codes "B") second × IsGiven matches (codes "STIM") stimulus
+AsksFor matches (Verify verification) = IsVerification matches verification

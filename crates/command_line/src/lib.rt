@@ -6,7 +6,7 @@ mod program;
 mod task;
 
 pub use parse::parse_arguments;
-pub use task::{Batch, Retiming, Task};
+pub use task::{Batch, Retiming, Task, Verification};
 
 #[cfg(test)]
 mod tests;

@@ -1,9 +1,9 @@
 ghost use Rattle.std.specs.Prelude.{◌≡◌, ◌^◌, IfOk, IfSome, codes, map};
 ghost use Rattle.command_line.specs.Asking.{AsksFor, IsChoice, IsNumber, IsSpelling, values_of};
-ghost use Rattle.command_line.specs.declared.task.Task.TheVariants.{Retime};
+ghost use Rattle.command_line.specs.declared.task.Task.TheVariants.{Retime, Verify};
 
 use crate::program::program;
-use crate::task::{Batch, Retiming, Task};
+use crate::task::{Batch, Retiming, Task, Verification};
 use clap::error::ErrorKind;
 use clap::{ArgMatches, Command, Error};
 use least_sets::Choice;
@@ -73,6 +73,23 @@ fn retiming<'a>(alloc: Global, matches: &ArgMatches<'a>) -> Result<Option<Retimi
         workers: workers(matches),
         frames: frames(matches),
         choice: choice(matches),
+        certificates: matches.get_str("cert"),
+        keep: keep(alloc, matches)?,
+    }))
+}
+
+fn verification<'a>(
+    alloc: Global,
+    matches: &ArgMatches<'a>,
+) -> Result<Option<Verification<'a>>, AllocError>
+    ensures { IfOk result (λ found. IfSome found (λ verification. AsksFor matches.now (Verify verification))) }
+{
+    let (Some(input), Some(certificates)) = (matches.get_str("IN"), matches.get_str("CERT")) else {
+        return Ok(None);
+    };
+    Ok(Some(Verification {
+        input,
+        certificates,
         keep: keep(alloc, matches)?,
     }))
 }
@@ -124,6 +141,7 @@ fn task<'a>(
         "convert" => conversion(matches),
         "sim" => simulation(matches),
         "same" => comparison(matches),
+        "verify" => verification(alloc, matches)?.map(|verification| Task::Verify(verification)),
         _ => None,
     };
     Ok(task)

@@ -22,7 +22,10 @@ Only latches with a known reset (0 or 1) move. A netlist from RTL without initia
 give the registers initial values, or, where the reset sequence makes that right, set them to zero
 (`setundef -init -zero` in Yosys, before `write_aiger`).
 
-OUT is created once IN has been read and retimed: a circuit that is refused leaves OUT as it was.";
+OUT is created once IN has been read and retimed: a circuit that is refused leaves OUT as it was.
+
+With --cert, FILE gets a certificate of each frame, once OUT is written: 'verify IN FILE' checks from it that no other set of gates
+would have left fewer latches.";
 
 const RETIME_EXAMPLE: &str = "Example:
   fretime retime counter.aag smaller.aag
@@ -49,6 +52,26 @@ const BATCH_EXAMPLE: &str =
 
 Exit status: 0 all are done, else 1 or 4 by the first that is refused or lacked memory; 1 LIST is no list, 2 command line,
 3 device, 4 out of memory.";
+
+const VERIFY_ABOUT: &str = "Checks the certificates that 'retime --cert' wrote";
+
+const VERIFY_LONG_ABOUT: &str =
+    "Reads a circuit, and the certificates of its frames, and checks each against the circuit of its frame, without any flow.
+
+'yes' says that no set of gates leaves fewer latches than the certificate's. The circuit of the next frame is made from IN by
+the certificate's set. Name the latches that were held, as for 'retime'.";
+
+const VERIFY_EXAMPLE: &str = "Example:
+  fretime retime counter.aag smaller.aag --cert counter.cert
+  fretime verify counter.aag counter.cert
+
+It prints a line for each certificate, from 0, and whether the last circuit can be left with fewer latches ('open') or not:
+  block 0: yes, count 1
+  block 1: yes, count 1
+  end certified
+
+Exit status: 0 all are confirmed, 1 a file is refused or IN has no latch NAME, 2 command line, 3 device, 4 out of memory,
+5 a certificate is rejected.";
 
 const STAT_EXAMPLE: &str =
     "Latches are free where they have no known reset; free latches never move.
@@ -94,6 +117,14 @@ fn near<'a>(alloc: Global) -> Arg<'a> {
         "near",
         "Move each latch as few gates forward as a least count allows",
     )
+}
+
+fn certificates<'a>(alloc: Global) -> Arg<'a> {
+    Arg::new(alloc, "cert")
+        .long("cert")
+        .value_name("FILE")
+        .action(ArgAction::Set)
+        .help("Write a certificate of each frame to FILE, for 'verify'")
 }
 
 fn names<'a>(alloc: Global) -> Arg<'a> {
@@ -175,6 +206,7 @@ fn retime<'a>(alloc: Global) -> Result<Command<'a>, AllocError> {
         .arg_required_else_help(true);
     let command = with_spelling(alloc, with_files(alloc, command), ascii);
     let command = with_limits(alloc, command, "Threads that work on the flow");
+    let command = with(command, certificates(alloc));
     with(command, names(alloc))
 }
 
@@ -236,6 +268,17 @@ fn same<'a>(alloc: Global) -> Result<Command<'a>, AllocError> {
     )
 }
 
+fn verify<'a>(alloc: Global) -> Result<Command<'a>, AllocError> {
+    let command = Command::new(alloc, "verify")
+        .about(VERIFY_ABOUT)
+        .long_about(VERIFY_LONG_ABOUT)
+        .after_help(VERIFY_EXAMPLE)
+        .arg_required_else_help(true)
+        .arg(path(alloc, "IN", "The AIGER file that was retimed"));
+    let command = with(command, path(alloc, "CERT", "The certificates"));
+    with(command, names(alloc))
+}
+
 /// The program without its commands.
 fn bare_program<'a>(alloc: Global) -> Command<'a> {
     Command::new(alloc, "fretime")
@@ -254,5 +297,6 @@ pub(crate) fn program<'a>(alloc: Global) -> Result<Command<'a>, AllocError> {
     let program = with_command(program, stat(alloc));
     let program = with_command(program, convert(alloc));
     let program = with_command(program, sim(alloc));
-    with_command(program, same(alloc))
+    let program = with_command(program, same(alloc));
+    with_command(program, verify(alloc))
 }

@@ -16,7 +16,20 @@ pub struct Retiming<'a> {
     pub frames: u32,
     /// Which of the least sets a frame takes.
     pub choice: Choice,
+    /// The path of the file that the certificates are written to; `None` asks for none.
+    pub certificates: Option<&'a str>,
     /// The names of the latches that are held in their places.
+    pub keep: Vec<&'a str>,
+}
+
+/// What `verify` is to do.
+#[derive(Drop)]
+pub struct Verification<'a> {
+    /// The path of the circuit's file.
+    pub input: &'a str,
+    /// The path of the file of certificates.
+    pub certificates: &'a str,
+    /// The names of the latches that were held in their places.
     pub keep: Vec<&'a str>,
 }
 
@@ -50,4 +63,6 @@ pub enum Task<'a> {
     Sim(&'a str, &'a str),
     /// Compare two circuits under a stimulus.
     Same(&'a str, &'a str, &'a str),
+    /// Check the certificates of a retiming.
+    Verify(Verification<'a>),
 }

@@ -17,6 +17,7 @@ fn is_wanted(retiming: &Retiming<'_>) -> bool {
         && retiming.spelling == Some(Spelling::Binary)
         && retiming.workers == 64
         && retiming.frames == 3
+        && retiming.certificates == Some("c")
         && retiming.keep.as_slice() == ["x", ""].as_slice()
 }
 
@@ -45,6 +46,8 @@ fn reads_all_options(rt: HostRuntime) -> Result<(), Fail> {
         "--workers",
         "64",
         "--frames=3",
+        "--cert",
+        "c",
         "--keep",
         "x",
         "--keep=",
