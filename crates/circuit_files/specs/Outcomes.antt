@@ -8,6 +8,8 @@ use Rattle.counted_io.specs.declared.reading.ReadAllError.{ReadAllError}
 use Rattle.counted_io.specs.declared.reading.ReadAllError.TheVariants as whole
 use Rattle.batch_lists.specs.declared.fault.ListError.{ListError}
 use Rattle.batch_lists.specs.declared.fault.ListError.TheVariants as lists
+use Rattle.certificate_files.specs.declared.fault.CertError.{CertError}
+use Rattle.certificate_files.specs.declared.fault.CertError.TheVariants as certificates
 use Rattle.lane_sim.specs.declared.fault.StimError.{StimError}
 use Rattle.lane_sim.specs.declared.fault.StimError.TheVariants as stimuli
 use Rattle.circuit_files.specs.declared.outcome.Outcome.{Outcome}
@@ -19,6 +21,7 @@ abbrev pub outcome_of : Failure → Outcome
 outcome_of (fails.Refused path fault) = ends.Refused
 outcome_of (fails.RefusedStimulus path fault) = ends.Refused
 outcome_of (fails.RefusedList path fault) = ends.Refused
+outcome_of (fails.RefusedCertificates path fault) = ends.Refused
 outcome_of (fails.NoSuchName path name) = ends.Refused
 outcome_of (fails.Device path) = ends.Device
 outcome_of fails.Memory = ends.Memory
@@ -41,6 +44,10 @@ abbrev pub failure_of_list : ListError → Bor (List ℕ) → Failure
 failure_of_list lists.NoMemory path = fails.Memory
 failure_of_list fault path = fails.RefusedList path fault
 
--- nothing is printed, unless all was done, circuits were compared, or a device failed
+abbrev pub failure_of_certificates : CertError → Bor (List ℕ) → Failure
+failure_of_certificates certificates.NoMemory path = fails.Memory
+failure_of_certificates fault path = fails.RefusedCertificates path fault
+
+-- nothing is printed, unless all was done, circuits were compared, certificates were checked, or a device failed
 abbrev pub IsQuiet : Outcome → Output → Output → Type 0
-IsQuiet outcome old new = (outcome ≡ ends.Done) ⊎ (outcome ≡ ends.ShapesDiffer) ⊎ (outcome ≡ ends.Differ) ⊎ (outcome ≡ ends.Device) ⊎ (new ≡ old)
+IsQuiet outcome old new = (outcome ≡ ends.Done) ⊎ (outcome ≡ ends.ShapesDiffer) ⊎ (outcome ≡ ends.Differ) ⊎ (outcome ≡ ends.Unconfirmed) ⊎ (outcome ≡ ends.Device) ⊎ (new ≡ old)

@@ -9,7 +9,10 @@ use Rattle.lane_sim.specs.Stimuli.{read_text}
 use Rattle.lane_sim.specs.declared.fault.StimError.{StimError}
 use Rattle.lane_sim.specs.declared.stimulus.InputSequence.{InputSequence}
 use Rattle.aig_binary.specs.Ending.{IsReadError}
-use Rattle.circuit_files.specs.Outcomes.{failure_of_reading, failure_of_stimulus}
+use Rattle.certificate_files.specs.Files.{read_text as certificates_of}
+use Rattle.certificate_files.specs.declared.fault.CertError.{CertError}
+use Rattle.certificate_files.specs.declared.file.CertFile.{CertFile}
+use Rattle.circuit_files.specs.Outcomes.{failure_of_certificates, failure_of_reading, failure_of_stimulus}
 use Rattle.circuit_files.specs.declared.outcome.Failure.{Failure}
 use Rattle.circuit_files.specs.declared.outcome.Failure.TheVariants as fails
 
@@ -26,3 +29,9 @@ abbrev pub IsStimulusOf : Graph → List ℕ → Bor (List ℕ) → Result (List
 IsStimulusOf g bytes path (Ok stimulus) = read_text g.inputs (free_latches g) bytes ≡ Ok stimulus
 IsStimulusOf g bytes path (Err fails.Memory) = Unit {0}
 IsStimulusOf g bytes path (Err failure) = (fault : StimError) × (read_text g.inputs (free_latches g) bytes ≡ Err fault) × (failure ≡ failure_of_stimulus fault path)
+
+-- the certificates of the bytes, or the failure that their fault is; memory may run out
+abbrev pub AreCertificatesOf : List ℕ → Bor (List ℕ) → Result CertFile Failure → Type 0
+AreCertificatesOf bytes path (Ok file) = certificates_of bytes ≡ Ok file
+AreCertificatesOf bytes path (Err fails.Memory) = Unit {0}
+AreCertificatesOf bytes path (Err failure) = (fault : CertError) × (certificates_of bytes ≡ Err fault) × (failure ≡ failure_of_certificates fault path)

@@ -1,12 +1,13 @@
-//! Circuits and stimuli of files.
+//! Circuits, stimuli and certificates of files.
 ghost use Rattle.std.specs.Prelude.{[], IfErr, IfOk};
 ghost use Rattle.counted_io.specs.Input.{ReadsAll};
 ghost use Rattle.aig_binary.specs.Ending.{IsReadError, Spells};
-ghost use Rattle.circuit_files.specs.Reading.{IsBytesFailure, IsCircuitFailure, IsStimulusOf};
+ghost use Rattle.circuit_files.specs.Reading.{AreCertificatesOf, IsBytesFailure, IsCircuitFailure, IsStimulusOf};
 
 use crate::outcome::Failure;
 use aig_binary::{AnyReader, CircuitReader, SpeltCircuit, read_circuit};
 use aig_graph::Circuit;
+use certificate_files::{CertFile, read_cert};
 use counted_io::{Counted, CountedRead, read_all};
 use file_words::ReadError;
 use lane_sim::{Stimulus, read_stimulus};
@@ -106,4 +107,24 @@ pub fn stimulus_at<'a, R: Files>(
 ) -> Result<Stimulus, Failure<'a>> {
     let bytes = bytes_at(rt, alloc, path)?;
     stimulus_of(alloc, bytes.as_slice(), path, circuit)
+}
+
+/// The certificates of the bytes of a file.
+fn certificates_of<'a>(alloc: Global, bytes: &[u8], path: &'a str) -> Result<CertFile, Failure<'a>>
+    ensures { AreCertificatesOf bytes.now path.entry result }
+{
+    match read_cert(alloc, bytes) {
+        Ok(file) => Ok(file),
+        Err(fault) => Err(Failure::of_certificates(fault, path)),
+    }
+}
+
+/// The certificates of a file.
+pub fn certificates_at<'a, R: Files>(
+    rt: &R,
+    alloc: Global,
+    path: &'a str,
+) -> Result<CertFile, Failure<'a>> {
+    let bytes = bytes_at(rt, alloc, path)?;
+    certificates_of(alloc, bytes.as_slice(), path)
 }

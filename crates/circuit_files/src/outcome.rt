@@ -1,7 +1,8 @@
 ghost use Rattle.std.specs.Prelude.{◌≡◌};
-ghost use Rattle.circuit_files.specs.Outcomes.{outcome_of, failure_of_bytes, failure_of_list, failure_of_reading, failure_of_stimulus};
+ghost use Rattle.circuit_files.specs.Outcomes.{outcome_of, failure_of_bytes, failure_of_certificates, failure_of_list, failure_of_reading, failure_of_stimulus};
 
 use batch_lists::ListError;
+use certificate_files::CertError;
 use counted_io::ReadAllError;
 use file_words::ReadError;
 use lane_sim::StimError;
@@ -24,6 +25,8 @@ pub enum Outcome {
     Memory,
     /// Two circuits differ.
     Differ,
+    /// A certificate is rejected.
+    Unconfirmed,
 }
 
 impl Outcome {
@@ -39,7 +42,7 @@ impl Outcome {
             Outcome::CommandLine => 2,
             Outcome::Device => 3,
             Outcome::Memory => 4,
-            Outcome::Differ => 5,
+            Outcome::Differ | Outcome::Unconfirmed => 5,
         }
     }
 }
@@ -56,6 +59,9 @@ pub enum Failure<'a> {
     /// The list of files has a fault.
     #[error("{0}: {1}")]
     RefusedList(&'a str, ListError),
+    /// The file of certificates has a fault.
+    #[error("{0}: {1}")]
+    RefusedCertificates(&'a str, CertError),
     /// No latch of the circuit has the name.
     #[error("{0}: NoSuchName {1}")]
     NoSuchName(&'a str, &'a str),
@@ -99,6 +105,16 @@ impl<'a> Failure<'a> {
         }
     }
 
+    /// The failure that an error of reading certificates is, with the file's path.
+    pub fn of_certificates(error: CertError, path: &'a str) -> Failure<'a>
+        ensures { result ≡ failure_of_certificates error path.entry }
+    {
+        match error {
+            CertError::NoMemory => Failure::Memory,
+            fault => Failure::RefusedCertificates(path, fault),
+        }
+    }
+
     /// The failure that an error of reading all bytes is, with the file's path.
     pub fn of_bytes(error: ReadAllError, path: &'a str) -> Failure<'a>
         ensures { result ≡ failure_of_bytes error path.entry }
@@ -117,6 +133,7 @@ impl<'a> Failure<'a> {
             Failure::Refused(_, _)
             | Failure::RefusedStimulus(_, _)
             | Failure::RefusedList(_, _)
+            | Failure::RefusedCertificates(_, _)
             | Failure::NoSuchName(_, _) => Outcome::Refused,
             Failure::Device(_) => Outcome::Device,
             Failure::Memory => Outcome::Memory,
