@@ -4,7 +4,7 @@ use Rattle.counted_io.specs.Output.{Output, WritesAll}
 use Rattle.reports.specs.Differences.{shapes_text}
 use Rattle.circuit_files.specs.Codes.{status_of}
 use Rattle.circuit_files.specs.declared.outcome.Outcome.{Outcome}
-use Rattle.circuit_files.specs.declared.outcome.Outcome.TheVariants.{Done, Refused, ShapesDiffer, CommandLine, Device, Memory, Differ}
+use Rattle.circuit_files.specs.declared.outcome.Outcome.TheVariants.{Done, Refused, ShapesDiffer, CommandLine, Device, Memory, Differ, Unconfirmed}
 use Rattle.circuit_files.specs.declared.outcome.Failure.{Failure}
 use Rattle.circuit_files.specs.declared.outcome.Failure.TheVariants as fails
 use Rattle.fretime.specs.Batches.{PrintsFiles}
@@ -20,6 +20,7 @@ still (Ok ended) s is = subst (λ (e : Outcome). Prints e s s) (sym is) tt
 still (Err (fails.Refused path fault)) s is = refl
 still (Err (fails.RefusedStimulus path fault)) s is = refl
 still (Err (fails.RefusedList path fault)) s is = refl
+still (Err (fails.RefusedCertificates path fault)) s is = refl
 still (Err (fails.NoSuchName path name)) s is = refl
 still (Err (fails.Device path)) s is = tt
 still (Err fails.Memory) s is = refl
@@ -43,6 +44,7 @@ where_refused CommandLine old new p is = absurd (omega (arith, is))
 where_refused Device old new p is = absurd (omega (arith, is))
 where_refused Memory old new p is = absurd (omega (arith, is))
 where_refused Differ old new p is = absurd (omega (arith, is))
+where_refused Unconfirmed old new p is = absurd (omega (arith, is))
 
 pub where_unasked : (o : Outcome) (old new : Output) → MayPrint o old new → status_of o ≡ 2 → new ≡ old
 where_unasked CommandLine old new (inl same) is = same
@@ -53,6 +55,7 @@ where_unasked Done old new p is = absurd (omega (arith, is))
 where_unasked Device old new p is = absurd (omega (arith, is))
 where_unasked Memory old new p is = absurd (omega (arith, is))
 where_unasked Differ old new p is = absurd (omega (arith, is))
+where_unasked Unconfirmed old new p is = absurd (omega (arith, is))
 
 pub where_memory_lacks : (o : Outcome) (old new : Output) → MayPrint o old new → status_of o ≡ 4 → (new ≡ old) ⊎ PrintsFiles Memory old new
 where_memory_lacks Memory old new (inl same) is = inl same
@@ -63,3 +66,4 @@ where_memory_lacks ShapesDiffer old new p is = absurd (omega (arith, is))
 where_memory_lacks Done old new p is = absurd (omega (arith, is))
 where_memory_lacks Device old new p is = absurd (omega (arith, is))
 where_memory_lacks Differ old new p is = absurd (omega (arith, is))
+where_memory_lacks Unconfirmed old new p is = absurd (omega (arith, is))

@@ -7,7 +7,7 @@ use Rattle.reports.specs.Batches.{job_lines}
 use Rattle.reports.specs.declared.batch.JobReport.{JobReport}
 use Rattle.reports.specs.declared.batch.JobReport.TheVariants as reports
 use Rattle.circuit_files.specs.declared.outcome.Outcome.{Outcome}
-use Rattle.circuit_files.specs.declared.outcome.Outcome.TheVariants.{Done, Refused, ShapesDiffer, CommandLine, Device, Memory, Differ}
+use Rattle.circuit_files.specs.declared.outcome.Outcome.TheVariants.{Done, Refused, ShapesDiffer, CommandLine, Device, Memory, Differ, Unconfirmed}
 
 -- what is printed of an outcome
 abbrev pub report_of : JobOutcome → JobReport
@@ -47,3 +47,4 @@ PrintsList Device old new = Unit {0}
 PrintsList ShapesDiffer old new = ⊥
 PrintsList CommandLine old new = ⊥
 PrintsList Differ old new = ⊥
+PrintsList Unconfirmed old new = ⊥

@@ -3,3 +3,4 @@ pub mod Comparing
 pub mod RetimingTasks
 pub mod OtherSpelling
 pub mod Batches
+pub mod Verifying

@@ -4,7 +4,7 @@ use Rattle.counted_io.specs.Output.{Output, WritesAll, WritesPart}
 use Rattle.reports.specs.Differences.{shapes_text}
 use Rattle.circuit_files.specs.Outcomes.{outcome_of}
 use Rattle.circuit_files.specs.declared.outcome.Outcome.{Outcome}
-use Rattle.circuit_files.specs.declared.outcome.Outcome.TheVariants.{Done, Refused, ShapesDiffer, CommandLine, Device, Memory, Differ}
+use Rattle.circuit_files.specs.declared.outcome.Outcome.TheVariants.{Done, Refused, ShapesDiffer, CommandLine, Device, Memory, Differ, Unconfirmed}
 use Rattle.circuit_files.specs.declared.outcome.Failure.{Failure}
 use Rattle.fretime.specs.Batches.{PrintsList}
 
@@ -22,6 +22,7 @@ EndsPrinting outcome text old new result =
 abbrev pub Prints : Outcome → Output → Output → Type 0
 Prints Done old new = Unit {0}
 Prints Differ old new = Unit {0}
+Prints Unconfirmed old new = Unit {0}
 Prints Device old new = Unit {0}
 Prints ShapesDiffer old new = WritesAll old new shapes_text
 Prints Refused old new = new ≡ old

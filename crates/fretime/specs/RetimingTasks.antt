@@ -1,5 +1,5 @@
 -- What the task of a retiming makes of its options, and of an error.
-use Rattle.std.specs.Prelude.{ℕ, ◌≡◌, List, Some, map, slice_get}
+use Rattle.std.specs.Prelude.{ℕ, ◌≡◌, List, Some, is_some, map, slice_get}
 use Rattle.std.specs.Borrow.{Bor}
 use Rattle.command_line.specs.declared.task.Retiming.{Retiming}
 use Rattle.frames.specs.declared.options.Options.{Options}
@@ -15,6 +15,7 @@ pub record AreOptionsOf (task : Retiming) (options : Options) : Type 0 where
   pub spelling : options.spelling ≡ task.spelling
   pub frames : options.max_frames ≡ task.frames
   pub choice : options.choice ≡ task.choice
+  pub certify : options.certify ≡ is_some task.certificates
   pub names : map (λ name. name.items) options.keep.items ≡ map (λ name. name.now) task.keep.items
 
 -- the failure that an error is: of the file that is read, of the one that is written, or of a name that no latch has

@@ -1,15 +1,17 @@
 //! The program `fretime`: reads AIGER circuits, moves latches forward over gates so that fewer are left, one or
-//! many at once, simulates, compares and converts.
+//! many at once, checks certificates, simulates, compares and converts.
 #![tactic(auto)]
 
 mod batch;
 mod comparison;
 mod conversion;
 mod ended;
+mod names;
 mod retiming;
 mod run;
 mod simulation;
 mod statistics;
+mod verification;
 
 use counted_io::Counted;
 use run::{report_unreadable_arguments, run_words};

@@ -13,6 +13,7 @@ use crate::ended::report_failure;
 use crate::retiming::print_retimed;
 use crate::simulation::print_simulation;
 use crate::statistics::print_statistics;
+use crate::verification::print_verification;
 use circuit_files::{Failure, Outcome};
 use clap::Error;
 use clap::error::ErrorKind;
@@ -72,6 +73,9 @@ fn run_task<'a, R: Files + Threads + Sync, O: CountedWrite, E: CountedWrite>(
                 err,
             )
         }
+        Task::Verify(verification) => {
+            reported(print_verification(rt, alloc, verification, out), err)
+        }
     }
 }
 
@@ -124,7 +128,7 @@ fn run_command<R: Files + Threads + Sync, O: CountedWrite, E: CountedWrite>(
 }
 
 /// Runs the program on these arguments, its own name first, and returns the exit status: 0 done, 1 a file that is refused, or
-/// circuits that can't be compared, 2 command line, 3 device, 4 memory, 5 circuits that differ.
+/// circuits that can't be compared, 2 command line, 3 device, 4 memory, 5 circuits that differ, or a certificate that is rejected.
 ///
 /// What was done is printed to `out` once the file is written; of a batch, file by file. Why nothing was done goes to `err`, and so do help and
 /// the version; a failed write to `err` doesn't change the status. The texts on `err` are only tested.
