@@ -7,7 +7,7 @@ import generators
 
 PARTS = {
     'run', 'file', 'hex', 'escaped', 'made', 'folder', 'beginnings', 'pieces', 'limit', 'seconds',
-    'status', 'stdout', 'stderr', 'after', 'absent',
+    'status', 'stdout', 'stderr', 'after', 'absent', 'blocks', 'verified',
 }
 
 
@@ -49,7 +49,7 @@ class Case:
     """How the program is run, and what has to be there afterwards."""
 
     def __init__(self, path):
-        self.name = path.split(os.sep + 'tests' + os.sep)[-1].removeprefix('cases' + os.sep).removesuffix('.case')
+        self.name = path.split(os.path.join('tests', 'cases') + os.sep)[1][: -len('.case')]
         with open(path, encoding='utf-8') as file:
             lines = file.read().split('\n')
         if lines and lines[-1] == '':

@@ -1,17 +1,18 @@
 """The commands of fretime over files: what is printed, what is written, and the exit status."""
 import os
 
+from reference.certificates import audit, certificates, read_blocks, written
 from reference.circuit import text
 from reference.reading import Fault, read
 from reference.retiming import NoSuchName, passable, retimed
 from reference.simulation import difference_text, read_stimulus, trace, trace_text
 
-PATHS = {'retime': 2, 'batch': 1, 'stat': 1, 'convert': 2, 'sim': 2, 'same': 3}
-OPTIONS = {'retime': {'--ascii', '--binary', '--workers', '--frames', '--near', '--keep'},
+PATHS = {'retime': 2, 'batch': 1, 'stat': 1, 'convert': 2, 'sim': 2, 'same': 3, 'verify': 2}
+OPTIONS = {'retime': {'--ascii', '--binary', '--workers', '--frames', '--near', '--keep', '--cert'},
+           'verify': {'--keep'},
            'batch': {'--ascii', '--binary', '--workers', '--frames', '--near'}, 'convert': {'--ascii', '--binary'}}
 GREATEST = {'--workers': 64, '--frames': 2**28}
-
-
+VALUED = {'--workers', '--frames', '--keep', '--cert'}
 LINES = 2**20
 
 
@@ -34,7 +35,7 @@ def parsed(words):
         name, _, value = word.partition('=')
         if name not in OPTIONS.get(command, ()) or (name in options and name != '--keep'):
             raise Ends(2, f'error: {word}')
-        if name in ('--workers', '--frames', '--keep') and '=' not in word:
+        if name in VALUED and '=' not in word:
             value = next(rest, '-')
             if value.startswith('-'):
                 raise Ends(2, f'error: {word} without a value')
@@ -83,12 +84,14 @@ def letters_of(options, otherwise):
 def retime(paths, options):
     c, letters = circuit_of(paths[0])
     most = int(options['--frames'][0]) if '--frames' in options else None
+    names, smallest = [os.fsencode(name) for name in options.get('--keep', [])], '--near' in options
     try:
-        names = [os.fsencode(name) for name in options.get('--keep', [])]
-        d, frames = retimed(c, most, names, '--near' in options)
+        d, frames = retimed(c, most, names, smallest)
     except NoSuchName as missing:
         raise Ends(1, f'{paths[0]}: NoSuchName {os.fsdecode(missing.args[0])}') from missing
     write(paths[1], text(d, letters_of(options, letters)))
+    for path in options.get('--cert', []):
+        write(path, written('smallest' if smallest else 'greatest', certificates(c, most, names, smallest)))
     lines = [f'frame {k + 1}: {before} to {after}\n' for k, (before, after) in enumerate(frames)]
     return 0, ''.join(lines) + f'latches {len(c.latches)} to {len(d.latches)}\n'
 
@@ -162,7 +165,20 @@ def same(paths, _):
     return {'same\n': 0, 'shapes differ\n': 1}.get(said, 5), said
 
 
-COMMANDS = {'retime': retime, 'batch': batch, 'stat': stat, 'convert': convert, 'sim': sim, 'same': same}
+def verify(paths, options):
+    c, _ = circuit_of(paths[0])
+    try:
+        blocks = read_blocks(bytes_of(paths[1]))
+    except Fault as fault:
+        raise Ends(1, f'{paths[1]}: {fault}') from fault
+    try:
+        lines, status = audit(c, [os.fsencode(name) for name in options.get('--keep', [])], blocks)
+    except NoSuchName as missing:
+        raise Ends(1, f'{paths[0]}: NoSuchName {os.fsdecode(missing.args[0])}') from missing
+    return status, ''.join(f'{line}\n' for line in lines)
+
+
+COMMANDS = {'retime': retime, 'batch': batch, 'stat': stat, 'convert': convert, 'sim': sim, 'same': same, 'verify': verify}
 
 
 def run(words):

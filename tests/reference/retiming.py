@@ -185,15 +185,26 @@ def moved(c, members, held=frozenset()):
     return d, {staying.index(start + k) for k in held}
 
 
-def retimed(c, most=None, names=(), smallest=False):
-    """The retimed circuit, and for each frame its known latches before and the count of its set."""
+def frames_of(c, most=None, names=(), smallest=False):
+    """The circuit of each frame, its held latches, its least count and the set that is taken; and the same of the last circuit,
+    where the limit of frames didn't end the run."""
     least_set = smallest_least if smallest else greatest_least
-    frames = []
+    found = []
     c, held = cleaned(c, held_latches(c, names))
-    while most is None or len(frames) < most:
+    while most is None or len(found) < most:
         count, members = least_set(c, held)
+        found.append((c, held, count, members))
         if count >= c.known_latches():
             break
-        frames.append((c.known_latches(), count))
         c, held = cleaned(*moved(c, members, held))
-    return c, frames
+    return found
+
+
+def retimed(c, most=None, names=(), smallest=False):
+    """The retimed circuit, and for each frame its known latches before and the count of its set."""
+    found = frames_of(c, most, names, smallest)
+    frames = [(d.known_latches(), count) for d, _, count, _ in found if count < d.known_latches()]
+    if not found:
+        return cleaned(c, held_latches(c, names))[0], frames
+    d, held, count, members = found[-1]
+    return (cleaned(*moved(d, members, held))[0] if count < d.known_latches() else d), frames

@@ -1,0 +1,139 @@
+"""Certificates: made from a maximum flow, written, read, and judged in the words of docs/FORMAT.md and docs/CERTIFICATES.md."""
+import dataclasses
+import re
+
+from reference.cleaning import cleaned
+from reference.reading import Fault, number
+from reference.retiming import arcs_of, border, frames_of, held_latches, maximum_flow, moved, passable, read_outside
+
+MOST = 2**28 - 1
+CHOICES = {b'choice greatest': 'greatest', b'choice smallest': 'smallest'}
+
+
+@dataclasses.dataclass
+class Block:
+    """What is said of one circuit: the size of the border, the gates of the set, and routes, each a list of points: a variable,
+    and '+' after it or '-' before it."""
+    count: int
+    gates: list
+    routes: list
+
+
+def routes_of(c, held):
+    """The units of a maximum flow, each followed from the source to the sink along arcs that it uses up."""
+    residual = maximum_flow(c, held)[1]
+    units = {tail: {head: room - residual[tail][head] for head, room in heads.items()} for tail, heads in arcs_of(c, held).items()}
+    routes = []
+    for first in [head for head, unit in units['source'].items() if unit]:
+        points = [first]
+        while points[-1] != 'sink':
+            heads = units[points[-1]]
+            points.append(next(head for head, unit in heads.items() if unit))
+            heads[points[-1]] -= 1
+        routes.append(points[:-1])
+    return routes
+
+
+def certificates(c, most, names, smallest):
+    """A block for each frame, and one for the last circuit where the limit of frames didn't end the run."""
+    return [Block(count, sorted(members), routes_of(d, held)) for d, held, count, members in frames_of(c, most, names, smallest)]
+
+
+def written(choice, blocks):
+    lines = ['fretime-cert 2', f'choice {choice}']
+    for block in blocks:
+        lines.append(f'frame {block.count} {len(block.gates)} {len(block.routes)}')
+        lines += [f'g {v}' for v in block.gates]
+        lines += [' '.join(['r', *(f'{v}{side}' for v, side in points)]) for points in block.routes]
+    return ''.join(f'{line}\n' for line in lines).encode()
+
+
+class Lines:
+    """The lines of a file, each with its offset."""
+
+    def __init__(self, data):
+        self.lines, self.length, self.offset = data.split(b'\n'), len(data), 0
+        if self.lines[-1] == b'':
+            self.lines.pop()
+
+    def take(self):
+        """The next line, and its offset."""
+        if not self.lines:
+            raise Fault('Truncated', self.length)
+        line, offset = self.lines.pop(0), self.offset
+        self.offset += len(line) + 1
+        return line, offset
+
+    def numbers(self, form):
+        """The numbers of the next line, which has to have a form."""
+        line, offset = self.take()
+        if not re.fullmatch(form, line):
+            raise Fault('BadLine', offset)
+        found = [number(digits) for digits in re.findall(rb'\d+', line)]
+        if max(found) > MOST:
+            raise Fault('TooLarge', offset)
+        return found, line
+
+
+def read_blocks(data):
+    lines = Lines(data)
+    header = lines.lines[:1]
+    if header not in ([b'fretime-cert 1'], [b'fretime-cert 2']):
+        raise Fault('BadHeader', 0)
+    lines.take()
+    if header == [b'fretime-cert 2']:
+        line, offset = lines.take()
+        if line not in CHOICES:
+            raise Fault('BadLine', offset)
+    blocks = []
+    while lines.lines:
+        (count, gates, routes), _ = lines.numbers(rb'frame \d+ \d+ \d+')
+        members = [lines.numbers(rb'g \d+')[0][0] for _ in range(gates)]
+        read = [lines.numbers(rb'r( \d+[+-])+') for _ in range(routes)]
+        blocks.append(Block(count, members, [list(zip(found, re.findall('[+-]', line.decode()))) for found, line in read]))
+    return blocks
+
+
+def is_route(c, held, points):
+    inside = set(passable(c, held))
+    if points[0][1] != '+' or not c.is_known(points[0][0]):
+        return False
+    for (v, side), (w, next_side) in zip(points, points[1:]):
+        over = side == '-' and next_side == '+' and v == w and v in inside
+        into = side == '+' and next_side == '-' and w in inside and v in {lit // 2 for lit in c.gate(w)}
+        back = side == '-' and next_side == '-' and v in inside and c.gate(w) and w in {lit // 2 for lit in c.gate(v)}
+        if not (over or into or back):
+            return False
+    return points[-1][1] == '+' and points[-1][0] in read_outside(c, inside, held)
+
+
+def verdict(c, held, block):
+    """The first objection to a block, or Yes."""
+    gates, inside = block.gates, set(passable(c, held))
+    rises = all(v < w for v, w in zip(gates, gates[1:])) and inside.issuperset(gates)
+    if not rises or not all(c.latch(lit // 2) or lit // 2 in gates for v in gates for lit in c.gate(v)):
+        return 'NotClosed'
+    if not all(is_route(c, held, points) for points in block.routes):
+        return 'BadRoute'
+    after = [v for points in block.routes for v, side in points if side == '+']
+    if len(set(after)) < len(after):
+        return 'UsedTwice'
+    return 'Yes' if {block.count} == {len(border(c, set(gates), held)), len(block.routes)} else 'CountDiffers'
+
+
+def audit(c, names, blocks):
+    """The printed lines, and the status."""
+    c, held = cleaned(c, held_latches(c, names))
+    lines, known = [], None
+    for k, block in enumerate(blocks):
+        if known is not None and blocks[k - 1].count >= known:
+            return [*lines, 'blocks follow the end'], 5
+        if k:
+            c, held = cleaned(*moved(c, set(blocks[k - 1].gates), held))
+        known, said = c.known_latches(), verdict(c, held, block)
+        if said != 'Yes':
+            return [*lines, f'block {k}: no, {said}'], 5
+        lines.append(f'block {k}: yes, count {block.count}')
+    if blocks:
+        lines.append('end certified' if blocks[-1].count == known else 'end open')
+    return lines, 0
