@@ -17,7 +17,8 @@ from reference.circuit import ordered
 from reference.reading import Fault, read
 from reference.retiming import greatest_least_by_flow, held_latches, least_of_all, passable, smallest_least_by_flow
 
-BENCH = pathlib.Path(__file__).resolve().parent.parent / 'bench'
+TESTS = pathlib.Path(__file__).resolve().parent
+BENCH = TESTS.parent / 'bench'
 WORKERS = [1, 2, 7, 64]
 # With more than 4096 nodes of the flow active in some pulses, so that crews share these.
 LARGE = ['products 70', 'gates 20000 9000', 'delay_lines 4200 8']
@@ -38,13 +39,12 @@ class Comparison:
             print(f'FAILED {what}')
 
     def run(self, words: list, files: dict):
-        """Runs both on the same words, where OUT stands for a file of its own for each; returns what the reference wrote."""
+        """Runs both on the same words, where OUT and CERT stand for files of its own for each; returns what the reference wrote to
+        OUT."""
         for name, data in files.items():
             write(name, data)
-        expected = reference_program.run(['reference.out' if word == 'OUT' else word for word in words])
-        ran = subprocess.run([self.program, *('program.out' if word == 'OUT' else word for word in words)],
-                             capture_output=True, timeout=60, check=False)
-        got = ran.returncode, ran.stdout.decode('latin-1'), ran.stderr.decode('latin-1')
+        expected = reference_program.run([OWN['reference'].get(word, word) for word in words])
+        got = ran([self.program, *(OWN['program'].get(word, word) for word in words)])
         written, written_by_program = content('reference.out'), content('program.out')
         self.count(got == expected and written_by_program == written,
                    f'{words} on {files}\nexpected {expected} {written}\ngot {got} {written_by_program}')
@@ -52,6 +52,15 @@ class Comparison:
             with contextlib.suppress(FileNotFoundError):
                 os.remove(name)
         return written
+
+
+OWN = {who: {'OUT': f'{who}.out', 'CERT': f'{who}.cert'} for who in ('reference', 'program')}
+
+
+def ran(words):
+    """The status, standard output and standard error of a program."""
+    said = subprocess.run(words, capture_output=True, timeout=60, check=False)
+    return said.returncode, said.stdout.decode('latin-1'), said.stderr.decode('latin-1')
 
 
 def write(name, data):
@@ -98,6 +107,31 @@ def compare_small(rng, comparison):
     comparison.run(['sim', 'in', 'stim'], {'in': data, 'stim': stim})
     if retimed:
         comparison.run(['same', 'in', 'other', 'stim'], {'in': data, 'other': retimed, 'stim': stim})
+
+
+def compare_certificates(rng, comparison):
+    """What `--cert` writes, but for its routes, which may differ; what `verify`, the reference and the checker say of it, and of
+    what the reference wrote; and of both when they are bent."""
+    c = random_files.tree(rng) if rng.random() < 0.8 else random_files.pipeline(rng, rng.choice([4, 8]), rng.randint(1, 3))
+    data, words = random_files.any_file(rng, c), options(rng, c)
+    if not comparison.run(['retime', 'in', 'OUT', *words, '--cert', 'CERT'], {'in': data}):
+        return
+    held = [word for word in words if word.startswith('--keep')]
+    texts = [content(OWN[who]['CERT']) for who in OWN]
+    both = [[line for line in (text or b'').split(b'\n') if line[:2] != b'r '] for text in texts]
+    comparison.count(both[0] == both[1], f'certificates {words} on {data}\n{both}')
+    for text in filter(None, texts):
+        compare_judges(comparison, text, held, data)
+        for _ in range(2):
+            compare_judges(comparison, random_files.bent(rng, text), held, data)
+
+
+def compare_judges(comparison, certificates, held, data):
+    """The program, the reference and the checker say the same."""
+    comparison.run(['verify', 'in', 'cert', *held], {'in': data, 'cert': certificates})
+    said = ran([sys.executable, TESTS / 'checker.py', 'in', 'cert', *held])
+    wanted = reference_program.run(['verify', 'in', 'cert', *held])
+    comparison.count(said == wanted, f'the checker, {held} on {certificates} of {data}\nexpected {wanted}\ngot {said}')
 
 
 def compare_two(rng, comparison):
@@ -150,14 +184,15 @@ def compare_with_one_worker(comparison, family):
 
 def compare_all(comparison, count, rng):
     """All comparisons, in the current folder: a small circuit of each family of bench/families.py; large ones, on which crews are
-    compared with one worker; then small circuits with all sections in both spellings, pipelines of several frames, and damaged
-    files."""
+    compared with one worker; then small circuits with all sections in both spellings, pipelines of several frames, damaged files,
+    and certificates."""
     for family in FAMILIES:
         compare_crews(comparison, circuit_of(family))
     for family in LARGE:
         compare_with_one_worker(comparison, family)
     for k in range(count):
-        compare = rng.choice([compare_small, compare_small, compare_two, compare_damaged]) if k % 10 != 9 else compare_pipeline
+        several = [compare_small, compare_small, compare_two, compare_damaged, compare_certificates]
+        compare = rng.choice(several) if k % 10 != 9 else compare_pipeline
         compare(rng, comparison)
 
 

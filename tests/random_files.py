@@ -1,4 +1,5 @@
 """Random circuits, the files that spell them, stimuli, and damaged files, for fuzz.py. A seed gives the same files everywhere."""
+from reference.certificates import read_blocks, written
 from reference.circuit import FREE, KINDS, Circuit, delta, header, joined, ordered, property_lines, reset_of, symbol_lines
 
 NAMES = [b'', b'a', b'b', b'a b', b'c0', b'\xff\x01', b'x' * 40]
@@ -165,3 +166,64 @@ def stimulus(rng, c, sequences, steps):
         lines.append('=' + digits(rng, c.free_latches()))
         lines += [':' + digits(rng, c.inputs) for _ in range(rng.randint(0, steps))]
     return ''.join(f'{line}\n' for line in lines).encode()
+
+
+def bent_list(rng, items):
+    """One left out, one twice, or two exchanged."""
+    if items:
+        k, other = rng.randrange(len(items)), rng.randrange(len(items))
+        way = rng.randrange(3)
+        if way == 2:
+            items[k], items[other] = items[other], items[k]
+        else:
+            items[k : k + 1] = [items[k]] * way * 2
+
+
+def bent_gates(rng, block):
+    """A gate less, one twice, one more; half of the time the count goes with it."""
+    before = len(block.gates)
+    if rng.random() < 0.5:
+        bent_list(rng, block.gates)
+    else:
+        block.gates = sorted({*block.gates, rng.randrange(20)})
+    if rng.random() < 0.5:
+        block.count = max(0, block.count + len(block.gates) - before)
+
+
+def bent_route(rng, block):
+    """A point of another variable, on the other side, left out or there twice."""
+    if block.routes:
+        points = rng.choice(block.routes)
+        k = rng.randrange(len(points)) if points else 0
+        way = rng.randrange(3)
+        if points and way < 2:
+            v, side = points[k]
+            points[k] = (max(0, v + rng.choice([-2, -1, 1, 2])), side) if way else (v, '-' if side == '+' else '+')
+        else:
+            bent_list(rng, points)
+
+
+def bent_blocks(rng, blocks):
+    way = rng.randrange(8)
+    if way == 0 or not blocks:
+        bent_list(rng, blocks)
+        return
+    block = rng.choice(blocks)
+    if way == 1:
+        block.count = max(0, block.count + rng.choice([-1, 1]))
+    elif way in (2, 3):
+        bent_gates(rng, block)
+    elif way == 4:
+        bent_list(rng, block.routes)
+    else:
+        bent_route(rng, block)
+
+
+def bent(rng, certificates):
+    """A certificate file with a thing or two changed: mostly in what it says, else in its bytes."""
+    if rng.random() < 0.2:
+        return damaged(rng, certificates)
+    blocks = read_blocks(certificates)
+    for _ in range(rng.choice([1, 1, 1, 2])):
+        bent_blocks(rng, blocks)
+    return written(rng.choice(['greatest', 'smallest']), blocks)
