@@ -4,17 +4,18 @@ _fretime() {
     local word=${COMP_WORDS[COMP_CWORD]} before=${COMP_WORDS[COMP_CWORD - 1]} options
     COMPREPLY=()
     if [ "$COMP_CWORD" = 1 ]; then
-        mapfile -t COMPREPLY < <(compgen -W "retime batch stat convert sim same help --help --version" -- "$word")
+        mapfile -t COMPREPLY < <(compgen -W "retime batch stat convert sim same verify help --help --version" -- "$word")
         return
     fi
     case ${COMP_WORDS[1]} in
-        retime) options="--ascii --binary --workers --frames --near --keep --help" ;;
+        retime) options="--ascii --binary --workers --frames --near --keep --cert --help" ;;
         batch) options="--ascii --binary --workers --frames --near --help" ;;
         convert) options="--ascii --binary --help" ;;
+        verify) options="--keep --help" ;;
         stat | sim | same) options="--help" ;;
         help)
             if [ "$COMP_CWORD" = 2 ]; then
-                mapfile -t COMPREPLY < <(compgen -W "retime batch stat convert sim same help" -- "$word")
+                mapfile -t COMPREPLY < <(compgen -W "retime batch stat convert sim same verify help" -- "$word")
             fi
             return
             ;;

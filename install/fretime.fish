@@ -6,10 +6,11 @@ complete -c fretime -n __fish_use_subcommand -f -a stat -d 'Counts what a circui
 complete -c fretime -n __fish_use_subcommand -f -a convert -d 'Writes a circuit as it was read; without a flag in the other spelling'
 complete -c fretime -n __fish_use_subcommand -f -a sim -d 'Prints the values of all properties under a stimulus'
 complete -c fretime -n __fish_use_subcommand -f -a same -d 'Finds the first difference of two circuits under a stimulus'
+complete -c fretime -n __fish_use_subcommand -f -a verify -d 'Checks the certificates that \'retime --cert\' wrote'
 complete -c fretime -n __fish_use_subcommand -f -a help -d 'Print this message or the help of the given subcommand(s)'
 complete -c fretime -n __fish_use_subcommand -s V -l version -d 'Print version'
 complete -c fretime -n 'not __fish_seen_subcommand_from help' -s h -l help -d 'Print help'
-complete -c fretime -n '__fish_seen_subcommand_from help' -f -a 'retime batch stat convert sim same help'
+complete -c fretime -n '__fish_seen_subcommand_from help' -f -a 'retime batch stat convert sim same verify help'
 
 complete -c fretime -n '__fish_seen_subcommand_from retime' -l ascii -d 'Write ASCII'
 complete -c fretime -n '__fish_seen_subcommand_from retime' -l binary -d 'Write binary'
@@ -17,6 +18,7 @@ complete -c fretime -n '__fish_seen_subcommand_from retime' -x -l workers -d 'Th
 complete -c fretime -n '__fish_seen_subcommand_from retime' -x -l frames -d 'The most frames to take'
 complete -c fretime -n '__fish_seen_subcommand_from retime' -l near -d 'Move each latch as few gates forward as a least count allows'
 complete -c fretime -n '__fish_seen_subcommand_from retime' -x -l keep -d 'Hold each latch with this name in its place; may be given more than once'
+complete -c fretime -n '__fish_seen_subcommand_from retime' -r -l cert -d 'Write a certificate of each frame to FILE, for \'verify\''
 
 complete -c fretime -n '__fish_seen_subcommand_from batch' -l ascii -d 'Write ASCII'
 complete -c fretime -n '__fish_seen_subcommand_from batch' -l binary -d 'Write binary'
@@ -26,3 +28,5 @@ complete -c fretime -n '__fish_seen_subcommand_from batch' -l near -d 'Move each
 
 complete -c fretime -n '__fish_seen_subcommand_from convert' -l ascii -d 'Write ASCII'
 complete -c fretime -n '__fish_seen_subcommand_from convert' -l binary -d 'Write binary'
+
+complete -c fretime -n '__fish_seen_subcommand_from verify' -x -l keep -d 'Hold each latch with this name in its place; may be given more than once'
