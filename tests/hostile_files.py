@@ -74,6 +74,39 @@ def nothing(_):
     return b''
 
 
+def read_latches(count):
+    """So many latches, each of which reads the one before it, and an output that reads it."""
+    lines = [f'{2 * k + 4} {2 * k + 2}\n' for k in range(count)] + [f'{2 * k + 4}\n' for k in range(count)]
+    return f'aag {count + 1} 1 {count} {count} 0\n2\n{"".join(lines)}'.encode()
+
+
+def route_each(count):
+    """A block whose set is empty, with a route of one point for each latch."""
+    return f'fretime-cert 1\nframe {count} 0 {count}\n'.encode() + b''.join(b'r %d+\n' % (k + 2) for k in range(count))
+
+
+def listed_gates(count):
+    return f'fretime-cert 1\nframe 1 {count} 0\n'.encode() + b''.join(b'g %d\n' % (k + 2) for k in range(count))
+
+
+def long_route(count):
+    return b'fretime-cert 1\nframe 1 0 1\nr' + b' 2+' * count + b'\n'
+
+
+def blocks(count):
+    """So many blocks of nothing."""
+    return b'fretime-cert 1\n' + b'frame 0 0 0\n' * count
+
+
+def announced_gates(_):
+    """Gates that aren't there."""
+    return b'fretime-cert 1\nframe 0 9999999 0\n'
+
+
+def announced_routes(_):
+    return b'fretime-cert 1\nframe 0 0 9999999\n'
+
+
 def chain(gates):
     return generators.make(['chain', str(gates)])
 
@@ -90,7 +123,7 @@ def many_inputs(gates):
 
 MAKERS = {it.__name__: it for it in (
     justice_of_one, binary_outputs, symbols, commented, uncommented, long_name, long_line, no_newline, wide_step, nothing, chain,
-    chain_in_binary, many_inputs,
+    chain_in_binary, many_inputs, read_latches, route_each, listed_gates, long_route, blocks, announced_gates, announced_routes,
 )}
 
 

@@ -40,9 +40,12 @@ SAYINGS = [
     Saying('README.md', 'retime missing.aag out.aag', 3, 'device'),
     Saying('README.md', 'retime examples/two_latches.aag out.aag --workers 65', 2, '--workers'),
     Saying('README.md', 'stat examples/two_latches.aag', 0, 'latches'),
+    Saying('README.md', 'retime examples/two_latches.aag out.aag --cert two.cert', 0, 'latches 2 to 1'),
+    Saying('README.md', 'verify examples/two_latches.aag two.cert', 0, 'end certified'),
+    Saying('README.md', 'verify examples/two_latches.aag two.cert --keep none', 1, 'NoSuchName'),
     Saying('README.md', 'stat examples/two_latches.aag', 0, 'free'),
     *(Saying('README.md', f'{command} --help', 0, option) for command, options in
-      {'retime': ['--ascii', '--binary', '--workers', '--frames', '--keep'], 'convert': ['--ascii', '--binary']}.items()
+      {'retime': ['--ascii', '--binary', '--workers', '--frames', '--keep', '--cert'], 'convert': ['--ascii', '--binary']}.items()
       for option in options),
     Saying('docs/TUTORIAL.md', 'stat less.aig', 0, 'passable'),
     Saying('docs/TUTORIAL.md', 'stat free.aig', 0, 'free 16'),
