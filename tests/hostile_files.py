@@ -187,4 +187,20 @@ def numbered():
         yield from (f'aag 1 1 0 1 0\n2\n2\n{kind}{number} name\n'.encode() for kind in 'io')
 
 
-SMALL = {'headers': headers, 'deltas': deltas, 'numbers': numbered}
+def pair():
+    """Two latches before a gate."""
+    return b'aag 5 2 2 1 1\n2\n4\n6 2\n8 4\n10\n10 6 8\n'
+
+
+def certified():
+    """Each number in the place of each number of a certificate file."""
+    words = ['frame', '1', '1', '1\ng', '5\nr', '3+', '5-', '5+']
+    blocks_of = [[*words[:k], words[k].replace(words[k][0], '{}', 1), *words[k + 1 :]] for k in range(1, len(words))]
+    for digits in numbers():
+        for line in map(' '.join, blocks_of):
+            for first in ('fretime-cert 1', 'fretime-cert 2\nchoice smallest'):
+                yield f'{first}\n{line.format(digits)}\n'.encode()
+        yield f'fretime-cert {digits}\nframe 0 0 0\n'.encode()
+
+
+SMALL = {'headers': headers, 'deltas': deltas, 'numbers': numbered, 'certificates': certified}
