@@ -2,8 +2,7 @@
 use crate::circuits::CHAINS;
 use aag_text::read_aag;
 use aig_graph::Circuit;
-use certificates::Certificate;
-use frames::{Choice, Options, retime};
+use frames::{Certificate, Choice, Options, retime};
 use pulse::{Crew, OpenGate};
 use std::alloc::Global;
 use std::test::Fail;

@@ -15,6 +15,7 @@ mod retiming;
 mod settling;
 
 pub use bytes::{retime_bytes, retime_bytes_with};
+pub use certificates::Certificate;
 pub use errors::{BytesError, RetimeError};
 pub use laws::answer_law;
 pub use least_sets::Choice;
