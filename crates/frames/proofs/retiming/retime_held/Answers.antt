@@ -7,14 +7,14 @@ use Rattle.frames.proofs.FrameLaws.{ended}
 use Rattle.frames.proofs.retiming.retime_held.Goals as goal
 
 pub all_frames-requires-clause-keep : goal.all_frames-requires-clause-keep
-all_frames-requires-clause-keep g c = c.requires.keep
+all_frames-requires-clause-keep g c κs within = c.requires.keep
 
 pub all_frames-requires-clause-names : goal.all_frames-requires-clause-names
-all_frames-requires-clause-names g c = c.requires.names
+all_frames-requires-clause-names g c κs within = c.requires.names
 
 pub all_frames-requires-clause-none : goal.all_frames-requires-clause-none
-all_frames-requires-clause-none g c =
-    none-collected c.args.options.now.choice (names_in c.args.options.now) c.args.circuit.now c.args.options.now.certify c.new.result c.new.ensures.certify c.new.ensures.certificates
+all_frames-requires-clause-none g c κs within =
+    none-collected c.args.options.now.choice (names_in c.args.options.now) c.args.circuit.now c.args.options.now.certify c.new-records.result c.new-records.ensures.certify c.new-records.ensures.certificates
 
 pub returns-in-Ok : goal.returns-in-Ok
 returns-in-Ok g c =
