@@ -1,5 +1,5 @@
 -- The certificates of a run, frame after frame.
-use Rattle.std.proofs.Common.{ℕ, suc, inl, inr, ◌≡◌, ◌<◌, ◌++◌, Bool, true, false, List, [], ◌∷◌, Some, slice_get, length, arith, refl, ap, sym, ◌∙◌, subst}
+use Rattle.std.proofs.Common.{ℕ, suc, inl, inr, ◌≡◌, ◌<◌, ◌++◌, Bool, true, false, List, [], ◌∷◌, length, arith, refl, ap, sym, ◌∙◌, subst}
 use Rattle.std.proofs.lemmas.List.{length-append}
 use Rattle.std.proofs.lemmas.Option.{slice_get_within}
 use Rattle.aig_graph.specs.Circuits.{Netlist}
