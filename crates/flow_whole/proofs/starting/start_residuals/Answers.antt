@@ -10,8 +10,12 @@ pub replace_caps-requires-clause-within : goal.replace_caps-requires-clause-with
 replace_caps-requires-clause-within c =
     let is : c.as_mut_slice.result.now ≡ take (c.args.base + c.args.size - c.args.base) (drop c.args.base c.caps.result.now) =
     c.as_mut_slice.ensures.value ∙ c.in_ok-add.ensures ∙ ap (λ (xs : List ℕ). xs ++ take (c.args.base + c.args.size - c.args.base) (drop c.args.base c.caps.result.now)) c.in_ok-residuals.ensures.items in
-    omega (arith, ap length is, c.requires,
-      slice_len c.caps.result.now c.args.base (c.args.base + c.args.size) (omega arith) (omega (arith, c.requires, c.nodes-nodes.ensures.network.same_caps, ap length c.caps.ensures)))
+    omega (
+      arith,
+      ap length is,
+      c.requires,
+      slice_len c.caps.result.now c.args.base (c.args.base + c.args.size) (omega arith) (omega (arith, c.requires, c.nodes-nodes.ensures.network.same_caps, ap length c.caps.ensures)),
+    )
 
 pub replace_caps-requires-clause-caps : goal.replace_caps-requires-clause-caps
 replace_caps-requires-clause-caps c = λ i h.
