@@ -6,15 +6,25 @@
 //! outside, no two of which pass after one variable. With a least set they are a certificate that anybody can check
 //! (`certificates`). The flow is walked back from the sink, one unit at a time; what each walk takes is taken from the flow. Excess
 //! that can't reach the sink is never walked.
+//!
+//! The smallest least set is read off routes: the gates to which residual arcs lead from the source, by the flow of one unit along
+//! each of them. The near side of a greatest flow is the smallest of the least cuts, and it lies in each of them, whichever flow it
+//! is of.
 #![tactic(auto)]
+
+ghost use Rattle.cut_cert.specs.Cuts.{NearSideIsSmallest, SmallestCutIsSmallestSet};
 
 mod carried;
 mod certifying;
 mod gathering;
 mod greatest;
 mod least_set;
+mod lookup;
+mod nearest;
 mod sink_side;
+mod source_side;
 mod trail;
+mod used_arcs;
 mod walk;
 
 pub use certificate_files::{CertError, CertFile, Choice, read_cert, write_cert};
@@ -23,3 +33,15 @@ pub use certifying::{certificate, certificate_of};
 pub use gathering::routes;
 pub use greatest::greatest_cut;
 pub use least_set::{greatest_least, greatest_least_along, network, preflow_along};
+pub use nearest::near_cut;
+
+/// Of a flow with no excess at inner nodes whose residual arcs don't lead to the sink, the nodes to which they lead from the
+/// source are the smallest of the least cuts.
+pub fn near_side_is_smallest()
+    ensures { NearSideIsSmallest }
+{}
+
+/// The gates of the least cut that lies in every least cut are the least set that lies in every least set.
+pub fn smallest_cut_is_smallest_set()
+    ensures { SmallestCutIsSmallestSet }
+{}

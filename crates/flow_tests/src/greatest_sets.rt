@@ -2,9 +2,8 @@
 use crate::nets::net_of;
 use aag_text::read_aag;
 use aig_graph::{Circuit, ClosedSet, Keep};
-use cut_cert::{greatest_least, routes};
+use cut_cert::{greatest_least, near_cut, routes};
 use frame_net::Net;
-use near_cuts::near_cut;
 use pulse::{Crew, OpenGate, PulseError, run_to_end};
 use std::alloc::Global;
 use std::test::Fail;

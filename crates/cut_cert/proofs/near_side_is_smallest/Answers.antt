@@ -1,0 +1,5 @@
+use Rattle.cut_cert.proofs.NearSides.{near_side_is_smallest-law}
+use Rattle.cut_cert.proofs.near_side_is_smallest.Goals as goal
+
+pub returns : goal.returns
+returns c = near_side_is_smallest-law

@@ -1,0 +1,39 @@
+//! The arc of a node's row to a point.
+ghost use Rattle.std.specs.Prelude.{◌≡◌, ℕ, ◌<◌, MatchOption, Some, true};
+ghost use Rattle.frame_net.specs.FlowNet.{node_count, row_len, head, point_of};
+ghost use Rattle.cut_cert.specs.Steps.{precedes, PointsRise};
+
+use frame_net::{Net, Point};
+
+/// Whether a node comes before that of a point; the source and the sink come before all.
+fn comes_before(net: &Net, node: u32, point: Point) -> bool
+    requires { node < node_count net.now }
+    ensures { result ≡ precedes (point_of net.now node) (Some point) }
+{
+    match net.point(node) {
+        Some(own) => own.var < point.var || own.var == point.var && !own.behind && point.behind,
+        None => true,
+    }
+}
+
+/// The place in a node's row of the arc to the node of a point, where there is one. The heads of a row stand in the order of
+/// their points: logarithmic in the row.
+pub(crate) fn place_of(net: &Net, node: u32, point: Point) -> Option<usize>
+    requires { node < node_count net.now }
+    ensures within { MatchOption result (Unit {0}) (λ place. place < row_len net.now node) }
+    ensures there { PointsRise net.now → (k : ℕ) → k < row_len net.now node → point_of net.now (head net.now node k) ≡ Some point → result ≡ Some k }
+{
+    let _nodes = net.nodes();
+    let heads = net.heads(node);
+    let mut low = 0;
+    let mut high = heads.len();
+    while low < high {
+        let middle = low + (high - low) / 2;
+        if comes_before(net, heads[middle], point) {
+            low = middle + 1;
+        } else {
+            high = middle;
+        }
+    }
+    if low < heads.len() { Some(low) } else { None }
+}
