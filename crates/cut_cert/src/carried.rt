@@ -24,7 +24,7 @@ pub(crate) fn carried_by_arcs(
         let flow = net
             .cap(arc as u32)
             .saturating_sub(preflow.residual(arc as u32));
-        carried.push(flow)?;
+        carried.push_reserved(flow);
     }
     Ok(carried)
 }

@@ -82,7 +82,7 @@ pub(crate) fn take_points(
     ensures points { IfOk result (λ points. points.items ≡ points_of net.now (reverse nodes.old.items)) }
     ensures on { OnOk result (AreOn (length marks.old) marks.new []) }
 {
-    let mut points = Vec::new(alloc);
+    let mut points = Vec::with_capacity(alloc, nodes.len())?;
     while let Some(node) = pop_marked(nodes, marks) {
         if let Some(point) = net.point(node) {
             points.push(point)?;
