@@ -1,4 +1,5 @@
 pub mod Counting
 pub mod Keeps
 pub mod Gathering
+pub mod Places
 mod CounterLaw

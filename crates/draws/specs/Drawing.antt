@@ -1,5 +1,5 @@
 -- What callers see of the draws and the drawers.
-use Rattle.std.specs.Prelude.{◌≡◌, ℕ, ◌<◌, List, [], ◌∷◌, ◌++◌, All}
+use Rattle.std.specs.Prelude.{◌≡◌, ℕ, ◌<◌, List, [], ◌∷◌, ◌++◌, All, length, slice_index_or}
 use Rattle.draws.specs.Rule.{past, times, total}
 use Rattle.draws.specs.declared.draws.Draws.{Draws}
 use Rattle.draws.specs.declared.draws.Drawer.{Drawer}
@@ -24,6 +24,10 @@ pub record HasDrawn (old new : Drawer) (n : ℕ) : Type 0 where
 -- the drawer is one of this counter
 abbrev pub IsDrawerOf : Draws → Drawer → Type 0
 IsDrawerOf s d = d.seat.table_id ≡ s.table.shared.table_id
+
+-- the i-th drawer has place i
+abbrev pub AreInPlace : List Drawer → Type 0
+AreInPlace ds = (i : ℕ) (d : Drawer) → i < length ds → (slice_index_or ds i d).worker ≡ i
 
 -- all numbers that it drew are jobs
 abbrev pub IsGoing : Draws → Drawer → Type 0

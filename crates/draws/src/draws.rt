@@ -37,7 +37,7 @@ impl Drawer {
 }
 
 impl Draws {
-    ghost use Rattle.draws.specs.Drawing.{HasDrawn, IsDrawerOf, IsGoing, IsDone, drawn, times_drawn, jobs_of, drawers_of};
+    ghost use Rattle.draws.specs.Drawing.{AreInPlace, HasDrawn, IsDrawerOf, IsGoing, IsDone, drawn, times_drawn, jobs_of, drawers_of};
 
     /// A counter at 0, and its drawers, which have drawn nothing.
     ///
@@ -50,6 +50,7 @@ impl Draws {
         ensures all { IfOk result (λ r. length r.1.items ≡ drawers) }
         ensures mine { IfOk result (λ r. All (λ d. IsDrawerOf r.0 d) r.1.items) }
         ensures fresh { IfOk result (λ r. All (λ d. drawn d ≡ []) r.1.items) }
+        ensures places { IfOk result (λ r. AreInPlace r.1.items) }
     {
         let (table, mut seat) = Table::of_words(alloc, &[0], &Plan { jobs, drawers })?;
         let mut list = Vec::with_capacity(alloc, drawers as usize)?;
