@@ -11,6 +11,7 @@ pub mod Ranges
 pub mod ReadLemmas
 pub mod PartLaws
 pub mod WalkLemmas
+pub mod CountLemmas
 pub mod ClearLemmas
 pub mod WholeLemmas
 pub mod ListedLemmas

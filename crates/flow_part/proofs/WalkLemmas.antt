@@ -53,7 +53,7 @@ cond_one false = omega arith
 pub active_few : (net : FlowNet) (labels : List ℕ) (c : Cells) (v : ℕ) → active_below net labels c v ≤ v
 active_few net labels c v = omega (arith, sum_below-le_const v 1 (λ u. cond (cells_active net labels c u) 1 0) (λ u h. cond_one (cells_active net labels c u)))
 
-active_on : (net : FlowNet) (labels : List ℕ) (c : Cells) (v : ℕ) → cells_active net labels c v ≡ true → active_below net labels c (v + 1) ≡ active_below net labels c v + 1
+pub active_on : (net : FlowNet) (labels : List ℕ) (c : Cells) (v : ℕ) → cells_active net labels c v ≡ true → active_below net labels c (v + 1) ≡ active_below net labels c v + 1
 active_on net labels c v on =
     let e : v + 1 ≡ suc v = omega arith in
     ap (λ (x : ℕ). active_below net labels c x) e ∙ ap (λ (b : Bool). active_below net labels c v + cond {A = ℕ} b 1 0) on

@@ -1,5 +1,5 @@
 -- Read: what each node pushes.
-use Rattle.std.specs.Prelude.{◌≡◌, ℕ, ◌+◌, ◌-◌, ◌<◌, ◌≤◌, ◌==◌, nat_lt, min, cond, ◌&&◌, ◌^◌, ◌++◌, ◌∷◌, [], Bool, true, List, length, slice_index, slice_index_or, ◌⊎◌}
+use Rattle.std.specs.Prelude.{◌≡◌, ℕ, ◌+◌, ◌-◌, ◌<◌, ◌≤◌, ◌==◌, nat_lt, min, max, cond, ◌&&◌, ◌^◌, ◌++◌, ◌∷◌, [], Bool, true, List, length, slice_index, slice_index_or, ◌⊎◌}
 use Rattle.flow_theory.specs.Flow.{sum_below, is_active}
 use Rattle.frame_net.specs.FlowNet.{FlowNet, node_count, start, row_len, head}
 use Rattle.flow_part.specs.declared.node_list.NodeList.{NodeList}
@@ -31,6 +31,14 @@ cells_active net labels c v = is_active (node_count net) (pairs net c labels) v
 
 abbrev pub active_below : FlowNet → List ℕ → Cells → ℕ → ℕ
 active_below net labels c v = sum_below v (λ u. cond (cells_active net labels c u) 1 0)
+
+-- how many of the nodes from low up to high are active
+abbrev pub active_from : FlowNet → List ℕ → Cells → ℕ → ℕ → ℕ
+active_from net labels c low high = active_below net labels c high - active_below net labels c low
+
+-- the count is `old` and so many more; all counts from the greatest of 32 bits on are one
+abbrev pub IsCountedOn : ℕ → ℕ → ℕ → Type 0
+IsCountedOn old more new = min new (2 ^ 32 - 1) ≡ min (old + more) (2 ^ 32 - 1)
 
 -- the values from place `from` up to `to` are 0s, and each other is as it was
 pub record Clears (from to : ℕ) (old new : List ℕ) : Type 0 where
@@ -79,6 +87,18 @@ pub record PartRead (net : FlowNet) (labels : List ℕ) (first end : ℕ) (c : C
 
 abbrev pub PartsRead : FlowNet → List ℕ → ℕ → ℕ → Cells → List PushPart → List PushPart → Type 0
 PartsRead net labels first end c olds news = (i : ℕ) (e : PushPart) → i < length olds → PartRead net labels first end c (slice_index_or olds i e) (slice_index_or news i e)
+
+-- the nearest to v of the numbers from `first` to `end`
+abbrev pub clamped : ℕ → ℕ → ℕ → ℕ
+clamped first end v = min end (max first v)
+
+-- the same, and the rows walked were counted on by its active nodes from `first` up to `end`
+pub record PartReadOn (net : FlowNet) (labels : List ℕ) (first end : ℕ) (c : Cells) (old new : PushPart) : Type 0 where
+  pub is_read : PartRead net labels first end c old new
+  pub walked : IsCountedOn old.walked (active_from net labels c (clamped first end old.first) (clamped first end old.end)) new.walked
+
+abbrev pub PartsReadOn : FlowNet → List ℕ → ℕ → ℕ → Cells → List PushPart → List PushPart → Type 0
+PartsReadOn net labels first end c olds news = (i : ℕ) (e : PushPart) → i < length olds → PartReadOn net labels first end c (slice_index_or olds i e) (slice_index_or news i e)
 
 -- a part of the pushes whose rows were all cleared
 pub record PartCleared (net : FlowNet) (old new : PushPart) : Type 0 where

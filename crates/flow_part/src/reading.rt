@@ -2,7 +2,7 @@
 ghost use Rattle.std.specs.Prelude.{◌≡◌, ℕ, ◌+◌, ◌-◌, ◌<◌, ◌≤◌, ◌^◌, min, length, slice_index};
 ghost use Rattle.frame_net.specs.FlowNet.{node_count, start, row_len};
 ghost use Rattle.flow_part.specs.Parts.{AreFlowParts, LabelsFit, PushPartFits, cells_of};
-ghost use Rattle.flow_part.specs.Reading.{PartRead, RowsRead, arc_push, cells_active};
+ghost use Rattle.flow_part.specs.Reading.{IsCountedOn, PartReadOn, RowsRead, active_from, arc_push, cells_active};
 
 use crate::clearing::clear;
 use crate::parts::{FlowPart, PushPart};
@@ -90,7 +90,7 @@ pub(crate) fn is_active(net: &Net, labels: &[u32], flow: &[FlowPart], v: u32) ->
     v > 1 && excess_of(net, flow, v) > 0 && labels[v as usize] < nodes
 }
 
-/// Read of node `v` into values that begin with arc `base`: its row is walked where it is active, else cleared.
+/// Read of node `v` into values that begin with arc `base`: its row is walked and counted where it is active, else cleared.
 fn read_at(
     net: &Net,
     labels: &[u32],
@@ -105,7 +105,8 @@ fn read_at(
     requires v { v < node_count net.now }
     requires from { base ≤ start net.now v }
     requires to { start net.now (v + 1) ≤ base + length values.old }
-    ensures { RowsRead net.now labels.now base v (v + 1) (cells_of flow.now) values.old values.new }
+    ensures row { RowsRead net.now labels.now base v (v + 1) (cells_of flow.now) values.old values.new }
+    ensures counted { IsCountedOn walked.old (active_from net.now labels.now (cells_of flow.now) v (v + 1)) walked.new }
 {
     let _nodes = net.nodes();
     if is_active(net, labels, flow, v) {
@@ -132,7 +133,8 @@ fn read_rows(
     requires high { high ≤ node_count net.now }
     requires from { base ≤ start net.now low }
     requires to { start net.now high ≤ base + length values.old }
-    ensures { RowsRead net.now labels.now base low high (cells_of flow.now) values.old values.new }
+    ensures rows { RowsRead net.now labels.now base low high (cells_of flow.now) values.old values.new }
+    ensures counted { IsCountedOn walked.old (active_from net.now labels.now (cells_of flow.now) low high) walked.new }
 {
     let _nodes = net.nodes();
     for v in low..high {
@@ -152,7 +154,7 @@ pub fn read_part(
     requires labels { LabelsFit net.now labels.now }
     requires flow { AreFlowParts net.now 0 flow.now }
     requires part { PushPartFits net.now part.old }
-    ensures { PartRead net.now labels.now first end (cells_of flow.now) part.old part.new }
+    ensures { PartReadOn net.now labels.now first end (cells_of flow.now) part.old part.new }
 {
     let _nodes = net.nodes();
     let low = first.max(part.first);

@@ -1,13 +1,14 @@
 -- Reads of each part are a read of the whole.
-use Rattle.std.proofs.Common.{◌≡◌, ℕ, suc, ◌+◌, ◌-◌, ◌<◌, ◌≤◌, List, [], ◌∷◌, length, slice_index, get_or, arith, ap, sym, ◌∙◌, subst, ◌⊎◌}
+use Rattle.std.proofs.Common.{◌≡◌, ℕ, suc, ◌+◌, ◌-◌, ◌<◌, ◌≤◌, ◌^◌, min, List, [], ◌∷◌, length, slice_index, get_or, arith, ap, sym, ◌∙◌, subst, ◌⊎◌}
 use Rattle.frame_net.specs.FlowNet.{FlowNet, node_count, start, row_len, IsFlowNet}
 use Rattle.flow_part.specs.declared.parts.PushPart.{PushPart}
 use Rattle.flow_part.specs.Parts.{Cells, PushPartFits, ArePushParts, rows_walked, values_of}
-use Rattle.flow_part.specs.Reading.{PartRead, PartsRead, WholeRead, WholesRead, active_below, cells_push}
+use Rattle.flow_part.specs.Reading.{IsCountedOn, PartRead, PartReadOn, PartsRead, PartsReadOn, WholeRead, WholesRead, active_below, active_from, cells_push, clamped}
 use Rattle.flow_part.specs.Delivering.{own}
 use Rattle.flow_part.proofs.Left.{left_all, Holds, find_part, part_fits, whole_at}
 use Rattle.flow_part.proofs.Ahead.{rising, push_piece}
 use Rattle.flow_part.proofs.AtPart.{pick}
+use Rattle.flow_part.proofs.CountLemmas.{active_rising}
 
 fits_read : (net : FlowNet) (labels : List ℕ) (first end : ℕ) (c : Cells) (p r : PushPart) → PushPartFits net p → PartRead net labels first end c p r → PushPartFits net r
 fits_read net labels first end c p r fit g = record {
@@ -67,6 +68,32 @@ whole_unread net labels first end c ps rs ok cut len reads v k vn out kl =
     let e : PushPart = pick ps h.index h.lt in
     row_after net labels first end c ps rs v k h.index e ok cut len reads h.lt (h.low e) (h.high e) kl
     ∙ ((reads h.index e h.lt).kept v k out (h.low e) (h.high e) kl ∙ sym (row_at net ps v k h.index e ok cut h.lt (h.low e) (h.high e) kl))
+
+-- ---- Read of a range, counted
+
+pub parts_read : (net : FlowNet) (labels : List ℕ) (first end : ℕ) (c : Cells) (ps rs : List PushPart) → PartsReadOn net labels first end c ps rs → PartsRead net labels first end c ps rs
+parts_read net labels first end c ps rs reads = λ i e h. (reads i e h).is_read
+
+-- the parts' counts of rows walked go on by the active nodes of the range that the parts hold, which begin at node v
+parts_walked : (net : FlowNet) (labels : List ℕ) (first end v : ℕ) (c : Cells) (ps rs : List PushPart) → ArePushParts net v ps → length rs ≡ length ps → PartsReadOn net labels first end c ps rs
+    → IsCountedOn (rows_walked ps) (active_from net labels c (clamped first end v) (clamped first end (node_count net))) (rows_walked rs)
+parts_walked net labels first end v c [] [] cut len reads = let e : active_below net labels c (clamped first end v) ≡ active_below net labels c (clamped first end (node_count net)) = ap (λ (x : ℕ). active_below net labels c (clamped first end x)) cut in omega (arith, e)
+parts_walked net labels first end v c [] (r ∷ rs) cut len reads = absurd (omega (arith, len))
+parts_walked net labels first end v c (p ∷ ps) [] cut len reads = absurd (omega (arith, len))
+parts_walked net labels first end v c (p ∷ ps) (r ∷ rs) cut len reads =
+    let one : PartReadOn net labels first end c p r = reads 0 p (omega arith) in
+    let rest = parts_walked net labels first end p.end c ps rs cut.1.1 (omega (arith, len)) (λ i e h. reads (suc i) e (omega arith)) in
+    let here : active_below net labels c (clamped first end p.first) ≡ active_below net labels c (clamped first end v) = ap (λ (x : ℕ). active_below net labels c (clamped first end x)) cut.0 in
+    let up = active_rising net labels c (clamped first end p.first) (clamped first end p.end) (omega (arith, cut.1.0.ordered)) in
+    let on = active_rising net labels c (clamped first end p.end) (clamped first end (node_count net)) (omega (arith, cut.1.0.within)) in
+    omega (arith, one.walked, rest, here, up, on)
+
+pub range_walked : (net : FlowNet) (labels : List ℕ) (first end : ℕ) (c : Cells) (ps rs : List PushPart) → ArePushParts net 0 ps → length rs ≡ length ps → first ≤ end → end ≤ node_count net
+    → PartsReadOn net labels first end c ps rs → IsCountedOn (rows_walked ps) (active_from net labels c first end) (rows_walked rs)
+range_walked net labels first end c ps rs cut len ordered within reads =
+    let low : clamped first end 0 ≡ first = omega (arith, ordered) in
+    let high : clamped first end (node_count net) ≡ end = omega (arith, ordered, within) in
+    omega (arith, parts_walked net labels first end 0 c ps rs cut len reads, ap (active_below net labels c) low, ap (active_below net labels c) high)
 
 -- ---- Read of all
 

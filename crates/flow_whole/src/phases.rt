@@ -4,7 +4,7 @@ ghost use Rattle.frame_net.specs.FlowNet.{node_count};
 ghost use Rattle.flow_part.specs.Listing.{ListActive};
 ghost use Rattle.flow_part.specs.Visiting.{WholesDelivered};
 ghost use Rattle.flow_part.specs.Parts.{AreFlowParts, ArePushParts, LabelsFit, cells_of, values_of};
-ghost use Rattle.flow_part.specs.Reading.{PartsRead, WholesRead};
+ghost use Rattle.flow_part.specs.Reading.{PartsReadOn, WholesRead};
 ghost use Rattle.flow_part.specs.Delivering.{PartsDelivered, PartsSafe};
 
 use flow_part::{FlowPart, PushPart, deliver_part, deliver_whole, read_part, read_whole};
@@ -23,7 +23,7 @@ pub fn read_each(
     requires flow { AreFlowParts net.now 0 flow.now }
     requires parts { ArePushParts net.now 0 parts.old }
     ensures len { length parts.new ≡ length parts.old }
-    ensures each { PartsRead net.now labels.now first end (cells_of flow.now) parts.old parts.new }
+    ensures each { PartsReadOn net.now labels.now first end (cells_of flow.now) parts.old parts.new }
 {
     for i in 0..parts.len() {
         read_part(net, labels, flow, &mut parts[i], first, end);

@@ -1,14 +1,14 @@
 -- Reads and deliveries of a range of nodes, over the fields of a flow and of pushes.
-use Rattle.std.proofs.Common.{◌≡◌, ℕ, ◌<◌, Bool, false, List, length, slice_index_or, refl, sym, ap, ◌∙◌, subst}
+use Rattle.std.proofs.Common.{◌≡◌, ℕ, ◌<◌, ◌≤◌, Bool, arith, false, List, length, slice_index_or, refl, sym, ap, ◌∙◌, subst}
 use Rattle.frame_net.specs.FlowNet.{FlowNet, node_count, IsFlowNet}
 use Rattle.flow_part.specs.declared.parts.FlowPart.{FlowPart}
 use Rattle.flow_part.specs.declared.parts.PushPart.{PushPart}
 use Rattle.flow_part.specs.Parts.{Cells, AreFlowParts, ArePushParts, cells_of, values_of}
-use Rattle.flow_part.specs.Reading.{PartsRead}
+use Rattle.flow_part.specs.Reading.{PartsRead, PartsReadOn}
 use Rattle.flow_part.specs.Delivering.{PartsDelivered, PartsSafe}
 use Rattle.flow_whole.specs.Marks.{and_range, NoneMarked, DeliveredSoFar, IsPartlyDelivered}
 use Rattle.flow_whole.proofs.Whole.{cut_after_give, whole_kept}
-use Rattle.flow_whole.proofs.WholeRead.{cut_after_read, whole_read, whole_unread}
+use Rattle.flow_whole.proofs.WholeRead.{cut_after_read, parts_read, range_walked, whole_read, whole_unread}
 use Rattle.flow_whole.proofs.MarkLemmas.{give_more, give_safe}
 use Rattle.pulse.specs.Values.{flow_state, push_state}
 use Rattle.pulse.specs.Conditions.{IsFlowOf, ArePushesOf, is_marked}
@@ -16,23 +16,27 @@ use Rattle.pulse.specs.Phases.{RangeRead, RangeDelivered}
 use Rattle.pulse.proofs.FlowLemmas.{parts_of, flow_with, pushes_with}
 
 pub range_read : (net : FlowNet) (first end : ℕ) (qs seen : List FlowPart) (ls lseen : List ℕ) (ds : List Bool) (cs : List ℕ) (b : Bool) (ps was rs now : List PushPart) (s : Bool) → IsFlowNet net
-    → seen ≡ qs → lseen ≡ ls → was ≡ ps → now ≡ rs → s ≡ false → ArePushParts net 0 ps → length rs ≡ length was → PartsRead net lseen first end (cells_of seen) was rs
+    → seen ≡ qs → lseen ≡ ls → was ≡ ps → now ≡ rs → s ≡ false → ArePushParts net 0 ps → length rs ≡ length was → first ≤ end → end ≤ node_count net → PartsReadOn net lseen first end (cells_of seen) was rs
     → RangeRead net (flow_state qs ls ds cs b) first end (push_state ps s) (push_state now s)
-range_read net first end qs seen ls lseen ds cs b ps was rs now s ok eq el ew en es cut len0 reads0 =
+range_read net first end qs seen ls lseen ds cs b ps was rs now s ok eq el ew en es cut len0 ordered within reads0 =
     subst (λ (x : List PushPart). RangeRead net (flow_state qs ls ds cs b) first end (push_state ps s) (push_state x s)) (sym en)
     record {
       fits = subst (λ (x : Bool). ArePushesOf net (push_state rs x)) (sym es) (pushes_with net rs ok (cut_after_read net ls first end 0 (cells_of qs) ps rs cut len reads));
       unspent = es;
       done = λ v k vn lo hi kl. whole_read net ls first end (cells_of qs) ps rs ok cut len reads v k vn lo hi kl;
       kept = λ v k vn out kl. whole_unread net ls first end (cells_of qs) ps rs ok cut len reads v k vn out kl;
+      walked = omega (arith, range_walked net ls first end (cells_of qs) ps rs cut len ordered within reads_on);
     }
   where
     len : length rs ≡ length ps
     len = len0 ∙ ap length ew
 
+    reads_on : PartsReadOn net ls first end (cells_of qs) ps rs
+    reads_on = subst (λ (x : List ℕ). PartsReadOn net x first end (cells_of qs) ps rs) el
+        (subst (λ (x : List FlowPart). PartsReadOn net lseen first end (cells_of x) ps rs) eq (subst (λ (x : List PushPart). PartsReadOn net lseen first end (cells_of seen) x rs) ew reads0))
+
     reads : PartsRead net ls first end (cells_of qs) ps rs
-    reads = subst (λ (x : List ℕ). PartsRead net x first end (cells_of qs) ps rs) el
-        (subst (λ (x : List FlowPart). PartsRead net lseen first end (cells_of x) ps rs) eq (subst (λ (x : List PushPart). PartsRead net lseen first end (cells_of seen) x rs) ew reads0))
+    reads = parts_read net ls first end (cells_of qs) ps rs reads_on
 
 so_far_same : (net : FlowNet) (labels xs : List ℕ) (m k : ℕ → Bool) (c d : Cells) → ((v : ℕ) → v < node_count net → k v ≡ m v) → DeliveredSoFar net labels xs m c d → DeliveredSoFar net labels xs k c d
 so_far_same net labels xs m k c d e g = record { given = λ v vn h. g.given v vn (sym (e v vn) ∙ h); kept = λ v vn h. g.kept v vn (sym (e v vn) ∙ h) }

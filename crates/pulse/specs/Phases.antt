@@ -1,20 +1,21 @@
 -- What ranges, turns and phases do.
-use Rattle.std.specs.Prelude.{◌≡◌, ℕ, ◌<◌, ◌≤◌, ◌⊎◌, false, true, List}
+use Rattle.std.specs.Prelude.{◌≡◌, ℕ, ◌+◌, ◌-◌, ◌<◌, ◌≤◌, ◌⊎◌, ◌^◌, min, false, true, List}
 use Rattle.flow_theory.specs.Flow.{pulse}
 use Rattle.frame_net.specs.FlowNet.{FlowNet, node_count, start, row_len, IsFlowNet}
 use Rattle.flow_part.specs.Parts.{Cells, IsSound, Agree, pairs}
-use Rattle.flow_part.specs.Reading.{cells_push}
+use Rattle.flow_part.specs.Reading.{active_from, cells_push}
 use Rattle.flow_part.specs.Delivering.{own, HoldPushes, NodeKept}
 use Rattle.flow_whole.specs.Marks.{and_range, AllMarked, DeliveredSoFar}
 use Rattle.pulse.specs.Values.{FlowState, PushState}
 use Rattle.pulse.specs.Conditions.{IsFlowOf, ArePushesOf, IsBetween, is_marked, state_of}
 
--- the nodes from first up to end have written their rows of pushes, and no other node
+-- the nodes from first up to end have written their rows of pushes, and no other node; the active ones of them were counted
 pub record RangeRead (net : FlowNet) (f : FlowState) (first end : ℕ) (old new : PushState) : Type 0 where
   pub fits : ArePushesOf net new
   pub unspent : new.spent ≡ false
   pub done : (v k : ℕ) → v < node_count net → first ≤ v → v < end → k < row_len net v → own net new.values v k ≡ cells_push net f.labels f.cells v k
   pub kept : (v k : ℕ) → v < node_count net → (v < first) ⊎ (end ≤ v) → k < row_len net v → own net new.values v k ≡ own net old.values v k
+  pub walked : new.walked ≡ min (old.walked + active_from net f.labels f.cells first end) (2 ^ 32 - 1)
 
 -- the nodes from first up to end were delivered too, and no other node has changed
 pub record RangeDelivered (net : FlowNet) (p : PushState) (first end : ℕ) (old new : FlowState) : Type 0 where
