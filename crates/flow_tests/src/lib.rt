@@ -21,6 +21,8 @@ mod greatest_sets;
 #[cfg(test)]
 mod nets;
 #[cfg(test)]
+mod phase_gates;
+#[cfg(test)]
 mod random_nets;
 #[cfg(test)]
 mod runs;
