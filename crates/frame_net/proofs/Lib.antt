@@ -2,6 +2,7 @@ pub mod PassableLaws
 pub mod EdgeLaws
 pub mod FilledLaws
 pub mod EdgeLoops
+pub mod CountLaws
 pub mod RowsLaws
 pub mod NodeLaws
 pub mod LinkLaws

@@ -12,14 +12,13 @@ ghost use Rattle.aig_graph.specs.declared.properties.Props.{Props as PropsOf};
 ghost use Rattle.aig_graph.specs.Graph.{Graph, first_latch, first_gate, variables_end, latches_and_gates};
 ghost use Rattle.frame_net.specs.Passable.{IsPassSet};
 ghost use Rattle.frame_net.specs.Edges.{AreLinks};
-ghost use Rattle.frame_net.specs.Capacity.{has_node, leaves, latch_number, before_number, node_total, capacity};
+ghost use Rattle.frame_net.specs.Links.{links_of, NumbersFit};
+ghost use Rattle.frame_net.specs.Capacity.{has_node, leaves, latch_number, latch_count, before_number, node_total, great, capacity};
 ghost use Rattle.frame_net.specs.Layout.{IsLayout};
 
-use crate::edges::Link;
-use crate::links::{after_links, gate_links, latch_links};
+use crate::links::NodeLinks;
 use crate::pass_set::PassSet;
 use aig_graph::{Aig, Keep, NoMemory, Props, mark_held, mark_read};
-use arrayvec::ArrayVec;
 use std::alloc::Global;
 use variable_tables::{count_marks, mark_at, marked_variables, number_marks};
 
@@ -119,38 +118,40 @@ impl<'a> Layout<'a> {
         })
     }
 
-    /// The links of a node, which isn't the source or the sink, to lower nodes.
-    pub fn links(&self, v: u32) -> ArrayVec<Link, 4>
+    /// What a node, which isn't the source or the sink, is linked to.
+    pub fn links(&self, v: u32) -> NodeLinks
         requires { (g : Graph) × (props : PropsOf) × (held : List ℕ) × IsLayout g props held self.now × (2 ≤ v) × (v < node_total g held) }
-        ensures { (g : Graph) (props : PropsOf) (held : List ℕ) → IsLayout g props held self.now → v < node_total g held → AreLinks (capacity g props held) v result.items }
+        ensures links { (g : Graph) (props : PropsOf) (held : List ℕ) → IsLayout g props held self.now → v < node_total g held → AreLinks (capacity g props held) v (links_of (2 + latch_count g held) (great g held) result) }
+        ensures fit { NumbersFit result }
     {
         let place = v - 2;
         if place < self.latches {
             let var = self.variables[place as usize];
-            return latch_links(self.leaves(var), self.latches + 1);
+            return NodeLinks::AfterLatch(self.leaves(var));
         }
         let side = place - self.latches;
         let var = self.variables[(self.latches + side / 2) as usize];
         if side % 2 == 1 {
-            after_links(self.leaves(var), self.latches + 1, v - 1)
+            NodeLinks::AfterGate(self.leaves(var), v - 1)
         } else {
             self.before_links(var)
         }
     }
 
-    /// The links of the node before a gate.
-    fn before_links(&self, var: u32) -> ArrayVec<Link, 4>
+    /// What the node before a gate is linked to.
+    fn before_links(&self, var: u32) -> NodeLinks
         requires { (g : Graph) × (props : PropsOf) × (held : List ℕ) × IsLayout g props held self.now × (first_gate g ≤ var) × (var < variables_end g) × (has_node g held var ≡ true) }
-        ensures { (g : Graph) (props : PropsOf) (held : List ℕ) → IsLayout g props held self.now → first_gate g ≤ var → var < variables_end g → has_node g held var ≡ true
-            → AreLinks (capacity g props held) (before_number g held var) result.items }
+        ensures links { (g : Graph) (props : PropsOf) (held : List ℕ) → IsLayout g props held self.now → first_gate g ≤ var → var < variables_end g → has_node g held var ≡ true
+            → AreLinks (capacity g props held) (before_number g held var) (links_of (2 + latch_count g held) (great g held) result) }
+        ensures fit { NumbersFit result }
     {
         match self.aig.gate(var) {
             Some(gate) => {
                 let first = self.number(gate.rhs1.var());
                 let second = self.number(gate.rhs0.var());
-                gate_links(first, second, self.latches + 2, self.latches + 1)
+                NodeLinks::BeforeGate(first, second)
             }
-            None => ArrayVec::new(),
+            None => NodeLinks::BeforeGate(0, 0),
         }
     }
 

@@ -4,6 +4,7 @@
 #![tactic(auto)]
 
 mod build;
+mod counting;
 mod edges;
 mod layout;
 mod links;

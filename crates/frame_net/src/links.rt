@@ -1,12 +1,23 @@
 ghost use Rattle.std.specs.Prelude.{◌≡◌, ◌+◌, ◌<◌, ◌≤◌, ◌^◌, ◌++◌};
 ghost use Rattle.arrayvec.specs.ArrayVec.{array_vec_len};
-ghost use Rattle.frame_net.specs.Links.{latch_links, after_links, fan_in_links, gate_links};
+ghost use Rattle.frame_net.specs.Links.{latch_links, after_links, fan_in_links, gate_links, links_of, NumbersFit};
 
 use crate::edges::Link;
 use arrayvec::ArrayVec;
 
+/// What a node is linked to, by what it stands for.
+#[derive(Clone, Copy)]
+pub enum NodeLinks {
+    /// The node after a latch: whether the latch's output leaves the frame.
+    AfterLatch(bool),
+    /// The node after a gate: whether the gate's output leaves the frame, and the node before the gate.
+    AfterGate(bool, u32),
+    /// The node before a gate: the numbers of its fan-ins, the smaller first.
+    BeforeGate(u32, u32),
+}
+
 /// The links of the node after a latch: the source, and the sink where the latch's output leaves the frame.
-pub fn latch_links(leaves: bool, great: u32) -> ArrayVec<Link, 4>
+fn latch_links(leaves: bool, great: u32) -> ArrayVec<Link, 4>
     ensures { result.items ≡ latch_links leaves great }
 {
     let mut links = ArrayVec::new();
@@ -18,7 +29,7 @@ pub fn latch_links(leaves: bool, great: u32) -> ArrayVec<Link, 4>
 }
 
 /// The links of the node after a gate: the sink where the gate's output leaves the frame, and the node before the gate.
-pub fn after_links(leaves: bool, great: u32, before: u32) -> ArrayVec<Link, 4>
+fn after_links(leaves: bool, great: u32, before: u32) -> ArrayVec<Link, 4>
     ensures { result.items ≡ after_links leaves great before }
 {
     let mut links = ArrayVec::new();
@@ -46,7 +57,7 @@ fn push_fan_in(links: &mut ArrayVec<Link, 4>, number: u32, base: u32, great: u32
 }
 
 /// The links of the node before a gate with fan-ins of these numbers, the smaller first.
-pub fn gate_links(first: u32, second: u32, base: u32, great: u32) -> ArrayVec<Link, 4>
+fn gate_links(first: u32, second: u32, base: u32, great: u32) -> ArrayVec<Link, 4>
     requires first { first < 2 ^ 30 }
     requires second { second < 2 ^ 30 }
     ensures { result.items ≡ gate_links base great first second }
@@ -57,4 +68,16 @@ pub fn gate_links(first: u32, second: u32, base: u32, great: u32) -> ArrayVec<Li
         push_fan_in(&mut links, second, base, great);
     }
     links
+}
+
+/// The links of a node to lower ones, by rising number. The nodes from `base` on are those of gates.
+pub fn links_of(node: NodeLinks, base: u32, great: u32) -> ArrayVec<Link, 4>
+    requires { NumbersFit node }
+    ensures { result.items ≡ links_of base great node }
+{
+    match node {
+        NodeLinks::AfterLatch(leaves) => latch_links(leaves, great),
+        NodeLinks::AfterGate(leaves, before) => after_links(leaves, great, before),
+        NodeLinks::BeforeGate(first, second) => gate_links(first, second, base, great),
+    }
 }

@@ -3,30 +3,25 @@ use Rattle.variable_tables.proofs.PlacesLemmas.{Ranks}
 use Rattle.aig_graph.specs.Graph.{variables_end}
 use Rattle.frame_net.specs.declared.edges.Link.{Link}
 use Rattle.frame_net.specs.Edges.{AreLinks}
-use Rattle.frame_net.specs.Links.{latch_links, after_links}
-use Rattle.frame_net.specs.Capacity.{has_node, leaves, latch_number, before_number, after_number, capacity, great}
+use Rattle.frame_net.specs.Links.{latch_links, after_links, links_of}
+use Rattle.frame_net.specs.Capacity.{has_node, leaves, latch_count, latch_number, before_number, after_number, capacity, great}
 use Rattle.frame_net.proofs.NodeLaws.{latches-among}
 use Rattle.frame_net.proofs.ArcLaws.{latch-links, after-links}
-use Rattle.frame_net.proofs.LayoutLaws.{place-of, latch-place, gate-place, node-from, fit-bound}
+use Rattle.frame_net.proofs.LayoutLaws.{place-of, latch-place, gate-place, node-from}
 use Rattle.frame_net.proofs.layout.Layout.links.Goals as goal
 
 pub index-var-requires : goal.index-var-requires
 index-var-requires c = let r = c.requires in omega (arith, c.if-place-self.true, r.3.latches, latches-among r.0 r.2, ap (λ (xs : List ℕ). length xs) r.3.variables)
 
-pub overflow_add-self : goal.overflow_add-self
-overflow_add-self c = let r = c.requires in omega (arith, r.3.latches, fit-bound r.0 r.2 r.3.valid)
-
-pub returns-then-place-self : goal.returns-then-place-self
-returns-then-place-self c = λ g props held l below.
+pub returns-then-place-self-clause-links : goal.returns-then-place-self-clause-links
+returns-then-place-self-clause-links c = λ g props held l below.
     let u : ℕ = c.index-var.result.now in
     let long : c.args.v - 2 < length c.args.self.now.variables.items = omega (arith, c.if-place-self.true, l.latches, latches-among g held, ap (λ (xs : List ℕ). length xs) l.variables) in
     let r : Ranks (has_node g held) (variables_end g) (c.args.v - 2) c.index-var.result.now = place-of g held c.args.self.now.variables.items (c.args.v - 2) c.index-var.result.now l.variables long c.index-var.ensures in
     let low = latch-place g held (c.args.v - 2) c.index-var.result.now r (omega (arith, c.if-place-self.true, l.latches)) in
-    subst (λ (n : ℕ). AreLinks (capacity g props held) n c.latch_links.result.items) (omega (arith, r.rank, c.requires.4))
-    (subst (λ (xs : List Link). AreLinks (capacity g props held) (latch_number g held c.index-var.result.now) xs)
-    (sym (c.latch_links.ensures
-    ∙ ap (λ (b : Bool). latch_links b (c.args.self.now.latches + 1)) (c.leaves.ensures g props held l (node-from g held c.index-var.result.now r.passes) r.below)
-    ∙ ap (λ (n : ℕ). latch_links (leaves g props held c.index-var.result.now) n) (omega (arith, l.latches))))
+    subst (λ (n : ℕ). AreLinks (capacity g props held) n (latch_links c.leaves.result (great g held))) (omega (arith, r.rank, c.requires.4))
+    (subst (λ (b : Bool). AreLinks (capacity g props held) (latch_number g held c.index-var.result.now) (latch_links b (great g held)))
+    (sym (c.leaves.ensures g props held l (node-from g held c.index-var.result.now r.passes) r.below))
     (latch-links g props held l.valid c.index-var.result.now r.passes low))
 
 pub before_links-requires : goal.before_links-requires
@@ -40,29 +35,27 @@ before_links-requires c =
     place-of q.0 q.2 c.args.self.now.variables.items (c.args.self.now.latches + (c.args.v - 2 - c.args.self.now.latches) / 2) c.index-var-2.result.now l.variables long c.index-var-2.ensures in
     (q.0, q.1, q.2, l, gate-place q.0 q.2 (c.args.self.now.latches + (c.args.v - 2 - c.args.self.now.latches) / 2) c.index-var-2.result.now r (omega (arith, l.latches)), r.below, r.passes)
 
-pub returns-then-side-eq1 : goal.returns-then-side-eq1
-returns-then-side-eq1 c = λ g props held l below.
+pub returns-then-side-eq1-clause-links : goal.returns-then-side-eq1-clause-links
+returns-then-side-eq1-clause-links c = λ g props held l below.
     let long : c.args.self.now.latches + (c.args.v - 2 - c.args.self.now.latches) / 2 < length c.args.self.now.variables.items =
     omega (arith, below, l.latches, latches-among g held, ap (λ (xs : List ℕ). length xs) l.variables, c.if-place-self.false) in
     let r : Ranks (has_node g held) (variables_end g) (c.args.self.now.latches + (c.args.v - 2 - c.args.self.now.latches) / 2) c.index-var-2.result.now =
     place-of g held c.args.self.now.variables.items (c.args.self.now.latches + (c.args.v - 2 - c.args.self.now.latches) / 2) c.index-var-2.result.now l.variables long c.index-var-2.ensures in
     let high = gate-place g held (c.args.self.now.latches + (c.args.v - 2 - c.args.self.now.latches) / 2) c.index-var-2.result.now r (omega (arith, l.latches)) in
     let number : after_number g held c.index-var-2.result.now ≡ c.args.v = omega (arith, r.rank, l.latches, c.requires.4, c.if-place-self.false, c.if-side-eq1.true) in
-    subst (λ (n : ℕ). AreLinks (capacity g props held) n c.after_links.result.items) number
+    subst (λ (n : ℕ). AreLinks (capacity g props held) n (after_links c.leaves-then-side-eq1.result (great g held) (c.args.v - 1))) number
     (subst (λ (xs : List Link). AreLinks (capacity g props held) (after_number g held c.index-var-2.result.now) xs)
-    (sym (c.after_links.ensures
-    ∙ ap (λ (b : Bool). after_links b (c.args.self.now.latches + 1) (c.args.v - 1)) (c.leaves-then-side-eq1.ensures g props held l (node-from g held c.index-var-2.result.now r.passes) r.below)
-    ∙ ap (λ (n : ℕ). after_links (leaves g props held c.index-var-2.result.now) n (c.args.v - 1)) (omega (arith, l.latches))
+    (sym (ap (λ (b : Bool). after_links b (great g held) (c.args.v - 1)) (c.leaves-then-side-eq1.ensures g props held l (node-from g held c.index-var-2.result.now r.passes) r.below)
     ∙ ap (λ (n : ℕ). after_links (leaves g props held c.index-var-2.result.now) (great g held) n) (omega (arith, number))))
     (after-links g props held l.valid c.index-var-2.result.now r.passes high r.below))
 
-pub returns-else-side-eq1 : goal.returns-else-side-eq1
-returns-else-side-eq1 c = λ g props held l below.
+pub returns-else-side-eq1-clause-links : goal.returns-else-side-eq1-clause-links
+returns-else-side-eq1-clause-links c = λ g props held l below.
     let long : c.args.self.now.latches + (c.args.v - 2 - c.args.self.now.latches) / 2 < length c.args.self.now.variables.items =
     omega (arith, below, l.latches, latches-among g held, ap (λ (xs : List ℕ). length xs) l.variables, c.if-place-self.false) in
     let r : Ranks (has_node g held) (variables_end g) (c.args.self.now.latches + (c.args.v - 2 - c.args.self.now.latches) / 2) c.index-var-2.result.now =
     place-of g held c.args.self.now.variables.items (c.args.self.now.latches + (c.args.v - 2 - c.args.self.now.latches) / 2) c.index-var-2.result.now l.variables long c.index-var-2.ensures in
     let high = gate-place g held (c.args.self.now.latches + (c.args.v - 2 - c.args.self.now.latches) / 2) c.index-var-2.result.now r (omega (arith, l.latches)) in
     let number : before_number g held c.index-var-2.result.now ≡ c.args.v = omega (arith, r.rank, l.latches, c.requires.4, c.if-place-self.false, c.if-side-eq1.false) in
-    subst (λ (n : ℕ). AreLinks (capacity g props held) n c.before_links.result.items) number
-    (c.before_links.ensures g props held l high r.below r.passes)
+    subst (λ (n : ℕ). AreLinks (capacity g props held) n (links_of (2 + latch_count g held) (great g held) c.before_links.result)) number
+    (c.before_links.ensures.links g props held l high r.below r.passes)
