@@ -119,6 +119,7 @@ impl<'a> Layout<'a> {
     }
 
     /// What a node, which isn't the source or the sink, is linked to.
+    #[inline(always)]
     pub fn links(&self, v: u32) -> NodeLinks
         requires { (g : Graph) × (props : PropsOf) × (held : List ℕ) × IsLayout g props held self.now × (2 ≤ v) × (v < node_total g held) }
         ensures links { (g : Graph) (props : PropsOf) (held : List ℕ) → IsLayout g props held self.now → v < node_total g held → AreLinks (capacity g props held) v (links_of (2 + latch_count g held) (great g held) result) }

@@ -39,6 +39,13 @@ impl GateFlow {
         }
     }
 
+    /// Whether nothing came to the gate and nothing went on from it.
+    pub(crate) fn is_none(&self) -> bool {
+        !(self.first_up || self.second_up || self.through)
+            && self.first_down == 0
+            && self.second_down == 0
+    }
+
     /// Whether a unit came from the output of the second or the first fan-in.
     pub(crate) fn up(&self, second: bool) -> bool {
         if second {
@@ -57,12 +64,12 @@ impl GateFlow {
         }
     }
 
-    /// Notes whether a unit came from the output of the second or the first fan-in.
-    pub(crate) fn note_up(&mut self, second: bool, came: bool) {
+    /// Notes that a unit came from the output of the second or the first fan-in.
+    pub(crate) fn note_up(&mut self, second: bool) {
         if second {
-            self.second_up = came;
+            self.second_up = true;
         } else {
-            self.first_up = came;
+            self.first_up = true;
         }
     }
 

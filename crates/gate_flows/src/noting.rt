@@ -30,20 +30,23 @@ fn flow_at(net: &Net, first: u32, preflow: &MaxPreflow, v: u32) -> GateFlow
             flow.through = residual < cap;
             return flow;
         }
-        if is_before(first, head) {
-            flow.note_down(second, cap.saturating_sub(residual));
-        } else {
-            flow.note_up(second, residual > cap);
-            second = true;
+        let output = !is_before(first, head);
+        if residual < cap {
+            flow.note_down(second, cap - residual);
+        } else if residual > cap && output {
+            flow.note_up(second);
         }
+        second = second || output;
     }
     flow
 }
 
 /// Puts a flow at a place, where there is one.
-fn put(flows: &mut [GateFlow], place: usize, flow: GateFlow) {
-    if let Some(entry) = flows.get_mut(place) {
-        *entry = flow;
+fn put(flows: &mut [GateFlow], place: Option<usize>, flow: GateFlow) {
+    if let Some(place) = place {
+        if let Some(entry) = flows.get_mut(place) {
+            *entry = flow;
+        }
     }
 }
 
@@ -63,12 +66,11 @@ pub fn gate_flows(
     let nodes = net.nodes();
     let first = first_before(aig);
     let mut flows = vec![in alloc; GateFlow::none(); aig.gates().len()]?;
-    for v in first..nodes {
-        if is_before(first, v) {
-            if let Some(place) = gate_place(net, aig, v) {
-                let flow = flow_at(net, first, preflow, v);
-                put(flows.as_mut_slice(), place, flow);
-            }
+    for k in 0..nodes.saturating_sub(first) / 2 {
+        let v = first + 2 * k;
+        let flow = flow_at(net, first, preflow, v);
+        if !flow.is_none() {
+            put(flows.as_mut_slice(), gate_place(net, aig, v), flow);
         }
     }
     Ok(flows)
