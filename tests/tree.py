@@ -124,9 +124,9 @@ def exported_functions():
             for function in functions_of(crate, path)]
 
 
-def crates_without_a_test():
-    """The crates no source of which has a test."""
-    return [crate for crate in crates() if not any('#[test]' in path.read_text() for path in sources(crate))]
+def crates_with_a_test():
+    """The crates of which a source has a test."""
+    return [crate for crate in crates() if any('#[test]' in path.read_text() for path in sources(crate))]
 
 
 def words_of_files():

@@ -32,6 +32,3 @@ pub use properties::{Props, Symbol, Symbols};
 pub use reading::mark_read;
 pub use sequence::Sequence;
 pub use variable_tables::NoMemory;
-
-#[cfg(test)]
-mod tests;

@@ -7,6 +7,3 @@ mod task;
 
 pub use parse::parse_arguments;
 pub use task::{Batch, Retiming, Task, Verification};
-
-#[cfg(test)]
-mod tests;

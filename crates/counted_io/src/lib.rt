@@ -14,6 +14,3 @@ pub use counted::{Counted, CountedRead, CountedWrite};
 pub use fakes::{FailAfter, Failure, OneByte};
 pub use reading::{ReadAllError, read_all};
 pub use writing::{WriteError, write_all};
-
-#[cfg(test)]
-mod tests;

@@ -1,13 +1,18 @@
-//! Tests of the public calls that read and write circuits in both spellings, and of the parts that their readers are made of. They stand
-//! in a crate of their own, since a crate with tests is proved twice.
+//! Tests of the public calls that read and write circuits in both spellings, of the parts that their readers are made of, of buffered
+//! writing and devices that fail, and of the words of a command line. They stand in a crate of their own, since a crate with tests is
+//! proved twice.
 #![tactic(auto)]
 
 #[cfg(test)]
 mod any_spelling;
 #[cfg(test)]
+mod arguments;
+#[cfg(test)]
 mod ascii;
 #[cfg(test)]
 mod binary;
+#[cfg(test)]
+mod devices;
 #[cfg(test)]
 mod faults;
 #[cfg(test)]

@@ -1,5 +1,5 @@
-//! Tests of the public calls on whole circuits: cleaning, moving over a set of gates, frames by crews, from bytes to bytes, and
-//! simulating. They stand in a crate of their own, since a crate with tests is proved twice.
+//! Tests of the public calls on tables by variable, graphs and whole circuits: cleaning, moving over a set of gates, frames by crews,
+//! from bytes to bytes, and simulating. They stand in a crate of their own, since a crate with tests is proved twice.
 #![tactic(auto)]
 
 #[cfg(test)]
@@ -13,7 +13,13 @@ mod cleaned;
 #[cfg(test)]
 mod errors;
 #[cfg(test)]
+mod graphs;
+#[cfg(test)]
+mod lanes;
+#[cfg(test)]
 mod moves;
+#[cfg(test)]
+mod names;
 #[cfg(test)]
 mod records;
 #[cfg(test)]
@@ -22,5 +28,7 @@ mod retimed_texts;
 mod retiming;
 #[cfg(test)]
 mod simulated;
+#[cfg(test)]
+mod tables;
 #[cfg(test)]
 mod workers;

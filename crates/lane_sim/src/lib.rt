@@ -18,6 +18,3 @@ pub use kernel::and_lanes;
 pub use read::read_stimulus;
 pub use stimulus::{InputSequence, Stimulus};
 pub use trace::{Trace, simulate};
-
-#[cfg(test)]
-mod tests;

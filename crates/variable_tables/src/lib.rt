@@ -11,6 +11,3 @@ pub use marks::{mark_at, mark_variable, mark_variables, marks_of};
 pub use memory::NoMemory;
 pub use numbering::{count_marks, marked_variables, number_marks, renumber};
 pub use tables::entry;
-
-#[cfg(test)]
-mod tests;

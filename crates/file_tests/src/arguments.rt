@@ -1,5 +1,6 @@
-use crate::{Retiming, Task, parse_arguments};
-use spellings::Spelling;
+//! What the words of a command line ask for.
+use aig_binary::Spelling;
+use command_line::{Retiming, Task, parse_arguments};
 use std::alloc::{AllocError, Global};
 use std::test::Fail;
 

@@ -1,8 +1,9 @@
-use crate::{
+//! Marks, ranks and tables by variable.
+use std::test::Fail;
+use variable_tables::{
     NoMemory, count_marks, entry, mark_at, mark_variable, marked_variables, marks_of, number_marks,
     renumber,
 };
-use std::test::Fail;
 
 #[test]
 fn marks_variables_from_the_first_on(rt: HostRuntime) -> Result<(), Fail> {

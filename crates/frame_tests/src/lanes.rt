@@ -1,4 +1,5 @@
-use crate::and_lanes;
+//! Rows of words, ANDed.
+use lane_sim::and_lanes;
 use std::test::*;
 
 const A: [u64; 9] = [12, 10, 6, 5, 3, 15, 0, 9, 7];

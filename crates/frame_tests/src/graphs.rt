@@ -1,11 +1,11 @@
+//! Graphs that are built, the literals and values of their gates, and the border of a set of gates.
 ghost use Rattle.std.specs.Prelude.{◌≡◌, [], ◌∷◌, IfOk};
 ghost use Rattle.aig_graph.specs.Building.{without_gates};
 ghost use Rattle.aig_graph.specs.Graph.{first_latch, variables_end, IsLiteralOf};
 
-use crate::{
+use aig_graph::{
     Aig, AigBuilder, BuildError, Circuit, ClosedSet, Gate, Keep, KeepError, Latch, Lit, NoMemory,
-    Props, Reset, Sequence, Symbol, Symbols, count, is_closed, keep_of, reset_value, set_laws,
-    stream_laws, value_laws,
+    Props, Reset, Symbols, count, is_closed, reset_value, set_laws, stream_laws, value_laws,
 };
 use std::alloc::Global;
 use std::test::Fail;
@@ -110,68 +110,6 @@ fn counts_the_border_of_a_gate(rt: HostRuntime) -> Result<(), Fail> {
 fn refuses_a_list_that_does_not_rise(rt: HostRuntime) -> Result<(), Fail> {
     let vars = Vec::from_array(rt.alloc(), [5, 5])?;
     assert!(rt; ClosedSet::new(vars).is_none());
-    Ok(())
-}
-
-/// The name of the second latch.
-fn second_name(alloc: Global) -> Result<Symbol, NoMemory> {
-    let name = Vec::from_array(alloc, [b'a'])?;
-    Ok(Symbol {
-        position: 1,
-        name: Sequence::from_vec(name),
-    })
-}
-
-/// The same name for the first latch, and no other.
-fn one_name(alloc: Global) -> Result<Symbols, NoMemory> {
-    let name = second_name(alloc)?;
-    let latches = Vec::from_array(alloc, [name.at(alloc, 0)?])?;
-    Symbols::none(alloc).with_latches(alloc, Sequence::from_vec(latches))
-}
-
-/// Whether the first latch alone has that name.
-fn names_the_first_latch(names: &Symbols) -> bool {
-    names.inputs.is_empty()
-        && names.latches.as_slice().first().is_some_and(|latch| latch.position == 0
-            && latch.name.as_slice() == b"a".as_slice())
-}
-
-/// Whether a copy with one name of a latch has that name, at the position that it was given.
-fn has_the_name_it_was_given(alloc: Global) -> Result<bool, NoMemory> {
-    let names = one_name(alloc)?;
-    Ok(names_the_first_latch(&names))
-}
-
-#[test]
-fn copies_names(rt: HostRuntime) -> Result<(), Fail> {
-    assert!(rt; has_the_name_it_was_given(rt.alloc())?);
-    Ok(())
-}
-
-/// Whether no latch of the example is held where no names are given.
-fn holds_no_latch(alloc: Global) -> Result<bool, BuildError> {
-    let circuit = example(alloc)?;
-    Ok(keep_of(alloc, &circuit, &[]).is_ok_and(|keep| keep.positions().is_empty()))
-}
-
-#[test]
-fn holds_no_latch_without_names(rt: HostRuntime) -> Result<(), Fail> {
-    let none = holds_no_latch(rt.alloc())?;
-    assert!(rt; none);
-    Ok(())
-}
-
-/// Why the example has no latch of a name.
-fn refused_name(alloc: Global) -> Result<Option<KeepError>, BuildError> {
-    let name = Vec::from_array(alloc, [b'a'])?;
-    let circuit = example(alloc)?;
-    Ok(keep_of(alloc, &circuit, &[name]).err())
-}
-
-#[test]
-fn refuses_a_name_that_no_latch_has(rt: HostRuntime) -> Result<(), Fail> {
-    let refused = refused_name(rt.alloc())?;
-    assert_eq!(rt; refused, Some(KeepError::NoSuchName(0)));
     Ok(())
 }
 

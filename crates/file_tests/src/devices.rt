@@ -1,8 +1,9 @@
-use crate::{
+//! Buffered writing and reading to the end, with devices that take or give a part, or fail.
+use counted_io::{
     Buffered, Counted, CountedRead, CountedWrite, FailAfter, Failure, OneByte, ReadAllError,
     WriteError, read_all, write_all,
 };
-use std::alloc::Global;
+use std::alloc::{AllocError, Global};
 use std::fmt::Write;
 use std::test::Fail;
 
@@ -19,19 +20,20 @@ fn put_some<W: CountedWrite>(writer: &mut W) -> Result<(), WriteError> {
 
 const SOME: &[u8] = b"6 0 18446744073709551615\n\nto c10";
 
-/// What a device that takes one byte a call, and fails from a number of calls on, was given, the
-/// failures, and how the writing ended.
-fn put_to_failing(
-    alloc: Global,
-    calls: u64,
-    failure: Failure,
-) -> (Vec<u8>, u64, Result<(), WriteError>) {
+/// Whether a device that takes one byte a call, and fails from a number of calls on, was given this text, so many calls failed, and
+/// the writing ended well where none did.
+fn is_given(alloc: Global, calls: u64, failure: Failure, text: &[u8], failures: u64) -> bool {
     let mut taken = Vec::new(alloc);
     let device = FailAfter::new(OneByte::new(&mut taken), calls, failure);
     let mut out = Counted::new(device);
     let result = put_some(&mut out);
-    let failures = CountedWrite::failures(&out);
-    (taken, failures, result)
+    let counted = CountedWrite::failures(&out);
+    let ended = if failures > 0 {
+        Err(WriteError::Device)
+    } else {
+        Ok(())
+    };
+    result == ended && counted == failures && taken.as_slice() == text
 }
 
 #[test]
@@ -44,17 +46,15 @@ fn puts_lines(rt: HostRuntime) -> Result<(), Fail> {
 
 #[test]
 fn goes_on_after_a_partial_write(rt: HostRuntime) {
-    let (taken, failures, result) = put_to_failing(rt.alloc(), 1000, Failure::Error);
-    assert!(rt; taken.as_slice() == SOME && failures == 0 && result.is_ok());
+    assert!(rt; is_given(rt.alloc(), 1000, Failure::Error, SOME, 0));
 }
 
 #[test]
 fn stops_at_a_failed_write(rt: HostRuntime) {
-    for failure in [Failure::Error, Failure::Nothing] {
-        let (taken, failures, result) = put_to_failing(rt.alloc(), 3, failure);
-        let device = result == Err(WriteError::Device);
-        assert!(rt; taken.as_slice() == b"6 0".as_slice() && failures == 1 && device);
-    }
+    let alloc = rt.alloc();
+    let stops = is_given(alloc, 3, Failure::Error, b"6 0", 1)
+        && is_given(alloc, 3, Failure::Nothing, b"6 0", 1);
+    assert!(rt; stops);
 }
 
 #[test]
@@ -83,22 +83,28 @@ fn stops_at_a_failed_read(rt: HostRuntime) {
     assert!(rt; error == Some(ReadAllError::Device) && failures == 1 && left == b"g 0".as_slice());
 }
 
+/// Whether a fault of writing has this number and text.
+fn is_named(alloc: Global, fault: &WriteError, name: &str) -> Result<bool, AllocError> {
+    let text = format!(in alloc; "{} {fault}", fault.code())?;
+    Ok(text.as_str() == name)
+}
+
+/// The same of a fault of reading.
+fn is_named_in_reading(
+    alloc: Global,
+    fault: &ReadAllError,
+    name: &str,
+) -> Result<bool, AllocError> {
+    let text = format!(in alloc; "{} {fault}", fault.code())?;
+    Ok(text.as_str() == name)
+}
+
 #[test]
 fn names_its_errors(rt: HostRuntime) -> Result<(), Fail> {
     let alloc = rt.alloc();
-    let device = WriteError::Device;
-    assert_eq!(rt;
-        format!(in alloc; "{} {device}", device.code())?.as_str(),
-        "1 device"
-    );
-    for (error, text) in [
-        (ReadAllError::NoMemory, "1 no memory"),
-        (ReadAllError::Device, "2 device"),
-    ] {
-        assert_eq!(rt;
-            format!(in alloc; "{} {error}", error.code())?.as_str(),
-            text
-        );
-    }
+    let named = is_named(alloc, &WriteError::Device, "1 device")?
+        && is_named_in_reading(alloc, &ReadAllError::NoMemory, "1 no memory")?
+        && is_named_in_reading(alloc, &ReadAllError::Device, "2 device")?;
+    assert!(rt; named);
     Ok(())
 }
