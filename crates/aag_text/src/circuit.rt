@@ -12,7 +12,8 @@ use std::alloc::Global;
 
 /// The circuit of sections that have all their items.
 pub(crate) fn resolve(alloc: Global, sections: Sections) -> Result<Circuit, ReadError>
-    ensures { (symbols : List RawSymbol) → IsAt sections symbols → reading.is_complete sections.header (raw_of sections symbols) ≡ true
+    ensures { (symbols : List RawSymbol) → IsAt sections symbols
+        → reading.is_complete sections.header (raw_of sections symbols) ≡ true
         → Gives (λ circuit. circuit) result (reading.resolve sections.header (raw_of sections symbols)) }
 {
     let Sections {

@@ -14,7 +14,8 @@ pub(crate) fn begin(
     piece: &[u8],
 ) -> Result<Option<Items>, ReadError>
     requires { length piece.now ≤ end }
-    ensures { (bytes : List ℕ) → Awaits line.old bytes → length (bytes ++ piece.now) ≡ end → Begins line.new (bytes ++ piece.now) result }
+    ensures { (bytes : List ℕ) → Awaits line.old bytes → length (bytes ++ piece.now) ≡ end
+        → Begins line.new (bytes ++ piece.now) result }
 {
     let Some((part, rest)) = cut(piece, b'\n') else {
         line.extend(piece);

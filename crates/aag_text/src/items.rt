@@ -42,7 +42,8 @@ impl Items {
     pub(crate) fn new(alloc: Global, header: Header, at: u64) -> Items
         requires { IsHeaderWithin header }
         ensures at { result.at ≡ at }
-        ensures stands { StandAt result.sections result.line at (reading.InItems header nothing_yet at) [] }
+        ensures stands { StandAt result.sections result.line at
+            (reading.InItems header nothing_yet at) [] }
     {
         let sections = Sections::new(alloc, header);
         let line = line_of(alloc, sections.section());
@@ -73,7 +74,8 @@ impl Items {
 
     /// The circuit of the items, which end at the offset.
     pub(crate) fn finish(self, end: u64) -> Result<Circuit, ReadError>
-        ensures { (bytes : List ℕ) → Hold self bytes → length bytes ≡ end → Gives (λ circuit. circuit) result (reading.read_bytes bytes) }
+        ensures { (bytes : List ℕ) → Hold self bytes → length bytes ≡ end
+            → Gives (λ circuit. circuit) result (reading.read_bytes bytes) }
     {
         let mut items = self;
         if items.at < end {
@@ -89,7 +91,8 @@ impl Items {
 
     /// Takes the open line, of which all bytes have come, and opens the next. After an `Err` the items are of no more use.
     fn take_line(&mut self) -> Result<(), ReadError>
-        ensures { (state : reading.State) (line : List ℕ) → StandAt self.old.sections self.old.line self.old.at state line
+        ensures { (state : reading.State) (line : List ℕ)
+            → StandAt self.old.sections self.old.line self.old.at state line
             → Leads (λ next. StandAt self.new.sections self.new.line (self.old.at + length line + 1) next []) result
             (reading.take_line state line) }
     {

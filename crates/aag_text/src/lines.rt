@@ -24,7 +24,8 @@ impl OpenLine {
     /// Takes the next bytes of the line. After an `Err` it is of no more use.
     pub(crate) fn extend(&mut self, part: &[u8]) -> Result<(), AllocError>
         ensures comment { is_comment self.new ≡ is_comment self.old }
-        ensures goes_on { OnOk result ((complete : Bool) (begun : List ℕ) → IsOpen self.old complete begun → IsOpen self.new complete (begun ++ part.now)) }
+        ensures goes_on { OnOk result ((complete : Bool) (begun : List ℕ)
+            → IsOpen self.old complete begun → IsOpen self.new complete (begun ++ part.now)) }
     {
         match self {
             OpenLine::Numbers(line) => line.extend(part),

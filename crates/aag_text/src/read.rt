@@ -31,7 +31,8 @@ fn read(alloc: Global, bytes: &[u8]) -> Result<Circuit, ReadError>
 
 /// The circuit of a file that ends with these bytes.
 fn read_rest(reader: &mut AagReader, bytes: &[u8]) -> Result<Circuit, ReadError>
-    ensures { (before : List ℕ) → Holds reader.old before → Gives (λ circuit. circuit) result (reading.read_bytes (before ++ bytes.now)) }
+    ensures { (before : List ℕ) → Holds reader.old before
+        → Gives (λ circuit. circuit) result (reading.read_bytes (before ++ bytes.now)) }
 {
     reader.feed(bytes)?;
     reader.finish()

@@ -64,10 +64,13 @@ impl AagReader {
     /// The first fault of the bytes so far, with its offset from the first piece on, and then each further call answers
     /// that same one; or `NoMemory`, also where the pieces come to `2^64` bytes, since no offset is that great.
     pub fn feed(&mut self, piece: &[u8]) -> Result<(), ReadError>
-        ensures holds { (bytes : List ℕ) → Holds self.old bytes → Holds self.new (bytes ++ piece.now) }
-        ensures fed { (bytes : List ℕ) → Holds self.old bytes → Follows (IsOk (fed (bytes ++ piece.now))) result (fed (bytes ++ piece.now)) }
+        ensures holds { (bytes : List ℕ) → Holds self.old bytes
+            → Holds self.new (bytes ++ piece.now) }
+        ensures fed { (bytes : List ℕ) → Holds self.old bytes
+            → Follows (IsOk (fed (bytes ++ piece.now))) result (fed (bytes ++ piece.now)) }
         ensures answer { result ≡ standing self.new }
-        ensures stays { (fault : ReadError) → standing self.old ≡ Err fault → standing self.new ≡ Err fault }
+        ensures stays { (fault : ReadError) → standing self.old ≡ Err fault
+            → standing self.new ≡ Err fault }
     {
         let answer = self.take(piece);
         if let Err(fault) = &answer {
@@ -83,10 +86,12 @@ impl AagReader {
     /// The first fault of the bytes, or `NoMemory`, and then each further call answers that same one. After a circuit each
     /// further call answers `BadHeader` at 0.
     pub fn finish(&mut self) -> Result<Circuit, ReadError>
-        ensures gives { (bytes : List ℕ) → Holds self.old bytes → Gives (λ circuit. circuit) result (reading.read_bytes bytes) }
+        ensures gives { (bytes : List ℕ) → Holds self.old bytes
+            → Gives (λ circuit. circuit) result (reading.read_bytes bytes) }
         ensures after { standing self.new ≡ Err (after_finish result) }
         ensures again { (fault : ReadError) → standing self.old ≡ Err fault → result ≡ Err fault }
-        ensures stays { (fault : ReadError) → standing self.old ≡ Err fault → standing self.new ≡ Err fault }
+        ensures stays { (fault : ReadError) → standing self.old ≡ Err fault
+            → standing self.new ≡ Err fault }
     {
         let phase = mem::replace(&mut self.phase, Phase::Failed(ReadError::BadHeader(0)));
         let circuit = end(self.alloc, phase, self.taken);
@@ -97,7 +102,8 @@ impl AagReader {
     }
 
     fn take(&mut self, piece: &[u8]) -> Result<(), ReadError>
-        ensures reads { (bytes : List ℕ) → Holds self.old bytes → Follows (Reads self.new (bytes ++ piece.now)) result (fed (bytes ++ piece.now)) }
+        ensures reads { (bytes : List ℕ) → Holds self.old bytes
+            → Follows (Reads self.new (bytes ++ piece.now)) result (fed (bytes ++ piece.now)) }
         ensures going { OnOk result (standing self.new ≡ Ok tt) }
         ensures stays { (fault : ReadError) → standing self.old ≡ Err fault → result ≡ Err fault }
     {
@@ -131,7 +137,8 @@ impl AagReader {
 
 /// How many bytes have come with this piece.
 fn joined_len(taken: u64, piece: &[u8]) -> Result<u64, ReadError>
-    ensures { MatchResult result (λ len. len ≡ taken + length piece.now) (λ error. error ≡ NoMemory) }
+    ensures { MatchResult result (λ len. len ≡ taken + length piece.now)
+        (λ error. error ≡ NoMemory) }
 {
     match taken.checked_add(piece.len() as u64) {
         Some(len) => Ok(len),
@@ -141,7 +148,8 @@ fn joined_len(taken: u64, piece: &[u8]) -> Result<u64, ReadError>
 
 /// The circuit of a file of this length that has come so far.
 fn end(alloc: Global, phase: Phase, len: u64) -> Result<Circuit, ReadError>
-    ensures gives { (bytes : List ℕ) → PhaseHolds phase len bytes → Gives (λ circuit. circuit) result (reading.read_bytes bytes) }
+    ensures gives { (bytes : List ℕ) → PhaseHolds phase len bytes
+        → Gives (λ circuit. circuit) result (reading.read_bytes bytes) }
     ensures stays { (fault : ReadError) → phase_standing phase ≡ Err fault → result ≡ Err fault }
 {
     match phase {

@@ -67,8 +67,10 @@ impl AnyReader {
     /// `BadHeader` at 0 with the third byte, where the first three are neither spelling's; else the first fault of the
     /// bytes so far, with its offset from the first piece on, or `NoMemory`. Then each further call answers that same one.
     pub fn feed(&mut self, piece: &[u8]) -> Result<(), ReadError>
-        ensures holds { (bytes : List ℕ) → Holds self.old bytes → Holds self.new (bytes ++ piece.now) }
-        ensures fed { (bytes : List ℕ) → Holds self.old bytes → Gives (λ u. u) result (fed_any (bytes ++ piece.now)) }
+        ensures holds { (bytes : List ℕ) → Holds self.old bytes
+            → Holds self.new (bytes ++ piece.now) }
+        ensures fed { (bytes : List ℕ) → Holds self.old bytes
+            → Gives (λ u. u) result (fed_any (bytes ++ piece.now)) }
         ensures fails { IfErr result (λ fault. fault_of self.new ≡ Some fault) }
         ensures stays { (fault : ReadError) → fault_of self.old ≡ Some fault → result ≡ Err fault }
     {
@@ -91,7 +93,8 @@ impl AnyReader {
     /// The first fault of the bytes, or `NoMemory`, and then each further call answers that same one. After a circuit each
     /// further call answers `BadHeader` at 0.
     pub fn finish(&mut self) -> Result<Circuit, ReadError>
-        ensures gives { (bytes : List ℕ) → Holds self.old bytes → Gives (λ circuit. circuit) result (read_any bytes) }
+        ensures gives { (bytes : List ℕ) → Holds self.old bytes
+            → Gives (λ circuit. circuit) result (read_any bytes) }
         ensures ends { OnOk result (fault_of self.new ≡ Some (BadHeader 0)) }
         ensures fails { IfErr result (λ fault. fault_of self.new ≡ Some fault) }
         ensures stays { (fault : ReadError) → fault_of self.old ≡ Some fault → result ≡ Err fault }

@@ -17,8 +17,10 @@ pub trait CircuitReader {
     ///
     /// The fault that the bytes have so far, whatever follows; `NoMemory` where memory is refused.
     fn feed(&mut self, piece: &[u8]) -> Result<(), ReadError>
-        ensures held { (bytes : List ℕ) → holds self.old bytes → OnOk result (holds self.new (bytes ++ piece.now)) }
-        ensures err { (bytes : List ℕ) → holds self.old bytes → IfErr result (IsFeedError (bytes ++ piece.now)) };
+        ensures held { (bytes : List ℕ) → holds self.old bytes
+            → OnOk result (holds self.new (bytes ++ piece.now)) }
+        ensures err { (bytes : List ℕ) → holds self.old bytes
+            → IfErr result (IsFeedError (bytes ++ piece.now)) };
 
     /// The circuit of the bytes, of which there are no more.
     ///
@@ -26,8 +28,10 @@ pub trait CircuitReader {
     ///
     /// The fault of the bytes; `NoMemory` where memory is refused.
     fn finish(&mut self) -> Result<Circuit, ReadError>
-        ensures ok { (bytes : List ℕ) → holds self.old bytes → IfOk result (λ circuit. read_any bytes ≡ Ok circuit) }
-        ensures err { (bytes : List ℕ) → holds self.old bytes → IfErr result (IsFinishError bytes) };
+        ensures ok { (bytes : List ℕ) → holds self.old bytes
+            → IfOk result (λ circuit. read_any bytes ≡ Ok circuit) }
+        ensures err { (bytes : List ℕ) → holds self.old bytes
+            → IfErr result (IsFinishError bytes) };
 
     /// The spelling that the first three bytes tell.
     fn spelling(&self) -> Option<Spelling>

@@ -26,7 +26,8 @@ pub fn read_any(alloc: Global, bytes: &[u8]) -> Result<Circuit, ReadError>
 
 /// The circuit of a file that ends with these bytes.
 fn read_rest(reader: &mut AnyReader, bytes: &[u8]) -> Result<Circuit, ReadError>
-    ensures { (before : List ℕ) → Holds reader.old before → Gives (λ circuit. circuit) result (read_any (before ++ bytes.now)) }
+    ensures { (before : List ℕ) → Holds reader.old before
+        → Gives (λ circuit. circuit) result (read_any (before ++ bytes.now)) }
 {
     match reader.feed(bytes) {
         Ok(()) => reader.finish(),

@@ -20,9 +20,12 @@ pub struct SpeltCircuit {
 /// The circuit of the bytes that were fed, of which there are no more.
 fn finished<C: CircuitReader>(circuits: &mut C) -> Result<SpeltCircuit, ReadError>
     requires { (bytes : List ℕ) × C.holds circuits.old bytes }
-    ensures ok { (bytes : List ℕ) → C.holds circuits.old bytes → IfOk result (λ spelt. read_any bytes ≡ Ok spelt.circuit) }
-    ensures spelling { (bytes : List ℕ) → C.holds circuits.old bytes → IfOk result (λ spelt. spelling_of bytes ≡ Some spelt.spelling) }
-    ensures err { (bytes : List ℕ) → C.holds circuits.old bytes → IfErr result (IsFinishError bytes) }
+    ensures ok { (bytes : List ℕ) → C.holds circuits.old bytes
+        → IfOk result (λ spelt. read_any bytes ≡ Ok spelt.circuit) }
+    ensures spelling { (bytes : List ℕ) → C.holds circuits.old bytes
+        → IfOk result (λ spelt. spelling_of bytes ≡ Some spelt.spelling) }
+    ensures err { (bytes : List ℕ) → C.holds circuits.old bytes
+        → IfErr result (IsFinishError bytes) }
 {
     let spelling = circuits.spelling();
     let circuit = circuits.finish()?;

@@ -18,11 +18,13 @@ pub(crate) fn next_piece<R: CountedRead>(
 ) -> Result<usize, ReadError>
     requires { 0 < length piece.old }
     ensures bound { IfOk result (λ n. n ≤ length piece.new) }
-    ensures ok { IfOk result (λ n. Consumes (R.input reader.old).bytes (R.input reader.new).bytes (take n piece.new)) }
+    ensures ok { IfOk result (λ n. Consumes (R.input reader.old).bytes (R.input reader.new).bytes
+        (take n piece.new)) }
     ensures end { IfOk result (λ n. n ≡ 0 → IsAtEnd (R.input reader.new).bytes) }
     ensures err { OnErr result (Keeps (R.input reader.old).bytes (R.input reader.new).bytes) }
     ensures device { IfErr result (λ e. e ≡ Device) }
-    ensures failures { (R.input reader.new).failures ≡ failures_after_read (R.input reader.old).failures result }
+    ensures failures { (R.input reader.new).failures
+        ≡ failures_after_read (R.input reader.old).failures result }
 {
     match reader.read_some(piece) {
         Ok(count) => Ok(count),

@@ -46,7 +46,8 @@ fn is_counted(aig: &Aig, inside: &[bool], marks: &[bool], var: u32) -> bool
 
 /// The number of known latches and gates inside that are marked.
 fn count_marked(aig: &Aig, inside: &[bool], marks: &[bool]) -> u32
-    ensures { result ≡ count_below (is_counted aig.now inside.now marks.now) (variables_end aig.now) }
+    ensures { result ≡ count_below (is_counted aig.now inside.now marks.now)
+        (variables_end aig.now) }
 {
     let mut total = 0;
     for var in aig.first_latch()..aig.variables() as u32 {

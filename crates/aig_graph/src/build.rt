@@ -74,7 +74,8 @@ impl AigBuilder {
     /// `TooLarge` where the variables would be more than a graph may have, and only there.
     pub fn new(alloc: Global, inputs: u32, resets: Vec<Reset>) -> Result<AigBuilder, BuildError>
         ensures ok { IfOk result (λ builder. builder ≡ without_gates inputs resets.items) }
-        ensures too_large { IsErrOf result BuildError.TooLarge ↔ (MAX_VARIABLES ≤ inputs + length resets.items) }
+        ensures too_large { IsErrOf result BuildError.TooLarge ↔
+            (MAX_VARIABLES ≤ inputs + length resets.items) }
     {
         let room = MAX_VARIABLES - 1;
         if inputs as usize > room || resets.len() > room - inputs as usize {
@@ -109,7 +110,8 @@ impl AigBuilder {
         requires b { IsLiteralOf self.old b }
         ensures ok { OnOk result (self.new ≡ with_gate self.old (gate_of a b)) }
         ensures literal { IfOk result (λ lit. lit ≡ 2 * variables_end self.old) }
-        ensures too_large { IsErrOf result BuildError.TooLarge ↔ (variables_end self.old ≡ MAX_VARIABLES) }
+        ensures too_large { IsErrOf result BuildError.TooLarge ↔
+            (variables_end self.old ≡ MAX_VARIABLES) }
         ensures err { OnErr result (self.new ≡ self.old) }
     {
         let variable = self.variables();

@@ -78,8 +78,10 @@ impl Aig {
 
     /// The graph of these parts, which are in range.
     pub fn from_parts(inputs: u32, latches: Vec<Latch>, gates: Vec<Gate>) -> Aig
-        requires { IsGraph (record { inputs = inputs; latches = latches.items; gates = gates.items }) }
-        ensures { result ≡ record { inputs = inputs; latches = latches.items; gates = gates.items } }
+        requires { IsGraph (record { inputs = inputs; latches = latches.items; gates =
+            gates.items }) }
+        ensures { result ≡ record { inputs = inputs; latches = latches.items; gates =
+            gates.items } }
     {
         Aig {
             inputs,
@@ -201,7 +203,8 @@ impl Aig {
 pub fn reset_value(aig: &Aig, values: &[bool], lit: Lit) -> bool
     requires past_inputs { first_latch aig.now ≤ variable lit }
     requires has_entry { variable lit - first_latch aig.now < length values.now }
-    ensures { result ≡ signed lit (slice_index_or values.now (variable lit - first_latch aig.now) false) }
+    ensures { result ≡ signed lit (slice_index_or values.now
+        (variable lit - first_latch aig.now) false) }
 {
     lit.value(values[(lit.var() - aig.first_latch()) as usize])
 }

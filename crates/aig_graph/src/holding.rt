@@ -47,7 +47,8 @@ impl From<AllocError> for KeepError {
 
 /// The names of the symbols.
 fn names_of<'a>(alloc: Global, symbols: &'a [Symbol]) -> Result<HashSet<&'a [u8]>, AllocError>
-    ensures { IfOk result (λ found. (q : List ℕ) → contains_by (λ k. bytes_eq q k.now) found ≡ has_name symbols.now q) }
+    ensures { IfOk result (λ found. (q : List ℕ) → contains_by (λ k. bytes_eq q k.now) found
+        ≡ has_name symbols.now q) }
 {
     let mut found = HashSet::new(alloc);
     for symbol in symbols {
@@ -58,7 +59,8 @@ fn names_of<'a>(alloc: Global, symbols: &'a [Symbol]) -> Result<HashSet<&'a [u8]
 
 /// The names, to be looked up.
 fn set_of<'a>(alloc: Global, names: &'a [Vec<u8>]) -> Result<HashSet<&'a [u8]>, AllocError>
-    ensures { IfOk result (λ found. (q : List ℕ) → contains_by (λ k. bytes_eq q k.now) found ≡ list_any (bytes_eq q) (map (λ name. name.items) names.now)) }
+    ensures { IfOk result (λ found. (q : List ℕ) → contains_by (λ k. bytes_eq q k.now) found
+        ≡ list_any (bytes_eq q) (map (λ name. name.items) names.now)) }
 {
     let mut found = HashSet::new(alloc);
     for name in names {
@@ -79,7 +81,8 @@ fn first_missing(
     symbols: &[Symbol],
     names: &[Vec<u8>],
 ) -> Result<Option<usize>, AllocError>
-    ensures { IfOk result (λ place. place ≡ first_missing symbols.now (map (λ name. name.items) names.now)) }
+    ensures { IfOk result (λ place. place ≡ first_missing symbols.now
+        (map (λ name. name.items) names.now)) }
 {
     let found = names_of(alloc, symbols)?;
     for (place, name) in names.iter().enumerate() {
@@ -92,7 +95,8 @@ fn first_missing(
 
 /// The positions of the symbols whose name is one of the names.
 fn held_by(alloc: Global, symbols: &[Symbol], names: &[Vec<u8>]) -> Result<Vec<u32>, AllocError>
-    ensures { IfOk result (λ positions. positions.items ≡ held_by (map (λ name. name.items) names.now) symbols.now) }
+    ensures { IfOk result (λ positions. positions.items
+        ≡ held_by (map (λ name. name.items) names.now) symbols.now) }
 {
     let wanted = set_of(alloc, names)?;
     let mut positions = Vec::new(alloc);
@@ -112,9 +116,13 @@ fn held_by(alloc: Global, symbols: &[Symbol], names: &[Vec<u8>]) -> Result<Vec<u
 ///
 /// `NoSuchName` with the place of the first name that no latch has; `NoMemory` where memory is refused.
 pub fn keep_of(alloc: Global, circuit: &Circuit, names: &[Vec<u8>]) -> Result<Keep, KeepError>
-    ensures ok { IfOk result (λ keep. keep ≡ held_by (map (λ name. name.items) names.now) circuit.now.symbols.latches) }
-    ensures none_missing { OnOk result (first_missing circuit.now.symbols.latches (map (λ name. name.items) names.now) ≡ None) }
-    ensures missing { (place : ℕ) → IsErrOf result (NoSuchName place) → first_missing circuit.now.symbols.latches (map (λ name. name.items) names.now) ≡ Some place }
+    ensures ok { IfOk result (λ keep. keep ≡ held_by
+        (map (λ name. name.items) names.now) circuit.now.symbols.latches) }
+    ensures none_missing { OnOk result (first_missing circuit.now.symbols.latches
+        (map (λ name. name.items) names.now) ≡ None) }
+    ensures missing { (place : ℕ) → IsErrOf result (NoSuchName place)
+        → first_missing circuit.now.symbols.latches (map (λ name. name.items) names.now)
+        ≡ Some place }
 {
     if names.is_empty() {
         return Ok(Keep::none());

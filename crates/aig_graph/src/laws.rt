@@ -14,7 +14,8 @@ pub fn value_laws()
 /// kept latches compose.
 pub fn stream_laws()
     ensures reflexive { (c : Netlist) → IsReflexive c }
-    ensures transitive { (c d e : Netlist) (first second : List ℕ) → IsTransitive c d e first second }
+    ensures transitive { (c d e : Netlist) (first second : List ℕ)
+        → IsTransitive c d e first second }
 {}
 
 /// A gate is passable exactly where each of its fan-ins' variables is a known latch that isn't held, or a passable gate.

@@ -23,7 +23,8 @@ fn mark_literals(read: &mut [bool], first: u32, lits: &[Lit])
 }
 
 fn mark_latches(read: &mut [bool], first: u32, latches: &[Latch])
-    ensures { Marks first read.old read.new (λ v. list_any (λ latch. reads v latch.next) latches.now) }
+    ensures { Marks first read.old read.new (λ v. list_any
+        (λ latch. reads v latch.next) latches.now) }
 {
     for latch in latches {
         mark_variable(read, first, latch.next.var());
@@ -56,7 +57,8 @@ fn mark_gates(read: &mut [bool], first: u32, inside: &[bool], first_gate: u32, g
 }
 
 fn mark_justice(read: &mut [bool], first: u32, justice: &[Sequence<Lit>])
-    ensures { Marks first read.old read.new (λ v. list_any (reads v) (flat_map (λ lits. lits) justice.now)) }
+    ensures { Marks first read.old read.new (λ v. list_any (reads v)
+        (flat_map (λ lits. lits) justice.now)) }
 {
     for lits in justice {
         mark_literals(read, first, lits.as_slice());
@@ -64,7 +66,8 @@ fn mark_justice(read: &mut [bool], first: u32, justice: &[Sequence<Lit>])
 }
 
 fn mark_props(read: &mut [bool], first: u32, props: &Props)
-    ensures { Marks first read.old read.new (λ v. list_any (reads v) (property_literals props.now)) }
+    ensures { Marks first read.old read.new (λ v. list_any (reads v)
+        (property_literals props.now)) }
 {
     mark_literals(read, first, props.outputs.as_slice());
     mark_literals(read, first, props.bad.as_slice());

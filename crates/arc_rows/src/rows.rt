@@ -16,7 +16,8 @@ fn push_excess(
     requires residuals { length residuals.now ≡ length heads.now }
     requires row { length row.old ≡ length heads.now }
     requires label { 0 < label }
-    ensures { IsRowOfPushes (row_admissible heads.now residuals.now labels.now label) excess row.new }
+    ensures { IsRowOfPushes (row_admissible heads.now residuals.now labels.now label)
+        excess row.new }
 {
     let down = label - 1;
     let mut left = excess;
@@ -45,7 +46,9 @@ pub fn write_pushes(
     requires heads { (k : ℕ) → k < length heads.now → slice_index heads.now k < length labels.now }
     requires residuals { length residuals.now ≡ length heads.now }
     requires row { length row.old ≡ length heads.now }
-    ensures { IsRowOfPushes (node_admissible (nat_lt 1 v && nat_lt 0 excess && nat_lt (slice_index labels.now v) nodes) heads.now residuals.now labels.now (slice_index labels.now v)) excess row.new }
+    ensures { IsRowOfPushes (node_admissible (nat_lt 1 v && nat_lt 0 excess && nat_lt
+        (slice_index labels.now v) nodes) heads.now residuals.now labels.now
+        (slice_index labels.now v)) excess row.new }
 {
     let label = labels[v as usize];
     if v > 1 && excess > 0 && label < nodes {
@@ -74,7 +77,9 @@ pub fn relabel(heads: &[u32], row: &[u32], labels: &[u32], nodes: u32) -> u32
     requires row { length row.now ≡ length heads.now }
     requires labels { (w : ℕ) → w < length labels.now → slice_index labels.now w ≤ nodes }
     requires nodes { nodes + 1 < 2 ^ 32 }
-    ensures { result ≡ least_below (length heads.now) (λ k. cond (nat_lt 0 (slice_index row.now k)) (slice_index labels.now (slice_index heads.now k) + 1) nodes) nodes }
+    ensures { result ≡ least_below (length heads.now)
+        (λ k. cond (nat_lt 0 (slice_index row.now k))
+        (slice_index labels.now (slice_index heads.now k) + 1) nodes) nodes }
 {
     let mut least = nodes;
     for k in 0..heads.len() {
@@ -87,10 +92,12 @@ pub fn relabel(heads: &[u32], row: &[u32], labels: &[u32], nodes: u32) -> u32
 /// Subtracts a row's own pushes from its residuals, and returns their sum.
 pub fn subtract_pushes(pushes: &[u32], row: &mut [u32]) -> u32
     requires len { length pushes.now ≡ length row.old }
-    requires within { (k : ℕ) → k < length row.old → slice_index pushes.now k ≤ slice_index row.old k }
+    requires within { (k : ℕ) → k < length row.old → slice_index pushes.now k ≤
+        slice_index row.old k }
     requires total { sum_below (length row.old) (slice_index pushes.now) < 2 ^ 32 }
     ensures sum { result ≡ sum_below (length row.old) (slice_index pushes.now) }
-    ensures row { (k : ℕ) → k < length row.old → slice_index row.new k ≡ slice_index row.old k - slice_index pushes.now k }
+    ensures row { (k : ℕ) → k < length row.old → slice_index row.new k
+        ≡ slice_index row.old k - slice_index pushes.now k }
 {
     let mut sum = 0;
     for k in 0..row.len() {

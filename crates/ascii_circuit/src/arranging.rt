@@ -69,7 +69,8 @@ pub(crate) fn gates(
     requires movable { AreMovable first ranks.now }
     requires order { All (λ g. g < length gates.now) order.now }
     requires below { All (IsGateBelow (first + length ranks.now)) gates.now }
-    ensures { IfOk result (λ found. found.items ≡ gates_in_order first ranks.now order.now gates.now) }
+    ensures { IfOk result (λ found. found.items ≡ gates_in_order first ranks.now order.now
+        gates.now) }
 {
     let mut found = Vec::with_capacity(alloc, order.len())?;
     for place in order {

@@ -36,7 +36,8 @@ impl RawLists {
     }
 
     fn are_counted(&self) -> bool
-        ensures { IsTrue result ↔ ((length self.now.inputs.items ≡ self.now.header.inputs) × (length self.now.latches.items ≡ self.now.header.latches)) }
+        ensures { IsTrue result ↔ ((length self.now.inputs.items ≡ self.now.header.inputs)
+            × (length self.now.latches.items ≡ self.now.header.latches)) }
     {
         self.inputs.len() == self.header.inputs as usize
             && self.latches.len() == self.header.latches as usize
@@ -44,7 +45,9 @@ impl RawLists {
 
     fn are_properties_counted(&self) -> bool
         requires within { IsHeaderWithin self.now.header }
-        ensures { IsTrue result ↔ ((length self.now.properties.safety ≡ safety_count self.now.header) × (length self.now.properties.sizes ≡ self.now.header.justice)
+        ensures { IsTrue result ↔ ((length self.now.properties.safety
+            ≡ safety_count self.now.header)
+            × (length self.now.properties.sizes ≡ self.now.header.justice)
             × (length self.now.properties.liveness ≡ sum self.now.properties.sizes + self.now.header.fairness)) }
     {
         let header = &self.header;
@@ -57,8 +60,11 @@ impl RawLists {
 
     /// The lists by places, or `Undefined`.
     pub(crate) fn placed(&self, alloc: Global) -> Result<Placed, ReadError>
-        requires { 1 + length self.now.inputs.items + length self.now.latches.items + length self.now.gates.items ≤ 2 ^ 28 }
-        ensures { Gives (λ p. p) result (placed_lists self.now.places (length self.now.inputs.items + length self.now.latches.items + length self.now.gates.items)
+        requires { 1 + length self.now.inputs.items + length self.now.latches.items + length
+            self.now.gates.items ≤ 2 ^ 28 }
+        ensures { Gives (λ p. p) result (placed_lists self.now.places
+            (length self.now.inputs.items + length self.now.latches.items + length
+            self.now.gates.items)
             self.now.latches.items self.now.properties.safety self.now.properties.liveness self.now.gates.items) }
     {
         let count = self.inputs.len() + self.latches.len() + self.gates.len();

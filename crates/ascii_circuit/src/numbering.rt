@@ -13,7 +13,8 @@ use variable_places::Places;
 /// The literal of the place of its variable, if that has one of so many.
 fn literal(places: &Places, count: u32, lit: u32) -> Option<Lit>
     requires few { count < 2 ^ 28 }
-    ensures { result ≡ (if is_placed places.now count lit then Some (placed places.now lit) else None) }
+    ensures { result ≡ (if is_placed places.now count lit then Some
+        (placed places.now lit) else None) }
 {
     if lit < 2 {
         return Some(Lit::new(0, lit == 1));
@@ -81,7 +82,8 @@ pub(crate) fn latches(
 /// The fan-ins of a gate, in the order of its line.
 fn gate(places: &Places, count: u32, raw: &RawGate) -> Option<Gate>
     requires few { count < 2 ^ 28 }
-    ensures { result ≡ (if is_gate_placed places.now count raw.now then Some (placed_gate places.now raw.now) else None) }
+    ensures { result ≡ (if is_gate_placed places.now count raw.now then Some
+        (placed_gate places.now raw.now) else None) }
 {
     let rhs0 = literal(places, count, raw.rhs0)?;
     let rhs1 = literal(places, count, raw.rhs1)?;

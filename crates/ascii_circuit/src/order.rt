@@ -39,7 +39,8 @@ fn reads_of(alloc: Global, first: u32, gates: &[Gate]) -> Result<Vec<Reads>, NoM
 pub(crate) fn order(alloc: Global, first: u32, gates: &[Gate]) -> Result<Vec<u32>, ReadError>
     requires few { length gates.now < 2 ^ 28 }
     requires in_file { AreReadsInFile (map (arranging.reads_of first) gates.now) }
-    ensures { Gives (λ order. order.items) result (order_or_cycle (ordered (map (arranging.reads_of first) gates.now))) }
+    ensures { Gives (λ order. order.items) result (order_or_cycle
+        (ordered (map (arranging.reads_of first) gates.now))) }
 {
     let Ok(reads) = reads_of(alloc, first, gates) else {
         return Err(ReadError::NoMemory);

@@ -38,7 +38,8 @@ pub(crate) fn place_all(
     gates: &[RawGate],
 ) -> Result<Placed, ReadError>
     requires few { count < 2 ^ 28 }
-    ensures { Gives (λ p. p) result (placed_lists places.now count latches.now safety.now liveness.now gates.now) }
+    ensures { Gives (λ p. p) result (placed_lists places.now count latches.now safety.now
+        liveness.now gates.now) }
 {
     let latches = numbering::latches(alloc, places, count, latches)?;
     let safety = numbering::literals(alloc, places, count, safety)?;

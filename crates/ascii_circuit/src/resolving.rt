@@ -33,7 +33,8 @@ fn graph(
     requires placed { ArePlaced header.now sizes.now placed.now }
     requires order { IsOrder (placed_reads header.now placed.now) order.now }
     requires ranks { AreRanks order.now ranks.now }
-    ensures { IfOk result (λ aig. aig ≡ graph_in_order header.now.inputs placed.now.latches placed.now.gates order.now ranks.now) }
+    ensures { IfOk result (λ aig. aig ≡ graph_in_order header.now.inputs placed.now.latches
+        placed.now.gates order.now ranks.now) }
 {
     let first = 1 + header.inputs + header.latches;
     let latches = arranging::latches(alloc, first, ranks, placed.latches.as_slice())?;
@@ -53,7 +54,9 @@ fn properties(
     requires placed { ArePlaced header.now sizes.now placed.now }
     requires order { IsOrder (placed_reads header.now placed.now) order.now }
     requires ranks { AreRanks order.now ranks.now }
-    ensures { IfOk result (λ props. props ≡ props_of header.now (map (moved (1 + header.now.inputs + header.now.latches) ranks.now) placed.now.safety) sizes.now
+    ensures { IfOk result (λ props. props ≡ props_of header.now
+        (map (moved
+        (1 + header.now.inputs + header.now.latches) ranks.now) placed.now.safety) sizes.now
         (map (moved (1 + header.now.inputs + header.now.latches) ranks.now) placed.now.liveness)) }
 {
     let _order = order;
@@ -80,7 +83,9 @@ fn without_names(
 ) -> Result<Unnamed, NoMemory>
     requires placed { ArePlaced header.now sizes.now placed.now }
     requires order { IsOrder (placed_reads header.now placed.now) order.now }
-    ensures { IfOk result (λ circuit. (names : Symbols) → IsArranged header.now sizes.now placed.now names order.now (record { aig = circuit.aig; props = circuit.props; symbols = names })) }
+    ensures { IfOk result (λ circuit. (names : Symbols)
+        → IsArranged header.now sizes.now placed.now names order.now
+        (record { aig = circuit.aig; props = circuit.props; symbols = names })) }
 {
     let ranks = ranks(alloc, order)?;
     let ranks = ranks.as_slice();
@@ -92,7 +97,8 @@ fn without_names(
 /// The circuit of a graph and its properties, with these names.
 fn named(alloc: Global, aig: Aig, props: Props, names: Names) -> Result<Circuit, NoMemory>
     requires { IsNetlist (record { aig = aig; props = props; symbols = names }) }
-    ensures { IfOk result (λ circuit. circuit ≡ record { aig = aig; props = props; symbols = names }) }
+    ensures { IfOk result (λ circuit. circuit ≡ record
+        { aig = aig; props = props; symbols = names }) }
 {
     let symbols = names.into_symbols(alloc)?;
     Ok(Circuit::new(aig, props, symbols))
@@ -110,7 +116,8 @@ fn circuit(
     requires placed { ArePlaced header.now sizes.now placed.now }
     requires order { IsOrder (placed_reads header.now placed.now) order.now }
     requires names { AreNamesWithin header.now names }
-    ensures { IfOk result (λ circuit. IsArranged header.now sizes.now placed.now names order.now circuit) }
+    ensures { IfOk result (λ circuit. IsArranged header.now sizes.now placed.now names
+        order.now circuit) }
 {
     match without_names(alloc, header, sizes, placed, order) {
         Ok(Unnamed { aig, props }) => named(alloc, aig, props, names),
@@ -129,7 +136,8 @@ fn in_order(
     requires placed { ArePlaced header.now sizes.now placed }
     requires names { AreNamesWithin header.now names }
     ensures ok { IfOk result (λ circuit. IsOrdered header.now sizes.now placed names circuit) }
-    ensures err { IfErr result (λ e. Fails e (order_or_cycle (ordered (placed_reads header.now placed)))) }
+    ensures err { IfErr result (λ e. Fails e (order_or_cycle
+        (ordered (placed_reads header.now placed)))) }
 {
     let first = 1 + header.inputs + header.latches;
     let order = order(alloc, first, placed.gates.as_slice())?;
@@ -151,8 +159,10 @@ fn in_order(
 /// `Undefined`.
 pub fn resolve(alloc: Global, lists: RawLists) -> Result<Circuit, ReadError>
     requires within { IsHeaderWithin lists.header }
-    requires small { 1 + length lists.inputs.items + length lists.latches.items + length lists.gates.items ≤ 2 ^ 28 }
-    ensures { (symbols : List RawSymbol) → AreRead lists symbols → Gives (λ circuit. circuit) result (reading.resolve lists.header (raw_of lists symbols)) }
+    requires small { 1 + length lists.inputs.items + length lists.latches.items + length
+        lists.gates.items ≤ 2 ^ 28 }
+    ensures { (symbols : List RawSymbol) → AreRead lists symbols
+        → Gives (λ circuit. circuit) result (reading.resolve lists.header (raw_of lists symbols)) }
 {
     if !lists.are_consistent() {
         return Err(ReadError::Undefined);

@@ -69,7 +69,8 @@ impl Sections {
 
     /// The section of the next item: the first that has fewer items than the header says.
     pub fn section(&self) -> Section
-        ensures { (symbols : List RawSymbol) → result ≡ reading.next_section self.now.header (raw_of self.now symbols) }
+        ensures { (symbols : List RawSymbol) → result
+            ≡ reading.next_section self.now.header (raw_of self.now symbols) }
     {
         let header = &self.header;
         let safety = header.outputs + header.bad + header.constraints;
@@ -93,8 +94,10 @@ impl Sections {
 
     /// Whether all items but symbols have come.
     pub fn is_complete(&self) -> bool
-        ensures value { (symbols : List RawSymbol) → result ≡ reading.is_complete self.now.header (raw_of self.now symbols) }
-        ensures counted { (symbols : List RawSymbol) → IsAt self.now symbols → IsTrue result → IsCountedBy self.now.header (raw_of self.now symbols) }
+        ensures value { (symbols : List RawSymbol) → result
+            ≡ reading.is_complete self.now.header (raw_of self.now symbols) }
+        ensures counted { (symbols : List RawSymbol) → IsAt self.now symbols → IsTrue result
+            → IsCountedBy self.now.header (raw_of self.now symbols) }
     {
         matches!(self.section(), Section::Symbols)
     }
@@ -106,7 +109,8 @@ impl Sections {
     ///
     /// The fault of the line, or `NoMemory`.
     pub fn take_numbers(&mut self, at: u64, numbers: Option<&[u32]>) -> Result<(), ReadError>
-        ensures { (symbols : List RawSymbol) (line : List ℕ) → IsAt self.old symbols → reading.is_complete self.old.header (raw_of self.old symbols) ≡ false
+        ensures { (symbols : List RawSymbol) (line : List ℕ) → IsAt self.old symbols
+            → reading.is_complete self.old.header (raw_of self.old symbols) ≡ false
             → MatchOption numbers.entry (row_of line ≡ None) (λ ns. row_of line ≡ Some ns.now)
             → Takes self.old self.new result (reading.read_line self.old.header (raw_of self.old symbols) at line) }
     {
@@ -131,7 +135,8 @@ impl Sections {
     ///
     /// The fault of the line, or `NoMemory`.
     pub fn take_symbol(&mut self, at: u64, text: SymbolText) -> Result<(), ReadError>
-        ensures { (symbols : List RawSymbol) (line : List ℕ) → IsAt self.old symbols → reading.is_complete self.old.header (raw_of self.old symbols) ≡ true
+        ensures { (symbols : List RawSymbol) (line : List ℕ) → IsAt self.old symbols
+            → reading.is_complete self.old.header (raw_of self.old symbols) ≡ true
             → begins_comment line ≡ false → text ≡ text_of line
             → Takes self.old self.new result (reading.read_line self.old.header (raw_of self.old symbols) at line) }
     {
@@ -246,7 +251,8 @@ impl Sections {
         position: u32,
         name: Sequence<u8>,
     ) -> Result<(), ReadError>
-        ensures { (symbols : List RawSymbol) → IsAt self.old symbols → reading.next_section self.old.header (raw_of self.old symbols) ≡ Symbols
+        ensures { (symbols : List RawSymbol) → IsAt self.old symbols
+            → reading.next_section self.old.header (raw_of self.old symbols) ≡ Symbols
             → Takes self.old self.new result (reading.take_item self.old.header (raw_of self.old symbols) at (BadSymbol at) (Some (SymbolItem (symbol_at kind position name)))) }
     {
         if position >= self.header.count_of(kind) {

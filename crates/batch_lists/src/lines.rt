@@ -3,7 +3,8 @@ ghost use Rattle.batch_lists.specs.Cutting.{Cuts};
 
 /// The first line of the bytes and what follows its newline, or `None` where no byte is left.
 pub(crate) fn next_line(bytes: &[u8]) -> Option<(&[u8], &[u8])>
-    ensures { MatchOption result (bytes.now ≡ []) (λ parts. Cuts bytes.now parts.0.now parts.1.now) }
+    ensures { MatchOption result (bytes.now ≡ []) (λ parts.
+        Cuts bytes.now parts.0.now parts.1.now) }
 {
     if bytes.is_empty() {
         return None;

@@ -31,7 +31,8 @@ pub fn read_list(alloc: Global, bytes: &[u8]) -> Result<Vec<Entry<'_>>, ListErro
 
 /// Takes a line.
 fn read_line<'a>(entries: &mut Vec<Entry<'a>>, line: &'a [u8], offset: u64) -> Result<(), ListError>
-    ensures { Gives (λ _. map paths entries.new.items) result (lists.read_line offset (map paths entries.old.items) line.now) }
+    ensures { Gives (λ _. map paths entries.new.items) result
+        (lists.read_line offset (map paths entries.old.items) line.now) }
 {
     let Some(entry) = entry_of(line) else {
         return Err(ListError::BadLine(offset));

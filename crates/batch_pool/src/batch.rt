@@ -28,11 +28,15 @@ pub fn run_batch<G: PhaseGate>(
     crew: &Crew<G>,
 ) -> Result<Vec<Outcome>, BatchError>
     ensures len { IfOk result (λ outcomes. length outcomes.items ≡ length jobs.now) }
-    ensures each { IfOk result (λ outcomes. (k : ℕ) (job : Job) (outcome : Outcome) → k < length jobs.now → IsOutcome (slice_index_or jobs.now k job).bytes.items options.now (slice_index_or outcomes.items k outcome)) }
+    ensures each { IfOk result (λ outcomes. (k : ℕ) (job : Job) (outcome : Outcome)
+        → k < length jobs.now
+        → IsOutcome (slice_index_or jobs.now k job).bytes.items options.now
+        (slice_index_or outcomes.items k outcome)) }
 {
     let retime = |number: u64| -> Outcome
         requires { number < length jobs.now }
-        ensures { (job : Job) → IsOutcome (slice_index_or jobs.entry.now number job).bytes.items options.entry.now result }
+        ensures { (job : Job) → IsOutcome (slice_index_or jobs.entry.now number job).bytes.items
+            options.entry.now result }
     { retime_file(rt, alloc, jobs[number as usize].bytes.as_slice(), options) };
     let outcomes = run_jobs(rt, alloc, jobs.len() as u64, &retime, crew)?;
     Ok(outcomes)

@@ -43,7 +43,8 @@ pub enum Outcome {
 /// The outcome of a circuit that was retimed, and its text.
 fn done(retimed: Retimed, bytes: Vec<u8>) -> Outcome
     requires { length retimed.frames < 2 ^ 32 }
-    ensures { result ≡ Done bytes retimed.read_latches (length retimed.circuit.aig.latches) (length retimed.frames) }
+    ensures { result ≡ Done bytes retimed.read_latches (length retimed.circuit.aig.latches)
+        (length retimed.frames) }
 {
     let before = retimed.read_latches;
     let after = retimed.circuit.aig().latches().len() as u32;

@@ -13,9 +13,11 @@ pub(crate) fn take_delta<'a>(
     piece: &'a [u8],
 ) -> Result<(Option<u64>, &'a [u8]), DeltaError>
     requires { 0 < length piece.now }
-    ensures taken { (at : ℕ) (state : List ℕ → State) (end_delta : List ℕ → Result State ReadError) → AreDeltaStates at state end_delta
+    ensures taken { (at : ℕ) (state : List ℕ → State) (end_delta : List ℕ → Result State ReadError)
+        → AreDeltaStates at state end_delta
         → IfOk result (λ taken. IsTaken state end_delta reader.old reader.new piece.now taken.0 taken.1.now) }
-    ensures too_long { (at : ℕ) (state : List ℕ → State) (end_delta : List ℕ → Result State ReadError) → AreDeltaStates at state end_delta
+    ensures too_long { (at : ℕ) (state : List ℕ → State) (end_delta : List ℕ
+        → Result State ReadError) → AreDeltaStates at state end_delta
         → OnErr result (feed (state reader.old) piece.now ≡ Err (BadDelta at)) }
     ensures shorter { IfOk result (λ taken. length taken.1.now < length piece.now) }
 {
@@ -33,9 +35,11 @@ fn take_new<'a>(
 ) -> Result<(Option<u64>, &'a [u8]), DeltaError>
     requires some { 0 < length piece.now }
     requires new { reader.old ≡ [] }
-    ensures taken { (at : ℕ) (state : List ℕ → State) (end_delta : List ℕ → Result State ReadError) → AreDeltaStates at state end_delta
+    ensures taken { (at : ℕ) (state : List ℕ → State) (end_delta : List ℕ → Result State ReadError)
+        → AreDeltaStates at state end_delta
         → IfOk result (λ taken. IsTaken state end_delta reader.old reader.new piece.now taken.0 taken.1.now) }
-    ensures too_long { (at : ℕ) (state : List ℕ → State) (end_delta : List ℕ → Result State ReadError) → AreDeltaStates at state end_delta
+    ensures too_long { (at : ℕ) (state : List ℕ → State) (end_delta : List ℕ
+        → Result State ReadError) → AreDeltaStates at state end_delta
         → OnErr result (feed (state reader.old) piece.now ≡ Err (BadDelta at)) }
     ensures shorter { IfOk result (λ taken. length taken.1.now < length piece.now) }
 {
@@ -51,9 +55,11 @@ fn take_byte<'a>(
     piece: &'a [u8],
 ) -> Result<(Option<u64>, &'a [u8]), DeltaError>
     requires { 0 < length piece.now }
-    ensures taken { (at : ℕ) (state : List ℕ → State) (end_delta : List ℕ → Result State ReadError) → AreDeltaStates at state end_delta
+    ensures taken { (at : ℕ) (state : List ℕ → State) (end_delta : List ℕ → Result State ReadError)
+        → AreDeltaStates at state end_delta
         → IfOk result (λ taken. IsTaken state end_delta reader.old reader.new piece.now taken.0 taken.1.now) }
-    ensures too_long { (at : ℕ) (state : List ℕ → State) (end_delta : List ℕ → Result State ReadError) → AreDeltaStates at state end_delta
+    ensures too_long { (at : ℕ) (state : List ℕ → State) (end_delta : List ℕ
+        → Result State ReadError) → AreDeltaStates at state end_delta
         → OnErr result (feed (state reader.old) piece.now ≡ Err (BadDelta at)) }
     ensures shorter { IfOk result (λ taken. length taken.1.now < length piece.now) }
 {

@@ -12,7 +12,8 @@ use file_words::ReadError;
 
 /// The header of a binary file that the line spells, of which all bytes have come.
 pub(crate) fn binary_header(line: &mut HeaderLine) -> Result<Header, ReadError>
-    ensures header { (bytes : List ℕ) → header_with line.old [] ≡ header_row (codes "aig ") bytes → result ≡ reading.read_header bytes }
+    ensures header { (bytes : List ℕ) → header_with line.old [] ≡ header_row (codes "aig ") bytes
+        → result ≡ reading.read_header bytes }
     ensures within { IfOk result IsHeaderWithin }
 {
     match line.limited() {

@@ -61,7 +61,8 @@ impl Items {
 
     /// Begins the next item, at the offset.
     fn begin(&mut self, alloc: Global, at: u64)
-        ensures { (h : Header) (raw : Raw) → IsAt self.old.sections h raw → Stands self.new at (before_item h raw at) }
+        ensures { (h : Header) (raw : Raw) → IsAt self.old.sections h raw
+            → Stands self.new at (before_item h raw at) }
     {
         self.opened = Opened::new(alloc, self.sections.section());
         self.at = at;
@@ -69,7 +70,8 @@ impl Items {
 
     /// Takes the newline of a line of numbers; the next item begins at the offset.
     fn end_numbers(&mut self, alloc: Global, line: NumberLine, after: u64) -> Result<(), ReadError>
-        ensures { (state : State) (offset : ℕ) → IsInNumbers self.old.sections self.old.at offset line state → offset + 1 ≡ after → Reaches self.new after result (step state 10) }
+        ensures { (state : State) (offset : ℕ) → IsInNumbers self.old.sections self.old.at offset
+            line state → offset + 1 ≡ after → Reaches self.new after result (step state 10) }
     {
         match take_numbers(&mut self.sections, self.at, line) {
             Ok(()) => self.begin(alloc, after),
@@ -80,7 +82,8 @@ impl Items {
 
     /// Takes the newline of a line after the gates; the next one begins at the offset.
     fn end_symbol(&mut self, alloc: Global, line: SymbolLine, after: u64) -> Result<(), ReadError>
-        ensures { (state : State) (offset : ℕ) → IsInSymbol self.old.sections self.old.at offset line state → offset + 1 ≡ after → Reaches self.new after result (step state 10) }
+        ensures { (state : State) (offset : ℕ) → IsInSymbol self.old.sections self.old.at offset
+            line state → offset + 1 ≡ after → Reaches self.new after result (step state 10) }
     {
         match take_text(&mut self.sections, self.at, line) {
             Ok(true) => self.begin(alloc, after),
@@ -92,7 +95,9 @@ impl Items {
 
     /// Takes the delta of a gate's first fan-in; the second delta begins at the offset.
     fn end_first(&mut self, number: u64, after: u64) -> Result<(), ReadError>
-        ensures { (h : Header) (raw : Raw) (delta : List ℕ) → IsAt self.old.sections h raw → next_section h raw ≡ Gates → number ≡ delta_value delta → self.old.at + length delta ≡ after
+        ensures { (h : Header) (raw : Raw) (delta : List ℕ) → IsAt self.old.sections h raw
+            → next_section h raw ≡ Gates → number ≡ delta_value delta
+            → self.old.at + length delta ≡ after
             → Reaches self.new after result (end_first h raw self.old.at delta) }
     {
         match self.sections.first_fan_in(self.at, number) {
@@ -111,7 +116,9 @@ impl Items {
         number: u64,
         after: u64,
     ) -> Result<(), ReadError>
-        ensures { (h : Header) (raw : Raw) (delta : List ℕ) → IsAt self.old.sections h raw → next_section h raw ≡ Gates → rhs0 < next_gate h raw → number ≡ delta_value delta → self.old.at + length delta ≡ after
+        ensures { (h : Header) (raw : Raw) (delta : List ℕ) → IsAt self.old.sections h raw
+            → next_section h raw ≡ Gates → rhs0 < next_gate h raw → number ≡ delta_value delta
+            → self.old.at + length delta ≡ after
             → Reaches self.new after result (end_second h raw self.old.at rhs0 delta) }
     {
         match self.sections.take_gate(self.at, rhs0, number) {
@@ -129,8 +136,11 @@ impl Items {
         end: u64,
         piece: &'a [u8],
     ) -> Result<&'a [u8], ReadError>
-        ensures fed { (state : State) (offset : ℕ) → IsInNumbers self.old.sections self.old.at offset line state → offset + length piece.now ≡ end → Feeds self.new end state piece.now result }
-        ensures shorter { 0 < length piece.now → IfOk result (λ left. length left.now < length piece.now) }
+        ensures fed { (state : State) (offset : ℕ) → IsInNumbers self.old.sections self.old.at
+            offset line state → offset + length piece.now ≡ end
+            → Feeds self.new end state piece.now result }
+        ensures shorter { 0 < length piece.now → IfOk result
+            (λ left. length left.now < length piece.now) }
     {
         let mut line = line;
         match cut(piece, b'\n') {
@@ -157,8 +167,11 @@ impl Items {
         end: u64,
         piece: &'a [u8],
     ) -> Result<&'a [u8], ReadError>
-        ensures fed { (state : State) (offset : ℕ) → IsInSymbol self.old.sections self.old.at offset line state → offset + length piece.now ≡ end → Feeds self.new end state piece.now result }
-        ensures shorter { 0 < length piece.now → IfOk result (λ left. length left.now < length piece.now) }
+        ensures fed { (state : State) (offset : ℕ) → IsInSymbol self.old.sections self.old.at offset
+            line state → offset + length piece.now ≡ end
+            → Feeds self.new end state piece.now result }
+        ensures shorter { 0 < length piece.now → IfOk result
+            (λ left. length left.now < length piece.now) }
     {
         let mut line = line;
         match cut(piece, b'\n') {
@@ -185,7 +198,9 @@ impl Items {
         piece: &'a [u8],
     ) -> Result<&'a [u8], ReadError>
         requires { 0 < length piece.now }
-        ensures fed { (state : State) (offset : ℕ) → IsInFirst self.old.sections self.old.at offset delta state → offset + length piece.now ≡ end → Feeds self.new end state piece.now result }
+        ensures fed { (state : State) (offset : ℕ) → IsInFirst self.old.sections self.old.at offset
+            delta state → offset + length piece.now ≡ end
+            → Feeds self.new end state piece.now result }
         ensures shorter { IfOk result (λ left. length left.now < length piece.now) }
     {
         let mut delta = delta;
@@ -212,7 +227,9 @@ impl Items {
         piece: &'a [u8],
     ) -> Result<&'a [u8], ReadError>
         requires { 0 < length piece.now }
-        ensures fed { (state : State) (offset : ℕ) → IsInSecond self.old.sections self.old.at offset rhs0 delta state → offset + length piece.now ≡ end → Feeds self.new end state piece.now result }
+        ensures fed { (state : State) (offset : ℕ) → IsInSecond self.old.sections self.old.at offset
+            rhs0 delta state → offset + length piece.now ≡ end
+            → Feeds self.new end state piece.now result }
         ensures shorter { IfOk result (λ left. length left.now < length piece.now) }
     {
         let mut delta = delta;
@@ -242,7 +259,8 @@ impl Items {
         piece: &'a [u8],
     ) -> Result<&'a [u8], ReadError>
         requires { 0 < length piece.now }
-        ensures fed { (state : State) (offset : ℕ) → Stands self.old offset state → offset + length piece.now ≡ end → Feeds self.new end state piece.now result }
+        ensures fed { (state : State) (offset : ℕ) → Stands self.old offset state
+            → offset + length piece.now ≡ end → Feeds self.new end state piece.now result }
         ensures shorter { IfOk result (λ left. length left.now < length piece.now) }
     {
         match mem::replace(&mut self.opened, Opened::Comment) {
@@ -256,7 +274,8 @@ impl Items {
 
     /// Takes a piece that ends at the offset.
     pub(crate) fn feed(&mut self, alloc: Global, end: u64, piece: &[u8]) -> Result<(), ReadError>
-        ensures { (state : State) (offset : ℕ) → Stands self.old offset state → offset + length piece.now ≡ end → Reaches self.new end result (feed state piece.now) }
+        ensures { (state : State) (offset : ℕ) → Stands self.old offset state
+            → offset + length piece.now ≡ end → Reaches self.new end result (feed state piece.now) }
     {
         let mut left = piece;
         while !left.is_empty() {
@@ -267,7 +286,8 @@ impl Items {
 
     /// The circuit of an input that ends here, at the offset.
     pub(crate) fn finish(self, alloc: Global, end: u64) -> Result<Circuit, ReadError>
-        ensures { (state : State) → Stands self end state → Gives (λ c. c) result (circuit_at end state) }
+        ensures { (state : State) → Stands self end state
+            → Gives (λ c. c) result (circuit_at end state) }
     {
         let Items {
             sections,
@@ -292,7 +312,8 @@ fn finish_numbers(
     line: NumberLine,
     end: u64,
 ) -> Result<Circuit, ReadError>
-    ensures { (state : State) → IsInNumbers sections at end line state → Gives (λ c. c) result (circuit_at end state) }
+    ensures { (state : State) → IsInNumbers sections at end line state
+        → Gives (λ c. c) result (circuit_at end state) }
 {
     if at == end {
         return sections.finish(alloc, end);
@@ -312,7 +333,8 @@ fn finish_symbol(
     line: SymbolLine,
     end: u64,
 ) -> Result<Circuit, ReadError>
-    ensures { (state : State) → IsInSymbol sections at end line state → Gives (λ c. c) result (circuit_at end state) }
+    ensures { (state : State) → IsInSymbol sections at end line state
+        → Gives (λ c. c) result (circuit_at end state) }
 {
     if at == end {
         return sections.finish(alloc, end);

@@ -34,7 +34,8 @@ pub(crate) enum Opened {
 impl Opened {
     /// The next item of a section, of which no byte has come.
     pub(crate) fn new(alloc: Global, section: Section) -> Opened
-        ensures { (c : Contents) (h : Header) (raw : Raw) (at : ℕ) → IsAt c h raw → section ≡ next_section h raw → IsOpened c at at result (before_item h raw at) }
+        ensures { (c : Contents) (h : Header) (raw : Raw) (at : ℕ) → IsAt c h raw
+            → section ≡ next_section h raw → IsOpened c at at result (before_item h raw at) }
     {
         match section {
             Section::Gates => Opened::First(DeltaReader::new()),
@@ -50,7 +51,8 @@ pub(crate) fn take_numbers(
     at: u64,
     line: NumberLine,
 ) -> Result<(), ReadError>
-    ensures { (h : Header) (raw : Raw) (bytes : List ℕ) → IsAt sections.old h raw → is_symbols (next_section h raw) ≡ false → IsNumbers line bytes
+    ensures { (h : Header) (raw : Raw) (bytes : List ℕ) → IsAt sections.old h raw
+        → is_symbols (next_section h raw) ≡ false → IsNumbers line bytes
         → Takes h sections.new result (read_line h raw at bytes) }
 {
     let mut line = line;
@@ -63,7 +65,8 @@ pub(crate) fn take_text(
     at: u64,
     line: SymbolLine,
 ) -> Result<bool, ReadError>
-    ensures { (h : Header) (raw : Raw) (bytes : List ℕ) → IsAt sections.old h raw → next_section h raw ≡ Symbols → IsText line bytes
+    ensures { (h : Header) (raw : Raw) (bytes : List ℕ) → IsAt sections.old h raw
+        → next_section h raw ≡ Symbols → IsText line bytes
         → TakesText h sections.new raw at bytes result }
 {
     match line.text() {

@@ -51,7 +51,8 @@ impl AigReader {
     /// The first fault of the bytes so far, as soon as its last byte has come, with its offset from the first piece on; or
     /// `NoMemory`, also where the pieces come to `2^64` bytes, since no offset is that great. Every later call answers the same.
     pub fn feed(&mut self, piece: &[u8]) -> Result<(), ReadError>
-        ensures held { (bytes : List ℕ) → Holds self.old bytes → Holds self.new (bytes ++ piece.now) × Answers result (bytes ++ piece.now) }
+        ensures held { (bytes : List ℕ) → Holds self.old bytes → Holds self.new (bytes ++ piece.now)
+            × Answers result (bytes ++ piece.now) }
         ensures fails { IfErr result (λ fault. fault_of self.new ≡ Some fault) }
         ensures stays { (fault : ReadError) → fault_of self.old ≡ Some fault → result ≡ Err fault }
     {
@@ -80,7 +81,8 @@ impl AigReader {
     ///
     /// The first fault of the file; `NoMemory`. Every later call answers the same.
     pub fn finish(&mut self) -> Result<Circuit, ReadError>
-        ensures circuit { (bytes : List ℕ) → Holds self.old bytes → Gives (λ c. c) result (read_binary bytes) }
+        ensures circuit { (bytes : List ℕ) → Holds self.old bytes
+            → Gives (λ c. c) result (read_binary bytes) }
         ensures ends { OnOk result (fault_of self.new ≡ Some (BadHeader 0)) }
         ensures fails { IfErr result (λ fault. fault_of self.new ≡ Some fault) }
         ensures stays { (fault : ReadError) → fault_of self.old ≡ Some fault → result ≡ Err fault }
@@ -117,7 +119,8 @@ pub fn read_aig(alloc: Global, bytes: &[u8]) -> Result<Circuit, ReadError>
 
 /// The circuit of a file that ends with these bytes.
 fn read_rest(reader: &mut AigReader, bytes: &[u8]) -> Result<Circuit, ReadError>
-    ensures { (before : List ℕ) → Holds reader.old before → Gives (λ c. c) result (read_binary (before ++ bytes.now)) }
+    ensures { (before : List ℕ) → Holds reader.old before
+        → Gives (λ c. c) result (read_binary (before ++ bytes.now)) }
 {
     match reader.feed(bytes) {
         Ok(()) => reader.finish(),

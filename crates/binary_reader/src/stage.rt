@@ -37,7 +37,9 @@ impl Stage {
 
     /// Takes a piece that ends at the offset.
     pub(crate) fn feed(self, alloc: Global, end: u64, piece: &[u8]) -> Result<Stage, ReadError>
-        ensures held { (bytes : List ℕ) → HoldsStage self bytes → (failure self ≡ None → length bytes + length piece.now ≡ end) → HoldsResult result (bytes ++ piece.now) }
+        ensures held { (bytes : List ℕ) → HoldsStage self bytes
+            → (failure self ≡ None → length bytes + length piece.now ≡ end)
+            → HoldsResult result (bytes ++ piece.now) }
         ensures stays { (fault : ReadError) → failure self ≡ Some fault → result ≡ Err fault }
     {
         match self {
@@ -49,7 +51,9 @@ impl Stage {
 
     /// The circuit of an input that ends here, at the offset.
     pub(crate) fn finish(self, alloc: Global, end: u64) -> Result<Circuit, ReadError>
-        ensures circuit { (bytes : List ℕ) → HoldsStage self bytes → (failure self ≡ None → length bytes ≡ end) → Gives (λ c. c) result (read_binary bytes) }
+        ensures circuit { (bytes : List ℕ) → HoldsStage self bytes
+            → (failure self ≡ None → length bytes ≡ end)
+            → Gives (λ c. c) result (read_binary bytes) }
         ensures stays { (fault : ReadError) → failure self ≡ Some fault → result ≡ Err fault }
     {
         match self {
@@ -61,7 +65,8 @@ impl Stage {
 
     /// Why a piece is refused whose end has no offset.
     pub(crate) fn refusal(&self) -> ReadError
-        ensures held { (bytes more : List ℕ) → HoldsStage self.now bytes → Fails result (reading.feed (reading.AtHeader []) (bytes ++ more)) }
+        ensures held { (bytes more : List ℕ) → HoldsStage self.now bytes
+            → Fails result (reading.feed (reading.AtHeader []) (bytes ++ more)) }
         ensures stays { (fault : ReadError) → failure self.now ≡ Some fault → result ≡ fault }
     {
         match self {
@@ -73,7 +78,8 @@ impl Stage {
 
 /// Takes a piece after the first line.
 fn feed_items(alloc: Global, items: Items, end: u64, piece: &[u8]) -> Result<Stage, ReadError>
-    ensures { (bytes : List ℕ) (state : State) → feed (reading.AtHeader []) bytes ≡ Ok state → Stands items (length bytes) state → length bytes + length piece.now ≡ end
+    ensures { (bytes : List ℕ) (state : State) → feed (reading.AtHeader []) bytes ≡ Ok state
+        → Stands items (length bytes) state → length bytes + length piece.now ≡ end
         → HoldsResult result (bytes ++ piece.now) }
 {
     let mut items = items;
@@ -91,7 +97,8 @@ fn feed_first_items(
     piece: &[u8],
 ) -> Result<Stage, ReadError>
     requires { IsHeaderWithin header }
-    ensures { (bytes : List ℕ) → feed (reading.AtHeader []) bytes ≡ Ok (before_item header nothing_yet (length bytes)) → length bytes + length piece.now ≡ end
+    ensures { (bytes : List ℕ) → feed (reading.AtHeader []) bytes
+        ≡ Ok (before_item header nothing_yet (length bytes)) → length bytes + length piece.now ≡ end
         → HoldsResult result (bytes ++ piece.now) }
 {
     let items = Items::new(alloc, header, offset_of(piece, end));
@@ -100,7 +107,8 @@ fn feed_first_items(
 
 /// Takes a piece that begins in the first line.
 fn feed_header(alloc: Global, line: HeaderLine, end: u64, piece: &[u8]) -> Result<Stage, ReadError>
-    ensures { (bytes : List ℕ) → HoldsHeader line bytes → length bytes + length piece.now ≡ end → HoldsResult result (bytes ++ piece.now) }
+    ensures { (bytes : List ℕ) → HoldsHeader line bytes → length bytes + length piece.now ≡ end
+        → HoldsResult result (bytes ++ piece.now) }
 {
     let mut line = line;
     match cut(piece, b'\n') {
@@ -120,7 +128,8 @@ fn feed_header(alloc: Global, line: HeaderLine, end: u64, piece: &[u8]) -> Resul
 
 /// The circuit of an input that ends in the first line.
 fn finish_header(alloc: Global, line: HeaderLine, end: u64) -> Result<Circuit, ReadError>
-    ensures { (bytes : List ℕ) → HoldsHeader line bytes → length bytes ≡ end → Gives (λ c. c) result (read_binary bytes) }
+    ensures { (bytes : List ℕ) → HoldsHeader line bytes → length bytes ≡ end
+        → Gives (λ c. c) result (read_binary bytes) }
 {
     let mut line = line;
     match binary_header(&mut line) {

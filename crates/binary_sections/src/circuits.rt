@@ -19,7 +19,8 @@ impl Sections {
     ///
     /// `Truncated` where an item is missing; `NoMemory`.
     pub fn finish(self, alloc: Global, end: u64) -> Result<Circuit, ReadError>
-        ensures { (h : Header) (raw : Raw) → IsAt self h raw → Gives (λ c. c) result (circuit_at_end end h raw) }
+        ensures { (h : Header) (raw : Raw) → IsAt self h raw
+            → Gives (λ c. c) result (circuit_at_end end h raw) }
     {
         match self.section() {
             Section::Symbols => self.into_circuit(alloc),

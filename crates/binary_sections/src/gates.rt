@@ -20,7 +20,8 @@ impl Sections {
     ///
     /// `BadDelta` where the delta is 0 or above the gate's literal.
     pub fn first_fan_in(&self, at: u64, delta: u64) -> Result<u32, ReadError>
-        ensures { (h : Header) (raw : Raw) → IsAt self.now h raw → result ≡ read_first h raw at delta }
+        ensures { (h : Header) (raw : Raw) → IsAt self.now h raw
+            → result ≡ read_first h raw at delta }
     {
         let gate = self.gate_literal();
         if delta == 0 || delta > u64::from(gate) {
@@ -35,7 +36,8 @@ impl Sections {
     ///
     /// `BadDelta` where the delta is above the first fan-in; `NoMemory`. The sections are of no more use then.
     pub fn take_gate(&mut self, at: u64, rhs0: u32, delta: u64) -> Result<(), ReadError>
-        ensures { (h : Header) (raw : Raw) → IsAt self.old h raw → next_section h raw ≡ Gates → rhs0 < next_gate h raw
+        ensures { (h : Header) (raw : Raw) → IsAt self.old h raw → next_section h raw ≡ Gates
+            → rhs0 < next_gate h raw
             → Takes h self.new result (read_second h raw at rhs0 delta) }
     {
         if delta > u64::from(rhs0) {

@@ -31,7 +31,8 @@ impl Sections {
     /// `BadReset` at a reset that is neither 0 nor 1 nor the latch's own literal; `TooLarge` where the sizes of justice
     /// properties sum to more than 2^24; `NoMemory`. The sections are of no more use then.
     pub fn take_numbers(&mut self, at: u64, numbers: Option<&[u32]>) -> Result<(), ReadError>
-        ensures { (h : Header) (raw : Raw) (line : List ℕ) → IsAt self.old h raw → is_symbols (next_section h raw) ≡ false
+        ensures { (h : Header) (raw : Raw) (line : List ℕ) → IsAt self.old h raw
+            → is_symbols (next_section h raw) ≡ false
             → MatchOption numbers.entry (row_of line ≡ None) (λ ns. row_of line ≡ Some ns.now) → Takes h self.new result (read_line h raw at line) }
     {
         let _ = &self.header;

@@ -55,7 +55,8 @@ impl Sections {
     /// The section of the next item: the first one that isn't full. That of inputs has no items.
     pub fn section(&self) -> Section
         ensures here { result ≡ section_of self.now }
-        ensures next { (h : Header) (raw : Raw) → IsAt self.now h raw → result ≡ next_section h raw }
+        ensures next { (h : Header) (raw : Raw) → IsAt self.now h raw
+            → result ≡ next_section h raw }
     {
         self.first_with_room()
     }

@@ -27,7 +27,8 @@ impl Sections {
     /// `Trailing` where it doesn't begin as a symbol; `BadSymbol` where it isn't one, its position is out of range, or there
     /// is one of its kind and position; `NoMemory`. The sections are of no more use then.
     pub fn take_symbol(&mut self, at: u64, text: SymbolText) -> Result<(), ReadError>
-        ensures { (h : Header) (raw : Raw) (line : List ℕ) → IsAt self.old h raw → next_section h raw ≡ Symbols
+        ensures { (h : Header) (raw : Raw) (line : List ℕ) → IsAt self.old h raw
+            → next_section h raw ≡ Symbols
             → begins_comment line ≡ false → text ≡ text_of line → Takes h self.new result (read_line h raw at line) }
     {
         let _ = &self.header;

@@ -32,7 +32,8 @@ fn put_gate<W: CountedWrite>(out: &mut Buffered<'_, W>, var: u32, gate: Gate)
 /// Puts the deltas of each gate, of which the first has the variable `first`.
 pub(crate) fn put_gates<W: CountedWrite>(out: &mut Buffered<'_, W>, first: u32, gates: &[Gate])
     requires small { first + length gates.now ≤ MAX_VARIABLES }
-    requires ordered { (k : ℕ) (gate : GateOf) → slice_get gates.now k ≡ Some gate → IsGateAt (first + k) gate }
+    requires ordered { (k : ℕ) (gate : GateOf) → slice_get gates.now k ≡ Some gate
+        → IsGateAt (first + k) gate }
     ensures { Puts W.output out.old out.new (numbered_lines gate_deltas first gates.now) }
 {
     for (k, gate) in gates.iter().enumerate() {

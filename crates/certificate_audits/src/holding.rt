@@ -28,8 +28,10 @@ pub(crate) fn cleaned(
     names: &[Vec<u8>],
 ) -> Result<Cleaned, NoMemory>
     requires { keep.now ≡ held_in (names_of names.now) circuit.now }
-    ensures cleaned { IfOk result (λ d. CleansIn (names_of names.now) circuit.now d.circuit d.kept_free) }
-    ensures held { IfOk result (λ d. held_latches (names_of names.now) d.circuit ≡ held_latches (names_of names.now) circuit.now) }
+    ensures cleaned { IfOk result (λ d. CleansIn (names_of names.now) circuit.now d.circuit
+        d.kept_free) }
+    ensures held { IfOk result (λ d. held_latches (names_of names.now) d.circuit
+        ≡ held_latches (names_of names.now) circuit.now) }
 {
     // The contract alone speaks of the names.
     let _names = names;
@@ -45,8 +47,10 @@ pub(crate) fn cleaned_by_names(
     names: &[Vec<u8>],
 ) -> Result<Cleaned, NoMemory>
     requires { NoneMissing (names_of names.now) circuit.now }
-    ensures cleaned { IfOk result (λ d. CleansIn (names_of names.now) circuit.now d.circuit d.kept_free) }
-    ensures held { IfOk result (λ d. held_latches (names_of names.now) d.circuit ≡ held_latches (names_of names.now) circuit.now) }
+    ensures cleaned { IfOk result (λ d. CleansIn (names_of names.now) circuit.now d.circuit
+        d.kept_free) }
+    ensures held { IfOk result (λ d. held_latches (names_of names.now) d.circuit
+        ≡ held_latches (names_of names.now) circuit.now) }
 {
     let keep = held(alloc, circuit, names)?;
     cleaned(alloc, circuit, &keep, names)

@@ -48,7 +48,8 @@ pub(crate) fn end_at(
     names: &[Vec<u8>],
 ) -> Result<Option<Audit>, NoMemory>
     requires { NoneMissing (names_of names.now) circuit.now }
-    ensures { IfOk result (λ found. MatchOption found (GoesOn (names_of names.now) circuit.now block.now rest.now)
+    ensures { IfOk result (λ found. MatchOption found
+        (GoesOn (names_of names.now) circuit.now block.now rest.now)
         (λ audit. Audits (names_of names.now) circuit.now (block.now ∷ rest.now) audit.confirmed audit.end)) }
 {
     let (confirmed, end) = match judge(alloc, circuit, block, names)? {

@@ -35,7 +35,8 @@ fn moved_over(
 ) -> Result<Circuit, NoMemory>
     requires names { NoneMissing (names_of names.now) circuit.now }
     requires saves { Saves (names_of names.now) circuit.now block.now }
-    ensures { IfOk result (λ after. after ≡ moved_in (names_of names.now) circuit.now block.now.gates) }
+    ensures { IfOk result (λ after. after ≡ moved_in
+        (names_of names.now) circuit.now block.now.gates) }
 {
     // That the circuit is a graph is what its readers ensure.
     let _aig = circuit.aig();
@@ -62,7 +63,8 @@ fn next_circuit(
     requires names { NoneMissing (names_of names.now) circuit.now }
     requires saves { Saves (names_of names.now) circuit.now block.now }
     ensures next { IfOk result (IsNext (names_of names.now) circuit.now block.now) }
-    ensures held { IfOk result (λ next. held_latches (names_of names.now) next ≡ held_latches (names_of names.now) circuit.now) }
+    ensures held { IfOk result (λ next. held_latches (names_of names.now) next
+        ≡ held_latches (names_of names.now) circuit.now) }
 {
     // What a circuit's names and latches are is what its readers ensure.
     let _aig = circuit.aig();
@@ -85,7 +87,8 @@ pub(crate) fn after_block(
     requires names { NoneMissing (names_of names.now) circuit }
     requires saves { Saves (names_of names.now) circuit block.now }
     ensures next { IfOk result (IsNext (names_of names.now) circuit block.now) }
-    ensures held { IfOk result (λ next. held_latches (names_of names.now) next ≡ held_latches (names_of names.now) circuit) }
+    ensures held { IfOk result (λ next. held_latches (names_of names.now) next
+        ≡ held_latches (names_of names.now) circuit) }
 {
     let next = next_circuit(alloc, &circuit, block, names);
     drop(circuit);

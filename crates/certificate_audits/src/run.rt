@@ -22,7 +22,8 @@ fn audit_from(
     names: &[Vec<u8>],
 ) -> Result<Audit, NoMemory>
     requires { NoneMissing (names_of names.now) first }
-    ensures { IfOk result (λ audit. Audits (names_of names.now) first blocks.now audit.confirmed audit.end) }
+    ensures { IfOk result (λ audit. Audits (names_of names.now) first blocks.now audit.confirmed
+        audit.end) }
 {
     let mut circuit = first;
     for (place, block) in blocks.iter().enumerate() {
@@ -83,7 +84,8 @@ pub fn audit_blocks(
 ) -> Result<Audit, KeepError>
     ensures audit { IfOk result (IsAudit (names_of names.now) circuit.now blocks.now) }
     ensures none_missing { OnOk result (NoneMissing (names_of names.now) circuit.now) }
-    ensures missing { (place : ℕ) → IsErrOf result (NoSuchName place) → first_missing circuit.now.symbols.latches (names_of names.now) ≡ Some place }
+    ensures missing { (place : ℕ) → IsErrOf result (NoSuchName place)
+        → first_missing circuit.now.symbols.latches (names_of names.now) ≡ Some place }
 {
     let keep = keep_of(alloc, circuit, names)?;
     match audit_held(alloc, circuit, &keep, blocks, names) {

@@ -109,7 +109,8 @@ pub(crate) fn read_blocks(
     alloc: Global,
     lines: &mut Lines<'_>,
 ) -> Result<Sequence<Certificate>, CertError>
-    ensures { Gives (λ blocks. blocks) result (read_rest lines.old.end lines.old.rest.now nothing_read) }
+    ensures { Gives (λ blocks. blocks) result (read_rest lines.old.end lines.old.rest.now
+        nothing_read) }
 {
     let mut blocks = Vec::new(alloc);
     while !lines.is_at_end() {

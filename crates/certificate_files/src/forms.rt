@@ -27,7 +27,8 @@ pub(crate) fn is_small(number: u32) -> bool
 
 /// What follows the letters that a line begins with.
 pub(crate) fn after_letters<'a>(text: &'a [u8], letters: &[u8]) -> Option<&'a [u8]>
-    ensures { MatchOption result ((rest : List ℕ) → text.now ≡ letters.now ++ rest → ⊥) (λ rest. text.now ≡ letters.now ++ rest.now) }
+    ensures { MatchOption result ((rest : List ℕ) → text.now ≡ letters.now ++ rest
+        → ⊥) (λ rest. text.now ≡ letters.now ++ rest.now) }
 {
     text.strip_prefix(letters)
 }

@@ -49,8 +49,10 @@ impl<'a> Lines<'a> {
     pub(crate) fn next_line(&mut self) -> Result<Line<'a>, CertError>
         ensures end { self.new.end ≡ self.old.end }
         ensures shorter { length self.new.rest.now ≤ length self.old.rest.now }
-        ensures ok { IfOk result (λ line. (line.at ≡ self.old.end - length self.old.rest.now) × IsFirst self.old.rest.now line.text.now self.new.rest.now) }
-        ensures err { IfErr result (λ error. (error ≡ Truncated self.old.end) × (self.old.rest.now ≡ [])) }
+        ensures ok { IfOk result (λ line. (line.at ≡ self.old.end - length self.old.rest.now)
+            × IsFirst self.old.rest.now line.text.now self.new.rest.now) }
+        ensures err { IfErr result (λ error. (error ≡ Truncated self.old.end)
+            × (self.old.rest.now ≡ [])) }
     {
         if self.rest.is_empty() {
             return Err(CertError::Truncated(self.end));

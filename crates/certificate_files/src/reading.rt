@@ -32,7 +32,8 @@ fn choice(text: &[u8]) -> Option<Choice>
 
 /// Takes the line of the choice.
 fn second_line(lines: &mut Lines<'_>) -> Result<Choice, CertError>
-    ensures { (at : ℕ) → (lines.old.rest.now ≡ []) ⊎ (at ≡ lines.old.end - length lines.old.rest.now)
+    ensures { (at : ℕ) → (lines.old.rest.now ≡ []) ⊎
+        (at ≡ lines.old.end - length lines.old.rest.now)
         → Leads (λ choice. with_choice choice (read_rest lines.new.end lines.new.rest.now nothing_read)) result
         (read_second at lines.old.end (format.lines lines.old.rest.now)) }
 {

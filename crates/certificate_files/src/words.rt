@@ -58,7 +58,8 @@ fn point(word: &[u8]) -> Option<Point>
 }
 
 fn push_point(points: &mut Vec<Point>, at: u64, word: &[u8]) -> Result<(), CertError>
-    ensures { (words : List (List ℕ)) → Leads (λ done. onto points.new.items (spelt_at at words)) result (onto points.old.items (spelt_at at (word.now ∷ words))) }
+    ensures { (words : List (List ℕ)) → Leads (λ done. onto points.new.items
+        (spelt_at at words)) result (onto points.old.items (spelt_at at (word.now ∷ words))) }
 {
     let Some(point) = point(word) else {
         return Err(CertError::BadLine(at));

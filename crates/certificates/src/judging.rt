@@ -23,7 +23,9 @@ fn closed_set(
     gates: &[u32],
     keep: &Keep,
 ) -> Result<Option<ClosedSet>, NoMemory>
-    ensures { IfOk result (λ found. MatchOption found (IsClosedSet circuit.now.aig keep.now gates.now → ⊥) (λ set. (set ≡ gates.now) × IsClosedSet circuit.now.aig keep.now set)) }
+    ensures { IfOk result (λ found. MatchOption found
+        (IsClosedSet circuit.now.aig keep.now gates.now → ⊥) (λ set. (set ≡ gates.now)
+        × IsClosedSet circuit.now.aig keep.now set)) }
 {
     let mut vars = Vec::with_capacity(alloc, gates.len())?;
     vars.extend_from_slice(gates)?;
@@ -42,7 +44,8 @@ fn all_routes(
     routes: &[Sequence<Point>],
 ) -> bool
     requires pass { IsPassSet circuit.now.aig keep.now pass.now }
-    requires leaving { leaving.now ≡ table (first_latch circuit.now.aig) (latches_and_gates circuit.now.aig) (leaves circuit.now.aig circuit.now.props keep.now) }
+    requires leaving { leaving.now ≡ table (first_latch circuit.now.aig)
+        (latches_and_gates circuit.now.aig) (leaves circuit.now.aig circuit.now.props keep.now) }
     ensures { IsTrue result ↔ AreRoutes circuit.now keep.now routes.now }
 {
     for route in routes {

@@ -31,25 +31,29 @@ fn begins_at(aig: &Aig, point: Point) -> bool
 }
 
 fn is_passable(pass: &PassSet, var: u32) -> bool
-    ensures { (g : Graph) (held : List ℕ) → IsPassSet g held pass.now → result ≡ is_passable g held var }
+    ensures { (g : Graph) (held : List ℕ) → IsPassSet g held pass.now
+        → result ≡ is_passable g held var }
 {
     pass.has(var)
 }
 
 fn passes(pass: &PassSet, from: Point, to: Point) -> bool
-    ensures { (g : Graph) (held : List ℕ) → IsPassSet g held pass.now → result ≡ passes g held from to }
+    ensures { (g : Graph) (held : List ℕ) → IsPassSet g held pass.now
+        → result ≡ passes g held from to }
 {
     !from.behind && to.behind && from.var == to.var && is_passable(pass, from.var)
 }
 
 fn enters(aig: &Aig, pass: &PassSet, from: Point, to: Point) -> bool
-    ensures { (held : List ℕ) → IsPassSet aig.now held pass.now → result ≡ enters aig.now held from to }
+    ensures { (held : List ℕ) → IsPassSet aig.now held pass.now
+        → result ≡ enters aig.now held from to }
 {
     from.behind && !to.behind && is_passable(pass, to.var) && gate_reads(aig, to.var, from.var)
 }
 
 fn returns_to(aig: &Aig, pass: &PassSet, from: Point, to: Point) -> bool
-    ensures { (held : List ℕ) → IsPassSet aig.now held pass.now → result ≡ returns_to aig.now held from to }
+    ensures { (held : List ℕ) → IsPassSet aig.now held pass.now
+        → result ≡ returns_to aig.now held from to }
 {
     !from.behind
         && !to.behind
@@ -61,7 +65,8 @@ fn returns_to(aig: &Aig, pass: &PassSet, from: Point, to: Point) -> bool
 /// Whether a route may step from one point to the next.
 #[tactic(auto, unfolding(crate::specs::Routes::may_step))]
 fn may_step(aig: &Aig, pass: &PassSet, from: Point, to: Point) -> bool
-    ensures { (held : List ℕ) → IsPassSet aig.now held pass.now → result ≡ may_step aig.now held from to }
+    ensures { (held : List ℕ) → IsPassSet aig.now held pass.now
+        → result ≡ may_step aig.now held from to }
 {
     passes(pass, from, to) || enters(aig, pass, from, to) || returns_to(aig, pass, from, to)
 }
@@ -84,7 +89,8 @@ fn goes_on(
 ) -> bool
     requires first { is_on circuit.now.aig first.var ≡ true }
     requires pass { IsPassSet circuit.now.aig keep.now pass.now }
-    requires leaving { leaving.now ≡ table (first_latch circuit.now.aig) (latches_and_gates circuit.now.aig) (leaves circuit.now.aig circuit.now.props keep.now) }
+    requires leaving { leaving.now ≡ table (first_latch circuit.now.aig)
+        (latches_and_gates circuit.now.aig) (leaves circuit.now.aig circuit.now.props keep.now) }
     ensures { result ≡ goes_on circuit.now keep.now first rest.now }
 {
     let aig = circuit.aig();
@@ -107,7 +113,8 @@ pub(crate) fn is_route(
     route: &[Point],
 ) -> bool
     requires pass { IsPassSet circuit.now.aig keep.now pass.now }
-    requires leaving { leaving.now ≡ table (first_latch circuit.now.aig) (latches_and_gates circuit.now.aig) (leaves circuit.now.aig circuit.now.props keep.now) }
+    requires leaving { leaving.now ≡ table (first_latch circuit.now.aig)
+        (latches_and_gates circuit.now.aig) (leaves circuit.now.aig circuit.now.props keep.now) }
     ensures { result ≡ is_route circuit.now keep.now route.now }
 {
     match route.split_first() {

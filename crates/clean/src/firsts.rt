@@ -53,8 +53,10 @@ impl FirstLatches {
 
     /// The literal of the first latch like this one, which is this one where there is none.
     pub(crate) fn first_like(&mut self, latch: Latch, own: Lit) -> Result<Lit, NoMemory>
-        ensures literal { IfOk result (λ lit. lit ≡ stand_or_own own (lookup (is_latch latch) self.old)) }
-        ensures entries { OnOk result (self.new ≡ entries_after self.old own latch (lookup (is_latch latch) self.old)) }
+        ensures literal { IfOk result (λ lit. lit ≡ stand_or_own own
+            (lookup (is_latch latch) self.old)) }
+        ensures entries { OnOk result (self.new ≡ entries_after self.old own latch
+            (lookup (is_latch latch) self.old)) }
     {
         match self.find(&latch) {
             Some(first) => Ok(first),

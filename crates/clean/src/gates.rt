@@ -42,8 +42,10 @@ fn keep(kept: &mut KeptGates, gate: Gate, var: u32) -> Result<Lit, NoMemory>
 /// What stands for the gate at a variable, which is kept where it comes down to no literal.
 fn stand_for_gate(kept: &mut KeptGates, gate: Gate, var: u32) -> Result<Lit, NoMemory>
     requires { var < 2 ^ 28 }
-    ensures literal { IfOk result (λ lit. lit ≡ stand_or_own (2 * var) (known_stand kept.old gate)) }
-    ensures kept { OnOk result (kept.new ≡ kept_after kept.old (2 * var) gate (known_stand kept.old gate)) }
+    ensures literal { IfOk result (λ lit. lit ≡ stand_or_own (2 * var)
+        (known_stand kept.old gate)) }
+    ensures kept { OnOk result (kept.new ≡ kept_after kept.old (2 * var) gate
+        (known_stand kept.old gate)) }
 {
     match known_stand(kept, &gate) {
         Some(stand) => Ok(stand),

@@ -24,7 +24,8 @@ fn constant_of(reset: Reset) -> Lit
 
 /// Whether the latch is known, isn't held, and reads itself or the constant of its reset.
 fn is_stuck(latch: Latch, own: Lit, is_held: bool) -> bool
-    ensures { result ≡ (not (is_free latch) && not is_held && (latch.next == own || latch.next == constant_of latch.reset)) }
+    ensures { result ≡ (not (is_free latch) && not is_held &&
+        (latch.next == own || latch.next == constant_of latch.reset)) }
 {
     latch.reset != Reset::Free
         && !is_held
@@ -50,7 +51,8 @@ fn stand_for_latch(
     requires there { slice_get aig.now.latches place ≡ Some latch }
     requires held { length held.now.marks.items ≡ length aig.now.latches }
     requires firsts { AreFirsts aig.now held.now.positions.now place firsts.old }
-    ensures literal { IfOk result (λ lit. lit ≡ latch_stand aig.now held.now.positions.now place (Some latch)) }
+    ensures literal { IfOk result (λ lit. lit ≡ latch_stand aig.now held.now.positions.now place
+        (Some latch)) }
     ensures firsts { OnOk result (AreFirsts aig.now held.now.positions.now (place + 1) firsts.new) }
 {
     let own = own_literal(aig, place);
@@ -74,7 +76,8 @@ pub(crate) fn latch_stands(
 ) -> Result<(), NoMemory>
     requires held { length held.now.marks.items ≡ length aig.now.latches }
     requires inputs { stands.old ≡ own_literals (first_latch aig.now) }
-    ensures { OnOk result (stands.new ≡ table 0 (first_gate aig.now) (leaf_stand aig.now held.now.positions.now)) }
+    ensures { OnOk result (stands.new ≡ table 0 (first_gate aig.now)
+        (leaf_stand aig.now held.now.positions.now)) }
 {
     let mut firsts = FirstLatches::new(alloc);
     for (place, latch) in aig.latches().iter().enumerate() {

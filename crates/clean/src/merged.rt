@@ -17,7 +17,8 @@ pub(crate) struct Merged {
 
 fn replaced_latches(alloc: Global, stands: &Substitution, aig: &Aig) -> Result<Vec<Latch>, NoMemory>
     requires { length stands.now ≡ variables_end aig.now }
-    ensures { IfOk result (λ latches. latches.items ≡ map (replaced_latch stands.now) aig.now.latches) }
+    ensures { IfOk result (λ latches. latches.items
+        ≡ map (replaced_latch stands.now) aig.now.latches) }
 {
     let mut latches = Vec::with_capacity(alloc, aig.latches().len())?;
     for latch in aig.latches() {
@@ -59,8 +60,10 @@ pub(crate) fn merged_of(
     held: &Held<'_>,
 ) -> Result<Merged, NoMemory>
     requires { length held.now.marks.items ≡ length circuit.now.aig.latches }
-    ensures aig { IfOk result (λ merged. merged.aig ≡ (merged_of held.now.positions.now circuit.now).aig) }
-    ensures props { IfOk result (λ merged. merged.props ≡ (merged_of held.now.positions.now circuit.now).props) }
+    ensures aig { IfOk result (λ merged. merged.aig
+        ≡ (merged_of held.now.positions.now circuit.now).aig) }
+    ensures props { IfOk result (λ merged. merged.props
+        ≡ (merged_of held.now.positions.now circuit.now).props) }
 {
     let stands = stands_of(alloc, circuit.aig(), held)?;
     let aig = merged_aig(alloc, circuit.aig(), held, &stands)?;

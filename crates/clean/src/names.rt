@@ -34,7 +34,8 @@ pub(crate) fn trimmed_symbols(
     symbols: &Symbols,
 ) -> Result<Symbols, NoMemory>
     requires { All (λ name. name.position < length trim.now.aig.now.latches) symbols.now.latches }
-    ensures { IfOk result (λ names. names ≡ trimmed_symbols trim.now.aig.now (is_marked trim.now.reached.now) symbols.now) }
+    ensures { IfOk result (λ names. names ≡ trimmed_symbols trim.now.aig.now
+        (is_marked trim.now.reached.now) symbols.now) }
 {
     let latches = latch_names(alloc, trim, &symbols.latches)?;
     symbols.with_latches(alloc, latches)

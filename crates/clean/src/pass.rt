@@ -38,7 +38,8 @@ fn trimmed(
     requires aig { merged.now.aig ≡ (merged_of held.now circuit.now).aig }
     requires props { merged.now.props ≡ (merged_of held.now circuit.now).props }
     requires reached { AreReached merged.now.aig merged.now.props held.now (is_marked reached.now) }
-    ensures { IfOk result (λ pass. IsPass held.now circuit.now pass.circuit pass.kept_free.items pass.held.items) }
+    ensures { IfOk result (λ pass. IsPass held.now circuit.now pass.circuit pass.kept_free.items
+        pass.held.items) }
 {
     let symbols = circuit.symbols();
     let trim = Trim::new(alloc, &merged.aig, reached)?;
@@ -57,8 +58,10 @@ fn trimmed(
 /// One pass over a circuit, with the latches at these positions held.
 pub(crate) fn run_pass(alloc: Global, circuit: &Circuit, held: &[u32]) -> Result<Pass, NoMemory>
     requires { All (λ j. j < length circuit.now.aig.latches) held.now }
-    ensures pass { IfOk result (λ pass. IsPass held.now circuit.now pass.circuit pass.kept_free.items pass.held.items) }
-    ensures streams { IfOk result (λ pass. SameStreams circuit.now pass.circuit pass.kept_free.items) }
+    ensures pass { IfOk result (λ pass. IsPass held.now circuit.now pass.circuit
+        pass.kept_free.items pass.held.items) }
+    ensures streams { IfOk result (λ pass. SameStreams circuit.now pass.circuit
+        pass.kept_free.items) }
 {
     let marks = Held::new(alloc, held, circuit.aig().latches().len())?;
     let merged = merged_of(alloc, circuit, &marks)?;

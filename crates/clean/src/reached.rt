@@ -37,7 +37,8 @@ impl Reached {
     /// Nothing, among so many latches and gates.
     fn none(alloc: Global, first: u32, variables: usize) -> Result<Reached, NoMemory>
         requires { first + variables ≤ 2 ^ 28 }
-        ensures { IfOk result (λ r. r ≡ record { first = first; marks = replicate variables false; queue = [] }) }
+        ensures { IfOk result (λ r. r ≡ record { first = first; marks = replicate variables false;
+            queue = [] }) }
     {
         let marks = vec![in alloc; false; variables]?;
         let queue = Vec::new(alloc);
@@ -77,7 +78,8 @@ impl Reached {
 
     fn reach_justice(&mut self, justice: &Sequence<Sequence<Lit>>) -> Result<(), NoMemory>
         requires { All (λ lits. All (λ lit. variable lit < front_end self.old) lits) justice.now }
-        ensures { OnOk result (self.new ≡ reach_all self.old (flat_map (λ lits. lits) justice.now)) }
+        ensures { OnOk result (self.new ≡ reach_all self.old
+            (flat_map (λ lits. lits) justice.now)) }
     {
         for lits in justice.as_slice() {
             self.reach_all(lits)?;
@@ -100,7 +102,8 @@ impl Reached {
     /// Reaches the latches at these positions.
     fn reach_held(&mut self, held: &[u32]) -> Result<(), NoMemory>
         requires { All (λ j. self.old.first + j < front_end self.old) held.now }
-        ensures { OnOk result (self.new ≡ reach_all self.old (map (λ j. 2 * (self.old.first + j)) held.now)) }
+        ensures { OnOk result (self.new ≡ reach_all self.old
+            (map (λ j. 2 * (self.old.first + j)) held.now)) }
     {
         let first = self.first;
         for position in held {

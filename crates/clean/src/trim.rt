@@ -128,7 +128,8 @@ impl<'a> Trim<'a> {
     /// The graph of what stays.
     fn graph(&self, alloc: Global) -> Result<Aig, NoMemory>
         requires { IsGraph (trimmed_graph self.now.aig.now (is_marked self.now.reached.now)) }
-        ensures { IfOk result (λ aig. aig ≡ trimmed_graph self.now.aig.now (is_marked self.now.reached.now)) }
+        ensures { IfOk result (λ aig. aig ≡ trimmed_graph self.now.aig.now
+            (is_marked self.now.reached.now)) }
     {
         let latches = self.latches(alloc)?;
         let gates = self.gates(alloc)?;
@@ -144,7 +145,8 @@ impl<'a> Trim<'a> {
     ) -> Result<Circuit, NoMemory>
         requires graph { IsGraph (trimmed_graph self.now.aig.now (is_marked self.now.reached.now)) }
         requires props { OfProps (IsLiteralOf self.now.aig.now) props.now }
-        requires names { All (λ name. name.position < length self.now.aig.now.latches) symbols.now.latches }
+        requires names { All (λ name. name.position < length self.now.aig.now.latches)
+            symbols.now.latches }
         requires netlist { IsNetlist (trimmed_of
             (record { aig = self.now.aig.now; props = props.now; symbols = symbols.now }) (is_marked self.now.reached.now)) }
         ensures { IfOk result (λ circuit. circuit ≡ trimmed_of
@@ -183,7 +185,8 @@ impl<'a> Trim<'a> {
 
     /// Of each free latch that stays, its place among the free latches.
     pub(crate) fn kept_free(&self, alloc: Global) -> Result<Vec<u32>, NoMemory>
-        ensures { IfOk result (λ kept. kept.items ≡ kept_free self.now.aig.now (is_marked self.now.reached.now)) }
+        ensures { IfOk result (λ kept. kept.items ≡ kept_free self.now.aig.now
+            (is_marked self.now.reached.now)) }
     {
         let mut kept = Vec::new(alloc);
         let mut free = 0;

@@ -6,5 +6,6 @@ ghost use Rattle.cleaned_circuits.specs.Laws.{KeepsStreams, IsDetermined};
 /// circuit, and one list of free latches, is what a circuit is cleaned to.
 pub fn cleaning_laws()
     ensures streams { (held : List ℕ) (c d : Netlist) (kept : List ℕ) → KeepsStreams held c d kept }
-    ensures one { (held : List ℕ) (c d e : Netlist) (first second : List ℕ) → IsDetermined held c d e first second }
+    ensures one { (held : List ℕ) (c d e : Netlist) (first second : List ℕ)
+        → IsDetermined held c d e first second }
 {}

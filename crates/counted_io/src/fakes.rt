@@ -50,7 +50,8 @@ impl<T: Write> Write for FailAfter<T> {
 
     fn write(&mut self, bytes: &[u8]) -> io::Result<usize>
         ensures bound { WritesAtMost result bytes.now }
-        ensures bytes { WriteAppends (T.contents self.old.inner) (T.contents self.new.inner) result bytes.now }
+        ensures bytes { WriteAppends (T.contents self.old.inner)
+            (T.contents self.new.inner) result bytes.now }
         ensures counted { IsCounted self.old self.new }
         ensures failed { self.old.calls_left ≡ 0 → FailsBy self.old.failure result }
     {
@@ -74,7 +75,8 @@ impl<T: Read> Read for FailAfter<T> {
 
     fn read(&mut self, buffer: &mut [u8]) -> io::Result<usize>
         ensures bound { ReadsAtMost result buffer.new }
-        ensures bytes { ReadConsumes (T.remaining self.old.inner) (T.remaining self.new.inner) result buffer.new }
+        ensures bytes { ReadConsumes (T.remaining self.old.inner)
+            (T.remaining self.new.inner) result buffer.new }
         ensures counted { IsCounted self.old self.new }
         ensures failed { self.old.calls_left ≡ 0 → IsErr result }
     {
@@ -114,7 +116,8 @@ impl<T: Write> Write for OneByte<T> {
 
     fn write(&mut self, bytes: &[u8]) -> io::Result<usize>
         ensures bound { WritesAtMost result bytes.now }
-        ensures bytes { WriteAppends (T.contents self.old.inner) (T.contents self.new.inner) result bytes.now }
+        ensures bytes { WriteAppends (T.contents self.old.inner)
+            (T.contents self.new.inner) result bytes.now }
         ensures one { IsOneAtMost result }
     {
         let len = bytes.len().min(1);
@@ -131,7 +134,8 @@ impl<T: Read> Read for OneByte<T> {
 
     fn read(&mut self, buffer: &mut [u8]) -> io::Result<usize>
         ensures bound { ReadsAtMost result buffer.new }
-        ensures bytes { ReadConsumes (T.remaining self.old.inner) (T.remaining self.new.inner) result buffer.new }
+        ensures bytes { ReadConsumes (T.remaining self.old.inner)
+            (T.remaining self.new.inner) result buffer.new }
         ensures one { IsOneAtMost result }
     {
         let len = buffer.len().min(1);

@@ -33,7 +33,9 @@ pub(crate) fn carried_by_arcs(
 pub(crate) fn incoming(net: &Net, carried: &[u32], node: u32, from: usize) -> Option<usize>
     requires node { node < node_count net.now }
     requires long { length carried.now ≡ length net.now.heads }
-    ensures { MatchOption result (NoneComes net.now carried.now node from (row_len net.now node)) (λ place. Comes net.now carried.now node place × ((from ≤ place) × NoneComes net.now carried.now node from place)) }
+    ensures { MatchOption result (NoneComes net.now carried.now node from (row_len net.now node))
+        (λ place. Comes net.now carried.now node place
+        × ((from ≤ place) × NoneComes net.now carried.now node from place)) }
 {
     let _nodes = net.nodes();
     let _arcs = net.arcs();

@@ -25,7 +25,8 @@ pub fn routes(
     preflow: &MaxPreflow,
 ) -> Result<Sequence<Sequence<Point>>, NoMemory>
     requires { IsMaxPreflow net.now preflow.now }
-    ensures { IfOk result (λ routes. (c : Netlist) (held : List ℕ) → IsNetworkOf c held net.now → AreLeastRoutes c held routes) }
+    ensures { IfOk result (λ routes. (c : Netlist) (held : List ℕ) → IsNetworkOf c held net.now
+        → AreLeastRoutes c held routes) }
 {
     let nodes = net.nodes();
     let mut marks = no_marks(alloc, nodes)?;

@@ -32,7 +32,8 @@ fn gate_of(net: &Net, side: &SinkSide, v: u32) -> Option<u32>
 /// The gates whose nodes before them don't reach the sink, in the order of the nodes.
 fn gates_of(alloc: Global, net: &Net, side: &SinkSide) -> Result<Vec<u32>, NoMemory>
     requires { length side.now.marks ≡ node_count net.now }
-    ensures { IfOk result (λ gates. gates.items ≡ gates_below net.now (λ u. not (is_marked side.now u)) (node_count net.now)) }
+    ensures { IfOk result (λ gates. gates.items ≡ gates_below net.now
+        (λ u. not (is_marked side.now u)) (node_count net.now)) }
 {
     let mut gates = Vec::new(alloc);
     for v in 0..net.nodes() {
@@ -48,7 +49,8 @@ fn gates_of(alloc: Global, net: &Net, side: &SinkSide) -> Result<Vec<u32>, NoMem
 /// Linear in the network.
 pub fn greatest_cut(alloc: Global, net: &Net, preflow: &MaxPreflow) -> Result<ClosedSet, NoMemory>
     requires { IsMaxPreflow net.now preflow.now }
-    ensures { IfOk result (λ set. (c : Netlist) (held : List ℕ) → IsNetworkOf c held net.now → IsGreatestLeast c held set) }
+    ensures { IfOk result (λ set. (c : Netlist) (held : List ℕ) → IsNetworkOf c held net.now
+        → IsGreatestLeast c held set) }
 {
     let side = sink_side(alloc, net, preflow)?;
     let gates = gates_of(alloc, net, &side)?;

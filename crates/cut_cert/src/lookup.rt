@@ -21,7 +21,8 @@ fn comes_before(net: &Net, node: u32, point: Point) -> bool
 pub(crate) fn place_of(net: &Net, node: u32, point: Point) -> Option<usize>
     requires { node < node_count net.now }
     ensures within { MatchOption result (Unit {0}) (λ place. place < row_len net.now node) }
-    ensures there { PointsRise net.now → (k : ℕ) → k < row_len net.now node → point_of net.now (head net.now node k) ≡ Some point → result ≡ Some k }
+    ensures there { PointsRise net.now → (k : ℕ) → k < row_len net.now node
+        → point_of net.now (head net.now node k) ≡ Some point → result ≡ Some k }
 {
     let _nodes = net.nodes();
     let heads = net.heads(node);

@@ -31,7 +31,8 @@ fn gate_of(net: &Net, marks: &[bool], node: u32) -> Option<u32>
 /// The gates with a marked node before them, in the order of the nodes.
 fn gates_of(alloc: Global, net: &Net, marks: &[bool]) -> Result<Vec<u32>, NoMemory>
     requires { length marks.now ≡ node_count net.now }
-    ensures { IfOk result (λ gates. gates.items ≡ gates_below net.now (λ u. slice_index_or marks.now u false) (node_count net.now)) }
+    ensures { IfOk result (λ gates. gates.items ≡ gates_below net.now
+        (λ u. slice_index_or marks.now u false) (node_count net.now)) }
 {
     let mut gates = Vec::new(alloc);
     for v in 0..net.nodes() {
@@ -54,7 +55,8 @@ pub fn near_cut(
     net: &Net,
     routes: &Sequence<Sequence<Point>>,
 ) -> Result<ClosedSet, NoMemory>
-    ensures { IfOk result (λ set. (c : Netlist) (held : List ℕ) → IsNetworkOf c held net.now → AreLeastRoutes c held routes.now → IsSmallestLeast c held set) }
+    ensures { IfOk result (λ set. (c : Netlist) (held : List ℕ) → IsNetworkOf c held net.now
+        → AreLeastRoutes c held routes.now → IsSmallestLeast c held set) }
 {
     let _nodes = net.nodes();
     let used = used_arcs(alloc, net, routes.as_slice())?;

@@ -62,7 +62,8 @@ impl SinkSide {
         requires preflow { IsMaxPreflow net.now preflow.now }
         requires long { length self.old.marks ≡ node_count net.now }
         requires node { w < node_count net.now }
-        ensures { OnOk result (self.new ≡ read_arcs net.now preflow.now.flow.cells.residuals w (row_len net.now w) self.old) }
+        ensures { OnOk result (self.new ≡ read_arcs net.now preflow.now.flow.cells.residuals w
+            (row_len net.now w) self.old) }
     {
         let _nodes = net.nodes();
         let _arcs = net.arcs();
@@ -99,7 +100,8 @@ pub(crate) fn sink_side(
     preflow: &MaxPreflow,
 ) -> Result<SinkSide, NoMemory>
     requires { IsMaxPreflow net.now preflow.now }
-    ensures side { IfOk result (λ r. IsSourceSide (node_count net.now) (state_of net.now preflow.now.flow) (λ v. not (is_marked r v))) }
+    ensures side { IfOk result (λ r. IsSourceSide (node_count net.now)
+        (state_of net.now preflow.now.flow) (λ v. not (is_marked r v))) }
     ensures long { IfOk result (λ r. length r.marks ≡ node_count net.now) }
 {
     let mut side = SinkSide::none(alloc, net.nodes())?;

@@ -47,7 +47,8 @@ fn is_open(net: &Net, used: &[bool], node: u32, place: usize) -> bool
 /// Marks and queues a node that isn't marked.
 fn reach(marks: &mut [bool], queue: &mut Vec<u32>, node: u32) -> Result<(), NoMemory>
     requires { node < length marks.old }
-    ensures { OnOk result (◌≡◌ {A = Front} (record { marks = marks.new; queue = queue.new.items }) (reach (record { marks = marks.old; queue = queue.old.items }) node)) }
+    ensures { OnOk result (◌≡◌ {A = Front} (record { marks = marks.new; queue = queue.new.items })
+        (reach (record { marks = marks.old; queue = queue.old.items }) node)) }
 {
     if !marks[node as usize] {
         queue.push(node)?;
@@ -67,7 +68,9 @@ fn read(
     requires node { node < node_count net.now }
     requires used { length used.now ≡ length net.now.heads }
     requires marks { length marks.old ≡ node_count net.now }
-    ensures { OnOk result (◌≡◌ {A = Front} (record { marks = marks.new; queue = queue.new.items }) (read_open net.now used.now node (row_len net.now node) (record { marks = marks.old; queue = queue.old.items }))) }
+    ensures { OnOk result (◌≡◌ {A = Front} (record { marks = marks.new; queue = queue.new.items })
+        (read_open net.now used.now node (row_len net.now node)
+        (record { marks = marks.old; queue = queue.old.items }))) }
 {
     let _nodes = net.nodes();
     let heads = net.heads(node);

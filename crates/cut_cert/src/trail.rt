@@ -36,8 +36,10 @@ pub(crate) fn push_marked(
 /// Takes the last node.
 fn pop_marked(nodes: &mut Vec<u32>, marks: &mut [bool]) -> Option<u32>
     requires on { AreOn (length marks.old) marks.old (reverse nodes.old.items) }
-    ensures nodes { MatchOption result (reverse nodes.old.items ≡ []) (λ node. reverse nodes.old.items ≡ node ∷ reverse nodes.new.items) }
-    ensures on { MatchOption result (AreOn (length marks.old) marks.new []) (λ node. AreOn (length marks.old) marks.new (reverse nodes.new.items)) }
+    ensures nodes { MatchOption result (reverse nodes.old.items ≡ [])
+        (λ node. reverse nodes.old.items ≡ node ∷ reverse nodes.new.items) }
+    ensures on { MatchOption result (AreOn (length marks.old) marks.new [])
+        (λ node. AreOn (length marks.old) marks.new (reverse nodes.new.items)) }
 {
     let node = nodes.pop()?;
     marks[node as usize] = false;
@@ -79,7 +81,8 @@ pub(crate) fn take_points(
 ) -> Result<Vec<Point>, NoMemory>
     requires sized { length marks.old ≡ node_count net.now }
     requires on { AreOn (length marks.old) marks.old (reverse nodes.old.items) }
-    ensures points { IfOk result (λ points. points.items ≡ points_of net.now (reverse nodes.old.items)) }
+    ensures points { IfOk result (λ points. points.items
+        ≡ points_of net.now (reverse nodes.old.items)) }
     ensures on { OnOk result (AreOn (length marks.old) marks.new []) }
 {
     let mut points = Vec::with_capacity(alloc, nodes.len())?;

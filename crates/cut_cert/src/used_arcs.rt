@@ -14,7 +14,8 @@ fn mark_step(net: &Net, used: &mut [bool], node: u32, point: Point) -> Option<u3
     requires long { length used.old ≡ length net.now.heads }
     ensures long { length used.new ≡ length used.old }
     ensures head { MatchOption result (Unit {0}) (λ next. next < node_count net.now) }
-    ensures there { PointsRise net.now → (k : ℕ) → k < row_len net.now node → point_of net.now (head net.now node k) ≡ Some point
+    ensures there { PointsRise net.now → (k : ℕ) → k < row_len net.now node
+        → point_of net.now (head net.now node k) ≡ Some point
         → (result ≡ Some (head net.now node k)) × (used.new ≡ slice_set used.old (start net.now node + k) true) }
 {
     let _nodes = net.nodes();
@@ -27,7 +28,8 @@ fn mark_step(net: &Net, used: &mut [bool], node: u32, point: Point) -> Option<u3
 fn mark_route(net: &Net, used: &mut [bool], route: &[Point])
     requires { length used.old ≡ length net.now.heads }
     ensures long { length used.new ≡ length used.old }
-    ensures marks { PointsRise net.now → (nodes : List ℕ) → IsWay net.now 0 nodes route.now → Adds net.now used.old used.new 0 nodes }
+    ensures marks { PointsRise net.now → (nodes : List ℕ) → IsWay net.now 0 nodes route.now
+        → Adds net.now used.old used.new 0 nodes }
 {
     let _nodes = net.nodes();
     let mut node = 0;

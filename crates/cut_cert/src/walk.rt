@@ -14,7 +14,8 @@ fn step_back(net: &Net, carried: &mut [u32], places: &mut [usize], at: u32) -> O
     requires node { at < node_count net.now }
     requires long { length carried.old ≡ length net.now.heads }
     requires searched { AreSearched net.now carried.old places.old }
-    ensures step { MatchOption result (Stays net.now carried.old carried.new at) (λ tail. StepsBack net.now carried.old carried.new at tail) }
+    ensures step { MatchOption result (Stays net.now carried.old carried.new at)
+        (λ tail. StepsBack net.now carried.old carried.new at tail) }
     ensures searched { AreSearched net.now carried.new places.new }
 {
     let _nodes = net.nodes();
@@ -39,7 +40,8 @@ fn walk(
     requires searched { AreSearched net.now carried.old places.old }
     requires sized { length marks.old ≡ node_count net.now }
     requires clear { AreOn (length marks.old) marks.old [] }
-    ensures route { IfOk result (λ nodes. WalkedBack net.now carried.old carried.new (points_of net.now (reverse nodes.items))) }
+    ensures route { IfOk result (λ nodes. WalkedBack net.now carried.old carried.new
+        (points_of net.now (reverse nodes.items))) }
     ensures searched { OnOk result (AreSearched net.now carried.new places.new) }
     ensures on { IfOk result (λ nodes. AreOn (length marks.old) marks.new (reverse nodes.items)) }
 {

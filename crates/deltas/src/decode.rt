@@ -70,9 +70,12 @@ impl DeltaReader {
     pub fn push(&mut self, byte: u8) -> Result<Option<u64>, DeltaError>
         ensures few { length self.old ≤ 4 }
         ensures form { byte < 128 → IsTrue (is_delta (self.old ++ byte ∷ [])) }
-        ensures last { byte < 128 → (result ≡ Ok (Some (delta_value (self.old ++ byte ∷ [])))) × (self.new ≡ []) }
-        ensures more { 128 ≤ byte → length self.old < 4 → (result ≡ Ok None) × (self.new ≡ self.old ++ byte ∷ []) }
-        ensures too_long { 128 ≤ byte → length self.old ≡ 4 → (result ≡ Err TooLong) × (self.new ≡ self.old) }
+        ensures last { byte < 128 → (result ≡ Ok (Some (delta_value (self.old ++ byte ∷ []))))
+            × (self.new ≡ []) }
+        ensures more { 128 ≤ byte → length self.old < 4 → (result ≡ Ok None)
+            × (self.new ≡ self.old ++ byte ∷ []) }
+        ensures too_long { 128 ≤ byte → length self.old ≡ 4 → (result ≡ Err TooLong)
+            × (self.new ≡ self.old) }
     {
         if byte < 128 {
             let number = value(self.begun.as_slice(), byte);

@@ -79,7 +79,8 @@ impl Draws {
         ensures job { IfSome result (λ n. n < jobs_of self.now) }
         ensures some { IfSome result (HasDrawn drawer.old drawer.new) }
         ensures going { IfSome result (λ n. IsGoing self.now drawer.new) }
-        ensures none { IfNone result ((n : ℕ) × (jobs_of self.now ≤ n) × HasDrawn drawer.old drawer.new n) }
+        ensures none { IfNone result ((n : ℕ) × (jobs_of self.now ≤ n)
+            × HasDrawn drawer.old drawer.new n) }
         ensures done { IfNone result (IsDone self.now drawer.new) }
         ensures mine { IsDrawerOf self.now drawer.new }
         ensures worker { drawer.new.worker ≡ drawer.old.worker }

@@ -7,5 +7,6 @@ ghost use Rattle.draws.specs.Laws.{IsCount};
 /// Whatever has been drawn: the word is the number of draws, which is at most that of the jobs and the drawers together, and the
 /// seats hold each number below it once and no other.
 pub fn counter_law()
-    ensures { (plan : Plan) (state : State (Unit {0}) Hand) → IsGiven plan state → IsCount plan state }
+    ensures { (plan : Plan) (state : State (Unit {0}) Hand) → IsGiven plan state
+        → IsCount plan state }
 {}

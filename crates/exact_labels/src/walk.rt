@@ -23,8 +23,10 @@ fn read_node(
     requires queue { length queue.old ≡ node_count net.now }
     requires place { place < queued }
     requires few { queued ≤ node_count net.now }
-    requires sweeps { Sweeps (node_count net.now) (pairs net.now (cells_of parts.now) []) (slice_index labels.old) (slice_index queue.old) queued place }
-    ensures { Sweeps (node_count net.now) (pairs net.now (cells_of parts.now) []) (slice_index labels.new) (slice_index queue.new) result (place + 1) }
+    requires sweeps { Sweeps (node_count net.now) (pairs net.now (cells_of parts.now) [])
+        (slice_index labels.old) (slice_index queue.old) queued place }
+    ensures { Sweeps (node_count net.now) (pairs net.now (cells_of parts.now) [])
+        (slice_index labels.new) (slice_index queue.new) result (place + 1) }
 {
     let nodes = net.nodes();
     let _arcs = net.arcs();
@@ -57,7 +59,8 @@ pub fn exact_labels(net: &Net, parts: &[FlowPart], labels: &mut [u32], queue: &m
     requires parts { AreFlowParts net.now 0 parts.now }
     requires labels { length labels.old ≡ node_count net.now }
     requires queue { length queue.old ≡ node_count net.now }
-    ensures { IsDistance (node_count net.now) (pairs net.now (cells_of parts.now) labels.old) (slice_index labels.new) }
+    ensures { IsDistance (node_count net.now) (pairs net.now (cells_of parts.now) labels.old)
+        (slice_index labels.new) }
 {
     let nodes = net.nodes();
     unlabel(labels, nodes);

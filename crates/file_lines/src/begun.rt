@@ -70,7 +70,8 @@ fn after_letter(kind: SymbolKind, byte: u8) -> Begun
 
 /// After one more digit of a position, or the space that ends it.
 fn after_position(kind: SymbolKind, number: Option<u32>, byte: u8) -> Begun
-    ensures { (rest : List ℕ) → begun_with result [] rest ≡ position_with kind number (byte ∷ rest) }
+    ensures { (rest : List ℕ) → begun_with result [] rest
+        ≡ position_with kind number (byte ∷ rest) }
 {
     if byte == b' ' {
         return named(kind, number);

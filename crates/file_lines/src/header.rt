@@ -50,7 +50,8 @@ impl HeaderLine {
 
     /// Takes the next bytes of the line.
     pub fn extend(&mut self, part: &[u8])
-        ensures { (rest : List ℕ) → header_with self.new rest ≡ header_with self.old (part.now ++ rest) }
+        ensures { (rest : List ℕ) → header_with self.new rest
+            ≡ header_with self.old (part.now ++ rest) }
     {
         for byte in part {
             self.take_byte(*byte);
@@ -59,7 +60,8 @@ impl HeaderLine {
 
     /// The header of an ASCII file that the line spells, of which all bytes have come.
     pub fn header(&mut self) -> Result<Header, ReadError>
-        ensures value { (line : List ℕ) → header_with self.old [] ≡ header_row (codes "aag ") line → result ≡ reading.read_header line }
+        ensures value { (line : List ℕ) → header_with self.old [] ≡ header_row (codes "aag ") line
+            → result ≡ reading.read_header line }
         ensures within { IfOk result (λ header. headers.IsHeaderWithin header) }
     {
         match self.limited() {
@@ -133,7 +135,8 @@ fn header_in(numbers: &[u32]) -> Option<Header>
 
 /// Whether there are more of some kind of property than a header may count.
 fn is_any_past(header: &Header) -> bool
-    ensures { result ≡ (nat_lt (2 ^ 24) header.now.outputs || (nat_lt (2 ^ 24) header.now.bad || (nat_lt (2 ^ 24) header.now.constraints
+    ensures { result ≡ (nat_lt (2 ^ 24) header.now.outputs ||
+        (nat_lt (2 ^ 24) header.now.bad || (nat_lt (2 ^ 24) header.now.constraints
         || (nat_lt (2 ^ 24) header.now.justice || nat_lt (2 ^ 24) header.now.fairness)))) }
 {
     header.outputs > MAX_PROPERTIES

@@ -35,7 +35,8 @@ impl NumberLine {
 
     /// Takes the next bytes of the line.
     pub fn extend(&mut self, part: &[u8])
-        ensures { (rest : List ℕ) → numbers_with self.new rest ≡ numbers_with self.old (part.now ++ rest) }
+        ensures { (rest : List ℕ) → numbers_with self.new rest
+            ≡ numbers_with self.old (part.now ++ rest) }
     {
         for byte in part {
             self.take_byte(*byte);
@@ -45,7 +46,8 @@ impl NumberLine {
     /// The numbers of the line, of which all bytes have come, or `None` where it isn't at most nine numbers with one space
     /// between.
     pub fn numbers(&mut self) -> Option<&[u32]>
-        ensures { MatchOption result (numbers_with self.old [] ≡ None) (λ ns. numbers_with self.old [] ≡ Some ns.now) }
+        ensures { MatchOption result (numbers_with self.old [] ≡ None)
+            (λ ns. numbers_with self.old [] ≡ Some ns.now) }
     {
         self.end_number();
         if self.is_spelt {
@@ -57,7 +59,8 @@ impl NumberLine {
 
     /// Takes the next byte of the line.
     pub(crate) fn take_byte(&mut self, byte: u8)
-        ensures { (rest : List ℕ) → numbers_with self.new rest ≡ numbers_with self.old (byte ∷ rest) }
+        ensures { (rest : List ℕ) → numbers_with self.new rest
+            ≡ numbers_with self.old (byte ∷ rest) }
     {
         if byte == b' ' {
             self.end_number();
@@ -78,7 +81,8 @@ impl NumberLine {
     /// Adds the number that ends here; there has to be one, and room for it.
     fn end_number(&mut self)
         ensures number { self.new.number ≡ None }
-        ensures ended { (more : Option (List ℕ)) → ended self.new more ≡ ended self.old (in_front self.old.number more) }
+        ensures ended { (more : Option (List ℕ)) → ended self.new more
+            ≡ ended self.old (in_front self.old.number more) }
     {
         let number = self.number;
         self.number = None;

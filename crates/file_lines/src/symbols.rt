@@ -43,7 +43,8 @@ impl SymbolLine {
 
     /// Takes the next bytes of the line. After an `Err` the line is of no more use.
     pub fn extend(&mut self, part: &[u8]) -> Result<(), AllocError>
-        ensures { OnOk result ((rest : List ℕ) → text_with self.new rest ≡ text_with self.old (part.now ++ rest)) }
+        ensures { OnOk result ((rest : List ℕ) → text_with self.new rest
+            ≡ text_with self.old (part.now ++ rest)) }
     {
         for byte in part {
             self.take_byte(*byte)?;
@@ -78,7 +79,8 @@ impl SymbolLine {
     }
 
     fn take_byte(&mut self, byte: u8) -> Result<(), AllocError>
-        ensures { OnOk result ((rest : List ℕ) → text_with self.new rest ≡ text_with self.old (byte ∷ rest)) }
+        ensures { OnOk result ((rest : List ℕ) → text_with self.new rest
+            ≡ text_with self.old (byte ∷ rest)) }
     {
         match self.begun {
             Begun::Name(_, _) => self.name.push(byte)?,

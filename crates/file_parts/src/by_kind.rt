@@ -44,8 +44,10 @@ fn safety_props(
     requires counted { length codes.now ≡ safety_count header.now }
     requires literals { All (λ lit. lit < 2 ^ 29) codes.now }
     ensures outputs { IfOk result (λ parts. parts.0 ≡ take header.now.outputs codes.now) }
-    ensures bad { IfOk result (λ parts. parts.1 ≡ take header.now.bad (drop header.now.outputs codes.now)) }
-    ensures constraints { IfOk result (λ parts. parts.2 ≡ drop (header.now.outputs + header.now.bad) codes.now) }
+    ensures bad { IfOk result (λ parts. parts.1 ≡ take header.now.bad
+        (drop header.now.outputs codes.now)) }
+    ensures constraints { IfOk result (λ parts. parts.2
+        ≡ drop (header.now.outputs + header.now.bad) codes.now) }
 {
     let (outputs, rest) = codes.split_at(header.outputs as usize);
     let (bad, constraints) = rest.split_at(header.bad as usize);

@@ -50,7 +50,9 @@ impl KindNames {
     /// One more name, and whether its position is new: where it has a name already, nothing changes.
     pub(crate) fn insert(&mut self, position: u32, name: Sequence<u8>) -> Result<bool, NoMemory>
         ensures new { IfOk result (λ is_new. is_new ≡ not (has_position self.old position)) }
-        ensures names { IfOk result (λ is_new. self.new ≡ (if is_new then with_name self.old (record { position = position; name = name }) else self.old)) }
+        ensures names { IfOk result (λ is_new. self.new
+            ≡ (if is_new then with_name self.old
+            (record { position = position; name = name }) else self.old)) }
         ensures err { OnErr result (self.new ≡ self.old) }
     {
         if self.names.contains_key(&position) {

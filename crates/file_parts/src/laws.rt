@@ -8,5 +8,6 @@ ghost use Rattle.file_parts.specs.Parts.{NetlistLaw};
 /// A graph, properties' literals in its range and symbols that name a thing of their own, as many of each as the header
 /// says, make a circuit.
 pub fn netlist_law()
-    ensures { (h : Header) (g : Graph) (symbols : List RawSymbol) (l : Lists) → NetlistLaw h g symbols l }
+    ensures { (h : Header) (g : Graph) (symbols : List RawSymbol) (l : Lists)
+        → NetlistLaw h g symbols l }
 {}

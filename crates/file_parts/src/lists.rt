@@ -48,7 +48,8 @@ impl PropertyLists {
 
     /// One more literal of an output, a bad state or a constraint.
     pub fn push_safety(&mut self, lit: u32) -> Result<(), NoMemory>
-        ensures ok { OnOk result (self.new ≡ record self.old { safety = self.old.safety ++ lit ∷ [] }) }
+        ensures ok { OnOk result (self.new ≡ record self.old
+            { safety = self.old.safety ++ lit ∷ [] }) }
         ensures err { OnErr result (self.new ≡ self.old) }
     {
         self.safety.push(lit)?;
@@ -58,7 +59,8 @@ impl PropertyLists {
     /// One more justice property, by the number of its literals.
     pub fn push_size(&mut self, size: u32) -> Result<(), NoMemory>
         requires { sum self.old.sizes + size < 2 ^ 32 }
-        ensures ok { OnOk result (self.new ≡ record self.old { sizes = self.old.sizes ++ size ∷ [] }) }
+        ensures ok { OnOk result (self.new ≡ record self.old
+            { sizes = self.old.sizes ++ size ∷ [] }) }
         ensures err { OnErr result (self.new ≡ self.old) }
     {
         self.sizes.push(size)?;
@@ -68,7 +70,8 @@ impl PropertyLists {
 
     /// One more literal of a justice property, or after those a fairness literal.
     pub fn push_liveness(&mut self, lit: u32) -> Result<(), NoMemory>
-        ensures ok { OnOk result (self.new ≡ record self.old { liveness = self.old.liveness ++ lit ∷ [] }) }
+        ensures ok { OnOk result (self.new ≡ record self.old
+            { liveness = self.old.liveness ++ lit ∷ [] }) }
         ensures err { OnErr result (self.new ≡ self.old) }
     {
         self.liveness.push(lit)?;
@@ -149,7 +152,8 @@ impl PropertyLists {
         requires liveness { length self.liveness ≡ sum self.sizes + header.now.fairness }
         requires safety_literals { All (λ lit. lit < 2 ^ 29) self.safety }
         requires liveness_literals { All (λ lit. lit < 2 ^ 29) self.liveness }
-        ensures { IfOk result (λ props. props ≡ props_of header.now self.safety self.sizes self.liveness) }
+        ensures { IfOk result (λ props. props ≡ props_of header.now self.safety self.sizes
+            self.liveness) }
     {
         props(
             alloc,

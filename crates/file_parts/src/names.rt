@@ -59,8 +59,14 @@ impl Names {
         position: u32,
         name: Sequence<u8>,
     ) -> Result<bool, NoMemory>
-        ensures new { (symbols : List RawSymbol) → AreNamesOf self.old symbols → IfOk result (λ is_new. is_new ≡ not (list_any (is_of_same (symbol_at kind position name)) symbols)) }
-        ensures names { (symbols : List RawSymbol) → AreNamesOf self.old symbols → IfOk result (λ is_new. AreNamesOf self.new (with_new is_new symbols (symbol_at kind position name))) }
+        ensures new { (symbols : List RawSymbol) → AreNamesOf self.old symbols
+            → IfOk result
+            (λ is_new. is_new
+            ≡ not (list_any (is_of_same (symbol_at kind position name)) symbols)) }
+        ensures names { (symbols : List RawSymbol) → AreNamesOf self.old symbols
+            → IfOk result
+            (λ is_new. AreNamesOf self.new
+            (with_new is_new symbols (symbol_at kind position name))) }
         ensures err { OnErr result (self.new ≡ self.old) }
     {
         self.put(kind, position, name)
@@ -68,8 +74,11 @@ impl Names {
 
     /// The same, by the names alone.
     fn put(&mut self, kind: SymbolKind, position: u32, name: Sequence<u8>) -> Result<bool, NoMemory>
-        ensures new { IfOk result (λ is_new. is_new ≡ not (has_position (names_in self.old kind) position)) }
-        ensures names { IfOk result (λ is_new. self.new ≡ (if is_new then with_symbol_in self.old (symbol_at kind position name) else self.old)) }
+        ensures new { IfOk result (λ is_new. is_new
+            ≡ not (has_position (names_in self.old kind) position)) }
+        ensures names { IfOk result (λ is_new. self.new
+            ≡ (if is_new then with_symbol_in self.old
+            (symbol_at kind position name) else self.old)) }
         ensures err { OnErr result (self.new ≡ self.old) }
     {
         match kind {

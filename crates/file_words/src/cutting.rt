@@ -3,7 +3,8 @@ ghost use Rattle.file_words.specs.Cuts.{lacks, Cuts, IsFirst};
 
 /// The bytes before the first mark and those after it, or `None` where there is no mark.
 pub fn cut(bytes: &[u8], mark: u8) -> Option<(&[u8], &[u8])>
-    ensures { MatchOption result (lacks mark bytes.now ≡ true) (λ parts. Cuts mark bytes.now parts.0.now parts.1.now) }
+    ensures { MatchOption result (lacks mark bytes.now ≡ true)
+        (λ parts. Cuts mark bytes.now parts.0.now parts.1.now) }
 {
     match mark_at(bytes, mark) {
         Some(end) => Some((&bytes[..end], &bytes[end + 1..])),

@@ -42,7 +42,8 @@ pub fn leaving_marks(
     keep: &Keep,
 ) -> Result<Vec<bool>, NoMemory>
     requires { IsPassSet aig.now keep.now pass.now }
-    ensures { IfOk result (λ marks. marks.items ≡ table (first_latch aig.now) (latches_and_gates aig.now) (leaves aig.now props.now keep.now)) }
+    ensures { IfOk result (λ marks. marks.items ≡ table (first_latch aig.now)
+        (latches_and_gates aig.now) (leaves aig.now props.now keep.now)) }
 {
     let mut leaving = vec![in alloc; false; aig.latches_and_gates()]?;
     let marks = leaving.as_mut_slice();
@@ -53,7 +54,9 @@ pub fn leaving_marks(
 
 /// Marks the known latches and the passable gates.
 fn node_marks(alloc: Global, aig: &Aig, pass: &PassSet) -> Result<Vec<bool>, NoMemory>
-    ensures { IfOk result (λ marks. (held : List ℕ) → IsPassSet aig.now held pass.now → marks.items ≡ table (first_latch aig.now) (latches_and_gates aig.now) (has_node aig.now held)) }
+    ensures { IfOk result (λ marks. (held : List ℕ) → IsPassSet aig.now held pass.now
+        → marks.items
+        ≡ table (first_latch aig.now) (latches_and_gates aig.now) (has_node aig.now held)) }
 {
     let first = aig.first_latch();
     let entries = aig.latches_and_gates();
@@ -67,14 +70,16 @@ fn node_marks(alloc: Global, aig: &Aig, pass: &PassSet) -> Result<Vec<bool>, NoM
 
 #[tactic(auto, unfolding(crate::specs::Capacity::has_node))]
 fn has_node(aig: &Aig, pass: &PassSet, var: u32) -> bool
-    ensures { (held : List ℕ) → IsPassSet aig.now held pass.now → result ≡ has_node aig.now held var }
+    ensures { (held : List ℕ) → IsPassSet aig.now held pass.now
+        → result ≡ has_node aig.now held var }
 {
     aig.is_known_latch(var) || pass.has(var)
 }
 
 /// The entry of a variable, or 0 where the table has none.
 fn entry_or_zero(entries: &[u32], first: u32, var: u32) -> u32
-    ensures { result ≡ (if nat_le first var then slice_index_or entries.now (var - first) 0 else 0) }
+    ensures { result ≡ (if nat_le first var then slice_index_or entries.now
+        (var - first) 0 else 0) }
 {
     if var < first {
         return 0;
@@ -86,7 +91,8 @@ fn entry_or_zero(entries: &[u32], first: u32, var: u32) -> u32
 fn count_latches(marks: &[bool], latches: usize) -> u32
     requires among { latches ≤ length marks.now }
     requires small { latches ≤ 2 ^ 30 }
-    ensures { (first : ℕ) (p : ℕ → Bool) → AreAllMarks first (take latches marks.now) p → result ≡ count_below p (first + latches) }
+    ensures { (first : ℕ) (p : ℕ → Bool) → AreAllMarks first (take latches marks.now) p
+        → result ≡ count_below p (first + latches) }
 {
     count_marks(&marks[..latches])
 }
@@ -121,8 +127,12 @@ impl<'a> Layout<'a> {
     /// What a node, which isn't the source or the sink, is linked to.
     #[inline(always)]
     pub fn links(&self, v: u32) -> NodeLinks
-        requires { (g : Graph) × (props : PropsOf) × (held : List ℕ) × IsLayout g props held self.now × (2 ≤ v) × (v < node_total g held) }
-        ensures links { (g : Graph) (props : PropsOf) (held : List ℕ) → IsLayout g props held self.now → v < node_total g held → AreLinks (capacity g props held) v (links_of (2 + latch_count g held) (great g held) result) }
+        requires { (g : Graph) × (props : PropsOf) × (held : List ℕ)
+            × IsLayout g props held self.now × (2 ≤ v) × (v < node_total g held) }
+        ensures links { (g : Graph) (props : PropsOf) (held : List ℕ)
+            → IsLayout g props held self.now → v < node_total g held
+            → AreLinks (capacity g props held) v
+            (links_of (2 + latch_count g held) (great g held) result) }
         ensures fit { NumbersFit result }
     {
         let place = v - 2;
@@ -141,8 +151,12 @@ impl<'a> Layout<'a> {
 
     /// What the node before a gate is linked to.
     fn before_links(&self, var: u32) -> NodeLinks
-        requires { (g : Graph) × (props : PropsOf) × (held : List ℕ) × IsLayout g props held self.now × (first_gate g ≤ var) × (var < variables_end g) × (has_node g held var ≡ true) }
-        ensures links { (g : Graph) (props : PropsOf) (held : List ℕ) → IsLayout g props held self.now → first_gate g ≤ var → var < variables_end g → has_node g held var ≡ true
+        requires { (g : Graph) × (props : PropsOf) × (held : List ℕ)
+            × IsLayout g props held self.now × (first_gate g ≤ var) × (var < variables_end g)
+            × (has_node g held var ≡ true) }
+        ensures links { (g : Graph) (props : PropsOf) (held : List ℕ)
+            → IsLayout g props held self.now → first_gate g ≤ var → var < variables_end g
+            → has_node g held var ≡ true
             → AreLinks (capacity g props held) (before_number g held var) (links_of (2 + latch_count g held) (great g held) result) }
         ensures fit { NumbersFit result }
     {
@@ -158,22 +172,26 @@ impl<'a> Layout<'a> {
 
     /// Whether the variable's output leaves the frame.
     fn leaves(&self, var: u32) -> bool
-        ensures { (g : Graph) (props : PropsOf) (held : List ℕ) → IsLayout g props held self.now → first_latch g ≤ var → var < variables_end g → result ≡ leaves g props held var }
+        ensures { (g : Graph) (props : PropsOf) (held : List ℕ) → IsLayout g props held self.now
+            → first_latch g ≤ var → var < variables_end g → result ≡ leaves g props held var }
     {
         mark_at(self.leaving.as_slice(), self.aig.first_latch(), var)
     }
 
     /// The variable's number.
     fn number(&self, var: u32) -> u32
-        ensures { (g : Graph) (props : PropsOf) (held : List ℕ) → IsLayout g props held self.now → first_latch g ≤ var → var < variables_end g → result ≡ latch_number g held var }
+        ensures { (g : Graph) (props : PropsOf) (held : List ℕ) → IsLayout g props held self.now
+            → first_latch g ≤ var → var < variables_end g → result ≡ latch_number g held var }
     {
         entry_or_zero(self.numbers.as_slice(), self.aig.first_latch(), var)
     }
 
     /// The number of nodes.
     pub fn nodes(&self) -> u32
-        requires { (g : Graph) × (props : PropsOf) × (held : List ℕ) × IsLayout g props held self.now }
-        ensures { (g : Graph) (props : PropsOf) (held : List ℕ) → IsLayout g props held self.now → result ≡ node_total g held }
+        requires { (g : Graph) × (props : PropsOf) × (held : List ℕ)
+            × IsLayout g props held self.now }
+        ensures { (g : Graph) (props : PropsOf) (held : List ℕ) → IsLayout g props held self.now
+            → result ≡ node_total g held }
     {
         let variables = self.variables.len() as u32;
         2 + self.latches + 2 * (variables - self.latches)

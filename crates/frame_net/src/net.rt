@@ -140,7 +140,8 @@ impl Net {
     pub fn heads(&self, v: u32) -> &[u32]
         requires { v < node_count self.now }
         ensures len { length result.now ≡ row_len self.now v }
-        ensures value { (k : ℕ) → k < row_len self.now v → slice_index result.now k ≡ head self.now v k }
+        ensures value { (k : ℕ) → k < row_len self.now v
+            → slice_index result.now k ≡ head self.now v k }
     {
         let from = self.starts[v as usize] as usize;
         let to = self.starts[v as usize + 1] as usize;
@@ -151,7 +152,8 @@ impl Net {
     pub fn mates(&self, v: u32) -> &[u32]
         requires { v < node_count self.now }
         ensures len { length result.now ≡ row_len self.now v }
-        ensures value { (k : ℕ) → k < row_len self.now v → slice_index result.now k ≡ mate self.now v k }
+        ensures value { (k : ℕ) → k < row_len self.now v
+            → slice_index result.now k ≡ mate self.now v k }
     {
         let from = self.starts[v as usize] as usize;
         let to = self.starts[v as usize + 1] as usize;

@@ -23,7 +23,8 @@ impl PassSet {
     /// Whether the variable is a passable gate.
     pub fn has(&self, var: u32) -> bool
         ensures value { result ≡ mark_at self.now.first self.now.marks.items var }
-        ensures passable { (g : Graph) (held : List ℕ) → IsPassSet g held self.now → (IsTrue result ↔ IsPassable g held var) }
+        ensures passable { (g : Graph) (held : List ℕ) → IsPassSet g held self.now
+            → (IsTrue result ↔ IsPassable g held var) }
     {
         mark_at(self.marks.as_slice(), self.first, var)
     }
@@ -31,7 +32,8 @@ impl PassSet {
     /// The number of passable gates.
     pub fn count(&self) -> u32
         ensures value { result ≡ self.now.count }
-        ensures passable { (g : Graph) (held : List ℕ) → IsPassSet g held self.now → result ≡ length (passable_gates g held) }
+        ensures passable { (g : Graph) (held : List ℕ) → IsPassSet g held self.now
+            → result ≡ length (passable_gates g held) }
     {
         self.count
     }
@@ -46,13 +48,15 @@ impl PassSet {
 
 /// Whether the variable is a marked gate or a known latch that isn't held.
 fn is_settled(marks: &[bool], aig: &Aig, keep: &Keep, var: u32) -> bool
-    ensures { result ≡ (mark_at (first_latch aig.now) marks.now var || may_move aig.now keep.now var) }
+    ensures { result ≡ (mark_at (first_latch aig.now) marks.now var || may_move aig.now
+        keep.now var) }
 {
     mark_at(marks, aig.first_latch(), var) || keep.may_move(aig, var)
 }
 
 fn rests_on_settled(marks: &[bool], aig: &Aig, keep: &Keep, gate: Gate) -> bool
-    ensures { result ≡ ((mark_at (first_latch aig.now) marks.now (variable gate.rhs0) || may_move aig.now keep.now (variable gate.rhs0))
+    ensures { result ≡ ((mark_at (first_latch aig.now) marks.now
+        (variable gate.rhs0) || may_move aig.now keep.now (variable gate.rhs0))
         && (mark_at (first_latch aig.now) marks.now (variable gate.rhs1) || may_move aig.now keep.now (variable gate.rhs1))) }
 {
     is_settled(marks, aig, keep, gate.rhs0.var()) && is_settled(marks, aig, keep, gate.rhs1.var())
@@ -60,7 +64,9 @@ fn rests_on_settled(marks: &[bool], aig: &Aig, keep: &Keep, gate: Gate) -> bool
 
 /// The marks of the latches, which are no gates, with room for those of the gates.
 fn latch_marks(alloc: Global, aig: &Aig) -> Result<Vec<bool>, NoMemory>
-    ensures { IfOk result (λ marks. (held : List ℕ) → marks.items ≡ table (first_latch aig.now) (length aig.now.latches) (is_passable aig.now held)) }
+    ensures { IfOk result (λ marks. (held : List ℕ)
+        → marks.items
+        ≡ table (first_latch aig.now) (length aig.now.latches) (is_passable aig.now held)) }
 {
     let mut marks = Vec::with_capacity(alloc, aig.latches_and_gates())?;
     for _latch in aig.latches() {
@@ -71,8 +77,10 @@ fn latch_marks(alloc: Global, aig: &Aig) -> Result<Vec<bool>, NoMemory>
 
 /// Appends the marks of the gates. Fan-ins come before their gates, so their marks are there.
 fn push_gates(marks: &mut Vec<bool>, aig: &Aig, keep: &Keep) -> Result<(), NoMemory>
-    requires { marks.old.items ≡ table (first_latch aig.now) (length aig.now.latches) (is_passable aig.now keep.now) }
-    ensures filled { OnOk result (marks.new.items ≡ table (first_latch aig.now) (latches_and_gates aig.now) (is_passable aig.now keep.now)) }
+    requires { marks.old.items ≡ table (first_latch aig.now) (length aig.now.latches)
+        (is_passable aig.now keep.now) }
+    ensures filled { OnOk result (marks.new.items ≡ table (first_latch aig.now)
+        (latches_and_gates aig.now) (is_passable aig.now keep.now)) }
     ensures small { latches_and_gates aig.now ≤ MAX_VARIABLES }
 {
     for gate in aig.gates() {

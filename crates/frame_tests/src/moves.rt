@@ -15,7 +15,8 @@ use std::test::Fail;
 
 /// Whether there is room for the free latches and so many others beside the gates.
 fn has_room(aig: &Aig, others: u32) -> bool
-    ensures { IsTrue result → first_latch aig.now + free_latches aig.now + others + length aig.now.gates ≤ MAX_VARIABLES }
+    ensures { IsTrue result → first_latch aig.now + free_latches aig.now + others + length
+        aig.now.gates ≤ MAX_VARIABLES }
 {
     aig.first_latch() as usize + aig.free_latches() as usize + others as usize + aig.gates().len()
         <= MAX_VARIABLES

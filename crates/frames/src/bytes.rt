@@ -25,7 +25,8 @@ fn write_answer<W: CountedWrite>(
     writer: &mut W,
     options: &Options,
 ) -> Result<(), WriteError>
-    ensures { Writes (W.output writer.old) (W.output writer.new) result (text_for options.now spelt.now retimed.now) }
+    ensures { Writes (W.output writer.old) (W.output writer.new) result
+        (text_for options.now spelt.now retimed.now) }
 {
     let spelling = options.spelling.unwrap_or(spelt.spelling);
     write(&retimed.circuit, spelling, writer)
@@ -48,8 +49,10 @@ fn retime_spelt<W: CountedWrite, G: PhaseGate>(
     options: &Options,
     crew: &Crew<G>,
 ) -> Result<Retimed, BytesError>
-    ensures ok { IfOk result (IsWritten options.now spelt.now (W.output writer.old) (W.output writer.new)) }
-    ensures err { IfErr result (IsStop options.now spelt.now (W.output writer.old) (W.output writer.new)) }
+    ensures ok { IfOk result (IsWritten options.now spelt.now (W.output writer.old)
+        (W.output writer.new)) }
+    ensures err { IfErr result (IsStop options.now spelt.now (W.output writer.old)
+        (W.output writer.new)) }
 {
     let retimed = retime(rt, alloc, &spelt.circuit, options, crew)?;
     in_range(&retimed.circuit);
@@ -83,8 +86,10 @@ pub fn retime_bytes<R: CountedRead, W: CountedWrite, G: PhaseGate>(
     crew: &Crew<G>,
 ) -> Result<Retimed, BytesError>
     ensures read { OnOk result (ReadsToEnd (R.input reader.old) (R.input reader.new)) }
-    ensures answer { IfOk result (IsAnswered (R.input reader.old) (W.output writer.old) (W.output writer.new) options.now) }
-    ensures err { IfErr result (IsBytesError options.now (R.input reader.old) (R.input reader.new) (W.output writer.old) (W.output writer.new)) }
+    ensures answer { IfOk result (IsAnswered (R.input reader.old) (W.output writer.old)
+        (W.output writer.new) options.now) }
+    ensures err { IfErr result (IsBytesError options.now (R.input reader.old) (R.input reader.new)
+        (W.output writer.old) (W.output writer.new)) }
 {
     retime_bytes_by(
         rt,
@@ -109,8 +114,10 @@ fn retime_bytes_by<R: CountedRead, W: CountedWrite, C: CircuitReader + Drop, G: 
 ) -> Result<Retimed, BytesError>
     requires { C.holds circuits [] }
     ensures read { OnOk result (ReadsToEnd (R.input reader.old) (R.input reader.new)) }
-    ensures answer { IfOk result (IsAnswered (R.input reader.old) (W.output writer.old) (W.output writer.new) options.now) }
-    ensures err { IfErr result (IsBytesError options.now (R.input reader.old) (R.input reader.new) (W.output writer.old) (W.output writer.new)) }
+    ensures answer { IfOk result (IsAnswered (R.input reader.old) (W.output writer.old)
+        (W.output writer.new) options.now) }
+    ensures err { IfErr result (IsBytesError options.now (R.input reader.old) (R.input reader.new)
+        (W.output writer.old) (W.output writer.new)) }
 {
     retime_bytes_with(rt, alloc, reader, &mut circuits, writer, options, crew)
 }
@@ -127,8 +134,10 @@ pub fn retime_bytes_with<R: CountedRead, W: CountedWrite, C: CircuitReader, G: P
 ) -> Result<Retimed, BytesError>
     requires { C.holds circuits.old [] }
     ensures read { OnOk result (ReadsToEnd (R.input reader.old) (R.input reader.new)) }
-    ensures answer { IfOk result (IsAnswered (R.input reader.old) (W.output writer.old) (W.output writer.new) options.now) }
-    ensures err { IfErr result (IsBytesError options.now (R.input reader.old) (R.input reader.new) (W.output writer.old) (W.output writer.new)) }
+    ensures answer { IfOk result (IsAnswered (R.input reader.old) (W.output writer.old)
+        (W.output writer.new) options.now) }
+    ensures err { IfErr result (IsBytesError options.now (R.input reader.old) (R.input reader.new)
+        (W.output writer.old) (W.output writer.new)) }
 {
     let spelt = read_circuit(reader, circuits)?;
     let answer = retime_spelt(rt, alloc, &spelt, writer, options, crew);

@@ -43,9 +43,11 @@ fn moved_over(
     requires graph { IsGraph circuit.now.aig }
     requires tidy { IsTidyIn (names_in options.now) circuit.now }
     requires helps { IsHelpingSet options.now.choice (names_in options.now) circuit.now set.now }
-    ensures cleaned { IfOk result (λ d. CleansIn (names_in options.now) (moved_in (names_in options.now) circuit.now set.now) d.circuit d.kept_free) }
+    ensures cleaned { IfOk result (λ d. CleansIn (names_in options.now)
+        (moved_in (names_in options.now) circuit.now set.now) d.circuit d.kept_free) }
     ensures streams { IfOk result (λ d. SameStreams circuit.now d.circuit d.kept_free) }
-    ensures held { IfOk result (λ d. held_latches (names_in options.now) d.circuit ≡ held_latches (names_in options.now) circuit.now) }
+    ensures held { IfOk result (λ d. held_latches (names_in options.now) d.circuit
+        ≡ held_latches (names_in options.now) circuit.now) }
     ensures tidy { IfOk result (λ d. IsTidyIn (names_in options.now) d.circuit) }
 {
     let _aig = circuit.aig();
@@ -95,8 +97,11 @@ pub(crate) fn next_frame<G: PhaseGate>(
 ) -> Result<Option<Frame>, NoMemory>
     requires names { NoneMissing options.now circuit.now }
     requires tidy { IsTidyIn (names_in options.now) circuit.now }
-    ensures found { IfOk result (λ found. MatchOption found (NoneSmaller (names_in options.now) circuit.now) (Moves options.now.choice (names_in options.now) circuit.now)) }
-    ensures certificate { OnOk result (AddsChosen options.now.choice (names_in options.now) circuit.now records.old records.new) }
+    ensures found { IfOk result (λ found. MatchOption found
+        (NoneSmaller (names_in options.now) circuit.now)
+        (Moves options.now.choice (names_in options.now) circuit.now)) }
+    ensures certificate { OnOk result (AddsChosen options.now.choice
+        (names_in options.now) circuit.now records.old records.new) }
 {
     let _aig = circuit.aig();
     let keep = held(alloc, circuit, options)?;

@@ -33,8 +33,11 @@ pub(crate) fn helping_set<G: PhaseGate>(
     records: &mut Records,
 ) -> Result<Option<Helping>, NoMemory>
     requires { keep.now ≡ held_in (names_in options.now) circuit.now }
-    ensures found { IfOk result (λ found. MatchOption found (NoneSmaller (names_in options.now) circuit.now) (Helps options.now.choice (names_in options.now) circuit.now)) }
-    ensures certificate { OnOk result (AddsChosen options.now.choice (names_in options.now) circuit.now records.old records.new) }
+    ensures found { IfOk result (λ found. MatchOption found
+        (NoneSmaller (names_in options.now) circuit.now)
+        (Helps options.now.choice (names_in options.now) circuit.now)) }
+    ensures certificate { OnOk result (AddsChosen options.now.choice
+        (names_in options.now) circuit.now records.old records.new) }
 {
     let set = chosen_least_along(rt, alloc, circuit, keep, options.choice, crew, records)?;
     let _aig = circuit.aig();

@@ -57,7 +57,8 @@ pub(crate) fn with_frame(
     report: FrameReport,
 ) -> Result<History, NoMemory>
     requires { All (λ place. place < length history.kept_free) places.now }
-    ensures kept_free { IfOk result (λ after. after.kept_free ≡ composed history.kept_free places.now) }
+    ensures kept_free { IfOk result (λ after. after.kept_free
+        ≡ composed history.kept_free places.now) }
     ensures read_latches { IfOk result (λ after. after.read_latches ≡ history.read_latches) }
     ensures frames { IfOk result (λ after. after.frames ≡ history.frames ++ report ∷ []) }
 {

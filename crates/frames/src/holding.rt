@@ -31,9 +31,11 @@ pub(crate) fn cleaned(
     options: &Options,
 ) -> Result<Cleaned, NoMemory>
     requires { keep.now ≡ held_in (names_in options.now) circuit.now }
-    ensures cleaned { IfOk result (λ d. CleansIn (names_in options.now) circuit.now d.circuit d.kept_free) }
+    ensures cleaned { IfOk result (λ d. CleansIn (names_in options.now) circuit.now d.circuit
+        d.kept_free) }
     ensures streams { IfOk result (λ d. SameStreams circuit.now d.circuit d.kept_free) }
-    ensures held { IfOk result (λ d. held_latches (names_in options.now) d.circuit ≡ held_latches (names_in options.now) circuit.now) }
+    ensures held { IfOk result (λ d. held_latches (names_in options.now) d.circuit
+        ≡ held_latches (names_in options.now) circuit.now) }
     ensures tidy { IfOk result (λ d. IsTidyIn (names_in options.now) d.circuit) }
 {
     // That the names are those of latches in range is what a circuit's readers ensure.
@@ -48,9 +50,11 @@ pub(crate) fn cleaned_by_names(
     options: &Options,
 ) -> Result<Cleaned, NoMemory>
     requires { NoneMissing options.now circuit.now }
-    ensures cleaned { IfOk result (λ d. CleansIn (names_in options.now) circuit.now d.circuit d.kept_free) }
+    ensures cleaned { IfOk result (λ d. CleansIn (names_in options.now) circuit.now d.circuit
+        d.kept_free) }
     ensures streams { IfOk result (λ d. SameStreams circuit.now d.circuit d.kept_free) }
-    ensures held { IfOk result (λ d. held_latches (names_in options.now) d.circuit ≡ held_latches (names_in options.now) circuit.now) }
+    ensures held { IfOk result (λ d. held_latches (names_in options.now) d.circuit
+        ≡ held_latches (names_in options.now) circuit.now) }
     ensures tidy { IfOk result (λ d. IsTidyIn (names_in options.now) d.circuit) }
 {
     let keep = held(alloc, circuit, options)?;

@@ -11,5 +11,6 @@ pub fn read_limits_law()
 /// A circuit that is retimed keeps the number of its properties and gets no new name: so it stays within the limits of a
 /// header.
 pub fn retimed_limits_law()
-    ensures { (choice : Choice) (c : Netlist) (names : List (List ℕ)) (max_frames : ℕ) (certify : Bool) → StaysWithin choice c names max_frames certify }
+    ensures { (choice : Choice) (c : Netlist) (names : List (List ℕ)) (max_frames : ℕ)
+        (certify : Bool) → StaysWithin choice c names max_frames certify }
 {}

@@ -56,9 +56,12 @@ fn after_frame(
     frame: Frame,
     options: &Options,
 ) -> Result<Retimed, NoMemory>
-    requires underway { (c : Netlist) × (n : ℕ) × IsUnderway options.now.choice (names_in options.now) c n retimed }
+    requires underway { (c : Netlist) × (n : ℕ) × IsUnderway options.now.choice
+        (names_in options.now) c n retimed }
     requires moves { Moves options.now.choice (names_in options.now) retimed.circuit frame }
-    ensures { IfOk result (λ after. (c : Netlist) (n : ℕ) → IsUnderway options.now.choice (names_in options.now) c n retimed → IsUnderway options.now.choice (names_in options.now) c (suc n) after) }
+    ensures { IfOk result (λ after. (c : Netlist) (n : ℕ)
+        → IsUnderway options.now.choice (names_in options.now) c n retimed
+        → IsUnderway options.now.choice (names_in options.now) c (suc n) after) }
 {
     let Frame { cleaned, report } = frame;
     let places = cleaned.kept_free.as_slice();
@@ -90,8 +93,10 @@ fn all_frames<G: PhaseGate>(
 ) -> Result<Retimed, NoMemory>
     requires keep { keep.now ≡ held_in (names_in options.now) circuit.now }
     requires names { NoneMissing options.now circuit.now }
-    requires none { AreCollected options.now.choice (names_in options.now) circuit.now options.now.certify 0 records.old }
-    ensures { IfOk result (IsRun options.now.choice (names_in options.now) circuit.now options.now.max_frames options.now.certify records.new) }
+    requires none { AreCollected options.now.choice
+        (names_in options.now) circuit.now options.now.certify 0 records.old }
+    ensures { IfOk result (IsRun options.now.choice
+        (names_in options.now) circuit.now options.now.max_frames options.now.certify records.new) }
 {
     let mut retimed = begun(alloc, circuit, keep, options)?;
     for _ in 0..options.max_frames {
@@ -143,7 +148,8 @@ fn retime_held<G: PhaseGate>(
 ) -> Result<Retimed, NoMemory>
     requires keep { keep.now ≡ held_in (names_in options.now) circuit.now }
     requires names { NoneMissing options.now circuit.now }
-    ensures { IfOk result (IsRetimed options.now.choice circuit.now (names_in options.now) options.now.max_frames options.now.certify) }
+    ensures { IfOk result (IsRetimed options.now.choice circuit.now
+        (names_in options.now) options.now.max_frames options.now.certify) }
 {
     let mut records = Records::new(alloc, options.certify);
     match all_frames(rt, alloc, circuit, keep, options, crew, &mut records) {
@@ -173,9 +179,11 @@ pub fn retime<G: PhaseGate>(
     options: &Options,
     crew: &Crew<G>,
 ) -> Result<Retimed, RetimeError>
-    ensures retimed { IfOk result (IsRetimed options.now.choice circuit.now (names_in options.now) options.now.max_frames options.now.certify) }
+    ensures retimed { IfOk result (IsRetimed options.now.choice circuit.now
+        (names_in options.now) options.now.max_frames options.now.certify) }
     ensures none_missing { OnOk result (NoneMissing options.now circuit.now) }
-    ensures missing { (place : ℕ) → IsErrOf result (NoSuchName place) → first_missing circuit.now.symbols.latches (names_in options.now) ≡ Some place }
+    ensures missing { (place : ℕ) → IsErrOf result (NoSuchName place)
+        → first_missing circuit.now.symbols.latches (names_in options.now) ≡ Some place }
 {
     let keep = keep_of(alloc, circuit, options.keep.as_slice())?;
     let retimed = retime_held(rt, alloc, circuit, &keep, options, crew)?;

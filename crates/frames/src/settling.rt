@@ -38,9 +38,11 @@ fn as_cleaned(alloc: Global, circuit: Circuit) -> Result<Cleaned, NoMemory>
 /// A circuit cleaned, and dropped.
 fn cleaned_over(alloc: Global, circuit: Circuit, options: &Options) -> Result<Cleaned, NoMemory>
     requires { NoneMissing options.now circuit }
-    ensures cleaned { IfOk result (λ d. CleansIn (names_in options.now) circuit d.circuit d.kept_free) }
+    ensures cleaned { IfOk result (λ d. CleansIn (names_in options.now) circuit d.circuit
+        d.kept_free) }
     ensures streams { IfOk result (λ d. SameStreams circuit d.circuit d.kept_free) }
-    ensures held { IfOk result (λ d. held_latches (names_in options.now) d.circuit ≡ held_latches (names_in options.now) circuit) }
+    ensures held { IfOk result (λ d. held_latches (names_in options.now) d.circuit
+        ≡ held_latches (names_in options.now) circuit) }
     ensures tidy { IfOk result (λ d. IsTidyIn (names_in options.now) d.circuit) }
 {
     let cleaned = cleaned_by_names(alloc, &circuit, options);
@@ -51,7 +53,8 @@ fn cleaned_over(alloc: Global, circuit: Circuit, options: &Options) -> Result<Cl
 /// Whether the low copies are tidy, of a circuit whose last gates are so many copies.
 fn is_settled(alloc: Global, circuit: &Circuit, copies: usize) -> Result<bool, NoMemory>
     requires { copies ≤ length circuit.now.aig.gates }
-    ensures lows { IfOk result (λ yes. yes ≡ true → AreLowTidy circuit.now.aig (length circuit.now.aig.gates - copies)) }
+    ensures lows { IfOk result (λ yes. yes ≡ true → AreLowTidy circuit.now.aig
+        (length circuit.now.aig.gates - copies)) }
     ensures graph { IsGraph circuit.now.aig }
     ensures netlist { IsNetlist circuit.now }
 {
@@ -67,10 +70,13 @@ pub(crate) fn settled(
 ) -> Result<Cleaned, NoMemory>
     requires copies { copies ≤ length circuit.aig.gates }
     requires names { NoneMissing options.now circuit }
-    requires tidy { AreLowTidy circuit.aig (length circuit.aig.gates - copies) → IsTidyIn (names_in options.now) circuit }
-    ensures cleaned { IfOk result (λ d. CleansIn (names_in options.now) circuit d.circuit d.kept_free) }
+    requires tidy { AreLowTidy circuit.aig (length circuit.aig.gates - copies)
+        → IsTidyIn (names_in options.now) circuit }
+    ensures cleaned { IfOk result (λ d. CleansIn (names_in options.now) circuit d.circuit
+        d.kept_free) }
     ensures streams { IfOk result (λ d. SameStreams circuit d.circuit d.kept_free) }
-    ensures held { IfOk result (λ d. held_latches (names_in options.now) d.circuit ≡ held_latches (names_in options.now) circuit) }
+    ensures held { IfOk result (λ d. held_latches (names_in options.now) d.circuit
+        ≡ held_latches (names_in options.now) circuit) }
     ensures tidy { IfOk result (λ d. IsTidyIn (names_in options.now) d.circuit) }
 {
     match is_settled(alloc, &circuit, copies) {

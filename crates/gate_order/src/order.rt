@@ -65,12 +65,14 @@ fn release(
     ready: &mut BinaryHeap<Reverse<u32>>,
 ) -> Result<(), NoMemory>
     requires in_file { AreReadsInFile gates.now }
-    requires tables { AreReaders (read_by side gates.now) (length gates.now) (length gates.now) readers.now.last.items readers.now.before.items }
+    requires tables { AreReaders (read_by side gates.now) (length gates.now)
+        (length gates.now) readers.now.last.items readers.now.before.items }
     requires marks { length marks.now ≡ length gates.now }
     requires place { place < length gates.now }
     requires heap { IsReadyHeap (heap_items ready.old) }
     ensures heap { OnOk result (IsReadyHeap (heap_items ready.new)) }
-    ensures each { OnOk result (Gains (is_released gates.now side marks.now place) (heap_items ready.old) (heap_items ready.new)) }
+    ensures each { OnOk result (Gains (is_released gates.now side marks.now place)
+        (heap_items ready.old) (heap_items ready.new)) }
 {
     let mut link = readers.last[place as usize];
     while link > 0 {
@@ -126,8 +128,10 @@ pub fn are_in_file(gates: &[Reads]) -> bool
 pub fn gate_order(alloc: Global, gates: &[Reads]) -> Result<Option<Vec<u32>>, NoMemory>
     requires few { length gates.now < 2 ^ 29 }
     requires in_file { AreReadsInFile gates.now }
-    ensures computed { IfOk result (λ order. option_map (λ places. places.items) order ≡ ordered gates.now) }
-    ensures rule { IfOk result (λ order. MatchOption order (HasCycle gates.now) (λ places. IsOrder gates.now places.items)) }
+    ensures computed { IfOk result (λ order. option_map (λ places. places.items) order
+        ≡ ordered gates.now) }
+    ensures rule { IfOk result (λ order. MatchOption order (HasCycle gates.now)
+        (λ places. IsOrder gates.now places.items)) }
 {
     if is_in_order(gates) {
         Ok(Some(file_order(alloc, gates.len())?))

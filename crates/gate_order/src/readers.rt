@@ -24,7 +24,8 @@ fn link(gates: &[Reads], side: Side, last: &mut [u32], before: &mut [u32])
     requires few { length gates.now < 2 ^ 32 }
     requires in_file { AreReadsInFile gates.now }
     requires none { AreReaders (read_by side gates.now) (length gates.now) 0 last.old before.old }
-    ensures { AreReaders (read_by side gates.now) (length gates.now) (length gates.now) last.new before.new }
+    ensures { AreReaders (read_by side gates.now) (length gates.now)
+        (length gates.now) last.new before.new }
 {
     for (place, reads) in gates.iter().enumerate() {
         if let Some(read) = reads.by(side) {
@@ -39,7 +40,8 @@ impl Readers {
     pub(crate) fn new(alloc: Global, gates: &[Reads], side: Side) -> Result<Readers, NoMemory>
         requires few { length gates.now < 2 ^ 32 }
         requires in_file { AreReadsInFile gates.now }
-        ensures { IfOk result (λ readers. AreReaders (read_by side gates.now) (length gates.now) (length gates.now) readers.last.items readers.before.items) }
+        ensures { IfOk result (λ readers. AreReaders (read_by side gates.now) (length gates.now)
+            (length gates.now) readers.last.items readers.before.items) }
     {
         let mut last = vec![in alloc; 0u32; gates.len()]?;
         let mut before = vec![in alloc; 0u32; gates.len()]?;

@@ -29,7 +29,8 @@ pub fn run_jobs<R: Threads + Sync, X: Send + Drop, F: Fn(u64) -> X + Sync, G: Ph
     requires few { jobs ≤ 2 ^ 62 }
     requires run { (number : ℕ) → number < jobs → F.pre run.now number }
     ensures len { IfOk result (λ outcomes. length outcomes.items ≡ jobs) }
-    ensures each { IfOk result (λ outcomes. (k : ℕ) (x : X) → k < jobs → F.post run.now k (slice_index_or outcomes.items k x)) }
+    ensures each { IfOk result (λ outcomes. (k : ℕ) (x : X) → k < jobs
+        → F.post run.now k (slice_index_or outcomes.items k x)) }
 {
     let (draws, drawers) = Draws::new(alloc, jobs, crew.workers())?;
     let gate = crew.gate();

@@ -40,7 +40,8 @@ pub fn put_outcomes<X: Drop, F: Fn(u64) -> X>(
     requires outcomes { All (IsOutcome (F.post run.now) (length slots.old.items)) outcomes.items }
     ensures len { length slots.new.items ≡ length slots.old.items }
     ensures slots { AreSlots (F.post run.now) slots.new.items }
-    ensures filled { (k : ℕ) → 0 < times k (numbers outcomes.items) + filled slots.old.items k → 0 < filled slots.new.items k }
+    ensures filled { (k : ℕ) → 0 < times k (numbers outcomes.items) + filled slots.old.items k
+        → 0 < filled slots.new.items k }
 {
     let mut left = outcomes;
     while let Some(next) = left.pop() {

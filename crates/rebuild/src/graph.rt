@@ -16,7 +16,8 @@ use variable_tables::count_marks;
 /// Adds the latches that stay, in old order.
 fn push_staying(latches: &mut Vec<Latch>, plan: &Plan<'_>) -> Result<(), NoMemory>
     requires { latches.old.items ≡ [] }
-    ensures { OnOk result (latches.new.items ≡ latches_below (planned plan.now) (first_gate (planned plan.now).circuit.aig)) }
+    ensures { OnOk result (latches.new.items ≡ latches_below (planned plan.now)
+        (first_gate (planned plan.now).circuit.aig)) }
 {
     let aig = plan.aig();
     for (k, latch) in aig.latches().iter().enumerate() {
@@ -29,9 +30,12 @@ fn push_staying(latches: &mut Vec<Latch>, plan: &Plan<'_>) -> Result<(), NoMemor
 
 /// Adds a latch for each gate of the border, in gate order, by the resets of the gates.
 fn push_border(latches: &mut Vec<Latch>, plan: &Plan<'_>, resets: &[Reset]) -> Result<(), NoMemory>
-    requires staying { latches.old.items ≡ latches_below (planned plan.now) (first_gate (planned plan.now).circuit.aig) }
-    requires resets { resets.now ≡ gate_resets (planned plan.now).circuit.aig (planned plan.now).held }
-    ensures { OnOk result (latches.new.items ≡ latches_below (planned plan.now) (variables_end (planned plan.now).circuit.aig)) }
+    requires staying { latches.old.items ≡ latches_below (planned plan.now)
+        (first_gate (planned plan.now).circuit.aig) }
+    requires resets { resets.now ≡ gate_resets (planned plan.now).circuit.aig
+        (planned plan.now).held }
+    ensures { OnOk result (latches.new.items ≡ latches_below (planned plan.now)
+        (variables_end (planned plan.now).circuit.aig)) }
 {
     let first = plan.aig().first_gate();
     for (k, reset) in resets.iter().enumerate() {
@@ -44,7 +48,8 @@ fn push_border(latches: &mut Vec<Latch>, plan: &Plan<'_>, resets: &[Reset]) -> R
 }
 
 fn moved_latches(alloc: Global, plan: &Plan<'_>) -> Result<Vec<Latch>, NoMemory>
-    ensures { IfOk result (λ latches. latches.items ≡ latches_below (planned plan.now) (variables_end (planned plan.now).circuit.aig)) }
+    ensures { IfOk result (λ latches. latches.items
+        ≡ latches_below (planned plan.now) (variables_end (planned plan.now).circuit.aig)) }
 {
     let resets = resets(alloc, plan.aig(), plan.marks.keep)?;
     let count = count_marks(plan.marks.latched.as_slice());
@@ -57,7 +62,8 @@ fn moved_latches(alloc: Global, plan: &Plan<'_>) -> Result<Vec<Latch>, NoMemory>
 /// Adds the gates outside the set, in old order.
 fn push_outside(gates: &mut Vec<Gate>, plan: &Plan<'_>) -> Result<(), NoMemory>
     requires { gates.old.items ≡ [] }
-    ensures { OnOk result (gates.new.items ≡ gates_below (planned plan.now) (variables_end (planned plan.now).circuit.aig)) }
+    ensures { OnOk result (gates.new.items ≡ gates_below (planned plan.now)
+        (variables_end (planned plan.now).circuit.aig)) }
 {
     let aig = plan.aig();
     for (k, gate) in aig.gates().iter().enumerate() {
@@ -70,7 +76,8 @@ fn push_outside(gates: &mut Vec<Gate>, plan: &Plan<'_>) -> Result<(), NoMemory>
 
 /// Adds a copy of each gate of the set, in old order.
 fn push_copies(gates: &mut Vec<Gate>, plan: &Plan<'_>) -> Result<(), NoMemory>
-    ensures { OnOk result (gates.new.items ≡ gates.old.items ++ map (copy_for (planned plan.now)) (planned plan.now).set) }
+    ensures { OnOk result (gates.new.items ≡ gates.old.items ++ map (copy_for (planned plan.now))
+        (planned plan.now).set) }
 {
     for var in plan.marks.set.vars() {
         if let Some(gate) = plan.aig().gate(*var) {

@@ -59,7 +59,8 @@ fn latched_marks(
     inside: &[bool],
     marks: &[bool],
 ) -> Result<Vec<bool>, NoMemory>
-    ensures { IfOk result (λ latched. latched.items ≡ by_variable aig.now (latched_by aig.now inside.now marks.now)) }
+    ensures { IfOk result (λ latched. latched.items
+        ≡ by_variable aig.now (latched_by aig.now inside.now marks.now)) }
 {
     let mut latched = Vec::with_capacity(alloc, aig.latches_and_gates())?;
     for var in aig.first_latch()..aig.variables() as u32 {

@@ -29,8 +29,10 @@ pub fn moved(
     requires closed { IsClosedSet circuit.now.aig keep.now set.now }
     requires room { moved_size (move_of circuit.now keep.now set.now) ≤ MAX_VARIABLES }
     ensures value { IfOk result (λ after. after ≡ moved_of (move_of circuit.now keep.now set.now)) }
-    ensures streams { IfOk result (λ after. SameStreams circuit.now after (all_free circuit.now.aig)) }
-    ensures known { IfOk result (λ after. known_latches after.aig ≡ border_size (move_of circuit.now keep.now set.now)) }
+    ensures streams { IfOk result (λ after. SameStreams circuit.now after
+        (all_free circuit.now.aig)) }
+    ensures known { IfOk result (λ after. known_latches after.aig
+        ≡ border_size (move_of circuit.now keep.now set.now)) }
 {
     let marks = MarkedSet::new(alloc, circuit, set, keep)?;
     let plan = Plan::new(alloc, marks)?;

@@ -12,8 +12,10 @@ fn staying_names(
     plan: &Plan<'_>,
     names: &[Symbol],
 ) -> Result<Sequence<Symbol>, NoMemory>
-    requires { All (λ name. name.position < length (planned plan.now).circuit.aig.latches) names.now }
-    ensures { IfOk result (λ copies. copies ≡ map (moved_name (planned plan.now)) (filter (stays (planned plan.now)) names.now)) }
+    requires { All (λ name. name.position < length (planned
+        plan.now).circuit.aig.latches) names.now }
+    ensures { IfOk result (λ copies. copies ≡ map (moved_name (planned plan.now))
+        (filter (stays (planned plan.now)) names.now)) }
 {
     let mut copies = Vec::new(alloc);
     for name in names {

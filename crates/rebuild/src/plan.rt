@@ -45,7 +45,8 @@ impl<'a> Plan<'a> {
 
     pub(crate) fn new(alloc: Global, marks: MarkedSet<'a>) -> Result<Plan<'a>, NoMemory>
         requires moved { IsGraph (moved_graph (marked marks)) }
-        requires room { copies_start (marked marks) + count_below (has (marked marks).set) (variables_end (marked marks).circuit.aig) ≤ MAX_VARIABLES }
+        requires room { copies_start (marked marks) + count_below (has (marked marks).set)
+            (variables_end (marked marks).circuit.aig) ≤ MAX_VARIABLES }
         ensures { IfOk result (λ plan. planned plan ≡ marked marks.entry) }
     {
         let first = marks.aig().first_latch();
@@ -122,7 +123,8 @@ impl<'a> Plan<'a> {
     pub(crate) fn gate(&self, gate: Gate) -> Gate
         requires first { variable gate.rhs0 < variables_end (planned self.now).circuit.aig }
         requires second { variable gate.rhs1 < variables_end (planned self.now).circuit.aig }
-        ensures { result ≡ gate_of (moved_literal (planned self.now) gate.rhs0) (moved_literal (planned self.now) gate.rhs1) }
+        ensures { result ≡ gate_of (moved_literal (planned self.now) gate.rhs0)
+            (moved_literal (planned self.now) gate.rhs1) }
     {
         Gate::of(self.literal(gate.rhs0), self.literal(gate.rhs1))
     }
@@ -131,7 +133,8 @@ impl<'a> Plan<'a> {
     pub(crate) fn copied_gate(&self, gate: Gate) -> Gate
         requires first { variable gate.rhs0 < variables_end (planned self.now).circuit.aig }
         requires second { variable gate.rhs1 < variables_end (planned self.now).circuit.aig }
-        ensures { result ≡ gate_of (advanced_literal (planned self.now) gate.rhs0) (advanced_literal (planned self.now) gate.rhs1) }
+        ensures { result ≡ gate_of (advanced_literal (planned self.now) gate.rhs0)
+            (advanced_literal (planned self.now) gate.rhs1) }
     {
         let first = self.advanced_literal(gate.rhs0);
         let second = self.advanced_literal(gate.rhs1);
@@ -141,7 +144,8 @@ impl<'a> Plan<'a> {
     /// A latch that stays, after the move.
     pub(crate) fn staying_latch(&self, latch: Latch) -> Latch
         requires { variable latch.next < variables_end (planned self.now).circuit.aig }
-        ensures { result ≡ record { next = moved_literal (planned self.now) latch.next; reset = latch.reset } }
+        ensures { result ≡ record { next = moved_literal
+            (planned self.now) latch.next; reset = latch.reset } }
     {
         Latch {
             next: self.literal(latch.next),
@@ -153,7 +157,8 @@ impl<'a> Plan<'a> {
     pub(crate) fn border_latch(&self, var: u32, reset: Reset) -> Latch
         requires within { var < variables_end (planned self.now).circuit.aig }
         requires member { has (planned self.now).set var ≡ true }
-        ensures { result ≡ record { next = 2 * copy_variable (planned self.now) var; reset = reset } }
+        ensures { result ≡ record { next = 2 * copy_variable
+            (planned self.now) var; reset = reset } }
     {
         Latch {
             next: self.copy(var),

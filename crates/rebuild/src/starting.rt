@@ -12,7 +12,8 @@ use variable_tables::entry;
 
 /// The reset of a variable, by those of the gates so far: a known latch that isn't held has its own.
 fn reset_at(aig: &Aig, keep: &Keep, resets: &[Reset], var: u32) -> Reset
-    requires so_far { resets.now ≡ table (first_gate aig.now) (length resets.now) (start_reset aig.now keep.now) }
+    requires so_far { resets.now ≡ table (first_gate aig.now) (length resets.now)
+        (start_reset aig.now keep.now) }
     requires before { var < first_gate aig.now + length resets.now }
     ensures { result ≡ start_reset aig.now keep.now var }
 {
@@ -48,7 +49,8 @@ fn and_reset(first: Option<bool>, second: Option<bool>) -> Reset
 
 /// The reset of the next gate.
 fn gate_reset(aig: &Aig, keep: &Keep, resets: &[Reset], gate: Gate) -> Reset
-    requires so_far { resets.now ≡ table (first_gate aig.now) (length resets.now) (start_reset aig.now keep.now) }
+    requires so_far { resets.now ≡ table (first_gate aig.now) (length resets.now)
+        (start_reset aig.now keep.now) }
     requires first { variable gate.rhs0 < first_gate aig.now + length resets.now }
     requires second { variable gate.rhs1 < first_gate aig.now + length resets.now }
     ensures { result ≡ and_reset

@@ -11,7 +11,8 @@ ghost use Rattle.retimed_circuits.specs.Laws.{
 /// What a circuit is retimed to, with its reports, rests on the circuit, the choice of least sets, the names and the limit of frames
 /// alone, whether certificates are wanted or not. Of certificates their number, counts and gates do; their routes may differ.
 pub fn retiming_law()
-    ensures { (choice : Choice) (c : Netlist) (names : List (List ℕ)) (max_frames : ℕ) → IsDetermined choice c names max_frames }
+    ensures { (choice : Choice) (c : Netlist) (names : List (List ℕ)) (max_frames : ℕ)
+        → IsDetermined choice c names max_frames }
 {}
 
 /// Cleaning and moving keep the latches that names hold: as many, in their order, with their names and resets. So no name

@@ -17,7 +17,8 @@ pub fn write<W: CountedWrite>(
     spelling: Spelling,
     writer: &mut W,
 ) -> Result<(), WriteError>
-    ensures { Writes (W.output writer.old) (W.output writer.new) result (text_in spelling circuit.now) }
+    ensures { Writes (W.output writer.old) (W.output writer.new) result
+        (text_in spelling circuit.now) }
 {
     match spelling {
         Spelling::Ascii => write_aag(circuit, writer),

@@ -13,5 +13,6 @@ pub fn tidy_laws()
 
 /// After a frame's move nothing is to clean, if the low copies are tidy.
 pub fn frame_law()
-    ensures { (names : List (List ℕ)) (c d : Netlist) (kept s : List ℕ) (first : ℕ) → NothingToClean names c d kept s first }
+    ensures { (names : List (List ℕ)) (c d : Netlist) (kept s : List ℕ) (first : ℕ)
+        → NothingToClean names c d kept s first }
 {}

@@ -27,7 +27,8 @@ fn gather(
 ) -> Result<bool, NoMemory>
     requires none { pairs.old ≡ [] }
     requires covered { length marks.old ≡ start }
-    ensures yes { IfOk result (λ yes. yes ≡ true → AreGathered copies.now start (length copies.now) pairs.new) }
+    ensures yes { IfOk result (λ yes. yes ≡ true → AreGathered copies.now start
+        (length copies.now) pairs.new) }
     ensures no { IfOk result (λ yes. yes ≡ false → IsSpoilt copies.now start) }
     ensures marked { IfOk result (λ yes. AreMarked pairs.new marks.new) }
 {

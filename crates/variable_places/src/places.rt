@@ -57,7 +57,8 @@ impl Places {
     pub fn insert(&mut self, variable: u32, place: u32) -> Result<(), AllocError>
         requires absent { place_of self.old variable ≡ None }
         requires few { place < 2 ^ 29 }
-        ensures ok { OnOk result ((v : ℕ) → place_of self.new v ≡ (if v == variable then Some place else place_of self.old v)) }
+        ensures ok { OnOk result ((v : ℕ) → place_of self.new v
+            ≡ (if v == variable then Some place else place_of self.old v)) }
         ensures err { OnErr result ((v : ℕ) → place_of self.new v ≡ place_of self.old v) }
     {
         if variable < VARIABLES_A_PLACE * (place + SPARE) {
@@ -82,7 +83,8 @@ impl Places {
 
     fn insert_far(&mut self, variable: u32, place: u32) -> Result<(), AllocError>
         requires absent { place_of self.old variable ≡ None }
-        ensures ok { OnOk result ((v : ℕ) → place_of self.new v ≡ (if v == variable then Some place else place_of self.old v)) }
+        ensures ok { OnOk result ((v : ℕ) → place_of self.new v
+            ≡ (if v == variable then Some place else place_of self.old v)) }
         ensures err { OnErr result ((v : ℕ) → place_of self.new v ≡ place_of self.old v) }
     {
         self.far.insert(variable, place)?;

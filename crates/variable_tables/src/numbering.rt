@@ -17,7 +17,8 @@ fn one_if(mark: bool) -> u32
 /// The number of variables that are marked.
 pub fn count_marks(marks: &[bool]) -> u32
     requires { length marks.now ≤ 2 ^ 30 }
-    ensures { (first : ℕ) (p : ℕ → Bool) → AreAllMarks first marks.now p → result ≡ count_below p (first + length marks.now) }
+    ensures { (first : ℕ) (p : ℕ → Bool) → AreAllMarks first marks.now p
+        → result ≡ count_below p (first + length marks.now) }
 {
     let mut count = 0;
     for mark in marks {
@@ -55,7 +56,8 @@ pub fn renumber(
     requires variables { first + length ahead.now ≤ 2 ^ 30 }
     requires room { start + length ahead.now ≤ 2 ^ 30 }
     requires more_room { next + length ahead.now ≤ 2 ^ 30 }
-    ensures { IfOk result (λ numbers. (p q : ℕ → Bool) → AreAllMarks first ahead.now p → AreAllMarks first behind.now q →
+    ensures { IfOk result (λ numbers. (p q : ℕ → Bool) → AreAllMarks first ahead.now p
+        → AreAllMarks first behind.now q →
         numbers.items ≡ table first (length ahead.now) (numbered p q start next)) }
 {
     let mut numbers = Vec::with_capacity(alloc, ahead.len())?;
