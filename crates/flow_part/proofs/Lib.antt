@@ -13,11 +13,13 @@ pub mod PartLaws
 pub mod WalkLemmas
 pub mod CountLemmas
 pub mod ClearLemmas
+pub mod PartWalkLemmas
 pub mod WholeLemmas
 pub mod ListedLemmas
 pub mod JoinedLemmas
 pub mod Lists
 pub mod Gathered
 pub mod Visits
+pub mod PartSteps
 pub mod Received
 pub mod Senders

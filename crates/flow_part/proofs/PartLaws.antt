@@ -5,7 +5,7 @@ use Rattle.std.proofs.lemmas.List.{with_items_is}
 use Rattle.frame_net.specs.FlowNet.{FlowNet}
 use Rattle.flow_part.specs.declared.parts.FlowPart.{FlowPart}
 use Rattle.flow_part.specs.Parts.{Cells, FlowPartFits, part_cells}
-use Rattle.flow_part.specs.Delivering.{RangeDelivered, RangeSafe, PartDelivered}
+use Rattle.flow_part.specs.Delivering.{RangeDelivered, PartDelivered}
 
 -- a range cut down to a part's nodes holds all of its nodes that the part has
 pub given_clamped : (net : FlowNet) (labels pushes : List ℕ) (base pf pe first end : ℕ) (a b : Cells) → length a.excess + pf ≡ pe
@@ -16,18 +16,11 @@ given_clamped net labels pushes base pf pe first end a b size r = record {
   kept = λ v i s w out. r.kept v i s w (elim out [ inl lt ↦ inl (omega arith) | inr ge ↦ inr (omega arith) ]);
 }
 
-abbrev cells : List ℕ → List ℕ → List ℕ → Cells
+abbrev pub cells : List ℕ → List ℕ → List ℕ → Cells
 cells a b c = record { residuals = a; excess = b; next = c }
 
-cells_same : (a b c x y z : List ℕ) → a ≡ x → b ≡ y → c ≡ z → cells a b c ≡ cells x y z
+pub cells_same : (a b c x y z : List ℕ) → a ≡ x → b ≡ y → c ≡ z → cells a b c ≡ cells x y z
 cells_same a b c x y z p q r = ap (λ (t : List ℕ). cells t b c) p ∙ (ap (λ (t : List ℕ). cells x t c) q ∙ ap (λ (t : List ℕ). cells x y t) r)
-
-pub part_safe : (net : FlowNet) (pushes : List ℕ) (first end low high : ℕ) (q : FlowPart) (rs es ns : List ℕ) → rs ≡ q.residuals.items → es ≡ q.excess.items → ns ≡ q.next.items
-    → low ≡ max first q.first → high ≡ min end q.end
-    → RangeSafe net pushes q.base q.first first end (part_cells q) → RangeSafe net pushes q.base q.first low high (record { residuals = rs; excess = es; next = ns })
-part_safe net pushes first end low high q rs es ns er ee en el eh safe =
-    subst (λ (m : Cells). RangeSafe net pushes q.base q.first low high m) (sym (cells_same rs es ns q.residuals.items q.excess.items q.next.items er ee en))
-    (λ v i s w lo hi. safe v i s w (omega arith) (omega arith))
 
 pub part_given : (net : FlowNet) (labels pushes : List ℕ) (first end low high : ℕ) (q : FlowPart) (rs es ns xs ys zs : List ℕ) → FlowPartFits net q
     → rs ≡ q.residuals.items → es ≡ q.excess.items → ns ≡ q.next.items → low ≡ max first q.first → high ≡ min end q.end

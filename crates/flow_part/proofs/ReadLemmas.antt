@@ -1,15 +1,11 @@
 -- Reads of a range, node after node, and of ranges end to end.
-use Rattle.std.proofs.Common.{◌≡◌, ℕ, ◌+◌, ◌-◌, ◌<◌, ◌≤◌, min, max, List, length, slice_index, take, drop, false, arith, refl, sym, ap, ◌∙◌, subst, inl, inr, ◌⊎◌}
-use Rattle.std.specs.Vec.{with_items}
-use Rattle.std.proofs.lemmas.Bool.{cases_lt, false≢true}
-use Rattle.std.proofs.lemmas.List.{with_items_is}
+use Rattle.std.proofs.Common.{◌≡◌, ℕ, ◌+◌, ◌-◌, ◌<◌, ◌≤◌, List, length, slice_index, take, drop, arith, refl, ap, ◌∙◌, subst, inl, inr}
+use Rattle.std.proofs.lemmas.Bool.{cases_lt}
 use borrow.Rule.Slice.PartMut.{put_mid}
 use Rattle.frame_net.specs.FlowNet.{FlowNet, node_count, start, row_len, IsFlowNet}
 use Rattle.flow_part.specs.declared.parts.FlowPart.{FlowPart}
-use Rattle.flow_part.specs.declared.node_list.NodeList.{NodeList}
-use Rattle.flow_part.specs.declared.parts.PushPart.{PushPart}
-use Rattle.flow_part.specs.Parts.{Cells, HoldsNode, PushPartFits}
-use Rattle.flow_part.specs.Reading.{RowsRead, PartRead, arc_push, cells_push}
+use Rattle.flow_part.specs.Parts.{Cells, HoldsNode}
+use Rattle.flow_part.specs.Reading.{RowsRead, arc_push, cells_push}
 use Rattle.flow_part.proofs.Picks.{cut_len, cut_at}
 use Rattle.flow_part.proofs.PutLemmas.{put_in, put_below, put_above, put_len}
 use Rattle.flow_part.proofs.Nodes.{push_rows}
@@ -77,28 +73,3 @@ read_then net labels base low mid high c xs ys zs ok from lm mh hn p q = record 
   where
     before : (v k : ℕ) → low ≤ v → v < mid → k < row_len net v → base + (start net v + k - base) < start net mid
     before v k lo lt l = omega (arith, ok.rows (v + 1) mid (omega arith) (omega arith), ok.rows low v lo (omega arith))
-
-pub part_read : (net : FlowNet) (labels : List ℕ) (first end low high : ℕ) (c : Cells) (p : PushPart) (was ws : List ℕ) (list : NodeList) (walked : ℕ) → IsFlowNet net → PushPartFits net p
-    → was ≡ p.values.items → low ≡ max first p.first → high ≡ min end p.end → low < high → length ws ≡ p.values.len → RowsRead net labels p.base low high c was ws
-    → list.complete ≡ false → PartRead net labels first end c p (record p { values = with_items p.values ws; pushing = list; walked = walked })
-part_read net labels first end low high c p was ws list walked ok fit ew el eh some len r off =
-    let items : (with_items p.values ws).items ≡ ws = with_items_is p.values ws len in
-    record {
-      same_first = refl;
-      same_end = refl;
-      same_base = refl;
-      same_size = omega (arith, ap length items, r.same, ap length ew);
-      lists = record { within = λ h. absurd (false≢true (sym off ∙ h)); rest = λ h. absurd (false≢true (sym off ∙ h)) };
-      done = λ v k fv ve lo hi l. ap (λ (xs : List ℕ). slice_index xs (start net v + k - p.base)) items ∙ r.done v k (omega arith) (omega arith) l;
-      kept = λ v k out lo hi l. ap (λ (xs : List ℕ). slice_index xs (start net v + k - p.base)) items
-          ∙ (r.kept (start net v + k - p.base) (apart v k out lo hi l) ∙ ap (λ (xs : List ℕ). slice_index xs (start net v + k - p.base)) ew);
-    }
-  where
-    apart : (v k : ℕ) → (v < first) ⊎ (end ≤ v) → p.first ≤ v → v < p.end → k < row_len net v
-        → (p.base + (start net v + k - p.base) < start net low) ⊎ (start net high ≤ p.base + (start net v + k - p.base))
-    apart v k out lo hi l =
-        let from : start net p.first ≤ start net v = ok.rows p.first v lo (omega (arith, fit.within)) in
-        elim out [
-          | inl lt ↦ inl (omega (arith, fit.based, from, ok.rows (v + 1) low (omega arith) (omega (arith, fit.within))))
-          | inr ge ↦ inr (omega (arith, fit.based, from, ok.rows high v (omega arith) (omega (arith, fit.within))))
-        ]

@@ -1,13 +1,11 @@
 -- A delivery that visits the nodes of a list: the others have nothing to do, so Deliver of them changes nothing.
 use Rattle.std.proofs.Common.{◌≡◌, ℕ, ◌+◌, ◌-◌, ◌<◌, ◌≤◌, ◌&&◌, ◌⊎◌, nat_lt, false, List, [], ◌++◌, ◌∷◌, length, slice_index, refl, arith, sym, ap, ◌∙◌, subst, inl, inr}
-use Rattle.std.specs.Vec.{with_items}
-use Rattle.std.proofs.lemmas.List.{with_items_is}
 use Rattle.std.proofs.lemmas.Bool.{cases_lt, cond-false, and_left}
 use Rattle.flow_theory.proofs.Sums.{sum_below-same, sum_below-zero}
 use Rattle.frame_net.specs.FlowNet.{FlowNet, node_count, start, row_len, IsFlowNet}
 use Rattle.flow_part.specs.declared.parts.FlowPart.{FlowPart}
-use Rattle.flow_part.specs.Parts.{Cells, FlowPartFits, RangeFits, part_cells}
-use Rattle.flow_part.specs.Delivering.{own, back, row_inflow, row_outflow, delivered_relabel, NodeDelivered, NodeKept, PartDelivered, RangeDelivered, RangeSafe}
+use Rattle.flow_part.specs.Parts.{Cells, RangeFits, part_cells}
+use Rattle.flow_part.specs.Delivering.{own, back, row_inflow, row_outflow, delivered_relabel, NodeDelivered, NodeKept, RangeDelivered, RangeSafe}
 use Rattle.flow_part.specs.Listing.{active_by, AreWithin, HasTurning, IsListed, IsRising}
 use Rattle.flow_part.specs.Visiting.{CoversWork, IsStill}
 use Rattle.flow_part.proofs.Lists.{listed_last, listed_more, places, within_more}
@@ -30,7 +28,8 @@ still_given net labels xs v i s c still = record {
       (and_left (active_by (node_count net) v (slice_index c.excess i) (slice_index labels v)) (nat_lt (row_outflow net xs v) (slice_index c.excess i)) still.inactive));
 }
 
-stills : (net : FlowNet) (labels xs : List ℕ) (base first low high : ℕ) (c : Cells) → ((v : ℕ) → low ≤ v → v < high → IsStill net labels xs v (slice_index c.excess (v - first)) (slice_index c.next (v - first)))
+-- nodes that are all still are delivered as they are
+pub stills : (net : FlowNet) (labels xs : List ℕ) (base first low high : ℕ) (c : Cells) → ((v : ℕ) → low ≤ v → v < high → IsStill net labels xs v (slice_index c.excess (v - first)) (slice_index c.next (v - first)))
     → RangeDelivered net labels xs base first low high c c
 stills net labels xs base first low high c still = record {
   sizes = record { residuals = refl; excess = refl; next = refl };
@@ -89,20 +88,6 @@ next_at net labels xs base first end list i v a b ok fit work hi ev t =
         | inr le ↦ omega (arith, ap (slice_index list) (let e : at.place ≡ i = omega (arith, ge, le) in e), at.there, ev, l)
       ]
     ])
-
-pub visit_fits : (net : FlowNet) (labels xs : List ℕ) (base first end v : ℕ) (a b : Cells) → IsFlowNet net → RangeFits net base first first end a → first ≤ v → v < end → RangeDelivered net labels xs base first first v a b
-    → RangeFits net base first v (v + 1) b
-visit_fits net labels xs base first end v a b ok fit lo hi d =
-    let from : start net first ≤ start net v = ok.rows first v lo (omega (arith, hi, fit.within)) in
-    let to : start net (v + 1) ≤ start net end = ok.rows (v + 1) end (omega (arith, hi)) fit.within in
-    record {
-      within = omega (arith, hi, fit.within);
-      from_node = lo;
-      to_node = omega (arith, hi, fit.to_node, d.sizes.excess);
-      from_arc = omega (arith, fit.from_arc, from);
-      to_arc = omega (arith, fit.to_arc, to, d.sizes.residuals);
-      same = omega (arith, fit.same, d.sizes.excess, d.sizes.next);
-    }
 
 pub visit_more : (net : FlowNet) (labels xs : List ℕ) (base first end : ℕ) (list : List ℕ) (i v : ℕ) (a b c : Cells) → IsFlowNet net → RangeFits net base first first end a → CoversWork net labels xs first end a.excess a.next list
     → i < length list → v ≡ slice_index list i → Visited net labels xs base first end list i a b → RangeDelivered net labels xs base first v (v + 1) b c → Visited net labels xs base first end list (i + 1) a c
@@ -202,52 +187,9 @@ first_all n labels first excess next count list e l0 =
 
 -- ---- a part
 
-pub part_fits_range : (net : FlowNet) (q : FlowPart) (rs es ns : List ℕ) → FlowPartFits net q → rs ≡ q.residuals.items → es ≡ q.excess.items → ns ≡ q.next.items
-    → RangeFits net q.base q.first q.first (q.first + length es) (record { residuals = rs; excess = es; next = ns })
-part_fits_range net q rs es ns fit er ee en =
-    let to : q.first + length es ≡ q.end = omega (arith, fit.nodes, ap length ee) in
-    record {
-      within = omega (arith, to, fit.within);
-      from_node = omega arith;
-      to_node = omega arith;
-      from_arc = omega (arith, fit.based);
-      to_arc = omega (arith, ap (start net) to, fit.based, fit.sized, ap length er);
-      same = omega (arith, ap length en, ap length ee, fit.same);
-    }
-
-pub part_work : (net : FlowNet) (labels xs : List ℕ) (q : FlowPart) (es ns list : List ℕ) → FlowPartFits net q → es ≡ q.excess.items → ns ≡ q.next.items → list ≡ q.spare.nodes.items
-    → CoversWork net labels xs q.first q.end q.excess.items q.next.items q.spare.nodes.items → CoversWork net labels xs q.first (q.first + length es) es ns list
-part_work net labels xs q es ns list fit ee en el work =
-    let to : q.first + length es ≡ q.end = omega (arith, fit.nodes, ap length ee) in
-    subst (λ (e : ℕ). CoversWork net labels xs q.first e es ns list) (sym to)
-    (subst (λ (x : List ℕ). CoversWork net labels xs q.first q.end x ns list) (sym ee)
-    (subst (λ (x : List ℕ). CoversWork net labels xs q.first q.end q.excess.items x list) (sym en)
-    (subst (λ (x : List ℕ). CoversWork net labels xs q.first q.end q.excess.items q.next.items x) (sym el) work)))
-
-pub part_turning : (net : FlowNet) (labels xs : List ℕ) (q : FlowPart) (rs es ns list us ys zs : List ℕ) → IsFlowNet net → FlowPartFits net q → rs ≡ q.residuals.items → es ≡ q.excess.items → ns ≡ q.next.items → list ≡ q.spare.nodes.items
-    → length ys ≡ q.excess.len → length zs ≡ q.next.len
-    → CoversWork net labels xs q.first q.end q.excess.items q.next.items q.spare.nodes.items
-    → RangeDelivered net labels xs q.base q.first q.first (q.first + length es) (record { residuals = rs; excess = es; next = ns }) (record { residuals = us; excess = ys; next = zs })
-    → HasTurning (node_count net) labels q.first q.end (with_items q.excess ys).items (with_items q.next zs).items q.spare.nodes.items
-part_turning net labels xs q rs es ns list us ys zs ok fit er ee en el ly lz work d =
-    let to : q.first + length es ≡ q.end = omega (arith, fit.nodes, ap length ee) in
-    let t : HasTurning (node_count net) labels q.first (q.first + length es) ys zs list =
-    turning_after net labels xs q.base q.first (q.first + length es) list (record { residuals = rs; excess = es; next = ns }) (record { residuals = us; excess = ys; next = zs }) ok (part_fits_range net q rs es ns fit er ee en)
-    (part_work net labels xs q es ns list fit ee en el work) d in
-    subst (λ (x : List ℕ). HasTurning (node_count net) labels q.first q.end x (with_items q.next zs).items q.spare.nodes.items) (sym (with_items_is q.excess ys ly))
-    (subst (λ (x : List ℕ). HasTurning (node_count net) labels q.first q.end ys x q.spare.nodes.items) (sym (with_items_is q.next zs lz))
-    (subst (λ (x : List ℕ). HasTurning (node_count net) labels q.first q.end ys zs x) el
-    (subst (λ (e : ℕ). HasTurning (node_count net) labels q.first e ys zs list) to t)))
-
 -- the same part with another list in its spare room
 pub spare_safe : (net : FlowNet) (xs : List ℕ) (n : ℕ) (q m : FlowPart) → n ≡ node_count net → m ≡ (record q { spare = m.spare }) → RangeSafe net xs q.base q.first 0 (node_count net) (part_cells q)
     → RangeSafe net xs m.base m.first 0 n (part_cells m)
 spare_safe net xs n q m en e safe =
     subst (λ (x : ℕ). RangeSafe net xs m.base m.first 0 x (part_cells m)) (sym en)
     (subst (λ (p : FlowPart). RangeSafe net xs p.base p.first 0 (node_count net) (part_cells p)) (sym e) safe)
-
-pub swapped_turning : (net : FlowNet) (labels xs : List ℕ) (m r : FlowPart) (list : List ℕ) → PartDelivered net labels xs 0 (node_count net) m r
-    → HasTurning (node_count net) labels m.first m.end r.excess.items r.next.items list → HasTurning (node_count net) labels r.first r.end r.excess.items r.next.items list
-swapped_turning net labels xs m r list d t =
-    subst (λ (x : ℕ). HasTurning (node_count net) labels x r.end r.excess.items r.next.items list) (sym d.same_first)
-    (subst (λ (x : ℕ). HasTurning (node_count net) labels m.first x r.excess.items r.next.items list) (sym d.same_end) t)

@@ -1,38 +1,40 @@
 -- A part that is cleared and then read whole.
-use Rattle.std.proofs.Common.{◌≡◌, ℕ, ◌+◌, ◌-◌, List, length, slice_index, refl, arith, sym, ap, ◌∙◌, subst, inl, inr}
-use Rattle.std.specs.Vec.{with_items}
+use Rattle.std.proofs.Common.{◌≡◌, ℕ, ◌+◌, ◌-◌, List, slice_index, arith, sym, ap, ◌∙◌, subst, inl, inr}
 use Rattle.std.proofs.lemmas.Bool.{cases_Bool}
-use Rattle.std.proofs.lemmas.List.{with_items_is}
 use Rattle.frame_net.specs.FlowNet.{FlowNet, start}
-use Rattle.flow_part.specs.declared.node_list.NodeList.{NodeList}
 use Rattle.flow_part.specs.declared.parts.PushPart.{PushPart}
 use Rattle.flow_part.specs.Parts.{Cells, PushPartFits}
-use Rattle.flow_part.specs.Reading.{PartCleared, RowsAreZero, WalksActive, WholeRead, active_below, cells_active}
+use Rattle.flow_part.specs.Reading.{PartCleared, RowsAreZero, WholeRead, active_below, cells_active}
+use Rattle.flow_part.proofs.PartWalkLemmas.{PartWalked, same_base}
 use Rattle.flow_part.proofs.WalkLemmas.{idle_push}
 
 -- a part whose active nodes were walked
-pub whole_walked : (net : FlowNet) (labels : List ℕ) (c : Cells) (p : PushPart) (was ws : List ℕ) (list : NodeList) (walked : ℕ) → PushPartFits net p → was ≡ p.values.items → length ws ≡ p.values.len
-    → WalksActive net labels p.base p.first p.end c was ws list walked → WholeRead net labels c p (record p { values = with_items p.values ws; pushing = list; walked = walked })
-whole_walked net labels c p was ws list walked fit ew len w =
-    let items : (with_items p.values ws).items ≡ ws = with_items_is p.values ws len in
-    record {
-      is_read = record {
-        same_first = refl;
-        same_end = refl;
-        same_base = refl;
-        same_size = omega (arith, ap length items, w.rows.same, ap length ew);
-        lists = record {
-          within = w.within;
-          rest = λ h v lo hi. elim (cases_Bool (cells_active net labels c v)) [
-            | inl on ↦ inl (w.listed h v lo hi on)
-            | inr off ↦ inr (λ k l. ap (λ (xs : List ℕ). slice_index xs (start net v + k - p.base)) items ∙ (w.rows.done v k lo hi l ∙ idle_push net labels c v k off))
-          ];
-        };
-        done = λ v k fv ve lo hi l. ap (λ (xs : List ℕ). slice_index xs (start net v + k - p.base)) items ∙ w.rows.done v k lo hi l;
-        kept = λ v k out lo hi l. absurd (elim out [ inl lt ↦ omega (arith, lt) | inr ge ↦ omega (arith, ge, hi, fit.within) ]);
-      };
-      walked = w.counted;
-    }
+pub whole_walked : (net : FlowNet) (labels : List ℕ) (c : Cells) (p r : PushPart) → PushPartFits net p → PartWalked net labels c p.end p r → WholeRead net labels c p r
+whole_walked net labels c p r fit w = record {
+  is_read = record {
+    same_first = first_is;
+    same_end = end_is;
+    same_base = same_base p r w.same;
+    same_size = w.active.rows.same;
+    lists = record {
+      within = λ h i l. (omega (arith, (w.active.within h i l).0, first_is), omega (arith, (w.active.within h i l).1, end_is));
+      rest = λ h v lo hi. elim (cases_Bool (cells_active net labels c v)) [
+        | inl on ↦ inl (w.active.listed h v (omega (arith, lo, first_is)) (omega (arith, hi, end_is)) on)
+        | inr off ↦ inr (λ k l. ap (λ (b : ℕ). slice_index r.values.items (start net v + k - b)) (same_base p r w.same)
+            ∙ (w.active.rows.done v k (omega (arith, lo, first_is)) (omega (arith, hi, end_is)) l ∙ idle_push net labels c v k off))
+      ];
+    };
+    done = λ v k fv ve lo hi l. w.active.rows.done v k lo hi l;
+    kept = λ v k out lo hi l. absurd (elim out [ inl lt ↦ omega (arith, lt) | inr ge ↦ omega (arith, ge, hi, fit.within) ]);
+  };
+  walked = w.active.counted;
+}
+  where
+    first_is : r.first ≡ p.first
+    first_is = ap (λ (q : PushPart). q.first) w.same
+
+    end_is : r.end ≡ p.end
+    end_is = ap (λ (q : PushPart). q.end) w.same
 
 -- a cleared part is one of the network
 pub cleared_fits : (net : FlowNet) (p r : PushPart) → PushPartFits net p → PartCleared net p r → PushPartFits net r

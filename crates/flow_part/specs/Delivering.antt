@@ -1,4 +1,4 @@
-use Rattle.std.specs.Prelude.{◌≡◌, ℕ, ◌+◌, ◌-◌, ◌<◌, ◌≤◌, ◌^◌, nat_lt, cond, ◌&&◌, List, length, slice_index, slice_index_or, ◌⊎◌}
+use Rattle.std.specs.Prelude.{◌≡◌, ℕ, ◌+◌, ◌-◌, ◌<◌, ◌≤◌, ◌^◌, nat_lt, cond, ◌&&◌, Bool, List, length, slice_index, slice_index_or, ◌⊎◌}
 use Rattle.flow_theory.specs.Flow.{sum_below, least_below, State, push}
 use Rattle.frame_net.specs.FlowNet.{FlowNet, node_count, start, row_len, head, mate}
 use Rattle.flow_part.specs.Parts.{Cells, Within, part_cells, pair}
@@ -17,6 +17,21 @@ row_outflow net pushes v = sum_below (row_len net v) (own net pushes v)
 abbrev pub row_inflow : FlowNet → List ℕ → ℕ → ℕ
 row_inflow net pushes v = sum_below (row_len net v) (back net pushes v)
 
+-- whether v was active, by its excess and its label, and keeps some of its excess
+abbrev pub keeps_excess : FlowNet → List ℕ → ℕ → ℕ → ℕ → Bool
+keeps_excess net labels v excess outflow =
+    nat_lt 1 v && nat_lt 0 excess && nat_lt (slice_index labels v) (node_count net) && nat_lt outflow excess
+
+-- one more than the least label of a head that a residual of v's row leads to, or the number of nodes where there is none
+abbrev pub label_ahead : FlowNet → List ℕ → ℕ → (ℕ → ℕ) → ℕ
+label_ahead net labels v row =
+    least_below (row_len net v) (λ k. cond (nat_lt 0 (row k)) (slice_index labels (head net v k) + 1) (node_count net)) (node_count net)
+
+-- the new label of v by its excess before delivery, what it sends, and its residuals after
+abbrev pub label_after : FlowNet → List ℕ → ℕ → ℕ → ℕ → (ℕ → ℕ) → ℕ
+label_after net labels v excess outflow row =
+    cond (keeps_excess net labels v excess outflow) (label_ahead net labels v row) (slice_index labels v)
+
 -- what Deliver makes of v's residuals `row`, its excess and its label
 abbrev pub delivered_res : FlowNet → List ℕ → ℕ → (ℕ → ℕ) → ℕ → ℕ
 delivered_res net pushes v row k = (row k + back net pushes v k) - own net pushes v k
@@ -25,13 +40,11 @@ abbrev pub delivered_excess : FlowNet → List ℕ → ℕ → ℕ → ℕ
 delivered_excess net pushes v excess = (excess + row_inflow net pushes v) - row_outflow net pushes v
 
 abbrev pub delivered_relabel : FlowNet → List ℕ → List ℕ → ℕ → (ℕ → ℕ) → ℕ
-delivered_relabel net labels pushes v row =
-    least_below (row_len net v) (λ k. cond (nat_lt 0 (delivered_res net pushes v row k)) (slice_index labels (head net v k) + 1) (node_count net)) (node_count net)
+delivered_relabel net labels pushes v row = label_ahead net labels v (delivered_res net pushes v row)
 
 abbrev pub delivered_label : FlowNet → List ℕ → List ℕ → ℕ → (ℕ → ℕ) → ℕ → ℕ
 delivered_label net labels pushes v row excess =
-    cond (nat_lt 1 v && nat_lt 0 excess && nat_lt (slice_index labels v) (node_count net) && nat_lt (row_outflow net pushes v) excess)
-    (delivered_relabel net labels pushes v row) (slice_index labels v)
+    label_after net labels v excess (row_outflow net pushes v) (delivered_res net pushes v row)
 
 -- what Deliver of v needs, so that no number leaves its type
 pub record NodeSafe (net : FlowNet) (pushes : List ℕ) (v : ℕ) (row : ℕ → ℕ) (excess : ℕ) : Type 0 where
@@ -66,6 +79,14 @@ abbrev pub RangeSafe : FlowNet → List ℕ → ℕ → ℕ → ℕ → ℕ → 
 RangeSafe net pushes base first low high c = (v i s : ℕ) → Within net base first c v i s → low ≤ v → v < high
     → NodeSafe net pushes v (λ j. slice_index c.residuals (s + j)) (slice_index c.excess i)
 
+-- every node of a part from low up to high can be delivered
+abbrev pub PartSafe : FlowNet → List ℕ → ℕ → ℕ → FlowPart → Type 0
+PartSafe net pushes low high q = RangeSafe net pushes q.base q.first low high (part_cells q)
+
+-- nothing of a part has changed but its cells
+abbrev pub KeepsLists : FlowPart → FlowPart → Type 0
+KeepsLists old new = new ≡ record old { residuals = new.residuals; excess = new.excess; next = new.next }
+
 -- the part of the flow after Deliver of its nodes from `first` up to `end`
 pub record PartDelivered (net : FlowNet) (labels pushes : List ℕ) (first end : ℕ) (old new : FlowPart) : Type 0 where
   pub same_first : new.first ≡ old.first
@@ -78,8 +99,7 @@ PartsDelivered net labels pushes first end olds news = (i : ℕ) (d : FlowPart) 
 
 -- every part can be delivered from `first` up to `end`
 abbrev pub PartsSafe : FlowNet → List ℕ → ℕ → ℕ → List FlowPart → Type 0
-PartsSafe net pushes first end qs = (i : ℕ) (d : FlowPart) → i < length qs
-    → RangeSafe net pushes (slice_index_or qs i d).base (slice_index_or qs i d).first first end (part_cells (slice_index_or qs i d))
+PartsSafe net pushes first end qs = (i : ℕ) (d : FlowPart) → i < length qs → PartSafe net pushes first end (slice_index_or qs i d)
 
 -- the rows hold what each node pushes
 pub record HoldPushes (net : FlowNet) (s : State) (xs : List ℕ) : Type 0 where

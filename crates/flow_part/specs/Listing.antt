@@ -10,6 +10,10 @@ pub record IsListed (list : List ℕ) (v : ℕ) : Type 0 where
   pub inside : place < length list
   pub there : slice_index list place ≡ v
 
+-- each listed node has a property
+abbrev pub EachListed : List ℕ → (ℕ → Type 0) → Type 0
+EachListed list property = (i : ℕ) → i < length list → property (slice_index list i)
+
 -- the listed nodes lie from first up to end
 abbrev pub AreWithin : ℕ → ℕ → List ℕ → Type 0
 AreWithin first end list = (i : ℕ) → i < length list → (first ≤ slice_index list i) × (slice_index list i < end)
@@ -20,6 +24,10 @@ IsRising list = (i j : ℕ) → i < j → j < length list → slice_index list i
 -- whether node v of n with this excess and label is active
 abbrev pub active_by : ℕ → ℕ → ℕ → ℕ → Bool
 active_by n v excess label = nat_lt 1 v && nat_lt 0 excess && nat_lt label n
+
+-- the same of a node by the labels of all nodes and the excess of those from `first` on
+abbrev pub active_in : ℕ → List ℕ → ℕ → List ℕ → ℕ → Bool
+active_in n labels first excess v = active_by n v (slice_index excess (v - first)) (slice_index labels v)
 
 -- a complete list holds each node of the part that is active, and the cells for new labels hold the labels; n is the number of nodes
 pub record ListsActive (n : ℕ) (labels : List ℕ) (q : FlowPart) : Type 0 where
@@ -37,6 +45,10 @@ pub record HasTurning (n : ℕ) (labels : List ℕ) (first end : ℕ) (excess ne
   pub rising : IsRising list
   pub rest : (v : ℕ) → first ≤ v → v < end → IsListed list v
       ⊎ ((active_by n v (slice_index excess (v - first)) (slice_index labels v) ≡ false) × (slice_index next (v - first) ≡ slice_index labels v))
+
+-- the same of the list that a part has beside the one that stands
+abbrev pub SparesTurning : ℕ → List ℕ → FlowPart → Type 0
+SparesTurning n labels q = HasTurning n labels q.first q.end q.excess.items q.next.items q.spare.nodes.items
 
 -- the same of a part after its delivery, where its list is complete
 abbrev pub ListsTurning : ℕ → List ℕ → FlowPart → Type 0

@@ -35,6 +35,15 @@ pub record FlowPartFits (net : FlowNet) (q : FlowPart) : Type 0 where
   pub nodes : length q.excess.items + q.first ≡ q.end
   pub same : length q.next.items ≡ length q.excess.items
 
+-- the values of a part have room for the row of node v
+pub record HasRow (net : FlowNet) (v : ℕ) (p : PushPart) : Type 0 where
+  pub from : p.base ≤ start net v
+  pub to : start net (v + 1) ≤ p.base + length p.values.items
+
+-- nothing of a part has changed but its pushes and what was noted of them
+abbrev pub KeepsNodes : PushPart → PushPart → Type 0
+KeepsNodes old new = new ≡ record old { values = new.values; pushing = new.pushing; walked = new.walked }
+
 abbrev pub ArePushParts : FlowNet → ℕ → List PushPart → Type 0
 ArePushParts net v ps = IsParted (PushPartFits net) (λ p. p.first) (λ p. p.end) (node_count net) v ps
 

@@ -56,11 +56,20 @@ pub record ClearsListed (net : FlowNet) (base : ℕ) (list : List ℕ) (count : 
 abbrev pub RowsAreZero : FlowNet → ℕ → ℕ → ℕ → List ℕ → Type 0
 RowsAreZero net base first end values = (v k : ℕ) → first ≤ v → v < end → k < row_len net v → slice_index values (start net v + k - base) ≡ 0
 
+-- all rows of a part hold 0s
+abbrev pub HoldsZeros : FlowNet → PushPart → Type 0
+HoldsZeros net p = RowsAreZero net p.base p.first p.end p.values.items
+
 -- node v was walked: its row is what Read writes, it is listed, and it is counted, up to the greatest count of 32 bits
 pub record Walks (net : FlowNet) (labels : List ℕ) (base v : ℕ) (c : Cells) (old new : List ℕ) (was now : NodeList) (before after : ℕ) : Type 0 where
   pub row : RowsRead net labels base v (v + 1) c old new
   pub listed : now.complete ≡ true → (was.complete ≡ true) × (now.nodes.items ≡ was.nodes.items ++ (v ∷ []))
   pub counted : after ≡ min (before + 1) (2 ^ 32 - 1)
+
+-- node v of a part was walked
+abbrev pub PartWalks : FlowNet → List ℕ → ℕ → Cells → PushPart → PushPart → Type 0
+PartWalks net labels v c old new =
+    Walks net labels old.base v c old.values.items new.values.items old.pushing new.pushing old.walked new.walked
 
 -- from rows of 0s the active nodes from `first` up to `end` were walked, and no others
 pub record WalksActive (net : FlowNet) (labels : List ℕ) (base first end : ℕ) (c : Cells) (old new : List ℕ) (list : NodeList) (count : ℕ) : Type 0 where

@@ -33,6 +33,10 @@ pub record CoversWork (net : FlowNet) (labels xs : List ℕ) (first end : ℕ) (
   pub rising : IsRising list
   pub rest : (v : ℕ) → first ≤ v → v < end → IsListed list v ⊎ IsStill net labels xs v (slice_index excess (v - first)) (slice_index next (v - first))
 
+-- the list that a part has beside the one that stands holds each of its nodes that isn't still
+abbrev pub ListsWork : FlowNet → List ℕ → List ℕ → FlowPart → Type 0
+ListsWork net labels xs q = CoversWork net labels xs q.first q.end q.excess.items q.next.items q.spare.nodes.items
+
 -- a part after Deliver of all its nodes
 pub record WholeDelivered (net : FlowNet) (labels xs : List ℕ) (old new : FlowPart) : Type 0 where
   pub is_delivered : PartDelivered net labels xs 0 (node_count net) old new

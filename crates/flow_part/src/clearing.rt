@@ -1,6 +1,7 @@
 //! Rows of pushes become 0s before the active nodes write theirs.
-ghost use Rattle.std.specs.Prelude.{◌≡◌, ℕ, ◌+◌, ◌<◌, ◌≤◌, length, slice_index};
+ghost use Rattle.std.specs.Prelude.{◌≡◌, ◌+◌, ◌<◌, ◌≤◌, length};
 ghost use Rattle.frame_net.specs.FlowNet.{node_count, start};
+ghost use Rattle.flow_part.specs.Listing.{EachListed};
 ghost use Rattle.flow_part.specs.Parts.{PushPartFits};
 ghost use Rattle.flow_part.specs.Reading.{Clears, ClearsListed, PartCleared};
 
@@ -20,9 +21,9 @@ pub(crate) fn clear(values: &mut [u32], from: usize, to: usize)
 
 /// Clears the rows of the listed nodes, in values that begin with arc `base`.
 fn clear_listed(net: &Net, list: &[u32], base: usize, values: &mut [u32])
-    requires nodes { (i : ℕ) → i < length list.now → slice_index list.now i < node_count net.now }
-    requires from { (i : ℕ) → i < length list.now → base ≤ start net.now (slice_index list.now i) }
-    requires to { (i : ℕ) → i < length list.now → start net.now (slice_index list.now i + 1) ≤ base + length values.old }
+    requires nodes { EachListed list.now (λ v. v < node_count net.now) }
+    requires from { EachListed list.now (λ v. base ≤ start net.now v) }
+    requires to { EachListed list.now (λ v. start net.now (v + 1) ≤ base + length values.old) }
     ensures { ClearsListed net.now base list.now (length list.now) values.old values.new }
 {
     let _nodes = net.nodes();

@@ -1,10 +1,9 @@
 //! Deliver: each node writes its own row of residuals, its excess and its new label, from all pushes and the labels of the pulse's
 //! start. The pushes that come in are those over the mates of the row's arcs.
-ghost use Rattle.std.specs.Prelude.{◌≡◌, ℕ, ◌+◌, ◌<◌, ◌≤◌, ◌^◌, nat_lt, ◌&&◌, cond, length, slice_index};
-ghost use Rattle.flow_theory.specs.Flow.{least_below};
-ghost use Rattle.frame_net.specs.FlowNet.{node_count, row_len, head};
-ghost use Rattle.flow_part.specs.Parts.{ArePushParts, FlowPartFits, LabelsFit, RangeFits, part_cells, values_of};
-ghost use Rattle.flow_part.specs.Delivering.{delivered_res, delivered_excess, delivered_label, NodeSafe, RangeDelivered, RangeSafe, PartDelivered};
+ghost use Rattle.std.specs.Prelude.{◌≡◌, ℕ, ◌+◌, ◌<◌, ◌≤◌, length, slice_index};
+ghost use Rattle.frame_net.specs.FlowNet.{node_count, row_len};
+ghost use Rattle.flow_part.specs.Parts.{ArePushParts, FlowPartFits, LabelsFit, values_of};
+ghost use Rattle.flow_part.specs.Delivering.{delivered_excess, delivered_label, delivered_res, label_after, KeepsLists, NodeSafe, PartDelivered, PartSafe};
 
 use crate::inflow::add_row;
 use crate::parts::{FlowPart, PushPart};
@@ -17,7 +16,7 @@ fn next_label(net: &Net, labels: &[u32], v: u32, excess: u32, outflow: u32, row:
     requires v { v < node_count net.now }
     requires labels { LabelsFit net.now labels.now }
     requires row { length row.now ≡ row_len net.now v }
-    ensures { result ≡ cond (nat_lt 1 v && nat_lt 0 excess && nat_lt (slice_index labels.now v) (node_count net.now) && nat_lt outflow excess) (least_below (row_len net.now v) (λ k. cond (nat_lt 0 (slice_index row.now k)) (slice_index labels.now (head net.now v k) + 1) (node_count net.now)) (node_count net.now)) (slice_index labels.now v) }
+    ensures { result ≡ label_after net.now labels.now v excess outflow (slice_index row.now) }
 {
     let nodes = net.nodes();
     let label = labels[v as usize];
@@ -50,8 +49,11 @@ fn deliver_node(
     requires row { length row.old ≡ row_len net.now v }
     requires safe { NodeSafe net.now (values_of parts.now) v (slice_index row.old) excess }
     ensures excess { result.excess ≡ delivered_excess net.now (values_of parts.now) v excess }
-    ensures label { result.label ≡ delivered_label net.now labels.now (values_of parts.now) v (slice_index row.old) excess }
-    ensures row { (k : ℕ) → k < row_len net.now v → slice_index row.new k ≡ delivered_res net.now (values_of parts.now) v (slice_index row.old) k }
+    ensures label { result.label ≡ delivered_label net.now labels.now (values_of parts.now) v
+        (slice_index row.old) excess }
+    ensures row { (k : ℕ) → k < row_len net.now v
+        → slice_index row.new k ≡ delivered_res net.now (values_of parts.now) v
+        (slice_index row.old) k }
 {
     let own = push_row(parts, net, v);
     let outflow = subtract_pushes(own, row);
@@ -63,58 +65,35 @@ fn deliver_node(
     }
 }
 
-/// Deliver of node `v` into cells that begin with arc `base` and node `first`.
+/// Deliver of node `v` of a part into the part's cells.
 pub(crate) fn deliver_at(
     net: &Net,
     labels: &[u32],
-    parts: &[PushPart],
-    base: usize,
-    first: u32,
+    pushes: &[PushPart],
     v: u32,
-    residuals: &mut [u32],
-    excess: &mut [u32],
-    next: &mut [u32],
+    part: &mut FlowPart,
 )
-    requires parts { ArePushParts net.now 0 parts.now }
+    requires pushes { ArePushParts net.now 0 pushes.now }
     requires labels { LabelsFit net.now labels.now }
-    requires fits { RangeFits net.now base first v (v + 1) (record { residuals = residuals.old; excess = excess.old; next = next.old }) }
-    requires safe { RangeSafe net.now (values_of parts.now) base first v (v + 1) (record { residuals = residuals.old; excess = excess.old; next = next.old }) }
-    ensures { RangeDelivered net.now labels.now (values_of parts.now) base first v (v + 1) (record { residuals = residuals.old; excess = excess.old; next = next.old }) (record { residuals = residuals.new; excess = excess.new; next = next.new }) }
+    requires part { FlowPartFits net.now part.old }
+    requires from { part.old.first ≤ v }
+    requires to { v < part.old.end }
+    requires safe { PartSafe net.now (values_of pushes.now) v (v + 1) part.old }
+    ensures same { KeepsLists part.old part.new }
+    ensures delivered { PartDelivered net.now labels.now (values_of pushes.now) v
+        (v + 1) part.old part.new }
 {
     let _nodes = net.nodes();
-    let from = net.start(v) - base;
-    let to = net.start(v + 1) - base;
-    let at = (v - first) as usize;
+    let from = net.start(v) - part.base;
+    let to = net.start(v + 1) - part.base;
+    let at = (v - part.first) as usize;
+    let residuals = part.residuals.as_mut_slice();
+    let excess = part.excess.as_mut_slice();
+    let next = part.next.as_mut_slice();
     let had = excess[at];
-    let delivered = deliver_node(net, labels, parts, v, had, &mut residuals[from..to]);
+    let delivered = deliver_node(net, labels, pushes, v, had, &mut residuals[from..to]);
     excess[at] = delivered.excess;
     next[at] = delivered.label;
-}
-
-/// Deliver of the nodes from `low` up to `high` into cells that begin with arc `base` and node `first`.
-fn deliver_rows(
-    net: &Net,
-    labels: &[u32],
-    parts: &[PushPart],
-    base: usize,
-    first: u32,
-    low: u32,
-    high: u32,
-    residuals: &mut [u32],
-    excess: &mut [u32],
-    next: &mut [u32],
-)
-    requires parts { ArePushParts net.now 0 parts.now }
-    requires labels { LabelsFit net.now labels.now }
-    requires ordered { low ≤ high }
-    requires fits { RangeFits net.now base first low high (record { residuals = residuals.old; excess = excess.old; next = next.old }) }
-    requires safe { RangeSafe net.now (values_of parts.now) base first low high (record { residuals = residuals.old; excess = excess.old; next = next.old }) }
-    ensures { RangeDelivered net.now labels.now (values_of parts.now) base first low high (record { residuals = residuals.old; excess = excess.old; next = next.old }) (record { residuals = residuals.new; excess = excess.new; next = next.new }) }
-{
-    let _nodes = net.nodes();
-    for v in low..high {
-        deliver_at(net, labels, parts, base, first, v, residuals, excess, next);
-    }
 }
 
 /// Deliver of those nodes of a part that lie from `first` up to `end`.
@@ -129,24 +108,15 @@ pub fn deliver_part(
     requires pushes { ArePushParts net.now 0 pushes.now }
     requires labels { LabelsFit net.now labels.now }
     requires part { FlowPartFits net.now part.old }
-    requires safe { RangeSafe net.now (values_of pushes.now) part.old.base part.old.first first end (part_cells part.old) }
+    requires safe { PartSafe net.now (values_of pushes.now) first end part.old }
     ensures { PartDelivered net.now labels.now (values_of pushes.now) first end part.old part.new }
 {
     let _nodes = net.nodes();
     let low = first.max(part.first);
     let high = end.min(part.end);
     if low < high {
-        deliver_rows(
-            net,
-            labels,
-            pushes,
-            part.base,
-            part.first,
-            low,
-            high,
-            part.residuals.as_mut_slice(),
-            part.excess.as_mut_slice(),
-            part.next.as_mut_slice(),
-        );
+        for v in low..high {
+            deliver_at(net, labels, pushes, v, part);
+        }
     }
 }

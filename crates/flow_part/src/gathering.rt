@@ -4,11 +4,11 @@
 //! A list has room for each node of the part once. A node may be added more than once, until `rise` leaves it once; where the
 //! room is full before that, or a list that this one is made of isn't complete, it isn't complete either, and all nodes of the
 //! part are visited.
-ghost use Rattle.std.specs.Prelude.{◌≡◌, ℕ, ◌+◌, ◌-◌, ◌<◌, ◌≤◌, true, length, slice_index};
+ghost use Rattle.std.specs.Prelude.{◌≡◌, ◌+◌, ◌<◌, ◌≤◌, true, length};
 ghost use Rattle.frame_net.specs.FlowNet.{node_count, row_len};
 ghost use Rattle.flow_part.specs.Parts.{ArePushParts, FlowPartFits, LabelsFit, values_of};
-ghost use Rattle.flow_part.specs.Listing.{active_by, AreWithin, Extends, IsListed, ListsActive};
-ghost use Rattle.flow_part.specs.Visiting.{AllPushesListed, CoversWork, HeadsListed, PushesListed};
+ghost use Rattle.flow_part.specs.Listing.{active_by, active_in, AreWithin, EachListed, Extends, IsListed, ListsActive};
+ghost use Rattle.flow_part.specs.Visiting.{AllPushesListed, HeadsListed, ListsWork, PushesListed};
 
 use crate::node_list::NodeList;
 use crate::parts::{FlowPart, PushPart};
@@ -34,7 +34,9 @@ fn add_active(
     requires listed { AreWithin first (first + length excess.now) listed.now }
     requires labels { first + length excess.now ≤ length labels.now }
     ensures extends { Extends first (first + length excess.now) list.old list.new }
-    ensures active { list.new.complete ≡ true → (i : ℕ) → i < length listed.now → active_by nodes (slice_index listed.now i) (slice_index excess.now (slice_index listed.now i - first)) (slice_index labels.now (slice_index listed.now i)) ≡ true → IsListed list.new.nodes.items (slice_index listed.now i) }
+    ensures active { list.new.complete ≡ true
+        → EachListed listed.now (λ v. active_in nodes labels.now first excess.now v ≡ true
+        → IsListed list.new.nodes.items v) }
 {
     for i in 0..listed.len() {
         let v = listed[i];
@@ -50,7 +52,8 @@ fn add_heads(net: &Net, pushes: &[PushPart], u: u32, first: u32, end: u32, list:
     requires pushes { ArePushParts net.now 0 pushes.now }
     requires u { u < node_count net.now }
     ensures extends { Extends first end list.old list.new }
-    ensures heads { list.new.complete ≡ true → HeadsListed net.now (values_of pushes.now) first end list.new.nodes.items u }
+    ensures heads { list.new.complete ≡ true
+        → HeadsListed net.now (values_of pushes.now) first end list.new.nodes.items u }
 {
     let _nodes = net.nodes();
     let heads = net.heads(u);
@@ -76,7 +79,8 @@ fn add_from(
     requires pushes { ArePushParts net.now 0 pushes.now }
     requires u { u < node_count net.now }
     ensures extends { Extends first end list.old list.new }
-    ensures listed { list.new.complete ≡ true → PushesListed net.now (values_of pushes.now) first end list.new.nodes.items u }
+    ensures listed { list.new.complete ≡ true
+        → PushesListed net.now (values_of pushes.now) first end list.new.nodes.items u }
 {
     if u >= first && u < end && !list.has_at(place, u) {
         list.add(u);
@@ -96,7 +100,8 @@ fn add_pushes(
     requires pushes { ArePushParts net.now 0 pushes.now }
     requires from { AreWithin 0 (node_count net.now) from.now }
     ensures extends { Extends first end list.old list.new }
-    ensures listed { list.new.complete ≡ true → (i : ℕ) → i < length from.now → PushesListed net.now (values_of pushes.now) first end list.new.nodes.items (slice_index from.now i) }
+    ensures listed { list.new.complete ≡ true → EachListed from.now
+        (PushesListed net.now (values_of pushes.now) first end list.new.nodes.items) }
 {
     for i in 0..from.len() {
         add_from(net, pushes, from[i], i, first, end, list);
@@ -107,7 +112,8 @@ fn add_pushes(
 fn add_all_pushes(net: &Net, pushes: &[PushPart], first: u32, end: u32, list: &mut NodeList)
     requires pushes { ArePushParts net.now 0 pushes.now }
     ensures extends { Extends first end list.old list.new }
-    ensures listed { list.new.complete ≡ true → AllPushesListed net.now (values_of pushes.now) first end list.new.nodes.items }
+    ensures listed { list.new.complete ≡ true
+        → AllPushesListed net.now (values_of pushes.now) first end list.new.nodes.items }
 {
     let _nodes = net.nodes();
     for i in 0..pushes.len() {
@@ -135,7 +141,8 @@ pub(crate) fn gather(
     requires part { FlowPartFits net.now part.old }
     requires active { listed ≡ true → ListsActive (node_count net.now) labels.now part.old }
     ensures same { part.new ≡ record part.old { spare = part.new.spare } }
-    ensures work { part.new.spare.complete ≡ true → CoversWork net.now labels.now (values_of pushes.now) part.old.first part.old.end part.old.excess.items part.old.next.items part.new.spare.nodes.items }
+    ensures work { part.new.spare.complete ≡ true
+        → ListsWork net.now labels.now (values_of pushes.now) part.new }
 {
     let nodes = net.nodes();
     let first = part.first;

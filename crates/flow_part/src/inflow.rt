@@ -4,7 +4,7 @@ ghost use Rattle.frame_net.specs.FlowNet.{node_count, row_len, head};
 ghost use Rattle.flow_part.specs.Parts.{ArePushParts, values_of};
 ghost use Rattle.flow_part.specs.Delivering.{back, row_inflow};
 ghost use Rattle.flow_part.specs.Listing.{IsRising};
-ghost use Rattle.flow_part.specs.Receiving.{ListInOrder, Receives};
+ghost use Rattle.flow_part.specs.Receiving.{AddsPushes, ListInOrder, Receives, RowFits};
 
 use crate::parts::PushPart;
 use crate::places::{push_at, push_row};
@@ -18,10 +18,10 @@ fn add_each(parts: &[PushPart], net: &Net, v: u32, row: &mut [u32]) -> u32
     requires parts { ArePushParts net.now 0 parts.now }
     requires v { v < node_count net.now }
     requires len { length row.old ≡ row_len net.now v }
-    requires fits { (k : ℕ) → k < row_len net.now v → slice_index row.old k + back net.now (values_of parts.now) v k < 2 ^ 32 }
+    requires fits { RowFits net.now (values_of parts.now) v row.old }
     requires sum { row_inflow net.now (values_of parts.now) v < 2 ^ 32 }
     ensures inflow { result ≡ row_inflow net.now (values_of parts.now) v }
-    ensures row { (k : ℕ) → k < row_len net.now v → slice_index row.new k ≡ slice_index row.old k + back net.now (values_of parts.now) v k }
+    ensures row { AddsPushes net.now (values_of parts.now) v row.old row.new }
 {
     let _nodes = net.nodes();
     let heads = net.heads(v);
@@ -39,7 +39,8 @@ fn add_each(parts: &[PushPart], net: &Net, v: u32, row: &mut [u32]) -> u32
 fn place_of(heads: &[u32], v: u32) -> usize
     ensures within { result ≤ length heads.now }
     ensures there { result < length heads.now → slice_index heads.now result ≡ v }
-    ensures found { (j : ℕ) → j < length heads.now → slice_index heads.now j ≡ v → result < length heads.now }
+    ensures found { (j : ℕ) → j < length heads.now → slice_index heads.now j ≡ v
+        → result < length heads.now }
 {
     for j in 0..heads.len() {
         if heads[j] == v {
@@ -55,7 +56,8 @@ fn receive(parts: &[PushPart], net: &Net, u: u32, v: u32, row: &mut [u32]) -> u3
     requires u { u < node_count net.now }
     requires v { v < node_count net.now }
     requires len { length row.old ≡ row_len net.now v }
-    requires fits { (k : ℕ) → k < row_len net.now v → head net.now v k ≡ u → slice_index row.old k + back net.now (values_of parts.now) v k < 2 ^ 32 }
+    requires fits { (k : ℕ) → k < row_len net.now v → head net.now v k ≡ u
+        → slice_index row.old k + back net.now (values_of parts.now) v k < 2 ^ 32 }
     ensures { Receives net.now (values_of parts.now) u v row.old row.new result }
 {
     let _nodes = net.nodes();
@@ -76,11 +78,11 @@ fn add_listed(parts: &[PushPart], net: &Net, v: u32, row: &mut [u32]) -> u32
     requires parts { ArePushParts net.now 0 parts.now }
     requires v { v < node_count net.now }
     requires len { length row.old ≡ row_len net.now v }
-    requires fits { (k : ℕ) → k < row_len net.now v → slice_index row.old k + back net.now (values_of parts.now) v k < 2 ^ 32 }
+    requires fits { RowFits net.now (values_of parts.now) v row.old }
     requires sum { row_inflow net.now (values_of parts.now) v < 2 ^ 32 }
     requires listed { ListInOrder parts.now }
     ensures inflow { result ≡ row_inflow net.now (values_of parts.now) v }
-    ensures row { (k : ℕ) → k < row_len net.now v → slice_index row.new k ≡ slice_index row.old k + back net.now (values_of parts.now) v k }
+    ensures row { AddsPushes net.now (values_of parts.now) v row.old row.new }
 {
     let _nodes = net.nodes();
     let mut inflow = 0;
@@ -128,10 +130,10 @@ pub(crate) fn add_row(parts: &[PushPart], net: &Net, v: u32, row: &mut [u32]) ->
     requires parts { ArePushParts net.now 0 parts.now }
     requires v { v < node_count net.now }
     requires len { length row.old ≡ row_len net.now v }
-    requires fits { (k : ℕ) → k < row_len net.now v → slice_index row.old k + back net.now (values_of parts.now) v k < 2 ^ 32 }
+    requires fits { RowFits net.now (values_of parts.now) v row.old }
     requires sum { row_inflow net.now (values_of parts.now) v < 2 ^ 32 }
     ensures inflow { result ≡ row_inflow net.now (values_of parts.now) v }
-    ensures row { (k : ℕ) → k < row_len net.now v → slice_index row.new k ≡ slice_index row.old k + back net.now (values_of parts.now) v k }
+    ensures row { AddsPushes net.now (values_of parts.now) v row.old row.new }
 {
     if row.len() > LONG_ROW && few_push(parts, row.len() / 4) {
         add_listed(parts, net, v, row)

@@ -44,7 +44,8 @@ pub(crate) fn push_row<'a>(parts: &'a [PushPart], net: &Net, v: u32) -> &'a [u32
     requires parts { ArePushParts net.now 0 parts.now }
     requires v { v < node_count net.now }
     ensures len { length result.now ≡ row_len net.now v }
-    ensures value { (k : ℕ) → k < row_len net.now v → slice_index result.now k ≡ own net.now (values_of parts.now) v k }
+    ensures value { (k : ℕ) → k < row_len net.now v
+        → slice_index result.now k ≡ own net.now (values_of parts.now) v k }
 {
     let _nodes = net.nodes();
     let at = net.start(v);

@@ -24,7 +24,9 @@ fn walk_row(
     requires v { v < node_count net.now }
     requires residuals { length residuals.now ≡ row_len net.now v }
     requires row { length row.old ≡ row_len net.now v }
-    ensures row { (k : ℕ) → k < row_len net.now v → slice_index row.new k ≡ arc_push net.now labels.now v (slice_index residuals.now) excess k }
+    ensures row { (k : ℕ) → k < row_len net.now v
+        → slice_index row.new k ≡ arc_push net.now labels.now v
+        (slice_index residuals.now) excess k }
     ensures counted { walked.new ≡ min (walked.old + 1) (2 ^ 32 - 1) }
 {
     let nodes = net.nodes();
@@ -48,7 +50,8 @@ pub(crate) fn walk_at(
     requires v { v < node_count net.now }
     requires from { base ≤ start net.now v }
     requires to { start net.now (v + 1) ≤ base + length values.old }
-    ensures row { RowsRead net.now labels.now base v (v + 1) (cells_of flow.now) values.old values.new }
+    ensures row { RowsRead net.now labels.now base v (v + 1)
+        (cells_of flow.now) values.old values.new }
     ensures counted { walked.new ≡ min (walked.old + 1) (2 ^ 32 - 1) }
 {
     let _nodes = net.nodes();
@@ -105,40 +108,16 @@ fn read_at(
     requires v { v < node_count net.now }
     requires from { base ≤ start net.now v }
     requires to { start net.now (v + 1) ≤ base + length values.old }
-    ensures row { RowsRead net.now labels.now base v (v + 1) (cells_of flow.now) values.old values.new }
-    ensures counted { IsCountedOn walked.old (active_from net.now labels.now (cells_of flow.now) v (v + 1)) walked.new }
+    ensures row { RowsRead net.now labels.now base v (v + 1)
+        (cells_of flow.now) values.old values.new }
+    ensures counted { IsCountedOn walked.old
+        (active_from net.now labels.now (cells_of flow.now) v (v + 1)) walked.new }
 {
     let _nodes = net.nodes();
     if is_active(net, labels, flow, v) {
         walk_at(net, labels, flow, v, base, values, walked);
     } else {
         clear(values, net.start(v) - base, net.start(v + 1) - base);
-    }
-}
-
-/// Read of the nodes from `low` up to `high` into values that begin with arc `base`.
-fn read_rows(
-    net: &Net,
-    labels: &[u32],
-    flow: &[FlowPart],
-    low: u32,
-    high: u32,
-    base: usize,
-    values: &mut [u32],
-    walked: &mut u32,
-)
-    requires labels { LabelsFit net.now labels.now }
-    requires flow { AreFlowParts net.now 0 flow.now }
-    requires ordered { low ≤ high }
-    requires high { high ≤ node_count net.now }
-    requires from { base ≤ start net.now low }
-    requires to { start net.now high ≤ base + length values.old }
-    ensures rows { RowsRead net.now labels.now base low high (cells_of flow.now) values.old values.new }
-    ensures counted { IsCountedOn walked.old (active_from net.now labels.now (cells_of flow.now) low high) walked.new }
-{
-    let _nodes = net.nodes();
-    for v in low..high {
-        read_at(net, labels, flow, v, base, values, walked);
     }
 }
 
@@ -161,15 +140,10 @@ pub fn read_part(
     let high = end.min(part.end);
     if low < high {
         part.pushing.forget();
-        read_rows(
-            net,
-            labels,
-            flow,
-            low,
-            high,
-            part.base,
-            part.values.as_mut_slice(),
-            &mut part.walked,
-        );
+        for v in low..high {
+            let base = part.base;
+            let values = part.values.as_mut_slice();
+            read_at(net, labels, flow, v, base, values, &mut part.walked);
+        }
     }
 }

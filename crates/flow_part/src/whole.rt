@@ -2,12 +2,12 @@
 //!
 //! `pulse` decides whether lists are of this flow and of these pushes, and hands that on as `listed`. `active` is the list that
 //! stands; `spare` is room for another, in which the nodes of this delivery are gathered; then the two change places.
-ghost use Rattle.std.specs.Prelude.{◌≡◌, ℕ, ◌+◌, ◌<◌, ◌≤◌, ◌^◌, true, length, slice_index};
+ghost use Rattle.std.specs.Prelude.{◌≡◌, ◌+◌, ◌<◌, ◌≤◌, ◌^◌, true, length};
 ghost use Rattle.frame_net.specs.FlowNet.{node_count};
-ghost use Rattle.flow_part.specs.Parts.{ArePushParts, FlowPartFits, LabelsFit, RangeFits, part_cells, values_of};
-ghost use Rattle.flow_part.specs.Delivering.{PartDelivered, RangeDelivered, RangeSafe};
-ghost use Rattle.flow_part.specs.Listing.{HasTurning, ListsActive, ListsTurning};
-ghost use Rattle.flow_part.specs.Visiting.{CoversWork};
+ghost use Rattle.flow_part.specs.Parts.{ArePushParts, FlowPartFits, LabelsFit, values_of};
+ghost use Rattle.flow_part.specs.Delivering.{PartDelivered, PartSafe};
+ghost use Rattle.flow_part.specs.Listing.{HasTurning, ListsActive, ListsTurning, SparesTurning};
+ghost use Rattle.flow_part.specs.Visiting.{ListsWork};
 
 use crate::delivering::{deliver_at, deliver_part};
 use crate::gathering::{gather, is_active};
@@ -16,55 +16,22 @@ use crate::parts::{FlowPart, PushPart};
 use frame_net::Net;
 use std::mem;
 
-/// Deliver of the listed nodes into cells that begin with arc `base` and node `first`. The others have nothing to do.
-fn deliver_rows_of(
-    net: &Net,
-    labels: &[u32],
-    parts: &[PushPart],
-    base: usize,
-    first: u32,
-    list: &[u32],
-    residuals: &mut [u32],
-    excess: &mut [u32],
-    next: &mut [u32],
-)
-    requires parts { ArePushParts net.now 0 parts.now }
-    requires labels { LabelsFit net.now labels.now }
-    requires fits { RangeFits net.now base first first (first + length excess.old) (record { residuals = residuals.old; excess = excess.old; next = next.old }) }
-    requires safe { RangeSafe net.now (values_of parts.now) base first first (first + length excess.old) (record { residuals = residuals.old; excess = excess.old; next = next.old }) }
-    requires work { CoversWork net.now labels.now (values_of parts.now) first (first + length excess.old) excess.old next.old list.now }
-    ensures { RangeDelivered net.now labels.now (values_of parts.now) base first first (first + length excess.old) (record { residuals = residuals.old; excess = excess.old; next = next.old }) (record { residuals = residuals.new; excess = excess.new; next = next.new }) }
-{
-    let _nodes = net.nodes();
-    for i in 0..list.len() {
-        deliver_at(
-            net, labels, parts, base, first, list[i], residuals, excess, next,
-        );
-    }
-}
-
 /// Deliver of the nodes of a part that `spare` lists. The others have nothing to do.
 fn deliver_listed(net: &Net, labels: &[u32], pushes: &[PushPart], part: &mut FlowPart)
     requires pushes { ArePushParts net.now 0 pushes.now }
     requires labels { LabelsFit net.now labels.now }
     requires part { FlowPartFits net.now part.old }
-    requires safe { RangeSafe net.now (values_of pushes.now) part.old.base part.old.first 0 (node_count net.now) (part_cells part.old) }
-    requires work { CoversWork net.now labels.now (values_of pushes.now) part.old.first part.old.end part.old.excess.items part.old.next.items part.old.spare.nodes.items }
-    ensures delivered { PartDelivered net.now labels.now (values_of pushes.now) 0 (node_count net.now) part.old part.new }
-    ensures turning { HasTurning (node_count net.now) labels.now part.old.first part.old.end part.new.excess.items part.new.next.items part.new.spare.nodes.items }
+    requires safe { PartSafe net.now (values_of pushes.now) 0 (node_count net.now) part.old }
+    requires work { ListsWork net.now labels.now (values_of pushes.now) part.old }
+    ensures delivered { PartDelivered net.now labels.now (values_of pushes.now) 0
+        (node_count net.now) part.old part.new }
+    ensures turning { SparesTurning (node_count net.now) labels.now part.new }
 {
     let _nodes = net.nodes();
-    deliver_rows_of(
-        net,
-        labels,
-        pushes,
-        part.base,
-        part.first,
-        part.spare.nodes.as_slice(),
-        part.residuals.as_mut_slice(),
-        part.excess.as_mut_slice(),
-        part.next.as_mut_slice(),
-    );
+    for i in 0..part.spare.nodes.len() {
+        let v = part.spare.nodes[i];
+        deliver_at(net, labels, pushes, v, part);
+    }
 }
 
 /// Lists anew the nodes from `first` on that are active by their new labels or whose labels change.
@@ -79,7 +46,8 @@ fn list_turning(
     requires labels { first + length excess.now ≤ length labels.now }
     requires few { length labels.now < 2 ^ 32 }
     requires next { length next.now ≡ length excess.now }
-    ensures { list.new.complete ≡ true → HasTurning nodes labels.now first (first + length excess.now) excess.now next.now list.new.nodes.items }
+    ensures { list.new.complete ≡ true → HasTurning nodes labels.now first
+        (first + length excess.now) excess.now next.now list.new.nodes.items }
 {
     list.begin();
     for i in 0..excess.len() {
@@ -104,9 +72,10 @@ pub fn deliver_whole(
     requires pushes { ArePushParts net.now 0 pushes.now }
     requires labels { LabelsFit net.now labels.now }
     requires part { FlowPartFits net.now part.old }
-    requires safe { RangeSafe net.now (values_of pushes.now) part.old.base part.old.first 0 (node_count net.now) (part_cells part.old) }
+    requires safe { PartSafe net.now (values_of pushes.now) 0 (node_count net.now) part.old }
     requires active { listed ≡ true → ListsActive (node_count net.now) labels.now part.old }
-    ensures delivered { PartDelivered net.now labels.now (values_of pushes.now) 0 (node_count net.now) part.old part.new }
+    ensures delivered { PartDelivered net.now labels.now (values_of pushes.now) 0
+        (node_count net.now) part.old part.new }
     ensures turning { ListsTurning (node_count net.now) labels.now part.new }
 {
     let nodes = net.nodes();

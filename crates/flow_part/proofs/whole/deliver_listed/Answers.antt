@@ -1,31 +1,39 @@
-use Rattle.std.proofs.Common.{◌+◌, length, arith, ap}
+use Rattle.std.proofs.Common.{◌≡◌, ◌<◌, length, slice_index, arith}
 use Rattle.frame_net.specs.FlowNet.{node_count}
 use Rattle.flow_part.specs.Parts.{values_of}
 use Rattle.flow_part.proofs.whole.deliver_listed.Goals as goal
-use Rattle.flow_part.proofs.PartLaws.{part_given, part_safe}
-use Rattle.flow_part.proofs.Visits.{part_turning, part_work}
+use Rattle.flow_part.proofs.PartSteps.{fits_after, listed_node, part_clamped, part_next_at, part_turning, part_visited_all, part_visited_none, part_visit_more, step_clamped, step_safe}
 
-pub deliver_rows_of-requires-clause-safe : goal.deliver_rows_of-requires-clause-safe
-deliver_rows_of-requires-clause-safe c =
-    part_safe c.args.net.now (values_of c.args.pushes.now) 0 (node_count c.args.net.now) c.args.part.now.first (c.args.part.now.first + length c.as_mut_slice-2.result.now) c.args.part.now
-    c.as_mut_slice.result.now c.as_mut_slice-2.result.now c.as_mut_slice-3.result.now c.as_mut_slice.ensures.value c.as_mut_slice-2.ensures.value c.as_mut_slice-3.ensures.value
-    (omega arith) (omega (arith, c.requires.part.nodes, c.requires.part.within, ap length c.as_mut_slice-2.ensures.value)) c.requires.safe
+pub loop-i-init : goal.loop-i-init
+loop-i-init c = part_visited_none c.args.net.now c.args.labels.now (values_of c.args.pushes.now) c.args.part.now c.requires.part c.requires.work
 
-pub deliver_rows_of-requires-clause-work : goal.deliver_rows_of-requires-clause-work
-deliver_rows_of-requires-clause-work c =
-    part_work c.args.net.now c.args.labels.now (values_of c.args.pushes.now) c.args.part.now c.as_mut_slice-2.result.now c.as_mut_slice-3.result.now c.as_slice.result.now c.requires.part
-    c.as_mut_slice-2.ensures.value c.as_mut_slice-3.ensures.value c.as_slice.ensures.value c.requires.work
+pub deliver_at-requires-clause-part : goal.deliver_at-requires-clause-part
+deliver_at-requires-clause-part c = fits_after c.args.net.now c.args.part.now c.loop-i.part c.loop-i.invariant.same c.loop-i.invariant.visited.done.sizes c.requires.part
+
+pub deliver_at-requires-clause-safe : goal.deliver_at-requires-clause-safe
+deliver_at-requires-clause-safe c =
+    let il : c.loop-i.i < length c.args.part.now.spare.nodes.items = omega arith in
+    let ev : c.index-v.result.now ≡ slice_index c.args.part.now.spare.nodes.items c.loop-i.i =
+    listed_node c.args.part.now c.loop-i.part c.loop-i.i c.index-v.result.now c.loop-i.invariant.same il c.index-v.ensures in
+    step_safe c.args.net.now c.args.labels.now (values_of c.args.pushes.now) c.args.part.now.first c.args.part.now.end c.index-v.result.now c.args.part.now c.loop-i.part
+    (omega (arith, ev, (c.requires.work.within c.loop-i.i il).0)) (omega (arith, ev, (c.requires.work.within c.loop-i.i il).1))
+    (part_clamped c.args.net.now (values_of c.args.pushes.now) 0 (node_count c.args.net.now) c.args.part.now.first c.args.part.now.end c.args.part.now (omega arith) (omega (arith, c.requires.part.within)) c.requires.safe)
+    (part_next_at c.args.net.now c.args.labels.now (values_of c.args.pushes.now) c.loop-i.i c.index-v.result.now c.args.part.now c.loop-i.part c.nodes-nodes.ensures.network c.requires.part c.requires.work il ev c.loop-i.invariant)
+
+pub loop-i-preserved : goal.loop-i-preserved
+loop-i-preserved c =
+    let il : c.loop-i.i < length c.args.part.now.spare.nodes.items = omega arith in
+    let ev : c.index-v.result.now ≡ slice_index c.args.part.now.spare.nodes.items c.loop-i.i =
+    listed_node c.args.part.now c.loop-i.part c.loop-i.i c.index-v.result.now c.loop-i.invariant.same il c.index-v.ensures in
+    part_visit_more c.args.net.now c.args.labels.now (values_of c.args.pushes.now) c.loop-i.i c.index-v.result.now c.args.part.now c.loop-i.part c.deliver_at.new.part c.nodes-nodes.ensures.network c.requires.part c.requires.work il ev
+    c.loop-i.invariant c.deliver_at.ensures.same c.deliver_at.ensures.delivered
 
 pub returns-clause-delivered : goal.returns-clause-delivered
 returns-clause-delivered c =
-    part_given c.args.net.now c.args.labels.now (values_of c.args.pushes.now) 0 (node_count c.args.net.now) c.args.part.now.first (c.args.part.now.first + length c.as_mut_slice-2.result.now) c.args.part.now
-    c.as_mut_slice.result.now c.as_mut_slice-2.result.now c.as_mut_slice-3.result.now c.deliver_rows_of.new.residuals c.deliver_rows_of.new.excess c.deliver_rows_of.new.next c.requires.part
-    c.as_mut_slice.ensures.value c.as_mut_slice-2.ensures.value c.as_mut_slice-3.ensures.value
-    (omega arith) (omega (arith, c.requires.part.nodes, c.requires.part.within, ap length c.as_mut_slice-2.ensures.value)) (omega arith) (omega arith) (omega arith) c.deliver_rows_of.ensures
+    step_clamped c.args.net.now c.args.labels.now (values_of c.args.pushes.now) 0 (node_count c.args.net.now) c.args.part.now.first c.args.part.now.end c.args.part.now c.loop-i.part c.requires.part (omega arith) (omega (arith, c.requires.part.within))
+    (part_visited_all c.args.net.now c.args.labels.now (values_of c.args.pushes.now) c.loop-i.i c.args.part.now c.loop-i.part c.nodes-nodes.ensures.network c.requires.part c.requires.work (omega arith) c.loop-i.invariant)
 
 pub returns-clause-turning : goal.returns-clause-turning
 returns-clause-turning c =
-    part_turning c.args.net.now c.args.labels.now (values_of c.args.pushes.now) c.args.part.now
-    c.as_mut_slice.result.now c.as_mut_slice-2.result.now c.as_mut_slice-3.result.now c.as_slice.result.now c.deliver_rows_of.new.residuals c.deliver_rows_of.new.excess c.deliver_rows_of.new.next
-    c.nodes-nodes.ensures.network c.requires.part c.as_mut_slice.ensures.value c.as_mut_slice-2.ensures.value c.as_mut_slice-3.ensures.value c.as_slice.ensures.value
-    (omega arith) (omega arith) c.requires.work c.deliver_rows_of.ensures
+    part_turning c.args.net.now c.args.labels.now (values_of c.args.pushes.now) c.args.part.now c.loop-i.part c.nodes-nodes.ensures.network c.requires.part c.requires.work
+    (part_visited_all c.args.net.now c.args.labels.now (values_of c.args.pushes.now) c.loop-i.i c.args.part.now c.loop-i.part c.nodes-nodes.ensures.network c.requires.part c.requires.work (omega arith) c.loop-i.invariant)

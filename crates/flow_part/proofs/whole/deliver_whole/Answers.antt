@@ -4,7 +4,7 @@ use Rattle.flow_part.specs.declared.node_list.NodeList.{NodeList}
 use Rattle.flow_part.specs.Listing.{HasTurning}
 use Rattle.flow_part.specs.Parts.{values_of}
 use Rattle.flow_part.proofs.whole.deliver_whole.Goals as goal
-use Rattle.flow_part.proofs.Visits.{spare_safe, swapped_turning}
+use Rattle.flow_part.proofs.Visits.{spare_safe}
 
 pub deliver_listed-requires-clause-safe : goal.deliver_listed-requires-clause-safe
 deliver_listed-requires-clause-safe c =
@@ -16,6 +16,5 @@ deliver_part-requires-clause-safe c =
 
 pub returns-then-part-clause-turning : goal.returns-then-part-clause-turning
 returns-then-part-clause-turning c h =
-    swapped_turning c.args.net.now c.args.labels.now (values_of c.args.pushes.now) c.gather.new.part c.deliver_listed.new.part c.swap.new.x.nodes.items c.deliver_listed.ensures.delivered
-    (subst (λ (l : NodeList). HasTurning (node_count c.args.net.now) c.args.labels.now c.gather.new.part.first c.gather.new.part.end c.deliver_listed.new.part.excess.items c.deliver_listed.new.part.next.items l.nodes.items)
-    (sym c.swap.ensures.x_after) c.deliver_listed.ensures.turning)
+    subst (λ (l : NodeList). HasTurning (node_count c.args.net.now) c.args.labels.now c.deliver_listed.new.part.first c.deliver_listed.new.part.end c.deliver_listed.new.part.excess.items c.deliver_listed.new.part.next.items l.nodes.items)
+    (sym c.swap.ensures.x_after) c.deliver_listed.ensures.turning
