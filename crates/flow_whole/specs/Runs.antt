@@ -1,9 +1,10 @@
-use Rattle.std.specs.Prelude.{◌≡◌, ℕ, suc, zero, ◌<◌, ◌≤◌, ◌||◌, ◌&&◌, ◌-◌, nat_lt, slice_index, Bool, true, false, List}
+use Rattle.std.specs.Prelude.{◌≡◌, ℕ, suc, zero, ◌<◌, ◌≤◌, ◌||◌, Bool, true, false, List}
 use Rattle.flow_theory.specs.Flow.{State, pulse, is_active}
 use Rattle.frame_net.specs.FlowNet.{FlowNet, node_count}
 use Rattle.flow_part.specs.declared.parts.FlowPart.{FlowPart}
 use Rattle.flow_part.specs.declared.parts.PushPart.{PushPart}
 use Rattle.flow_part.specs.Delivering.{HoldPushes}
+use Rattle.flow_part.specs.Listing.{active_in}
 use Rattle.flow_part.specs.Parts.{AreFlowParts, ArePushParts, LabelsFit, pairs, cells_of, values_of, Agree}
 
 -- some number below n passes
@@ -20,10 +21,10 @@ pub record HasActive (nodes : ℕ) (labels : List ℕ) (q : FlowPart) : Type 0 w
   pub node : ℕ
   pub low : q.first ≤ node
   pub high : node < q.end
-  pub active : (nat_lt 1 node && nat_lt 0 (slice_index q.excess.items (node - q.first)) && nat_lt (slice_index labels node) nodes) ≡ true
+  pub active : active_in nodes labels q.first q.excess.items node ≡ true
 
 abbrev pub LacksActive : ℕ → List ℕ → FlowPart → Type 0
-LacksActive nodes labels q = (v : ℕ) → q.first ≤ v → v < q.end → (nat_lt 1 v && nat_lt 0 (slice_index q.excess.items (v - q.first)) && nat_lt (slice_index labels v) nodes) ≡ false
+LacksActive nodes labels q = (v : ℕ) → q.first ≤ v → v < q.end → active_in nodes labels q.first q.excess.items v ≡ false
 
 -- parts of the flow and of the pushes of all nodes, and the labels
 pub record PartsFit (net : FlowNet) (labels : List ℕ) (qs : List FlowPart) (ps : List PushPart) : Type 0 where

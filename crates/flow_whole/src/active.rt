@@ -1,7 +1,7 @@
 //! Whether a node is active: neither source nor sink, with excess, and with a label below the number of nodes.
-ghost use Rattle.std.specs.Prelude.{◌≡◌, ℕ, ◌+◌, ◌-◌, ◌<◌, ◌≤◌, ◌^◌, false, true, length, slice_index};
+ghost use Rattle.std.specs.Prelude.{◌≡◌, ◌+◌, ◌<◌, ◌≤◌, ◌^◌, false, true, length};
 ghost use Rattle.frame_net.specs.FlowNet.{node_count};
-ghost use Rattle.flow_part.specs.Listing.{active_by, AreWithin, ListActive, ListsActive};
+ghost use Rattle.flow_part.specs.Listing.{active_in, AreWithin, EachListed, ListActive, ListsActive};
 ghost use Rattle.flow_part.specs.Parts.{AreFlowParts, LabelsFit, cells_of, pairs};
 ghost use Rattle.flow_whole.specs.Runs.{any_active, HasActive, LacksActive};
 
@@ -14,7 +14,8 @@ fn listed_active(nodes: u32, labels: &[u32], part: &FlowPart) -> bool
     requires excess { length part.now.excess.items + part.now.first ≡ part.now.end }
     requires within { AreWithin part.now.first part.now.end part.now.active.nodes.items }
     ensures some { result ≡ true → HasActive nodes labels.now part.now }
-    ensures none { result ≡ false → (i : ℕ) → i < length part.now.active.nodes.items → active_by nodes (slice_index part.now.active.nodes.items i) (slice_index part.now.excess.items (slice_index part.now.active.nodes.items i - part.now.first)) (slice_index labels.now (slice_index part.now.active.nodes.items i)) ≡ false }
+    ensures none { result ≡ false → EachListed part.now.active.nodes.items
+        (λ v. active_in nodes labels.now part.now.first part.now.excess.items v ≡ false) }
 {
     let list = part.active.nodes.as_slice();
     for i in 0..list.len() {
@@ -66,7 +67,8 @@ pub fn any_active_node(net: &Net, labels: &[u32], parts: &[FlowPart], listed: bo
     requires parts { AreFlowParts net.now 0 parts.now }
     requires labels { LabelsFit net.now labels.now }
     requires lists { listed ≡ true → ListActive (node_count net.now) labels.now parts.now }
-    ensures { result ≡ any_active (node_count net.now) (pairs net.now (cells_of parts.now) labels.now) }
+    ensures { result ≡ any_active (node_count net.now)
+        (pairs net.now (cells_of parts.now) labels.now) }
 {
     let nodes = net.nodes();
     for part in parts {

@@ -16,7 +16,8 @@ pub(crate) fn add(
 ) -> Result<(), AllocError>
     requires ordered { from ≤ to }
     requires within { to ≤ length values.now }
-    ensures { OnOk result (all.new.items ≡ all.old.items ++ take (to - from) (drop from values.now)) }
+    ensures { OnOk result (all.new.items
+        ≡ all.old.items ++ take (to - from) (drop from values.now)) }
 {
     all.extend_from_slice(&values[from..to])
 }
@@ -33,7 +34,9 @@ pub(crate) fn copied_residuals(
     requires ordered { first ≤ end }
     requires within { end ≤ node_count net.now }
     ensures len { IfOk result (λ v. length v.items + start net.now first ≡ start net.now end) }
-    ensures each { IfOk result (λ v. (i : ℕ) → i < length v.items → slice_index v.items i ≡ slice_index (cells_of flow.now).residuals (start net.now first + i)) }
+    ensures each { IfOk result (λ v. (i : ℕ) → i < length v.items
+        → slice_index v.items i ≡ slice_index (cells_of flow.now).residuals
+        (start net.now first + i)) }
 {
     let _nodes = net.nodes();
     let mut residuals = Vec::with_capacity(alloc, net.start(end) - net.start(first))?;
@@ -62,7 +65,8 @@ pub(crate) fn copied_excess(
     requires ordered { first ≤ end }
     requires within { end ≤ node_count net.now }
     ensures len { IfOk result (λ v. length v.items + first ≡ end) }
-    ensures each { IfOk result (λ v. (i : ℕ) → i < length v.items → slice_index v.items i ≡ slice_index (cells_of flow.now).excess (first + i)) }
+    ensures each { IfOk result (λ v. (i : ℕ) → i < length v.items
+        → slice_index v.items i ≡ slice_index (cells_of flow.now).excess (first + i)) }
 {
     let _nodes = net.nodes();
     let mut excess = Vec::with_capacity(alloc, (end - first) as usize)?;
@@ -89,7 +93,8 @@ pub(crate) fn copied_labels(
     requires ordered { first ≤ end }
     requires within { end ≤ length labels.now }
     ensures len { IfOk result (λ v. length v.items + first ≡ end) }
-    ensures each { IfOk result (λ v. (w : ℕ) → first ≤ w → w < end → slice_index v.items (w - first) ≡ slice_index labels.now w) }
+    ensures each { IfOk result (λ v. (w : ℕ) → first ≤ w → w < end
+        → slice_index v.items (w - first) ≡ slice_index labels.now w) }
 {
     let mut copy = Vec::with_capacity(alloc, (end - first) as usize)?;
     add(labels, first as usize, end as usize, &mut copy)?;

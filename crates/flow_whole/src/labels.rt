@@ -1,7 +1,7 @@
 //! The labels of all nodes, which the new ones replace at the end of a pulse.
 ghost use Rattle.std.specs.Prelude.{◌≡◌, ℕ, ◌+◌, ◌-◌, ◌<◌, ◌≤◌, ◌⊎◌, IfOk, true, length, slice_index};
 ghost use Rattle.frame_net.specs.FlowNet.{node_count};
-ghost use Rattle.flow_part.specs.Listing.{AreWithin, IsListed};
+ghost use Rattle.flow_part.specs.Listing.{AreWithin, EachListed, IsListed};
 ghost use Rattle.flow_part.specs.Parts.{cells_of};
 ghost use Rattle.flow_whole.specs.Start.{LabelsStart};
 ghost use Rattle.flow_whole.specs.Labels.{AreLabelled, HasLabels, HoldLabels, HoldsLabels, KeepLabels, KeepsLabels};
@@ -25,8 +25,10 @@ pub fn start_labels(alloc: Global, net: &Net) -> Result<Vec<u32>, AllocError>
 fn turn_listed(labels: &mut [u32], first: u32, next: &[u32], list: &[u32])
     requires list { AreWithin first (first + length next.now) list.now }
     requires labels { first + length next.now ≤ length labels.old }
-    ensures listed { (i : ℕ) → i < length list.now → slice_index labels.new (slice_index list.now i) ≡ slice_index next.now (slice_index list.now i - first) }
-    ensures others { (v : ℕ) → IsListed list.now v ⊎ (slice_index labels.new v ≡ slice_index labels.old v) }
+    ensures listed { EachListed list.now
+        (λ v. slice_index labels.new v ≡ slice_index next.now (v - first)) }
+    ensures others { (v : ℕ) → IsListed list.now v
+        ⊎ (slice_index labels.new v ≡ slice_index labels.old v) }
 {
     for i in 0..list.len() {
         let v = list[i];
@@ -39,9 +41,12 @@ fn turn_listed(labels: &mut [u32], first: u32, next: &[u32], list: &[u32])
 fn turn_part(labels: &mut [u32], part: &FlowPart, listed: bool)
     requires part { part.now.end ≤ length labels.old }
     requires next { length part.now.next.items + part.now.first ≡ part.now.end }
-    requires lists { listed ≡ true → part.now.active.complete ≡ true → KeepsLabels labels.old part.now }
-    ensures here { (v : ℕ) → part.now.first ≤ v → v < part.now.end → slice_index labels.new v ≡ slice_index part.now.next.items (v - part.now.first) }
-    ensures others { (v : ℕ) → (v < part.now.first) ⊎ (part.now.end ≤ v) → slice_index labels.new v ≡ slice_index labels.old v }
+    requires lists { listed ≡ true → part.now.active.complete ≡ true
+        → KeepsLabels labels.old part.now }
+    ensures here { (v : ℕ) → part.now.first ≤ v → v < part.now.end
+        → slice_index labels.new v ≡ slice_index part.now.next.items (v - part.now.first) }
+    ensures others { (v : ℕ) → (v < part.now.first) ⊎ (part.now.end ≤ v)
+        → slice_index labels.new v ≡ slice_index labels.old v }
 {
     if listed && part.active.complete {
         let list = part.active.nodes.as_slice();
@@ -55,7 +60,8 @@ fn turn_part(labels: &mut [u32], part: &FlowPart, listed: bool)
 pub fn turn(labels: &mut [u32], parts: &[FlowPart], listed: bool)
     requires parts { AreLabelled (length labels.old) 0 parts.now }
     requires lists { listed ≡ true → KeepLabels labels.old parts.now }
-    ensures { (v : ℕ) → v < length labels.old → slice_index labels.new v ≡ slice_index (cells_of parts.now).next v }
+    ensures { (v : ℕ) → v < length labels.old
+        → slice_index labels.new v ≡ slice_index (cells_of parts.now).next v }
 {
     for part in parts {
         turn_part(labels, part, listed);

@@ -38,8 +38,10 @@ fn part_anew(
     ensures worker { IfOk result (λ q. q.worker ≡ worker) }
     ensures first { IfOk result (λ q. q.first ≡ first) }
     ensures end { IfOk result (λ q. q.end ≡ end) }
-    ensures holds { IfOk result (λ q. PartHolds net.now (slice_index (cells_of flow.now).residuals) (slice_index (cells_of flow.now).excess) q) }
-    ensures lists { IfOk result (λ q. ListActive (node_count net.now) labels.now flow.now → ListsActive (node_count net.now) labels.now q) }
+    ensures holds { IfOk result (λ q. PartHolds net.now (slice_index (cells_of flow.now).residuals)
+        (slice_index (cells_of flow.now).excess) q) }
+    ensures lists { IfOk result (λ q. ListActive (node_count net.now) labels.now flow.now
+        → ListsActive (node_count net.now) labels.now q) }
 {
     let _nodes = net.nodes();
     let base = net.start(first);
@@ -74,8 +76,10 @@ pub fn parted_anew(
     requires some { 0 < workers }
     ensures len { IfOk result (λ v. length v.items ≡ workers) }
     ensures shares { IfOk result (λ v. AreFlowShares (node_count net.now) workers v.items) }
-    ensures holds { IfOk result (λ v. PartsHold net.now (slice_index (cells_of flow.now).residuals) (slice_index (cells_of flow.now).excess) (node_count net.now) v.items) }
-    ensures lists { IfOk result (λ v. ListActive (node_count net.now) labels.now flow.now → ListActive (node_count net.now) labels.now v.items) }
+    ensures holds { IfOk result (λ v. PartsHold net.now (slice_index (cells_of flow.now).residuals)
+        (slice_index (cells_of flow.now).excess) (node_count net.now) v.items) }
+    ensures lists { IfOk result (λ v. ListActive (node_count net.now) labels.now flow.now
+        → ListActive (node_count net.now) labels.now v.items) }
 {
     let nodes = net.nodes();
     let mut parts = Vec::with_capacity(alloc, workers as usize)?;

@@ -64,7 +64,8 @@ pub fn deliver_each(
     requires parts { AreFlowParts net.now 0 parts.old }
     requires safe { PartsSafe net.now (values_of pushes.now) first end parts.old }
     ensures len { length parts.new ≡ length parts.old }
-    ensures each { PartsDelivered net.now labels.now (values_of pushes.now) first end parts.old parts.new }
+    ensures each { PartsDelivered net.now labels.now
+        (values_of pushes.now) first end parts.old parts.new }
 {
     for i in 0..parts.len() {
         deliver_part(net, labels, pushes, &mut parts[i], first, end);

@@ -37,9 +37,11 @@ fn is_at_source(net: &Net, arc: u32) -> bool
 /// Puts the residuals of the start in place of the capacities of the arcs from `base` on.
 fn replace_caps(net: &Net, base: u32, residuals: &mut [u32])
     requires within { base + length residuals.old ≤ length net.now.heads }
-    requires caps { (i : ℕ) → i < length residuals.old → slice_index residuals.old i ≡ cap_at net.now (base + i) }
+    requires caps { (i : ℕ) → i < length residuals.old
+        → slice_index residuals.old i ≡ cap_at net.now (base + i) }
     ensures len { length residuals.new ≡ length residuals.old }
-    ensures each { (i : ℕ) → i < length residuals.new → slice_index residuals.new i ≡ start_res net.now (base + i) }
+    ensures each { (i : ℕ) → i < length residuals.new
+        → slice_index residuals.new i ≡ start_res net.now (base + i) }
 {
     let _arcs = net.arcs();
     for i in 0..residuals.len() {
@@ -54,7 +56,8 @@ fn replace_caps(net: &Net, base: u32, residuals: &mut [u32])
 fn start_residuals(alloc: Global, net: &Net, base: u32, size: u32) -> Result<Vec<u32>, AllocError>
     requires { base + size ≤ length net.now.heads }
     ensures len { IfOk result (λ v. length v.items ≡ size) }
-    ensures each { IfOk result (λ v. (i : ℕ) → i < length v.items → slice_index v.items i ≡ start_res net.now (base + i)) }
+    ensures each { IfOk result (λ v. (i : ℕ) → i < length v.items
+        → slice_index v.items i ≡ start_res net.now (base + i)) }
 {
     let _nodes = net.nodes();
     let _arcs = net.arcs();
@@ -88,7 +91,8 @@ fn start_node(net: &Net, v: u32) -> u32
 fn start_excesses(alloc: Global, net: &Net, first: u32, count: u32) -> Result<Vec<u32>, AllocError>
     requires { first + count ≤ node_count net.now }
     ensures len { IfOk result (λ v. length v.items ≡ count) }
-    ensures each { IfOk result (λ v. (i : ℕ) → i < length v.items → slice_index v.items i ≡ start_excess net.now (first + i)) }
+    ensures each { IfOk result (λ v. (i : ℕ) → i < length v.items
+        → slice_index v.items i ≡ start_excess net.now (first + i)) }
 {
     let _nodes = net.nodes();
     let mut excess = Vec::with_capacity(alloc, count as usize)?;
@@ -111,7 +115,8 @@ fn start_part(
     ensures worker { IfOk result (λ q. q.worker ≡ worker) }
     ensures first { IfOk result (λ q. q.first ≡ first) }
     ensures end { IfOk result (λ q. q.end ≡ end) }
-    ensures starts { IfOk result (λ q. PartHolds net.now (start_res net.now) (start_excess net.now) q) }
+    ensures starts { IfOk result (λ q. PartHolds net.now (start_res net.now)
+        (start_excess net.now) q) }
 {
     let _nodes = net.nodes();
     let _arcs = net.arcs();
@@ -140,7 +145,8 @@ pub fn start_parts(alloc: Global, net: &Net, workers: u32) -> Result<Vec<FlowPar
     requires { 0 < workers }
     ensures len { IfOk result (λ v. length v.items ≡ workers) }
     ensures shares { IfOk result (λ v. AreFlowShares (node_count net.now) workers v.items) }
-    ensures starts { IfOk result (λ v. PartsHold net.now (start_res net.now) (start_excess net.now) (node_count net.now) v.items) }
+    ensures starts { IfOk result (λ v. PartsHold net.now (start_res net.now) (start_excess net.now)
+        (node_count net.now) v.items) }
 {
     let nodes = net.nodes();
     let mut parts = Vec::with_capacity(alloc, workers as usize)?;
