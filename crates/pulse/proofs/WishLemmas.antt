@@ -1,10 +1,10 @@
 -- A flow along wishes, between two pulses.
-use Rattle.std.proofs.Common.{◌≡◌, ℕ, Bool, false, List, length, refl, sym, ap, ◌∙◌, subst}
-use Rattle.frame_net.specs.FlowNet.{FlowNet, node_count, IsFlowNet}
+use Rattle.std.proofs.Common.{◌≡◌, ℕ, Bool, false, List, sym, subst}
+use Rattle.frame_net.specs.FlowNet.{FlowNet, IsFlowNet}
 use Rattle.flow_part.specs.declared.parts.FlowPart.{FlowPart}
 use Rattle.flow_part.specs.Parts.{AreFlowParts, IsSound, cells_of, pairs}
 use Rattle.pulse.specs.Values.{FlowState, flow_state}
-use Rattle.pulse.specs.Conditions.{IsBetween, IsFlowOf, state_of}
+use Rattle.pulse.specs.Conditions.{IsBetween, IsFlowOf}
 use Rattle.pulse.proofs.FlowLemmas.{flow_unspent, flow_with}
 
 -- the state is sound by its parts and labels

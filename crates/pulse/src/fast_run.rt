@@ -47,17 +47,7 @@ pub fn run_with_global_relabeling<G: PhaseGate>(
     let first = Share::among(1).next(net, net.start(1), false, crew.workers());
     let mut flow = Flow::start_for(alloc, net, first.parts)?;
     let mut pushes = Pushes::new_for(alloc, net, first.parts)?;
-    let mut queue = queue_for(alloc, net)?;
-    let pulses = run(
-        rt,
-        alloc,
-        net,
-        &mut flow,
-        &mut pushes,
-        queue.as_mut_slice(),
-        crew,
-        first,
-    )?;
+    let pulses = run(rt, alloc, net, &mut flow, &mut pushes, crew, first)?;
     Ok(MaxPreflow { flow, pulses })
 }
 
@@ -80,18 +70,8 @@ pub fn run_along_wishes<G: PhaseGate>(
     let first = Share::among(1);
     let mut flow = Flow::start_for(alloc, net, 1)?;
     let mut pushes = Pushes::new_for(alloc, net, 1)?;
-    let mut queue = queue_for(alloc, net)?;
     send_along(net, &mut flow, wishes);
-    let pulses = run(
-        rt,
-        alloc,
-        net,
-        &mut flow,
-        &mut pushes,
-        queue.as_mut_slice(),
-        crew,
-        first,
-    )?;
+    let pulses = run(rt, alloc, net, &mut flow, &mut pushes, crew, first)?;
     Ok(MaxPreflow { flow, pulses })
 }
 
@@ -100,7 +80,8 @@ fn part_ahead(alloc: Global, net: &Net, flow: &mut Flow, parts: u32) -> Result<(
     requires some { 0 < parts }
     requires flow { IsBetween net.now flow.old }
     ensures flow { OnOk result (IsBetween net.now flow.new) }
-    ensures agree { OnOk result (Agree (node_count net.now) (state_of net.now flow.old) (state_of net.now flow.new)) }
+    ensures agree { OnOk result (Agree (node_count net.now) (state_of net.now flow.old)
+        (state_of net.now flow.new)) }
 {
     let _nodes = net.nodes();
     let labels = flow.labels.as_slice();
@@ -140,7 +121,9 @@ fn relabel_after_walks(net: &Net, flow: &mut Flow, queue: &mut [u32], walked: us
     requires flow { IsBetween net.now flow.old }
     requires queue { length queue.old ≡ node_count net.now }
     ensures flow { IsBetween net.now flow.new }
-    ensures labels { (flow.new ≡ flow.old) ⊎ Agree (node_count net.now) (exact (node_count net.now) (state_of net.now flow.old)) (state_of net.now flow.new) }
+    ensures labels { (flow.new ≡ flow.old)
+        ⊎ Agree (node_count net.now) (exact (node_count net.now) (state_of net.now flow.old))
+        (state_of net.now flow.new) }
 {
     if !is_due(net, walked) {
         return walked;
@@ -169,7 +152,6 @@ fn run<R: Threads + Sync, G: PhaseGate>(
     net: &Net,
     flow: &mut Flow,
     pushes: &mut Pushes,
-    queue: &mut [u32],
     crew: &Crew<G>,
     begun: Share,
 ) -> Result<u64, PulseError>
@@ -177,12 +159,13 @@ fn run<R: Threads + Sync, G: PhaseGate>(
     requires flow { IsBetween net.now flow.old }
     requires pushes { ArePushesOf net.now pushes.old }
     requires usable { pushes.old.spent ≡ false }
-    requires queue { length queue.old ≡ node_count net.now }
     ensures flow { IfOk result (λ k. IsBetween net.now flow.new) }
     ensures ended { IfOk result (λ k. NoneActive net.now flow.new) }
     ensures bounded { IfOk result (λ k. k ≤ 2 * (node_count net.now * node_count net.now)) }
 {
     let _nodes = net.nodes();
+    let mut room = queue_for(alloc, net)?;
+    let queue = room.as_mut_slice();
     relabel(net, flow, queue);
     let mut share = first_share(net, flow, begun, crew.workers());
     let mut count = 0;

@@ -90,7 +90,8 @@ impl Flow {
     pub fn flow(&self, arc: u32) -> i64
         requires arc { arc < length self.now.cells.residuals }
         requires cap { arc < length self.now.caps }
-        ensures { result ≡ pos (slice_index self.now.caps arc) -ℤ pos (slice_index self.now.cells.residuals arc) }
+        ensures { result ≡ pos (slice_index self.now.caps arc) -ℤ pos
+            (slice_index self.now.cells.residuals arc) }
     {
         let residual = residual_at(self.parts.as_slice(), arc as usize);
         i64::from(self.caps[arc as usize]) - i64::from(residual)
@@ -126,7 +127,8 @@ impl Flow {
 /// The capacities of all arcs.
 fn capacities(alloc: Global, net: &Net) -> Result<Vec<u32>, AllocError>
     ensures len { IfOk result (λ v. length v.items ≡ length net.now.heads) }
-    ensures each { IfOk result (λ v. (arc : ℕ) → arc < length v.items → slice_index v.items arc ≡ cap_at net.now arc) }
+    ensures each { IfOk result (λ v. (arc : ℕ) → arc < length v.items
+        → slice_index v.items arc ≡ cap_at net.now arc) }
 {
     let _nodes = net.nodes();
     Vec::from_slice(alloc, net.caps())

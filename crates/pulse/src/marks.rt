@@ -7,7 +7,8 @@ use std::alloc::{AllocError, Global};
 /// A mark for each node, none of them set.
 pub(crate) fn no_marks(alloc: Global, nodes: u32) -> Result<Vec<bool>, AllocError>
     ensures len { IfOk result (λ v. length v.items ≡ nodes) }
-    ensures none { IfOk result (λ v. (u : ℕ) → u < length v.items → slice_index_or v.items u false ≡ false) }
+    ensures none { IfOk result (λ v. (u : ℕ) → u < length v.items
+        → slice_index_or v.items u false ≡ false) }
 {
     vec![in alloc; false; nodes as usize]
 }
@@ -16,7 +17,9 @@ pub(crate) fn no_marks(alloc: Global, nodes: u32) -> Result<Vec<bool>, AllocErro
 pub(crate) fn mark(delivered: &mut [bool], first: u32, end: u32)
     requires ordered { first ≤ end }
     requires within { end ≤ length delivered.old }
-    ensures { (v : ℕ) → v < length delivered.old → slice_index_or delivered.new v false ≡ and_range (λ u. slice_index_or delivered.old u false) first end v }
+    ensures { (v : ℕ) → v < length delivered.old
+        → slice_index_or delivered.new v false
+        ≡ and_range (λ u. slice_index_or delivered.old u false) first end v }
 {
     for v in first..end {
         delivered[v as usize] = true;

@@ -33,7 +33,8 @@ impl MaxPreflow {
     pub fn flow(&self, arc: u32) -> i64
         requires arc { arc < length self.now.flow.cells.residuals }
         requires cap { arc < length self.now.flow.caps }
-        ensures { result ≡ pos (slice_index self.now.flow.caps arc) -ℤ pos (slice_index self.now.flow.cells.residuals arc) }
+        ensures { result ≡ pos (slice_index self.now.flow.caps arc) -ℤ pos
+            (slice_index self.now.flow.cells.residuals arc) }
     {
         self.flow.flow(arc)
     }

@@ -8,7 +8,7 @@ use crate::error::PulseError;
 use crate::flow::Flow;
 use crate::gate::PhaseGate;
 use crate::pushes::Pushes;
-use crate::sharing::Share;
+use crate::sharing::{Phase, Share};
 use crate::workers::{deliver_all, read_all};
 use frame_net::Net;
 use std::alloc::Global;
@@ -29,7 +29,8 @@ pub fn read_phase<G: PhaseGate>(
 ) -> Result<(), PulseError>
     requires flow { IsFlowOf net.now flow.now }
     requires pushes { ArePushesOf net.now pushes.old }
-    requires none { flow.now.spent ≡ false → pushes.old.spent ≡ false → NoneDelivered net.now flow.now }
+    requires none { flow.now.spent ≡ false → pushes.old.spent ≡ false
+        → NoneDelivered net.now flow.now }
     ensures fits { ArePushesOf net.now pushes.new }
     ensures ok { OnOk result (AfterRead net.now flow.now pushes.old pushes.new) }
     ensures walked { OnOk result (pushes.new.walked ≡ active_count net.now flow.now) }
@@ -54,7 +55,8 @@ pub fn deliver_phase<G: PhaseGate>(
 ) -> Result<(), PulseError>
     requires flow { IsFlowOf net.now flow.old }
     requires pushes { ArePushesOf net.now pushes.now }
-    requires read { flow.old.spent ≡ false → pushes.now.spent ≡ false → IsReadPhase net.now flow.old pushes.now }
+    requires read { flow.old.spent ≡ false → pushes.now.spent ≡ false
+        → IsReadPhase net.now flow.old pushes.now }
     ensures fits { IsFlowOf net.now flow.new }
     ensures ok { OnOk result (AfterDelivery net.now flow.old flow.new pushes.now) }
     ensures err { OnErr result (AfterRefusal flow.old flow.new) }
@@ -76,7 +78,8 @@ pub(crate) fn read_by<R: Threads + Sync, G: PhaseGate>(
     requires some { 0 < share.parts }
     requires flow { IsFlowOf net.now flow.now }
     requires pushes { ArePushesOf net.now pushes.old }
-    requires none { flow.now.spent ≡ false → pushes.old.spent ≡ false → NoneDelivered net.now flow.now }
+    requires none { flow.now.spent ≡ false → pushes.old.spent ≡ false
+        → NoneDelivered net.now flow.now }
     ensures fits { ArePushesOf net.now pushes.new }
     ensures ok { OnOk result (AfterRead net.now flow.now pushes.old pushes.new) }
     ensures walked { OnOk result (pushes.new.walked ≡ active_count net.now flow.now) }
@@ -89,19 +92,13 @@ pub(crate) fn read_by<R: Threads + Sync, G: PhaseGate>(
     let _nodes = net.nodes();
     let labels = flow.labels.as_slice();
     let parts = flow.parts.as_slice();
-    let phase = u64::from(flow.phase);
-    match read_all(
-        rt,
-        alloc,
-        net,
-        labels,
-        parts,
-        &mut pushes.parts,
+    let phase = Phase {
         share,
         gate,
-        phase,
-        flow.listed,
-    ) {
+        number: u64::from(flow.phase),
+        listed: flow.listed,
+    };
+    match read_all(rt, alloc, net, labels, parts, &mut pushes.parts, &phase) {
         Ok(()) => Ok(()),
         Err(_) => {
             pushes.spent = true;
@@ -123,7 +120,8 @@ pub(crate) fn deliver_by<R: Threads + Sync, G: PhaseGate>(
     requires some { 0 < share.parts }
     requires flow { IsFlowOf net.now flow.old }
     requires pushes { ArePushesOf net.now pushes.now }
-    requires read { flow.old.spent ≡ false → pushes.now.spent ≡ false → IsReadPhase net.now flow.old pushes.now }
+    requires read { flow.old.spent ≡ false → pushes.now.spent ≡ false
+        → IsReadPhase net.now flow.old pushes.now }
     ensures fits { IsFlowOf net.now flow.new }
     ensures ok { OnOk result (AfterDelivery net.now flow.old flow.new pushes.now) }
     ensures err { OnErr result (AfterRefusal flow.old flow.new) }
@@ -134,21 +132,16 @@ pub(crate) fn deliver_by<R: Threads + Sync, G: PhaseGate>(
     }
     let _nodes = net.nodes();
     let rows = pushes.parts.as_slice();
-    let phase = u64::from(flow.phase) + 1;
+    let number = u64::from(flow.phase) + 1;
     let listed = flow.listed;
-    let labels = flow.labels.as_mut_slice();
-    match deliver_all(
-        rt,
-        alloc,
-        net,
-        labels,
-        rows,
-        &mut flow.parts,
-        listed,
+    let phase = Phase {
         share,
         gate,
-        phase,
-    ) {
+        number,
+        listed,
+    };
+    let labels = flow.labels.as_mut_slice();
+    match deliver_all(rt, alloc, net, labels, rows, &mut flow.parts, &phase) {
         Ok(()) => {
             flow.listed = true;
             flow.phase = flow.phase.wrapping_add(2);

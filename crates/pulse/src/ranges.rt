@@ -43,7 +43,8 @@ pub fn deliver_range(net: &Net, flow: &mut Flow, pushes: &Pushes, first: u32, en
     requires ordered { first ≤ end }
     requires within { end ≤ node_count net.now }
     requires none { NoneMarked (is_marked flow.old) first end }
-    requires opening { IsPartlyDelivered net.now flow.old.labels pushes.now.values (is_marked flow.old) flow.old.cells }
+    requires opening { IsPartlyDelivered net.now flow.old.labels pushes.now.values
+        (is_marked flow.old) flow.old.cells }
     ensures { RangeDelivered net.now pushes.now first end flow.old flow.new }
 {
     let _nodes = net.nodes();

@@ -26,7 +26,8 @@ pub(crate) fn relabel(net: &Net, flow: &mut Flow, queue: &mut [u32])
     requires flow { IsBetween net.now flow.old }
     requires queue { length queue.old ≡ node_count net.now }
     ensures flow { IsBetween net.now flow.new }
-    ensures exact { Agree (node_count net.now) (exact (node_count net.now) (state_of net.now flow.old)) (state_of net.now flow.new) }
+    ensures exact { Agree (node_count net.now)
+        (exact (node_count net.now) (state_of net.now flow.old)) (state_of net.now flow.new) }
 {
     let _nodes = net.nodes();
     exact_labels(
@@ -45,7 +46,9 @@ pub(crate) fn relabel_when_due(net: &Net, flow: &mut Flow, queue: &mut [u32], co
     requires flow { IsBetween net.now flow.old }
     requires queue { length queue.old ≡ node_count net.now }
     ensures flow { IsBetween net.now flow.new }
-    ensures after { Agree (node_count net.now) (after_pulse (node_count net.now) count (state_of net.now flow.old)) (state_of net.now flow.new) }
+    ensures after { Agree (node_count net.now)
+        (after_pulse (node_count net.now) count (state_of net.now flow.old))
+        (state_of net.now flow.new) }
 {
     let nodes = u64::from(net.nodes());
     if count % nodes == 0 && is_active(net, flow) {

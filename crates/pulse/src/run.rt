@@ -60,7 +60,8 @@ fn run<R: Threads + Sync, G: PhaseGate>(
     requires usable { pushes.old.spent ≡ false }
     requires queue { length queue.old ≡ node_count net.now }
     ensures flow { IfOk result (λ k. IsBetween net.now flow.new) }
-    ensures run { IfOk result (λ k. IsRun net.now k (state_of net.now flow.old) (state_of net.now flow.new)) }
+    ensures run { IfOk result (λ k. IsRun net.now k (state_of net.now flow.old)
+        (state_of net.now flow.new)) }
 {
     let _nodes = net.nodes();
     let mut count = 0;

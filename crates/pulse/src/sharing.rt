@@ -15,6 +15,16 @@ pub(crate) struct Share {
     pub(crate) handed: bool,
 }
 
+/// How a phase is made: how it is shared out, the gate that each worker passes and leaves, and under which number; and whether the lists of
+/// the flow's parts are of this flow, so that the phase visits the nodes that they name.
+#[derive_where(Clone, Copy)]
+pub(crate) struct Phase<'a, G> {
+    pub(crate) share: Share,
+    pub(crate) gate: &'a G,
+    pub(crate) number: u64,
+    pub(crate) listed: bool,
+}
+
 impl Share {
     ghost use Rattle.pulse.specs.Sharing.{next_share, share_among};
 

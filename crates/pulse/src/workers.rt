@@ -3,16 +3,15 @@
 //! Each worker gets its part by value and returns it, in worker order; all else is lent to all workers. A refusal drops the parts.
 ghost use Rattle.std.specs.Prelude.{◌≡◌, ℕ, ◌<◌, ◌≤◌, IfOk, OnErr, OnOk, List, length, true};
 ghost use Rattle.frame_net.specs.FlowNet.{node_count};
-ghost use Rattle.flow_part.specs.Listing.{ListActive};
-ghost use Rattle.flow_part.specs.Parts.{AreFlowParts, ArePushParts, Agree, FlowPartFits, IsSound, LabelsFit, PushPartFits, cells_of, pairs, part_cells, rows_walked, values_of};
+ghost use Rattle.flow_part.specs.Parts.{AreFlowParts, ArePushParts, Agree, FlowPartFits, IsSound, LabelsFit, PushPartFits, cells_of, pairs, rows_walked, values_of};
 ghost use Rattle.flow_part.specs.Reading.{WholeRead, WholesRead, active_below};
-ghost use Rattle.flow_part.specs.Delivering.{PartsSafe, RangeSafe};
+ghost use Rattle.flow_part.specs.Delivering.{PartSafe, PartsSafe};
 ghost use Rattle.flow_part.specs.Listing.{ListActive, ListsActive};
 ghost use Rattle.flow_part.specs.Visiting.{WholeDelivered, WholesDelivered};
 ghost use Rattle.flow_whole.specs.Runs.{ArePulsed, AreRead};
 
 use crate::gate::PhaseGate;
-use crate::sharing::Share;
+use crate::sharing::Phase;
 use flow_part::{FlowPart, PushPart, deliver_whole, read_whole};
 use flow_whole::{deliver_every, parted_anew, push_parts, read_every, turn};
 use frame_net::Net;
@@ -49,8 +48,11 @@ pub(crate) fn part_flow(
     requires labels { LabelsFit net.now labels.now }
     requires parts { AreFlowParts net.now 0 parts.old.items }
     ensures parts { OnOk result (AreFlowParts net.now 0 parts.new.items) }
-    ensures agree { OnOk result (Agree (node_count net.now) (pairs net.now (cells_of parts.old.items) labels.now) (pairs net.now (cells_of parts.new.items) labels.now)) }
-    ensures lists { ListActive (node_count net.now) labels.now parts.old.items → ListActive (node_count net.now) labels.now parts.new.items }
+    ensures agree { OnOk result (Agree (node_count net.now)
+        (pairs net.now (cells_of parts.old.items) labels.now)
+        (pairs net.now (cells_of parts.new.items) labels.now)) }
+    ensures lists { ListActive (node_count net.now) labels.now parts.old.items
+        → ListActive (node_count net.now) labels.now parts.new.items }
 {
     let _nodes = net.nodes();
     if parts.len() != workers as usize {
@@ -66,17 +68,18 @@ fn read_by_crew<R: Threads + Sync, G: PhaseGate>(
     labels: &[u32],
     flow: &[FlowPart],
     parts: Vec<PushPart>,
-    gate: &G,
-    phase: u64,
-    listed: bool,
+    phase: &Phase<G>,
 ) -> Result<Vec<PushPart>, AllocError>
     requires labels { LabelsFit net.now labels.now }
     requires flow { AreFlowParts net.now 0 flow.now }
     requires parts { ArePushParts net.now 0 parts.items }
-    requires listed { listed ≡ true → ListActive (node_count net.now) labels.now flow.now }
+    requires listed { phase.now.listed ≡ true
+        → ListActive (node_count net.now) labels.now flow.now }
     ensures len { IfOk result (λ done. length done.items ≡ length parts.items) }
-    ensures each { IfOk result (λ done. WholesRead net.now labels.now (cells_of flow.now) parts.items done.items) }
+    ensures each { IfOk result (λ done. WholesRead net.now labels.now
+        (cells_of flow.now) parts.items done.items) }
 {
+    let (gate, number, listed) = (phase.gate, phase.number, phase.listed);
     let work = |part: PushPart| -> PushPart
         requires labels { LabelsFit net.now labels.now }
         requires flow { AreFlowParts net.now 0 flow.now }
@@ -86,9 +89,9 @@ fn read_by_crew<R: Threads + Sync, G: PhaseGate>(
     {
         let mut part = part;
         let worker = part.worker;
-        gate.pass(phase, worker);
+        gate.pass(number, worker);
         read_whole(net, labels, flow, &mut part, listed);
-        gate.leave(phase, worker);
+        gate.leave(number, worker);
         part
     };
     thread::map_vec(rt, parts, &work)
@@ -101,31 +104,33 @@ fn deliver_by_crew<R: Threads + Sync, G: PhaseGate>(
     labels: &[u32],
     pushes: &[PushPart],
     parts: Vec<FlowPart>,
-    listed: bool,
-    gate: &G,
-    phase: u64,
+    phase: &Phase<G>,
 ) -> Result<Vec<FlowPart>, AllocError>
     requires pushes { ArePushParts net.now 0 pushes.now }
     requires labels { LabelsFit net.now labels.now }
     requires parts { AreFlowParts net.now 0 parts.items }
     requires safe { PartsSafe net.now (values_of pushes.now) 0 (node_count net.now) parts.items }
-    requires lists { listed ≡ true → ListActive (node_count net.now) labels.now parts.items }
+    requires lists { phase.now.listed ≡ true
+        → ListActive (node_count net.now) labels.now parts.items }
     ensures len { IfOk result (λ done. length done.items ≡ length parts.items) }
-    ensures each { IfOk result (λ done. WholesDelivered net.now labels.now (values_of pushes.now) parts.items done.items) }
+    ensures each { IfOk result (λ done. WholesDelivered net.now labels.now
+        (values_of pushes.now) parts.items done.items) }
 {
+    let (gate, number, listed) = (phase.gate, phase.number, phase.listed);
     let work = |part: FlowPart| -> FlowPart
         requires pushes { ArePushParts net.now 0 pushes.now }
         requires labels { LabelsFit net.now labels.now }
         requires part { FlowPartFits net.now part }
-        requires safe { RangeSafe net.now (values_of pushes.now) part.base part.first 0 (node_count net.now) (part_cells part) }
+        requires safe { PartSafe net.now (values_of pushes.now) 0 (node_count net.now) part }
         requires lists { listed ≡ true → ListsActive (node_count net.now) labels.now part }
-        ensures { WholeDelivered net.entry.now labels.entry.now (values_of pushes.entry.now) part result }
+        ensures { WholeDelivered net.entry.now labels.entry.now
+            (values_of pushes.entry.now) part result }
     {
         let mut part = part;
         let worker = part.worker;
-        gate.pass(phase, worker);
+        gate.pass(number, worker);
         deliver_whole(net, labels, pushes, &mut part, listed);
-        gate.leave(phase, worker);
+        gate.leave(number, worker);
         part
     };
     thread::map_vec(rt, parts, &work)
@@ -139,29 +144,28 @@ pub(crate) fn read_all<R: Threads + Sync, G: PhaseGate>(
     labels: &[u32],
     flow: &[FlowPart],
     parts: &mut Vec<PushPart>,
-    share: Share,
-    gate: &G,
-    phase: u64,
-    listed: bool,
+    phase: &Phase<G>,
 ) -> Result<(), AllocError>
-    requires some { 0 < share.parts }
+    requires some { 0 < phase.now.share.parts }
     requires labels { LabelsFit net.now labels.now }
     requires flow { AreFlowParts net.now 0 flow.now }
     requires parts { ArePushParts net.now 0 parts.old.items }
-    requires listed { listed ≡ true → ListActive (node_count net.now) labels.now flow.now }
+    requires listed { phase.now.listed ≡ true
+        → ListActive (node_count net.now) labels.now flow.now }
     ensures read { OnOk result (AreRead net.now labels.now flow.now parts.new.items) }
-    ensures walked { OnOk result (rows_walked parts.new.items ≡ active_below net.now labels.now (cells_of flow.now) (node_count net.now)) }
+    ensures walked { OnOk result (rows_walked parts.new.items
+        ≡ active_below net.now labels.now (cells_of flow.now) (node_count net.now)) }
 {
     let _nodes = net.nodes();
-    part_pushes(alloc, net, parts, share.parts)?;
-    if !share.handed {
-        gate.pass(phase, 0);
-        read_every(net, labels, flow, parts.as_mut_slice(), listed);
-        gate.leave(phase, 0);
+    part_pushes(alloc, net, parts, phase.share.parts)?;
+    if !phase.share.handed {
+        phase.gate.pass(phase.number, 0);
+        read_every(net, labels, flow, parts.as_mut_slice(), phase.listed);
+        phase.gate.leave(phase.number, 0);
         return Ok(());
     }
     let taken = mem::replace(parts, Vec::new(alloc));
-    *parts = read_by_crew(rt, net, labels, flow, taken, gate, phase, listed)?;
+    *parts = read_by_crew(rt, net, labels, flow, taken, phase)?;
     Ok(())
 }
 
@@ -173,33 +177,32 @@ fn deliver_parts<R: Threads + Sync, G: PhaseGate>(
     labels: &[u32],
     pushes: &[PushPart],
     flow: &mut Vec<FlowPart>,
-    listed: bool,
-    handed: bool,
-    gate: &G,
-    phase: u64,
+    phase: &Phase<G>,
 ) -> Result<(), AllocError>
     requires flow { AreFlowParts net.now 0 flow.old.items }
     requires labels { LabelsFit net.now labels.now }
     requires sound { IsSound net.now (pairs net.now (cells_of flow.old.items) labels.now) }
     requires read { AreRead net.now labels.now flow.old.items pushes.now }
-    requires lists { listed ≡ true → ListActive (node_count net.now) labels.now flow.old.items }
+    requires lists { phase.now.listed ≡ true
+        → ListActive (node_count net.now) labels.now flow.old.items }
     ensures len { OnOk result (length flow.new.items ≡ length flow.old.items) }
-    ensures each { OnOk result (WholesDelivered net.now labels.now (values_of pushes.now) flow.old.items flow.new.items) }
+    ensures each { OnOk result (WholesDelivered net.now labels.now
+        (values_of pushes.now) flow.old.items flow.new.items) }
 {
     let _nodes = net.nodes();
-    if !handed {
-        gate.pass(phase, 0);
-        deliver_every(net, labels, pushes, flow.as_mut_slice(), listed);
-        gate.leave(phase, 0);
+    if !phase.share.handed {
+        phase.gate.pass(phase.number, 0);
+        deliver_every(net, labels, pushes, flow.as_mut_slice(), phase.listed);
+        phase.gate.leave(phase.number, 0);
         return Ok(());
     }
     let parts = mem::replace(flow, Vec::new(alloc));
-    *flow = deliver_by_crew(rt, net, labels, pushes, parts, listed, gate, phase)?;
+    *flow = deliver_by_crew(rt, net, labels, pushes, parts, phase)?;
     Ok(())
 }
 
-/// Deliver of every node, shared out so, and the turn of the labels. `listed` is whether the parts' lists are of this flow and
-/// these labels; afterwards they are. After a refusal the parts may be gone.
+/// Deliver of every node, shared out so, and the turn of the labels. Afterwards the parts' lists are of the flow and its labels. After a
+/// refusal the parts may be gone.
 pub(crate) fn deliver_all<R: Threads + Sync, G: PhaseGate>(
     rt: &R,
     alloc: Global,
@@ -207,35 +210,23 @@ pub(crate) fn deliver_all<R: Threads + Sync, G: PhaseGate>(
     labels: &mut [u32],
     pushes: &[PushPart],
     flow: &mut Vec<FlowPart>,
-    listed: bool,
-    share: Share,
-    gate: &G,
-    phase: u64,
+    phase: &Phase<G>,
 ) -> Result<(), AllocError>
-    requires some { 0 < share.parts }
+    requires some { 0 < phase.now.share.parts }
     requires flow { AreFlowParts net.now 0 flow.old.items }
     requires labels { LabelsFit net.now labels.old }
     requires sound { IsSound net.now (pairs net.now (cells_of flow.old.items) labels.old) }
     requires read { AreRead net.now labels.old flow.old.items pushes.now }
-    requires lists { listed ≡ true → ListActive (node_count net.now) labels.old flow.old.items }
-    ensures ok { OnOk result (ArePulsed net.now labels.old labels.new flow.old.items flow.new.items) }
+    requires lists { phase.now.listed ≡ true
+        → ListActive (node_count net.now) labels.old flow.old.items }
+    ensures ok { OnOk result (ArePulsed net.now labels.old labels.new flow.old.items
+        flow.new.items) }
     ensures lists { OnOk result (ListActive (length labels.new) labels.new flow.new.items) }
     ensures err { OnErr result (labels.new ≡ labels.old) }
 {
     let _nodes = net.nodes();
-    part_flow(alloc, net, labels, flow, share.parts)?;
-    deliver_parts(
-        rt,
-        alloc,
-        net,
-        labels,
-        pushes,
-        flow,
-        listed,
-        share.handed,
-        gate,
-        phase,
-    )?;
+    part_flow(alloc, net, labels, flow, phase.share.parts)?;
+    deliver_parts(rt, alloc, net, labels, pushes, flow, phase)?;
     turn(labels, flow.as_slice(), true);
     Ok(())
 }

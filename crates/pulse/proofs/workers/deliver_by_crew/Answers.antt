@@ -2,8 +2,8 @@ use Rattle.std.proofs.Common.{subst, sym}
 use Rattle.frame_net.specs.FlowNet.{node_count}
 use Rattle.flow_part.specs.declared.parts.FlowPart.{FlowPart}
 use Rattle.flow_part.specs.Listing.{ListsActive}
-use Rattle.flow_part.specs.Parts.{FlowPartFits, values_of, part_cells}
-use Rattle.flow_part.specs.Delivering.{RangeSafe}
+use Rattle.flow_part.specs.Parts.{FlowPartFits, values_of}
+use Rattle.flow_part.specs.Delivering.{PartSafe}
 use Rattle.pulse.proofs.workers.deliver_by_crew.Goals as goal
 use Rattle.flow_part.proofs.Left.{part_fits}
 
@@ -16,7 +16,7 @@ map_vec-requires-after_bounds g c κs within = λ i x h e. (
       subst (λ (q : FlowPart). FlowPartFits c.args.net.now q) (sym e)
           (part_fits (FlowPartFits c.args.net.now) (λ q. q.first) (λ q. q.end) (node_count c.args.net.now) 0 c.args.parts.items c.requires.parts i x h),
       (
-        subst (λ (q : FlowPart). RangeSafe c.args.net.now (values_of c.args.pushes.now) q.base q.first 0 (node_count c.args.net.now) (part_cells q)) (sym e) (c.requires.safe i x h),
+        subst (λ (q : FlowPart). PartSafe c.args.net.now (values_of c.args.pushes.now) 0 (node_count c.args.net.now) q) (sym e) (c.requires.safe i x h),
         λ on. subst (λ (q : FlowPart). ListsActive (node_count c.args.net.now) c.args.labels.now q) (sym e) (c.requires.lists on i x h),
       ),
     ),

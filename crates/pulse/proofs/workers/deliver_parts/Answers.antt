@@ -16,8 +16,8 @@ pub deliver_every-requires-clause-lists : goal.deliver_every-requires-clause-lis
 deliver_every-requires-clause-lists g c on =
     subst (λ (x : List FlowPart). ListActive (node_count c.args.net.now) c.args.labels.now x) (sym c.as_mut_slice.ensures.value) (c.requires.lists on)
 
-pub returns-then-not-handed-clause-each : goal.returns-then-not-handed-clause-each
-returns-then-not-handed-clause-each g c =
+pub returns-then-not-phase-clause-each : goal.returns-then-not-phase-clause-each
+returns-then-not-phase-clause-each g c =
     all_delivered c.args.net.now c.args.labels.now (values_of c.args.pushes.now) c.args.flow.now.items c.as_mut_slice.result.now c.deliver_every.new.parts _
     c.as_mut_slice.ensures.value (with_items_is c.args.flow.now c.deliver_every.new.parts (omega arith)) c.deliver_every.ensures.each
 

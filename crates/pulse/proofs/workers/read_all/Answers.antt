@@ -3,14 +3,14 @@ use Rattle.std.proofs.lemmas.List.{with_items_is}
 use Rattle.pulse.proofs.workers.read_all.Goals as goal
 use Rattle.pulse.proofs.CrewLemmas.{all_read, all_walked}
 
-pub returns-then-not-share-clause-read : goal.returns-then-not-share-clause-read
-returns-then-not-share-clause-read g c =
+pub returns-then-not-phase-clause-read : goal.returns-then-not-phase-clause-read
+returns-then-not-phase-clause-read g c =
     all_read c.args.net.now c.args.labels.now c.args.flow.now c.part_pushes.new.parts.items c.as_mut_slice.result.now c.read_every.new.parts _
     c.nodes-nodes.ensures.network c.as_mut_slice.ensures.value (with_items_is c.part_pushes.new.parts c.read_every.new.parts (omega arith))
     c.in_ok-part_pushes.ensures c.read_every.ensures.len c.read_every.ensures.each
 
-pub returns-then-not-share-clause-walked : goal.returns-then-not-share-clause-walked
-returns-then-not-share-clause-walked g c =
+pub returns-then-not-phase-clause-walked : goal.returns-then-not-phase-clause-walked
+returns-then-not-phase-clause-walked g c =
     all_walked c.args.net.now c.args.labels.now c.args.flow.now c.part_pushes.new.parts.items c.as_mut_slice.result.now c.read_every.new.parts _
     c.as_mut_slice.ensures.value (with_items_is c.part_pushes.new.parts c.read_every.new.parts (omega arith))
     c.in_ok-part_pushes.ensures c.read_every.ensures.len c.read_every.ensures.each
