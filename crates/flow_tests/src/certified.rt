@@ -5,22 +5,27 @@ ghost use Rattle.pulse.specs.Conditions.{IsMaxPreflow};
 use crate::nets::{FOUR_LATCHES, TWO_LATCHES, net_of, net_of_text};
 use aag_text::read_aag;
 use aig_graph::{Circuit, Keep, NoMemory, Sequence};
-use cut_cert::{Certificate, Objection, Verdict, certificate, check, routes};
+use cut_cert::{Certificate, Objection, Routes, Verdict, certificate, check, routes};
 use frame_net::{Net, Point};
 use pulse::{Crew, MaxPreflow, OpenGate, PulseError, run_to_end};
 use std::alloc::Global;
 use std::test::Fail;
 use std::thread::Threads;
 
+/// Whether this is one route, of three points.
+fn is_one_of_three(found: &Routes) -> bool {
+    match found.as_slice() {
+        [route] => route.len() == 3,
+        _ => false,
+    }
+}
+
 /// Whether there is one route, of three points.
 fn is_one_route(alloc: Global, net: &Net, preflow: &MaxPreflow) -> Result<bool, NoMemory>
     requires { IsMaxPreflow net.now preflow.now }
 {
     let found = routes(alloc, net, preflow)?;
-    Ok(match found.as_slice() {
-        [route] => route.len() == 3,
-        _ => false,
-    })
+    Ok(is_one_of_three(&found))
 }
 
 /// Whether the certificate passes all tests.
