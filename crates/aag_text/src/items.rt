@@ -1,3 +1,9 @@
+//! What is held between two pieces of an ASCII file: the items of the lines that have ended, and how far the open line has come.
+//!
+//!     line of numbers ──newline──► next line, of the section that isn't full
+//!     line after the gates ──newline──► next line, or comment          comment stays
+//!
+//! The open line is taken out by value while it is taken, and `Comment` stands in its place, since it owns nothing.
 ghost use Rattle.std.specs.Prelude.{ℕ, List, ◌≡◌, Bool, true};
 ghost use Rattle.ascii_file.specs.Raw.{RawSymbol};
 ghost use Rattle.ascii_file.specs.Reading as reading;

@@ -1,3 +1,7 @@
+//! A reader of either spelling, in pieces.
+//!
+//!     letters ──third byte──► ASCII reader, or binary reader, which gets the letters first
+//!     letters ──letters of neither spelling, or the end──► neither, which answers BadHeader at 0
 use crate::begin::{Begun, begin};
 use crate::letters::Letters;
 use aag_text::AagReader;

@@ -1,3 +1,5 @@
+//! The border of a set, in one table of marks: first what is read from outside the set is marked, and what is held; then the
+//! known latches and the members that have a mark are counted.
 ghost use Rattle.std.specs.Prelude.{◌≡◌, ◌==◌, ◌-◌, ◌&&◌, is_some, IfOk};
 ghost use Rattle.aig_graph.specs.Graph.{first_latch, variables_end, latch_at};
 ghost use Rattle.aig_graph.specs.Closed.{is_held};

@@ -1,3 +1,5 @@
+//! Graphs that grow gate by gate. A latch begins with the constant false as its next literal, since what it reads is made after
+//! it.
 ghost use Rattle.std.specs.Prelude.{◌≡◌, ◌+◌, ◌*◌, ◌<◌, ◌≤◌, ◌↔◌, length, OnOk, OnErr, IfOk, IsErrOf, slice_get, slice_set, Some};
 ghost use Rattle.aig_graph.specs.Graph.{variables_end, IsLiteralOf};
 ghost use Rattle.aig_graph.specs.Building.{without_gates, gate_of, with_gate, with_next};

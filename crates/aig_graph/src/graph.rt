@@ -1,3 +1,6 @@
+//! Sequential and-inverter graphs. Variables are numbered in the order constant, inputs, latches, gates, and a gate reads
+//! variables below its own alone: so whatever goes by rising variable meets fan-ins before the gates that read them, and needs no
+//! sort.
 ghost use Rattle.std.specs.Prelude.{◌≡◌, ◌-◌, ◌<◌, ◌≤◌, false, length};
 ghost use Rattle.std.specs.List.{slice_index_or};
 ghost use Rattle.aig_graph.specs.declared.literal.TheConstants.{MAX_VARIABLES};

@@ -1,3 +1,5 @@
+//! Literals, by their AIGER numbers: twice the variable, and one more where it is negated. So literals are ordered as their
+//! variables, and a negation is another lowest bit.
 ghost use Rattle.std.specs.Prelude.{◌≡◌, ◌≢◌, ◌+◌, ◌*◌, ◌/◌, ◌%◌, ◌<◌, ◌↔◌, IsTrue, if◌then◌else◌};
 ghost use Rattle.aig_graph.specs.declared.literal.TheConstants.{MAX_VARIABLES};
 ghost use Rattle.aig_graph.specs.Value.{signed, signed_as};

@@ -1,3 +1,6 @@
+//! From the lists of a file to its circuit: each literal's variable becomes its place in file order (`placing`), the gates are
+//! put in an order in which fan-ins come first (`gate_order`), and places become the ranks in that order (`arranging`). The
+//! file's own lists go after the first of these steps.
 ghost use Rattle.std.specs.Prelude.{ℕ, List, ◌≡◌, ◌+◌, ◌≤◌, ◌^◌, ◌↔◌, length, map, All, IsTrue, IfOk, IfErr};
 ghost use Rattle.aig_graph.specs.declared.properties.Symbols.{Symbols};
 ghost use Rattle.aig_graph.specs.Circuits.{IsNetlist};

@@ -1,3 +1,6 @@
+//! Items line by line. Which section a line is of follows from the header's numbers and from what has come. The checks of a line
+//! stand in the order in which their faults are named, and no later line changes one: so the first fault of the file is the one
+//! that is met first.
 ghost use Rattle.std.specs.Prelude.{◌≤◌, length};
 ghost use Rattle.ascii_file.specs.Headers.{IsHeaderWithin};
 

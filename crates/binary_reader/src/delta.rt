@@ -1,3 +1,5 @@
+//! A delta out of a piece. A short one, of at most three bytes that are all there, is taken in one step, without the reader of
+//! single bytes; that one takes longer ones, and those that a piece cuts in two.
 ghost use Rattle.std.specs.Prelude.{ℕ, List, ◌≡◌, ◌<◌, [], length, IfOk, OnErr, Err, MatchOption, Result};
 ghost use Rattle.file_words.specs.declared.fault.ReadError.{ReadError};
 ghost use Rattle.file_words.specs.declared.fault.ReadError.TheVariants.{BadDelta};

@@ -1,3 +1,5 @@
+//! The stages of a reader of binary files; `reader` has the chart. A stage is taken by value, and the next one is the answer:
+//! what a fault leaves of it is dropped here.
 ghost use Rattle.std.specs.Prelude.{ℕ, List, ◌≡◌, ◌+◌, ◌++◌, [], length, Ok};
 ghost use Rattle.ascii_file.specs.Raw.{nothing_yet};
 ghost use Rattle.ascii_file.specs.Answering.{Gives};

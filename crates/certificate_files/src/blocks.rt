@@ -1,3 +1,5 @@
+//! The blocks of a file of certificates. The line that begins a block says how many lines are to come; room is taken as they
+//! come.
 ghost use Rattle.std.specs.Prelude.{ℕ, List, [], ◌≡◌, ◌<◌, ◌≤◌, suc, length, OnOk};
 ghost use Rattle.certificates.specs.declared.certificate.Certificate.{Certificate as Block};
 ghost use Rattle.certificate_files.specs.Answering.{Gives, Leads};

@@ -1,3 +1,5 @@
+//! Lines with nothing but numbers after their first word. Form comes before size: a line of another form is `BadLine`, however
+//! great its numbers.
 ghost use Rattle.std.specs.Prelude.{◌≡◌, ◌++◌, List, ℕ, Some, MatchOption};
 ghost use Rattle.certificate_files.specs.Files.{frame_of, gate_of, is_small, saying_of};
 ghost use Rattle.certificate_files.specs.Forms.{framed, gated};

@@ -1,3 +1,5 @@
+//! The points of a route. A number that is too great is read as `u32::MAX` at first, since the form of the whole line is looked
+//! at before the size of any number.
 ghost use Rattle.std.specs.Prelude.{◌≡◌, ◌∷◌, ◌+◌, ◌*◌, List, ℕ};
 ghost use Rattle.file_words.specs.Lines.{pieces};
 ghost use Rattle.file_lines.specs.Rows.{clamped};

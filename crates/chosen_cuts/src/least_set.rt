@@ -1,3 +1,6 @@
+//! From a circuit to its chosen least set: network, maximum preflow, and of that either the far side, or the near side of the
+//! routes that its units take. Routes are also what a certificate consists of, so for the greatest set they are looked for only
+//! where one is wanted.
 ghost use Rattle.std.specs.Prelude.{IfOk, ◌≡◌};
 ghost use Rattle.aig_graph.specs.Border.{IsGreatestLeast, IsLeast, IsSmallestLeast};
 ghost use Rattle.chosen_cuts.specs.Certified.{AddsOne};

@@ -1,3 +1,5 @@
+//! How runs end, and why commands fail: all errors of the libraries come down to the few that a user tells apart by the exit
+//! status, each with the path of its file.
 ghost use Rattle.std.specs.Prelude.{◌≡◌};
 ghost use Rattle.circuit_files.specs.Outcomes.{outcome_of, failure_of_bytes, failure_of_certificates, failure_of_list, failure_of_reading, failure_of_stimulus};
 

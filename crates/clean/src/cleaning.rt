@@ -1,3 +1,6 @@
+//! Cleaning, pass after pass. A pass adds nothing, and what it replaces is read no more and goes: so one that leaves as many
+//! latches and gates as there were has changed nothing, and is the last. What a caller is told of places, among the free latches
+//! and among the gates, is composed over all passes.
 ghost use Rattle.std.specs.Prelude.{◌≡◌, ◌<◌, All, IfOk, length, map, slice_index};
 ghost use Rattle.aig_graph.specs.Graph.{free_latches};
 ghost use Rattle.aig_graph.specs.Streams.{SameStreams};

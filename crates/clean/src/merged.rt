@@ -1,3 +1,5 @@
+//! The first half of a pass: each literal reads what stands for it. Nothing goes and nothing is renumbered yet, so the streams
+//! are kept by this half alone.
 ghost use Rattle.std.specs.Prelude.{◌≡◌, ◌<◌, IfOk, length, map};
 ghost use Rattle.aig_graph.specs.Graph.{variable, variables_end};
 ghost use Rattle.cleaned_circuits.specs.Merged.{stands_of, replaced_latch, replaced_gate, replaced_graph, merged_of};

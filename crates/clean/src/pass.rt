@@ -1,3 +1,5 @@
+//! One pass: first literals read what stands for them (`merged`), then what isn't reached goes (`trim`). Each half keeps the
+//! streams by itself.
 ghost use Rattle.std.specs.Prelude.{◌≡◌, ◌<◌, All, IfOk, length};
 ghost use Rattle.aig_graph.specs.Graph.{IsGraph};
 ghost use Rattle.aig_graph.specs.Streams.{SameStreams};

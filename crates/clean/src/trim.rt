@@ -1,3 +1,5 @@
+//! The second half of a pass: what isn't reached goes. A variable's new number is by how many reached ones come before it, so
+//! order is kept, and fan-ins still come first.
 ghost use Rattle.std.specs.Prelude.{◌≡◌, ◌+◌, ◌<◌, ◌≤◌, All, IfOk, Some, length, map, slice_get, if◌then◌else◌};
 ghost use Rattle.aig_graph.specs.Graph.{is_free, IsGraph, IsLiteralOf, first_latch, first_gate};
 ghost use Rattle.aig_graph.specs.Circuits.{IsNetlist};

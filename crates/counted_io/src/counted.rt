@@ -1,3 +1,5 @@
+//! Readers and writers that count their failures. What a device does is unknown to contracts; that a call reports a failure
+//! exactly where this count rose can be said and proved.
 ghost use Rattle.std.specs.Prelude.{◌≡◌, ◌≤◌, length, IfOk};
 ghost use Rattle.std.specs.Io.KnownBytes.{WriteAppends, ReadConsumes};
 ghost use Rattle.counted_io.specs.Output.{Output, failures_after_write, one_more};

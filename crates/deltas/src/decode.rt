@@ -1,3 +1,4 @@
+//! Deltas from bytes: seven bits of the number a byte, the lowest first, and the top bit set in all bytes but the last.
 ghost use Rattle.std.specs.Prelude.{◌≡◌, ◌+◌, ◌<◌, ◌≤◌, ◌^◌, ◌++◌, ◌∷◌, [], length, nat_eq, IsTrue, Ok, Err, Some, None};
 ghost use Rattle.deltas.specs.Deltas.{delta_value, is_delta};
 ghost use Rattle.deltas.specs.declared.decode.DeltaError.TheVariants.{TooLong};

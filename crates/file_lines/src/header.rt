@@ -1,3 +1,5 @@
+//! The first line, byte by byte: letters, and then five to nine numbers. Its faults are looked for once it has ended, in their
+//! order: form, then limits, then whether the greatest variable leaves room for all that are counted.
 ghost use Rattle.std.specs.Prelude.{◌≡◌, ◌≤◌, ◌^◌, ◌||◌, ◌∷◌, [], nat_lt, length, get_or, Ok};
 ghost use Rattle.ascii_file.specs.Headers as headers;
 ghost use Rattle.ascii_file.specs.Reading.{unless};

@@ -1,3 +1,5 @@
+//! The numbers of a line, byte by byte, with no room for the bytes themselves. A number stays at `u32::MAX` once it is past that:
+//! each limit is far below, so every comparison is that of the whole number.
 ghost use Rattle.std.specs.Prelude.{◌≡◌, ◌+◌, ◌*◌, ◌≤◌};
 ghost use Rattle.file_lines.specs.Rows.{clamped};
 

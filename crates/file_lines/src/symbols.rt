@@ -1,3 +1,4 @@
+//! A line after the gates: `begun` is the automaton of what comes before the name, and each byte after that is one of the name.
 ghost use Rattle.std.specs.Prelude.{◌≡◌, [], false};
 ghost use Rattle.file_lines.specs.Named.{is_named};
 

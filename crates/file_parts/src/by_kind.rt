@@ -1,3 +1,5 @@
+//! Properties by kind. A file's sections of one form come as one list (outputs, bad states and constraints; justice literals and
+//! fairness), and the header's numbers part it.
 ghost use Rattle.std.specs.Prelude.{◌≡◌, ◌+◌, ◌<◌, ◌≤◌, ◌^◌, length, take, drop, All, IfOk};
 ghost use Rattle.std.specs.List.{sum};
 ghost use Rattle.ascii_file.specs.Raw.{safety_count};

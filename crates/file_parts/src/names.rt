@@ -1,3 +1,4 @@
+//! The symbols of a file, by kind and position: they may come in any order, and a second one of a position is a fault.
 use crate::kind_names::KindNames;
 use aig_graph::{NoMemory, Sequence, Symbols};
 use ascii_file::{Header, SymbolKind};

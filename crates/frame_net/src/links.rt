@@ -1,3 +1,5 @@
+//! The neighbours of a node that have lower numbers: at most four, since a gate has two fan-ins, each with two nodes at most.
+//! They come by rising number, so that rows are filled in order (`edges`).
 ghost use Rattle.std.specs.Prelude.{◌≡◌, ◌+◌, ◌<◌, ◌≤◌, ◌^◌, ◌++◌};
 ghost use Rattle.arrayvec.specs.ArrayVec.{array_vec_len};
 ghost use Rattle.frame_net.specs.Links.{latch_links, after_links, fan_in_links, gate_links, links_of, NumbersFit};

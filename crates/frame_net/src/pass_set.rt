@@ -1,3 +1,4 @@
+//! The passable gates, in one pass: fan-ins come before their gates, so whether they are passable is known when a gate is met.
 ghost use Rattle.std.specs.Prelude.{ℕ, List, ◌≡◌, ◌&&◌, ◌||◌, ◌↔◌, ◌≤◌, IsTrue, IfOk, OnOk, length};
 ghost use Rattle.variable_tables.specs.Tables.{table};
 ghost use Rattle.variable_tables.specs.Marking.{mark_at};

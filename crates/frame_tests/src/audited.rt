@@ -11,7 +11,7 @@ use reports::print_audit;
 use std::alloc::Global;
 use std::test::Fail;
 
-/// The one route from behind the first latch through the gate.
+/// The one route from after the first latch through the gate.
 fn over_gate(alloc: Global) -> Result<Vec<Point>, NoMemory> {
     Ok(Vec::from_array(alloc, [point(3, true), point(5, false), point(5, true)])?)
 }
@@ -42,7 +42,7 @@ fn block_of_gate(alloc: Global) -> Result<Certificate, NoMemory> {
     certificate(alloc, gates, route)
 }
 
-/// No gate, and the route that is behind the first latch alone: right where that latch is an output.
+/// No gate, and the route that is after the first latch alone: right where that latch is an output.
 fn block_of_latch(alloc: Global) -> Result<Certificate, NoMemory> {
     let route = Vec::from_array(alloc, [point(3, true)])?;
     certificate(alloc, Vec::new(alloc), route)
@@ -77,7 +77,7 @@ fn prints_of_move(alloc: Global, circuit: &Circuit, latches: usize, text: &[u8])
     }
 }
 
-/// Whether the audits end as the blocks have it: open behind the move, certified at the circuit after it, and no further.
+/// Whether the audits end as the blocks have it: open after the move, certified at the circuit after it, and no further.
 fn end_as_they_should(alloc: Global, circuit: &Circuit) -> bool {
     let open = b"block 0: yes, count 1\nend open\n";
     let certified = b"block 0: yes, count 1\nblock 1: yes, count 1\nend certified\n";

@@ -50,7 +50,7 @@ fn put_objection<W: CountedWrite>(out: &mut Buffered<'_, W>, number: u64, object
     out.put_byte(b'\n');
 }
 
-/// Puts how an audit ended behind so many confirmed blocks.
+/// Puts how an audit ended after so many confirmed blocks.
 fn put_end<W: CountedWrite>(out: &mut Buffered<'_, W>, confirmed: u64, end: End)
     ensures { Puts W.output out.old out.new (end_text confirmed end) }
 {

@@ -1,3 +1,6 @@
+//! Whether the low copies of a moved circuit are tidy. Low copies are those that read a variable below all copies: only such a
+//! one can be equal to another gate, or come down to less. So these alone are put in a table, in which the gates outside are
+//! looked up, where a mark says that the smaller variable of a gate is one of a pair's.
 ghost use Rattle.std.specs.Prelude.{◌≡◌, ◌-◌, ◌≤◌, ◌↔◌, true, false, [], IfOk, IsTrue, is_some, length};
 ghost use Rattle.std.specs.Map.{lookup};
 ghost use Rattle.aig_graph.specs.Graph.{first_gate};

@@ -1,3 +1,5 @@
+//! The places of a file's variables. Variables that are small beside the number of lines so far have them in a table, and others
+//! by hashing: so an ordinary file needs no hashing, and one of few lines with great numbers little room.
 use indexmap::IndexMap;
 use std::alloc::{AllocError, Global};
 

@@ -1,3 +1,4 @@
+//! Ranks from marks, by running counts: a variable's number is by how many marked ones come before it.
 ghost use Rattle.std.specs.Prelude.{ℕ, Bool, ◌≡◌, ◌+◌, ◌≤◌, ◌^◌, IfOk, length, if◌then◌else◌};
 ghost use Rattle.variable_tables.specs.Counting.{count_below, places, numbered};
 ghost use Rattle.variable_tables.specs.Marking.{AreAllMarks};
