@@ -81,10 +81,16 @@ impl Aig {
 
     /// The graph of these parts, which are in range.
     pub fn from_parts(inputs: u32, latches: Vec<Latch>, gates: Vec<Gate>) -> Aig
-        requires { IsGraph (record { inputs = inputs; latches = latches.items; gates =
-            gates.items }) }
-        ensures { result ≡ record { inputs = inputs; latches = latches.items; gates =
-            gates.items } }
+        requires { IsGraph (record {
+          inputs = inputs;
+          latches = latches.items;
+          gates = gates.items;
+        }) }
+        ensures { result ≡ record {
+          inputs = inputs;
+          latches = latches.items;
+          gates = gates.items;
+        } }
     {
         Aig {
             inputs,

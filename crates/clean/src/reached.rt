@@ -37,8 +37,11 @@ impl Reached {
     /// Nothing, among so many latches and gates.
     fn none(alloc: Global, first: u32, variables: usize) -> Result<Reached, NoMemory>
         requires { first + variables ≤ 2 ^ 28 }
-        ensures { IfOk result (λ r. r ≡ record { first = first; marks = replicate variables false;
-            queue = [] }) }
+        ensures { IfOk result (λ r. r ≡ record {
+          first = first;
+          marks = replicate variables false;
+          queue = [];
+        }) }
     {
         let marks = vec![in alloc; false; variables]?;
         let queue = Vec::new(alloc);

@@ -43,8 +43,11 @@ fn names_rise_and_are_taken_once(rt: HostRuntime) -> Result<(), Fail> {
 
 /// The lists of an output, a justice property of one literal, and a fairness literal.
 fn collected(alloc: Global) -> Result<PropertyLists, NoMemory>
-    ensures { IfOk result (λ lists. lists ≡ record { safety = 4 ∷ []; sizes = 1 ∷ []; liveness = 6
-        ∷ 8 ∷ [] }) }
+    ensures { IfOk result (λ lists. lists ≡ record {
+      safety = 4 ∷ [];
+      sizes = 1 ∷ [];
+      liveness = 6 ∷ 8 ∷ [];
+    }) }
 {
     let mut lists = PropertyLists::new(alloc);
     lists.push_safety(4)?;

@@ -144,8 +144,10 @@ impl<'a> Plan<'a> {
     /// A latch that stays, after the move.
     pub(crate) fn staying_latch(&self, latch: Latch) -> Latch
         requires { variable latch.next < variables_end (planned self.now).circuit.aig }
-        ensures { result ≡ record { next = moved_literal
-            (planned self.now) latch.next; reset = latch.reset } }
+        ensures { result ≡ record {
+          next = moved_literal (planned self.now) latch.next;
+          reset = latch.reset;
+        } }
     {
         Latch {
             next: self.literal(latch.next),
@@ -157,8 +159,10 @@ impl<'a> Plan<'a> {
     pub(crate) fn border_latch(&self, var: u32, reset: Reset) -> Latch
         requires within { var < variables_end (planned self.now).circuit.aig }
         requires member { has (planned self.now).set var ≡ true }
-        ensures { result ≡ record { next = 2 * copy_variable
-            (planned self.now) var; reset = reset } }
+        ensures { result ≡ record {
+          next = 2 * copy_variable (planned self.now) var;
+          reset = reset;
+        } }
     {
         Latch {
             next: self.copy(var),
