@@ -1,4 +1,8 @@
 //! The flow of a network, with its labels.
+//!
+//!     between two pulses ──deliver_phase──► between two pulses
+//!     between two pulses ──deliver_range──► delivered in part ──deliver_range, up to all nodes──► ──turn──► between two pulses
+//!     any ──deliver_phase, refused──► spent, and stays so
 ghost use Rattle.std.specs.Prelude.{◌≡◌, ℕ, ◌<◌, IfOk, false, length, pos, slice_index, slice_index_or, ◌-ℤ◌};
 ghost use Rattle.frame_net.specs.FlowNet.{cap_at};
 ghost use Rattle.pulse.specs.Conditions.{IsStart, IsTurnable, is_marked};

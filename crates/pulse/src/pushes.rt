@@ -1,4 +1,7 @@
 //! The pushes of a pulse.
+//!
+//!     new, or of an earlier pulse ──read_phase, or read_range of all nodes──► of the pulse that the flow is at
+//!     any ──read_phase, refused──► spent, and stays so
 ghost use Rattle.std.specs.Prelude.{◌≡◌, ◌<◌, IfOk, false, length, slice_index};
 ghost use Rattle.frame_net.specs.FlowNet.{node_count};
 ghost use Rattle.flow_part.specs.Listing.{AreWithin};
