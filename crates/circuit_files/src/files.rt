@@ -34,7 +34,8 @@ fn circuit_of<'a, R: CountedRead>(
     path: &'a str,
 ) -> Result<SpeltCircuit, Failure<'a>>
     ensures circuit { IfOk result (Spells (R.input reader.old)) }
-    ensures err { IfErr result (IsCircuitFailure (R.input reader.old) (R.input reader.new) path.entry) }
+    ensures err { IfErr result (IsCircuitFailure (R.input reader.old)
+        (R.input reader.new) path.entry) }
 {
     match circuit_by(reader, AnyReader::new(alloc)) {
         Ok(spelt) => Ok(spelt),
@@ -60,8 +61,10 @@ fn bytes_of<'a, R: CountedRead>(
     reader: &mut R,
     path: &'a str,
 ) -> Result<Vec<u8>, Failure<'a>>
-    ensures ok { IfOk result (λ bytes. ReadsAll (R.input reader.old) (R.input reader.new) bytes.items) }
-    ensures err { IfErr result (IsBytesFailure (R.input reader.old) (R.input reader.new) path.entry) }
+    ensures ok { IfOk result (λ bytes. ReadsAll (R.input reader.old)
+        (R.input reader.new) bytes.items) }
+    ensures err { IfErr result (IsBytesFailure (R.input reader.old)
+        (R.input reader.new) path.entry) }
 {
     match read_all(alloc, reader) {
         Ok(bytes) => Ok(bytes),

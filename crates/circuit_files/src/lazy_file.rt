@@ -36,8 +36,10 @@ impl<R: Files> Write for LazyFile<'_, R> {
 
     fn write(&mut self, bytes: &[u8]) -> io::Result<usize>
         ensures bound { WritesAtMost result bytes.now }
-        ensures bytes { WriteAppends (option_and_then R.File.contents self.old.file) (option_and_then R.File.contents self.new.file) result bytes.now }
-        ensures first { self.old.file ≡ None → WritesFirst R.File.contents self.new.file result bytes.now }
+        ensures bytes { WriteAppends (option_and_then R.File.contents self.old.file)
+            (option_and_then R.File.contents self.new.file) result bytes.now }
+        ensures first { self.old.file ≡ None → WritesFirst R.File.contents self.new.file
+            result bytes.now }
     {
         if bytes.is_empty() {
             return Ok(0);

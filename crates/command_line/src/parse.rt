@@ -55,13 +55,15 @@ fn frames(matches: &ArgMatches<'_>) -> u32
 
 /// The names of the latches that are held.
 fn keep<'a>(alloc: Global, matches: &ArgMatches<'a>) -> Result<Vec<&'a str>, AllocError>
-    ensures { IfOk result (λ names. map (λ name. name.now) names.items ≡ values_of matches.now (codes "keep")) }
+    ensures { IfOk result (λ names. map (λ name. name.now) names.items
+        ≡ values_of matches.now (codes "keep")) }
 {
     Vec::from_slice(alloc, matches.get_strs("keep").unwrap_or(&[]))
 }
 
 fn retiming<'a>(alloc: Global, matches: &ArgMatches<'a>) -> Result<Option<Retiming<'a>>, AllocError>
-    ensures { IfOk result (λ found. IfSome found (λ retiming. AsksFor matches.now (Retime retiming))) }
+    ensures { IfOk result (λ found. IfSome found (λ retiming. AsksFor matches.now
+        (Retime retiming))) }
 {
     let (Some(input), Some(output)) = (matches.get_str("IN"), matches.get_str("OUT")) else {
         return Ok(None);
@@ -82,7 +84,8 @@ fn verification<'a>(
     alloc: Global,
     matches: &ArgMatches<'a>,
 ) -> Result<Option<Verification<'a>>, AllocError>
-    ensures { IfOk result (λ found. IfSome found (λ verification. AsksFor matches.now (Verify verification))) }
+    ensures { IfOk result (λ found. IfSome found (λ verification. AsksFor matches.now
+        (Verify verification))) }
 {
     let (Some(input), Some(certificates)) = (matches.get_str("IN"), matches.get_str("CERT")) else {
         return Ok(None);

@@ -23,7 +23,8 @@ pub fn read_each(
     requires flow { AreFlowParts net.now 0 flow.now }
     requires parts { ArePushParts net.now 0 parts.old }
     ensures len { length parts.new ≡ length parts.old }
-    ensures each { PartsReadOn net.now labels.now first end (cells_of flow.now) parts.old parts.new }
+    ensures each { PartsReadOn net.now labels.now first end
+        (cells_of flow.now) parts.old parts.new }
 {
     for i in 0..parts.len() {
         read_part(net, labels, flow, &mut parts[i], first, end);

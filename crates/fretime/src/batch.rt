@@ -127,7 +127,8 @@ fn print_report<'a, O: CountedWrite>(
     report: JobReport,
     out: &mut O,
 ) -> Result<(), Failure<'a>>
-    ensures { MatchResult result (λ _. WritesAll (O.output out.old) (O.output out.new) (job_line number report)) (λ failure. outcome_of failure ≡ Device) }
+    ensures { MatchResult result (λ _. WritesAll (O.output out.old) (O.output out.new)
+        (job_line number report)) (λ failure. outcome_of failure ≡ Device) }
 {
     match print_job(number, report, out) {
         Ok(()) => Ok(()),
@@ -143,7 +144,8 @@ fn finish_job<'a, R: Files, O: CountedWrite>(
     number: u64,
     out: &mut O,
 ) -> Result<JobReport, Failure<'a>>
-    ensures ok { IfOk result (λ report. (report ≡ wanted.report_of outcome.now) × WritesAll (O.output out.old) (O.output out.new) (job_line number report)) }
+    ensures ok { IfOk result (λ report. (report ≡ wanted.report_of outcome.now)
+        × WritesAll (O.output out.old) (O.output out.new) (job_line number report)) }
     ensures err { IfErr result (λ failure. outcome_of failure ≡ Device) }
 {
     write_answer(rt, output, outcome)?;
@@ -174,7 +176,8 @@ fn finish_jobs<'a, R: Files, O: CountedWrite>(
     out: &mut O,
 ) -> Result<Outcome, Failure<'a>>
     requires { length outcomes.now ≡ length entries.now }
-    ensures ok { IfOk result (λ ended. Printed (map wanted.report_of outcomes.now) ended (O.output out.old) (O.output out.new)) }
+    ensures ok { IfOk result (λ ended. Printed (map wanted.report_of outcomes.now) ended
+        (O.output out.old) (O.output out.new)) }
     ensures err { IfErr result (λ failure. outcome_of failure ≡ Device) }
 {
     let mut ended = Outcome::Done;

@@ -90,7 +90,8 @@ fn compared<'a, R: Files + Threads + Sync>(
 }
 
 fn print_finding<'a, O: CountedWrite>(finding: Finding, out: &mut O) -> Result<Outcome, Failure<'a>>
-    ensures { EndsPrinting (outcome_of_finding finding) (finding_text finding) (O.output out.old) (O.output out.new) result }
+    ensures { EndsPrinting (outcome_of_finding finding) (finding_text finding) (O.output out.old)
+        (O.output out.new) result }
 {
     match finding {
         Finding::Same => ended(print_difference(None, out), Outcome::Done),

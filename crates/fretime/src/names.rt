@@ -8,7 +8,8 @@ use std::alloc::{AllocError, Global};
 
 /// The names, each as its bytes.
 pub fn bytes_of_names(alloc: Global, keep: &[&str]) -> Result<Vec<Vec<u8>>, AllocError>
-    ensures { IfOk result (λ names. map (λ name. name.items) names.items ≡ map (λ name. name.now) keep.now) }
+    ensures { IfOk result (λ names. map (λ name. name.items) names.items
+        ≡ map (λ name. name.now) keep.now) }
 {
     let mut names = Vec::new(alloc);
     for name in keep {
@@ -19,7 +20,8 @@ pub fn bytes_of_names(alloc: Global, keep: &[&str]) -> Result<Vec<Vec<u8>>, Allo
 
 /// The failure that no latch of the file's circuit has the name with this place.
 pub fn missing_name<'a>(path: &'a str, keep: &[&'a str], place: usize) -> Failure<'a>
-    ensures { (name : Bor (List ℕ)) → slice_get keep.now place ≡ Some name → result ≡ NoSuchName path.entry name }
+    ensures { (name : Bor (List ℕ)) → slice_get keep.now place ≡ Some name
+        → result ≡ NoSuchName path.entry name }
 {
     Failure::NoSuchName(path, keep.get(place).copied().unwrap_or(""))
 }

@@ -93,7 +93,8 @@ fn put_certificates<W: CountedWrite>(
     blocks: Sequence<Certificate>,
     writer: &mut W,
 ) -> Result<(), WriteError>
-    ensures { Writes (W.output writer.old) (W.output writer.new) result (file_text (record { choice = choice; blocks = blocks })) }
+    ensures { Writes (W.output writer.old) (W.output writer.new) result
+        (file_text (record { choice = choice; blocks = blocks })) }
 {
     let file = CertFile { choice, blocks };
     write_cert(&file, writer)

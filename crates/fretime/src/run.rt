@@ -140,9 +140,12 @@ pub fn run_words<R: Files + Threads + Sync, O: CountedWrite, E: CountedWrite>(
     err: &mut E,
 ) -> u8
     ensures status { result ≤ 5 }
-    ensures refused { (result ≡ 1) → (O.output out.new ≡ O.output out.old) ⊎ WritesAll (O.output out.old) (O.output out.new) shapes_text ⊎ PrintsFiles Refused (O.output out.old) (O.output out.new) }
+    ensures refused { (result ≡ 1) → (O.output out.new ≡ O.output out.old)
+        ⊎ WritesAll (O.output out.old) (O.output out.new) shapes_text
+        ⊎ PrintsFiles Refused (O.output out.old) (O.output out.new) }
     ensures quiet { (result ≡ 2) → O.output out.new ≡ O.output out.old }
-    ensures memory { (result ≡ 4) → (O.output out.new ≡ O.output out.old) ⊎ PrintsFiles Memory (O.output out.old) (O.output out.new) }
+    ensures memory { (result ≡ 4) → (O.output out.new ≡ O.output out.old)
+        ⊎ PrintsFiles Memory (O.output out.old) (O.output out.new) }
 {
     run_command(rt, alloc, words, out, err).status()
 }

@@ -74,7 +74,8 @@ fn print_outcome<'a, O: CountedWrite>(
     audit: Audit,
     out: &mut O,
 ) -> Result<Outcome, Failure<'a>>
-    ensures { EndsPrinting (outcome_of_end audit.end) (audit_text blocks.now audit) (O.output out.old) (O.output out.new) result }
+    ensures { EndsPrinting (outcome_of_end audit.end) (audit_text blocks.now audit)
+        (O.output out.old) (O.output out.new) result }
 {
     ended(print_audit(blocks, audit, out), outcome_of(audit.end))
 }
@@ -87,7 +88,8 @@ fn print_blocks<'a, O: CountedWrite>(
     task: &Verification<'a>,
     out: &mut O,
 ) -> Result<Outcome, Failure<'a>>
-    ensures audit { IfOk result (λ ended. PrintsAudit (held_names task.now) circuit.now blocks.now ended (O.output out.old) (O.output out.new)) }
+    ensures audit { IfOk result (λ ended. PrintsAudit
+        (held_names task.now) circuit.now blocks.now ended (O.output out.old) (O.output out.new)) }
     ensures prints { Prints (ending result) (O.output out.old) (O.output out.new) }
 {
     let audit = audited(alloc, circuit, blocks, task)?;
@@ -102,7 +104,8 @@ fn print_file<'a, R: Files, O: CountedWrite>(
     task: &Verification<'a>,
     out: &mut O,
 ) -> Result<Outcome, Failure<'a>>
-    ensures audit { IfOk result (λ ended. PrintsAuditFor (held_names task.now) circuit.now ended (O.output out.old) (O.output out.new)) }
+    ensures audit { IfOk result (λ ended. PrintsAuditFor (held_names task.now) circuit.now ended
+        (O.output out.old) (O.output out.new)) }
     ensures prints { Prints (ending result) (O.output out.old) (O.output out.new) }
 {
     match certificates_at(rt, alloc, task.certificates) {
@@ -123,7 +126,8 @@ pub fn print_verification<'a, R: Files, O: CountedWrite>(
     task: &Verification<'a>,
     out: &mut O,
 ) -> Result<Outcome, Failure<'a>>
-    ensures audit { IfOk result (λ ended. PrintsSomeAudit (held_names task.now) ended (O.output out.old) (O.output out.new)) }
+    ensures audit { IfOk result (λ ended. PrintsSomeAudit (held_names task.now) ended
+        (O.output out.old) (O.output out.new)) }
     ensures prints { Prints (ending result) (O.output out.old) (O.output out.new) }
 {
     match circuit_at(rt, alloc, task.input) {

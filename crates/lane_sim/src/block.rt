@@ -29,9 +29,11 @@ fn simulate_step(
     requires latches { length next.old ≡ length aig.now.latches }
     requires literals { All (λ lit. variable lit < variables_end aig.now) literals.now }
     requires lanes { length sequences.now ≤ 256 }
-    ensures state { OnOk result ((k : ℕ) → k < 256 → HoldsState aig.now (in_lane sequences.now k) table.old k step
+    ensures state { OnOk result ((k : ℕ) → k < 256 → HoldsState aig.now
+        (in_lane sequences.now k) table.old k step
         → HoldsState aig.now (in_lane sequences.now k) table.new k (step + 1)) }
-    ensures row { IfOk result (λ row. (k : ℕ) → k < 256 → HoldsState aig.now (in_lane sequences.now k) table.old k step
+    ensures row { IfOk result (λ row. (k : ℕ) → k < 256
+        → HoldsState aig.now (in_lane sequences.now k) table.old k step
         → row_in k row ≡ map (value_in aig.now (in_lane sequences.now k) step) literals.now) }
 {
     load_inputs(table, aig, sequences, step);
@@ -107,7 +109,8 @@ pub(crate) fn simulate_blocks(
             |number: usize| -> Result<Block, NoMemory>
                 requires fits { 256 * number ≤ length sequences.now }
                 requires literals { All (λ lit. variable lit < variables_end aig.now) literals.now }
-                ensures { IfOk result (IsBlock aig.entry.now literals.entry.now (block_of sequences.entry.now number)) }
+                ensures { IfOk result (IsBlock aig.entry.now literals.entry.now
+                    (block_of sequences.entry.now number)) }
             { simulate_block(alloc, aig, literals, block(sequences, number)) },
         )
         .collect(rt, alloc)?;

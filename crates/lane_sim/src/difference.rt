@@ -32,7 +32,8 @@ pub struct Place {
 fn row_difference(xs: &[Lanes], ys: &[Lanes], lane: usize) -> Option<usize>
     requires lane { lane < 256 }
     requires places { length ys.now ≡ length xs.now }
-    ensures { MatchOption result (row_in lane xs.now ≡ row_in lane ys.now) (IsFirstIn (row_in lane xs.now) (row_in lane ys.now)) }
+    ensures { MatchOption result (row_in lane xs.now ≡ row_in lane ys.now)
+        (IsFirstIn (row_in lane xs.now) (row_in lane ys.now)) }
 {
     for place in 0..xs.len() {
         if xs[place].get(lane) != ys[place].get(lane) {
@@ -51,7 +52,8 @@ fn lane_difference(
 ) -> Option<(usize, usize)>
     requires lane { lane < 256 }
     requires rows { (t : ℕ) → t < steps → HaveRow xs.now ys.now t }
-    ensures { MatchOption result ((t : ℕ) → t < steps → packed_rows xs.now lane t ≡ packed_rows ys.now lane t)
+    ensures { MatchOption result ((t : ℕ) → t < steps
+        → packed_rows xs.now lane t ≡ packed_rows ys.now lane t)
         (λ found. (found.0 < steps) × IsFirstIn (packed_rows xs.now lane found.0) (packed_rows ys.now lane found.0) found.1
         × ((t : ℕ) → t < found.0 → packed_rows xs.now lane t ≡ packed_rows ys.now lane t)) }
 {
@@ -70,8 +72,10 @@ fn block_difference(
     sequences: &[InputSequence],
 ) -> Option<Place>
     requires lanes { length sequences.now ≤ 256 }
-    requires rows { (k t : ℕ) → k < length sequences.now → t < steps_of sequences.now k → HaveRow xs.now ys.now t }
-    ensures { Compares 0 (length sequences.now) (steps_of sequences.now) (packed_rows xs.now) (packed_rows ys.now) result }
+    requires rows { (k t : ℕ) → k < length sequences.now → t < steps_of sequences.now k
+        → HaveRow xs.now ys.now t }
+    ensures { Compares 0 (length sequences.now) (steps_of sequences.now) (packed_rows xs.now)
+        (packed_rows ys.now) result }
 {
     for (lane, sequence) in sequences.iter().enumerate() {
         if let Some((step, place)) = lane_difference(xs, ys, lane, sequence.steps.len()) {
@@ -95,7 +99,8 @@ fn block_rows(
 ) -> Result<Block, NoMemory>
     requires literals { literals.now ≡ property_literals circuit.now.props }
     requires within { 256 * number ≤ length sequences.now }
-    ensures { IfOk result (IsBlock circuit.now.aig (property_literals circuit.now.props) (block_of sequences.now number)) }
+    ensures { IfOk result (IsBlock circuit.now.aig (property_literals circuit.now.props)
+        (block_of sequences.now number)) }
 {
     simulate_block(alloc, circuit.aig(), literals, block(sequences, number))
 }
@@ -124,7 +129,12 @@ fn compare_block(
 /// The place, with its sequence counted from a later one on.
 fn after(found: Option<Place>, first: usize) -> Option<Place>
     requires { IfSome found (λ p. first + p.sequence < 2 ^ 64) }
-    ensures { result ≡ option_map (λ p. record { sequence = first + p.sequence; step = p.step; place = p.place }) found }
+    ensures { result ≡ option_map (λ p. record {
+      sequence = first + p.sequence;
+      step = p.step;
+      place
+          = p.place;
+    }) found }
 {
     match found {
         Some(place) => Some(Place {
@@ -145,8 +155,10 @@ fn compare_blocks(
     sequences: &[InputSequence],
 ) -> Result<Vec<Option<Place>>, NoMemory>
     requires { length (property_literals b.now.props) ≡ length (property_literals a.now.props) }
-    ensures each { IfOk result (λ found. (i : ℕ) → 256 * i < length sequences.now → IsSomeAnd (slice_get found.items i) (IsFoundIn a.now b.now sequences.now i)) }
-    ensures all { IfOk result (λ found. (i : ℕ) → i < length found.items → 256 * i < length sequences.now) }
+    ensures each { IfOk result (λ found. (i : ℕ) → 256 * i < length sequences.now
+        → IsSomeAnd (slice_get found.items i) (IsFoundIn a.now b.now sequences.now i)) }
+    ensures all { IfOk result (λ found. (i : ℕ) → i < length found.items
+        → 256 * i < length sequences.now) }
 {
     let a_literals = collect_literals(alloc, a.props())?;
     let b_literals = collect_literals(alloc, b.props())?;
@@ -166,8 +178,10 @@ fn compare_all(
     sequences: &[InputSequence],
 ) -> Result<Vec<Option<Place>>, NoMemory>
     requires { AreLiterals a.now b.now p.now q.now }
-    ensures each { IfOk result (λ found. (i : ℕ) → 256 * i < length sequences.now → IsSomeAnd (slice_get found.items i) (IsFoundIn a.now b.now sequences.now i)) }
-    ensures all { IfOk result (λ found. (i : ℕ) → i < length found.items → 256 * i < length sequences.now) }
+    ensures each { IfOk result (λ found. (i : ℕ) → 256 * i < length sequences.now
+        → IsSomeAnd (slice_get found.items i) (IsFoundIn a.now b.now sequences.now i)) }
+    ensures all { IfOk result (λ found. (i : ℕ) → i < length found.items
+        → 256 * i < length sequences.now) }
 {
     let found: Result<Vec<Option<Place>>, NoMemory> = (0..sequences.len().div_ceil(LANES))
         .into_par_iter()
@@ -176,7 +190,8 @@ fn compare_all(
             |number: usize| -> Result<Option<Place>, NoMemory>
                 requires within { 256 * number ≤ length sequences.now }
                 requires literals { AreLiterals a.now b.now p.now q.now }
-                ensures { IfOk result (IsFoundIn a.entry.now b.entry.now sequences.entry.now number) }
+                ensures { IfOk result (IsFoundIn a.entry.now b.entry.now
+                    sequences.entry.now number) }
             { compare_block(alloc, a, p, b, q, sequences, number) },
         )
         .collect(rt, alloc)?;
@@ -185,7 +200,8 @@ fn compare_all(
 
 /// The first that was found.
 fn first_found(found: &[Option<Place>]) -> Option<Place>
-    ensures { MatchOption result ((i : ℕ) → i < length found.now → slice_index_or found.now i None ≡ None)
+    ensures { MatchOption result ((i : ℕ) → i < length found.now
+        → slice_index_or found.now i None ≡ None)
         (λ place. (i : ℕ) × (i < length found.now) × (slice_index_or found.now i None ≡ Some place) × ((j : ℕ) → j < i → slice_index_or found.now j None ≡ None)) }
 {
     for answer in found {

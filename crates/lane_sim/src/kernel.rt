@@ -12,7 +12,8 @@ const CHUNK: usize = 4;
 pub fn and_lanes(out: &mut [u64], a: &[u64], b: &[u64], neg_a: bool, neg_b: bool)
     requires as_many_a { length a.now ≡ length out.old }
     requires as_many_b { length b.now ≡ length out.old }
-    ensures { EachIndex out.new (λ k. slice_index out.new k ≡ and_words neg_a neg_b (slice_index a.now k) (slice_index b.now k)) }
+    ensures { EachIndex out.new (λ k. slice_index out.new k
+        ≡ and_words neg_a neg_b (slice_index a.now k) (slice_index b.now k)) }
 {
     let mut at = 0;
     'chunks: while out.len() - at >= CHUNK {
@@ -33,7 +34,8 @@ fn and_chunk(out: &mut [u64], a: &[u64], b: &[u64], at: usize, neg_a: bool, neg_
     requires as_many_a { length a.now ≡ length out.old }
     requires as_many_b { length b.now ≡ length out.old }
     requires room { at + 4 ≤ length out.old }
-    ensures each { (j : ℕ) → j < 4 → slice_index out.new (at + j) ≡ and_words neg_a neg_b (slice_index a.now (at + j)) (slice_index b.now (at + j)) }
+    ensures each { (j : ℕ) → j < 4 → slice_index out.new (at + j)
+        ≡ and_words neg_a neg_b (slice_index a.now (at + j)) (slice_index b.now (at + j)) }
     ensures before { (k : ℕ) → k < at → slice_index out.new k ≡ slice_index out.old k }
 {
     let x = u64x4::from_slice(&a[at..]) ^ u64x4::splat(flip(neg_a));

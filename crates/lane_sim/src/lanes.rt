@@ -65,7 +65,8 @@ impl Lanes {
 
     /// The AND in each lane, each side first negated where the flag is set.
     pub(crate) fn and(self, other: Lanes, negated: bool, other_negated: bool) -> Lanes
-        ensures { (k : ℕ) → k < 256 → lane result k ≡ (signed_if negated (lane self k) && signed_if other_negated (lane other k)) }
+        ensures { (k : ℕ) → k < 256 → lane result k
+            ≡ (signed_if negated (lane self k) && signed_if other_negated (lane other k)) }
     {
         let a = self.words;
         let b = other.words;

@@ -48,7 +48,8 @@ fn read_line(
     free: usize,
     offset: u64,
 ) -> Result<(), StimError>
-    ensures { Gives (λ _. sequences.new.items) result (stimuli.read_line inputs free offset sequences.old.items line.now) }
+    ensures { Gives (λ _. sequences.new.items) result
+        (stimuli.read_line inputs free offset sequences.old.items line.now) }
 {
     let Some((kind, digits)) = line.split_first() else {
         return Err(StimError::BadLine(offset));
@@ -71,7 +72,8 @@ fn begin_sequence(
     free: usize,
     offset: u64,
 ) -> Result<(), StimError>
-    ensures { Gives (λ _. sequences.new.items) result (begin free offset sequences.old.items digits.now) }
+    ensures { Gives (λ _. sequences.new.items) result
+        (begin free offset sequences.old.items digits.now) }
 {
     if digits.len() != free {
         return Err(StimError::Width(offset));
@@ -95,7 +97,8 @@ fn add_step(
     inputs: usize,
     offset: u64,
 ) -> Result<(), StimError>
-    ensures { Gives (λ _. sequences.new.items) result (step inputs offset sequences.old.items digits.now) }
+    ensures { Gives (λ _. sequences.new.items) result
+        (step inputs offset sequences.old.items digits.now) }
 {
     let Some(last) = sequences.pop() else {
         return Err(StimError::BadLine(offset));
@@ -110,7 +113,11 @@ fn add_step(
 
 /// The sequence with one more step.
 fn longer(sequence: InputSequence, row: Sequence<bool>) -> Result<InputSequence, AllocError>
-    ensures { IfOk result (λ more. more ≡ record { choice = sequence.choice; steps = sequence.steps ++ row ∷ [] }) }
+    ensures { IfOk result (λ more. more ≡ record {
+      choice = sequence.choice;
+      steps = sequence.steps
+          ++ row ∷ [];
+    }) }
 {
     let InputSequence { choice, steps } = sequence;
     let mut rows = steps.into_vec();
@@ -141,7 +148,8 @@ fn values(alloc: Global, digits: &[u8]) -> Result<Sequence<bool>, AllocError>
 
 /// The first line of the bytes and what follows its newline, or `None` where no byte is left.
 fn next_line(bytes: &[u8]) -> Option<(&[u8], &[u8])>
-    ensures { MatchOption result (bytes.now ≡ []) (λ parts. IsFirst bytes.now parts.0.now parts.1.now) }
+    ensures { MatchOption result (bytes.now ≡ []) (λ parts.
+        IsFirst bytes.now parts.0.now parts.1.now) }
 {
     if bytes.is_empty() {
         return None;

@@ -35,9 +35,12 @@ fn choice_lanes(sequences: &[InputSequence], place: usize) -> Lanes
 fn load_row(table: &mut [Lanes], inputs: usize, row: &[bool], place: usize)
     requires inputs { inputs < length table.old }
     requires lane { place < 256 }
-    ensures loaded { (i k : ℕ) → i < inputs → k < 256 → held table.new (1 + i) k ≡ ((k == place && slice_index_or row.now i false) || held table.old (1 + i) k) }
+    ensures loaded { (i k : ℕ) → i < inputs → k < 256
+        → held table.new (1 + i) k
+        ≡ ((k == place && slice_index_or row.now i false) || held table.old (1 + i) k) }
     ensures constant { slice_index_or table.new 0 [] ≡ slice_index_or table.old 0 [] }
-    ensures after { (v : ℕ) → inputs < v → slice_index_or table.new v [] ≡ slice_index_or table.old v [] }
+    ensures after { (v : ℕ) → inputs < v → slice_index_or table.new v []
+        ≡ slice_index_or table.old v [] }
 {
     for i in 0..inputs.min(row.len()) {
         table[1 + i] = table[1 + i].with(place, row[i]);
@@ -49,7 +52,8 @@ fn clear_inputs(table: &mut [Lanes], inputs: usize)
     requires { inputs < length table.old }
     ensures cleared { (i k : ℕ) → i < inputs → k < 256 → held table.new (1 + i) k ≡ false }
     ensures constant { slice_index_or table.new 0 [] ≡ slice_index_or table.old 0 [] }
-    ensures after { (v : ℕ) → inputs < v → slice_index_or table.new v [] ≡ slice_index_or table.old v [] }
+    ensures after { (v : ℕ) → inputs < v → slice_index_or table.new v []
+        ≡ slice_index_or table.old v [] }
 {
     for i in 0..inputs {
         table[1 + i] = Lanes::none();
@@ -88,7 +92,8 @@ fn gate_lanes(table: &[Lanes], gate: Gate) -> Lanes
 /// Computes each gate from the inputs and latches.
 pub(crate) fn evaluate(table: &mut [Lanes], aig: &Aig)
     requires { length table.old ≡ variables_end aig.now }
-    ensures values { (k t : ℕ) (s : InputSequence) → k < 256 → HoldsBelow aig.now s table.old k t (first_gate aig.now)
+    ensures values { (k t : ℕ) (s : InputSequence) → k < 256
+        → HoldsBelow aig.now s table.old k t (first_gate aig.now)
         → HoldsBelow aig.now s table.new k t (variables_end aig.now) }
     ensures graph { IsGraph aig.now }
 {
@@ -127,7 +132,8 @@ pub(crate) fn read_literals(
 pub(crate) fn advance(table: &mut [Lanes], next: &mut [Lanes], aig: &Aig)
     requires variables { length table.old ≡ variables_end aig.now }
     requires latches { length next.old ≡ length aig.now.latches }
-    ensures { (k t : ℕ) (s : InputSequence) → k < 256 → HoldsBelow aig.now s table.old k t (variables_end aig.now)
+    ensures { (k t : ℕ) (s : InputSequence) → k < 256
+        → HoldsBelow aig.now s table.old k t (variables_end aig.now)
         → HoldsState aig.now s table.new k (t + 1) }
 {
     'read: for (j, latch) in aig.latches().iter().enumerate() {
@@ -142,7 +148,8 @@ pub(crate) fn advance(table: &mut [Lanes], next: &mut [Lanes], aig: &Aig)
 /// What a latch holds at step 0, where it is the free latch with this place if it is free.
 fn opening_lanes(reset: Reset, sequences: &[InputSequence], place: usize) -> Lanes
     requires { length sequences.now ≤ 256 }
-    ensures { (k : ℕ) → k < 256 → lane result k ≡ opening reset (choice_of (in_lane sequences.now k) place) }
+    ensures { (k : ℕ) → k < 256 → lane result k ≡ opening reset
+        (choice_of (in_lane sequences.now k) place) }
 {
     match reset {
         Reset::Zero => Lanes::none(),

@@ -93,7 +93,8 @@ pub fn print_audit<W: CountedWrite>(
     audit: Audit,
     writer: &mut W,
 ) -> Result<(), WriteError>
-    ensures { Writes (W.output writer.old) (W.output writer.new) result (audit_text blocks.now audit) }
+    ensures { Writes (W.output writer.old) (W.output writer.new) result
+        (audit_text blocks.now audit) }
 {
     let mut out = Buffered::new(writer);
     put_audit(&mut out, blocks, audit);

@@ -55,7 +55,8 @@ pub fn print_counts<W: CountedWrite>(
     passable: u32,
     writer: &mut W,
 ) -> Result<(), WriteError>
-    ensures { Writes (W.output writer.old) (W.output writer.new) result (counts_text circuit.now passable) }
+    ensures { Writes (W.output writer.old) (W.output writer.new) result
+        (counts_text circuit.now passable) }
 {
     let mut out = Buffered::new(writer);
     put_counts(&mut out, circuit, passable);

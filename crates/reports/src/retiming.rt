@@ -53,7 +53,8 @@ fn put_retiming<W: CountedWrite>(out: &mut Buffered<'_, W>, retimed: &Retimed)
 ///
 /// `Device` where a write failed: a beginning of the text was written then, and the writer isn't called again.
 pub fn print_retiming<W: CountedWrite>(retimed: &Retimed, writer: &mut W) -> Result<(), WriteError>
-    ensures { Writes (W.output writer.old) (W.output writer.new) result (retiming_text retimed.now) }
+    ensures { Writes (W.output writer.old) (W.output writer.new) result
+        (retiming_text retimed.now) }
 {
     let mut out = Buffered::new(writer);
     put_retiming(&mut out, retimed);
