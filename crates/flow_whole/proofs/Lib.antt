@@ -9,6 +9,7 @@ pub mod Turning
 pub mod Holding
 pub mod ActiveLemmas
 pub mod StartLemmas
+mod SourceArcs
 pub mod Borders
 pub mod StartState
 pub mod Each

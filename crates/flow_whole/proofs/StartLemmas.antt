@@ -1,9 +1,7 @@
 -- The excess that the start sends into a node fits a word.
-use Rattle.std.proofs.Common.{◌≡◌, ℕ, zero, suc, ◌+◌, ◌<◌, ◌==◌, ◌-◌, cond, Bool, true, false, ◌||◌, nat_lt, List, [], ◌∷◌, ◌++◌, length, slice_index, arith, refl, sym, ap, ◌∙◌, inl, inr}
+use Rattle.std.proofs.Common.{◌≡◌, ℕ, zero, suc, ◌+◌, ◌<◌, ◌==◌, cond, Bool, true, false, ◌||◌, nat_lt, length, slice_index, arith, refl, sym, ap, ◌∙◌}
 use Rattle.std.proofs.Math.Dec.{eqb-suc-zero}
-use Rattle.std.proofs.lemmas.Bool.{eq-eqb, cases_lt, true≢false}
-use Rattle.std.proofs.lemmas.List.{get_or-append_right, length-append}
-use Rattle.std.proofs.Math.ListN.{get_or-append}
+use Rattle.std.proofs.lemmas.Bool.{eq-eqb, true≢false}
 use Rattle.flow_theory.specs.Flow.{sum_below}
 use Rattle.flow_theory.proofs.Sums.{sum_below-same, sum_below-zero}
 use Rattle.frame_net.specs.FlowNet.{FlowNet, node_count, start, row_len, head, mate, cap_at, HasMate, IsFlowNet}
@@ -56,23 +54,3 @@ two_off true b x y e = absurd (true≢false e)
 -- away from the source the residual of the start is the capacity
 pub stays : (net : FlowNet) (arc : ℕ) → (nat_lt arc (start net 1) || slice_index net.heads arc == 0) ≡ false → cap_at net arc ≡ start_res net arc
 stays net arc off = sym (two_off (nat_lt arc (start net 1)) (slice_index net.heads arc == 0) (cap_at net arc + cap_at net (slice_index net.mates arc)) (cap_at net arc) off)
-
-pub done_next : (res : ℕ → ℕ) (i : ℕ) (xs ys : List ℕ) → ((j : ℕ) → j < i → slice_index xs j ≡ res j) → ((j : ℕ) → j < i → slice_index ys j ≡ slice_index xs j) → slice_index ys i ≡ res i
-    → (j : ℕ) → j < i + 1 → slice_index ys j ≡ res j
-done_next res i xs ys done same here j h = elim (cases_lt j i) [
-  | inl lt ↦ same j lt ∙ done j lt
-  | inr ge ↦ let e : j ≡ i = omega (arith, ge, h) in ap (λ (k : ℕ). slice_index ys k) e ∙ here ∙ ap res (sym e)
-]
-
--- one more element is the next value of f
-pub one_more : (f : ℕ → ℕ) (xs ys : List ℕ) (x i : ℕ) → ys ≡ xs ++ x ∷ [] → length xs ≡ i → ((j : ℕ) → j < length xs → slice_index xs j ≡ f j) → x ≡ f i
-    → (j : ℕ) → j < length ys → slice_index ys j ≡ f j
-one_more f xs ys x i e len below here j h =
-    let longer : length ys ≡ length xs + 1 = omega (arith, ap length e, length-append xs (x ∷ [])) in
-    ap (λ (zs : List ℕ). slice_index zs j) e ∙ elim (cases_lt j (length xs)) [
-      | inl lt ↦ get_or-append xs (x ∷ []) 0 j lt ∙ below j lt
-      | inr ge ↦
-          let last : j ≡ i = omega arith in
-          let first : j - length xs ≡ 0 = omega arith in
-          get_or-append_right xs (x ∷ []) (length xs) j 0 refl ge ∙ (ap (λ (n : ℕ). slice_index (x ∷ []) n) first ∙ (here ∙ ap f (sym last)))
-    ]

@@ -1,6 +1,6 @@
 //! The flow at the start: the arcs out of the source are full, and all others have flow 0.
-ghost use Rattle.std.specs.Prelude.{◌≡◌, ℕ, ◌+◌, ◌<◌, ◌≤◌, ◌==◌, ◌||◌, nat_lt, IfOk, length, slice_index};
-ghost use Rattle.frame_net.specs.FlowNet.{cap_at, node_count, start};
+ghost use Rattle.std.specs.Prelude.{◌≡◌, ℕ, ◌+◌, ◌<◌, ◌≤◌, IfOk, length, slice_index};
+ghost use Rattle.frame_net.specs.FlowNet.{cap_at, node_count};
 ghost use Rattle.flow_whole.specs.Start.{AreFlowShares, start_res, start_excess, PartHolds, PartsHold};
 
 use crate::copying::add;
@@ -9,32 +9,25 @@ use flow_part::{FlowPart, NodeList};
 use frame_net::Net;
 use std::alloc::{AllocError, Global};
 
-/// The residual of an arc at the start.
-fn start_arc(net: &Net, arc: u32) -> u32
-    requires { arc < length net.now.heads }
-    ensures { result ≡ start_res net.now arc }
+/// Puts the value of an arc or node in place, where that is one of those from `base` on.
+fn put(values: &mut [u32], base: u32, number: u32, value: u32)
+    ensures len { length values.new ≡ length values.old }
+    ensures there { (i : ℕ) → i < length values.old → base + i ≡ number
+        → slice_index values.new i ≡ value }
+    ensures others { (i : ℕ) → (base + i ≡ number → ⊥)
+        → slice_index values.new i ≡ slice_index values.old i }
 {
-    let _nodes = net.nodes();
-    let _arcs = net.arcs();
-    if (arc as usize) < net.start(1) {
-        0
-    } else if net.head(arc) == 0 {
-        net.cap(arc) + net.cap(net.mate(arc))
-    } else {
-        net.cap(arc)
+    if number < base {
+        return;
+    }
+    let place = (number - base) as usize;
+    if place < values.len() {
+        values[place] = value;
     }
 }
 
-/// Whether the arc leaves the source or leads to it. At all others the residual of the start is the capacity.
-fn is_at_source(net: &Net, arc: u32) -> bool
-    requires { arc < length net.now.heads }
-    ensures { result ≡ (nat_lt arc (start net.now 1) || slice_index net.now.heads arc == 0) }
-{
-    let _nodes = net.nodes();
-    (arc as usize) < net.start(1) || net.head(arc) == 0
-}
-
-/// Puts the residuals of the start in place of the capacities of the arcs from `base` on.
+/// Puts the residuals of the start in place of the capacities of the arcs from `base` on: the source's arcs have none, their mates all of
+/// both ways, and what is left are the capacities.
 fn replace_caps(net: &Net, base: u32, residuals: &mut [u32])
     requires within { base + length residuals.old ≤ length net.now.heads }
     requires caps { (i : ℕ) → i < length residuals.old
@@ -43,12 +36,13 @@ fn replace_caps(net: &Net, base: u32, residuals: &mut [u32])
     ensures each { (i : ℕ) → i < length residuals.new
         → slice_index residuals.new i ≡ start_res net.now (base + i) }
 {
+    let _nodes = net.nodes();
     let _arcs = net.arcs();
-    for i in 0..residuals.len() {
-        let arc = base + i as u32;
-        if is_at_source(net, arc) {
-            residuals[i] = start_arc(net, arc);
-        }
+    let row = net.row(0);
+    for arc in 0..row.end {
+        let mate = net.mate(arc);
+        put(residuals, base, arc, 0);
+        put(residuals, base, mate, net.cap(arc) + net.cap(mate));
     }
 }
 
@@ -69,21 +63,21 @@ fn start_residuals(alloc: Global, net: &Net, base: u32, size: u32) -> Result<Vec
     Ok(residuals)
 }
 
-/// The excess of node `v` at the start. Heads rise, so an arc to the source is the first one of a row.
-fn start_node(net: &Net, v: u32) -> u32
-    requires { v < node_count net.now }
-    ensures { result ≡ start_excess net.now v }
+/// Puts the excess of the start in the nodes from `first` on that the source's arcs lead to.
+fn fill_excesses(net: &Net, first: u32, excess: &mut [u32])
+    requires within { first + length excess.old ≤ node_count net.now }
+    requires none { (i : ℕ) → i < length excess.old → slice_index excess.old i ≡ 0 }
+    ensures len { length excess.new ≡ length excess.old }
+    ensures each { (i : ℕ) → i < length excess.new
+        → slice_index excess.new i ≡ start_excess net.now (first + i) }
 {
     let _nodes = net.nodes();
     let _arcs = net.arcs();
-    let heads = net.heads(v);
-    if v == 0 {
-        return 0;
-    }
-    if heads.len() > 0 && heads[0] == 0 {
-        net.cap(net.mates(v)[0])
-    } else {
-        0
+    let row = net.row(0);
+    for arc in 0..row.end {
+        let head = net.head(arc);
+        let cap = net.cap(arc);
+        put(excess, first, head, cap);
     }
 }
 
@@ -94,11 +88,8 @@ fn start_excesses(alloc: Global, net: &Net, first: u32, count: u32) -> Result<Ve
     ensures each { IfOk result (λ v. (i : ℕ) → i < length v.items
         → slice_index v.items i ≡ start_excess net.now (first + i)) }
 {
-    let _nodes = net.nodes();
-    let mut excess = Vec::with_capacity(alloc, count as usize)?;
-    for i in 0..count {
-        excess.push(start_node(net, first + i))?;
-    }
+    let mut excess = vec![in alloc; 0u32; count as usize]?;
+    fill_excesses(net, first, excess.as_mut_slice());
     Ok(excess)
 }
 

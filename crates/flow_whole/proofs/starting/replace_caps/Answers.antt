@@ -1,27 +1,30 @@
-use Rattle.std.proofs.Common.{ℕ, ◌+◌, ◌∙◌, arith, ap, slice_index, sym, length}
-use Rattle.std.proofs.lemmas.List.{get_or-set_same, get_or-set_other}
-use Rattle.flow_whole.specs.Start.{start_res}
-use Rattle.flow_whole.proofs.StartLemmas.{done_next, stays}
-use Rattle.flow_whole.proofs.starting.replace_caps.Goals.{then-is_at_source, else-is_at_source}
+use Rattle.std.proofs.Common.{◌≡◌, ℕ, ◌+◌, ◌∙◌, arith, ap, refl, sym, subst, slice_index, length}
+use Rattle.frame_net.specs.FlowNet.{cap_at}
+use Rattle.flow_whole.proofs.SourceArcs.{Holds, holds-none, holds-next, holds-all}
 use Rattle.flow_whole.proofs.starting.replace_caps.Goals as goal
 
-pub loop-i-preserved : goal.loop-i-preserved
-loop-i-preserved c = elim c.if-is_at_source.branch [
-  | then-is_at_source w ↦ record {
-    done = done_next (λ (j : ℕ). start_res c.args.net.now (c.args.base + j)) c.loop-i.i c.loop-i.residuals c.if-is_at_source.residuals c.loop-i.invariant.done
-        (λ j lt. ap (λ xs. slice_index xs j) w.residuals-is ∙ get_or-set_other c.loop-i.residuals c.loop-i.i j w.start_arc.result 0 (λ e. omega (arith, e, lt)))
-        (ap (λ xs. slice_index xs c.loop-i.i) w.residuals-is ∙ get_or-set_same c.loop-i.residuals c.loop-i.i w.start_arc.result 0 (omega arith) ∙ w.start_arc.ensures);
-    rest = λ j above inside. ap (λ xs. slice_index xs j) w.residuals-is ∙ get_or-set_other c.loop-i.residuals c.loop-i.i j w.start_arc.result 0 (λ e. omega (arith, e, above))
-        ∙ c.loop-i.invariant.rest j (omega (arith, above)) (omega (arith, inside));
-  }
-  | else-is_at_source w ↦ record {
-    done = done_next (λ (j : ℕ). start_res c.args.net.now (c.args.base + j)) c.loop-i.i c.loop-i.residuals c.if-is_at_source.residuals c.loop-i.invariant.done
-        (λ j lt. ap (λ xs. slice_index xs j) w.residuals-is)
-        (ap (λ xs. slice_index xs c.loop-i.i) w.residuals-is ∙ c.loop-i.invariant.rest c.loop-i.i (omega arith) (omega arith)
-        ∙ stays c.args.net.now (c.args.base + c.loop-i.i) (sym c.is_at_source.ensures ∙ w.if-is_at_source.false));
-    rest = λ j above inside. ap (λ xs. slice_index xs j) w.residuals-is ∙ c.loop-i.invariant.rest j (omega (arith, above)) (omega (arith, inside, ap length w.residuals-is));
-  }
-]
+pub loop-arc-init : goal.loop-arc-init
+loop-arc-init c = record {
+  long = refl;
+  each = λ i h. holds-none c.args.net.now (slice_index c.args.residuals.now i) (c.args.base + i) (c.requires.caps i h);
+}
+
+pub loop-arc-preserved : goal.loop-arc-preserved
+loop-arc-preserved c = record {
+  long = c.put-in-loop-arc.ensures.len ∙ c.put.ensures.len ∙ c.loop-arc.invariant.long;
+  each = λ i h.
+      let long : length c.put-in-loop-arc.new.values ≡ length c.loop-arc.residuals = c.put-in-loop-arc.ensures.len ∙ c.put.ensures.len in
+      holds-next c.args.net.now (slice_index c.loop-arc.residuals i) (slice_index c.put.new.values i) (slice_index c.put-in-loop-arc.new.values i) (c.args.base + i) c.loop-arc.arc
+      c.nodes-nodes.ensures.network c.arcs-arcs.ensures.startable (omega (arith, c.loop-arc-test.true, c.row-row.ensures.end)) (c.loop-arc.invariant.each i (omega (arith, h, long)))
+      (λ e. c.put.ensures.there i (omega (arith, h, long)) e)
+      (λ ne. c.put.ensures.others i ne)
+      (λ e. c.put-in-loop-arc.ensures.there i (omega (arith, h, c.put-in-loop-arc.ensures.len)) (e ∙ sym c.mate-mate.ensures)
+      ∙ omega (arith, c.cap.ensures, c.cap-in-loop-arc.ensures, ap (λ (x : ℕ). cap_at c.args.net.now x) c.mate-mate.ensures))
+      (λ ne. c.put-in-loop-arc.ensures.others i (λ q. ne (q ∙ c.mate-mate.ensures)));
+}
 
 pub returns-clause-each : goal.returns-clause-each
-returns-clause-each c = λ i h. c.loop-i.invariant.done i (omega (arith, h))
+returns-clause-each c = λ i h.
+    holds-all c.args.net.now (slice_index c.loop-arc.residuals i) (c.args.base + i) c.nodes-nodes.ensures.network
+    (omega (arith, h, c.loop-arc.invariant.long, c.requires.within))
+    (subst (λ (n : ℕ). Holds c.args.net.now (slice_index c.loop-arc.residuals i) (c.args.base + i) n) (omega (arith, c.loop-arc-test.false, c.loop-arc.auto.arc-end, c.row-row.ensures.end)) (c.loop-arc.invariant.each i h))
