@@ -1,8 +1,12 @@
-//! Tests of `batch_pool` over whole files.
+//! Tests of `batch_pool` over whole files, of its counter, and of the texts of its errors and those of lists.
 #![tactic(auto)]
 
 #[cfg(test)]
+mod counter;
+#[cfg(test)]
 mod drawing;
+#[cfg(test)]
+mod errors;
 #[cfg(test)]
 mod files;
 #[cfg(test)]

@@ -1,9 +1,11 @@
-//! The numbers of errors.
+//! The numbers and the texts of errors.
 use aag_text::{ReadError, WriteError};
-use aig_graph::{BuildError, NoMemory};
+use aig_graph::{BuildError, KeepError, NoMemory};
 use frames::{BytesError, RetimeError};
 use lane_sim::{SimError, StimError};
 use pulse::PulseError;
+use std::alloc::Global;
+use std::fmt::Display;
 use std::test::*;
 
 #[test]
@@ -34,4 +36,84 @@ fn numbers_its_errors(rt: HostRuntime) {
             && of_simulating == [1, 2]
             && of_retiming == [1, 1, 2, 1, 2, 3]
     );
+}
+
+/// Whether each error has its text.
+fn spell<E: Display>(alloc: Global, errors: &[(E, &str)]) -> bool {
+    let mut same = true;
+    for (error, text) in errors {
+        same = match format!(in alloc; "{error}") {
+            Ok(found) => same && found.as_str() == *text,
+            Err(_) => false,
+        };
+    }
+    same
+}
+
+#[test]
+fn spells_errors_of_circuits(rt: HostRuntime) {
+    let alloc = rt.alloc();
+    let memory = spell(alloc, &[(NoMemory, "out of memory")]);
+    let building = spell(
+        alloc,
+        &[
+            (BuildError::NoMemory, "out of memory"),
+            (BuildError::TooLarge, "too many variables"),
+        ],
+    );
+    let holding = spell(
+        alloc,
+        &[
+            (KeepError::NoSuchName(2), "no latch has name 2"),
+            (KeepError::NoMemory, "out of memory"),
+        ],
+    );
+    assert!(rt; memory && building && holding);
+}
+
+#[test]
+fn spells_errors_of_simulating(rt: HostRuntime) {
+    let alloc = rt.alloc();
+    let stimuli = spell(
+        alloc,
+        &[
+            (StimError::BadLine(0), "BadLine at 0"),
+            (StimError::Width(3), "Width at 3"),
+            (StimError::TooMany(4294967296), "TooMany at 4294967296"),
+            (StimError::NoMemory, "out of memory"),
+        ],
+    );
+    let shapes = spell(
+        alloc,
+        &[
+            (SimError::Shape, "shapes differ"),
+            (SimError::NoMemory, "out of memory"),
+        ],
+    );
+    assert!(rt; stimuli && shapes);
+}
+
+#[test]
+fn spells_errors_of_retiming(rt: HostRuntime) {
+    let alloc = rt.alloc();
+    let pulses = spell(alloc, &[(PulseError::NoMemory, "out of memory")]);
+    let circuits = spell(
+        alloc,
+        &[
+            (RetimeError::NoMemory, "out of memory"),
+            (RetimeError::NoSuchName(0), "no latch has name 0"),
+        ],
+    );
+    let bytes = spell(
+        alloc,
+        &[
+            (BytesError::Read(ReadError::BadLine(18)), "BadLine at 18"),
+            (
+                BytesError::Retime(RetimeError::NoSuchName(1)),
+                "no latch has name 1",
+            ),
+            (BytesError::Write(WriteError::Device), "device"),
+        ],
+    );
+    assert!(rt; pulses && circuits && bytes);
 }

@@ -13,6 +13,8 @@ mod cleaned;
 #[cfg(test)]
 mod errors;
 #[cfg(test)]
+mod failing_devices;
+#[cfg(test)]
 mod graphs;
 #[cfg(test)]
 mod lanes;
