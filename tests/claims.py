@@ -4,7 +4,7 @@ import re
 import shutil
 import subprocess
 
-from tree import TOP, crates, is_of_tests, sources
+from tree import TOP, crates, crates_with_a_test, is_of_tests, sources
 
 WORDS = 'no one two three four five six seven eight nine ten eleven twelve'.split()
 NUMBERS = {word: number for number, word in enumerate(WORDS)}
@@ -78,6 +78,7 @@ def claims():
 
 
 def faults_of_sizes():
-    """What is wrong with the size of a crate or of a file that ARCHITECTURE claims."""
+    """What is wrong with the size of a crate, those of tests aside, that ARCHITECTURE claims."""
     limit = int(re.search(r'past some ([\d,]+) lines', (TOP / 'docs' / 'ARCHITECTURE.md').read_text())[1].replace(',', ''))
-    return [f'{crate} has {lines_of_source(crate)} lines' for crate in crates() if lines_of_source(crate) > limit]
+    tests = crates_with_a_test()
+    return [f'{crate} has {lines_of_source(crate)} lines' for crate in crates() if crate not in tests and lines_of_source(crate) > limit]
