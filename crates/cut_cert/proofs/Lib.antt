@@ -18,3 +18,4 @@ mod Counts
 mod Bounds
 mod Units
 mod NearSets
+pub mod AppendLaws

@@ -1,6 +1,6 @@
 use Rattle.std.proofs.Common.{◌∙◌, ap₂, ℕ, ◌-◌, slice_index, arith}
 use Rattle.frame_net.specs.FlowNet.{cap_at}
-use Rattle.flow_whole.proofs.StartLemmas.{one_more}
+use Rattle.cut_cert.proofs.AppendLaws.{one_more}
 use Rattle.cut_cert.proofs.carried.carried_by_arcs.Goals as goal
 
 pub loop-arc-preserved : goal.loop-arc-preserved
