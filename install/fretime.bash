@@ -4,7 +4,7 @@ _fretime() {
     local word=${COMP_WORDS[COMP_CWORD]} before=${COMP_WORDS[COMP_CWORD - 1]} options
     COMPREPLY=()
     if [ "$COMP_CWORD" = 1 ]; then
-        mapfile -t COMPREPLY < <(compgen -W "retime batch stat convert sim same verify help --help --version" -- "$word")
+        mapfile -t COMPREPLY < <(compgen -W "retime batch stat convert sim same verify dot witness help --help --version" -- "$word")
         return
     fi
     case ${COMP_WORDS[1]} in
@@ -12,17 +12,18 @@ _fretime() {
         batch) options="--ascii --binary --workers --frames --near --help" ;;
         convert) options="--ascii --binary --help" ;;
         verify) options="--keep --help" ;;
-        stat | sim | same) options="--help" ;;
+        dot) options="--frame --keep --around --depth --help" ;;
+        stat | sim | same | witness) options="--help" ;;
         help)
             if [ "$COMP_CWORD" = 2 ]; then
-                mapfile -t COMPREPLY < <(compgen -W "retime batch stat convert sim same verify help" -- "$word")
+                mapfile -t COMPREPLY < <(compgen -W "retime batch stat convert sim same verify dot witness help" -- "$word")
             fi
             return
             ;;
         *) return ;;
     esac
     case $before in
-        --workers | --frames | --keep) return ;;
+        --workers | --frames | --keep | --around | --depth) return ;;
     esac
     case $word in
         -*) mapfile -t COMPREPLY < <(compgen -W "$options" -- "$word") ;;

@@ -7,10 +7,12 @@ complete -c fretime -n __fish_use_subcommand -f -a convert -d 'Writes a circuit 
 complete -c fretime -n __fish_use_subcommand -f -a sim -d 'Prints the values of all properties under a stimulus'
 complete -c fretime -n __fish_use_subcommand -f -a same -d 'Finds the first difference of two circuits under a stimulus'
 complete -c fretime -n __fish_use_subcommand -f -a verify -d 'Checks the certificates that \'retime --cert\' wrote'
+complete -c fretime -n __fish_use_subcommand -f -a dot -d 'Writes a picture of a circuit, for Graphviz'
+complete -c fretime -n __fish_use_subcommand -f -a witness -d 'Carries a witness of a retimed circuit back to the circuit it was made of'
 complete -c fretime -n __fish_use_subcommand -f -a help -d 'Print this message or the help of the given subcommand(s)'
 complete -c fretime -n __fish_use_subcommand -s V -l version -d 'Print version'
 complete -c fretime -n 'not __fish_seen_subcommand_from help' -s h -l help -d 'Print help'
-complete -c fretime -n '__fish_seen_subcommand_from help' -f -a 'retime batch stat convert sim same verify help'
+complete -c fretime -n '__fish_seen_subcommand_from help' -f -a 'retime batch stat convert sim same verify dot witness help'
 
 complete -c fretime -n '__fish_seen_subcommand_from retime' -l ascii -d 'Write ASCII'
 complete -c fretime -n '__fish_seen_subcommand_from retime' -l binary -d 'Write binary'
@@ -30,3 +32,8 @@ complete -c fretime -n '__fish_seen_subcommand_from convert' -l ascii -d 'Write 
 complete -c fretime -n '__fish_seen_subcommand_from convert' -l binary -d 'Write binary'
 
 complete -c fretime -n '__fish_seen_subcommand_from verify' -x -l keep -d 'Hold each latch with this name in its place; may be given more than once'
+
+complete -c fretime -n '__fish_seen_subcommand_from dot' -l frame -d 'Show over which gates latches move next'
+complete -c fretime -n '__fish_seen_subcommand_from dot' -x -l keep -d 'Hold each latch with this name in its place; may be given more than once'
+complete -c fretime -n '__fish_seen_subcommand_from dot' -x -l around -d 'Draw the neighbourhood of the input, latch or property with this name alone'
+complete -c fretime -n '__fish_seen_subcommand_from dot' -x -l depth -d 'How many edges the neighbourhood reaches'

@@ -86,6 +86,16 @@ def options(rng, c):
     return words
 
 
+def picture_options(rng, c):
+    """At random a frame, a held latch, and the neighbourhood of a name that may be missing."""
+    latches, names = ([name.decode() for name in kind if name.isascii()] for kind in (
+        c.symbols['l'].values(), [name for names in c.symbols.values() for name in names.values()]))
+    words = rng.choice([[], ['--frame']]) + [f'--keep={name}' for name in rng.sample(latches, min(len(latches), rng.randint(0, 1)))]
+    if rng.random() < 0.5:
+        words += [f'--around={rng.choice([*names, "nothing"])}'] + rng.choice([[], [f'--depth={rng.randint(1, 4)}']])
+    return words
+
+
 def both_least_sets_agree(c):
     """Every closed set tried, against augmenting paths."""
     held = set() if len(c.latches) % 2 else held_latches(c, list(c.symbols['l'].values())[:1])
@@ -103,6 +113,7 @@ def compare_small(rng, comparison):
     retimed = comparison.run(['retime', 'in', 'OUT', *options(rng, c)], {'in': data})
     comparison.run(['convert', 'in', 'OUT', *rng.choice([[], ['--ascii'], ['--binary']])], {'in': data})
     comparison.run(['stat', 'in'], {'in': data})
+    comparison.run(['dot', 'in', 'OUT', *picture_options(rng, c)], {'in': data})
     stim = random_files.stimulus(rng, c, rng.choice([0, 1, 3, 70]), 4)
     comparison.run(['sim', 'in', 'stim'], {'in': data, 'stim': stim})
     if retimed:

@@ -1,18 +1,22 @@
-"""The commands of fretime over files: what is printed, what is written, and the exit status."""
+"""The commands of fretime over files and standard streams: what is printed, what is written, and the exit status."""
 import os
+import sys
 
 from reference.certificates import audit, certificates, read_blocks, written
 from reference.circuit import text
+from reference.pictures import MOST_NODES, has_name, neighbourhood, nodes, picture
 from reference.reading import Fault, read
-from reference.retiming import NoSuchName, passable, retimed
+from reference.retiming import NoSuchName, frames_of, held_latches, passable, retimed
 from reference.simulation import difference_text, read_stimulus, trace, trace_text
+from reference.witnesses import carried_text
 
-PATHS = {'retime': 2, 'batch': 1, 'stat': 1, 'convert': 2, 'sim': 2, 'same': 3, 'verify': 2}
+PATHS = {'retime': 2, 'batch': 1, 'stat': 1, 'convert': 2, 'sim': 2, 'same': 3, 'verify': 2, 'dot': 2, 'witness': 3}
 OPTIONS = {'retime': {'--ascii', '--binary', '--workers', '--frames', '--near', '--keep', '--cert'},
-           'verify': {'--keep'},
+           'verify': {'--keep'}, 'dot': {'--frame', '--keep', '--around', '--depth'},
            'batch': {'--ascii', '--binary', '--workers', '--frames', '--near'}, 'convert': {'--ascii', '--binary'}}
-GREATEST = {'--workers': 64, '--frames': 2**28}
-VALUED = {'--workers', '--frames', '--keep', '--cert'}
+WRITING = {'retime', 'convert', 'dot'}
+GREATEST = {'--workers': 64, '--frames': 2**28, '--depth': 100}
+VALUED = {'--workers', '--frames', '--keep', '--cert', '--around', '--depth'}
 LINES = 2**20
 
 
@@ -29,25 +33,35 @@ def parsed(words):
         raise Ends(2, 'error: no command')
     rest = iter(words[1:])
     for word in rest:
-        if not word.startswith('-'):
+        if word == '-' or not word.startswith('-'):
             paths.append(word)
             continue
         name, _, value = word.partition('=')
         if name not in OPTIONS.get(command, ()) or (name in options and name != '--keep'):
             raise Ends(2, f'error: {word}')
         if name in VALUED and '=' not in word:
-            value = next(rest, '-')
-            if value.startswith('-'):
+            value = next(rest, '--')
+            if value != '-' and value.startswith('-'):
                 raise Ends(2, f'error: {word} without a value')
         if name in GREATEST and not (value.isdigit() and 1 <= int(value) <= GREATEST[name]):
             raise Ends(2, f'error: {name} {value}')
         options.setdefault(name, []).append(value)
     if len(paths) != PATHS[command] or {'--ascii', '--binary'} <= set(options):
         raise Ends(2, 'error: wrong arguments')
+    outputs = paths[1:] if command in WRITING else []
+    if paths[:len(paths) - len(outputs)].count('-') > 1:
+        raise Ends(2, 'error: standard input is read once')
+    if (outputs + options.get('--cert', [])).count('-') > 1:
+        raise Ends(2, 'error: standard output is written once')
     return command, paths, options
 
 
-def bytes_of(path):
+def source_name(path):
+    """How messages name what is read."""
+    return 'stdin' if path == '-' else path
+
+
+def bytes_of_file(path):
     try:
         with open(path, 'rb') as file:
             return file.read()
@@ -55,26 +69,48 @@ def bytes_of(path):
         raise Ends(3, f'{path}: device') from error
 
 
+def bytes_of(path):
+    """All bytes of a file or of standard input."""
+    if path != '-':
+        return bytes_of_file(path)
+    try:
+        return sys.stdin.buffer.read()
+    except OSError as error:
+        raise Ends(3, 'stdin: device') from error
+
+
 def circuit_of(path):
     try:
         return read(bytes_of(path))
     except Fault as fault:
-        raise Ends(1, f'{path}: {fault}') from fault
+        raise Ends(1, f'{source_name(path)}: {fault}') from fault
 
 
 def stimulus_of(path, c):
     try:
         return read_stimulus(bytes_of(path), c.inputs, c.free_latches())
     except Fault as fault:
-        raise Ends(1, f'{path}: {fault}') from fault
+        raise Ends(1, f'{source_name(path)}: {fault}') from fault
 
 
-def write(path, data):
+def write_file(path, data):
     try:
         with open(path, 'wb') as file:
             file.write(data)
     except OSError as error:
         raise Ends(3, f'{path}: device') from error
+
+
+def write(path, data):
+    """Writes to a file or to standard output."""
+    if path != '-':
+        write_file(path, data)
+        return
+    try:
+        with os.fdopen(os.dup(1), 'wb') as stdout:
+            stdout.write(data)
+    except OSError as error:
+        raise Ends(3, 'stdout: device') from error
 
 
 def letters_of(options, otherwise):
@@ -88,7 +124,7 @@ def retime(paths, options):
     try:
         d, frames = retimed(c, most, names, smallest)
     except NoSuchName as missing:
-        raise Ends(1, f'{paths[0]}: NoSuchName {os.fsdecode(missing.args[0])}') from missing
+        raise Ends(1, f'{source_name(paths[0])}: NoSuchName {os.fsdecode(missing.args[0])}') from missing
     write(paths[1], text(d, letters_of(options, letters)))
     for path in options.get('--cert', []):
         write(path, written('smallest' if smallest else 'greatest', certificates(c, most, names, smallest)))
@@ -104,9 +140,9 @@ def entries_of(path):
         try:
             input_path, output_path = line.decode().split('\t')
         except ValueError as error:
-            raise Ends(1, f'{path}: BadLine at {at}') from error
+            raise Ends(1, f'{source_name(path)}: BadLine at {at}') from error
         if len(found) == LINES:
-            raise Ends(1, f'{path}: TooLarge at {at}')
+            raise Ends(1, f'{source_name(path)}: TooLarge at {at}')
         found.append((input_path, output_path))
         at += len(line) + 1
     return found
@@ -122,7 +158,7 @@ def say(line):
 
 def batch(paths, options):
     entries = entries_of(paths[0])
-    jobs = [bytes_of(input_path) for input_path, _ in entries]
+    jobs = [bytes_of_file(input_path) for input_path, _ in entries]
     most = int(options['--frames'][0]) if '--frames' in options else None
     ended = 0
     for k, (data, (_, output_path)) in enumerate(zip(jobs, entries)):
@@ -133,7 +169,7 @@ def batch(paths, options):
             say(f'{k + 1} refused {fault}\n')
             continue
         d, _ = retimed(c, most, [], '--near' in options)
-        write(output_path, text(d, letters_of(options, letters)))
+        write_file(output_path, text(d, letters_of(options, letters)))
         say(f'{k + 1} done {len(c.latches)} to {len(d.latches)}\n')
     return ended, ''
 
@@ -170,22 +206,61 @@ def verify(paths, options):
     try:
         blocks = read_blocks(bytes_of(paths[1]))
     except Fault as fault:
-        raise Ends(1, f'{paths[1]}: {fault}') from fault
+        raise Ends(1, f'{source_name(paths[1])}: {fault}') from fault
     try:
         lines, status = audit(c, [os.fsencode(name) for name in options.get('--keep', [])], blocks)
     except NoSuchName as missing:
-        raise Ends(1, f'{paths[0]}: NoSuchName {os.fsdecode(missing.args[0])}') from missing
+        raise Ends(1, f'{source_name(paths[0])}: NoSuchName {os.fsdecode(missing.args[0])}') from missing
     return status, ''.join(f'{line}\n' for line in lines)
 
 
-COMMANDS = {'retime': retime, 'batch': batch, 'stat': stat, 'convert': convert, 'sim': sim, 'same': same, 'verify': verify}
+def drawn_circuit(c, path, options):
+    """What a picture shows: the circuit, its held latches and a set. With --frame the circuit is cleaned, and the set is the one that
+    its next frame takes."""
+    names = [os.fsencode(name) for name in options.get('--keep', [])]
+    try:
+        held = held_latches(c, names)
+        if '--frame' not in options:
+            return c, held, None
+        d, held, count, members = frames_of(c, 1, names)[0]
+    except NoSuchName as missing:
+        raise Ends(1, f'{source_name(path)}: NoSuchName {os.fsdecode(missing.args[0])}') from missing
+    return d, held, members if count < d.known_latches() else None
+
+
+def dot(paths, options):
+    c, held, members = drawn_circuit(circuit_of(paths[0])[0], paths[0], options)
+    around, drawn = options.get('--around'), range(c.end())
+    if around:
+        name = os.fsencode(around[0])
+        if not has_name(c, name):
+            raise Ends(1, f'{source_name(paths[0])}: NoSuchName {around[0]}')
+        drawn = neighbourhood(c, name, int(options.get('--depth', ['2'])[0]))
+    elif nodes(c) > MOST_NODES:
+        raise Ends(1, f'{source_name(paths[0])}: TooManyNodes, over 2000: --around NAME draws a neighbourhood')
+    write(paths[1], picture(c, held, members, drawn))
+    return 0, ''
+
+
+def witness(paths, _):
+    c, d = circuit_of(paths[0])[0], circuit_of(paths[1])[0]
+    try:
+        said, status = carried_text(c, d, bytes_of(paths[2]))
+    except Fault as fault:
+        raise Ends(1, f'{source_name(paths[2])}: {fault}') from fault
+    return status, said
+
+
+COMMANDS = {'retime': retime, 'batch': batch, 'stat': stat, 'convert': convert, 'sim': sim, 'same': same, 'verify': verify,
+            'dot': dot, 'witness': witness}
 
 
 def run(words):
     """The status, and the texts of standard output and standard error."""
     try:
         command, paths, options = parsed(words)
-        status, out = COMMANDS[command](paths, options)
-        return status, out, ''
+        status, said = COMMANDS[command](paths, options)
+        takes_stdout = command in WRITING and '-' in paths[1:] + options.get('--cert', [])
+        return (status, '', said) if takes_stdout else (status, said, '')
     except Ends as end:
         return end.args[0], '', end.args[1] + '\n'

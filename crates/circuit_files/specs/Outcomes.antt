@@ -12,6 +12,8 @@ use Rattle.certificate_files.specs.declared.fault.CertError.{CertError}
 use Rattle.certificate_files.specs.declared.fault.CertError.TheVariants as certificates
 use Rattle.lane_sim.specs.declared.fault.StimError.{StimError}
 use Rattle.lane_sim.specs.declared.fault.StimError.TheVariants as stimuli
+use Rattle.witnesses.specs.declared.fault.WitnessError.{WitnessError}
+use Rattle.witnesses.specs.declared.fault.WitnessError.TheVariants as witnesses
 use Rattle.circuit_files.specs.declared.outcome.Outcome.{Outcome}
 use Rattle.circuit_files.specs.declared.outcome.Outcome.TheVariants as ends
 use Rattle.circuit_files.specs.declared.outcome.Failure.{Failure}
@@ -22,7 +24,9 @@ outcome_of (fails.Refused path fault) = ends.Refused
 outcome_of (fails.RefusedStimulus path fault) = ends.Refused
 outcome_of (fails.RefusedList path fault) = ends.Refused
 outcome_of (fails.RefusedCertificates path fault) = ends.Refused
+outcome_of (fails.RefusedWitness path fault) = ends.Refused
 outcome_of (fails.NoSuchName path name) = ends.Refused
+outcome_of (fails.TooManyNodes path) = ends.Refused
 outcome_of (fails.Device path) = ends.Device
 outcome_of fails.Memory = ends.Memory
 
@@ -47,6 +51,10 @@ failure_of_list fault path = fails.RefusedList path fault
 abbrev pub failure_of_certificates : CertError → Bor (List ℕ) → Failure
 failure_of_certificates certificates.NoMemory path = fails.Memory
 failure_of_certificates fault path = fails.RefusedCertificates path fault
+
+abbrev pub failure_of_witness : WitnessError → Bor (List ℕ) → Failure
+failure_of_witness witnesses.NoMemory path = fails.Memory
+failure_of_witness fault path = fails.RefusedWitness path fault
 
 -- nothing is printed, unless all was done, circuits were compared, certificates were checked, or a device failed
 abbrev pub IsQuiet : Outcome → Output → Output → Type 0

@@ -1,8 +1,9 @@
-//! Circuits, stimuli and certificates of files.
-ghost use Rattle.std.specs.Prelude.{[], IfErr, IfOk};
+//! Circuits, stimuli, certificates and witnesses of files and of standard input.
+ghost use Rattle.std.specs.Prelude.{◌≡◌, [], true, false, IfErr, IfOk, MatchResult};
 ghost use Rattle.counted_io.specs.Input.{ReadsAll};
 ghost use Rattle.aig_binary.specs.Ending.{IsReadError, Spells};
-ghost use Rattle.circuit_files.specs.Reading.{AreCertificatesOf, IsBytesFailure, IsCircuitFailure, IsStimulusOf};
+ghost use Rattle.circuit_files.specs.Reading.{AreCertificatesOf, IsBytesFailure, IsCircuitFailure, IsOfStdin, IsReadingOfStdin, IsStimulusOf, IsWitnessOf};
+ghost use Rattle.stream_paths.specs.Streams.{is_stdin};
 
 use crate::outcome::Failure;
 use aig_binary::{AnyReader, CircuitReader, SpeltCircuit, read_circuit};
@@ -14,6 +15,8 @@ use lane_sim::{Stimulus, read_stimulus};
 use std::alloc::Global;
 use std::fs::File;
 use std::rt::Files;
+use stream_paths::Source;
+use witnesses::{Widths, Witness, read_witness};
 
 /// The circuit of a reader's bytes, by a reader of circuits that has been fed nothing yet.
 fn circuit_by<R: CountedRead, C: CircuitReader + Drop>(
@@ -27,7 +30,7 @@ fn circuit_by<R: CountedRead, C: CircuitReader + Drop>(
     read_circuit(reader, &mut circuits)
 }
 
-/// The circuit of a reader's bytes, of either spelling; `path` is their file's.
+/// The circuit of a reader's bytes, of either spelling; `path` names where they are from.
 fn circuit_of<'a, R: CountedRead>(
     alloc: Global,
     reader: &mut R,
@@ -43,8 +46,8 @@ fn circuit_of<'a, R: CountedRead>(
     }
 }
 
-/// The circuit of a file, and its spelling.
-pub fn circuit_at<'a, R: Files>(
+/// The circuit of the file with this path.
+fn circuit_of_file<'a, R: Files>(
     rt: &R,
     alloc: Global,
     path: &'a str,
@@ -55,7 +58,24 @@ pub fn circuit_at<'a, R: Files>(
     circuit_of(alloc, &mut Counted::new(input), path)
 }
 
-/// All bytes of a reader; `path` is their file's.
+/// The circuit of a file or of standard input, which is read to its end in pieces, also after a fault, and its spelling.
+pub fn circuit_at<'a, R: Files, I: CountedRead>(
+    rt: &R,
+    alloc: Global,
+    source: Source<'a>,
+    stdin: &mut I,
+) -> Result<SpeltCircuit, Failure<'a>>
+    ensures stdin { is_stdin source.entry ≡ true → MatchResult result (Spells (I.input stdin.old))
+        (IsOfStdin (IsCircuitFailure (I.input stdin.old) (I.input stdin.new))) }
+    ensures file { is_stdin source.entry ≡ false → I.input stdin.new ≡ I.input stdin.old }
+{
+    match source {
+        Source::Stdin => circuit_of(alloc, stdin, source.name()),
+        Source::File(path) => circuit_of_file(rt, alloc, path),
+    }
+}
+
+/// All bytes of a reader; `path` names where they are from.
 fn bytes_of<'a, R: CountedRead>(
     alloc: Global,
     reader: &mut R,
@@ -72,8 +92,8 @@ fn bytes_of<'a, R: CountedRead>(
     }
 }
 
-/// All bytes of a file.
-pub fn bytes_at<'a, R: Files>(
+/// All bytes of the file with this path.
+pub fn bytes_of_file<'a, R: Files>(
     rt: &R,
     alloc: Global,
     path: &'a str,
@@ -82,6 +102,24 @@ pub fn bytes_at<'a, R: Files>(
         return Err(Failure::Device(path));
     };
     bytes_of(alloc, &mut Counted::new(input), path)
+}
+
+/// All bytes of a file or of standard input.
+pub fn bytes_at<'a, R: Files, I: CountedRead>(
+    rt: &R,
+    alloc: Global,
+    source: Source<'a>,
+    stdin: &mut I,
+) -> Result<Vec<u8>, Failure<'a>>
+    ensures stdin { is_stdin source.entry ≡ true → MatchResult result
+        (λ bytes. ReadsAll (I.input stdin.old) (I.input stdin.new) bytes.items)
+        (IsOfStdin (IsBytesFailure (I.input stdin.old) (I.input stdin.new))) }
+    ensures file { is_stdin source.entry ≡ false → I.input stdin.new ≡ I.input stdin.old }
+{
+    match source {
+        Source::Stdin => bytes_of(alloc, stdin, source.name()),
+        Source::File(path) => bytes_of_file(rt, alloc, path),
+    }
 }
 
 /// The stimulus of the bytes of a file, with the widths of the circuit.
@@ -101,15 +139,20 @@ fn stimulus_of<'a>(
     }
 }
 
-/// The stimulus of a file, with the widths of the circuit.
-pub fn stimulus_at<'a, R: Files>(
+/// The stimulus of a file or of standard input, with the widths of the circuit.
+pub fn stimulus_at<'a, R: Files, I: CountedRead>(
     rt: &R,
     alloc: Global,
-    path: &'a str,
+    source: Source<'a>,
     circuit: &Circuit,
-) -> Result<Stimulus, Failure<'a>> {
-    let bytes = bytes_at(rt, alloc, path)?;
-    stimulus_of(alloc, bytes.as_slice(), path, circuit)
+    stdin: &mut I,
+) -> Result<Stimulus, Failure<'a>>
+    ensures stdin { is_stdin source.entry ≡ true → IsReadingOfStdin (I.input stdin.old)
+        (I.input stdin.new) (IsStimulusOf circuit.now.aig) result }
+    ensures file { is_stdin source.entry ≡ false → I.input stdin.new ≡ I.input stdin.old }
+{
+    let bytes = bytes_at(rt, alloc, source, stdin)?;
+    stimulus_of(alloc, bytes.as_slice(), source.name(), circuit)
 }
 
 /// The certificates of the bytes of a file.
@@ -122,12 +165,48 @@ fn certificates_of<'a>(alloc: Global, bytes: &[u8], path: &'a str) -> Result<Cer
     }
 }
 
-/// The certificates of a file.
-pub fn certificates_at<'a, R: Files>(
+/// The certificates of a file or of standard input.
+pub fn certificates_at<'a, R: Files, I: CountedRead>(
     rt: &R,
     alloc: Global,
+    source: Source<'a>,
+    stdin: &mut I,
+) -> Result<CertFile, Failure<'a>>
+    ensures stdin { is_stdin source.entry ≡ true → IsReadingOfStdin (I.input stdin.old)
+        (I.input stdin.new) AreCertificatesOf result }
+    ensures file { is_stdin source.entry ≡ false → I.input stdin.new ≡ I.input stdin.old }
+{
+    let bytes = bytes_at(rt, alloc, source, stdin)?;
+    certificates_of(alloc, bytes.as_slice(), source.name())
+}
+
+/// The witness of the bytes of a file, for the circuit.
+fn witness_of<'a>(
+    alloc: Global,
+    bytes: &[u8],
     path: &'a str,
-) -> Result<CertFile, Failure<'a>> {
-    let bytes = bytes_at(rt, alloc, path)?;
-    certificates_of(alloc, bytes.as_slice(), path)
+    circuit: &Circuit,
+) -> Result<Witness, Failure<'a>>
+    ensures { IsWitnessOf circuit.now bytes.now path.entry result }
+{
+    match read_witness(alloc, bytes, &Widths::of(circuit)) {
+        Ok(witness) => Ok(witness),
+        Err(fault) => Err(Failure::of_witness(fault, path)),
+    }
+}
+
+/// The witness of a file or of standard input, for the circuit.
+pub fn witness_at<'a, R: Files, I: CountedRead>(
+    rt: &R,
+    alloc: Global,
+    source: Source<'a>,
+    circuit: &Circuit,
+    stdin: &mut I,
+) -> Result<Witness, Failure<'a>>
+    ensures stdin { is_stdin source.entry ≡ true → IsReadingOfStdin (I.input stdin.old)
+        (I.input stdin.new) (IsWitnessOf circuit.now) result }
+    ensures file { is_stdin source.entry ≡ false → I.input stdin.new ≡ I.input stdin.old }
+{
+    let bytes = bytes_at(rt, alloc, source, stdin)?;
+    witness_of(alloc, bytes.as_slice(), source.name(), circuit)
 }

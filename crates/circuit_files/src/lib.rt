@@ -1,10 +1,10 @@
-//! Circuits, stimuli, certificates and lists in files, files that are made at their first byte, and how a run over files ends.
+//! Circuits, stimuli, certificates, witnesses and lists in files or from standard input, files that are made at their first byte, and how a run over files ends.
 #![tactic(auto)]
 
 mod files;
 mod lazy_file;
 mod outcome;
 
-pub use files::{bytes_at, certificates_at, circuit_at, stimulus_at};
+pub use files::{bytes_at, bytes_of_file, certificates_at, circuit_at, stimulus_at, witness_at};
 pub use lazy_file::LazyFile;
 pub use outcome::{Failure, Outcome};

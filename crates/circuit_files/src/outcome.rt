@@ -1,7 +1,7 @@
 //! How runs end, and why commands fail: all errors of the libraries come down to the few that a user tells apart by the exit
 //! status, each with the path of its file.
 ghost use Rattle.std.specs.Prelude.{◌≡◌};
-ghost use Rattle.circuit_files.specs.Outcomes.{outcome_of, failure_of_bytes, failure_of_certificates, failure_of_list, failure_of_reading, failure_of_stimulus};
+ghost use Rattle.circuit_files.specs.Outcomes.{outcome_of, failure_of_bytes, failure_of_certificates, failure_of_list, failure_of_reading, failure_of_stimulus, failure_of_witness};
 
 use batch_lists::ListError;
 use certificate_files::CertError;
@@ -9,6 +9,7 @@ use counted_io::ReadAllError;
 use file_words::ReadError;
 use lane_sim::StimError;
 use thiserror::Error;
+use witnesses::WitnessError;
 
 /// How a run ended.
 #[derive(Clone, Copy, Debug, PartialEq, Eq)]
@@ -27,7 +28,7 @@ pub enum Outcome {
     Memory,
     /// Two circuits differ.
     Differ,
-    /// A certificate is rejected.
+    /// A certificate is rejected, or a witness isn't confirmed.
     Unconfirmed,
 }
 
@@ -49,7 +50,8 @@ impl Outcome {
     }
 }
 
-/// Why a command failed, with the path of the file. Its `Display` is the message on standard error, without a newline.
+/// Why a command failed, with the path of the file, or `stdin` or `stdout`. Its `Display` is the message on standard error,
+/// without a newline.
 #[derive(Clone, Copy, Debug, Error)]
 pub enum Failure<'a> {
     /// The circuit has a fault.
@@ -64,9 +66,15 @@ pub enum Failure<'a> {
     /// The file of certificates has a fault.
     #[error("{0}: {1}")]
     RefusedCertificates(&'a str, CertError),
+    /// The witness has a fault.
+    #[error("{0}: {1}")]
+    RefusedWitness(&'a str, WitnessError),
     /// No latch of the circuit has the name.
     #[error("{0}: NoSuchName {1}")]
     NoSuchName(&'a str, &'a str),
+    /// The circuit has too many nodes for a picture.
+    #[error("{0}: TooManyNodes, over 2000: --around NAME draws a neighbourhood")]
+    TooManyNodes(&'a str),
     /// The file couldn't be opened, created, read or written.
     #[error("{0}: device")]
     Device(&'a str),
@@ -117,6 +125,16 @@ impl<'a> Failure<'a> {
         }
     }
 
+    /// The failure that an error of reading a witness is, with the file's path.
+    pub fn of_witness(error: WitnessError, path: &'a str) -> Failure<'a>
+        ensures { result ≡ failure_of_witness error path.entry }
+    {
+        match error {
+            WitnessError::NoMemory => Failure::Memory,
+            fault => Failure::RefusedWitness(path, fault),
+        }
+    }
+
     /// The failure that an error of reading all bytes is, with the file's path.
     pub fn of_bytes(error: ReadAllError, path: &'a str) -> Failure<'a>
         ensures { result ≡ failure_of_bytes error path.entry }
@@ -136,7 +154,9 @@ impl<'a> Failure<'a> {
             | Failure::RefusedStimulus(_, _)
             | Failure::RefusedList(_, _)
             | Failure::RefusedCertificates(_, _)
-            | Failure::NoSuchName(_, _) => Outcome::Refused,
+            | Failure::RefusedWitness(_, _)
+            | Failure::NoSuchName(_, _)
+            | Failure::TooManyNodes(_) => Outcome::Refused,
             Failure::Device(_) => Outcome::Device,
             Failure::Memory => Outcome::Memory,
         }

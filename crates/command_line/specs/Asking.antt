@@ -6,17 +6,38 @@ use Rattle.clap.specs.Words.{first_value, found_of, matched_of, one_text, raw_va
 use Rattle.clap.specs.declared.parser.matches.ArgMatches.{ArgMatches}
 use Rattle.spellings.specs.declared.form.Spelling.{Spelling}
 use Rattle.spellings.specs.declared.form.Spelling.TheVariants.{Ascii, Binary}
+use Rattle.stream_paths.specs.Streams.{source_of, target_of}
+use Rattle.stream_paths.specs.declared.source.Source.{Source}
+use Rattle.stream_paths.specs.declared.target.Target.{Target}
 use Rattle.least_sets.specs.declared.choice.Choice.{Choice}
 use Rattle.least_sets.specs.declared.choice.Choice.TheVariants.{Greatest, Smallest}
 use Rattle.command_line.specs.declared.task.Retiming.{Retiming}
 use Rattle.command_line.specs.declared.task.Batch.{Batch as Batching}
 use Rattle.command_line.specs.declared.task.Verification.{Verification}
+use Rattle.command_line.specs.declared.task.Drawing.{Drawing}
 use Rattle.command_line.specs.declared.task.Task.{Task}
-use Rattle.command_line.specs.declared.task.Task.TheVariants.{Retime, Batch, Stat, Convert, Sim, Same, Verify}
+use Rattle.command_line.specs.declared.task.Task.TheVariants.{Retime, Batch, Stat, Convert, Sim, Same, Verify, Dot, Witness}
 
 -- the text is the first value of the argument with this id
 abbrev pub IsGiven : ArgMatches → List ℕ → Bor (List ℕ) → Type 0
 IsGiven matches id text = first_value (found_of matches) id ≡ Some text.now
+
+-- what is read is what the first value of the argument with this id stands for
+pub record IsSource (matches : ArgMatches) (id : List ℕ) (source : Source) : Type 0 where
+  pub path : Bor (List ℕ)
+  pub given : IsGiven matches id path
+  pub stands_for : source ≡ source_of path
+
+-- what is written is what the first value of the argument with this id stands for
+pub record IsTarget (matches : ArgMatches) (id : List ℕ) (target : Target) : Type 0 where
+  pub path : Bor (List ℕ)
+  pub given : IsGiven matches id path
+  pub stands_for : target ≡ target_of path
+
+-- so where the argument has a value, and none where it has none
+abbrev pub IsSomeTarget : ArgMatches → List ℕ → Option Target → Type 0
+IsSomeTarget matches id (Some target) = IsTarget matches id target
+IsSomeTarget matches id None = first_value (found_of matches) id ≡ None
 
 -- whether the flag with this id is given: its value is the text of a truth value
 pub record IsFlag (matches : ArgMatches) (id : List ℕ) (given : Bool) : Type 0 where
@@ -47,18 +68,18 @@ values_of matches id = unwrap_or (option_map raw_values (matched_of (found_of ma
 
 -- the paths, the options and the names of a retiming are the values of their own arguments
 pub record IsRetiming (matches : ArgMatches) (retiming : Retiming) : Type 0 where
-  pub input : IsGiven matches (codes "IN") retiming.input
-  pub output : IsGiven matches (codes "OUT") retiming.output
+  pub input : IsSource matches (codes "IN") retiming.input
+  pub output : IsTarget matches (codes "OUT") retiming.output
   pub spelling : IsSpelling matches retiming.spelling
   pub workers : IsNumber matches (codes "workers") 1 retiming.workers
   pub frames : IsNumber matches (codes "frames") (2 ^ 28) retiming.frames
   pub choice : IsChoice matches retiming.choice
-  pub certificates : option_map (λ path. path.now) retiming.certificates ≡ first_value (found_of matches) (codes "cert")
+  pub certificates : IsSomeTarget matches (codes "cert") retiming.certificates
   pub names : map (λ name. name.now) retiming.keep.items ≡ values_of matches (codes "keep")
 
 -- the list and the options of a batch are the values of their own arguments
 pub record IsBatch (matches : ArgMatches) (batch : Batching) : Type 0 where
-  pub list : IsGiven matches (codes "LIST") batch.list
+  pub list : IsSource matches (codes "LIST") batch.list
   pub spelling : IsSpelling matches batch.spelling
   pub workers : IsNumber matches (codes "workers") 1 batch.workers
   pub frames : IsNumber matches (codes "frames") (2 ^ 28) batch.frames
@@ -66,16 +87,27 @@ pub record IsBatch (matches : ArgMatches) (batch : Batching) : Type 0 where
 
 -- the paths and the names of a verification are the values of their own arguments
 pub record IsVerification (matches : ArgMatches) (verification : Verification) : Type 0 where
-  pub input : IsGiven matches (codes "IN") verification.input
-  pub certificates : IsGiven matches (codes "CERT") verification.certificates
+  pub input : IsSource matches (codes "IN") verification.input
+  pub certificates : IsSource matches (codes "CERT") verification.certificates
   pub names : map (λ name. name.now) verification.keep.items ≡ values_of matches (codes "keep")
+
+-- the paths, the options and the names of a drawing are the values of their own arguments
+pub record IsDrawing (matches : ArgMatches) (drawing : Drawing) : Type 0 where
+  pub input : IsSource matches (codes "IN") drawing.input
+  pub output : IsTarget matches (codes "OUT") drawing.output
+  pub frame : IsFlag matches (codes "frame") drawing.frame
+  pub around : option_map (λ name. name.now) drawing.around ≡ first_value (found_of matches) (codes "around")
+  pub depth : IsNumber matches (codes "depth") 2 drawing.depth
+  pub names : map (λ name. name.now) drawing.keep.items ≡ values_of matches (codes "keep")
 
 -- each path of the task is the value of its own argument, so that no file is written that was to be read
 abbrev pub AsksFor : ArgMatches → Task → Type 0
 AsksFor matches (Retime retiming) = IsRetiming matches retiming
 AsksFor matches (Batch batch) = IsBatch matches batch
-AsksFor matches (Stat input) = IsGiven matches (codes "IN") input
-AsksFor matches (Convert input output spelling) = IsGiven matches (codes "IN") input × IsGiven matches (codes "OUT") output × IsSpelling matches spelling
-AsksFor matches (Sim input stimulus) = IsGiven matches (codes "IN") input × IsGiven matches (codes "STIM") stimulus
-AsksFor matches (Same first second stimulus) = IsGiven matches (codes "A") first × IsGiven matches (codes "B") second × IsGiven matches (codes "STIM") stimulus
+AsksFor matches (Stat input) = IsSource matches (codes "IN") input
+AsksFor matches (Convert input output spelling) = IsSource matches (codes "IN") input × IsTarget matches (codes "OUT") output × IsSpelling matches spelling
+AsksFor matches (Sim input stimulus) = IsSource matches (codes "IN") input × IsSource matches (codes "STIM") stimulus
+AsksFor matches (Same first second stimulus) = IsSource matches (codes "A") first × IsSource matches (codes "B") second × IsSource matches (codes "STIM") stimulus
 AsksFor matches (Verify verification) = IsVerification matches verification
+AsksFor matches (Dot drawing) = IsDrawing matches drawing
+AsksFor matches (Witness input retimed witness) = IsSource matches (codes "IN") input × IsSource matches (codes "OUT") retimed × IsSource matches (codes "WITNESS") witness

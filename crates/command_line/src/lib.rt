@@ -3,7 +3,8 @@
 
 mod parse;
 mod program;
+mod stream_uses;
 mod task;
 
 pub use parse::parse_arguments;
-pub use task::{Batch, Retiming, Task, Verification};
+pub use task::{Batch, Drawing, Retiming, Task, Verification};

@@ -1,14 +1,31 @@
 ghost use Rattle.std.specs.Prelude.{◌≡◌, ◌^◌, IfOk, IfSome, codes, map};
-ghost use Rattle.command_line.specs.Asking.{AsksFor, IsChoice, IsNumber, IsSpelling, values_of};
-ghost use Rattle.command_line.specs.declared.task.Task.TheVariants.{Retime, Verify};
+ghost use Rattle.command_line.specs.Asking.{AsksFor, IsChoice, IsNumber, IsSomeTarget, IsSource, IsSpelling, values_of};
+ghost use Rattle.command_line.specs.StreamUses.{UsesStreamsOnce};
+ghost use Rattle.command_line.specs.declared.task.Task.TheVariants.{Dot, Retime, Verify};
 
 use crate::program::program;
-use crate::task::{Batch, Retiming, Task, Verification};
+use crate::stream_uses::stream_conflict;
+use crate::task::{Batch, Drawing, Retiming, Task, Verification};
 use clap::error::ErrorKind;
 use clap::{ArgMatches, Command, Error};
 use least_sets::Choice;
 use spellings::Spelling;
 use std::alloc::{AllocError, Global};
+use stream_paths::{Source, Target};
+
+/// What the argument with this id, a path that is read, stands for.
+fn source<'a>(matches: &ArgMatches<'a>, id: &str) -> Option<Source<'a>>
+    ensures { IfSome result (IsSource matches.now id.now) }
+{
+    Some(Source::of(matches.get_str(id)?))
+}
+
+/// What the argument with this id, a path that is written, stands for.
+fn target<'a>(matches: &ArgMatches<'a>, id: &str) -> Option<Target<'a>>
+    ensures { IsSomeTarget matches.now id.now result }
+{
+    Some(Target::of(matches.get_str(id)?))
+}
 
 /// The spelling that a flag chooses.
 fn spelling(matches: &ArgMatches<'_>) -> Option<Spelling>
@@ -65,7 +82,7 @@ fn retiming<'a>(alloc: Global, matches: &ArgMatches<'a>) -> Result<Option<Retimi
     ensures { IfOk result (λ found. IfSome found (λ retiming. AsksFor matches.now
         (Retime retiming))) }
 {
-    let (Some(input), Some(output)) = (matches.get_str("IN"), matches.get_str("OUT")) else {
+    let (Some(input), Some(output)) = (source(matches, "IN"), target(matches, "OUT")) else {
         return Ok(None);
     };
     Ok(Some(Retiming {
@@ -75,7 +92,7 @@ fn retiming<'a>(alloc: Global, matches: &ArgMatches<'a>) -> Result<Option<Retimi
         workers: workers(matches),
         frames: frames(matches),
         choice: choice(matches),
-        certificates: matches.get_str("cert"),
+        certificates: target(matches, "cert"),
         keep: keep(alloc, matches)?,
     }))
 }
@@ -87,7 +104,7 @@ fn verification<'a>(
     ensures { IfOk result (λ found. IfSome found (λ verification. AsksFor matches.now
         (Verify verification))) }
 {
-    let (Some(input), Some(certificates)) = (matches.get_str("IN"), matches.get_str("CERT")) else {
+    let (Some(input), Some(certificates)) = (source(matches, "IN"), source(matches, "CERT")) else {
         return Ok(None);
     };
     Ok(Some(Verification {
@@ -97,11 +114,33 @@ fn verification<'a>(
     }))
 }
 
+fn depth(matches: &ArgMatches<'_>) -> u32
+    ensures { IsNumber matches.now (codes "depth") 2 result }
+{
+    number(matches, "depth", 2)
+}
+
+fn drawing<'a>(alloc: Global, matches: &ArgMatches<'a>) -> Result<Option<Drawing<'a>>, AllocError>
+    ensures { IfOk result (λ found. IfSome found (λ drawing. AsksFor matches.now (Dot drawing))) }
+{
+    let (Some(input), Some(output)) = (source(matches, "IN"), target(matches, "OUT")) else {
+        return Ok(None);
+    };
+    Ok(Some(Drawing {
+        input,
+        output,
+        frame: matches.get_flag("frame"),
+        around: matches.get_str("around"),
+        depth: depth(matches),
+        keep: keep(alloc, matches)?,
+    }))
+}
+
 fn batch<'a>(matches: &ArgMatches<'a>) -> Option<Task<'a>>
     ensures { IfSome result (AsksFor matches.now) }
 {
     Some(Task::Batch(Batch {
-        list: matches.get_str("LIST")?,
+        list: source(matches, "LIST")?,
         spelling: spelling(matches),
         workers: workers(matches),
         frames: frames(matches),
@@ -112,23 +151,31 @@ fn batch<'a>(matches: &ArgMatches<'a>) -> Option<Task<'a>>
 fn conversion<'a>(matches: &ArgMatches<'a>) -> Option<Task<'a>>
     ensures { IfSome result (AsksFor matches.now) }
 {
-    let input = matches.get_str("IN")?;
-    let output = matches.get_str("OUT")?;
+    let input = source(matches, "IN")?;
+    let output = target(matches, "OUT")?;
     Some(Task::Convert(input, output, spelling(matches)))
 }
 
 fn simulation<'a>(matches: &ArgMatches<'a>) -> Option<Task<'a>>
     ensures { IfSome result (AsksFor matches.now) }
 {
-    Some(Task::Sim(matches.get_str("IN")?, matches.get_str("STIM")?))
+    Some(Task::Sim(source(matches, "IN")?, source(matches, "STIM")?))
 }
 
 fn comparison<'a>(matches: &ArgMatches<'a>) -> Option<Task<'a>>
     ensures { IfSome result (AsksFor matches.now) }
 {
-    let first = matches.get_str("A")?;
-    let second = matches.get_str("B")?;
-    Some(Task::Same(first, second, matches.get_str("STIM")?))
+    let first = source(matches, "A")?;
+    let second = source(matches, "B")?;
+    Some(Task::Same(first, second, source(matches, "STIM")?))
+}
+
+fn witness<'a>(matches: &ArgMatches<'a>) -> Option<Task<'a>>
+    ensures { IfSome result (AsksFor matches.now) }
+{
+    let input = source(matches, "IN")?;
+    let retimed = source(matches, "OUT")?;
+    Some(Task::Witness(input, retimed, source(matches, "WITNESS")?))
 }
 
 /// What the matches of a subcommand ask for.
@@ -140,11 +187,13 @@ fn task<'a>(
     let task = match name {
         "retime" => retiming(alloc, matches)?.map(|retiming| Task::Retime(retiming)),
         "batch" => batch(matches),
-        "stat" => matches.get_str("IN").map(|input| Task::Stat(input)),
+        "stat" => source(matches, "IN").map(|input| Task::Stat(input)),
         "convert" => conversion(matches),
         "sim" => simulation(matches),
         "same" => comparison(matches),
         "verify" => verification(alloc, matches)?.map(|verification| Task::Verify(verification)),
+        "dot" => drawing(alloc, matches)?.map(|drawing| Task::Dot(drawing)),
+        "witness" => witness(matches),
         _ => None,
     };
     Ok(task)
@@ -170,11 +219,21 @@ fn asked_of<'a>(
     }
 }
 
-/// The error that there is no command.
-fn no_command(program: &mut Command<'_>) -> Error {
-    match program.error(ErrorKind::MissingSubcommand, "there is nothing to do") {
+/// An error of this kind that says this.
+fn usage_error(program: &mut Command<'_>, kind: ErrorKind, message: &str) -> Error {
+    match program.error(kind, message) {
         Ok(error) => error,
         Err(error) => Error::from(error),
+    }
+}
+
+/// The task, where it has one use at most for each standard stream, else what is wrong.
+fn with_streams_once<'a>(program: &mut Command<'a>, task: Task<'a>) -> Result<Task<'a>, Error>
+    ensures { IfOk result UsesStreamsOnce }
+{
+    match stream_conflict(&task) {
+        None => Ok(task),
+        Some(message) => Err(usage_error(program, ErrorKind::ArgumentConflict, message)),
     }
 }
 
@@ -183,10 +242,15 @@ fn task_asked_of<'a>(
     alloc: Global,
     program: &mut Command<'a>,
     words: &'a [String],
-) -> Result<Task<'a>, Error> {
+) -> Result<Task<'a>, Error>
+    ensures { IfOk result UsesStreamsOnce }
+{
     match asked_of(alloc, program, words) {
-        Ok(Some(task)) => Ok(task),
-        Ok(None) => Err(no_command(program)),
+        Ok(Some(task)) => with_streams_once(program, task),
+        Ok(None) => {
+            let message = "there is nothing to do";
+            Err(usage_error(program, ErrorKind::MissingSubcommand, message))
+        }
         Err(error) => Err(error),
     }
 }
@@ -195,8 +259,11 @@ fn task_asked_of<'a>(
 ///
 /// # Errors
 ///
-/// They ask for help or the version, or are no command of the program, or there is no memory.
-pub fn parse_arguments<'a>(alloc: Global, words: &'a [String]) -> Result<Task<'a>, Error> {
+/// They ask for help or the version, or are no command of the program, or read or write a standard stream twice, or there is no
+/// memory.
+pub fn parse_arguments<'a>(alloc: Global, words: &'a [String]) -> Result<Task<'a>, Error>
+    ensures { IfOk result UsesStreamsOnce }
+{
     let mut program = program(alloc)?;
     task_asked_of(alloc, &mut program, words)
 }

@@ -6,7 +6,9 @@ const ABOUT: &str = "Moves the latches of a sequential circuit forward so that f
 
 const LONG_ABOUT: &str = "Moves the latches of a sequential circuit forward so that fewer are left.
 
-Circuits are files in the formats of AIGER 1.9, ASCII (aag) or binary (aig).";
+Circuits are files in the formats of AIGER 1.9, ASCII (aag) or binary (aig).
+
+'-' is standard input where a file is read, and standard output where a file is written. A file of that name is './-'.";
 
 const EXAMPLE: &str = "Example:
   fretime retime counter.aag smaller.aag
@@ -25,7 +27,9 @@ give the registers initial values, or, where the reset sequence makes that right
 OUT is created once IN has been read and retimed: a circuit that is refused leaves OUT as it was.
 
 With --cert, FILE gets a certificate of each frame, once OUT is written: 'verify IN FILE' checks from it that no other set of gates
-would have left fewer latches.";
+would have left fewer latches.
+
+Where OUT or FILE is '-', standard output, the lines that are printed go to standard error.";
 
 const RETIME_EXAMPLE: &str = "Example:
   fretime retime counter.aag smaller.aag
@@ -33,6 +37,9 @@ const RETIME_EXAMPLE: &str = "Example:
 It prints a line for each frame that was taken, and then the numbers of all latches:
   frame 1: 2 to 1
   latches 2 to 1
+
+In a pipe:
+  zcat counter.aig.gz | fretime retime - - | gzip > smaller.aig.gz
 
 Exit status: 0 done, 1 IN is no circuit or has no latch NAME, 2 command line, 3 device, 4 out of memory.";
 
@@ -42,7 +49,8 @@ const BATCH_LONG_ABOUT: &str =
     "Reads a list of circuits, retimes each as 'retime' does, and writes each to a file of its own.
 
 A line of LIST is the path of a circuit, a tab, and the path of the file to write. All circuits are read before the first is
-retimed. The workers take them one at a time; what is written is the same for every number of workers.";
+retimed. The workers take them one at a time; what is written is the same for every number of workers. In a line '-' is a file of
+that name.";
 
 const BATCH_EXAMPLE: &str =
     "It prints a line for each circuit, in the order of the list, once its file is written:
@@ -87,6 +95,48 @@ const SAME_EXAMPLE: &str =
     "It prints 'same', or the first sequence, step and place, from 0, at which the circuits differ.
 
 Exit status: 0 same, 1 a file is refused or shapes differ, 2 command line, 3 device, 4 out of memory, 5 they differ.";
+
+const DOT_ABOUT: &str = "Writes a picture of a circuit, for Graphviz";
+
+const DOT_LONG_ABOUT: &str =
+    "Reads a circuit, and writes it as text in DOT, the language of Graphviz: `dot -Tsvg OUT` draws it.
+
+Inputs are tags, latches boxes with their reset beside them, free latches dashed, held ones with a double line; gates are circles,
+gray where no latch can move over them; outputs and other properties are notes. An edge with a dot is a negation. Names are those
+of the file.
+
+With --frame the circuit is cleaned first, as 'retime' does; the gates over which 'retime' moves latches next are shaded, and what
+holds a latch afterwards has a bold line.
+
+A circuit of over 2,000 nodes is refused, but for a neighbourhood: --around NAME draws what is at most so many edges away from
+the input, latch or property with the name.";
+
+const DOT_EXAMPLE: &str = "Example:
+  fretime dot counter.aag counter.dot --frame
+  dot -Tsvg counter.dot > counter.svg
+
+Exit status: 0 done, 1 IN is no circuit, has no latch NAME, nothing called NAME or too many nodes, 2 command line, 3 device,
+4 out of memory.";
+
+const WITNESS_ABOUT: &str =
+    "Carries a witness of a retimed circuit back to the circuit it was made of";
+
+const WITNESS_LONG_ABOUT: &str =
+    "Reads a circuit, the circuit that 'retime' wrote of it, and a witness that a model checker found for that one, and prints the
+witness for the first.
+
+Both circuits are simulated, with 0 for each x: each property of the witness has to fail first at the same step in both. Latches with a
+known reset hold it, free latches that OUT has hold what they did there, and the others x. The inputs are the same.";
+
+const WITNESS_EXAMPLE: &str = "Example:
+  fretime retime counter.aag smaller.aag
+  fretime witness counter.aag smaller.aag smaller.cex
+
+A witness is lines: '1', the properties ('b0'), a value 0, 1 or x for each latch, for each step a value for each input, and '.'.
+After the printed one a comment says at which step each property fails:
+  c b0 holds at step 3
+
+Exit status: 0 done, 1 a file is refused or shapes differ, 2 command line, 3 device, 4 out of memory, 5 a property doesn't fail.";
 
 /// A path that has to be given.
 fn path<'a>(alloc: Global, id: &'a str, help: &'a str) -> Arg<'a> {
@@ -279,6 +329,46 @@ fn verify<'a>(alloc: Global) -> Result<Command<'a>, AllocError> {
     with(command, names(alloc))
 }
 
+fn around<'a>(alloc: Global) -> Arg<'a> {
+    Arg::new(alloc, "around")
+        .long("around")
+        .value_name("NAME")
+        .action(ArgAction::Set)
+        .help("Draw the neighbourhood of the input, latch or property with this name alone")
+}
+
+fn dot<'a>(alloc: Global) -> Result<Command<'a>, AllocError> {
+    let command = Command::new(alloc, "dot")
+        .about(DOT_ABOUT)
+        .long_about(DOT_LONG_ABOUT)
+        .after_help(DOT_EXAMPLE)
+        .arg_required_else_help(true)
+        .arg(path(alloc, "IN", "The AIGER file to read"));
+    let command = with(command, path(alloc, "OUT", "The DOT file to write"));
+    let command = with(
+        command,
+        flag(alloc, "frame", "Show over which gates latches move next"),
+    );
+    let command = with(command, names(alloc));
+    let command = with(command, around(alloc));
+    let depth = "How many edges the neighbourhood reaches";
+    with(command, number(alloc, "depth", 100, "2", depth))
+}
+
+fn witness<'a>(alloc: Global) -> Result<Command<'a>, AllocError> {
+    let command = Command::new(alloc, "witness")
+        .about(WITNESS_ABOUT)
+        .long_about(WITNESS_LONG_ABOUT)
+        .after_help(WITNESS_EXAMPLE)
+        .arg_required_else_help(true)
+        .arg(path(alloc, "IN", "The AIGER file that was retimed"));
+    let command = with(
+        command,
+        path(alloc, "OUT", "The AIGER file that was written"),
+    );
+    with(command, path(alloc, "WITNESS", "The witness for OUT"))
+}
+
 /// The program without its commands.
 fn bare_program<'a>(alloc: Global) -> Command<'a> {
     Command::new(alloc, "fretime")
@@ -298,5 +388,7 @@ pub(crate) fn program<'a>(alloc: Global) -> Result<Command<'a>, AllocError> {
     let program = with_command(program, convert(alloc));
     let program = with_command(program, sim(alloc));
     let program = with_command(program, same(alloc));
-    with_command(program, verify(alloc))
+    let program = with_command(program, verify(alloc));
+    let program = with_command(program, dot(alloc));
+    with_command(program, witness(alloc))
 }

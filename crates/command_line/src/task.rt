@@ -1,13 +1,14 @@
 use least_sets::Choice;
 use spellings::Spelling;
+use stream_paths::{Source, Target};
 
 /// What `retime` is to do.
 #[derive(Drop)]
 pub struct Retiming<'a> {
-    /// The path of the file that is read.
-    pub input: &'a str,
-    /// The path of the file that is written.
-    pub output: &'a str,
+    /// What is read.
+    pub input: Source<'a>,
+    /// What is written.
+    pub output: Target<'a>,
     /// The spelling of the written file; `None` is that of the read one.
     pub spelling: Option<Spelling>,
     /// The number of workers of the flow, from 1 to 64.
@@ -16,8 +17,8 @@ pub struct Retiming<'a> {
     pub frames: u32,
     /// Which of the least sets a frame takes.
     pub choice: Choice,
-    /// The path of the file that the certificates are written to; `None` asks for none.
-    pub certificates: Option<&'a str>,
+    /// What the certificates are written to; `None` asks for none.
+    pub certificates: Option<Target<'a>>,
     /// The names of the latches that are held in their places.
     pub keep: Vec<&'a str>,
 }
@@ -25,10 +26,10 @@ pub struct Retiming<'a> {
 /// What `verify` is to do.
 #[derive(Drop)]
 pub struct Verification<'a> {
-    /// The path of the circuit's file.
-    pub input: &'a str,
-    /// The path of the file of certificates.
-    pub certificates: &'a str,
+    /// The circuit.
+    pub input: Source<'a>,
+    /// The certificates.
+    pub certificates: Source<'a>,
     /// The names of the latches that were held in their places.
     pub keep: Vec<&'a str>,
 }
@@ -36,8 +37,8 @@ pub struct Verification<'a> {
 /// What `batch` is to do.
 #[derive(Drop)]
 pub struct Batch<'a> {
-    /// The path of the list of files.
-    pub list: &'a str,
+    /// The list of files.
+    pub list: Source<'a>,
     /// The spelling of the written files; `None` is that of the read one, for each.
     pub spelling: Option<Spelling>,
     /// The number of workers, from 1 to 64, each of which takes a file at a time.
@@ -48,7 +49,24 @@ pub struct Batch<'a> {
     pub choice: Choice,
 }
 
-/// What a command line asks for. Each text is a path, as it was given.
+/// What `dot` is to do.
+#[derive(Drop)]
+pub struct Drawing<'a> {
+    /// The circuit.
+    pub input: Source<'a>,
+    /// What the picture is written to.
+    pub output: Target<'a>,
+    /// Whether the set over which latches move next is shown.
+    pub frame: bool,
+    /// The names of the latches that are held in their places.
+    pub keep: Vec<&'a str>,
+    /// The name of what the picture shows the neighbourhood of; `None` asks for the whole circuit.
+    pub around: Option<&'a str>,
+    /// How many edges the neighbourhood reaches, from 1 to 100.
+    pub depth: u32,
+}
+
+/// What a command line asks for.
 #[derive(Drop)]
 pub enum Task<'a> {
     /// Retime a circuit.
@@ -56,13 +74,17 @@ pub enum Task<'a> {
     /// Retime the circuits of a list.
     Batch(Batch<'a>),
     /// Count what a circuit has.
-    Stat(&'a str),
+    Stat(Source<'a>),
     /// Write a circuit in a spelling; `None` is the one that wasn't read.
-    Convert(&'a str, &'a str, Option<Spelling>),
+    Convert(Source<'a>, Target<'a>, Option<Spelling>),
     /// Simulate a circuit under a stimulus.
-    Sim(&'a str, &'a str),
+    Sim(Source<'a>, Source<'a>),
     /// Compare two circuits under a stimulus.
-    Same(&'a str, &'a str, &'a str),
+    Same(Source<'a>, Source<'a>, Source<'a>),
     /// Check the certificates of a retiming.
     Verify(Verification<'a>),
+    /// Write a picture of a circuit.
+    Dot(Drawing<'a>),
+    /// Carry a witness of a retimed circuit, the second, back to the first.
+    Witness(Source<'a>, Source<'a>, Source<'a>),
 }

@@ -3,6 +3,7 @@ use aig_binary::Spelling;
 use command_line::{Retiming, Task, parse_arguments};
 use std::alloc::{AllocError, Global};
 use std::test::Fail;
+use stream_paths::{Source, Target};
 
 fn strings(alloc: Global, words: &[&str]) -> Result<Vec<String>, AllocError> {
     let mut strings = Vec::new(alloc);
@@ -13,12 +14,12 @@ fn strings(alloc: Global, words: &[&str]) -> Result<Vec<String>, AllocError> {
 }
 
 fn is_wanted(retiming: &Retiming<'_>) -> bool {
-    retiming.input == "a"
-        && retiming.output == "b"
+    retiming.input == Source::Stdin
+        && retiming.output == Target::File("b")
         && retiming.spelling == Some(Spelling::Binary)
         && retiming.workers == 64
         && retiming.frames == 3
-        && retiming.certificates == Some("c")
+        && retiming.certificates == Some(Target::File("c"))
         && retiming.keep.as_slice() == ["x", ""].as_slice()
 }
 
@@ -41,7 +42,7 @@ fn reads_all_options(rt: HostRuntime) -> Result<(), Fail> {
     let words = [
         "fretime",
         "retime",
-        "a",
+        "-",
         "b",
         "--binary",
         "--workers",
@@ -76,6 +77,13 @@ fn texts_are_refused(alloc: Global, words: &[&str]) -> Result<bool, AllocError> 
 fn refuses_both_spellings(rt: HostRuntime) -> Result<(), Fail> {
     let words = ["fretime", "convert", "a", "b", "--ascii", "--binary"];
     let refused = texts_are_refused(rt.alloc(), &words)?;
+    assert!(rt; refused);
+    Ok(())
+}
+
+#[test]
+fn refuses_standard_input_twice(rt: HostRuntime) -> Result<(), Fail> {
+    let refused = texts_are_refused(rt.alloc(), &["fretime", "same", "a", "-", "-"])?;
     assert!(rt; refused);
     Ok(())
 }

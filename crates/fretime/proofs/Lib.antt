@@ -1,3 +1,3 @@
 pub mod BatchLaws
-pub mod PrintingLaws
 pub mod EndLaws
+pub mod RunLaws

@@ -7,12 +7,12 @@ ghost use Rattle.circuit_files.specs.declared.outcome.Outcome.TheVariants.{Devic
 ghost use Rattle.fretime.specs.Batches.{Printed, PrintsList};
 ghost use Rattle.fretime.specs.Batches as wanted;
 
-use crate::ended::report_failure;
 use batch_lists::{Entry, read_list};
 use batch_pool::{Job, run_batch};
-use circuit_files::{Failure, LazyFile, Outcome, bytes_at};
+use circuit_files::{Failure, LazyFile, Outcome, bytes_at, bytes_of_file};
 use command_line::Batch;
-use counted_io::{Counted, CountedWrite, write_all};
+use commands::report_failure;
+use counted_io::{Counted, CountedRead, CountedWrite, write_all};
 use frames::Options;
 use pulse::{Crew, OpenGate};
 use reports::{JobReport, print_job};
@@ -42,7 +42,7 @@ fn read_jobs<'a, R: Files>(
 {
     let mut jobs = Vec::new(alloc);
     for entry in entries {
-        let bytes = bytes_at(rt, alloc, entry.input)?;
+        let bytes = bytes_of_file(rt, alloc, entry.input)?;
         add_job(&mut jobs, Job { bytes })?;
     }
     Ok(jobs)
@@ -221,22 +221,23 @@ fn retime_lines<R: Files + Threads + Sync, O: CountedWrite, E: CountedWrite>(
 {
     match read_list(alloc, bytes) {
         Ok(entries) => retime_entries(rt, alloc, entries.as_slice(), task, out, err),
-        Err(error) => report_failure(Failure::of_list(error, task.list), err),
+        Err(error) => report_failure(Failure::of_list(error, task.list.name()), err),
     }
 }
 
-/// Reads all files of a list and retimes them; then, job by job, writes its circuit and prints its line. Reports why it ended
+/// Reads a list and all its files, of which `-` is one as any other, and retimes them; then, job by job, writes its circuit and prints its line. Reports why it ended
 /// before that, and returns how the run ends.
-pub fn retime_list<R: Files + Threads + Sync, O: CountedWrite, E: CountedWrite>(
+pub fn retime_list<R: Files + Threads + Sync, I: CountedRead, O: CountedWrite, E: CountedWrite>(
     rt: &R,
     alloc: Global,
     task: &Batch<'_>,
+    stdin: &mut I,
     out: &mut O,
     err: &mut E,
 ) -> Outcome
     ensures { PrintsList result (O.output out.old) (O.output out.new) }
 {
-    match bytes_at(rt, alloc, task.list) {
+    match bytes_at(rt, alloc, task.list, stdin) {
         Ok(bytes) => retime_lines(rt, alloc, bytes.as_slice(), task, out, err),
         Err(failure) => report_failure(failure, err),
     }

@@ -1,17 +1,9 @@
 //! The program `fretime`: reads AIGER circuits, moves latches forward over gates so that fewer are left, one or
-//! many at once, checks certificates, simulates, compares and converts.
+//! many at once, checks certificates, carries witnesses back, simulates, compares and converts.
 #![tactic(auto)]
 
 mod batch;
-mod comparison;
-mod conversion;
-mod ended;
-mod names;
-mod retiming;
 mod run;
-mod simulation;
-mod statistics;
-mod verification;
 
 use counted_io::Counted;
 use run::{report_unreadable_arguments, run_words};
@@ -25,10 +17,18 @@ fn words<R: Env + AllocGlobal>(rt: &R) -> io::Result<Vec<String>> {
 }
 
 fn main(rt: HostRuntime) -> ExitCode {
+    let mut stdin = Counted::new(rt.stdin());
     let mut out = Counted::new(rt.stdout());
     let mut err = Counted::new(rt.stderr());
     let status = match words(&rt) {
-        Ok(words) => run_words(&rt, rt.alloc(), words.as_slice(), &mut out, &mut err),
+        Ok(words) => run_words(
+            &rt,
+            rt.alloc(),
+            words.as_slice(),
+            &mut stdin,
+            &mut out,
+            &mut err,
+        ),
         Err(error) => report_unreadable_arguments(&error, &mut err),
     };
     ExitCode::from(status)

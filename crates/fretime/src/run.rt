@@ -1,24 +1,22 @@
-ghost use Rattle.std.specs.Prelude.{◌≡◌, ◌⊎◌, ◌≤◌, IfOk};
+ghost use Rattle.std.specs.Prelude.{◌≡◌, ◌⊎◌, ◌≤◌};
 ghost use Rattle.counted_io.specs.Output.{WritesAll};
 ghost use Rattle.reports.specs.Differences.{shapes_text};
 ghost use Rattle.circuit_files.specs.Outcomes.{outcome_of};
 ghost use Rattle.circuit_files.specs.declared.outcome.Outcome.TheVariants.{Done, Refused, CommandLine, Memory};
-ghost use Rattle.fretime.specs.Printing.{MayPrint, ending};
+ghost use Rattle.commands.specs.Printing.{ending};
+ghost use Rattle.fretime.specs.Runs.{MayPrint};
 ghost use Rattle.fretime.specs.Batches.{PrintsFiles};
 
 use crate::batch::retime_list;
-use crate::comparison::print_comparison;
-use crate::conversion::convert_file;
-use crate::ended::report_failure;
-use crate::retiming::print_retimed;
-use crate::simulation::print_simulation;
-use crate::statistics::print_statistics;
-use crate::verification::print_verification;
 use circuit_files::{Failure, Outcome};
 use clap::Error;
 use clap::error::ErrorKind;
 use command_line::{Task, parse_arguments};
-use counted_io::{Buffered, CountedWrite};
+use commands::{
+    convert, print_comparison, print_retimed, print_simulation, print_statistics,
+    print_verification, print_witness_back, report_failure, write_picture,
+};
+use counted_io::{Buffered, CountedRead, CountedWrite};
 use std::alloc::Global;
 use std::fmt::Write;
 use std::io;
@@ -35,46 +33,47 @@ fn reported<'a, E: CountedWrite>(ended: Result<Outcome, Failure<'a>>, err: &mut 
     }
 }
 
-fn converted<'a>(written: Result<(), Failure<'a>>) -> Result<Outcome, Failure<'a>>
-    ensures { IfOk result (λ ended. ended ≡ Done) }
-{
-    match written {
-        Ok(()) => Ok(Outcome::Done),
-        Err(failure) => Err(failure),
-    }
-}
-
 /// Does what the command line asks for, and returns how the run ends.
-fn run_task<'a, R: Files + Threads + Sync, O: CountedWrite, E: CountedWrite>(
+fn run_task<'a, R: Files + Threads + Sync, I: CountedRead, O: CountedWrite, E: CountedWrite>(
     rt: &R,
     alloc: Global,
     task: &Task<'a>,
+    stdin: &mut I,
     out: &mut O,
     err: &mut E,
 ) -> Outcome
     ensures { MayPrint result (O.output out.old) (O.output out.new) }
 {
     match task {
-        Task::Retime(retiming) => reported(print_retimed(rt, alloc, retiming, out), err),
-        Task::Batch(batch) => retime_list(rt, alloc, batch, out, err),
-        Task::Stat(input) => reported(print_statistics(rt, alloc, input, out), err),
+        Task::Retime(retiming) => {
+            let ended = print_retimed(rt, alloc, retiming, stdin, out, err);
+            reported(ended, err)
+        }
+        Task::Batch(batch) => retime_list(rt, alloc, batch, stdin, out, err),
+        Task::Stat(input) => reported(print_statistics(rt, alloc, *input, stdin, out), err),
         Task::Convert(input, output, spelling) => {
-            reported(
-                converted(convert_file(rt, alloc, input, output, *spelling)),
-                err,
-            )
+            let ended = convert(rt, alloc, *input, *output, *spelling, stdin, out);
+            reported(ended, err)
         }
         Task::Sim(input, stimulus) => {
-            reported(print_simulation(rt, alloc, input, stimulus, out), err)
+            let ended = print_simulation(rt, alloc, *input, *stimulus, stdin, out);
+            reported(ended, err)
         }
         Task::Same(first, second, stimulus) => {
-            reported(
-                print_comparison(rt, alloc, first, second, stimulus, out),
-                err,
-            )
+            let ended = print_comparison(rt, alloc, *first, *second, *stimulus, stdin, out);
+            reported(ended, err)
         }
         Task::Verify(verification) => {
-            reported(print_verification(rt, alloc, verification, out), err)
+            let ended = print_verification(rt, alloc, verification, stdin, out);
+            reported(ended, err)
+        }
+        Task::Dot(drawing) => {
+            let ended = write_picture(rt, alloc, drawing, stdin, out);
+            reported(ended, err)
+        }
+        Task::Witness(input, retimed, witness) => {
+            let ended = print_witness_back(rt, alloc, *input, *retimed, *witness, stdin, out);
+            reported(ended, err)
         }
     }
 }
@@ -112,17 +111,18 @@ pub fn report_unreadable_arguments<E: CountedWrite>(error: &io::Error, err: &mut
 }
 
 /// Does what the arguments ask for, and returns how the run ends.
-fn run_command<R: Files + Threads + Sync, O: CountedWrite, E: CountedWrite>(
+fn run_command<R: Files + Threads + Sync, I: CountedRead, O: CountedWrite, E: CountedWrite>(
     rt: &R,
     alloc: Global,
     words: &[String],
+    stdin: &mut I,
     out: &mut O,
     err: &mut E,
 ) -> Outcome
     ensures { MayPrint result (O.output out.old) (O.output out.new) }
 {
     match parse_arguments(alloc, words) {
-        Ok(task) => run_task(rt, alloc, &task, out, err),
+        Ok(task) => run_task(rt, alloc, &task, stdin, out, err),
         Err(error) => report_usage(&error, err),
     }
 }
@@ -130,12 +130,14 @@ fn run_command<R: Files + Threads + Sync, O: CountedWrite, E: CountedWrite>(
 /// Runs the program on these arguments, its own name first, and returns the exit status: 0 done, 1 a file that is refused, or
 /// circuits that can't be compared, 2 command line, 3 device, 4 memory, 5 circuits that differ, or a certificate that is rejected.
 ///
-/// What was done is printed to `out` once the file is written; of a batch, file by file. Why nothing was done goes to `err`, and so do help and
-/// the version; a failed write to `err` doesn't change the status. The texts on `err` are only tested.
-pub fn run_words<R: Files + Threads + Sync, O: CountedWrite, E: CountedWrite>(
+/// `stdin`, `out` and `err` are the standard streams. What was done is printed to `out` once the file is written; of a batch, file by
+/// file. Where a circuit or certificates are written to `out`, that is printed to `err`. Why nothing was done goes to `err`, and so do
+/// help and the version; a failed write to `err` doesn't change the status. The texts on `err` are only tested.
+pub fn run_words<R: Files + Threads + Sync, I: CountedRead, O: CountedWrite, E: CountedWrite>(
     rt: &R,
     alloc: Global,
     words: &[String],
+    stdin: &mut I,
     out: &mut O,
     err: &mut E,
 ) -> u8
@@ -147,5 +149,5 @@ pub fn run_words<R: Files + Threads + Sync, O: CountedWrite, E: CountedWrite>(
     ensures memory { (result ≡ 4) → (O.output out.new ≡ O.output out.old)
         ⊎ PrintsFiles Memory (O.output out.old) (O.output out.new) }
 {
-    run_command(rt, alloc, words, out, err).status()
+    run_command(rt, alloc, words, stdin, out, err).status()
 }

@@ -27,8 +27,8 @@ impl Model for Stimulus {
 }
 
 impl Stimulus {
-    /// The stimulus of these sequences. Takes no memory.
-    pub(crate) fn new(sequences: Vec<InputSequence>) -> Stimulus
+    /// The stimulus of these sequences, which may be of any widths. Takes no memory.
+    pub fn new(sequences: Vec<InputSequence>) -> Stimulus
         ensures { result ≡ sequences.items }
     {
         Stimulus { sequences }

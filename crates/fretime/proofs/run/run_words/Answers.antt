@@ -1,5 +1,5 @@
 use Rattle.std.proofs.Common.{sym, ◌∙◌}
-use Rattle.fretime.proofs.PrintingLaws.{where_refused, where_unasked, where_memory_lacks}
+use Rattle.fretime.proofs.RunLaws.{where_refused, where_unasked, where_memory_lacks}
 use Rattle.fretime.proofs.run.run_words.Goals as goal
 
 pub returns-clause-refused : goal.returns-clause-refused

@@ -1,0 +1,42 @@
+-- How often a task uses each standard stream.
+use Rattle.std.specs.Prelude.{◌≤◌, List, [], ◌∷◌, Option, Some, None}
+use Rattle.std.specs.List.{count_by}
+use Rattle.stream_paths.specs.Streams.{is_stdin, is_stdout}
+use Rattle.stream_paths.specs.declared.source.Source.{Source}
+use Rattle.stream_paths.specs.declared.target.Target.{Target}
+use Rattle.command_line.specs.declared.task.Task.{Task}
+use Rattle.command_line.specs.declared.task.Task.TheVariants.{Retime, Batch, Stat, Convert, Sim, Same, Verify, Dot, Witness}
+
+-- what a task reads
+abbrev pub sources_of : Task → List Source
+sources_of (Retime retiming) = retiming.input ∷ []
+sources_of (Batch batch) = batch.list ∷ []
+sources_of (Stat input) = input ∷ []
+sources_of (Convert input output spelling) = input ∷ []
+sources_of (Sim input stimulus) = input ∷ stimulus ∷ []
+sources_of (Same first second stimulus) = first ∷ second ∷ stimulus ∷ []
+sources_of (Verify verification) = verification.input ∷ verification.certificates ∷ []
+sources_of (Dot drawing) = drawing.input ∷ []
+sources_of (Witness input retimed witness) = input ∷ retimed ∷ witness ∷ []
+
+-- the circuit and the certificates that a retiming writes
+abbrev pub both_targets : Target → Option Target → List Target
+both_targets output None = output ∷ []
+both_targets output (Some certificates) = output ∷ certificates ∷ []
+
+-- what a task writes, but for the lines that it prints
+abbrev pub targets_of : Task → List Target
+targets_of (Retime retiming) = both_targets retiming.output retiming.certificates
+targets_of (Batch batch) = []
+targets_of (Stat input) = []
+targets_of (Convert input output spelling) = output ∷ []
+targets_of (Sim input stimulus) = []
+targets_of (Same first second stimulus) = []
+targets_of (Verify verification) = []
+targets_of (Dot drawing) = drawing.output ∷ []
+targets_of (Witness input retimed witness) = []
+
+-- standard input is read once at most, and standard output written once, but for printed lines
+pub record UsesStreamsOnce (task : Task) : Type 0 where
+  pub stdin : count_by is_stdin (sources_of task) ≤ 1
+  pub stdout : count_by is_stdout (targets_of task) ≤ 1

@@ -1,0 +1,72 @@
+//! Standard input is read once, and standard output written once.
+ghost use Rattle.std.specs.Prelude.{◌≡◌, ◌≤◌, IfNone};
+ghost use Rattle.std.specs.List.{count_by};
+ghost use Rattle.stream_paths.specs.Streams.{is_stdin, is_stdout};
+ghost use Rattle.command_line.specs.StreamUses.{UsesStreamsOnce, sources_of, targets_of};
+
+use crate::task::Task;
+use stream_paths::{Source, Target};
+
+fn stdin_count(sources: &[Source<'_>]) -> usize
+    ensures { result ≡ count_by is_stdin sources.now }
+{
+    sources.iter().filter(|source| source.is_stdin()).count()
+}
+
+fn stdout_count(targets: &[Target<'_>]) -> usize
+    ensures { result ≡ count_by is_stdout targets.now }
+{
+    targets.iter().filter(|target| target.is_stdout()).count()
+}
+
+/// How many of the things that a task reads are standard input.
+fn stdin_uses(task: &Task<'_>) -> usize
+    ensures { result ≡ count_by is_stdin (sources_of task.now) }
+{
+    match task {
+        Task::Retime(retiming) => stdin_count(&[retiming.input]),
+        Task::Batch(batch) => stdin_count(&[batch.list]),
+        Task::Stat(input) | Task::Convert(input, _, _) => stdin_count(&[*input]),
+        Task::Sim(input, stimulus) => stdin_count(&[*input, *stimulus]),
+        Task::Same(first, second, third) | Task::Witness(first, second, third) => stdin_count(&[
+            *first, *second, *third,
+        ]),
+        Task::Verify(verification) => stdin_count(&[verification.input, verification.certificates]),
+        Task::Dot(drawing) => stdin_count(&[drawing.input]),
+    }
+}
+
+/// How many of the things that a task writes are standard output.
+fn stdout_uses(task: &Task<'_>) -> usize
+    ensures { result ≡ count_by is_stdout (targets_of task.now) }
+{
+    match task {
+        Task::Retime(retiming) => match retiming.certificates {
+            Some(certificates) => stdout_count(&[retiming.output, certificates]),
+            None => stdout_count(&[retiming.output]),
+        },
+        Task::Convert(_, output, _) => stdout_count(&[*output]),
+        Task::Dot(drawing) => stdout_count(&[drawing.output]),
+        Task::Batch(_)
+        | Task::Stat(_)
+        | Task::Sim(_, _)
+        | Task::Same(_, _, _)
+        | Task::Verify(_)
+        | Task::Witness(_, _, _) => 0,
+    }
+}
+
+/// What is wrong where a task has more than one use for a standard stream.
+pub(crate) fn stream_conflict(task: &Task<'_>) -> Option<&'static str>
+    ensures { IfNone result (UsesStreamsOnce task.now) }
+{
+    if stdin_uses(task) > 1 {
+        Some("standard input is read once: '-' can stand for one of these files only")
+    } else if stdout_uses(task) > 1 {
+        Some(
+            "standard output is written once: '-' can stand for OUT or for the file of certificates, not for both",
+        )
+    } else {
+        None
+    }
+}

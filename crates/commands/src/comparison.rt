@@ -1,0 +1,122 @@
+//! The command `same`.
+ghost use Rattle.std.specs.Prelude.{◌≡◌, IfOk};
+ghost use Rattle.commands.specs.Comparing.{IsFinding, finding_text, outcome_of_finding};
+ghost use Rattle.commands.specs.Printing.{EndsPrinting, Prints, ending};
+
+use crate::ended::ended;
+use aig_graph::Circuit;
+use circuit_files::{Failure, Outcome, circuit_at, stimulus_at};
+use counted_io::{CountedRead, CountedWrite};
+use lane_sim::{Place, SimError, Stimulus, first_difference};
+use reports::{print_difference, print_shapes_differ};
+use std::alloc::Global;
+use std::rt::Files;
+use std::thread::Threads;
+use stream_paths::Source;
+
+/// What comparing two circuits finds.
+#[derive(Clone, Copy)]
+enum Finding {
+    Same,
+    /// They differ first at this place.
+    Differ(Place),
+    /// They can't be compared.
+    ShapesDiffer,
+}
+
+fn compare<'a, R: Threads + Sync>(
+    rt: &R,
+    alloc: Global,
+    first: &Circuit,
+    second: &Circuit,
+    stimulus: &Stimulus,
+) -> Result<Finding, Failure<'a>>
+    ensures { IfOk result (IsFinding first.now second.now stimulus.now) }
+{
+    match first_difference(rt, alloc, first, second, stimulus) {
+        Ok(None) => Ok(Finding::Same),
+        Ok(Some(place)) => Ok(Finding::Differ(place)),
+        Err(SimError::Shape) => Ok(Finding::ShapesDiffer),
+        Err(SimError::NoMemory) => Err(Failure::Memory),
+    }
+}
+
+/// Compares two circuits under the stimulus that is read.
+fn compared_under<'a, R: Files + Threads + Sync, I: CountedRead>(
+    rt: &R,
+    alloc: Global,
+    first: &Circuit,
+    second: &Circuit,
+    stimulus: Source<'a>,
+    stdin: &mut I,
+) -> Result<Finding, Failure<'a>> {
+    match stimulus_at(rt, alloc, stimulus, first, stdin) {
+        Ok(stimulus) => compare(rt, alloc, first, second, &stimulus),
+        Err(failure) => Err(failure),
+    }
+}
+
+/// Compares the first circuit with the one that is read.
+fn compared_with<'a, R: Files + Threads + Sync, I: CountedRead>(
+    rt: &R,
+    alloc: Global,
+    first: &Circuit,
+    second: Source<'a>,
+    stimulus: Source<'a>,
+    stdin: &mut I,
+) -> Result<Finding, Failure<'a>> {
+    match circuit_at(rt, alloc, second, stdin) {
+        Ok(second) => {
+            let found = compared_under(rt, alloc, first, &second.circuit, stimulus, stdin);
+            drop(second);
+            found
+        }
+        Err(failure) => Err(failure),
+    }
+}
+
+fn compared<'a, R: Files + Threads + Sync, I: CountedRead>(
+    rt: &R,
+    alloc: Global,
+    first: Source<'a>,
+    second: Source<'a>,
+    stimulus: Source<'a>,
+    stdin: &mut I,
+) -> Result<Finding, Failure<'a>> {
+    match circuit_at(rt, alloc, first, stdin) {
+        Ok(first) => {
+            let found = compared_with(rt, alloc, &first.circuit, second, stimulus, stdin);
+            drop(first);
+            found
+        }
+        Err(failure) => Err(failure),
+    }
+}
+
+fn print_finding<'a, O: CountedWrite>(finding: Finding, out: &mut O) -> Result<Outcome, Failure<'a>>
+    ensures { EndsPrinting (outcome_of_finding finding) (finding_text finding) (O.output out.old)
+        (O.output out.new) result }
+{
+    match finding {
+        Finding::Same => ended(print_difference(None, out), Outcome::Done),
+        Finding::Differ(place) => ended(print_difference(Some(place), out), Outcome::Differ),
+        Finding::ShapesDiffer => ended(print_shapes_differ(out), Outcome::ShapesDiffer),
+    }
+}
+
+/// Reads two circuits and a stimulus, which has the widths of the first, in this order, and prints the first difference of the
+/// circuits under the stimulus.
+pub fn print_comparison<'a, R: Files + Threads + Sync, I: CountedRead, O: CountedWrite>(
+    rt: &R,
+    alloc: Global,
+    first: Source<'a>,
+    second: Source<'a>,
+    stimulus: Source<'a>,
+    stdin: &mut I,
+    out: &mut O,
+) -> Result<Outcome, Failure<'a>>
+    ensures { Prints (ending result) (O.output out.old) (O.output out.new) }
+{
+    let found = compared(rt, alloc, first, second, stimulus, stdin)?;
+    print_finding(found, out)
+}

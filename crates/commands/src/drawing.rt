@@ -1,0 +1,370 @@
+//! The command `dot`.
+ghost use Rattle.std.specs.Prelude.{ℕ, Bool, List, Option, IfErr, IfOk, IfSome, OnOk, option_map};
+ghost use Rattle.aig_graph.specs.Border.{IsGreatestLeast};
+ghost use Rattle.counted_io.specs.Output.{WritesAll};
+ghost use Rattle.pictures.specs.Looks.{IsViewOf};
+ghost use Rattle.pictures.specs.Pictures.{picture};
+ghost use Rattle.circuit_files.specs.Outcomes.{outcome_of};
+ghost use Rattle.circuit_files.specs.declared.outcome.Outcome.TheVariants.{Device};
+ghost use Rattle.commands.specs.Drawings.{shown};
+ghost use Rattle.commands.specs.Printing.{Prints, ending};
+
+use crate::names::{bytes_of_names, missing_name};
+use aig_graph::{Circuit, ClosedSet, Keep, KeepError, NoMemory, Props, count, keep_of};
+use circuit_files::{Failure, LazyFile, Outcome, circuit_at};
+use command_line::Drawing;
+use counted_io::{Counted, CountedRead, CountedWrite};
+use cut_cert::greatest_least;
+use frames::{Choice, Options, RetimeError, Retimed, retime};
+use pictures::{View, has_name, write_dot};
+use pulse::{Crew, OpenGate};
+use std::alloc::Global;
+use std::rt::Files;
+use std::thread::Threads;
+use stream_paths::Target;
+
+/// The most nodes that a picture of a whole circuit has.
+const MOST_NODES: usize = 2000;
+
+fn properties(props: &Props) -> usize {
+    (props.outputs.len())
+        .saturating_add(props.bad.len())
+        .saturating_add(props.constraints.len())
+        .saturating_add(props.justice.len())
+        .saturating_add(props.fairness.len())
+}
+
+/// Whether a picture of the whole circuit would have too many nodes.
+fn is_too_large(circuit: &Circuit) -> bool {
+    properties(circuit.props()).saturating_add(circuit.aig().variables()) > MOST_NODES
+}
+
+/// The view that is asked for: of a neighbourhood, or of the whole circuit.
+fn view(
+    alloc: Global,
+    circuit: &Circuit,
+    keep: &Keep,
+    set: Option<&ClosedSet>,
+    task: &Drawing<'_>,
+) -> Result<View, NoMemory>
+    ensures { IfOk result (IsViewOf circuit.now keep.now (option_map (λ s. s.now) set.entry)
+        (shown circuit.now task.now)) }
+{
+    match task.around {
+        Some(name) => View::around(alloc, circuit, keep, set, name.as_bytes(), task.depth),
+        None => View::new(alloc, circuit, keep, set),
+    }
+}
+
+fn write_view<'a, W: CountedWrite>(
+    circuit: &Circuit,
+    view: &View,
+    task: &Drawing<'a>,
+    writer: &mut W,
+) -> Result<(), Failure<'a>>
+    ensures picture { (held : List ℕ) (set : Option (List ℕ)) (drawn : ℕ → Bool)
+        → IsViewOf circuit.now held set drawn view.now
+        → OnOk result (WritesAll (W.output writer.old) (W.output writer.new) (picture circuit.now held set drawn)) }
+    ensures err { IfErr result (λ failure. outcome_of failure ≡ Device) }
+{
+    match write_dot(circuit, view, writer) {
+        Ok(()) => Ok(()),
+        Err(_) => Err(Failure::Device(task.output.name())),
+    }
+}
+
+/// Writes the picture of a circuit.
+fn draw<'a, W: CountedWrite>(
+    alloc: Global,
+    circuit: &Circuit,
+    keep: &Keep,
+    set: Option<&ClosedSet>,
+    task: &Drawing<'a>,
+    writer: &mut W,
+) -> Result<(), Failure<'a>>
+    ensures picture { OnOk result (WritesAll (W.output writer.old) (W.output writer.new)
+        (picture circuit.now keep.now (option_map (λ s. s.now) set.entry) (shown circuit.now task.now))) }
+    ensures prints { IfErr result (λ failure. Prints (outcome_of failure) (W.output writer.old)
+        (W.output writer.new)) }
+{
+    match view(alloc, circuit, keep, set, task) {
+        Ok(view) => {
+            let written = write_view(circuit, &view, task, writer);
+            drop(view);
+            written
+        }
+        Err(_) => Err(Failure::Memory),
+    }
+}
+
+/// The failure that nothing in the circuit has the name, if it is one.
+fn unnamed<'a>(circuit: &Circuit, task: &Drawing<'a>, name: &'a str) -> Option<Failure<'a>> {
+    if has_name(circuit, name.as_bytes()) {
+        None
+    } else {
+        Some(Failure::NoSuchName(task.input.name(), name))
+    }
+}
+
+/// The failure that the circuit has too many nodes, if it is one.
+fn too_large<'a>(circuit: &Circuit, task: &Drawing<'a>) -> Option<Failure<'a>> {
+    if is_too_large(circuit) {
+        Some(Failure::TooManyNodes(task.input.name()))
+    } else {
+        None
+    }
+}
+
+/// Why the circuit can't be drawn as it is asked for.
+fn refusal<'a>(circuit: &Circuit, task: &Drawing<'a>) -> Option<Failure<'a>> {
+    match task.around {
+        Some(name) => unnamed(circuit, task, name),
+        None => too_large(circuit, task),
+    }
+}
+
+/// Writes the picture of a circuit, where it can be drawn.
+fn draw_allowed<'a, W: CountedWrite>(
+    alloc: Global,
+    circuit: &Circuit,
+    keep: &Keep,
+    set: Option<&ClosedSet>,
+    task: &Drawing<'a>,
+    writer: &mut W,
+) -> Result<(), Failure<'a>>
+    ensures { IfErr result (λ failure. Prints (outcome_of failure) (W.output writer.old)
+        (W.output writer.new)) }
+{
+    match refusal(circuit, task) {
+        Some(failure) => Err(failure),
+        None => draw(alloc, circuit, keep, set, task, writer),
+    }
+}
+
+/// The greatest least set of a circuit, where latches become fewer over it: what the next frame takes.
+fn next_set<R: Threads + Sync>(
+    rt: &R,
+    alloc: Global,
+    circuit: &Circuit,
+    keep: &Keep,
+) -> Result<Option<ClosedSet>, NoMemory>
+    ensures { IfOk result (λ found. IfSome found (IsGreatestLeast circuit.now keep.now)) }
+{
+    let crew = Crew::new(1, OpenGate);
+    let set = greatest_least(rt, alloc, circuit, keep, &crew)?;
+    let after = count(alloc, circuit, &set, keep)?;
+    if after < circuit.aig().known_latches() {
+        Ok(Some(set))
+    } else {
+        Ok(None)
+    }
+}
+
+/// Draws a cleaned circuit with the set that the next frame takes.
+fn draw_next<'a, R: Threads + Sync, W: CountedWrite>(
+    rt: &R,
+    alloc: Global,
+    circuit: &Circuit,
+    keep: &Keep,
+    task: &Drawing<'a>,
+    writer: &mut W,
+) -> Result<(), Failure<'a>>
+    ensures { IfErr result (λ failure. Prints (outcome_of failure) (W.output writer.old)
+        (W.output writer.new)) }
+{
+    match next_set(rt, alloc, circuit, keep) {
+        Ok(set) => {
+            let drawn = draw_allowed(alloc, circuit, keep, set.as_ref(), task, writer);
+            drop(set);
+            drawn
+        }
+        Err(_) => Err(Failure::Memory),
+    }
+}
+
+fn failure_of<'a>(error: KeepError, task: &Drawing<'a>) -> Failure<'a> {
+    match error {
+        KeepError::NoMemory => Failure::Memory,
+        KeepError::NoSuchName(place) => missing_name(
+            task.input.name(),
+            task.keep.as_slice(),
+            place,
+        ),
+    }
+}
+
+/// Draws a circuit, with the set that the next frame takes where that is asked for.
+fn draw_kept<'a, R: Threads + Sync, W: CountedWrite>(
+    rt: &R,
+    alloc: Global,
+    circuit: &Circuit,
+    keep: &Keep,
+    task: &Drawing<'a>,
+    writer: &mut W,
+) -> Result<(), Failure<'a>>
+    ensures { IfErr result (λ failure. Prints (outcome_of failure) (W.output writer.old)
+        (W.output writer.new)) }
+{
+    if task.frame {
+        draw_next(rt, alloc, circuit, keep, task, writer)
+    } else {
+        draw_allowed(alloc, circuit, keep, None, task, writer)
+    }
+}
+
+/// Draws a circuit in which latches are held by their names.
+fn draw_held<'a, R: Threads + Sync, W: CountedWrite>(
+    rt: &R,
+    alloc: Global,
+    circuit: &Circuit,
+    names: &[Vec<u8>],
+    task: &Drawing<'a>,
+    writer: &mut W,
+) -> Result<(), Failure<'a>>
+    ensures { IfErr result (λ failure. Prints (outcome_of failure) (W.output writer.old)
+        (W.output writer.new)) }
+{
+    match keep_of(alloc, circuit, names) {
+        Ok(keep) => {
+            let drawn = draw_kept(rt, alloc, circuit, &keep, task, writer);
+            drop(keep);
+            drawn
+        }
+        Err(error) => Err(failure_of(error, task)),
+    }
+}
+
+/// The circuit cleaned, as before the first frame of `retime`.
+fn cleaned<R: Threads + Sync>(
+    rt: &R,
+    alloc: Global,
+    circuit: &Circuit,
+    options: &Options,
+) -> Result<Retimed, RetimeError> {
+    let crew = Crew::new(1, OpenGate);
+    retime(rt, alloc, circuit, options, &crew)
+}
+
+/// Draws the circuit as it was read, or cleaned with its next frame.
+fn draw_circuit<'a, R: Threads + Sync, W: CountedWrite>(
+    rt: &R,
+    alloc: Global,
+    circuit: &Circuit,
+    options: &Options,
+    task: &Drawing<'a>,
+    writer: &mut W,
+) -> Result<(), Failure<'a>>
+    ensures { IfErr result (λ failure. Prints (outcome_of failure) (W.output writer.old)
+        (W.output writer.new)) }
+{
+    if !task.frame {
+        return draw_held(rt, alloc, circuit, options.keep.as_slice(), task, writer);
+    }
+    match cleaned(rt, alloc, circuit, options) {
+        Ok(left) => {
+            let drawn = draw_held(
+                rt,
+                alloc,
+                &left.circuit,
+                options.keep.as_slice(),
+                task,
+                writer,
+            );
+            drop(left);
+            drawn
+        }
+        Err(RetimeError::NoMemory) => Err(Failure::Memory),
+        Err(RetimeError::NoSuchName(place)) => {
+            Err(missing_name(task.input.name(), task.keep.as_slice(), place))
+        }
+    }
+}
+
+/// The options of a retiming that takes no frame.
+fn options(keep: Vec<Vec<u8>>) -> Options {
+    Options {
+        spelling: None,
+        max_frames: 0,
+        choice: Choice::Greatest,
+        certify: false,
+        keep,
+    }
+}
+
+fn draw_with_names<'a, R: Threads + Sync, W: CountedWrite>(
+    rt: &R,
+    alloc: Global,
+    circuit: &Circuit,
+    task: &Drawing<'a>,
+    writer: &mut W,
+) -> Result<(), Failure<'a>>
+    ensures { IfErr result (λ failure. Prints (outcome_of failure) (W.output writer.old)
+        (W.output writer.new)) }
+{
+    match bytes_of_names(alloc, task.keep.as_slice()) {
+        Ok(names) => {
+            let options = options(names);
+            let drawn = draw_circuit(rt, alloc, circuit, &options, task, writer);
+            drop(options);
+            drawn
+        }
+        Err(_) => Err(Failure::Memory),
+    }
+}
+
+/// Reads what the task reads, and writes its picture.
+fn draw_input<'a, R: Files + Threads + Sync, I: CountedRead, W: CountedWrite>(
+    rt: &R,
+    alloc: Global,
+    task: &Drawing<'a>,
+    stdin: &mut I,
+    writer: &mut W,
+) -> Result<(), Failure<'a>>
+    ensures { IfErr result (λ failure. Prints (outcome_of failure) (W.output writer.old)
+        (W.output writer.new)) }
+{
+    match circuit_at(rt, alloc, task.input, stdin) {
+        Ok(spelt) => {
+            let drawn = draw_with_names(rt, alloc, &spelt.circuit, task, writer);
+            drop(spelt);
+            drawn
+        }
+        Err(failure) => Err(failure),
+    }
+}
+
+/// Reads what the task reads, and writes its picture to what it writes.
+fn drawn<'a, R: Files + Threads + Sync, I: CountedRead, O: CountedWrite>(
+    rt: &R,
+    alloc: Global,
+    task: &Drawing<'a>,
+    stdin: &mut I,
+    out: &mut O,
+) -> Result<(), Failure<'a>>
+    ensures { IfErr result (λ failure. Prints (outcome_of failure) (O.output out.old)
+        (O.output out.new)) }
+{
+    match task.output {
+        Target::Stdout => draw_input(rt, alloc, task, stdin, out),
+        Target::File(path) => {
+            let mut writer = Counted::new(LazyFile::new(rt, path));
+            draw_input(rt, alloc, task, stdin, &mut writer)
+        }
+    }
+}
+
+/// Reads a circuit, and writes its picture. A file is made once all that can be refused was found right.
+pub fn write_picture<'a, R: Files + Threads + Sync, I: CountedRead, O: CountedWrite>(
+    rt: &R,
+    alloc: Global,
+    task: &Drawing<'a>,
+    stdin: &mut I,
+    out: &mut O,
+) -> Result<Outcome, Failure<'a>>
+    ensures { Prints (ending result) (O.output out.old) (O.output out.new) }
+{
+    match drawn(rt, alloc, task, stdin, out) {
+        Ok(()) => Ok(Outcome::Done),
+        Err(failure) => Err(failure),
+    }
+}

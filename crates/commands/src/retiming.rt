@@ -1,0 +1,278 @@
+//! The command `retime`.
+ghost use Rattle.std.specs.Prelude.{◌≡◌, ◌<◌, ◌≤◌, true, false, IfErr, IfOk};
+ghost use Rattle.counted_io.specs.Output.{Writes};
+ghost use Rattle.certificate_files.specs.Texts.{file_text};
+ghost use Rattle.frames.specs.Answering.{IsAnswered};
+ghost use Rattle.stream_paths.specs.Streams.{is_stdin, is_stdout};
+ghost use Rattle.circuit_files.specs.Outcomes.{outcome_of};
+ghost use Rattle.circuit_files.specs.declared.outcome.Outcome.TheVariants.{Device};
+ghost use Rattle.commands.specs.Pipes.{AnswersPipe, IsPipe, WritesPipe, writes_stdout};
+ghost use Rattle.commands.specs.Printing.{Prints, ending};
+ghost use Rattle.commands.specs.RetimingTasks.{AreOptionsOf, IsFailureOf};
+
+use crate::ended::ended;
+use crate::names::{bytes_of_names, missing_name};
+use aig_graph::Sequence;
+use certificate_files::{CertFile, Choice, write_cert};
+use certificates::Certificate;
+use circuit_files::{Failure, LazyFile, Outcome};
+use command_line::Retiming;
+use counted_io::{Counted, CountedRead, CountedWrite, WriteError};
+use frames::{BytesError, Options, RetimeError, Retimed, retime_bytes};
+use pulse::{Crew, OpenGate};
+use reports::print_retiming;
+use std::alloc::{AllocError, Global};
+use std::fs::File;
+use std::mem;
+use std::rt::Files;
+use std::thread::Threads;
+use stream_paths::{Source, Target};
+
+/// The most workers of a crew.
+const MOST_WORKERS: u32 = 64;
+
+fn options(alloc: Global, task: &Retiming<'_>) -> Result<Options, AllocError>
+    ensures { IfOk result (AreOptionsOf task.now) }
+{
+    Ok(Options {
+        spelling: task.spelling,
+        max_frames: task.frames,
+        choice: task.choice,
+        certify: task.certificates.is_some(),
+        keep: bytes_of_names(alloc, task.keep.as_slice())?,
+    })
+}
+
+fn crew(task: &Retiming<'_>) -> Crew<OpenGate>
+    ensures { 0 < task.now.workers → task.now.workers ≤ 64 → result.workers ≡ task.now.workers }
+{
+    Crew::new(task.workers.clamp(1, MOST_WORKERS), OpenGate)
+}
+
+/// The failure that an error is, with the name of what it is about.
+fn failure_of<'a>(error: BytesError, task: &Retiming<'a>) -> Failure<'a>
+    ensures { IsFailureOf task.now error result }
+{
+    match error {
+        BytesError::Read(error) => Failure::of_reading(error, task.input.name()),
+        BytesError::Retime(RetimeError::NoMemory) => Failure::Memory,
+        BytesError::Retime(RetimeError::NoSuchName(place)) => {
+            missing_name(task.input.name(), task.keep.as_slice(), place)
+        }
+        BytesError::Write(_) => Failure::Device(task.output.name()),
+    }
+}
+
+/// Reads the circuit from the one, and writes it, retimed, to the other.
+fn retime_between<'a, R: Threads + Sync, I: CountedRead, W: CountedWrite>(
+    rt: &R,
+    alloc: Global,
+    task: &Retiming<'a>,
+    options: &Options,
+    reader: &mut I,
+    writer: &mut W,
+) -> Result<Retimed, Failure<'a>>
+    ensures answer { IfOk result (IsAnswered (I.input reader.old) (W.output writer.old)
+        (W.output writer.new) options.now) }
+    ensures prints { IfErr result (λ failure. Prints (outcome_of failure) (W.output writer.old)
+        (W.output writer.new)) }
+{
+    let crew = crew(task);
+    match retime_bytes(rt, alloc, reader, writer, options, &crew) {
+        Ok(retimed) => Ok(retimed),
+        Err(error) => Err(failure_of(error, task)),
+    }
+}
+
+/// Reads what the task reads.
+fn retime_input<'a, R: Files + Threads + Sync, I: CountedRead, W: CountedWrite>(
+    rt: &R,
+    alloc: Global,
+    task: &Retiming<'a>,
+    options: &Options,
+    stdin: &mut I,
+    writer: &mut W,
+) -> Result<Retimed, Failure<'a>>
+    ensures answer { IfOk result (λ retimed. is_stdin task.now.input ≡ true
+        → IsAnswered (I.input stdin.old) (W.output writer.old)
+        (W.output writer.new) options.now retimed) }
+    ensures prints { IfErr result (λ failure. Prints (outcome_of failure) (W.output writer.old)
+        (W.output writer.new)) }
+{
+    match task.input {
+        Source::Stdin => retime_between(rt, alloc, task, options, stdin, writer),
+        Source::File(path) => match File::open(rt, path) {
+            Ok(file) => {
+                let mut reader = Counted::new(file);
+                retime_between(rt, alloc, task, options, &mut reader, writer)
+            }
+            Err(_) => Err(Failure::Device(path)),
+        },
+    }
+}
+
+/// Reads what the task reads, and writes what it writes.
+fn retime_by<'a, R: Files + Threads + Sync, I: CountedRead, O: CountedWrite>(
+    rt: &R,
+    alloc: Global,
+    task: &Retiming<'a>,
+    options: &Options,
+    stdin: &mut I,
+    out: &mut O,
+) -> Result<Retimed, Failure<'a>>
+    ensures answer { IfOk result (λ retimed. IsPipe task.now
+        → IsAnswered (I.input stdin.old) (O.output out.old)
+        (O.output out.new) options.now retimed) }
+    ensures file { is_stdout task.now.output ≡ false → O.output out.new ≡ O.output out.old }
+    ensures prints { IfErr result (λ failure. Prints (outcome_of failure) (O.output out.old)
+        (O.output out.new)) }
+{
+    match task.output {
+        Target::Stdout => retime_input(rt, alloc, task, options, stdin, out),
+        Target::File(path) => {
+            let mut writer = Counted::new(LazyFile::new(rt, path));
+            retime_input(rt, alloc, task, options, stdin, &mut writer)
+        }
+    }
+}
+
+fn retimed<'a, R: Files + Threads + Sync, I: CountedRead, O: CountedWrite>(
+    rt: &R,
+    alloc: Global,
+    task: &Retiming<'a>,
+    stdin: &mut I,
+    out: &mut O,
+) -> Result<Retimed, Failure<'a>>
+    ensures answer { IfOk result (λ retimed. IsPipe task.now
+        → AnswersPipe task.now (I.input stdin.old) (O.output out.old) (O.output out.new) retimed) }
+    ensures file { is_stdout task.now.output ≡ false → O.output out.new ≡ O.output out.old }
+    ensures prints { IfErr result (λ failure. Prints (outcome_of failure) (O.output out.old)
+        (O.output out.new)) }
+{
+    match options(alloc, task) {
+        Ok(options) => retime_by(rt, alloc, task, &options, stdin, out),
+        Err(_) => Err(Failure::Memory),
+    }
+}
+
+/// Writes the certificates of a retiming by this choice.
+fn put_certificates<W: CountedWrite>(
+    choice: Choice,
+    blocks: Sequence<Certificate>,
+    writer: &mut W,
+) -> Result<(), WriteError>
+    ensures { Writes (W.output writer.old) (W.output writer.new) result
+        (file_text (record { choice = choice; blocks = blocks })) }
+{
+    let file = CertFile { choice, blocks };
+    write_cert(&file, writer)
+}
+
+/// Writes the certificates of a retiming by this choice to what they are written to.
+fn write_certificates<'a, R: Files, O: CountedWrite>(
+    rt: &R,
+    choice: Choice,
+    blocks: Sequence<Certificate>,
+    target: Target<'a>,
+    out: &mut O,
+) -> Result<(), WriteError>
+    ensures stdout { is_stdout target.entry ≡ true → Writes (O.output out.old)
+        (O.output out.new) result (file_text (record { choice = choice; blocks = blocks })) }
+    ensures file { is_stdout target.entry ≡ false → O.output out.new ≡ O.output out.old }
+{
+    match target {
+        Target::Stdout => put_certificates(choice, blocks, out),
+        Target::File(path) => {
+            let mut writer = Counted::new(LazyFile::new(rt, path));
+            put_certificates(choice, blocks, &mut writer)
+        }
+    }
+}
+
+/// Writes the certificates where they are asked for; they are taken out of the retiming.
+fn certify<'a, R: Files, O: CountedWrite>(
+    rt: &R,
+    alloc: Global,
+    task: &Retiming<'a>,
+    retimed: &mut Retimed,
+    out: &mut O,
+) -> Result<(), Failure<'a>>
+    ensures file { writes_stdout task.now.certificates ≡ false
+        → O.output out.new ≡ O.output out.old }
+    ensures err { IfErr result (λ failure. outcome_of failure ≡ Device) }
+{
+    let Some(target) = task.certificates else {
+        return Ok(());
+    };
+    let blocks = mem::replace(&mut retimed.certificates, Sequence::empty(alloc));
+    match write_certificates(rt, task.choice, blocks, target, out) {
+        Ok(()) => Ok(()),
+        Err(_) => Err(Failure::Device(target.name())),
+    }
+}
+
+/// Writes the circuit, and then the certificates.
+fn certified<'a, R: Files + Threads + Sync, I: CountedRead, O: CountedWrite>(
+    rt: &R,
+    alloc: Global,
+    task: &Retiming<'a>,
+    stdin: &mut I,
+    out: &mut O,
+) -> Result<Retimed, Failure<'a>>
+    ensures answer { IfOk result (λ retimed. IsPipe task.now
+        → WritesPipe task.now (I.input stdin.old) (O.output out.old) (O.output out.new)) }
+    ensures prints { IfErr result (λ failure. Prints (outcome_of failure) (O.output out.old)
+        (O.output out.new)) }
+{
+    let mut retimed = retimed(rt, alloc, task, stdin, out)?;
+    match certify(rt, alloc, task, &mut retimed, out) {
+        Ok(()) => Ok(retimed),
+        Err(failure) => {
+            drop(retimed);
+            Err(failure)
+        }
+    }
+}
+
+/// Prints the frames that were taken to standard output, or to standard error where a circuit or certificates have been written
+/// to standard output: a write that fails there changes nothing.
+fn print_frames<O: CountedWrite, E: CountedWrite>(
+    task: &Retiming<'_>,
+    retimed: &Retimed,
+    out: &mut O,
+    err: &mut E,
+) -> Result<(), WriteError>
+    ensures { IsPipe task.now → O.output out.new ≡ O.output out.old }
+{
+    if task.output.is_stdout() || task.certificates.is_some_and(|target| target.is_stdout()) {
+        let _ = print_retiming(retimed, err);
+        Ok(())
+    } else {
+        print_retiming(retimed, out)
+    }
+}
+
+/// Reads a circuit, writes it, retimed, and the certificates where they are asked for, and then prints the frames that were taken.
+pub fn print_retimed<
+    'a,
+    R: Files + Threads + Sync,
+    I: CountedRead,
+    O: CountedWrite,
+    E: CountedWrite,
+>(
+    rt: &R,
+    alloc: Global,
+    task: &Retiming<'a>,
+    stdin: &mut I,
+    out: &mut O,
+    err: &mut E,
+) -> Result<Outcome, Failure<'a>>
+    ensures pipe { IfOk result (λ _. IsPipe task.now
+        → WritesPipe task.now (I.input stdin.old) (O.output out.old) (O.output out.new)) }
+    ensures prints { Prints (ending result) (O.output out.old) (O.output out.new) }
+{
+    let retimed = certified(rt, alloc, task, stdin, out)?;
+    let printed = print_frames(task, &retimed, out, err);
+    drop(retimed);
+    ended(printed, Outcome::Done)
+}

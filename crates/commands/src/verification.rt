@@ -1,0 +1,147 @@
+//! The command `verify`.
+ghost use Rattle.std.specs.Prelude.{◌≡◌, IfOk};
+ghost use Rattle.certificate_audits.specs.Audits.{IsAudit};
+ghost use Rattle.certificate_audits.specs.Named.{names_of};
+ghost use Rattle.reports.specs.Audits.{audit_text};
+ghost use Rattle.commands.specs.Printing.{EndsPrinting, Prints, ending};
+ghost use Rattle.commands.specs.Verifying.{IsFailureOfAudit, PrintsAudit, PrintsAuditFor, PrintsSomeAudit, held_names, outcome_of_end};
+
+use crate::ended::ended;
+use crate::names::{bytes_of_names, missing_name};
+use aig_graph::{Circuit, KeepError};
+use certificate_audits::{Audit, End, audit_blocks};
+use certificates::Certificate;
+use circuit_files::{Failure, Outcome, certificates_at, circuit_at};
+use command_line::Verification;
+use counted_io::{CountedRead, CountedWrite};
+use reports::print_audit;
+use std::alloc::Global;
+use std::rt::Files;
+
+/// The failure that an error is, with the name that it is about.
+fn failure_of<'a>(error: KeepError, task: &Verification<'a>) -> Failure<'a>
+    ensures { IsFailureOfAudit task.now error result }
+{
+    match error {
+        KeepError::NoMemory => Failure::Memory,
+        KeepError::NoSuchName(place) => missing_name(
+            task.input.name(),
+            task.keep.as_slice(),
+            place,
+        ),
+    }
+}
+
+/// The audit of certificates, where the latches with these names are held.
+fn audited_by<'a>(
+    alloc: Global,
+    circuit: &Circuit,
+    blocks: &[Certificate],
+    names: &[Vec<u8>],
+    task: &Verification<'a>,
+) -> Result<Audit, Failure<'a>>
+    ensures { IfOk result (IsAudit (names_of names.now) circuit.now blocks.now) }
+{
+    match audit_blocks(alloc, circuit, blocks, names) {
+        Ok(audit) => Ok(audit),
+        Err(error) => Err(failure_of(error, task)),
+    }
+}
+
+/// The audit of certificates.
+fn audited<'a>(
+    alloc: Global,
+    circuit: &Circuit,
+    blocks: &[Certificate],
+    task: &Verification<'a>,
+) -> Result<Audit, Failure<'a>>
+    ensures { IfOk result (IsAudit (held_names task.now) circuit.now blocks.now) }
+{
+    match bytes_of_names(alloc, task.keep.as_slice()) {
+        Ok(names) => audited_by(alloc, circuit, blocks, names.as_slice(), task),
+        Err(_) => Err(Failure::Memory),
+    }
+}
+
+/// How a run ends by the end of an audit.
+fn outcome_of(end: End) -> Outcome
+    ensures { result ≡ outcome_of_end end }
+{
+    match end {
+        End::NoBlocks | End::Certified | End::Open => Outcome::Done,
+        End::BlocksFollow | End::Objected(_) => Outcome::Unconfirmed,
+    }
+}
+
+fn print_outcome<'a, O: CountedWrite>(
+    blocks: &[Certificate],
+    audit: Audit,
+    out: &mut O,
+) -> Result<Outcome, Failure<'a>>
+    ensures { EndsPrinting (outcome_of_end audit.end) (audit_text blocks.now audit)
+        (O.output out.old) (O.output out.new) result }
+{
+    ended(print_audit(blocks, audit, out), outcome_of(audit.end))
+}
+
+/// Prints the audit of certificates.
+fn print_blocks<'a, O: CountedWrite>(
+    alloc: Global,
+    circuit: &Circuit,
+    blocks: &[Certificate],
+    task: &Verification<'a>,
+    out: &mut O,
+) -> Result<Outcome, Failure<'a>>
+    ensures audit { IfOk result (λ ended. PrintsAudit
+        (held_names task.now) circuit.now blocks.now ended (O.output out.old) (O.output out.new)) }
+    ensures prints { Prints (ending result) (O.output out.old) (O.output out.new) }
+{
+    let audit = audited(alloc, circuit, blocks, task)?;
+    print_outcome(blocks, audit, out)
+}
+
+/// Prints the audit of the certificates that are read.
+fn print_file<'a, R: Files, I: CountedRead, O: CountedWrite>(
+    rt: &R,
+    alloc: Global,
+    circuit: &Circuit,
+    task: &Verification<'a>,
+    stdin: &mut I,
+    out: &mut O,
+) -> Result<Outcome, Failure<'a>>
+    ensures audit { IfOk result (λ ended. PrintsAuditFor (held_names task.now) circuit.now ended
+        (O.output out.old) (O.output out.new)) }
+    ensures prints { Prints (ending result) (O.output out.old) (O.output out.new) }
+{
+    match certificates_at(rt, alloc, task.certificates, stdin) {
+        Ok(file) => {
+            let printed = print_blocks(alloc, circuit, file.blocks.as_slice(), task, out);
+            drop(file);
+            printed
+        }
+        Err(failure) => Err(failure),
+    }
+}
+
+/// Reads a circuit, and then certificates, and prints whether each is confirmed. Whether a name is that of no latch shows once
+/// both were read.
+pub fn print_verification<'a, R: Files, I: CountedRead, O: CountedWrite>(
+    rt: &R,
+    alloc: Global,
+    task: &Verification<'a>,
+    stdin: &mut I,
+    out: &mut O,
+) -> Result<Outcome, Failure<'a>>
+    ensures audit { IfOk result (λ ended. PrintsSomeAudit (held_names task.now) ended
+        (O.output out.old) (O.output out.new)) }
+    ensures prints { Prints (ending result) (O.output out.old) (O.output out.new) }
+{
+    match circuit_at(rt, alloc, task.input, stdin) {
+        Ok(spelt) => {
+            let printed = print_file(rt, alloc, &spelt.circuit, task, stdin, out);
+            drop(spelt);
+            printed
+        }
+        Err(failure) => Err(failure),
+    }
+}

@@ -1,0 +1,203 @@
+//! The command `witness`.
+ghost use Rattle.std.specs.Prelude.{◌≡◌};
+ghost use Rattle.commands.specs.Printing.{Prints, ending};
+
+use crate::ended::ended;
+use aig_graph::{Circuit, Keep, NoMemory, Sequence};
+use circuit_files::{Failure, Outcome, circuit_at, witness_at};
+use clean::{Cleaned, clean};
+use counted_io::{CountedRead, CountedWrite};
+use reports::print_shapes_differ;
+use std::alloc::Global;
+use std::rt::Files;
+use std::thread::Threads;
+use stream_paths::Source;
+use witnesses::{Confirmed, Objection, Widths, Witness, confirm, print_objection, print_witness};
+
+/// What becomes of a witness.
+#[derive(Drop)]
+enum Fate {
+    Confirmed(Confirmed),
+    Objected(Objection),
+    /// The circuits aren't those of a retiming.
+    ShapesDiffer,
+}
+
+/// Every place among so many free latches.
+fn all_places(alloc: Global, free: u32) -> Result<Sequence<u32>, NoMemory> {
+    let mut places = Vec::new(alloc);
+    for place in 0..free {
+        places.push(place)?;
+    }
+    Ok(Sequence::from_vec(places))
+}
+
+/// The places that cleaning leaves, where there are so many.
+fn places_left(cleaned: Cleaned, free: u32) -> Option<Sequence<u32>> {
+    let Cleaned {
+        circuit,
+        kept_free,
+        ..
+    } = cleaned;
+    if circuit.aig().free_latches() == free {
+        Some(kept_free)
+    } else {
+        None
+    }
+}
+
+/// The places of a retimed circuit's free latches among those of the circuit that it was made of: they keep their order, so these are
+/// all where there are as many, and else those that cleaning leaves, where these are as many.
+fn kept_places(
+    alloc: Global,
+    circuit: &Circuit,
+    retimed: &Circuit,
+) -> Result<Option<Sequence<u32>>, NoMemory> {
+    let free = retimed.aig().free_latches();
+    if circuit.aig().free_latches() == free {
+        return Ok(Some(all_places(alloc, free)?));
+    }
+    match clean(alloc, circuit, &Keep::none()) {
+        Ok(cleaned) => Ok(places_left(cleaned, free)),
+        Err(error) => Err(error),
+    }
+}
+
+/// Whether the circuits have as many properties and inputs.
+fn have_same_widths(circuit: &Circuit, retimed: &Circuit) -> bool {
+    let widths = Widths::of(circuit);
+    let others = Widths::of(retimed);
+    let constraints = circuit.props().constraints.len();
+    widths.bad == others.bad
+        && widths.justice == others.justice
+        && widths.inputs == others.inputs
+        && retimed.props().constraints.len() == constraints
+}
+
+/// What becomes of a witness, where these free latches were kept.
+fn judged_with<R: Threads + Sync>(
+    rt: &R,
+    alloc: Global,
+    circuit: &Circuit,
+    retimed: &Circuit,
+    kept: &[u32],
+    witness: Witness,
+) -> Result<Fate, NoMemory> {
+    match confirm(rt, alloc, circuit, retimed, kept, witness) {
+        Ok(Ok(confirmed)) => Ok(Fate::Confirmed(confirmed)),
+        Ok(Err(objection)) => Ok(Fate::Objected(objection)),
+        Err(error) => Err(error),
+    }
+}
+
+fn judged<'a, R: Threads + Sync>(
+    rt: &R,
+    alloc: Global,
+    circuit: &Circuit,
+    retimed: &Circuit,
+    witness: Witness,
+) -> Result<Fate, Failure<'a>> {
+    if !have_same_widths(circuit, retimed) {
+        return Ok(Fate::ShapesDiffer);
+    }
+    let Ok(places) = kept_places(alloc, circuit, retimed) else {
+        return Err(Failure::Memory);
+    };
+    let Some(kept) = places else {
+        return Ok(Fate::ShapesDiffer);
+    };
+    match judged_with(rt, alloc, circuit, retimed, kept.as_slice(), witness) {
+        Ok(fate) => Ok(fate),
+        Err(_) => Err(Failure::Memory),
+    }
+}
+
+/// What becomes of the witness that is read.
+fn fate_under<'a, R: Files + Threads + Sync, I: CountedRead>(
+    rt: &R,
+    alloc: Global,
+    circuit: &Circuit,
+    retimed: &Circuit,
+    witness: Source<'a>,
+    stdin: &mut I,
+) -> Result<Fate, Failure<'a>> {
+    match witness_at(rt, alloc, witness, retimed, stdin) {
+        Ok(witness) => judged(rt, alloc, circuit, retimed, witness),
+        Err(failure) => Err(failure),
+    }
+}
+
+/// The same, where the retimed circuit is read too.
+fn fate_with<'a, R: Files + Threads + Sync, I: CountedRead>(
+    rt: &R,
+    alloc: Global,
+    circuit: &Circuit,
+    retimed: Source<'a>,
+    witness: Source<'a>,
+    stdin: &mut I,
+) -> Result<Fate, Failure<'a>> {
+    match circuit_at(rt, alloc, retimed, stdin) {
+        Ok(retimed) => {
+            let found = fate_under(rt, alloc, circuit, &retimed.circuit, witness, stdin);
+            drop(retimed);
+            found
+        }
+        Err(failure) => Err(failure),
+    }
+}
+
+fn fate_of<'a, R: Files + Threads + Sync, I: CountedRead>(
+    rt: &R,
+    alloc: Global,
+    input: Source<'a>,
+    retimed: Source<'a>,
+    witness: Source<'a>,
+    stdin: &mut I,
+) -> Result<Fate, Failure<'a>> {
+    match circuit_at(rt, alloc, input, stdin) {
+        Ok(circuit) => {
+            let found = fate_with(rt, alloc, &circuit.circuit, retimed, witness, stdin);
+            drop(circuit);
+            found
+        }
+        Err(failure) => Err(failure),
+    }
+}
+
+fn print_confirmed<'a, O: CountedWrite>(
+    confirmed: &Confirmed,
+    out: &mut O,
+) -> Result<Outcome, Failure<'a>>
+    ensures { Prints (ending result) (O.output out.old) (O.output out.new) }
+{
+    let printed = print_witness(&confirmed.witness, confirmed.reached.as_slice(), out);
+    ended(printed, Outcome::Done)
+}
+
+fn print_fate<'a, O: CountedWrite>(fate: &Fate, out: &mut O) -> Result<Outcome, Failure<'a>>
+    ensures { Prints (ending result) (O.output out.old) (O.output out.new) }
+{
+    match fate {
+        Fate::Confirmed(confirmed) => print_confirmed(confirmed, out),
+        Fate::Objected(objection) => ended(print_objection(*objection, out), Outcome::Unconfirmed),
+        Fate::ShapesDiffer => ended(print_shapes_differ(out), Outcome::ShapesDiffer),
+    }
+}
+
+/// Reads a circuit, the one that it was retimed to, and a witness for that one, in this order, and prints the witness for the first.
+pub fn print_witness_back<'a, R: Files + Threads + Sync, I: CountedRead, O: CountedWrite>(
+    rt: &R,
+    alloc: Global,
+    input: Source<'a>,
+    retimed: Source<'a>,
+    witness: Source<'a>,
+    stdin: &mut I,
+    out: &mut O,
+) -> Result<Outcome, Failure<'a>>
+    ensures { Prints (ending result) (O.output out.old) (O.output out.new) }
+{
+    let fate = fate_of(rt, alloc, input, retimed, witness, stdin)?;
+    let printed = print_fate(&fate, out);
+    drop(fate);
+    printed
+}

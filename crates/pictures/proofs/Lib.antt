@@ -1,0 +1,6 @@
+pub mod LabelLaws
+pub mod NameLaws
+pub mod TextLaws
+pub mod LookLaws
+pub mod MarkLaws
+pub mod ViewLaws

@@ -1,0 +1,9 @@
+use Rattle.counted_io.proofs.BufferedLemmas.{puts-numbered_next}
+use Rattle.pictures.specs.Pictures.{gate_lines}
+use Rattle.pictures.specs.Views.{drawn_in, look_in}
+use Rattle.pictures.proofs.graph.put_gates.Goals as goal
+
+pub loop-k-preserved : goal.loop-k-preserved
+loop-k-preserved g c =
+    puts-numbered_next (gate_lines (look_in c.args.view.now) (drawn_in c.args.view.now)) c.args.first c.args.gates.now c.loop-k.k _
+    c.loop-k-test.true c.index-gates-k.is c.loop-k.invariant c.put_drawn_gate.ensures

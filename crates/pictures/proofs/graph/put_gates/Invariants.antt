@@ -1,0 +1,9 @@
+use Rattle.std.proofs.Common.{take}
+use Rattle.counted_io.specs.Line.{numbered_lines}
+use Rattle.pictures.specs.Pictures.{gate_lines}
+use Rattle.pictures.specs.Views.{drawn_in, look_in}
+use Rattle.counted_io.specs.Buffered.{Puts}
+use Rattle.pictures.proofs.graph.put_gates.Given as goal
+
+abbrev pub invariant-loop-k : goal.invariant-loop-k
+invariant-loop-k g l = Puts g.W.CountedWrite.output l.fn.out l.out (numbered_lines (gate_lines (look_in l.view) (drawn_in l.view)) l.first (take l.k l.gates))

@@ -1,0 +1,8 @@
+use Rattle.std.proofs.Common.{take}
+use Rattle.std.specs.List.{list_any}
+use Rattle.variable_tables.specs.Marking.{Marks}
+use Rattle.aig_graph.specs.Border.{reads}
+use Rattle.pictures.proofs.named.mark_literals.Given as goal
+
+abbrev pub invariant-loop-lit : goal.invariant-loop-lit
+invariant-loop-lit l = Marks 0 l.fn.marks l.marks (λ v. list_any (reads v) (take l.lit-index l.lits))

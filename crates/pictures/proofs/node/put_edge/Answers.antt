@@ -1,0 +1,10 @@
+use Rattle.std.specs.Prelude.{codes}
+use Rattle.counted_io.proofs.BufferedLemmas.{puts-then}
+use Rattle.pictures.specs.Nodes.{edge_line}
+use Rattle.pictures.proofs.node.put_edge.Goals as goal
+
+pub returns : goal.returns
+unfolding edge_line
+returns g c =
+    rw c.var.ensures.variable at
+    (puts-then c.put_node.ensures (puts-then {xs = codes " -> "} c.put.ensures (puts-then c.put_node-2.ensures (puts-then c.put_dot.ensures c.put-2.ensures))))

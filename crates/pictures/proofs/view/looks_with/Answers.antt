@@ -1,0 +1,23 @@
+use Rattle.std.proofs.Common.{◌+◌, ◌∙◌, ap, sym, arith}
+use Rattle.variable_tables.proofs.TableLemmas.{entry, table-none, table-end}
+use Rattle.aig_graph.specs.Graph.{first_latch, latches_and_gates}
+use Rattle.pictures.specs.Looks.{look_with}
+use Rattle.pictures.proofs.view.looks_with.Goals as goal
+
+pub loop-k-init : goal.loop-k-init
+loop-k-init c = record { filled = c.in_ok-looks.ensures.items ∙ sym (table-none _ _) }
+
+pub loop-k-preserved : goal.loop-k-preserved
+loop-k-preserved c =
+    let look = look_with c.args.aig.now c.args.keep.now c.args.pass.now c.args.set.now c.args.read.now in
+    record {
+      filled = entry (first_latch c.args.aig.now) c.loop-k.k look _ _ _ c.loop-k.invariant.filled c.in_ok-push.ensures.items
+          (c.look_with.ensures ∙ ap (λ first. look (first + c.loop-k.k)) c.first_latch-first.ensures.value);
+    }
+
+pub returns : goal.returns
+returns c =
+    let n = c.loop-k.k in
+    let m = latches_and_gates c.args.aig.now in
+    table-end (first_latch c.args.aig.now) n m (look_with c.args.aig.now c.args.keep.now c.args.pass.now c.args.set.now c.args.read.now) _ (omega (arith, c.loop-k.auto, c.latches_and_gates-entries.ensures.value))
+    (omega (arith, c.loop-k-test.false, c.latches_and_gates-entries.ensures.value)) c.loop-k.invariant.filled

@@ -1,0 +1,8 @@
+use Rattle.std.proofs.Common.{◌≡◌}
+use Rattle.variable_tables.specs.Tables.{table}
+use Rattle.aig_graph.specs.Graph.{first_latch}
+use Rattle.pictures.specs.Looks.{look_with}
+use Rattle.pictures.proofs.view.looks_with.Given as goal
+
+abbrev pub invariant-loop-k : goal.invariant-loop-k
+invariant-loop-k l = record { filled : l.looks.items ≡ table (first_latch l.aig) l.k (look_with l.aig l.keep l.pass l.set l.read) }

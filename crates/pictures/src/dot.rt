@@ -1,0 +1,48 @@
+ghost use Rattle.std.specs.Prelude.{ℕ, ◌≡◌, Bool, List, Option};
+ghost use Rattle.counted_io.specs.Buffered.{Puts};
+ghost use Rattle.counted_io.specs.Output.{Writes};
+ghost use Rattle.pictures.specs.Looks.{IsViewOf};
+ghost use Rattle.pictures.specs.Pictures.{dot_text, picture};
+ghost use Rattle.pictures.specs.Views.{drawn_in, look_in};
+
+use crate::graph::put_graph;
+use crate::look::View;
+use crate::names::put_names;
+use crate::properties::put_properties;
+use aig_graph::Circuit;
+use counted_io::{Buffered, CountedWrite, WriteError};
+
+const HEAD: &[u8] = b"digraph circuit {\nrankdir=LR;\nnode [shape=plaintext];\n";
+
+fn put_dot<W: CountedWrite>(out: &mut Buffered<'_, W>, circuit: &Circuit, view: &View)
+    ensures { Puts W.output out.old out.new (dot_text (look_in view.now)
+        (drawn_in view.now) circuit.now) }
+{
+    out.put(HEAD);
+    put_graph(out, view, circuit.aig());
+    put_properties(out, view, circuit.props());
+    put_names(out, view, circuit);
+    out.put(b"}\n");
+}
+
+/// Writes the picture of a circuit by its view.
+///
+/// Takes no memory, and calls the writer about once for each 8 KiB of text. Names are written as text that shows them: a byte that is no
+/// printable ASCII is `\xNN`, but for the characters of a name that is UTF-8 as a whole.
+///
+/// # Errors
+///
+/// `Device` where a write failed: a beginning of the text was written then, and the writer isn't called again.
+pub fn write_dot<W: CountedWrite>(
+    circuit: &Circuit,
+    view: &View,
+    writer: &mut W,
+) -> Result<(), WriteError>
+    ensures { (held : List ℕ) (set : Option (List ℕ)) (shown : ℕ → Bool)
+        → IsViewOf circuit.now held set shown view.now
+        → Writes (W.output writer.old) (W.output writer.new) result (picture circuit.now held set shown) }
+{
+    let mut out = Buffered::new(writer);
+    put_dot(&mut out, circuit, view);
+    out.flush()
+}

@@ -1,0 +1,18 @@
+//! Pictures of circuits, as text in DOT, the language of Graphviz.
+//! The text goes through a buffer, line by line, and takes no memory.
+#![tactic(auto)]
+
+mod dot;
+mod graph;
+mod label;
+mod look;
+mod named;
+mod names;
+mod near;
+mod node;
+mod properties;
+mod view;
+
+pub use dot::write_dot;
+pub use look::View;
+pub use named::has_name;

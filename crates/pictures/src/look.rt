@@ -1,0 +1,86 @@
+ghost use Rattle.std.specs.Prelude.{◌≡◌, None, Some};
+ghost use Rattle.pictures.specs.Views.{drawn_in, look_in, plain};
+
+use aig_graph::Sequence;
+use variable_tables::mark_at;
+
+/// How the node of a latch or a gate looks.
+#[derive(Clone, Copy, PartialEq, Eq, Debug)]
+pub struct Look {
+    /// A held latch.
+    pub held: bool,
+    /// No gate over which latches may move.
+    pub fixed: bool,
+    /// A gate of the set that is shown.
+    pub inside: bool,
+    /// A latch or a gate in the border of that set.
+    pub border: bool,
+}
+
+/// What a picture shows: how each latch and gate looks, and which variables are drawn. `View::new` makes the view of a circuit.
+#[derive(Drop)]
+pub struct View {
+    first: u32,
+    looks: Vec<Look>,
+    drawn: Option<Sequence<bool>>,
+}
+
+/// What is neither a latch nor a gate.
+const PLAIN: Look = Look {
+    held: false,
+    fixed: true,
+    inside: false,
+    border: false,
+};
+
+impl View {
+    /// The view of these variables, with looks for those from the first latch on.
+    pub(crate) fn of_marked(first: u32, looks: Vec<Look>, marks: Vec<bool>) -> View
+        ensures first { result.first ≡ first }
+        ensures looks { result.looks.items ≡ looks.items }
+        ensures drawn { result.drawn ≡ Some marks.items }
+    {
+        View {
+            first,
+            looks,
+            drawn: Some(Sequence::from_vec(marks)),
+        }
+    }
+
+    /// The view of all variables, with looks for those from the first latch on.
+    pub(crate) fn of_looks(first: u32, looks: Vec<Look>) -> View
+        ensures first { result.first ≡ first }
+        ensures looks { result.looks.items ≡ looks.items }
+        ensures drawn { result.drawn ≡ None }
+    {
+        View {
+            first,
+            looks,
+            drawn: None,
+        }
+    }
+
+    #[tactic(auto, unfolding(crate::specs::Views::look_in))]
+    pub(crate) fn look(&self, var: u32) -> Look
+        ensures { result ≡ look_in self.now var }
+    {
+        if self.first <= var {
+            self.looks
+                .get((var - self.first) as usize)
+                .copied()
+                .unwrap_or(PLAIN)
+        } else {
+            PLAIN
+        }
+    }
+
+    #[tactic(auto, unfolding(crate::specs::Views::drawn_in))]
+    pub(crate) fn draws(&self, var: u32) -> bool
+        ensures { result ≡ drawn_in self.now var }
+    {
+        match &self.drawn {
+            Some(marks) => mark_at(marks.as_slice(), 0, var),
+            None => true,
+        }
+    }
+}

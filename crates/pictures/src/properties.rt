@@ -1,0 +1,88 @@
+ghost use Rattle.std.specs.Prelude.{◌≡◌};
+ghost use Rattle.std.specs.Str.{byte};
+ghost use Rattle.counted_io.specs.Buffered.{Puts};
+ghost use Rattle.counted_io.specs.Line.{numbered_lines};
+ghost use Rattle.pictures.specs.Nodes.{property_line};
+ghost use Rattle.pictures.specs.Pictures.{all_properties, are_drawn, property_lines, single_lines, single_property};
+ghost use Rattle.pictures.specs.Views.{drawn_in, look_in};
+
+use crate::look::View;
+use crate::node::{Node, put_edges, put_node};
+use aig_graph::{Lit, Props, Sequence};
+use counted_io::{Buffered, CountedWrite};
+
+/// Whether the variables of all literals are drawn.
+pub(crate) fn are_drawn(view: &View, lits: &[Lit]) -> bool
+    ensures { result ≡ are_drawn (look_in view.now) (drawn_in view.now) lits.now }
+{
+    lits.iter().all(|lit| view.draws(lit.var()))
+}
+
+fn put_property_node<W: CountedWrite>(out: &mut Buffered<'_, W>, node: Node)
+    ensures { Puts W.output out.old out.new (property_line node) }
+{
+    put_node(out, node);
+    out.put(b" [shape=note];\n");
+}
+
+fn put_property<W: CountedWrite>(
+    out: &mut Buffered<'_, W>,
+    view: &View,
+    letter: u8,
+    position: usize,
+    lits: &[Lit],
+)
+    ensures { Puts W.output out.old out.new (property_lines (look_in view.now)
+        (drawn_in view.now) letter position lits.now) }
+{
+    if are_drawn(view, lits) {
+        let node = Node::Property(letter, position);
+        put_property_node(out, node);
+        put_edges(out, view, node, lits);
+    }
+}
+
+fn put_single<W: CountedWrite>(
+    out: &mut Buffered<'_, W>,
+    view: &View,
+    letter: u8,
+    position: usize,
+    lit: Lit,
+)
+    ensures { Puts W.output out.old out.new (single_property (look_in view.now)
+        (drawn_in view.now) letter position lit) }
+{
+    put_property(out, view, letter, position, &[lit]);
+}
+
+/// Puts properties of one literal each.
+fn put_singles<W: CountedWrite>(out: &mut Buffered<'_, W>, view: &View, letter: u8, lits: &[Lit])
+    ensures { Puts W.output out.old out.new (single_lines (look_in view.now)
+        (drawn_in view.now) letter lits.now) }
+{
+    for (position, lit) in lits.iter().enumerate() {
+        put_single(out, view, letter, position, *lit);
+    }
+}
+
+/// Puts justice properties.
+fn put_justice<W: CountedWrite>(out: &mut Buffered<'_, W>, view: &View, justice: &[Sequence<Lit>])
+    ensures { Puts W.output out.old out.new (numbered_lines
+        (property_lines (look_in view.now) (drawn_in view.now) (byte "j")) 0 justice.now) }
+{
+    for (position, lits) in justice.iter().enumerate() {
+        put_property(out, view, b'j', position, lits.as_slice());
+    }
+}
+
+/// Puts the properties that are drawn, each with the edges to it.
+pub(crate) fn put_properties<W: CountedWrite>(out: &mut Buffered<'_, W>, view: &View, props: &Props)
+    ensures { Puts W.output out.old out.new (all_properties (look_in view.now)
+        (drawn_in view.now) props.now) }
+{
+    put_singles(out, view, b'o', props.outputs.as_slice());
+    put_singles(out, view, b'b', props.bad.as_slice());
+    put_singles(out, view, b'c', props.constraints.as_slice());
+    put_justice(out, view, props.justice.as_slice());
+    put_singles(out, view, b'f', props.fairness.as_slice());
+}

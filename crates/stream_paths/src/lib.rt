@@ -1,0 +1,8 @@
+//! What the paths of a command line stand for: `-` is a standard stream, and any other path a file (that of the name `-` is `./-`).
+#![tactic(auto)]
+
+mod source;
+mod target;
+
+pub use source::Source;
+pub use target::Target;

@@ -1,0 +1,36 @@
+-- The lines that are left of a text.
+use Rattle.std.proofs.Common.{ℕ, ◌+◌, ◌-◌, ◌<◌, ◌≤◌, ◌≡◌, ◌∷◌, [], List, true, false, length, refl, arith, ap, ◌∙◌}
+use Rattle.std.proofs.lemmas.Bool.{cond-true, cond-false}
+use Rattle.file_words.specs.Cuts.{IsFirst}
+use Rattle.file_words.specs.Lines.{lines}
+use Rattle.file_words.proofs.FirstLaws.{apart}
+use Rattle.witnesses.specs.Statements.{Statement, is_comment, with_line, statements, lines_left}
+
+pub no_bytes : (rest : List ℕ) → length rest ≡ 0 → rest ≡ []
+no_bytes [] e = refl
+no_bytes (byte ∷ rest) e = absurd (omega (arith, e))
+
+-- after the last line
+pub none_left : (end : ℕ) (rest : List ℕ) → rest ≡ [] → lines_left end rest ≡ []
+unfolding statements lines
+none_left end rest none = ap (lines_left end) none
+
+any_offset : (a b : ℕ) (rest : List ℕ) → (0 < length rest → a ≡ b) → statements a (lines rest) ≡ statements b (lines rest)
+unfolding statements lines
+any_offset a b [] same = refl
+any_offset a b (byte ∷ rest) same = ap (λ (at : ℕ). statements at (lines (byte ∷ rest))) (same (omega arith))
+
+-- the first line
+pub first_left : (end : ℕ) (text line more : List ℕ) → length text ≤ end → IsFirst text line more
+    → lines_left end text ≡ with_line (end - length text) line (lines_left end more)
+unfolding statements
+first_left end text line more within first =
+    ap (statements (end - length text)) first.whole
+    ∙ ap (with_line (end - length text) line) (any_offset (end - length text + length line + 1) (end - length more) more (λ some. omega (arith, apart text line more first some)))
+
+-- a line that is a comment, and one that isn't
+pub comment_left : (at : ℕ) (text : List ℕ) (rest : List Statement) → is_comment text ≡ true → with_line at text rest ≡ rest
+comment_left at text rest is = cond-true (is_comment text) rest (record { at = at; text = text } ∷ rest) is
+
+pub statement_left : (at : ℕ) (text : List ℕ) (rest : List Statement) → is_comment text ≡ false → with_line at text rest ≡ record { at = at; text = text } ∷ rest
+statement_left at text rest isnt = cond-false (is_comment text) rest (record { at = at; text = text } ∷ rest) isnt

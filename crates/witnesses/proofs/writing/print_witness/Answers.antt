@@ -1,0 +1,6 @@
+use Rattle.std.proofs.Common.{rules}
+use Rattle.counted_io.proofs.BufferedLemmas.{writes-whole}
+use Rattle.witnesses.proofs.writing.print_witness.Goals as goal
+
+pub returns : goal.returns
+returns g c = writes-whole c.new-out.ensures c.put_whole.ensures c.flush.ensures (search rules)

@@ -1,0 +1,14 @@
+pub mod Codes
+pub mod Circuits
+pub mod Statements
+pub mod Answering
+pub mod Rows
+pub mod Properties
+pub mod Reading
+pub mod Texts
+pub mod Carrying
+pub mod Runs
+pub mod Reaching
+pub mod Places
+pub mod Confirming
+pub mod Laws

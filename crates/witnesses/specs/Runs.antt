@@ -1,0 +1,17 @@
+-- The input sequence of a witness.
+use Rattle.std.specs.Prelude.{Bool, true, false, map}
+use Rattle.aig_graph.specs.Graph.{Graph}
+use Rattle.lane_sim.specs.declared.stimulus.InputSequence.{InputSequence}
+use Rattle.witnesses.specs.declared.witness.Digit.{Digit}
+use Rattle.witnesses.specs.declared.witness.Digit.TheVariants.{Zero, One, Either}
+use Rattle.witnesses.specs.declared.witness.Witness.{Witness}
+use Rattle.witnesses.specs.Carrying.{free_digits}
+
+-- where either value does, 0 is taken
+abbrev pub is_one : Digit → Bool
+is_one Zero = false
+is_one One = true
+is_one Either = false
+
+abbrev pub run_of : Graph → Witness → InputSequence
+run_of g w = record { choice = map is_one (free_digits g.latches w.latches); steps = map (map is_one) w.inputs }

@@ -1,0 +1,72 @@
+ghost use Rattle.std.specs.Prelude.{◌≡◌};
+
+use std::alloc::{AllocError, AllocFailed};
+use thiserror::Error;
+
+/// Why bytes were not read as a witness. The number is the offset of the first byte of the line at fault; a line that is missing would
+/// begin at the end.
+#[derive(Clone, Copy, Debug, PartialEq, Eq, Error)]
+pub enum WitnessError {
+    /// The first line isn't `1`: a checker that found no way to a bad state writes `0` or `2`.
+    #[error("BadHeader at {0}")]
+    BadHeader(u64),
+    /// A line has another form than the one that comes next.
+    #[error("BadLine at {0}")]
+    BadLine(u64),
+    /// A line has another number of values than there are latches or inputs.
+    #[error("Width at {0}")]
+    Width(u64),
+    /// The circuit has no property of a number that is named.
+    #[error("NoSuchProperty at {0}")]
+    NoSuchProperty(u64),
+    /// The text ends before the line that ends a witness.
+    #[error("Truncated at {0}")]
+    Truncated(u64),
+    /// A line that is no comment follows the end.
+    #[error("Trailing at {0}")]
+    Trailing(u64),
+    /// Memory was refused.
+    #[error("out of memory")]
+    NoMemory,
+}
+
+impl WitnessError {
+    ghost use Rattle.witnesses.specs.Codes.{code_of};
+
+    /// The number of the kind of fault, from 1 on.
+    pub fn code(self) -> u8
+        ensures { result ≡ code_of self }
+    {
+        match self {
+            WitnessError::BadHeader(_) => 1,
+            WitnessError::BadLine(_) => 2,
+            WitnessError::Width(_) => 3,
+            WitnessError::NoSuchProperty(_) => 4,
+            WitnessError::Truncated(_) => 5,
+            WitnessError::Trailing(_) => 6,
+            WitnessError::NoMemory => 7,
+        }
+    }
+}
+
+impl From<AllocError> for WitnessError {
+    ghost use Rattle.std.specs.Prelude.{◌≡◌};
+    ghost use Rattle.witnesses.specs.declared.fault.WitnessError.TheVariants.{NoMemory};
+
+    ghost from_gives = { λ _ e. e ≡ NoMemory };
+
+    fn from(_error: AllocError) -> WitnessError {
+        WitnessError::NoMemory
+    }
+}
+
+impl<T: Drop> From<AllocFailed<T>> for WitnessError {
+    ghost use Rattle.std.specs.Prelude.{◌≡◌};
+    ghost use Rattle.witnesses.specs.declared.fault.WitnessError.TheVariants.{NoMemory};
+
+    ghost from_gives = { λ _ e. e ≡ NoMemory };
+
+    fn from(_error: AllocFailed<T>) -> WitnessError {
+        WitnessError::NoMemory
+    }
+}

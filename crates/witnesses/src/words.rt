@@ -1,0 +1,98 @@
+ghost use Rattle.std.specs.Prelude.{◌≡◌, ◌+◌, ◌*◌, []};
+ghost use Rattle.file_words.specs.Lines.{pieces};
+ghost use Rattle.witnesses.specs.Answering.{Gives};
+ghost use Rattle.witnesses.specs.Properties.{clamped, has, number_of, properties_of, property_of, with_property};
+
+use crate::fault::WitnessError;
+use crate::lines::Line;
+use crate::widths::Widths;
+use crate::witness::Property;
+use aig_graph::Sequence;
+use file_words::cut;
+use std::alloc::Global;
+
+/// The number with one more digit after it.
+fn with_digit(number: u64, digit: u8) -> u64
+    ensures { result ≡ clamped (10 * number + digit) }
+{
+    number.saturating_mul(10).saturating_add(u64::from(digit))
+}
+
+/// The number that decimal digits spell, where `u64::MAX` stands for each greater one.
+fn number(digits: &[u8]) -> Option<u64>
+    ensures { result ≡ number_of digits.now }
+{
+    if digits.is_empty() {
+        return None;
+    }
+    let mut number = 0;
+    for digit in digits {
+        if !digit.is_ascii_digit() {
+            return None;
+        }
+        number = with_digit(number, *digit - b'0');
+    }
+    Some(number)
+}
+
+/// The property that a word names: `b` or `j`, and its number.
+fn property(word: &[u8]) -> Option<Property>
+    ensures { result ≡ property_of word.now }
+{
+    let (letter, digits) = word.split_first()?;
+    let number = number(digits)? as usize;
+    match *letter {
+        b'b' => Some(Property::Bad(number)),
+        b'j' => Some(Property::Justice(number)),
+        _ => None,
+    }
+}
+
+/// Whether there is the property.
+fn has(widths: &Widths, property: Property) -> bool
+    ensures { result ≡ has widths.now property }
+{
+    match property {
+        Property::Bad(number) => number < widths.bad,
+        Property::Justice(number) => number < widths.justice,
+    }
+}
+
+/// Takes a word of the line at an offset.
+fn push_property(
+    properties: &mut Vec<Property>,
+    widths: &Widths,
+    at: u64,
+    word: &[u8],
+) -> Result<(), WitnessError>
+    ensures { Gives (λ _. properties.new.items) result
+        (with_property widths.now at properties.old.items word.now) }
+{
+    let Some(property) = property(word) else {
+        return Err(WitnessError::BadLine(at));
+    };
+    if !has(widths, property) {
+        return Err(WitnessError::NoSuchProperty(at));
+    }
+    properties.push(property)?;
+    Ok(())
+}
+
+/// The line as one of properties, with one space between.
+pub(crate) fn properties(
+    alloc: Global,
+    line: &Line<'_>,
+    widths: &Widths,
+) -> Result<Sequence<Property>, WitnessError>
+    ensures { Gives (λ properties. properties) result
+        (properties_of widths.now line.now.at [] (pieces line.now.text.now)) }
+{
+    let mut properties = Vec::new(alloc);
+    let mut rest = line.text;
+    while let Some((word, more)) = cut(rest, b' ') {
+        push_property(&mut properties, widths, line.at, word)?;
+        rest = more;
+    }
+    push_property(&mut properties, widths, line.at, rest)?;
+    Ok(Sequence::from_vec(properties))
+}
