@@ -4,14 +4,14 @@ use Rattle.aig_graph.specs.Circuits.{Netlist}
 use Rattle.file_words.specs.declared.fault.ReadError.{ReadError}
 use Rattle.file_words.specs.declared.fault.ReadError.TheVariants.{NoMemory}
 use Rattle.file_words.specs.Cuts.{HasNoNewline, Cuts}
-use Rattle.file_words.proofs.Decimals.{lacks-append}
+use Rattle.file_words.proofs.DecimalLaws.{lacks-append}
 use Rattle.ascii_file.specs.declared.header.Header.{Header}
 use Rattle.ascii_file.specs.Headers.{header_of}
 use Rattle.ascii_file.specs.Raw.{Raw, nothing_yet}
 use Rattle.ascii_file.specs.Reading.{◌>>=◌, AtHeader, InItems, read_header, take_line, take_lines, finish, read_bytes}
 use Rattle.ascii_file.specs.Pieces.{ended_lines, open_line, fed, with_last_line}
 use Rattle.ascii_file.specs.Answering.{Fails, Gives}
-use Rattle.ascii_file.proofs.Pieces.{part_taken, end_taken, the_pieces_law}
+use Rattle.ascii_file.proofs.PieceLaws.{part_taken, end_taken, the_pieces_law}
 use Rattle.ascii_file.proofs.AnsweringLaws.{Gives-same}
 use Rattle.file_lines.specs.declared.header.HeaderLine.{HeaderLine}
 use Rattle.file_lines.specs.Header.{header_row, header_with}

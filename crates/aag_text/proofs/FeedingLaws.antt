@@ -6,7 +6,7 @@ use Rattle.file_words.specs.Cuts.{HasNoNewline, Cuts}
 use Rattle.ascii_file.specs.Reading.{◌>>=◌, State, AtHeader, is_complete, take_line, take_lines}
 use Rattle.ascii_file.specs.Pieces.{ended_lines, open_line, fed}
 use Rattle.ascii_file.specs.Answering.{Fails}
-use Rattle.ascii_file.proofs.Pieces.{part_taken, end_taken, take_lines-append, the_pieces_law}
+use Rattle.ascii_file.proofs.PieceLaws.{part_taken, end_taken, take_lines-append, the_pieces_law}
 use Rattle.ascii_file.proofs.AnsweringLaws.{Fails-same}
 use Rattle.ascii_sections.specs.declared.sections.Sections.{Sections}
 use Rattle.ascii_sections.specs.Taking.{raw_of}

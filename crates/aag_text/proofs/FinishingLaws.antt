@@ -6,7 +6,7 @@ use Rattle.ascii_file.specs.Reading.{◌>>=◌, State, is_complete, take_line, f
 use Rattle.ascii_file.specs.Raw.{RawSymbol}
 use Rattle.ascii_file.specs.Pieces.{open_line, fed, with_last_line, closed}
 use Rattle.ascii_file.specs.Answering.{Fails, Gives}
-use Rattle.ascii_file.proofs.Pieces.{the_pieces_law}
+use Rattle.ascii_file.proofs.PieceLaws.{the_pieces_law}
 use Rattle.ascii_file.proofs.AnsweringLaws.{Fails-same, Fails-bind, Gives-same}
 use Rattle.ascii_sections.specs.declared.sections.Sections.{Sections}
 use Rattle.aag_text.specs.declared.lines.OpenLine.{OpenLine}

@@ -4,7 +4,7 @@ use Rattle.file_words.specs.declared.fault.ReadError.{ReadError}
 use Rattle.aig_graph.specs.Circuits.{Netlist}
 use Rattle.file_words.specs.declared.fault.ReadError.TheVariants.{NoMemory}
 use Rattle.ascii_file.specs.Reading.{read_bytes, IsFaultOf}
-use Rattle.ascii_file.proofs.Faults.{fault_of_bytes}
+use Rattle.ascii_file.proofs.FaultLaws.{fault_of_bytes}
 use Rattle.ascii_file.specs.Pieces.{fed}
 use Rattle.ascii_file.specs.Answering.{Fails, Gives}
 use Rattle.aag_text.specs.declared.reader.Phase.{Phase}

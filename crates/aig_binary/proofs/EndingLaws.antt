@@ -4,7 +4,7 @@ use Rattle.std.specs.Io.KnownBytes.{Consumes, IsAtEnd}
 use Rattle.std.proofs.lemmas.Option.{none-some, same_Some}
 use Rattle.counted_io.specs.Input.{Input, ReadsAll}
 use Rattle.counted_io.specs.Output.{one_more}
-use Rattle.counted_io.proofs.InputLemmas.{ReadsFirst, first-all}
+use Rattle.counted_io.proofs.InputLaws.{ReadsFirst, first-all}
 use Rattle.aig_graph.specs.Circuits.{Netlist}
 use Rattle.file_words.specs.declared.fault.ReadError.{ReadError}
 use Rattle.file_words.specs.declared.fault.ReadError.TheVariants.{NoMemory, BadHeader}

@@ -7,12 +7,12 @@ use Rattle.file_words.specs.declared.fault.ReadError.TheVariants.{BadHeader, NoM
 use Rattle.file_words.specs.Codes.{is_fault_of_bytes}
 use Rattle.ascii_file.specs.Reading.{◌>>=◌, read_bytes}
 use Rattle.ascii_file.specs.Pieces.{fed}
-use Rattle.ascii_file.proofs.Pieces as ascii
-use Rattle.ascii_file.proofs.Faults as ascii_faults
+use Rattle.ascii_file.proofs.PieceLaws as ascii
+use Rattle.ascii_file.proofs.FaultLaws as ascii_faults
 use Rattle.ascii_file.specs.Answering.{Fails, Gives}
 use Rattle.binary_file.specs.Reading.{AtHeader, feed, read_binary}
-use Rattle.binary_file.proofs.Pieces as binary
-use Rattle.binary_file.proofs.Faults as binary_faults
+use Rattle.binary_file.proofs.PieceLaws as binary
+use Rattle.binary_file.proofs.FaultLaws as binary_faults
 use Rattle.spellings.specs.declared.form.Spelling.{Spelling}
 use Rattle.spellings.specs.declared.form.Spelling.TheVariants.{Ascii, Binary}
 use Rattle.spellings.specs.Spellings.{spelling_of, read_in, read_any}

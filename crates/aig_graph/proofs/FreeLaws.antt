@@ -5,8 +5,8 @@ use Rattle.std.proofs.lemmas.Option.{get_or_from_slice_get}
 use Rattle.std.proofs.lemmas.List.Sums.{count_by_more_no, count_by_more_yes}
 use Rattle.aig_graph.specs.Graph.{Graph, first_latch, first_gate, variables_end, latch_at, is_free, is_free_latch, free_before, free_latches}
 use Rattle.variable_tables.specs.Counting.{count_below}
-use Rattle.variable_tables.proofs.PlacesLemmas.{count-pass, count-fail}
-use Rattle.variable_tables.proofs.CountingLemmas.{count-none}
+use Rattle.variable_tables.proofs.PlacesLaws.{count-pass, count-fail}
+use Rattle.variable_tables.proofs.CountingLaws.{count-none}
 use Rattle.aig_graph.proofs.KindLaws.{element, latch_at-before, latch_at-first_latch, latch_at-gates}
 
 abbrev pub is_free_at : Graph → ℕ → Bool

@@ -13,8 +13,8 @@ use Rattle.aig_graph.specs.Closed.{is_held, is_settled, IsClosedSet}
 use Rattle.aig_graph.specs.Border.{is_read}
 use Rattle.aig_graph.specs.Laws.{MayMoveOrPassable, PassableLaw, EmptySetLaws, AtMostOne}
 use Rattle.aig_graph.proofs.ClosedLaws.{settled_where, is_settled-gate, and_true, and_left, and_right}
-use Rattle.aig_graph.proofs.ClosedBorder.{closed-border_size}
-use Rattle.variable_tables.proofs.CountingLemmas.{count_below-same}
+use Rattle.aig_graph.proofs.ClosedBorderLaws.{closed-border_size}
+use Rattle.variable_tables.proofs.CountingLaws.{count_below-same}
 
 -- a variable is settled exactly where it is a known latch that isn't held or a passable gate
 settled_iff : (g : Graph) (held : List ℕ) (v : ℕ) → IsTrue (is_settled g held v) ↔ MayMoveOrPassable g held v

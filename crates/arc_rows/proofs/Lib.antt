@@ -1,2 +1,2 @@
-pub mod Sparse
-pub mod RowLemmas
+pub mod SparseRowLaws
+pub mod RowLaws

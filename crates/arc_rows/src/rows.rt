@@ -32,7 +32,7 @@ fn push_excess(
 }
 
 /// Writes the row of pushes of node `v`: by its excess and label where it is active, else 0s. `nodes` is the number of nodes.
-#[tactic(auto, using(crate::proofs::RowLemmas::on_row, crate::proofs::RowLemmas::off_row, crate::proofs::RowLemmas::low_row))]
+#[tactic(auto, using(crate::proofs::RowLaws::on_row, crate::proofs::RowLaws::off_row, crate::proofs::RowLaws::low_row))]
 pub fn write_pushes(
     heads: &[u32],
     residuals: &[u32],

@@ -18,9 +18,9 @@ use Rattle.ascii_file.specs.Headers.{IsHeaderWithin}
 use Rattle.ascii_file.specs.Items.{Item, InputItem, LatchItem, SafetyItem, SizeItem, LivenessItem, GateItem, SymbolItem, single, latch_in, gate_in, kind_of, symbol_of, item_of, begins_comment}
 use Rattle.ascii_file.specs.Reading.{unless, past_greatest, is_undefinable, is_bad_reset, checks, with_item, take_item, malformed_symbol, malformed, next_section, read_line, is_symbols, is_complete}
 use Rattle.ascii_file.specs.Files.{HasReset}
-use Rattle.ascii_file.proofs.Checks.{reset_where_it_passes}
-use Rattle.ascii_file.proofs.Steps.{section_is}
-use Rattle.ascii_file.proofs.States.{is_of}
+use Rattle.ascii_file.proofs.CheckLaws.{reset_where_it_passes}
+use Rattle.ascii_file.proofs.StepLaws.{section_is}
+use Rattle.ascii_file.proofs.StateLaws.{is_of}
 use Rattle.file_lines.specs.declared.symbols.SymbolText.{SymbolText}
 use Rattle.file_lines.specs.declared.symbols.SymbolText.TheVariants.{NoSymbol, Comment, Malformed, Name}
 use Rattle.file_lines.specs.Rows.{clamped, up_to_nine, row_of}

@@ -14,8 +14,8 @@ use Rattle.ascii_file.specs.Raw.{Raw, RawSymbol, defined, count_of}
 use Rattle.ascii_file.specs.Items.{Item, InputItem, LatchItem, SafetyItem, SizeItem, LivenessItem, GateItem, SymbolItem, section_of}
 use Rattle.ascii_file.specs.Reading.{next_section, with_item, is_of_same}
 use Rattle.ascii_file.specs.Files.{IsInRange, IsDefinable, DefinesApart, HasReset, NamesApart}
-use Rattle.ascii_file.proofs.Checks.{Fits}
-use Rattle.ascii_file.proofs.Apart.{AreApart, apart_and_new, pairs_from}
+use Rattle.ascii_file.proofs.CheckLaws.{Fits}
+use Rattle.ascii_file.proofs.DistinctItemLaws.{AreApart, apart_and_new, pairs_from}
 use Rattle.ascii_sections.specs.Standing.{IsFilling, IsRead}
 use Rattle.ascii_sections.proofs.CountLaws.{room_in}
 

@@ -11,7 +11,7 @@ use Rattle.ascii_file.specs.Raw.{Raw, RawSymbol, defined}
 use Rattle.ascii_file.specs.Items.{Item, section_of}
 use Rattle.ascii_file.specs.Reading.{◌>>=◌, unless, past_greatest, is_undefinable, checks, definition_checks, with_item, take_item, next_section}
 use Rattle.ascii_file.specs.Answering.{Fails}
-use Rattle.ascii_file.proofs.Checks.{Passes, unless_ok, unless_passes, Fits, passes_where_fits}
+use Rattle.ascii_file.proofs.CheckLaws.{Passes, unless_ok, unless_passes, Fits, passes_where_fits}
 use Rattle.ascii_file.proofs.AnsweringLaws.{Fails-same, Fails-bind, Fails-is}
 use Rattle.file_parts.specs.Names.{AreNamesOf}
 use Rattle.ascii_sections.specs.declared.sections.Sections.{Sections}

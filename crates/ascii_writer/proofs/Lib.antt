@@ -1,1 +1,1 @@
-pub mod HeaderLemmas
+pub mod HeaderLaws

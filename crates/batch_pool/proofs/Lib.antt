@@ -1,1 +1,1 @@
-pub mod FileOutcomes
+pub mod FileOutcomeLaws

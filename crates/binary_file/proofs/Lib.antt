@@ -1,8 +1,8 @@
 pub mod Examples
-pub mod Faults
-pub mod Steps
-pub mod Items
-pub mod Gates
-pub mod Files
-pub mod Pieces
-pub mod Counts
+pub mod FaultLaws
+pub mod StepLaws
+pub mod ItemLaws
+pub mod GateLaws
+pub mod FileLaws
+pub mod PieceLaws
+pub mod CountLaws

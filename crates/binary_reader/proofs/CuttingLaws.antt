@@ -9,7 +9,7 @@ use Rattle.deltas.specs.declared.decode.DeltaError.{DeltaError}
 use Rattle.deltas.specs.declared.decode.DeltaError.TheVariants.{TooLong}
 use Rattle.ascii_file.specs.Reading.{◌>>=◌}
 use Rattle.binary_file.specs.Reading.{State, feed}
-use Rattle.binary_file.proofs.Steps.{delta_fed}
+use Rattle.binary_file.proofs.StepLaws.{delta_fed}
 use Rattle.binary_reader.specs.Cutting.{BeginsWithDelta, IsShortDelta, AreDeltaStates, IsTaken}
 
 -- ---- deltas of at most three bytes

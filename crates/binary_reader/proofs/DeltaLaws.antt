@@ -7,7 +7,7 @@ use Rattle.ascii_file.specs.declared.header.Header.{Header}
 use Rattle.ascii_file.specs.Raw.{Raw}
 use Rattle.ascii_file.specs.Reading.{◌>>=◌}
 use Rattle.ascii_file.specs.Answering.{Fails}
-use Rattle.ascii_file.proofs.Checks.{unless_ok, same_ok}
+use Rattle.ascii_file.proofs.CheckLaws.{unless_ok, same_ok}
 use Rattle.ascii_file.proofs.AnsweringLaws.{Fails-as, Fails-bind, Fails-with}
 use Rattle.deltas.specs.Deltas.{delta_value}
 use Rattle.binary_file.specs.Items.{next_gate}

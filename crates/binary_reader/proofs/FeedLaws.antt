@@ -16,7 +16,7 @@ use Rattle.file_lines.specs.Open.{numbers_with}
 use Rattle.file_lines.specs.Symbols.{text_of, text_with}
 use Rattle.deltas.specs.Deltas.{delta_value}
 use Rattle.binary_file.specs.Reading.{State, InLine, InComment, end_line, step, feed}
-use Rattle.binary_file.proofs.Steps.{comment_fed}
+use Rattle.binary_file.proofs.StepLaws.{comment_fed}
 use Rattle.binary_sections.specs.Contents.{Contents}
 use Rattle.binary_reader.specs.declared.items.Items.{Items}
 use Rattle.binary_reader.specs.declared.opened.Opened.{Opened}

@@ -6,7 +6,7 @@ use Rattle.file_words.specs.declared.fault.ReadError.TheVariants.{MaxIndex}
 use Rattle.ascii_file.specs.declared.header.Header.{Header}
 use Rattle.ascii_file.specs.Headers.{header_in}
 use Rattle.ascii_file.specs.Reading.{◌>>=◌, unless}
-use Rattle.ascii_file.proofs.Checks.{Passes, unless_ok, same_ok}
+use Rattle.ascii_file.proofs.CheckLaws.{Passes, unless_ok, same_ok}
 use Rattle.file_lines.specs.Header.{header_row}
 use Rattle.file_lines.specs.Limits.{limits, limited}
 use Rattle.file_lines.proofs.HeaderLaws.{cut, IsCuttable, formed, formed-limited, spelt, header-of-row}

@@ -5,13 +5,13 @@ use Rattle.std.proofs.lemmas.Bool.{not-true}
 use Rattle.std.proofs.lemmas.List.{length_push}
 use Rattle.std.proofs.lemmas.List.Elements.{All-push}
 use Rattle.variable_tables.specs.declared.memory.NoMemory.{NoMemory}
-use Rattle.variable_tables.proofs.PlacesLemmas.{slice_get_push}
+use Rattle.variable_tables.proofs.PlacesLaws.{slice_get_push}
 use Rattle.aig_graph.specs.declared.graph.Gate.{Gate}
 use Rattle.aig_graph.specs.declared.properties.Symbols.{Symbols}
 use Rattle.aig_graph.specs.Graph.{IsGateAt}
 use Rattle.ascii_file.specs.Raw.{RawSymbol, count_of}
 use Rattle.ascii_file.specs.Reading.{is_of_same}
-use Rattle.ascii_file.proofs.Apart.{pairs_from}
+use Rattle.ascii_file.proofs.DistinctItemLaws.{pairs_from}
 use Rattle.file_parts.specs.Names.{AreNamesOf, with_new}
 use Rattle.binary_sections.specs.Contents.{Contents, gate_literal}
 use Rattle.binary_sections.specs.Kept.{AreNamed, IsKept}

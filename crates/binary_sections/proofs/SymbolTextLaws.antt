@@ -12,7 +12,7 @@ use Rattle.ascii_file.specs.declared.raw.SymbolKind.TheVariants.{Input, Latch, O
 use Rattle.ascii_file.specs.Raw.{Raw, RawSymbol, count_of}
 use Rattle.ascii_file.specs.Items.{Item, InputItem, LatchItem, SafetyItem, SizeItem, LivenessItem, GateItem, SymbolItem, kind_of, symbol_of, item_of, begins_comment}
 use Rattle.ascii_file.specs.Reading.{is_of_same, with_item, malformed_symbol, malformed}
-use Rattle.ascii_file.proofs.Steps.{section_is}
+use Rattle.ascii_file.proofs.StepLaws.{section_is}
 use Rattle.file_lines.specs.declared.symbols.SymbolText.{SymbolText}
 use Rattle.file_lines.specs.declared.symbols.SymbolText.TheVariants.{NoSymbol, Comment, Malformed, Name}
 use Rattle.file_lines.specs.Rows.{clamped}

@@ -1,5 +1,5 @@
-pub mod Lines
-pub mod Items
-pub mod Spelt
-pub mod RoundTrip
+pub mod LineLaws
+pub mod ItemLaws
+pub mod SpeltItemLaws
+pub mod RoundTripLaws
 mod Examples

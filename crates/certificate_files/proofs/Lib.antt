@@ -3,6 +3,6 @@ pub mod AnsweringLaws
 pub mod WordLaws
 pub mod StepLaws
 pub mod FileLaws
-pub mod RoundTrip
+pub mod RoundTripLaws
 pub mod ReadLaws
 pub mod Examples

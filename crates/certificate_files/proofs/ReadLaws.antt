@@ -15,7 +15,7 @@ use Rattle.certificate_files.specs.Files.{is_word, begins_with, is_point, point_
 use Rattle.certificate_files.specs.Forms.{are_small}
 use Rattle.certificate_files.specs.Laws.{is_writable_route, is_writable_block, is_writable, RereadingLaw}
 use Rattle.certificate_files.specs.Steps.{block_of, with_gate, with_route}
-use Rattle.certificate_files.proofs.RoundTrip.{the_round_trip_law}
+use Rattle.certificate_files.proofs.RoundTripLaws.{the_round_trip_law}
 
 -- ---- a route has a point
 

@@ -13,8 +13,8 @@ use Rattle.aig_graph.specs.Circuits.{Netlist}
 use Rattle.aig_graph.specs.Closed.{is_held, IsClosedSet, IsLatchOrIn}
 use Rattle.aig_graph.specs.Move.{move_of}
 use Rattle.aig_graph.specs.Border.{is_read, border_size, is_read_outside, IsLeast}
-use Rattle.aig_graph.proofs.ClosedBorder.{closed-border_size}
-use Rattle.aig_graph.proofs.SetLemmas.{has_iff_contains}
+use Rattle.aig_graph.proofs.ClosedBorderLaws.{closed-border_size}
+use Rattle.aig_graph.proofs.SearchLaws.{has_iff_contains}
 use Rattle.aig_graph.proofs.KindLaws.{latch_at-gates, gate_place, latch_place}
 use Rattle.frame_net.specs.declared.net.Point.{Point}
 use Rattle.frame_net.specs.Passable.{is_passable}

@@ -4,8 +4,8 @@ use Rattle.std.proofs.lemmas.Bool.{cases_Bool, eqb-true, and_from, and_left, or_
 use Rattle.std.proofs.lemmas.List.{drop_all}
 use Rattle.variable_tables.specs.Marking.{mark_at}
 use Rattle.variable_tables.specs.Tables.{table}
-use Rattle.variable_tables.proofs.MarkingLemmas.{mark_at-covered, AreMarks-table}
-use Rattle.variable_tables.proofs.TableLemmas.{length-table}
+use Rattle.variable_tables.proofs.MarkingLaws.{mark_at-covered, AreMarks-table}
+use Rattle.variable_tables.proofs.TableLaws.{length-table}
 use Rattle.aig_graph.specs.declared.graph.Latch.{Latch}
 use Rattle.aig_graph.specs.declared.graph.Gate.{Gate}
 use Rattle.aig_graph.specs.Graph.{Graph, first_latch, variables_end, latches_and_gates, latch_at, gate_at, is_known}

@@ -7,7 +7,7 @@ use Rattle.std.proofs.lemmas.List.Elements.{All-map, All-head, All-tail}
 use Rattle.aig_graph.specs.Graph.{first_latch, first_gate, variables_end, latches_and_gates, free_latches}
 use Rattle.aig_graph.specs.Circuits.{Netlist}
 use Rattle.aig_graph.specs.Laws.{all_free, composed}
-use Rattle.variable_tables.proofs.PlacesLemmas.{count-bound}
+use Rattle.variable_tables.proofs.PlacesLaws.{count-bound}
 use Rattle.cleaned_circuits.specs.Merged.{merged_of, stands_of}
 use Rattle.cleaned_circuits.specs.Reached.{stays}
 use Rattle.cleaned_circuits.specs.Trimmed.{trimmed_graph, new_variable, new_position}

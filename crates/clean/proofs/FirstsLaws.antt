@@ -9,7 +9,7 @@ use Rattle.aig_graph.specs.declared.graph.Reset.TheVariants.{Zero, One, Free}
 use Rattle.aig_graph.specs.Graph.{Graph, first_latch, is_free}
 use Rattle.variable_tables.specs.Marking.{has}
 use Rattle.variable_tables.specs.Tables.{table}
-use Rattle.variable_tables.proofs.TableLemmas.{entry, table-same}
+use Rattle.variable_tables.proofs.TableLaws.{entry, table-same}
 use Rattle.cleaned_circuits.specs.Latches.{constant_of, same_reset, is_latch, is_stuck, is_like, first_where, latch_stand, leaf_stand}
 use Rattle.cleaned_circuits.specs.Merged.{stand_or_own}
 use Rattle.cleaned_circuits.proofs.LatchLaws.{first_where-cases, first_where-least, same_reset-is}

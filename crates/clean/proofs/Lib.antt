@@ -1,4 +1,4 @@
-pub mod MergeSteps
+pub mod MergeStepLaws
 pub mod SubstitutionLaws
 pub mod FirstsLaws
 pub mod FrontLaws
@@ -6,6 +6,6 @@ pub mod ReadsLaws
 pub mod SweepLaws
 pub mod TrimLaws
 pub mod NamesLaws
-pub mod PassSteps
+pub mod PassStepLaws
 pub mod CleaningLaws
 pub mod MappingLaws

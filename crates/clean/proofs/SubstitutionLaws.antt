@@ -4,7 +4,7 @@ use Rattle.std.proofs.lemmas.List.{append-nil, get_or_append_left, get_or-append
 use Rattle.aig_graph.specs.Graph.{variable}
 use Rattle.variable_tables.specs.Tables.{table}
 use Rattle.aig_graph.specs.Value.{signed_as}
-use Rattle.variable_tables.proofs.TableLemmas.{length-table, table-at}
+use Rattle.variable_tables.proofs.TableLaws.{length-table, table-at}
 use Rattle.cleaned_circuits.specs.Merged.{replaced}
 use Rattle.clean.specs.Substitutions.{own_literals, from_first}
 

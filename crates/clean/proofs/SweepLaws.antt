@@ -12,7 +12,7 @@ use Rattle.aig_graph.specs.Graph.{Graph, IsGraph, IsLiteralOf, variable, first_l
 use Rattle.aig_graph.specs.Streams.{property_literals}
 use Rattle.aig_graph.proofs.KindLaws.{element}
 use Rattle.variable_tables.specs.Marking.{mark_at}
-use Rattle.variable_tables.proofs.PlacesLemmas.{slice_get_push, slice_get-append_left, slice_get-append_right}
+use Rattle.variable_tables.proofs.PlacesLaws.{slice_get_push, slice_get-append_left, slice_get-append_right}
 use Rattle.cleaned_circuits.specs.Reached.{stays, HoldsReads, AreReached}
 use Rattle.cleaned_circuits.proofs.TrimmedLaws.{stays-past, stays-low, stays-reached}
 use Rattle.aig_graph.specs.Mapped.{OfProps}

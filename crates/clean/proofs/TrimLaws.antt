@@ -15,8 +15,8 @@ use Rattle.aig_graph.specs.Value.{signed_as}
 use Rattle.aig_graph.specs.Building.{gate_of}
 use Rattle.variable_tables.specs.Counting.{count_below, places}
 use Rattle.variable_tables.specs.Tables.{table}
-use Rattle.variable_tables.proofs.TableLemmas.{length-table, table-at, table-same, entry}
-use Rattle.variable_tables.proofs.PlacesLemmas.{count-bound, places-zero, places-pass, places-fail}
+use Rattle.variable_tables.proofs.TableLaws.{length-table, table-at, table-same, entry}
+use Rattle.variable_tables.proofs.PlacesLaws.{count-bound, places-zero, places-pass, places-fail}
 use Rattle.aig_graph.specs.Mapped.{OfProps, mapped_props}
 use Rattle.cleaned_circuits.specs.Reached.{stays}
 use Rattle.cleaned_circuits.specs.Merged.{replaced, replaced_latch, replaced_gate}

@@ -12,7 +12,7 @@ use Rattle.aig_graph.specs.Circuits.{Netlist}
 use Rattle.aig_graph.specs.Streams.{AreKept}
 use Rattle.variable_tables.specs.Counting.{count_below, places}
 use Rattle.cleaned_circuits.specs.Trimmed.{new_variable, renumbered_latch, trimmed_graph, trimmed_of, is_kept_free, kept_free}
-use Rattle.variable_tables.proofs.PlacesLemmas.{count-pass, count-fail, count-zero, count-le, count-lt, length-places, at_rank, Ranks, rank_at}
+use Rattle.variable_tables.proofs.PlacesLaws.{count-pass, count-fail, count-zero, count-le, count-lt, length-places, at_rank, Ranks, rank_at}
 use Rattle.aig_graph.proofs.KindLaws.{element, latch_at-first_latch}
 use Rattle.aig_graph.proofs.FreeLaws.{is_free_at, free-count}
 use Rattle.cleaned_circuits.specs.Reached.{stays}

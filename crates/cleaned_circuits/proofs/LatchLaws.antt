@@ -11,7 +11,7 @@ use Rattle.variable_tables.specs.Marking.{has}
 use Rattle.variable_tables.specs.Counting.{count_below, places}
 use Rattle.aig_graph.specs.Laws.{ValueLaws}
 use Rattle.aig_graph.proofs.ValueLaws.{value_laws}
-use Rattle.variable_tables.proofs.PlacesLemmas.{Ranks, rank_at, at_rank, count-lt}
+use Rattle.variable_tables.proofs.PlacesLaws.{Ranks, rank_at, at_rank, count-lt}
 use Rattle.aig_graph.proofs.KindLaws.{element}
 use Rattle.cleaned_circuits.specs.Latches.{constant_of, is_stuck, same_reset, is_latch, is_like, first_where, first_like, latch_stand, leaf_stand}
 

@@ -4,8 +4,8 @@ pub mod MergedLaws
 pub mod PickedLaws
 pub mod TrimmedLaws
 pub mod KeptFreeLaws
-pub mod TrimmedValues
-pub mod TrimmedNames
+pub mod TrimmedValueLaws
+pub mod TrimmedNameLaws
 pub mod PassLaws
 pub mod CleanedLaws
 pub mod OwnLaws

@@ -13,8 +13,8 @@ use Rattle.cleaned_circuits.specs.Cleaned.{IsPass, Cleans, unchanged, after_pass
 use Rattle.aig_graph.proofs.PropsLaws.{mapped-shape}
 use Rattle.cleaned_circuits.proofs.MergedLaws.{IsGraph-merged, IsNetlist-merged, merged-properties, replaced-inputs, length-replaced_latches, replaced-free_before}
 use Rattle.cleaned_circuits.proofs.TrimmedLaws.{IsGraph-trimmed}
-use Rattle.cleaned_circuits.proofs.TrimmedValues.{trimmed-streams}
-use Rattle.cleaned_circuits.proofs.TrimmedNames.{IsNetlist-trimmed}
+use Rattle.cleaned_circuits.proofs.TrimmedValueLaws.{trimmed-streams}
+use Rattle.cleaned_circuits.proofs.TrimmedNameLaws.{IsNetlist-trimmed}
 
 -- a circuit in order
 pub record IsCircuit (c : Netlist) : Type 0 where

@@ -3,7 +3,7 @@ use Rattle.std.proofs.Common.{ℕ, ◌+◌, ◌<◌, ◌≤◌, ◌≡◌, inl, 
 use Rattle.std.proofs.lemmas.Bool.{cases_Bool, cond-true, cond-false}
 use Rattle.std.proofs.lemmas.Option.{none-some}
 use Rattle.variable_tables.specs.Counting.{count_below}
-use Rattle.variable_tables.proofs.PlacesLemmas.{count-pass, count-fail, count-le, count-zero}
+use Rattle.variable_tables.proofs.PlacesLaws.{count-pass, count-fail, count-le, count-zero}
 use Rattle.cleaned_circuits.specs.Trimmed.{picked}
 
 -- all pass

@@ -10,7 +10,7 @@ use Rattle.aig_graph.specs.Graph.{Graph, IsGraph, IsGateAt, variable, first_gate
 use Rattle.aig_graph.specs.Value.{Inputs, Choice, value, signed}
 use Rattle.aig_graph.specs.Laws.{ValueLaws}
 use Rattle.aig_graph.proofs.ValueLaws.{value_laws}
-use Rattle.variable_tables.proofs.TableLemmas.{length-table, table-at}
+use Rattle.variable_tables.proofs.TableLaws.{length-table, table-at}
 use Rattle.aig_graph.proofs.SignLaws.{value_signed, value_signed_as, variable-signed_as, value-gate_of, gate_of-below}
 use Rattle.cleaned_circuits.specs.Latches.{leaf_stand}
 use Rattle.cleaned_circuits.specs.Merged.{Merging, replaced, replaced_gate, is_gate, known_stand, with_stand, merge_gate, merge_gates, merging_start, stands_of}

@@ -8,7 +8,7 @@ use Rattle.aig_graph.specs.Graph.{Graph, IsGraph, IsGateAt, variable, first_latc
 use Rattle.aig_graph.specs.Circuits.{Netlist}
 use Rattle.variable_tables.specs.Counting.{count_below}
 use Rattle.aig_graph.proofs.FoldingLaws.{gate_at-first_gate}
-use Rattle.variable_tables.proofs.PlacesLemmas.{count-le, count-lt, count-bound}
+use Rattle.variable_tables.proofs.PlacesLaws.{count-le, count-lt, count-bound}
 use Rattle.aig_graph.proofs.SignLaws.{variable-signed_as_twice, gate_of-ordered, gate_of-below}
 use Rattle.aig_graph.proofs.KindLaws.{latch_at-first_latch}
 use Rattle.cleaned_circuits.specs.Reached.{stays, HoldsReads}

@@ -15,9 +15,9 @@ use Rattle.aig_graph.specs.Streams.{property_literals}
 use Rattle.variable_tables.specs.Marking.{has}
 use Rattle.variable_tables.specs.Counting.{count_below}
 use Rattle.aig_graph.specs.Building.{gate_of}
-use Rattle.aig_graph.proofs.SetLemmas.{has_iff_contains}
+use Rattle.aig_graph.proofs.SearchLaws.{has_iff_contains}
 use Rattle.aig_graph.specs.Value.{signed_as}
-use Rattle.variable_tables.proofs.PlacesLemmas.{count-pass, count-fail, count-bound}
+use Rattle.variable_tables.proofs.PlacesLaws.{count-pass, count-fail, count-bound}
 use Rattle.aig_graph.proofs.KindLaws.{LatchPlace, latch_place, GatePlace, gate_place}
 use Rattle.cleaned_circuits.specs.Merged.{replaced, replaced_gate, replaced_latch, replaced_graph, stands_of, replaced_circuit, merged_of}
 use Rattle.cleaned_circuits.specs.Reached.{stays, HoldsReads, AreReached}

@@ -1,4 +1,4 @@
-pub mod ResultLemmas
-pub mod OutputLemmas
-pub mod BufferedLemmas
-pub mod InputLemmas
+pub mod ResultLaws
+pub mod OutputLaws
+pub mod BufferedLaws
+pub mod InputLaws

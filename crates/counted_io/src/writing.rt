@@ -41,7 +41,7 @@ fn write_part<W: CountedWrite>(writer: &mut W, bytes: &[u8]) -> Result<usize, Wr
 /// Writes all the bytes, in as many calls as the writer wants.
 ///
 /// Stops at the first write that fails: a beginning of the bytes was written then.
-#[tactic(auto, using(crate::proofs::OutputLemmas::writing_in_turn))]
+#[tactic(auto, using(crate::proofs::OutputLaws::writing_in_turn))]
 pub fn write_all<W: CountedWrite>(writer: &mut W, bytes: &[u8]) -> Result<(), WriteError>
     ensures { Writes (W.output writer.old) (W.output writer.new) result bytes.now }
 {

@@ -7,17 +7,17 @@ use Rattle.std.proofs.lemmas.List.{length_push, get_or_append_left, get_or_defau
 use Rattle.std.proofs.lemmas.List.Folds.{list_any-append}
 use Rattle.std.proofs.Math.Seq.{get_or-append_seam}
 use Rattle.variable_tables.specs.Marking.{has}
-use Rattle.variable_tables.proofs.PlacesLemmas.{count-le}
+use Rattle.variable_tables.proofs.PlacesLaws.{count-le}
 use Rattle.aig_graph.specs.Circuits.{Netlist}
 use Rattle.aig_graph.specs.Border.{IsGreatestLeast}
-use Rattle.aig_graph.proofs.SetLemmas.{has_iff_contains}
+use Rattle.aig_graph.proofs.SearchLaws.{has_iff_contains}
 use Rattle.frame_net.specs.declared.net.Point.{Point}
 use Rattle.frame_net.specs.FlowNet.{FlowNet, node_count, point_of, capacity_between}
 use Rattle.flow_theory.specs.Flow.{IsSourceSide}
-use Rattle.flow_theory.proofs.Cuts.{source_side_greatest}
+use Rattle.flow_theory.proofs.CutLaws.{source_side_greatest}
 use Rattle.pulse.specs.Values.{RunEnd}
 use Rattle.pulse.specs.Conditions.{IsMaxPreflow, state_of}
-use Rattle.frame_cuts.proofs.LeastCuts.{greatest_cut_is_greatest_set-law}
+use Rattle.frame_cuts.proofs.LeastCutLaws.{greatest_cut_is_greatest_set-law}
 use Rattle.frame_net.specs.Capacity.{has_node}
 use Rattle.frame_net.proofs.NodeLaws.{rank-gate, view}
 use Rattle.frame_cuts.specs.Cuts.{AreGatesOf, IsNetworkOf}

@@ -1,21 +1,21 @@
 pub mod SinkWalkLaws
 pub mod GateLaws
-pub mod Lowering
-pub mod Points
+pub mod LoweringLaws
+pub mod ArcPointLaws
 pub mod WalkLaws
-pub mod Values
+pub mod FlowValueLaws
 pub mod TrailLaws
 pub mod RouteLaws
-mod NearSides
-mod SmallestSets
-mod Lookups
+mod NearSideLaws
+mod SmallestSetLaws
+mod LookupLaws
 mod MarkLaws
-mod OpenWalks
-mod Flows
-mod Ways
-mod Orders
-mod Counts
-mod Bounds
-mod Units
-mod NearSets
+mod OpenWalkLaws
+mod WalkFlowLaws
+mod RoutePointLaws
+mod PointOrderLaws
+mod VisitLaws
+mod StepLaws
+mod CapacityLaws
+mod NearSetLaws
 pub mod AppendLaws

@@ -6,7 +6,7 @@ use Rattle.frame_net.specs.declared.net.Point.{Point}
 use Rattle.frame_net.specs.FlowNet.{FlowNet, IsFlowNet, node_count, start, row_len, head, point_of}
 use Rattle.cut_cert.proofs.SinkWalkLaws.{arc-in}
 use Rattle.cut_cert.specs.Walks.{here}
-use Rattle.cut_cert.proofs.Lowering.{here-one, here-zero}
+use Rattle.cut_cert.proofs.LoweringLaws.{here-one, here-zero}
 use Rattle.cut_cert.specs.Steps.{steps_of, all_steps, Leads, IsWay, AreWays, is_used}
 
 pub drop-rest : {A : Type 0} (xs : List A) (i : ℕ) (b : A) (ns : List A) → drop i xs ≡ b ∷ ns → drop (suc i) xs ≡ ns

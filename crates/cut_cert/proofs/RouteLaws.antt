@@ -20,11 +20,11 @@ use Rattle.certificates.proofs.PassedLaws.{all-none}
 use Rattle.certificates.proofs.DistinctLaws.{distinct-none}
 use Rattle.cut_cert.specs.Shown.{HasNoPointTwice, AreLeastRoutes}
 use Rattle.cut_cert.specs.Walks.{AreCarried, Comes, NoneComes, lowered, into, total, Ready, StepsBack, Stays, Walked, WalkedBack, AreOn, AreSearched, ComesTo, points_of}
-use Rattle.cut_cert.proofs.Lowering.{tail-in, total-less, long-after, none-more}
+use Rattle.cut_cert.proofs.LoweringLaws.{tail-in, total-less, long-after, none-more}
 use Rattle.cut_cert.proofs.WalkLaws.{Distinct, none-is, Walking, walking-start, walking-step, walking-cut, ends-at-source, never-stuck}
-use Rattle.cut_cert.proofs.Points.{no-point}
+use Rattle.cut_cert.proofs.ArcPointLaws.{no-point}
 use Rattle.cut_cert.proofs.TrailLaws.{marked-in, suffix-absent, in-front, points-cons, points-append, point-cases, once-each}
-use Rattle.cut_cert.proofs.Values.{least-count, holds-first, reached-is, nothing-comes}
+use Rattle.cut_cert.proofs.FlowValueLaws.{least-count, holds-first, reached-is, nothing-comes}
 
 false_true : false ≡ true → ⊥
 false_true e = absurd (cc)

@@ -6,10 +6,10 @@ use Rattle.std.proofs.lemmas.List.{length-set, get_or-set_same, get_or-set_other
 use Rattle.std.proofs.lemmas.List.Sums.{sum_by-set, count_by-le-length}
 use Rattle.std.proofs.lemmas.List.Folds.{sum_by-replicate}
 use Rattle.aig_graph.proofs.KindLaws.{element}
-use Rattle.variable_tables.proofs.PlacesLemmas.{slice_get_push, slice_get-append_left, slice_get-append_right}
+use Rattle.variable_tables.proofs.PlacesLaws.{slice_get_push, slice_get-append_left, slice_get-append_right}
 use Rattle.flow_theory.specs.Flow.{State, Walk, Reaches, IsSourceSide}
 use Rattle.arc_rows.specs.Rows.{Rises}
-use Rattle.arc_rows.proofs.Sparse.{sparse-at, sparse-none, find_head}
+use Rattle.arc_rows.proofs.SparseRowLaws.{sparse-at, sparse-none, find_head}
 use Rattle.frame_net.specs.FlowNet.{FlowNet, IsFlowNet, HasMate, node_count, start, row_len, head, mate}
 use Rattle.flow_part.specs.Parts.{pair}
 use Rattle.cut_cert.specs.SinkWalk.{Front, is_marked, reach, read_arc, read_arcs}

@@ -11,7 +11,7 @@ use Rattle.frame_cuts.specs.Cuts.{IsNetworkOf}
 use Rattle.certificates.proofs.DistinctLaws.{distinct-none}
 use Rattle.cut_cert.specs.Shown.{HasNoPointTwice}
 use Rattle.cut_cert.specs.Walks.{AreOn, ComesTo, and_point, points_of}
-use Rattle.cut_cert.proofs.Points.{one-point}
+use Rattle.cut_cert.proofs.ArcPointLaws.{one-point}
 use Rattle.cut_cert.proofs.WalkLaws.{Distinct, distinct-cons}
 
 false_true : false ≡ true → ⊥

@@ -14,8 +14,8 @@ use Rattle.certificates.proofs.RouteLaws.{passed-behind, passed-before}
 use Rattle.certificates.proofs.PassedLaws.{passed-none}
 use Rattle.certificates.proofs.DistinctLaws.{distinct-none}
 use Rattle.cut_cert.specs.Walks.{into, Comes, lowered, Holds, Spent, Ready, Walked}
-use Rattle.cut_cert.proofs.Lowering.{here-zero, here-one, spot-on, holds-step, holds-free, tail-in, pair-comes, one-less, into-less}
-use Rattle.cut_cert.proofs.Points.{point, step-at, begin-at, end-at, end-inner, none-out-of-sink, one-node, one-arc, one-tail, no-point}
+use Rattle.cut_cert.proofs.LoweringLaws.{here-zero, here-one, spot-on, holds-step, holds-free, tail-in, pair-comes, one-less, into-less}
+use Rattle.cut_cert.proofs.ArcPointLaws.{point, step-at, begin-at, end-at, end-inner, none-out-of-sink, one-node, one-arc, one-tail, no-point}
 
 abbrev pub Distinct : List ℕ → Type 0
 Distinct vars = IsDistinct (λ v w. v == w) vars

@@ -1,2 +1,2 @@
-pub mod DeltaLemmas
+pub mod DeltaLaws
 mod Examples

@@ -1,5 +1,5 @@
-pub mod Counting
-pub mod Keeps
-pub mod Gathering
-pub mod Places
-mod CounterLaw
+pub mod WeightLaws
+pub mod StepLaws
+pub mod GatheringLaws
+pub mod PlaceLaws
+mod CounterLaws

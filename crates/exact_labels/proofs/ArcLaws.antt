@@ -1,10 +1,10 @@
 -- Residuals of arcs and of pairs of nodes.
 use Rattle.std.proofs.Common.{◌≡◌, ℕ, ◌+◌, ◌<◌, List, length, slice_index, arith, sym, ap, ◌∙◌, subst, inl, inr}
-use Rattle.arc_rows.proofs.Sparse.{sparse-at, sparse-none, find_head}
+use Rattle.arc_rows.proofs.SparseRowLaws.{sparse-at, sparse-none, find_head}
 use Rattle.frame_net.specs.FlowNet.{FlowNet, IsFlowNet, HasMate, node_count, start, row_len, head, mate}
 use Rattle.flow_part.specs.Parts.{pair}
 use Rattle.flow_part.specs.Delivering.{back}
-use Rattle.flow_whole.proofs.Mates.{rises, from_mates}
+use Rattle.flow_whole.proofs.MateLaws.{rises, from_mates}
 
 module _ (net : FlowNet) (ok : IsFlowNet net) where
   pub arc-in : (w k : ℕ) → w < node_count net → k < row_len net w → start net w + k < length net.heads

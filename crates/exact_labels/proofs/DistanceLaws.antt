@@ -3,9 +3,9 @@ use Rattle.std.proofs.Common.{◌≡◌, ℕ, zero, suc, ◌<◌, ◌≤◌, ◌
 use Rattle.std.proofs.lemmas.Bool.{cases_lt, cases_Bool, lt-ltb, le-ltb, eqb-true, eq-eqb, cond-true, cond-false, false≢true, and_from, and_parts}
 use Rattle.flow_theory.specs.Flow.{State, Walk, least_below}
 use Rattle.flow_theory.specs.Laws.{IsDistance}
-use Rattle.flow_theory.proofs.Sums.{least_below-le, least_below-le_start}
+use Rattle.flow_theory.proofs.SumLaws.{least_below-le, least_below-le_start}
 use Rattle.flow_part.specs.Parts.{Agree}
-use Rattle.flow_whole.proofs.ActiveLemmas.{any_from, some_at}
+use Rattle.flow_whole.proofs.ActiveLaws.{any_from, some_at}
 use Rattle.exact_labels.specs.Distances.{reaches_in, distance, exact}
 
 -- a least below its bound is some number's

@@ -3,13 +3,13 @@ use Rattle.std.proofs.Common.{◌≡◌, ℕ, suc, ◌+◌, ◌*◌, ◌%◌, �
 use Rattle.std.proofs.lemmas.Bool.{cases_lt, cases_Bool, cond-true, cond-false}
 use Rattle.std.proofs.Math.Nat.{mul-le-mul_left}
 use Rattle.flow_theory.specs.Flow.{State, pulse, is_active, potential}
-use Rattle.flow_theory.proofs.Pushes.{Active, active, is_active-true}
-use Rattle.flow_theory.proofs.Exact.{exact-rises, exact-valid, exact-potential}
+use Rattle.flow_theory.proofs.PushLaws.{Active, active, is_active-true}
+use Rattle.flow_theory.proofs.ExactLabelLaws.{exact-rises, exact-valid, exact-potential}
 use Rattle.frame_net.specs.FlowNet.{FlowNet, node_count, IsFlowNet}
 use Rattle.flow_part.specs.Parts.{Agree, IsSound}
 use Rattle.flow_whole.specs.Runs.{any_active}
-use Rattle.flow_whole.proofs.Agreeing.{agree_pulse, agree_then, sound_same, sound_pulse}
-use Rattle.flow_whole.proofs.ActiveLemmas.{work, work_same, work_falls, work_bound, any_from, some_at, none_at, any_active_same}
+use Rattle.flow_whole.proofs.AgreeingStateLaws.{agree_pulse, agree_then, sound_same, sound_pulse}
+use Rattle.flow_whole.proofs.ActiveLaws.{work, work_same, work_falls, work_bound, any_from, some_at, none_at, any_active_same}
 use Rattle.exact_labels.specs.Distances.{distance, exact}
 use Rattle.exact_labels.specs.Runs.{after_pulse, run_state, IsRun}
 use Rattle.exact_labels.proofs.DistanceLaws.{distance_is, exact_same}

@@ -4,7 +4,7 @@ use Rattle.std.proofs.lemmas.Bool.{cases_lt, cases_eq, lt-ltb, le-ltb, cond-true
 use Rattle.std.proofs.lemmas.List.{get_or-set_same, get_or-set_other}
 use Rattle.flow_theory.specs.Flow.{State, Walk, sum_below}
 use Rattle.flow_theory.specs.Laws.{IsDistance}
-use Rattle.flow_theory.proofs.Sums.{sum_below-same, sum_below-le_const}
+use Rattle.flow_theory.proofs.SumLaws.{sum_below-same, sum_below-le_const}
 use Rattle.frame_net.specs.FlowNet.{FlowNet, IsFlowNet, node_count, row_len, head, mate}
 use Rattle.flow_part.specs.Parts.{Cells, pair, pairs}
 use Rattle.exact_labels.proofs.ArcLaws.{mate-pair, pair-mate}

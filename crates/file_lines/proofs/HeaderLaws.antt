@@ -10,7 +10,7 @@ use Rattle.file_words.specs.Lines.{numbers_of}
 use Rattle.ascii_file.specs.declared.header.Header.{Header}
 use Rattle.ascii_file.specs.Headers.{number_at, header_in, header_of}
 use Rattle.ascii_file.specs.Reading.{◌>>=◌, unless, checked_header, read_header}
-use Rattle.ascii_file.proofs.Checks.{Passes}
+use Rattle.ascii_file.proofs.CheckLaws.{Passes}
 use Rattle.file_lines.specs.Rows.{clamped, up_to_nine, row_of}
 use Rattle.file_lines.specs.declared.numbers.NumberLine.{NumberLine}
 use Rattle.file_lines.specs.Open.{numbers_with}

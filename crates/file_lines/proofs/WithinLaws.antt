@@ -6,7 +6,7 @@ use Rattle.file_words.specs.declared.fault.ReadError.TheVariants.{MaxIndex}
 use Rattle.ascii_file.specs.declared.header.Header.{Header}
 use Rattle.ascii_file.specs.Headers.{IsHeaderWithin}
 use Rattle.ascii_file.specs.Reading.{unless}
-use Rattle.ascii_file.proofs.Checks.{unless_ok, same_ok}
+use Rattle.ascii_file.proofs.CheckLaws.{unless_ok, same_ok}
 use Rattle.file_lines.specs.Limits.{limits, limited, is_past}
 
 passes_within : (h : Header) → unless (limits h) (Ok h) ≡ Ok h → is_past h ≡ false → IsHeaderWithin h

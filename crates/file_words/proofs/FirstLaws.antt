@@ -3,7 +3,7 @@ use Rattle.std.proofs.Common.{ℕ, ◌+◌, ◌<◌, ◌≡◌, length, List, []
 use Rattle.std.proofs.lemmas.Bool.{and_parts, not-true, cond-false}
 use Rattle.file_words.specs.Lines.{with_front, lines}
 use Rattle.file_words.specs.Cuts.{lacks, Cuts, IsFirst}
-use Rattle.file_words.proofs.Decimals.{lines-at_newline}
+use Rattle.file_words.proofs.DecimalLaws.{lines-at_newline}
 
 -- a line that no newline ends
 pub lines-at_end : (b : ℕ) (line : List ℕ) → lacks 10 (b ∷ line) ≡ true → lines (b ∷ line) ≡ (b ∷ line) ∷ []

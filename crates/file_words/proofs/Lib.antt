@@ -1,4 +1,4 @@
 pub mod Examples
-pub mod Decimals
+pub mod DecimalLaws
 pub mod CutLaws
 pub mod FirstLaws

@@ -5,7 +5,7 @@ use Rattle.std.proofs.lemmas.Bool.{cases_lt, cases_Bool, cond-true, cond-false, 
 use Rattle.flow_theory.specs.Flow.{IsCut, cut_value}
 use Rattle.variable_tables.specs.Counting.{count_below}
 use Rattle.variable_tables.specs.Marking.{has}
-use Rattle.variable_tables.proofs.PlacesLemmas.{count-pass, count-fail, count-zero}
+use Rattle.variable_tables.proofs.PlacesLaws.{count-pass, count-fail, count-zero}
 use Rattle.aig_graph.specs.declared.graph.Gate.{Gate}
 use Rattle.aig_graph.specs.declared.graph.Latch.{Latch}
 use Rattle.aig_graph.specs.declared.properties.Props.{Props}
@@ -14,7 +14,7 @@ use Rattle.aig_graph.specs.Closed.{is_held, is_settled, IsLatchOrIn, IsClosed}
 use Rattle.aig_graph.specs.Border.{is_fan_in, is_read_outside}
 use Rattle.aig_graph.proofs.KindLaws.{latch_at-gates, GatePlace, gate_place}
 use Rattle.aig_graph.proofs.ClosedLaws.{is_settled-gate}
-use Rattle.aig_graph.proofs.SetLemmas.{has_iff_contains}
+use Rattle.aig_graph.proofs.SearchLaws.{has_iff_contains}
 use Rattle.frame_net.specs.Passable.{is_passable}
 use Rattle.frame_net.specs.FlowNet.{node_at}
 use Rattle.frame_net.specs.FlowNet.Node.{sink, before, after}
@@ -23,7 +23,7 @@ use Rattle.frame_net.proofs.PassableLaws.{passable-before, passable-means, passa
 use Rattle.frame_net.proofs.NodeLaws.{has_node-latch, has_node-gate, rank-latch, rank-gate, rank-below, at-latch, at-before, at-after}
 use Rattle.frame_net.proofs.ArcLaws.{cap-at}
 use Rattle.frame_cuts.proofs.ReadLaws.{read-split}
-use Rattle.frame_cuts.proofs.CutSums.{crosses, crosses-latch, crosses-gate, cut-counted}
+use Rattle.frame_cuts.proofs.CutSumLaws.{crosses, crosses-latch, crosses-gate, cut-counted}
 
 pub true_false : true ≡ false → ⊥
 true_false e = absurd (cc)

@@ -1,6 +1,6 @@
 pub mod ReadLaws
-pub mod CutSums
+pub mod CutSumLaws
 pub mod CutLaws
 pub mod NetLaws
-pub mod SetCuts
-pub mod LeastCuts
+pub mod SetCutLaws
+pub mod LeastCutLaws

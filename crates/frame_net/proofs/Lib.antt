@@ -1,7 +1,7 @@
 pub mod PassableLaws
 pub mod EdgeLaws
 pub mod FilledLaws
-pub mod EdgeLoops
+pub mod EdgeLoopLaws
 pub mod CountLaws
 pub mod RowsLaws
 pub mod NodeLaws

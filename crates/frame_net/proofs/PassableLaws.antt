@@ -8,9 +8,9 @@ use Rattle.std.proofs.lemmas.List.{get_or_past}
 use Rattle.variable_tables.specs.Counting.{count_below}
 use Rattle.variable_tables.specs.Tables.{table}
 use Rattle.variable_tables.specs.Marking.{mark_at, AreAllMarks}
-use Rattle.variable_tables.proofs.PlacesLemmas.{length-places}
-use Rattle.variable_tables.proofs.MarkingLemmas.{AreAllMarks-table, mark_at-all}
-use Rattle.variable_tables.proofs.TableLemmas.{length-table, entry}
+use Rattle.variable_tables.proofs.PlacesLaws.{length-places}
+use Rattle.variable_tables.proofs.MarkingLaws.{AreAllMarks-table, mark_at-all}
+use Rattle.variable_tables.proofs.TableLaws.{length-table, entry}
 use Rattle.aig_graph.specs.declared.graph.Gate.{Gate}
 use Rattle.aig_graph.specs.Graph.{Graph, IsGraph, IsGateAt, variable, first_latch, first_gate, variables_end, latches_and_gates, gate_at, is_known}
 use Rattle.aig_graph.specs.Closed.{is_held, may_move, both, is_settled, IsPassable}

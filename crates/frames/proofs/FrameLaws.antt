@@ -20,8 +20,8 @@ use Rattle.clean.specs.declared.cleaning.Cleaned.{Cleaned}
 use Rattle.clean.proofs.CleaningLaws.{composed-all}
 use Rattle.variable_tables.specs.Counting.{places}
 use Rattle.variable_tables.specs.Marking.{has}
-use Rattle.variable_tables.proofs.MemberLemmas.{places-members}
-use Rattle.variable_tables.proofs.PlacesLemmas.{length-places, count-bound}
+use Rattle.variable_tables.proofs.MemberLaws.{places-members}
+use Rattle.variable_tables.proofs.PlacesLaws.{length-places, count-bound}
 use Rattle.rebuild.proofs.MovedLaws.{members-below}
 use Rattle.least_sets.specs.declared.choice.Choice.{Choice}
 use Rattle.least_sets.proofs.ChosenLaws.{chosen-least}

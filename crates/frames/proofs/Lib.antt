@@ -2,7 +2,7 @@ pub mod CertificateLaws
 pub mod FrameLaws
 pub mod AnswerLaws
 pub mod StopLaws
-pub mod NameLists
+pub mod NameListLaws
 pub mod StayLaws
 pub mod LineLaws
 pub mod PropsLaws

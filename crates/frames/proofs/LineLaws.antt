@@ -16,10 +16,10 @@ use Rattle.ascii_file.specs.Items.{Item, InputItem, LatchItem, SafetyItem, SizeI
 use Rattle.ascii_file.specs.Meaning.{with_name, with_symbol, names_of, symbols_of}
 use Rattle.ascii_file.specs.Files.{Spells}
 use Rattle.ascii_file.specs.Laws.{all_names}
-use Rattle.ascii_file.proofs.Steps.{section_is}
+use Rattle.ascii_file.proofs.StepLaws.{section_is}
 use Rattle.binary_file.specs.Items.{first_line, item_in, next_latch}
-use Rattle.binary_file.proofs.Items.{latch_section}
-use Rattle.frames.proofs.NameLists.{IsOneLine, AreOneLine, parts, joined}
+use Rattle.binary_file.proofs.ItemLaws.{latch_section}
+use Rattle.frames.proofs.NameListLaws.{IsOneLine, AreOneLine, parts, joined}
 
 abbrev pub IsLine : List ℕ → Type 0
 IsLine bytes = AllByRecursion (λ b. b ≢ 10) bytes

@@ -13,17 +13,17 @@ use Rattle.ascii_file.specs.Meaning as ascii
 use Rattle.ascii_file.specs.Reading.{read_bytes, with_item}
 use Rattle.ascii_file.specs.Files.{IsAsciiFile}
 use Rattle.ascii_file.specs.Laws.{all_names, IsWithinLimits}
-use Rattle.ascii_file.proofs.Files.{the_reading_law}
+use Rattle.ascii_file.proofs.FileLaws.{the_reading_law}
 use Rattle.binary_file.specs.Items.{next_section, first_line}
 use Rattle.binary_file.specs.Files.{IsItem, AreItems, with_items, IsBinaryFile}
 use Rattle.binary_file.specs.Reading as binary
-use Rattle.binary_file.proofs.Files as binary_files
-use Rattle.binary_file.proofs.Counts.{the_counts_law}
+use Rattle.binary_file.proofs.FileLaws as binary_files
+use Rattle.binary_file.proofs.CountLaws.{the_counts_law}
 use Rattle.spellings.specs.declared.form.Spelling.{Spelling}
 use Rattle.spellings.specs.declared.form.Spelling.TheVariants.{Ascii, Binary}
 use Rattle.spellings.specs.Spellings.{spelling_of, read_in, read_any}
 use Rattle.frames.specs.Limits.{ReadsWithin}
-use Rattle.frames.proofs.NameLists.{IsOneLine, HasOneLineNames, parts, joined}
+use Rattle.frames.proofs.NameListLaws.{IsOneLine, HasOneLineNames, parts, joined}
 use Rattle.frames.proofs.LineLaws.{IsLine, AreLineNames, lines-are, first_line-is, raw-named, line-named, symbols-are}
 use Rattle.frames.proofs.PropsLaws.{ArePropsWithin, IsSmall, props-within}
 

@@ -17,7 +17,7 @@ use Rattle.retimed_circuits.specs.declared.report.FrameReport.{FrameReport}
 use Rattle.retimed_circuits.specs.Names.{held_in}
 use Rattle.retimed_circuits.specs.Frames.{AfterFrames, move_in, moved_in, cleaned, frame}
 use Rattle.frames.specs.Limits.{StaysWithin}
-use Rattle.frames.proofs.NameLists.{IsOneLine, HasOneLineNames, picked, with_latches}
+use Rattle.frames.proofs.NameListLaws.{IsOneLine, HasOneLineNames, picked, with_latches}
 
 pass-names : (held : List ℕ) (c d : Netlist) (kept still_held : List ℕ) → IsPass held c d kept still_held → HasOneLineNames c → HasOneLineNames d
 unfolding trimmed_symbols

@@ -3,7 +3,7 @@ use Rattle.std.proofs.Common.{ℕ, ◌+◌, ◌<◌, ◌≡◌, List, [], ◌∷
 use Rattle.std.proofs.lemmas.List.{take_more, length-take-le, length-map}
 use Rattle.counted_io.specs.Line.{numbered_lines}
 use Rattle.counted_io.specs.Output.{Output, WritesAll}
-use Rattle.counted_io.proofs.OutputLemmas.{all-then}
+use Rattle.counted_io.proofs.OutputLaws.{all-then}
 use Rattle.batch_pool.specs.declared.job.Outcome.{Outcome as JobOutcome}
 use Rattle.reports.specs.Batches.{job_line, job_lines}
 use Rattle.reports.specs.declared.batch.JobReport.{JobReport}

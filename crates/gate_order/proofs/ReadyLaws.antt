@@ -23,7 +23,7 @@ use Rattle.gate_order.specs.Order.{has, is_met, are_met, may_follow, IsNext, ord
 use Rattle.gate_order.specs.Cycles.{is_gate}
 use Rattle.gate_order.specs.Readers.{fan_in, read_by, IsLast}
 use Rattle.gate_order.specs.Ready.{number, times, IsReadyHeap, Gains, mark_of, is_released, IsState}
-use Rattle.gate_order.proofs.Firsts.{first_below_none, first_below_is}
+use Rattle.gate_order.proofs.FirstLaws.{first_below_none, first_below_is}
 use Rattle.gate_order.proofs.OrderLaws.{Follows, follows_where_true, order_from-more}
 use Rattle.gate_order.proofs.ReaderLaws.{read_by-at, read_by-past}
 

@@ -1,2 +1,2 @@
-pub mod Rising
-pub mod Sharing
+pub mod RisingLaws
+pub mod SharingLaws

@@ -2,14 +2,14 @@
 use Rattle.std.proofs.Common.{ℕ, ◌+◌, ◌<◌, ◌≤◌, ◌≡◌, ◌||◌, ◌&&◌, Bool, false, not, List, length, replicate, Some, None, ap, ap₂, sym, ◌∙◌, subst, arith}
 use Rattle.variable_tables.specs.Marking.{has, mark_at, Marks, AreMarks}
 use Rattle.variable_tables.specs.Tables.{table}
-use Rattle.variable_tables.proofs.MarkingLemmas.{table-marks, mark_at-covered, AreMarks-table}
-use Rattle.variable_tables.proofs.TableLemmas.{table-same, length-table}
+use Rattle.variable_tables.proofs.MarkingLaws.{table-marks, mark_at-covered, AreMarks-table}
+use Rattle.variable_tables.proofs.TableLaws.{table-same, length-table}
 use Rattle.aig_graph.specs.declared.properties.Props.{Props}
 use Rattle.aig_graph.specs.Graph.{Graph, first_latch, latches_and_gates, latch_at, is_known}
 use Rattle.aig_graph.specs.Circuits.{Netlist}
 use Rattle.aig_graph.specs.Closed.{is_held}
 use Rattle.aig_graph.specs.Border.{is_read_outside, is_read, is_gate_in, in_border}
-use Rattle.aig_graph.proofs.ReadingLemmas.{is_read_outside-marks}
+use Rattle.aig_graph.proofs.ReadingLaws.{is_read_outside-marks}
 use Rattle.frame_net.specs.Passable.{IsPassSet}
 use Rattle.frame_net.specs.declared.pass_set.PassSet.{PassSet}
 use Rattle.frame_net.proofs.PassableLaws.{has-passable}

@@ -4,7 +4,7 @@ use Rattle.counted_io.specs.Output.{Output}
 use Rattle.counted_io.specs.Buffered.{Puts}
 use Rattle.counted_io.specs.Line.{numbered_lines}
 use Rattle.counted_io.specs.declared.buffered.Buffered.{Buffered}
-use Rattle.counted_io.proofs.BufferedLemmas.{puts-nothing, puts-numbered_next}
+use Rattle.counted_io.proofs.BufferedLaws.{puts-nothing, puts-numbered_next}
 use Rattle.pictures.specs.Nodes.{only_if}
 
 module _ {W : Type 0} {output : W → Output} where

@@ -4,9 +4,9 @@ use Rattle.std.specs.List.{list_any, enumerate_from}
 use Rattle.std.proofs.lemmas.Bool.{cases_Bool, and_from, and_parts, and_left, and_right, or_left, or_right, or_from, le-leb, lt-leb, eq-eqb, false_from_ne_true, cond-true, cond-false, both_ways, leb-true, not-true}
 use Rattle.std.proofs.lemmas.Option.{none-some, same_Some, slice_get_within, get_or_from_slice_get}
 use Rattle.std.proofs.lemmas.List.Folds.{list_any_at}
-use Rattle.aig_graph.proofs.ClosedBorder.{is_gate_in-same}
+use Rattle.aig_graph.proofs.ClosedBorderLaws.{is_gate_in-same}
 use Rattle.aig_graph.proofs.KindLaws.{GatePlace, gate_place, latch_at-before, latch_at-gates}
-use Rattle.aig_graph.proofs.SetLemmas.{has_iff_contains}
+use Rattle.aig_graph.proofs.SearchLaws.{has_iff_contains}
 use Rattle.aig_graph.specs.Border.{in_border, is_gate_in, is_fan_in, is_read, is_read_outside, reads}
 use Rattle.aig_graph.specs.Closed.{IsClosed, IsPassable, is_held, is_settled}
 use Rattle.aig_graph.specs.Graph.{first_gate, first_latch, gate_at, is_free, is_known, latch_at, variable, is_free_latch}

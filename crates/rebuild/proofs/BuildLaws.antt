@@ -20,9 +20,9 @@ use Rattle.rebuild.proofs.StartLaws.{start_reset-member}
 use Rattle.rebuild.specs.Members.{ArePassable}
 use Rattle.rebuild.specs.Moved.{advanced_literal, copy_for, copy_variable, gate_between, gate_for, gates_below, is_latched, is_outside, latch_for, latch_from, latches_below, moved_graph, moved_literal, moved_name, moved_symbols, stays}
 use Rattle.rebuild.specs.Starting.{gate_resets, start_reset, start_value}
-use Rattle.variable_tables.proofs.CountingLemmas.{places-none}
-use Rattle.variable_tables.proofs.PlacesLemmas.{places-fail, places-pass}
-use Rattle.variable_tables.proofs.TableLemmas.{length-table, table-at}
+use Rattle.variable_tables.proofs.CountingLaws.{places-none}
+use Rattle.variable_tables.proofs.PlacesLaws.{places-fail, places-pass}
+use Rattle.variable_tables.proofs.TableLaws.{length-table, table-at}
 use Rattle.variable_tables.specs.Counting.{places}
 use Rattle.variable_tables.specs.Marking.{has}
 

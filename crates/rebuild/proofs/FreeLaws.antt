@@ -17,8 +17,8 @@ use Rattle.rebuild.proofs.BorderLaws.{closed-passable, latched_where_free, no-me
 use Rattle.rebuild.proofs.MovedLaws.{length-moved_gates, length-moved_latches, moved-inputs}
 use Rattle.rebuild.specs.Moved.{is_latched, is_outside, latch_for, latch_from, moved_graph}
 use Rattle.rebuild.specs.Starting.{start_value}
-use Rattle.variable_tables.proofs.CountingLemmas.{count-or, count-split, count_below-same, count_by-places}
-use Rattle.variable_tables.proofs.PlacesLemmas.{take-places}
+use Rattle.variable_tables.proofs.CountingLaws.{count-or, count-split, count_below-same, count_by-places}
+use Rattle.variable_tables.proofs.PlacesLaws.{take-places}
 use Rattle.variable_tables.specs.Counting.{count_below, places}
 use Rattle.variable_tables.specs.Marking.{has}
 

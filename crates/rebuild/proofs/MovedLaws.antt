@@ -6,7 +6,7 @@ use Rattle.std.proofs.lemmas.Option.{slice_get_within}
 use Rattle.std.proofs.lemmas.List.{length-map, get_or_default}
 use Rattle.aig_graph.proofs.FoldingLaws.{gate_at-first_gate, gate_at-is}
 use Rattle.aig_graph.proofs.KindLaws.{GatePlace, KindOf, LatchPlace, gate_place, is_constant, is_gate, is_input, is_latch, kind_of, latch_at-first_latch, latch_place}
-use Rattle.aig_graph.proofs.SetLemmas.{has_iff_contains}
+use Rattle.aig_graph.proofs.SearchLaws.{has_iff_contains}
 use Rattle.aig_graph.specs.Border.{is_read}
 use Rattle.aig_graph.specs.Building.{gate_of}
 use Rattle.aig_graph.specs.Closed.{IsClosedSet, IsLatchOrIn}
@@ -19,8 +19,8 @@ use Rattle.rebuild.proofs.BorderLaws.{closed-passable, latched-cases, latched-la
 use Rattle.aig_graph.proofs.SignLaws.{gate_of-below, gate_of-ordered, variable-signed_as, variable-signed_as_twice}
 use Rattle.rebuild.specs.Moved.{advanced, advanced_literal, copies_start, copy_for, copy_variable, gate_between, gate_for, gates_start, is_latched, is_outside, latch_for, latch_from, moved_graph, moved_literal, new_variable, next_of}
 use Rattle.variable_tables.proofs.ListLaws.{from_map, slice_get-map_some}
-use Rattle.variable_tables.proofs.MemberLemmas.{places-members}
-use Rattle.variable_tables.proofs.PlacesLemmas.{Ranks, at_rank, count-lt, length-places, rank_at, slice_get-append_left, slice_get-append_right}
+use Rattle.variable_tables.proofs.MemberLaws.{places-members}
+use Rattle.variable_tables.proofs.PlacesLaws.{Ranks, at_rank, count-lt, length-places, rank_at, slice_get-append_left, slice_get-append_right}
 use Rattle.variable_tables.specs.Counting.{count_below, places}
 use Rattle.variable_tables.specs.Marking.{has}
 

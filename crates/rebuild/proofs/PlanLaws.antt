@@ -4,7 +4,7 @@ use Rattle.std.proofs.Math.Bool.{or_comm}
 use Rattle.std.proofs.lemmas.Bool.{cases_Bool}
 use Rattle.std.proofs.lemmas.List.{length-replicate}
 use Rattle.aig_graph.proofs.KindLaws.{LatchPlace, latch_at-before, latch_place}
-use Rattle.aig_graph.proofs.ReadingLemmas.{is_read_outside-marks}
+use Rattle.aig_graph.proofs.ReadingLaws.{is_read_outside-marks}
 use Rattle.aig_graph.specs.Border.{in_border, is_gate_in, is_read, is_read_outside}
 use Rattle.aig_graph.specs.Closed.{both, is_held}
 use Rattle.aig_graph.specs.Graph.{Graph, IsGraph, first_latch, is_known, latch_at, latches_and_gates, variable, variables_end, is_free_latch}
@@ -17,9 +17,9 @@ use Rattle.rebuild.proofs.MovedLaws.{copies_start-is, copy_variable-is, gates_st
 use Rattle.rebuild.specs.Entries.{by_variable, latched_by}
 use Rattle.rebuild.specs.Members.{ArePassable}
 use Rattle.rebuild.specs.Moved.{copies_start, copy_variable, gates_start, is_latched, is_outside, moved_literal, new_variable, next_of}
-use Rattle.variable_tables.proofs.MarkingLemmas.{AreAllMarks-table, AreMarks-from_none, Marks-then, mark_at-all, mark_at-covered}
-use Rattle.variable_tables.proofs.PlacesLemmas.{count-lt}
-use Rattle.variable_tables.proofs.TableLemmas.{entry, length-table, numbered-first, numbered-next, numbered-other, table-end, table-none, table-same, whole-table}
+use Rattle.variable_tables.proofs.MarkingLaws.{AreAllMarks-table, AreMarks-from_none, Marks-then, mark_at-all, mark_at-covered}
+use Rattle.variable_tables.proofs.PlacesLaws.{count-lt}
+use Rattle.variable_tables.proofs.TableLaws.{entry, length-table, numbered-first, numbered-next, numbered-other, table-end, table-none, table-same, whole-table}
 use Rattle.variable_tables.specs.Counting.{count_below, numbered}
 use Rattle.variable_tables.specs.Marking.{AreAllMarks, Marks, has, mark_at}
 use Rattle.variable_tables.specs.Tables.{table}

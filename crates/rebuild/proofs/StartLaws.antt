@@ -5,7 +5,7 @@ use Rattle.aig_graph.proofs.ClosedLaws.{is_settled-gate, movable-latch}
 use Rattle.aig_graph.proofs.FoldingLaws.{fold_gates-leaf, gate_at-before, gate_at-is}
 use Rattle.aig_graph.proofs.KindLaws.{GatePlace, LatchPlace, gate_place, latch_place}
 use Rattle.aig_graph.proofs.SetLaws.{passable_law}
-use Rattle.aig_graph.proofs.SetLemmas.{has_iff_contains}
+use Rattle.aig_graph.proofs.SearchLaws.{has_iff_contains}
 use Rattle.aig_graph.proofs.ValueLaws.{value_laws}
 use Rattle.aig_graph.specs.Closed.{IsClosed, IsPassable, both, is_held, is_settled, may_move}
 use Rattle.aig_graph.specs.Graph.{Graph, IsGateAt, IsGraph, first_gate, first_latch, free_before, gate_at, is_free, is_known, latch_at, variable}

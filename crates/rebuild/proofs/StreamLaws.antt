@@ -6,7 +6,7 @@ use Rattle.std.proofs.lemmas.Bool.{cases_Bool}
 use Rattle.std.proofs.lemmas.List.FromFn.{length-range_with_len, get_or-range_with_len}
 use Rattle.aig_graph.proofs.FoldingLaws.{gate_at-first_gate, gate_at-is}
 use Rattle.aig_graph.proofs.KindLaws.{GatePlace, LatchPlace, gate_place, is_constant, is_gate, is_input, is_latch, kind_of, latch_at-first_latch, latch_place}
-use Rattle.aig_graph.proofs.SetLemmas.{has_iff_contains}
+use Rattle.aig_graph.proofs.SearchLaws.{has_iff_contains}
 use Rattle.aig_graph.proofs.ValueLaws.{value_laws}
 use Rattle.aig_graph.specs.Border.{is_read}
 use Rattle.aig_graph.specs.Building.{gate_of}
@@ -32,7 +32,7 @@ use Rattle.aig_graph.proofs.SignLaws.{value-gate_of, value_signed, value_signed_
 use Rattle.rebuild.proofs.StartLaws.{opening-reset_to, value-gate, value-latch_later, value-latch_start, value-start_value}
 use Rattle.rebuild.specs.Moved.{advanced, advanced_literal, copy_for, copy_variable, gate_between, gate_for, is_latched, is_outside, latch_for, latch_from, moved_graph, moved_literal, moved_of, moved_props, moved_symbols, new_variable, next_of}
 use Rattle.rebuild.specs.Starting.{start_value}
-use Rattle.variable_tables.proofs.PlacesLemmas.{count-lt}
+use Rattle.variable_tables.proofs.PlacesLaws.{count-lt}
 use Rattle.variable_tables.proofs.ListLaws.{map-map, map-same}
 use Rattle.variable_tables.specs.Counting.{count_below}
 use Rattle.variable_tables.specs.Marking.{has}

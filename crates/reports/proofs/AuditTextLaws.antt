@@ -4,7 +4,7 @@ use Rattle.counted_io.specs.Output.{Output}
 use Rattle.counted_io.specs.Buffered.{Puts}
 use Rattle.counted_io.specs.declared.buffered.Buffered.{Buffered}
 use Rattle.counted_io.specs.Line.{numbered_lines}
-use Rattle.counted_io.proofs.BufferedLemmas.{puts-numbered_next}
+use Rattle.counted_io.proofs.BufferedLaws.{puts-numbered_next}
 use Rattle.certificates.specs.declared.certificate.Certificate.{Certificate}
 use Rattle.reports.specs.Audits.{block_line}
 

@@ -5,7 +5,7 @@ use Rattle.std.proofs.lemmas.Option.{unwrap_or-slice_get}
 use Rattle.counted_io.specs.Output.{Output}
 use Rattle.counted_io.specs.Buffered.{Puts}
 use Rattle.counted_io.specs.declared.buffered.Buffered.{Buffered}
-use Rattle.counted_io.proofs.BufferedLemmas.{puts-range_next}
+use Rattle.counted_io.proofs.BufferedLaws.{puts-range_next}
 use Rattle.lane_sim.specs.Traces.{at_place, then_at}
 use Rattle.reports.specs.Traces.{digit, digit_at, values_at, step_at, steps_at, sequence_at, sequences_at, step_line, sequence_lines, trace_text}
 

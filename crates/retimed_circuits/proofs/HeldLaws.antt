@@ -13,7 +13,7 @@ use Rattle.aig_graph.specs.Keep.{is_named, held_by}
 use Rattle.aig_graph.specs.Move.{Move}
 use Rattle.aig_graph.specs.Border.{in_border, is_gate_in, is_read}
 use Rattle.aig_graph.proofs.KindLaws.{latch_at-first_latch}
-use Rattle.aig_graph.proofs.SetLemmas.{has_iff_contains}
+use Rattle.aig_graph.proofs.SearchLaws.{has_iff_contains}
 use Rattle.variable_tables.specs.Counting.{count_below}
 use Rattle.variable_tables.specs.Marking.{has}
 use Rattle.cleaned_circuits.specs.Merged.{merged_of, stands_of, replaced_graph, replaced_latch}

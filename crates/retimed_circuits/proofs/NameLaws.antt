@@ -11,7 +11,7 @@ use Rattle.std.proofs.lemmas.Slice.Eq.{bytes_eq-Decides}
 use Rattle.aig_graph.specs.declared.properties.Symbol.{Symbol}
 use Rattle.aig_graph.specs.Circuits.{Netlist}
 use Rattle.aig_graph.specs.Keep.{is_named, has_name, first_missing}
-use Rattle.aig_graph.proofs.HoldingLemmas.{list_any-map, missing-none}
+use Rattle.aig_graph.proofs.HoldingLaws.{list_any-map, missing-none}
 use Rattle.retimed_circuits.specs.Names.{HeldLatch, held_latch, held_latches}
 
 bytes_eq-sym : (xs ys : List ℕ) → bytes_eq xs ys ≡ true → bytes_eq ys xs ≡ true

@@ -1,7 +1,7 @@
 -- A certificate of the circuit that a frame is taken of has the count and the gates of that frame's report.
 use Rattle.std.proofs.Common.{ℕ, inl, inr, ◌≡◌, ◌<◌, List, [], length, Some, slice_get, arith, ap, sym, ◌∙◌, subst}
 use Rattle.std.proofs.lemmas.Option.{slice_get_within}
-use Rattle.variable_tables.proofs.PlacesLemmas.{slice_get_push}
+use Rattle.variable_tables.proofs.PlacesLaws.{slice_get_push}
 use Rattle.aig_graph.specs.Circuits.{Netlist}
 use Rattle.aig_graph.specs.Move.{move_of}
 use Rattle.aig_graph.specs.Border.{border_size}

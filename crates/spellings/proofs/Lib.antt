@@ -1,2 +1,2 @@
-pub mod SpellingLemmas
+pub mod SpellingLaws
 mod Examples

@@ -11,7 +11,7 @@ use Rattle.aig_graph.specs.Graph.{variables_end}
 use Rattle.aig_graph.specs.Keep.{held_by, is_named}
 use Rattle.aig_graph.specs.Move.{Move}
 use Rattle.variable_tables.specs.Counting.{count_below, places}
-use Rattle.variable_tables.proofs.PlacesLemmas.{length-places}
+use Rattle.variable_tables.proofs.PlacesLaws.{length-places}
 use Rattle.cleaned_circuits.specs.Cleaned.{IsPass, Cleans, unchanged, after_pass}
 use Rattle.cleaned_circuits.proofs.PassLaws.{IsCircuit, IsCircuit-cleans, IsCircuit-pass}
 use Rattle.rebuild.specs.Moved.{copy_for, gates_below, gate_for, is_outside, moved_graph, moved_of}

@@ -9,7 +9,7 @@ use Rattle.aig_graph.specs.Graph.{IsGraph, IsGateAt, variable, first_latch, firs
 use Rattle.aig_graph.specs.Move.{Move}
 use Rattle.aig_graph.proofs.FoldingLaws.{gate_at-first_gate, gate_at-is}
 use Rattle.aig_graph.proofs.KindLaws.{GatePlace, LatchPlace, element, gate_place, latch_place}
-use Rattle.aig_graph.proofs.SetLemmas.{has_iff_contains}
+use Rattle.aig_graph.proofs.SearchLaws.{has_iff_contains}
 use Rattle.aig_graph.proofs.SignLaws.{variable-signed_as, variable-signed_as_twice}
 use Rattle.variable_tables.specs.Counting.{count_below}
 use Rattle.variable_tables.specs.Marking.{has}

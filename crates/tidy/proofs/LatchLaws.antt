@@ -8,11 +8,11 @@ use Rattle.aig_graph.specs.Closed.{IsClosedSet}
 use Rattle.aig_graph.specs.Graph.{Graph, IsGraph, variable, first_latch, variables_end, latch_at, is_free}
 use Rattle.aig_graph.specs.Move.{Move}
 use Rattle.aig_graph.proofs.KindLaws.{LatchPlace, latch_place}
-use Rattle.aig_graph.proofs.SetLemmas.{has_iff_contains}
+use Rattle.aig_graph.proofs.SearchLaws.{has_iff_contains}
 use Rattle.aig_graph.proofs.SignLaws.{variable-signed_as_twice}
 use Rattle.variable_tables.specs.Counting.{count_below}
 use Rattle.variable_tables.specs.Marking.{has}
-use Rattle.variable_tables.proofs.PlacesLemmas.{Ranks, count-le, count-lt}
+use Rattle.variable_tables.proofs.PlacesLaws.{Ranks, count-le, count-lt}
 use Rattle.cleaned_circuits.specs.Latches.{constant_of, is_stuck}
 use Rattle.cleaned_circuits.proofs.LatchLaws.{constant-even}
 use Rattle.rebuild.specs.Moved.{copies_start, copy_variable, is_latched, latch_for, latch_from, moved_graph, moved_literal, new_variable}

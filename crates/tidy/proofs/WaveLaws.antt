@@ -18,11 +18,11 @@ use Rattle.aig_graph.proofs.ClosedLaws.{rests-from_closed}
 use Rattle.aig_graph.proofs.FoldingLaws.{gate_at-first_gate, gate_at-is}
 use Rattle.aig_graph.proofs.KindLaws.{GatePlace, LatchPlace, element, gate_place, is_constant, is_gate, is_input, is_latch, kind_of, latch_at-first_latch, latch_at-gates, latch_place}
 use Rattle.aig_graph.proofs.PropsLaws.{literals_within}
-use Rattle.aig_graph.proofs.SetLemmas.{has_iff_contains}
+use Rattle.aig_graph.proofs.SearchLaws.{has_iff_contains}
 use Rattle.aig_graph.proofs.SignLaws.{variable-signed_as, variable-signed_as_twice}
 use Rattle.variable_tables.specs.Counting.{count_below}
 use Rattle.variable_tables.specs.Marking.{has}
-use Rattle.variable_tables.proofs.PlacesLemmas.{Ranks}
+use Rattle.variable_tables.proofs.PlacesLaws.{Ranks}
 use Rattle.cleaned_circuits.specs.Reached.{stays, HoldsReads}
 use Rattle.cleaned_circuits.proofs.TrimmedLaws.{stays-past, stays-low, stays-reached}
 use Rattle.rebuild.specs.Moved.{advanced, advanced_literal, copy_for, copy_variable, gate_between, gate_for, is_latched, is_outside, latch_for, latch_from, moved_graph, moved_literal, moved_props, new_variable, next_of}

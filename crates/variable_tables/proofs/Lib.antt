@@ -1,6 +1,6 @@
-pub mod PlacesLemmas
-pub mod CountingLemmas
-pub mod MemberLemmas
-pub mod TableLemmas
-pub mod MarkingLemmas
+pub mod PlacesLaws
+pub mod CountingLaws
+pub mod MemberLaws
+pub mod TableLaws
+pub mod MarkingLaws
 pub mod ListLaws

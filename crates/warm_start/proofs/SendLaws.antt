@@ -4,12 +4,12 @@ use Rattle.std.proofs.Math.ListN.{length-set}
 use Rattle.std.proofs.lemmas.List.{get_or-set_same, get_or-set_other}
 use Rattle.std.proofs.lemmas.Bool.{cases_lt, cases_eq}
 use Rattle.flow_theory.specs.Flow.{State, sum_below}
-use Rattle.flow_theory.proofs.Sums.{term-le-sum_below}
-use Rattle.arc_rows.proofs.Sparse.{sparse-at, sparse-none, find_head}
+use Rattle.flow_theory.proofs.SumLaws.{term-le-sum_below}
+use Rattle.arc_rows.proofs.SparseRowLaws.{sparse-at, sparse-none, find_head}
 use Rattle.frame_net.specs.FlowNet.{FlowNet, node_count, start, row_len, head, mate, HasMate, IsFlowNet}
 use Rattle.flow_part.specs.Parts.{Agree, IsSound, pair}
-use Rattle.flow_whole.proofs.Mates.{rises}
-use Rattle.flow_whole.proofs.Agreeing.{sound_same}
+use Rattle.flow_whole.proofs.MateLaws.{rises}
+use Rattle.flow_whole.proofs.AgreeingStateLaws.{sound_same}
 use Rattle.warm_start.specs.Wished.{CanSend, IsHeld, state_by}
 use Rattle.warm_start.proofs.UnitLaws.{IsSending, sent, sent_excess, sent_preflow, sent_valid, sent_total, unit, unit-on, unit-off, unit-row, unit-row_off, unit-column, unit-column_off, unit_sends}
 

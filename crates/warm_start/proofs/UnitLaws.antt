@@ -2,8 +2,8 @@
 use Rattle.std.proofs.Common.{◌≡◌, ℕ, ◌+◌, ◌-◌, ◌<◌, ◌≤◌, ◌==◌, ◌&&◌, cond, Bool, arith, refl, ap, ◌∙◌, inl, inr}
 use Rattle.std.proofs.lemmas.Bool.{cases_lt, cases_eq, and_from, eq-eqb, ne_eqb, and_left, and_right}
 use Rattle.flow_theory.specs.Flow.{State, sum_below, IsPreflow, IsValid}
-use Rattle.flow_theory.proofs.Sums.{sum_below-add, sum_below-same, sum_below-swap, sum_below-zero}
-use Rattle.arc_rows.proofs.Sparse.{sum_one}
+use Rattle.flow_theory.proofs.SumLaws.{sum_below-add, sum_below-same, sum_below-swap, sum_below-zero}
+use Rattle.arc_rows.proofs.SparseRowLaws.{sum_one}
 
 -- pushes within the residuals and the excess, none to a label more than one higher
 pub record IsSending (n : ℕ) (s : State) (p : ℕ → ℕ → ℕ) : Type 0 where

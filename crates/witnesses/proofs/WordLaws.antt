@@ -4,7 +4,7 @@ use Rattle.std.proofs.lemmas.List.{take_more}
 use Rattle.std.proofs.lemmas.List.Sums.{fold-append}
 use Rattle.file_words.specs.Lines.{pieces, digits_value}
 use Rattle.file_words.specs.Cuts.{Cuts, lacks}
-use Rattle.file_words.proofs.Decimals.{pieces-at_space, pieces-at_end}
+use Rattle.file_words.proofs.DecimalLaws.{pieces-at_space, pieces-at_end}
 use Rattle.witnesses.specs.declared.witness.Property.{Property}
 use Rattle.witnesses.specs.declared.widths.Widths.{Widths}
 use Rattle.witnesses.specs.declared.fault.WitnessError.{WitnessError}

@@ -1,4 +1,4 @@
-use Rattle.frame_cuts.proofs.SetCuts.{closed_sets_are_cuts-law}
+use Rattle.frame_cuts.proofs.SetCutLaws.{closed_sets_are_cuts-law}
 use Rattle.frame_cuts.proofs.closed_sets_are_cuts.Goals as goal
 
 pub returns : goal.returns

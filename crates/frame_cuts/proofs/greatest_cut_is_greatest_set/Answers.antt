@@ -1,4 +1,4 @@
-use Rattle.frame_cuts.proofs.LeastCuts.{greatest_cut_is_greatest_set-law}
+use Rattle.frame_cuts.proofs.LeastCutLaws.{greatest_cut_is_greatest_set-law}
 use Rattle.frame_cuts.proofs.greatest_cut_is_greatest_set.Goals as goal
 
 pub returns : goal.returns

@@ -1,5 +1,5 @@
 use Rattle.std.proofs.Common.{ℕ, List}
-use Rattle.counted_io.proofs.InputLemmas.{ReadsFirst}
+use Rattle.counted_io.proofs.InputLaws.{ReadsFirst}
 use Rattle.aig_binary.proofs.reading.read_circuit.Given as goal
 
 abbrev pub invariant-loop : goal.invariant-loop

@@ -1,5 +1,5 @@
 use Rattle.std.proofs.Common.{◌++◌, take, refl}
-use Rattle.counted_io.proofs.InputLemmas.{first-more}
+use Rattle.counted_io.proofs.InputLaws.{first-more}
 use Rattle.aig_binary.proofs.rest.drop_rest.Goals as goal
 
 pub loop-preserved : goal.loop-preserved

@@ -1,6 +1,6 @@
 use Rattle.std.proofs.Common.{arith, ◌≡◌}
 use Rattle.aig_graph.specs.Graph.{variables_end}
-use Rattle.aig_graph.proofs.BorderLemmas.{counted-start, counted-pass, counted-fail, counted-end}
+use Rattle.aig_graph.proofs.BorderLaws.{counted-start, counted-pass, counted-fail, counted-end}
 use Rattle.aig_graph.proofs.border.count_marked.Goals.{then-is_counted, else-is_counted}
 use Rattle.aig_graph.proofs.border.count_marked.Goals as goal
 

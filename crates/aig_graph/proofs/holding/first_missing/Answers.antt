@@ -2,7 +2,7 @@ use Rattle.std.proofs.Common.{ℕ, ◌≡◌, inl, inr, true, [], map, get_or, a
 use Rattle.std.proofs.lemmas.Bool.{cases_lt}
 use Rattle.std.proofs.lemmas.List.{get_or-map, length-map}
 use Rattle.aig_graph.specs.Keep.{has_name}
-use Rattle.aig_graph.proofs.HoldingLemmas.{missing-at, missing-none}
+use Rattle.aig_graph.proofs.HoldingLaws.{missing-at, missing-none}
 use Rattle.aig_graph.proofs.holding.first_missing.Goals as goal
 
 pub returns-then-not-is_among : goal.returns-then-not-is_among

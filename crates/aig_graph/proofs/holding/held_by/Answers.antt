@@ -1,7 +1,7 @@
 use Rattle.std.proofs.Common.{ap, sym, ◌∙◌, ◌≡◌, List, ℕ, map, bytes_eq}
 use Rattle.std.specs.List.{list_any}
 use Rattle.aig_graph.specs.Keep.{is_named}
-use Rattle.aig_graph.proofs.HoldingLemmas.{held-none, held-pass, held-fail}
+use Rattle.aig_graph.proofs.HoldingLaws.{held-none, held-pass, held-fail}
 use Rattle.aig_graph.proofs.holding.held_by.Goals.{then-is_among+in_ok-push, else-is_among}
 use Rattle.aig_graph.proofs.holding.held_by.Goals as goal
 

@@ -1,7 +1,7 @@
 use Rattle.std.proofs.Common.{length, ap, map, sym, ◌∙◌, subst, List, ℕ}
 use Rattle.std.specs.List.Sorted.{IsStrictlyIncreasing}
 use Rattle.aig_graph.specs.Keep.{held_by, first_missing}
-use Rattle.aig_graph.proofs.HoldingLemmas.{held-rising, held-nobody, missing-nobody, empty-none}
+use Rattle.aig_graph.proofs.HoldingLaws.{held-rising, held-nobody, missing-nobody, empty-none}
 use Rattle.aig_graph.proofs.holding.keep_of.Goals as goal
 
 pub new-requires : goal.new-requires

@@ -1,7 +1,7 @@
 use Rattle.std.proofs.Common.{◌∙◌, ap, bytes_eq, List, ℕ}
 use Rattle.std.specs.Cmp.Lexicographic.{nat_list_eq_equiv}
 use Rattle.aig_graph.specs.declared.properties.Symbol.{Symbol}
-use Rattle.aig_graph.proofs.HoldingLemmas.{found-more}
+use Rattle.aig_graph.proofs.HoldingLaws.{found-more}
 use Rattle.aig_graph.proofs.holding.names_of.Goals as goal
 
 pub loop-symbol-preserved : goal.loop-symbol-preserved

@@ -2,7 +2,7 @@ use Rattle.std.proofs.Common.{◌∙◌, ap, sym, bytes_eq, List, ℕ}
 use Rattle.std.specs.List.{list_any}
 use Rattle.std.proofs.lemmas.List.{take_all}
 use Rattle.std.specs.Cmp.Lexicographic.{nat_list_eq_equiv}
-use Rattle.aig_graph.proofs.HoldingLemmas.{found-more, list_any-map}
+use Rattle.aig_graph.proofs.HoldingLaws.{found-more, list_any-map}
 use Rattle.aig_graph.proofs.holding.set_of.Goals as goal
 
 pub loop-name-preserved : goal.loop-name-preserved

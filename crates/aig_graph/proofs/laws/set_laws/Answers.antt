@@ -1,4 +1,4 @@
-use Rattle.aig_graph.proofs.ClosedBorder.{closed_border_law}
+use Rattle.aig_graph.proofs.ClosedBorderLaws.{closed_border_law}
 use Rattle.aig_graph.proofs.SetLaws.{passable_law, empty_set_laws, at_most_one}
 use Rattle.aig_graph.proofs.laws.set_laws.Goals as goal
 

@@ -1,4 +1,4 @@
-use Rattle.aig_graph.proofs.ReadingLemmas.{Marks-read}
+use Rattle.aig_graph.proofs.ReadingLaws.{Marks-read}
 use Rattle.aig_graph.proofs.reading.mark_read.Goals as goal
 
 pub returns : goal.returns

@@ -1,4 +1,4 @@
-use Rattle.aig_graph.proofs.SetLemmas.{found_where_contained, has_iff_contains, bool_same}
+use Rattle.aig_graph.proofs.SearchLaws.{found_where_contained, has_iff_contains, bool_same}
 use Rattle.aig_graph.proofs.rising.contains.Goals as goal
 
 pub returns-clause-contains : goal.returns-clause-contains

@@ -1,5 +1,5 @@
 use Rattle.std.proofs.Common.{suc, length, slice_index, arith}
-use Rattle.flow_theory.proofs.Sums.{sum_below-mono}
+use Rattle.flow_theory.proofs.SumLaws.{sum_below-mono}
 use Rattle.arc_rows.proofs.rows.subtract_pushes.Goals as goal
 
 pub overflow_add-sum : goal.overflow_add-sum

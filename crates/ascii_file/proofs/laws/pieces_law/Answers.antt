@@ -1,4 +1,4 @@
-use Rattle.ascii_file.proofs.Pieces.{the_pieces_law}
+use Rattle.ascii_file.proofs.PieceLaws.{the_pieces_law}
 use Rattle.ascii_file.proofs.laws.pieces_law.Goals as goal
 
 pub returns : goal.returns

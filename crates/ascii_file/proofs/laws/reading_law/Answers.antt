@@ -1,4 +1,4 @@
-use Rattle.ascii_file.proofs.Files.{the_reading_law}
+use Rattle.ascii_file.proofs.FileLaws.{the_reading_law}
 use Rattle.ascii_file.proofs.laws.reading_law.Goals as goal
 
 pub returns : goal.returns

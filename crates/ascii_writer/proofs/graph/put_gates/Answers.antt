@@ -1,7 +1,7 @@
 use Rattle.std.proofs.Common.{ℕ}
 use Rattle.aig_graph.specs.declared.graph.Gate.{Gate}
 use Rattle.counted_io.specs.Line.{line}
-use Rattle.counted_io.proofs.BufferedLemmas.{puts-numbered_next}
+use Rattle.counted_io.proofs.BufferedLaws.{puts-numbered_next}
 use Rattle.file_words.specs.Text.{gate_row}
 use Rattle.ascii_writer.proofs.graph.put_gates.Goals as goal
 

@@ -1,7 +1,7 @@
 use Rattle.std.proofs.Common.{ℕ, ◌+◌, ◌-◌, ◌*◌, ◌≡◌, [], ◌∷◌, true, rules, subst}
 use Rattle.counted_io.specs.Buffered.{Puts}
 use Rattle.counted_io.specs.Line.{line}
-use Rattle.counted_io.proofs.BufferedLemmas.{puts-range_next, puts-range_ended}
+use Rattle.counted_io.proofs.BufferedLaws.{puts-range_next, puts-range_ended}
 use Rattle.file_words.specs.Text.{input_rows}
 use Rattle.ascii_writer.proofs.graph.put_inputs.Goals as goal
 

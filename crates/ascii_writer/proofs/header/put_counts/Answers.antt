@@ -1,4 +1,4 @@
-use Rattle.ascii_writer.proofs.HeaderLemmas.{header_row-used}
+use Rattle.ascii_writer.proofs.HeaderLaws.{header_row-used}
 use Rattle.ascii_writer.proofs.header.put_counts.Goals as goal
 
 pub returns : goal.returns

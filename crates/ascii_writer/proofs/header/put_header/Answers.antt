@@ -1,5 +1,5 @@
 use Rattle.std.specs.Prelude.{codes}
-use Rattle.counted_io.proofs.BufferedLemmas.{puts-then}
+use Rattle.counted_io.proofs.BufferedLaws.{puts-then}
 use Rattle.ascii_writer.specs.Header.{header_text}
 use Rattle.ascii_writer.proofs.header.put_header.Goals as goal
 

@@ -1,5 +1,5 @@
 use Rattle.std.proofs.Common.{arith}
-use Rattle.ascii_writer.proofs.HeaderLemmas.{used-zero, used-other}
+use Rattle.ascii_writer.proofs.HeaderLaws.{used-zero, used-other}
 use Rattle.ascii_writer.proofs.header.used.Goals as goal
 use Rattle.ascii_writer.proofs.header.used.Goals.{then-count-ne0, else-count-ne0}
 

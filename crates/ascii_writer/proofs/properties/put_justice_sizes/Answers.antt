@@ -1,5 +1,5 @@
 use Rattle.std.proofs.lemmas.List.Folds.{flat_map-map}
-use Rattle.counted_io.proofs.BufferedLemmas.{puts-end}
+use Rattle.counted_io.proofs.BufferedLaws.{puts-end}
 use Rattle.ascii_writer.proofs.properties.put_justice_sizes.Goals as goal
 
 pub returns : goal.returns

@@ -1,5 +1,5 @@
 use Rattle.file_words.specs.Text.{symbol_line}
-use Rattle.counted_io.proofs.BufferedLemmas.{puts-byte, puts-then}
+use Rattle.counted_io.proofs.BufferedLaws.{puts-byte, puts-then}
 use Rattle.ascii_writer.proofs.symbols.put_symbol.Goals as goal
 
 pub returns : goal.returns

@@ -1,6 +1,6 @@
 use Rattle.file_words.specs.Text.{text}
 use Rattle.ascii_writer.specs.Header.{header_text}
-use Rattle.counted_io.proofs.BufferedLemmas.{puts-then}
+use Rattle.counted_io.proofs.BufferedLaws.{puts-then}
 use Rattle.ascii_writer.proofs.writing.put_text.Goals as goal
 
 pub returns : goal.returns

@@ -1,7 +1,7 @@
 use Rattle.std.proofs.Common.{Some, sym, ap, ◌∙◌, subst}
 use Rattle.batch_pool.specs.declared.job.Outcome.{Outcome}
 use Rattle.batch_pool.specs.Outcomes.{IsOutcome}
-use Rattle.batch_pool.proofs.FileOutcomes.{an_answer, no_answer}
+use Rattle.batch_pool.proofs.FileOutcomeLaws.{an_answer, no_answer}
 use Rattle.batch_pool.proofs.job.retime_file.Goals as goal
 
 pub returns-in-Ok : goal.returns-in-Ok

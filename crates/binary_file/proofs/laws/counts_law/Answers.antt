@@ -1,4 +1,4 @@
-use Rattle.binary_file.proofs.Counts.{the_counts_law}
+use Rattle.binary_file.proofs.CountLaws.{the_counts_law}
 use Rattle.binary_file.proofs.laws.counts_law.Goals as goal
 
 pub returns : goal.returns

@@ -1,6 +1,6 @@
 use Rattle.std.proofs.Common.{refl}
 use Rattle.std.proofs.lemmas.Option.{slice_get_read}
-use Rattle.counted_io.proofs.BufferedLemmas.{puts-numbered_next}
+use Rattle.counted_io.proofs.BufferedLaws.{puts-numbered_next}
 use Rattle.binary_writer.specs.Text.{gate_deltas}
 use Rattle.binary_writer.proofs.gates.put_gates.Goals as goal
 

@@ -1,7 +1,7 @@
 use Rattle.std.proofs.Common.{ℕ}
 use Rattle.aig_graph.specs.declared.graph.Latch.{Latch}
 use Rattle.counted_io.specs.Line.{line}
-use Rattle.counted_io.proofs.BufferedLemmas.{puts-numbered_next}
+use Rattle.counted_io.proofs.BufferedLaws.{puts-numbered_next}
 use Rattle.binary_writer.specs.Text.{next_row}
 use Rattle.binary_writer.proofs.latches.put_latches.Goals as goal
 

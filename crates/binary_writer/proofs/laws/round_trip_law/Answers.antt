@@ -1,4 +1,4 @@
-use Rattle.binary_writer.proofs.RoundTrip.{the_round_trip_law}
+use Rattle.binary_writer.proofs.RoundTripLaws.{the_round_trip_law}
 use Rattle.binary_writer.proofs.laws.round_trip_law.Goals as goal
 
 pub returns : goal.returns

@@ -1,5 +1,5 @@
 use Rattle.std.specs.Prelude.{codes}
-use Rattle.counted_io.proofs.BufferedLemmas.{puts-then}
+use Rattle.counted_io.proofs.BufferedLaws.{puts-then}
 use Rattle.binary_writer.specs.Text.{text_binary}
 use Rattle.binary_writer.proofs.writing.put_text.Goals as goal
 

@@ -1,5 +1,5 @@
 use Rattle.std.proofs.Common.{List, ◌∷◌, ◌∙◌, sym, subst}
-use Rattle.aig_graph.proofs.HoldingLemmas.{empty-none}
+use Rattle.aig_graph.proofs.HoldingLaws.{empty-none}
 use Rattle.certificates.specs.declared.certificate.Certificate.{Certificate}
 use Rattle.certificate_audits.specs.declared.judging.Finding.{Finding}
 use Rattle.certificate_audits.specs.declared.outcome.End.TheVariants.{Open, Certified}

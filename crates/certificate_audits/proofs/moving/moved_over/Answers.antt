@@ -1,7 +1,7 @@
 use Rattle.std.proofs.Common.{ℕ, List, ◌≡◌, ◌∙◌, arith, ap₂}
 use Rattle.aig_graph.specs.Border.{border_size}
 use Rattle.aig_graph.specs.Move.{move_of}
-use Rattle.aig_graph.proofs.GraphLemmas.{room}
+use Rattle.aig_graph.proofs.GraphLaws.{room}
 use Rattle.retimed_circuits.specs.Names.{held_in}
 use Rattle.certificate_audits.specs.Named.{names_of}
 use Rattle.certificate_audits.proofs.moving.moved_over.Goals as goal

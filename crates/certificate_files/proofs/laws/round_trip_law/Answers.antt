@@ -1,4 +1,4 @@
-use Rattle.certificate_files.proofs.RoundTrip.{the_round_trip_law}
+use Rattle.certificate_files.proofs.RoundTripLaws.{the_round_trip_law}
 use Rattle.certificate_files.proofs.laws.round_trip_law.Goals as goal
 
 pub returns : goal.returns

@@ -1,4 +1,4 @@
-use Rattle.counted_io.proofs.BufferedLemmas.{puts-then}
+use Rattle.counted_io.proofs.BufferedLaws.{puts-then}
 use Rattle.certificate_files.proofs.writing.put_block.Goals as goal
 
 pub returns : goal.returns

@@ -1,4 +1,4 @@
-use Rattle.counted_io.proofs.BufferedLemmas.{puts-then, puts-byte}
+use Rattle.counted_io.proofs.BufferedLaws.{puts-then, puts-byte}
 use Rattle.certificate_files.proofs.writing.put_point.Goals as goal
 
 pub returns : goal.returns

@@ -3,7 +3,7 @@ use Rattle.aig_graph.specs.declared.graph.Gate.{Gate}
 use Rattle.aig_graph.specs.Graph.{Graph, IsGateAt, first_gate}
 use Rattle.clean.proofs.MappingLaws.{gate-there}
 use Rattle.cleaned_circuits.specs.Merged.{Merging, merge_gate, merge_gates}
-use Rattle.clean.proofs.MergeSteps.{merge-more, merge-end}
+use Rattle.clean.proofs.MergeStepLaws.{merge-more, merge-end}
 use Rattle.cleaned_circuits.proofs.StandLaws.{length-merge_gate}
 use Rattle.clean.proofs.gates.merge_gates.Goals as goal
 

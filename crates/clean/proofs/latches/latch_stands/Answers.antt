@@ -3,7 +3,7 @@ use Rattle.std.proofs.lemmas.Option.{slice_get_read}
 use Rattle.aig_graph.specs.declared.graph.Latch.{Latch}
 use Rattle.aig_graph.specs.Graph.{first_latch, IsGraph}
 use Rattle.variable_tables.specs.Tables.{table}
-use Rattle.variable_tables.proofs.TableLemmas.{length-table}
+use Rattle.variable_tables.proofs.TableLaws.{length-table}
 use Rattle.cleaned_circuits.specs.Latches.{leaf_stand}
 use Rattle.clean.proofs.FirstsLaws.{firsts-start, own-stands, stands-more}
 use Rattle.clean.proofs.latches.latch_stands.Goals as goal

@@ -5,7 +5,7 @@ use Rattle.aig_graph.specs.Circuits.{Netlist}
 use Rattle.cleaned_circuits.specs.Merged.{merged_of}
 use Rattle.cleaned_circuits.specs.Cleaned.{IsPass}
 use Rattle.cleaned_circuits.proofs.PassLaws.{IsCircuit, pass-streams}
-use Rattle.clean.proofs.PassSteps.{merged-props, merged-range}
+use Rattle.clean.proofs.PassStepLaws.{merged-props, merged-range}
 use Rattle.clean.specs.declared.pass.Pass.{Pass}
 use Rattle.clean.proofs.pass.run_pass.Goals as goal
 

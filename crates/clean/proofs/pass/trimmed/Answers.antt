@@ -8,7 +8,7 @@ use Rattle.aig_graph.specs.Mapped.{OfProps}
 use Rattle.cleaned_circuits.specs.Merged.{merged_of}
 use Rattle.cleaned_circuits.specs.Trimmed.{trimmed_of, kept_free, new_position}
 use Rattle.clean.specs.Sweep.{Front, is_marked}
-use Rattle.clean.proofs.PassSteps.{same-trimmed, same-graph, merged-props, merged-range, merged-names, whole, pass-graph, pass-netlist, pass-reached}
+use Rattle.clean.proofs.PassStepLaws.{same-trimmed, same-graph, merged-props, merged-range, merged-names, whole, pass-graph, pass-netlist, pass-reached}
 use Rattle.clean.proofs.pass.trimmed.Goals as goal
 
 pub circuit-requires-clause-graph : goal.circuit-requires-clause-graph

@@ -1,5 +1,5 @@
-use Rattle.counted_io.proofs.InputLemmas.{first-dropped}
-use Rattle.counted_io.proofs.ResultLemmas.{on_err}
+use Rattle.counted_io.proofs.InputLaws.{first-dropped}
+use Rattle.counted_io.proofs.ResultLaws.{on_err}
 use Rattle.counted_io.proofs.reading.read_all.Goals as goal
 
 pub returns-in_err-extend_from_slice-clause-err : goal.returns-in_err-extend_from_slice-clause-err

@@ -1,5 +1,5 @@
 use Rattle.std.proofs.Common.{◌-◌, ◌^◌, vec_len}
-use Rattle.counted_io.proofs.InputLemmas.{ReadsFirst}
+use Rattle.counted_io.proofs.InputLaws.{ReadsFirst}
 use Rattle.counted_io.proofs.reading.read_all.Given as goal
 
 abbrev pub invariant-loop-bytes : goal.invariant-loop-bytes

@@ -1,5 +1,5 @@
 use Rattle.std.proofs.lemmas.Bool.{eqb-true}
-use Rattle.counted_io.proofs.OutputLemmas.{all-pieces, part-pieces, all-empty}
+use Rattle.counted_io.proofs.OutputLaws.{all-pieces, part-pieces, all-empty}
 use Rattle.counted_io.proofs.writing.write_all.Goals as goal
 
 pub loop-rest-preserved : goal.loop-rest-preserved

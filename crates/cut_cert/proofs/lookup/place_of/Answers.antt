@@ -1,7 +1,7 @@
 use Rattle.std.proofs.Common.{◌≡◌, ◌∙◌, ◌+◌, ◌-◌, ◌/◌, ◌<◌, ap, sym, arith, ℕ, Some, true, false}
 use Rattle.frame_net.specs.FlowNet.{FlowNet, row_len, head, point_of}
 use Rattle.cut_cert.specs.Steps.{precedes}
-use Rattle.cut_cert.proofs.Lookups.{before-target, not-before-target}
+use Rattle.cut_cert.proofs.LookupLaws.{before-target, not-before-target}
 use Rattle.cut_cert.proofs.lookup.place_of.Goals as goal
 
 pub comes_before-requires : goal.comes_before-requires

@@ -4,7 +4,7 @@ use Rattle.aig_graph.specs.Border.{IsSmallestLeast}
 use Rattle.frame_net.specs.declared.net.Point.{Point}
 use Rattle.cut_cert.proofs.GateLaws.{are-gates}
 use Rattle.cut_cert.specs.Steps.{AreUsed, AreOfSource}
-use Rattle.cut_cert.proofs.NearSets.{near-set}
+use Rattle.cut_cert.proofs.NearSetLaws.{near-set}
 use Rattle.cut_cert.proofs.nearest.near_cut.Goals as goal
 
 pub returns-in-Some : goal.returns-in-Some

@@ -3,7 +3,7 @@ use Rattle.std.proofs.lemmas.Bool.{lt-ltb, le-ltb}
 use Rattle.frame_net.specs.FlowNet.{FlowNet, start, head, cap_at, point_of}
 use Rattle.cut_cert.proofs.SinkWalkLaws.{arc-in}
 use Rattle.cut_cert.specs.Steps.{is_behind}
-use Rattle.cut_cert.proofs.OpenWalks.{open-back, open-else}
+use Rattle.cut_cert.proofs.OpenWalkLaws.{open-back, open-else}
 use Rattle.cut_cert.proofs.source_side.is_open.Goals as goal
 
 pub bounds-used-mate : goal.bounds-used-mate

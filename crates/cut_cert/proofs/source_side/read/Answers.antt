@@ -1,7 +1,7 @@
 use Rattle.std.proofs.Common.{◌≡◌, ◌<◌, ◌∙◌, ap, ap₂, sym, arith, ℕ, List, Bool, length, slice_index}
 use Rattle.frame_net.specs.FlowNet.{FlowNet, node_count, row_len, head}
 use Rattle.cut_cert.specs.SinkWalk.{Front, reach}
-use Rattle.cut_cert.proofs.OpenWalks.{open-none, open-long, open-step, open-skip}
+use Rattle.cut_cert.proofs.OpenWalkLaws.{open-none, open-long, open-step, open-skip}
 use Rattle.cut_cert.proofs.source_side.read.Goals as goal
 use Rattle.cut_cert.proofs.source_side.read.Goals.{then-is_open+in_ok-reach, else-is_open}
 

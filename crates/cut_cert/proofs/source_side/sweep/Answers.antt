@@ -3,7 +3,7 @@ use Rattle.std.proofs.lemmas.Option.{slice_get_within}
 use Rattle.frame_net.specs.FlowNet.{FlowNet}
 use Rattle.cut_cert.specs.SinkWalk.{Front, reach}
 use Rattle.cut_cert.proofs.SinkWalkLaws.{marked-within}
-use Rattle.cut_cert.proofs.OpenWalks.{no_front, sweeps-start, sweeps-few, sweeps-more, sweeps-end}
+use Rattle.cut_cert.proofs.OpenWalkLaws.{no_front, sweeps-start, sweeps-few, sweeps-more, sweeps-end}
 use Rattle.cut_cert.proofs.source_side.sweep.Goals as goal
 
 pub loop-node-init : goal.loop-node-init

@@ -1,6 +1,6 @@
 use Rattle.std.proofs.Common.{◌-◌}
 use Rattle.frame_net.specs.FlowNet.{node_count}
-use Rattle.cut_cert.proofs.OpenWalks.{Swept}
+use Rattle.cut_cert.proofs.OpenWalkLaws.{Swept}
 use Rattle.cut_cert.proofs.source_side.sweep.Given as goal
 
 abbrev pub invariant-loop-node : goal.invariant-loop-node

@@ -1,5 +1,5 @@
 use Rattle.std.proofs.Common.{◌<◌, ◌^◌, length, arith, sym, ◌∙◌}
-use Rattle.deltas.proofs.DeltaLemmas.{value-none, value-split, few_bytes, rest-few}
+use Rattle.deltas.proofs.DeltaLaws.{value-none, value-split, few_bytes, rest-few}
 use Rattle.deltas.proofs.decode.+value.Goals as goal
 
 pub overflow_mul-result : goal.overflow_mul-result

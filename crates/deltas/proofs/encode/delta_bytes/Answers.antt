@@ -1,5 +1,5 @@
 use Rattle.std.proofs.Common.{inl, inr, ◌∙◌}
-use Rattle.deltas.proofs.DeltaLemmas.{Spells-more, Spells-end}
+use Rattle.deltas.proofs.DeltaLaws.{Spells-more, Spells-end}
 use Rattle.deltas.proofs.encode.delta_bytes.Goals as goal
 use Rattle.deltas.proofs.encode.delta_bytes.Goals.{else-loop-test, then-loop-test+then-rest-lt128}
 

@@ -1,4 +1,4 @@
-use Rattle.deltas.proofs.DeltaLemmas.{Spells}
+use Rattle.deltas.proofs.DeltaLaws.{Spells}
 use Rattle.deltas.proofs.encode.delta_bytes.Given as goal
 
 abbrev pub invariant-loop : goal.invariant-loop

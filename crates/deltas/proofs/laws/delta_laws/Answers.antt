@@ -1,4 +1,4 @@
-use Rattle.deltas.proofs.DeltaLemmas.{delta_laws, ends_once}
+use Rattle.deltas.proofs.DeltaLaws.{delta_laws, ends_once}
 use Rattle.deltas.proofs.laws.delta_laws.Goals as goal
 
 pub returns-clause-spelled : goal.returns-clause-spelled

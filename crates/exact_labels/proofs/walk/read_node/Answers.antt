@@ -1,7 +1,7 @@
 use Rattle.std.proofs.Common.{ℕ, ◌+◌, ◌<◌, slice_index, arith, subst}
 use Rattle.frame_net.specs.FlowNet.{node_count, row_len}
 use Rattle.flow_part.specs.Parts.{cells_of}
-use Rattle.flow_whole.proofs.Sizes.{sizes}
+use Rattle.flow_whole.proofs.SizeLaws.{sizes}
 use Rattle.exact_labels.proofs.ArcLaws.{mate-in}
 use Rattle.exact_labels.proofs.WalkLaws.{Reading, room_for, head_labelled, mate_full, head_new, reading_end}
 use Rattle.exact_labels.proofs.walk.read_node.Goals.{then-labels-v+then-residual_at-gt0, else-labels-v, else-labels-v-via-then-labels-v+else-residual_at-gt0, else-labels-v-via-else-labels-v}

@@ -1,6 +1,6 @@
 use Rattle.std.proofs.Common.{arith}
 use Rattle.flow_part.proofs.clearing.clear_part.Goals as goal
-use Rattle.flow_part.proofs.ClearLemmas.{all_cleared, listed_cleared}
+use Rattle.flow_part.proofs.ClearLaws.{all_cleared, listed_cleared}
 
 pub returns-then-part : goal.returns-then-part
 returns-then-part c =

@@ -4,8 +4,8 @@ use Rattle.std.proofs.lemmas.List.{length-set}
 use Rattle.frame_net.specs.FlowNet.{start}
 use Rattle.flow_part.specs.Parts.{values_of}
 use Rattle.flow_part.proofs.PartLaws.{part_given}
-use Rattle.flow_part.proofs.PartSteps.{node_fits, cells_safe}
-use Rattle.flow_part.proofs.Ranges.{one_safe, one_given}
+use Rattle.flow_part.proofs.DeliveredPartLaws.{node_fits, cells_safe}
+use Rattle.flow_part.proofs.DeliveredRangeLaws.{one_safe, one_given}
 
 pub deliver_node-delivered-requires-clause-safe : goal.deliver_node-delivered-requires-clause-safe
 deliver_node-delivered-requires-clause-safe c =

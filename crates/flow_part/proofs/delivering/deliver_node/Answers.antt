@@ -1,7 +1,7 @@
 use Rattle.flow_part.proofs.delivering.deliver_node.Goals as goal
 use Rattle.std.proofs.Common.{◌∙◌, arith, length}
 use Rattle.flow_part.specs.Parts.{values_of}
-use Rattle.flow_part.proofs.NodeGives.{sent_same, label_same}
+use Rattle.flow_part.proofs.DeliveredNodeLaws.{sent_same, label_same}
 
 pub subtract_pushes-outflow-requires-clause-total : goal.subtract_pushes-outflow-requires-clause-total
 subtract_pushes-outflow-requires-clause-total c =

@@ -1,7 +1,7 @@
 use Rattle.std.proofs.Common.{◌≡◌, ℕ, arith, subst}
 use Rattle.flow_part.proofs.delivering.deliver_part.Goals as goal
 use Rattle.flow_part.specs.Parts.{values_of}
-use Rattle.flow_part.proofs.PartSteps.{Stepped, fits_after, part_clamped, same_end, same_first, step_clamped, step_more, step_none, step_safe}
+use Rattle.flow_part.proofs.DeliveredPartLaws.{Stepped, fits_after, part_clamped, same_end, same_first, step_clamped, step_more, step_none, step_safe}
 
 pub loop-v-init : goal.loop-v-init
 loop-v-init c = step_none c.args.net.now c.args.labels.now (values_of c.args.pushes.now) c.max-low.result c.args.part.now

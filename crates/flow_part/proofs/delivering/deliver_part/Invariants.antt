@@ -1,5 +1,5 @@
 use Rattle.flow_part.specs.Parts.{values_of}
-use Rattle.flow_part.proofs.PartSteps.{Stepped}
+use Rattle.flow_part.proofs.DeliveredPartLaws.{Stepped}
 use Rattle.flow_part.proofs.delivering.deliver_part.Given as goal
 
 abbrev pub invariant-loop-v : goal.invariant-loop-v

@@ -1,7 +1,7 @@
 use Rattle.flow_part.proofs.delivering.next_label.Goals as goal
 use Rattle.std.proofs.Common.{arith, slice_index}
 use Rattle.frame_net.specs.FlowNet.{node_count}
-use Rattle.flow_part.proofs.NodeGives.{lift_same, choice_first}
+use Rattle.flow_part.proofs.DeliveredNodeLaws.{lift_same, choice_first}
 
 pub returns-then-outflow-excess : goal.returns-then-outflow-excess
 returns-then-outflow-excess c =

@@ -2,7 +2,7 @@ use Rattle.std.proofs.Common.{◌+◌, refl, arith, subst, sym}
 use Rattle.flow_part.specs.declared.node_list.NodeList.{NodeList}
 use Rattle.flow_part.proofs.gathering.add_active.Goals as goal
 use Rattle.flow_part.proofs.gathering.add_active.Goals.{then-is_active, else-is_active}
-use Rattle.flow_part.proofs.Gathered.{GathersActive, active_none, active_on, active_off}
+use Rattle.flow_part.proofs.GatheredLaws.{GathersActive, active_none, active_on, active_off}
 
 pub loop-i-init : goal.loop-i-init
 loop-i-init c = active_none c.args.nodes c.args.labels.now c.args.first c.args.excess.now c.args.listed.now c.args.list.now

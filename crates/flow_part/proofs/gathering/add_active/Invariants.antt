@@ -1,4 +1,4 @@
-use Rattle.flow_part.proofs.Gathered.{GathersActive}
+use Rattle.flow_part.proofs.GatheredLaws.{GathersActive}
 use Rattle.flow_part.proofs.gathering.add_active.Given as goal
 
 abbrev pub invariant-loop-i : goal.invariant-loop-i

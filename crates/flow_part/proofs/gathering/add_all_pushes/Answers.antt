@@ -1,6 +1,6 @@
 use Rattle.std.proofs.Common.{◌≡◌, ℕ, arith, subst, length}
 use Rattle.flow_part.proofs.gathering.add_all_pushes.Goals as goal
-use Rattle.flow_part.proofs.Gathered.{GathersParts, all_listed, from_nodes, parts_none, parts_more, pushing_lists}
+use Rattle.flow_part.proofs.GatheredLaws.{GathersParts, all_listed, from_nodes, parts_none, parts_more, pushing_lists}
 
 pub loop-i-init : goal.loop-i-init
 loop-i-init c = parts_none c.args.net.now c.args.pushes.now c.args.first c.args.end c.args.list.now

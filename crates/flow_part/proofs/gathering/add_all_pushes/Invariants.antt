@@ -1,4 +1,4 @@
-use Rattle.flow_part.proofs.Gathered.{GathersParts}
+use Rattle.flow_part.proofs.GatheredLaws.{GathersParts}
 use Rattle.flow_part.proofs.gathering.add_all_pushes.Given as goal
 
 abbrev pub invariant-loop-i : goal.invariant-loop-i

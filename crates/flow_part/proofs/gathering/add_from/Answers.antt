@@ -3,7 +3,7 @@ use Rattle.flow_part.specs.declared.node_list.NodeList.{NodeList}
 use Rattle.flow_part.specs.Listing.{Extends, IsListed}
 use Rattle.flow_part.proofs.gathering.add_from.Goals as goal
 use Rattle.flow_part.proofs.gathering.add_from.Goals.{then-u-first+then-u-end+then-not-has_at, else-u-first, else-u-first-via-then-u-first+else-u-end, else-u-first-via-then-u-first+then-u-end+else-not-has_at, else-u-first-via-else-u-first}
-use Rattle.flow_part.proofs.Lists.{added_here, extends_add, extends_self, extends_then}
+use Rattle.flow_part.proofs.NodeListLaws.{added_here, extends_add, extends_self, extends_then}
 
 pub returns-clause-extends : goal.returns-clause-extends
 returns-clause-extends c = extends_then c.args.first c.args.end c.args.list.now c.if-u-first.list c.add_heads.new.list

@@ -3,7 +3,7 @@ use Rattle.flow_part.specs.declared.node_list.NodeList.{NodeList}
 use Rattle.flow_part.specs.Parts.{values_of}
 use Rattle.flow_part.proofs.gathering.add_heads.Goals as goal
 use Rattle.flow_part.proofs.gathering.add_heads.Goals.{then-row-k-gt0+then-w-first+then-w-end, else-row-k-gt0, else-row-k-gt0-via-then-row-k-gt0+then-w-first+else-w-end, else-row-k-gt0-via-then-row-k-gt0+else-w-first, else-row-k-gt0-via-else-row-k-gt0}
-use Rattle.flow_part.proofs.Gathered.{GathersHeads, heads_none, heads_on, heads_off}
+use Rattle.flow_part.proofs.GatheredLaws.{GathersHeads, heads_none, heads_on, heads_off}
 
 pub loop-k-init : goal.loop-k-init
 loop-k-init c = heads_none c.args.net.now (values_of c.args.pushes.now) c.args.first c.args.end c.args.u c.args.list.now

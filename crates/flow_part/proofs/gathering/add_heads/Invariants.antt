@@ -1,5 +1,5 @@
 use Rattle.flow_part.specs.Parts.{values_of}
-use Rattle.flow_part.proofs.Gathered.{GathersHeads}
+use Rattle.flow_part.proofs.GatheredLaws.{GathersHeads}
 use Rattle.flow_part.proofs.gathering.add_heads.Given as goal
 
 abbrev pub invariant-loop-k : goal.invariant-loop-k

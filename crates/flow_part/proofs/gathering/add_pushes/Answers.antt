@@ -1,7 +1,7 @@
 use Rattle.std.proofs.Common.{arith, refl}
 use Rattle.flow_part.specs.Parts.{values_of}
 use Rattle.flow_part.proofs.gathering.add_pushes.Goals as goal
-use Rattle.flow_part.proofs.Gathered.{pushes_none, pushes_more}
+use Rattle.flow_part.proofs.GatheredLaws.{pushes_none, pushes_more}
 
 pub loop-i-init : goal.loop-i-init
 loop-i-init c = pushes_none c.args.net.now (values_of c.args.pushes.now) c.args.first c.args.end c.args.from.now c.args.list.now

@@ -1,5 +1,5 @@
 use Rattle.flow_part.specs.Parts.{values_of}
-use Rattle.flow_part.proofs.Gathered.{GathersPushes}
+use Rattle.flow_part.proofs.GatheredLaws.{GathersPushes}
 use Rattle.flow_part.proofs.gathering.add_pushes.Given as goal
 
 abbrev pub invariant-loop-i : goal.invariant-loop-i

@@ -1,6 +1,6 @@
 use Rattle.flow_part.specs.Parts.{values_of}
 use Rattle.flow_part.proofs.gathering.gather.Goals as goal
-use Rattle.flow_part.proofs.Gathered.{covers_work}
+use Rattle.flow_part.proofs.GatheredLaws.{covers_work}
 
 pub returns-then-part-clause-work : goal.returns-then-part-clause-work
 returns-then-part-clause-work c =

@@ -1,10 +1,10 @@
 use Rattle.std.proofs.Common.{ℕ, suc, slice_index, arith, ap}
-use Rattle.flow_theory.proofs.Sums.{sum_below-mono}
+use Rattle.flow_theory.proofs.SumLaws.{sum_below-mono}
 use Rattle.frame_net.specs.FlowNet.{row_len}
 use Rattle.flow_part.specs.Parts.{values_of}
 use Rattle.flow_part.specs.Delivering.{back}
 use Rattle.flow_part.proofs.inflow.add_each.Goals as goal
-use Rattle.flow_part.proofs.Picks.{mate_lies}
+use Rattle.flow_part.proofs.RowSliceLaws.{mate_lies}
 
 pub push_at-push-requires-clause-from : goal.push_at-push-requires-clause-from
 push_at-push-requires-clause-from c =

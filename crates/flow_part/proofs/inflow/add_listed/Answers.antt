@@ -1,8 +1,8 @@
 use Rattle.std.proofs.Common.{◌≡◌, ◌+◌, ℕ, arith, ap, refl, length, subst, ◌∙◌}
 use Rattle.flow_part.specs.Parts.{values_of}
 use Rattle.flow_part.proofs.inflow.add_listed.Goals as goal
-use Rattle.flow_part.proofs.Received.{Adds, adds_fit, adds_inflow, adds_more, adds_none, adds_part, adds_row}
-use Rattle.flow_part.proofs.Senders.{before, before_all, pusher_next, pusher_part, pusher_within, pushers, pushers_listed, pushers_rise}
+use Rattle.flow_part.proofs.ReceivedLaws.{Adds, adds_fit, adds_inflow, adds_more, adds_none, adds_part, adds_row}
+use Rattle.flow_part.proofs.SenderLaws.{before, before_all, pusher_next, pusher_part, pusher_within, pushers, pushers_listed, pushers_rise}
 
 pub loop-i-init : goal.loop-i-init
 loop-i-init c =

@@ -1,7 +1,7 @@
 use Rattle.std.proofs.Common.{◌+◌}
 use Rattle.flow_part.specs.Parts.{values_of}
-use Rattle.flow_part.proofs.Received.{Adds}
-use Rattle.flow_part.proofs.Senders.{before, pushers}
+use Rattle.flow_part.proofs.ReceivedLaws.{Adds}
+use Rattle.flow_part.proofs.SenderLaws.{before, pushers}
 use Rattle.flow_part.proofs.inflow.add_listed.Given as goal
 
 abbrev pub invariant-loop-i : goal.invariant-loop-i

@@ -2,7 +2,7 @@ use Rattle.std.proofs.Common.{◌≡◌, ◌-◌, ◌<◌, arith, ◌∙◌, ref
 use Rattle.frame_net.specs.FlowNet.{row_len}
 use Rattle.flow_part.specs.Parts.{values_of}
 use Rattle.flow_part.proofs.inflow.receive.Goals as goal
-use Rattle.flow_part.proofs.Received.{meets_row, push_back, receives_nothing, receives_push}
+use Rattle.flow_part.proofs.ReceivedLaws.{meets_row, push_back, receives_nothing, receives_push}
 
 pub returns-then-j-heads : goal.returns-then-j-heads
 returns-then-j-heads c =

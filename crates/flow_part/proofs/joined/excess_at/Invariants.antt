@@ -1,6 +1,6 @@
 use Rattle.std.proofs.Common.{drop}
 use Rattle.flow_part.specs.declared.parts.FlowPart.{FlowPart}
-use Rattle.flow_part.proofs.JoinedLemmas.{IsAhead}
+use Rattle.flow_part.proofs.JoinedLaws.{IsAhead}
 use Rattle.flow_part.proofs.joined.excess_at.Given as goal
 
 abbrev pub invariant-loop-part : goal.invariant-loop-part

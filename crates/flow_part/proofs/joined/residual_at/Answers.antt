@@ -2,7 +2,7 @@ use Rattle.std.proofs.Common.{arith, ◌∙◌}
 use Rattle.std.proofs.lemmas.Grind.{get_or_default_zero}
 use Rattle.flow_part.specs.declared.parts.FlowPart.{FlowPart}
 use Rattle.flow_part.proofs.joined.residual_at.Goals as goal
-use Rattle.flow_part.proofs.JoinedLemmas.{ahead_first, ahead_next, ahead_here}
+use Rattle.flow_part.proofs.JoinedLaws.{ahead_first, ahead_next, ahead_here}
 
 pub loop-part-init : goal.loop-part-init
 loop-part-init c = ahead_first (λ (p : FlowPart). p.residuals.items) c.args.parts.now c.args.arc c.requires

@@ -1,6 +1,6 @@
 use Rattle.std.proofs.Common.{arith}
 use Rattle.flow_part.proofs.joined.walked_over.Goals as goal
-use Rattle.flow_part.proofs.JoinedLemmas.{walked_next, walked_end}
+use Rattle.flow_part.proofs.JoinedLaws.{walked_next, walked_end}
 
 pub loop-part-preserved : goal.loop-part-preserved
 loop-part-preserved c = record {

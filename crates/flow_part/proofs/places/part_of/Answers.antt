@@ -1,6 +1,6 @@
 use Rattle.std.proofs.Common.{arith}
 use Rattle.flow_part.proofs.places.part_of.Goals as goal
-use Rattle.flow_part.proofs.FlowAhead.{flow_all, flow_more, flow_here}
+use Rattle.flow_part.proofs.FlowPartLaws.{flow_all, flow_more, flow_here}
 
 pub loop-part-init : goal.loop-part-init
 loop-part-init c = flow_all c.args.net.now c.args.v c.args.parts.now c.requires.parts

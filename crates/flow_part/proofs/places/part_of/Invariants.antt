@@ -1,5 +1,5 @@
 use Rattle.std.proofs.Common.{drop}
-use Rattle.flow_part.proofs.FlowAhead.{FlowAhead}
+use Rattle.flow_part.proofs.FlowPartLaws.{FlowAhead}
 use Rattle.flow_part.proofs.places.part_of.Given as goal
 
 abbrev pub invariant-loop-part : goal.invariant-loop-part

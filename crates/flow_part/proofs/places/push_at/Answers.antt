@@ -1,7 +1,7 @@
 use Rattle.std.proofs.Common.{◌-◌, arith, ◌∙◌, sym}
 use Rattle.std.proofs.lemmas.Grind.{get_or_default_zero}
 use Rattle.flow_part.proofs.places.push_at.Goals as goal
-use Rattle.flow_part.proofs.Ahead.{ahead_all, ahead_more, here_at}
+use Rattle.flow_part.proofs.PushPartLaws.{ahead_all, ahead_more, here_at}
 
 pub loop-part-init : goal.loop-part-init
 loop-part-init c = ahead_all c.args.net.now c.args.w c.args.parts.now c.nodes-nodes.ensures.network c.requires.parts

@@ -1,7 +1,7 @@
 use Rattle.std.proofs.Common.{arith}
 use Rattle.flow_part.proofs.places.push_row.Goals as goal
-use Rattle.flow_part.proofs.Ahead.{ahead_more, here_at}
-use Rattle.flow_part.proofs.PushRow.{row_len_here, row_here}
+use Rattle.flow_part.proofs.PushPartLaws.{ahead_more, here_at}
+use Rattle.flow_part.proofs.PushRowLaws.{row_len_here, row_here}
 
 pub loop-part-preserved : goal.loop-part-preserved
 loop-part-preserved c = ahead_more c.args.net.now c.args.v c.args.parts.now c.loop-part.part-index c.part-item.result c.nodes-nodes.ensures.network (omega arith) c.part-item.is c.if-v-part.false c.loop-part.invariant

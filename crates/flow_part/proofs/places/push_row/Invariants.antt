@@ -1,5 +1,5 @@
 use Rattle.std.proofs.Common.{drop}
-use Rattle.flow_part.proofs.Ahead.{Ahead}
+use Rattle.flow_part.proofs.PushPartLaws.{Ahead}
 use Rattle.flow_part.proofs.places.push_row.Given as goal
 
 abbrev pub invariant-loop-part : goal.invariant-loop-part

@@ -1,8 +1,8 @@
 use Rattle.std.proofs.Common.{◌≡◌, ℕ, length, ap, arith, subst}
 use Rattle.flow_part.specs.Parts.{cells_of}
 use Rattle.flow_part.proofs.reading.read_part.Goals as goal
-use Rattle.flow_part.proofs.CountLemmas.{part_unread}
-use Rattle.flow_part.proofs.PartWalkLemmas.{PartReads, has_row, part_read, reads_more, reads_none}
+use Rattle.flow_part.proofs.CountLaws.{part_unread}
+use Rattle.flow_part.proofs.PartWalkLaws.{PartReads, has_row, part_read, reads_more, reads_none}
 
 pub loop-v-init : goal.loop-v-init
 loop-v-init c = reads_none c.args.net.now c.args.labels.now c.max-low.result (cells_of c.args.flow.now) c.args.part.now c.forget.new.self c.forget.ensures

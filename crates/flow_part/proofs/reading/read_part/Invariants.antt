@@ -1,5 +1,5 @@
 use Rattle.flow_part.specs.Parts.{cells_of}
-use Rattle.flow_part.proofs.PartWalkLemmas.{PartReads}
+use Rattle.flow_part.proofs.PartWalkLaws.{PartReads}
 use Rattle.flow_part.proofs.reading.read_part.Given as goal
 
 abbrev pub invariant-loop-v : goal.invariant-loop-v

@@ -2,7 +2,7 @@ use Rattle.std.proofs.Common.{◌-◌, arith, ◌∙◌}
 use Rattle.std.proofs.lemmas.Grind.{get_or_default_zero}
 use Rattle.flow_part.specs.Parts.{cells_of}
 use Rattle.flow_part.proofs.reading.walk_at.Goals as goal
-use Rattle.flow_part.proofs.ReadLemmas.{one_read}
+use Rattle.flow_part.proofs.ReadRangeLaws.{one_read}
 
 pub returns-clause-row : goal.returns-clause-row
 returns-clause-row c =

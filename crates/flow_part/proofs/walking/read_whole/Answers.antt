@@ -1,6 +1,6 @@
 use Rattle.flow_part.specs.Parts.{cells_of}
 use Rattle.flow_part.proofs.walking.read_whole.Goals as goal
-use Rattle.flow_part.proofs.WholeLemmas.{cleared_fits, whole_after, zero_lists}
+use Rattle.flow_part.proofs.WholeLaws.{cleared_fits, whole_after, zero_lists}
 
 pub walk_part-requires-clause-part : goal.walk_part-requires-clause-part
 walk_part-requires-clause-part c = cleared_fits c.args.net.now c.args.part.now c.clear_part.new.part c.requires.part c.clear_part.ensures

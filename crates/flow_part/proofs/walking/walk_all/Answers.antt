@@ -1,8 +1,8 @@
 use Rattle.std.proofs.Common.{◌≡◌, ℕ, arith, subst}
 use Rattle.flow_part.specs.Parts.{cells_of}
 use Rattle.flow_part.proofs.walking.walk_all.Goals as goal
-use Rattle.flow_part.proofs.PartWalkLemmas.{PartWalked, has_row, walked_more, walked_none}
-use Rattle.flow_part.proofs.WholeLemmas.{whole_walked}
+use Rattle.flow_part.proofs.PartWalkLaws.{PartWalked, has_row, walked_more, walked_none}
+use Rattle.flow_part.proofs.WholeLaws.{whole_walked}
 
 pub loop-v-init : goal.loop-v-init
 loop-v-init c = walked_none c.args.net.now c.args.labels.now (cells_of c.args.flow.now) c.args.part.now c.begin.new.self c.begin.ensures.empty

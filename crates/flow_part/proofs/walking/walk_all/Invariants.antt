@@ -1,5 +1,5 @@
 use Rattle.flow_part.specs.Parts.{cells_of}
-use Rattle.flow_part.proofs.PartWalkLemmas.{PartWalked}
+use Rattle.flow_part.proofs.PartWalkLaws.{PartWalked}
 use Rattle.flow_part.proofs.walking.walk_all.Given as goal
 
 abbrev pub invariant-loop-v : goal.invariant-loop-v

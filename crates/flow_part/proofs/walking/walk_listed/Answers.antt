@@ -1,8 +1,8 @@
 use Rattle.std.proofs.Common.{arith, refl}
 use Rattle.flow_part.specs.Parts.{cells_of}
 use Rattle.flow_part.proofs.walking.walk_listed.Goals as goal
-use Rattle.flow_part.proofs.PartWalkLemmas.{has_row, listed_all, listed_more, listed_none}
-use Rattle.flow_part.proofs.WholeLemmas.{whole_walked}
+use Rattle.flow_part.proofs.PartWalkLaws.{has_row, listed_all, listed_more, listed_none}
+use Rattle.flow_part.proofs.WholeLaws.{whole_walked}
 
 pub loop-i-init : goal.loop-i-init
 loop-i-init c =

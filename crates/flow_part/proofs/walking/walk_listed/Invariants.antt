@@ -1,5 +1,5 @@
 use Rattle.flow_part.specs.Parts.{cells_of}
-use Rattle.flow_part.proofs.PartWalkLemmas.{PartListed}
+use Rattle.flow_part.proofs.PartWalkLaws.{PartListed}
 use Rattle.flow_part.proofs.walking.walk_listed.Given as goal
 
 abbrev pub invariant-loop-i : goal.invariant-loop-i

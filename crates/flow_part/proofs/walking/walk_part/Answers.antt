@@ -1,5 +1,5 @@
 use Rattle.flow_part.proofs.walking.walk_part.Goals as goal
-use Rattle.flow_part.proofs.ListedLemmas.{covers_range}
+use Rattle.flow_part.proofs.ListedLaws.{covers_range}
 
 pub walk_listed-requires-clause-list : goal.walk_listed-requires-clause-list
 walk_listed-requires-clause-list c =

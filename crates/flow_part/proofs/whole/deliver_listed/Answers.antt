@@ -2,7 +2,7 @@ use Rattle.std.proofs.Common.{◌≡◌, ◌<◌, length, slice_index, arith}
 use Rattle.frame_net.specs.FlowNet.{node_count}
 use Rattle.flow_part.specs.Parts.{values_of}
 use Rattle.flow_part.proofs.whole.deliver_listed.Goals as goal
-use Rattle.flow_part.proofs.PartSteps.{fits_after, listed_node, part_clamped, part_next_at, part_turning, part_visited_all, part_visited_none, part_visit_more, step_clamped, step_safe}
+use Rattle.flow_part.proofs.DeliveredPartLaws.{fits_after, listed_node, part_clamped, part_next_at, part_turning, part_visited_all, part_visited_none, part_visit_more, step_clamped, step_safe}
 
 pub loop-i-init : goal.loop-i-init
 loop-i-init c = part_visited_none c.args.net.now c.args.labels.now (values_of c.args.pushes.now) c.args.part.now c.requires.part c.requires.work

@@ -1,5 +1,5 @@
 use Rattle.flow_part.specs.Parts.{values_of}
-use Rattle.flow_part.proofs.PartSteps.{PartVisited}
+use Rattle.flow_part.proofs.DeliveredPartLaws.{PartVisited}
 use Rattle.flow_part.proofs.whole.deliver_listed.Given as goal
 
 abbrev pub invariant-loop-i : goal.invariant-loop-i

@@ -4,7 +4,7 @@ use Rattle.flow_part.specs.declared.node_list.NodeList.{NodeList}
 use Rattle.flow_part.specs.Listing.{HasTurning}
 use Rattle.flow_part.specs.Parts.{values_of}
 use Rattle.flow_part.proofs.whole.deliver_whole.Goals as goal
-use Rattle.flow_part.proofs.Visits.{spare_safe}
+use Rattle.flow_part.proofs.VisitLaws.{spare_safe}
 
 pub deliver_listed-requires-clause-safe : goal.deliver_listed-requires-clause-safe
 deliver_listed-requires-clause-safe c =

@@ -1,5 +1,5 @@
 use Rattle.std.proofs.Common.{◌≡◌, true}
-use Rattle.flow_part.proofs.Visits.{ListsFirst}
+use Rattle.flow_part.proofs.VisitLaws.{ListsFirst}
 use Rattle.flow_part.proofs.whole.list_turning.Given as goal
 
 abbrev pub invariant-loop-i : goal.invariant-loop-i

@@ -1,7 +1,7 @@
 use Rattle.std.proofs.Common.{arith, drop, sym}
 use Rattle.std.proofs.lemmas.Grind.{common_steps}
 use Rattle.flow_whole.proofs.active.any_active_node.Goals as goal
-use Rattle.flow_whole.proofs.ActiveLemmas.{quiet_none, quiet_fits, quiet_more, quiet_all, lists_next, loud}
+use Rattle.flow_whole.proofs.ActiveLaws.{quiet_none, quiet_fits, quiet_more, quiet_all, lists_next, loud}
 
 pub loop-part-init : goal.loop-part-init
 loop-part-init c = quiet_none c.args.net.now c.args.labels.now c.args.parts.now c.requires.parts

@@ -1,5 +1,5 @@
 use Rattle.std.proofs.Common.{drop}
-use Rattle.flow_whole.proofs.ActiveLemmas.{Quiet}
+use Rattle.flow_whole.proofs.ActiveLaws.{Quiet}
 use Rattle.flow_whole.proofs.active.any_active_node.Given as goal
 
 abbrev pub invariant-loop-part : goal.invariant-loop-part

@@ -1,6 +1,6 @@
 use Rattle.std.proofs.Common.{arith}
 use Rattle.flow_whole.proofs.carrying.add_listed.Goals as goal
-use Rattle.flow_whole.proofs.CarryLemmas.{parts_more, parts_none}
+use Rattle.flow_whole.proofs.CarryLaws.{parts_more, parts_none}
 
 pub loop-i-init : goal.loop-i-init
 loop-i-init c = parts_none c.args.parts.now c.args.first c.args.end c.args.list.now

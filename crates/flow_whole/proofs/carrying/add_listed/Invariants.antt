@@ -1,4 +1,4 @@
-use Rattle.flow_whole.proofs.CarryLemmas.{TakesParts}
+use Rattle.flow_whole.proofs.CarryLaws.{TakesParts}
 use Rattle.flow_whole.proofs.carrying.add_listed.Given as goal
 
 abbrev pub invariant-loop-i : goal.invariant-loop-i

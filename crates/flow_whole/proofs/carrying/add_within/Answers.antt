@@ -1,6 +1,6 @@
 use Rattle.std.proofs.Common.{◌+◌, arith, refl, subst, sym}
 use Rattle.flow_part.specs.declared.node_list.NodeList.{NodeList}
-use Rattle.flow_whole.proofs.CarryLemmas.{TakesSome, some_none, some_off, some_on}
+use Rattle.flow_whole.proofs.CarryLaws.{TakesSome, some_none, some_off, some_on}
 use Rattle.flow_whole.proofs.carrying.add_within.Goals as goal
 use Rattle.flow_whole.proofs.carrying.add_within.Goals.{then-v-first+then-v-end, else-v-first, else-v-first-via-then-v-first+else-v-end, else-v-first-via-else-v-first}
 

@@ -1,4 +1,4 @@
-use Rattle.flow_whole.proofs.CarryLemmas.{TakesSome}
+use Rattle.flow_whole.proofs.CarryLaws.{TakesSome}
 use Rattle.flow_whole.proofs.carrying.add_within.Given as goal
 
 abbrev pub invariant-loop-i : goal.invariant-loop-i

@@ -1,5 +1,5 @@
 use Rattle.flow_whole.proofs.carrying.list_of.Goals as goal
-use Rattle.flow_whole.proofs.CarryLemmas.{taken_over}
+use Rattle.flow_whole.proofs.CarryLaws.{taken_over}
 
 pub returns : goal.returns
 returns c h =

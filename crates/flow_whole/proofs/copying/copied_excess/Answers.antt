@@ -1,8 +1,8 @@
 use Rattle.std.proofs.Common.{◌+◌, ◌∙◌, arith, ap, length, subst, sym, drop}
 use Rattle.frame_net.specs.FlowNet.{node_count}
 use Rattle.flow_part.specs.Parts.{FlowPartFits}
-use Rattle.flow_part.proofs.AtPart.{by_node, excess_piece}
-use Rattle.flow_whole.proofs.CopyLemmas.{Copied, copied_next, copied_none, copied_off, copied_slice, part_here}
+use Rattle.flow_part.proofs.JoinedPartLaws.{by_node, excess_piece}
+use Rattle.flow_whole.proofs.CopyLaws.{Copied, copied_next, copied_none, copied_off, copied_slice, part_here}
 use Rattle.flow_whole.proofs.copying.copied_excess.Goals as goal
 use Rattle.flow_whole.proofs.copying.copied_excess.Goals.{then-low-high+in_ok-add, else-low-high}
 

@@ -1,7 +1,7 @@
 use Rattle.std.proofs.Common.{drop}
 use Rattle.frame_net.specs.FlowNet.{node_count}
 use Rattle.flow_part.specs.Parts.{FlowPartFits}
-use Rattle.flow_whole.proofs.CopyLemmas.{Copied}
+use Rattle.flow_whole.proofs.CopyLaws.{Copied}
 use Rattle.flow_whole.proofs.copying.copied_excess.Given as goal
 
 abbrev pub invariant-loop-i : goal.invariant-loop-i

@@ -1,9 +1,9 @@
 use Rattle.std.proofs.Common.{◌+◌, ◌∙◌, arith, ap, length, subst, sym, drop}
 use Rattle.frame_net.specs.FlowNet.{node_count, start}
 use Rattle.flow_part.specs.Parts.{FlowPartFits}
-use Rattle.flow_part.proofs.Ahead.{rising}
-use Rattle.flow_part.proofs.AtPart.{res_piece}
-use Rattle.flow_whole.proofs.CopyLemmas.{Copied, copied_next, copied_none, copied_off, copied_slice, part_here, rows_here}
+use Rattle.flow_part.proofs.PushPartLaws.{rising}
+use Rattle.flow_part.proofs.JoinedPartLaws.{res_piece}
+use Rattle.flow_whole.proofs.CopyLaws.{Copied, copied_next, copied_none, copied_off, copied_slice, part_here, rows_here}
 use Rattle.flow_whole.proofs.copying.copied_residuals.Goals as goal
 use Rattle.flow_whole.proofs.copying.copied_residuals.Goals.{then-low-high+in_ok-add, else-low-high}
 

@@ -1,9 +1,9 @@
 use Rattle.std.proofs.Common.{ℕ, arith, length, subst, sym}
 use Rattle.flow_part.specs.declared.parts.FlowPart.{FlowPart}
-use Rattle.flow_part.proofs.Left.{part_fits}
+use Rattle.flow_part.proofs.PartsLeftLaws.{part_fits}
 use Rattle.flow_whole.specs.Labels.{HasLabels, HoldsLabels}
 use Rattle.flow_whole.proofs.labels.hold_labels.Goals as goal
-use Rattle.flow_whole.proofs.Each.{each_more, rest_same}
+use Rattle.flow_whole.proofs.EachLaws.{each_more, rest_same}
 
 pub hold_part-requires : goal.hold_part-requires
 hold_part-requires c =

@@ -1,7 +1,7 @@
 use Rattle.std.proofs.Common.{arith, drop, length}
 use Rattle.std.proofs.lemmas.Grind.{common_steps}
 use Rattle.flow_whole.proofs.labels.turn.Goals as goal
-use Rattle.flow_whole.proofs.Turning.{turned_none, turned_fits, turned_more, turned_all, keeps_next}
+use Rattle.flow_whole.proofs.TurningLaws.{turned_none, turned_fits, turned_more, turned_all, keeps_next}
 
 pub loop-part-init : goal.loop-part-init
 loop-part-init c = turned_none (length c.args.labels.now) c.args.labels.now c.args.parts.now c.requires.parts

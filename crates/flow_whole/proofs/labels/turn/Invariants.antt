@@ -1,5 +1,5 @@
 use Rattle.std.proofs.Common.{drop, length}
-use Rattle.flow_whole.proofs.Turning.{Turned}
+use Rattle.flow_whole.proofs.TurningLaws.{Turned}
 use Rattle.flow_whole.proofs.labels.turn.Given as goal
 
 abbrev pub invariant-loop-part : goal.invariant-loop-part

@@ -1,6 +1,6 @@
 use Rattle.std.proofs.Common.{arith, refl}
 use Rattle.flow_whole.proofs.labels.turn_listed.Goals as goal
-use Rattle.flow_whole.proofs.Turning.{first_none, first_more}
+use Rattle.flow_whole.proofs.TurningLaws.{first_none, first_more}
 
 pub loop-i-init : goal.loop-i-init
 loop-i-init c = first_none c.args.first c.args.next.now c.args.list.now c.args.labels.now

@@ -1,4 +1,4 @@
-use Rattle.flow_whole.proofs.Turning.{TurnedFirst}
+use Rattle.flow_whole.proofs.TurningLaws.{TurnedFirst}
 use Rattle.flow_whole.proofs.labels.turn_listed.Given as goal
 
 abbrev pub invariant-loop-i : goal.invariant-loop-i

@@ -1,5 +1,5 @@
 use Rattle.flow_whole.proofs.labels.turn_part.Goals as goal
-use Rattle.flow_whole.proofs.Turning.{listed_here, listed_others}
+use Rattle.flow_whole.proofs.TurningLaws.{listed_here, listed_others}
 
 pub returns-then-part-clause-here : goal.returns-then-part-clause-here
 returns-then-part-clause-here c =

@@ -1,5 +1,5 @@
 use Rattle.flow_whole.proofs.parting.part_anew.Goals as goal
-use Rattle.flow_whole.proofs.CarryLemmas.{lists_anew}
+use Rattle.flow_whole.proofs.CarryLaws.{lists_anew}
 
 pub returns-clause-lists : goal.returns-clause-lists
 returns-clause-lists c =

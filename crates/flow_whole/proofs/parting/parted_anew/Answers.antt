@@ -3,8 +3,8 @@ use Rattle.frame_net.specs.FlowNet.{node_count}
 use Rattle.flow_part.specs.Parts.{cells_of}
 use Rattle.flow_whole.specs.Start.{AreFlowShares, border_of, PartHolds, PartsHold}
 use Rattle.flow_whole.proofs.parting.parted_anew.Goals as goal
-use Rattle.flow_whole.proofs.CarryLemmas.{lists_more}
-use Rattle.flow_whole.proofs.Borders.{border_last, cut_pushed, shares_pushed}
+use Rattle.flow_whole.proofs.CarryLaws.{lists_more}
+use Rattle.flow_whole.proofs.BorderLaws.{border_last, cut_pushed, shares_pushed}
 
 pub loop-worker-preserved : goal.loop-worker-preserved
 loop-worker-preserved c = record {

@@ -3,7 +3,7 @@ use Rattle.frame_net.specs.FlowNet.{node_count}
 use Rattle.flow_part.specs.Parts.{PushPartFits, IsParted}
 use Rattle.flow_whole.specs.Start.{ArePushShares, border_of}
 use Rattle.flow_whole.proofs.parting.push_parts.Goals as goal
-use Rattle.flow_whole.proofs.Borders.{border_last, cut_pushed, shares_pushed}
+use Rattle.flow_whole.proofs.BorderLaws.{border_last, cut_pushed, shares_pushed}
 
 pub loop-worker-preserved : goal.loop-worker-preserved
 loop-worker-preserved c = record {

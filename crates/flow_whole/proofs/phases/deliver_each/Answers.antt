@@ -4,8 +4,8 @@ use Rattle.flow_part.specs.declared.parts.FlowPart.{FlowPart}
 use Rattle.flow_part.specs.Parts.{FlowPartFits, values_of, part_cells}
 use Rattle.flow_part.specs.Delivering.{RangeSafe, PartDelivered}
 use Rattle.flow_whole.proofs.phases.deliver_each.Goals as goal
-use Rattle.flow_part.proofs.Left.{part_fits}
-use Rattle.flow_whole.proofs.Each.{each_more, rest_same}
+use Rattle.flow_part.proofs.PartsLeftLaws.{part_fits}
+use Rattle.flow_whole.proofs.EachLaws.{each_more, rest_same}
 
 pub deliver_part-requires-clause-part : goal.deliver_part-requires-clause-part
 deliver_part-requires-clause-part c =

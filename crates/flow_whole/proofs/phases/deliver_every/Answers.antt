@@ -6,8 +6,8 @@ use Rattle.flow_part.specs.Parts.{FlowPartFits, values_of, part_cells}
 use Rattle.flow_part.specs.Delivering.{RangeSafe}
 use Rattle.flow_part.specs.Visiting.{WholeDelivered}
 use Rattle.flow_whole.proofs.phases.deliver_every.Goals as goal
-use Rattle.flow_part.proofs.Left.{part_fits}
-use Rattle.flow_whole.proofs.Each.{each_more, rest_same}
+use Rattle.flow_part.proofs.PartsLeftLaws.{part_fits}
+use Rattle.flow_whole.proofs.EachLaws.{each_more, rest_same}
 
 pub deliver_whole-requires-clause-part : goal.deliver_whole-requires-clause-part
 deliver_whole-requires-clause-part c =

@@ -4,8 +4,8 @@ use Rattle.flow_part.specs.declared.parts.PushPart.{PushPart}
 use Rattle.flow_part.specs.Parts.{PushPartFits, cells_of}
 use Rattle.flow_part.specs.Reading.{WholeRead}
 use Rattle.flow_whole.proofs.phases.read_every.Goals as goal
-use Rattle.flow_part.proofs.Left.{part_fits}
-use Rattle.flow_whole.proofs.Each.{each_more, rest_same}
+use Rattle.flow_part.proofs.PartsLeftLaws.{part_fits}
+use Rattle.flow_whole.proofs.EachLaws.{each_more, rest_same}
 
 pub read_whole-requires-clause-part : goal.read_whole-requires-clause-part
 read_whole-requires-clause-part c =

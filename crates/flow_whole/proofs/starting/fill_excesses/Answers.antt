@@ -1,5 +1,5 @@
 use Rattle.std.proofs.Common.{ℕ, ◌+◌, ◌∙◌, arith, refl, sym, subst, slice_index}
-use Rattle.flow_whole.proofs.SourceArcs.{Filled, filled-none, filled-next, filled-all}
+use Rattle.flow_whole.proofs.SourceArcLaws.{Filled, filled-none, filled-next, filled-all}
 use Rattle.flow_whole.proofs.starting.fill_excesses.Goals as goal
 
 pub loop-arc-init : goal.loop-arc-init

@@ -1,5 +1,5 @@
 use Rattle.std.proofs.Common.{◌≡◌, ℕ, ◌+◌, ◌<◌, length, slice_index}
-use Rattle.flow_whole.proofs.SourceArcs.{Filled}
+use Rattle.flow_whole.proofs.SourceArcLaws.{Filled}
 use Rattle.flow_whole.proofs.starting.fill_excesses.Given as goal
 
 abbrev pub invariant-loop-arc : goal.invariant-loop-arc

@@ -1,6 +1,6 @@
 use Rattle.std.proofs.Common.{◌≡◌, ℕ, ◌+◌, ◌∙◌, arith, ap, refl, sym, subst, slice_index, length}
 use Rattle.frame_net.specs.FlowNet.{cap_at}
-use Rattle.flow_whole.proofs.SourceArcs.{Holds, holds-none, holds-next, holds-all}
+use Rattle.flow_whole.proofs.SourceArcLaws.{Holds, holds-none, holds-next, holds-all}
 use Rattle.flow_whole.proofs.starting.replace_caps.Goals as goal
 
 pub loop-arc-init : goal.loop-arc-init

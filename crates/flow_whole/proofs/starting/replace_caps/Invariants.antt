@@ -1,5 +1,5 @@
 use Rattle.std.proofs.Common.{◌≡◌, ℕ, ◌+◌, ◌<◌, length, slice_index}
-use Rattle.flow_whole.proofs.SourceArcs.{Holds}
+use Rattle.flow_whole.proofs.SourceArcLaws.{Holds}
 use Rattle.flow_whole.proofs.starting.replace_caps.Given as goal
 
 abbrev pub invariant-loop-arc : goal.invariant-loop-arc

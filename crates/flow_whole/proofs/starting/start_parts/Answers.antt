@@ -2,7 +2,7 @@ use Rattle.std.proofs.Common.{◌≡◌, ℕ, arith, ap, ◌∙◌, subst}
 use Rattle.frame_net.specs.FlowNet.{node_count}
 use Rattle.flow_whole.specs.Start.{AreFlowShares, border_of, start_res, start_excess, PartHolds, PartsHold}
 use Rattle.flow_whole.proofs.starting.start_parts.Goals as goal
-use Rattle.flow_whole.proofs.Borders.{border_last, cut_pushed, shares_pushed}
+use Rattle.flow_whole.proofs.BorderLaws.{border_last, cut_pushed, shares_pushed}
 
 pub loop-worker-preserved : goal.loop-worker-preserved
 loop-worker-preserved c = record {

@@ -1,6 +1,6 @@
 use Rattle.std.proofs.Common.{◌≡◌, ℕ, List, ◌+◌, ◌-◌, ◌++◌, ◌∙◌, arith, ap, length, slice_index, take, drop}
 use Rattle.std.proofs.lemmas.List.{with_items_is}
-use Rattle.flow_whole.proofs.CopyLemmas.{slice_at, slice_len}
+use Rattle.flow_whole.proofs.CopyLaws.{slice_at, slice_len}
 use Rattle.flow_whole.proofs.starting.start_residuals.Goals as goal
 
 pub add-requires-clause-within : goal.add-requires-clause-within

@@ -5,7 +5,7 @@ use Rattle.aig_graph.specs.Circuits.{Netlist}
 use Rattle.aig_graph.specs.Keep.{first_missing}
 use Rattle.aig_graph.specs.Move.{move_of}
 use Rattle.aig_graph.specs.Streams.{SameStreams}
-use Rattle.aig_graph.proofs.GraphLemmas.{room}
+use Rattle.aig_graph.proofs.GraphLaws.{room}
 use Rattle.rebuild.specs.Moved.{moved_of, moved_size}
 use Rattle.retimed_circuits.specs.Names.{held_latches}
 use Rattle.retimed_circuits.specs.Frames.{CleansIn, count_in, move_in, moved_in}

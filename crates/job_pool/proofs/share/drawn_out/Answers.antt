@@ -2,8 +2,8 @@ use Rattle.std.proofs.Common.{List, [], ◌∷◌, ◌++◌, All, arith, refl, s
 use Rattle.draws.specs.Drawing.{jobs_of}
 use Rattle.job_pool.specs.declared.share.Numbered.{Numbered}
 use Rattle.job_pool.specs.Sharing.{IsOutcome}
-use Rattle.job_pool.proofs.Rising.{after_last, after_last_snoc, after_last_le}
-use Rattle.job_pool.proofs.Sharing.{next_number, same_jobs, all_snoc}
+use Rattle.job_pool.proofs.RisingLaws.{after_last, after_last_snoc, after_last_le}
+use Rattle.job_pool.proofs.SharingLaws.{next_number, same_jobs, all_snoc}
 use Rattle.job_pool.proofs.share.drawn_out.Goals as goal
 
 pub loop-number-smaller : goal.loop-number-smaller

@@ -1,8 +1,8 @@
 use Rattle.std.proofs.Common.{ℕ, List, All, Some, length, length-set, sym, ap, ◌∙◌, subst}
-use Rattle.draws.proofs.Gathering.{last_of_all, front_of_all}
+use Rattle.draws.proofs.GatheringLaws.{last_of_all, front_of_all}
 use Rattle.job_pool.specs.declared.share.Numbered.{Numbered}
 use Rattle.job_pool.specs.Sharing.{IsOutcome}
-use Rattle.job_pool.proofs.Sharing.{put_covers, put_slots}
+use Rattle.job_pool.proofs.SharingLaws.{put_covers, put_slots}
 use Rattle.job_pool.proofs.slots.put_outcomes.Goals as goal
 
 pub loop-next-preserved : goal.loop-next-preserved

@@ -2,10 +2,10 @@ use Rattle.std.proofs.Common.{List, All, IfOk, Result, arith, sym, subst, ◌∙
 use Rattle.variable_tables.specs.declared.memory.NoMemory.{NoMemory}
 use Rattle.draws.specs.declared.draws.Drawer.{Drawer}
 use Rattle.draws.specs.Drawing.{IsDrawerOf, IsDone, jobs_of}
-use Rattle.draws.proofs.Gathering.{last_of_all, front_of_all}
+use Rattle.draws.proofs.GatheringLaws.{last_of_all, front_of_all}
 use Rattle.job_pool.specs.declared.share.Share.{Share}
 use Rattle.job_pool.specs.Sharing.{IsShare}
-use Rattle.job_pool.proofs.Sharing.{all_snoc, share_covers}
+use Rattle.job_pool.proofs.SharingLaws.{all_snoc, share_covers}
 use Rattle.job_pool.proofs.slots.put_shares.Goals as goal
 
 pub loop-next-smaller : goal.loop-next-smaller

@@ -1,4 +1,4 @@
-use Rattle.counted_io.proofs.BufferedLemmas.{puts-then}
+use Rattle.counted_io.proofs.BufferedLaws.{puts-then}
 use Rattle.pictures.specs.Pictures.{dot_text}
 use Rattle.pictures.proofs.dot.put_dot.Goals as goal
 

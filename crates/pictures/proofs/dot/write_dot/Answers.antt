@@ -1,5 +1,5 @@
 use Rattle.std.proofs.Common.{rules}
-use Rattle.counted_io.proofs.BufferedLemmas.{writes-whole}
+use Rattle.counted_io.proofs.BufferedLaws.{writes-whole}
 use Rattle.pictures.proofs.ViewLaws.{picture_is}
 use Rattle.pictures.proofs.dot.write_dot.Goals as goal
 

@@ -1,4 +1,4 @@
-use Rattle.counted_io.proofs.BufferedLemmas.{puts-then}
+use Rattle.counted_io.proofs.BufferedLaws.{puts-then}
 use Rattle.pictures.proofs.TextLaws.{puts-drawn, puts-undrawn}
 use Rattle.pictures.specs.Pictures.{gate_lines}
 use Rattle.pictures.proofs.graph.put_drawn_gate.Goals as goal

@@ -1,4 +1,4 @@
-use Rattle.counted_io.proofs.BufferedLemmas.{puts-numbered_next}
+use Rattle.counted_io.proofs.BufferedLaws.{puts-numbered_next}
 use Rattle.pictures.specs.Pictures.{gate_lines}
 use Rattle.pictures.specs.Views.{drawn_in, look_in}
 use Rattle.pictures.proofs.graph.put_gates.Goals as goal

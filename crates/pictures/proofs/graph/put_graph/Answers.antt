@@ -1,4 +1,4 @@
-use Rattle.counted_io.proofs.BufferedLemmas.{puts-then}
+use Rattle.counted_io.proofs.BufferedLaws.{puts-then}
 use Rattle.pictures.specs.Pictures.{graph_lines}
 use Rattle.pictures.proofs.graph.put_graph.Goals as goal
 

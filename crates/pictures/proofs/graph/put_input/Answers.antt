@@ -1,5 +1,5 @@
 use Rattle.std.specs.Prelude.{codes}
-use Rattle.counted_io.proofs.BufferedLemmas.{puts-then}
+use Rattle.counted_io.proofs.BufferedLaws.{puts-then}
 use Rattle.pictures.specs.Nodes.{input_line}
 use Rattle.pictures.proofs.graph.put_input.Goals as goal
 

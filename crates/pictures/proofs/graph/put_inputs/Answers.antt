@@ -1,7 +1,7 @@
 use Rattle.std.proofs.Common.{◌+◌, ◌-◌, ◌≡◌, ℕ, true, rules, subst}
 use Rattle.std.specs.List.{flat_map, range_with_len}
 use Rattle.counted_io.specs.Buffered.{Puts}
-use Rattle.counted_io.proofs.BufferedLemmas.{puts-range_next, puts-range_ended}
+use Rattle.counted_io.proofs.BufferedLaws.{puts-range_next, puts-range_ended}
 use Rattle.pictures.specs.Pictures.{input_lines}
 use Rattle.pictures.specs.Views.{drawn_in, look_in}
 use Rattle.pictures.proofs.graph.put_inputs.Goals as goal

@@ -1,5 +1,5 @@
 use Rattle.std.specs.Prelude.{codes}
-use Rattle.counted_io.proofs.BufferedLemmas.{puts-byte, puts-then}
+use Rattle.counted_io.proofs.BufferedLaws.{puts-byte, puts-then}
 use Rattle.pictures.specs.Labels.{hex_byte}
 use Rattle.pictures.proofs.label.put_hex.Goals as goal
 

@@ -2,7 +2,7 @@ use Rattle.std.proofs.Common.{◌≡◌, ◌∙◌, ap, replicate, false, ℕ}
 use Rattle.std.proofs.lemmas.List.{with_items_is}
 use Rattle.aig_graph.specs.Graph.{variables_end}
 use Rattle.variable_tables.specs.Tables.{table}
-use Rattle.variable_tables.proofs.MarkingLemmas.{table-marks}
+use Rattle.variable_tables.proofs.MarkingLaws.{table-marks}
 use Rattle.pictures.specs.Near.{is_named}
 use Rattle.pictures.proofs.named.named.Goals as goal
 

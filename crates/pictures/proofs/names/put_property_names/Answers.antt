@@ -1,4 +1,4 @@
-use Rattle.counted_io.proofs.BufferedLemmas.{puts-then}
+use Rattle.counted_io.proofs.BufferedLaws.{puts-then}
 use Rattle.pictures.specs.Pictures.{property_names}
 use Rattle.pictures.proofs.names.put_property_names.Goals as goal
 

@@ -3,7 +3,7 @@ use Rattle.std.specs.List.{enumerate_from}
 use Rattle.std.proofs.lemmas.List.FromFn.{length-enumerate_from, get_or-enumerate_from}
 use Rattle.aig_graph.specs.declared.graph.Gate.{Gate}
 use Rattle.variable_tables.specs.Marking.{mark_at}
-use Rattle.variable_tables.proofs.MarkingLemmas.{Marks-more, Marks-all}
+use Rattle.variable_tables.proofs.MarkingLaws.{Marks-more, Marks-all}
 use Rattle.pictures.specs.Near.{gate_meets}
 use Rattle.pictures.proofs.near.mark_gates.Goals as goal
 

@@ -1,5 +1,5 @@
 use Rattle.std.specs.Prelude.{codes}
-use Rattle.counted_io.proofs.BufferedLemmas.{puts-then}
+use Rattle.counted_io.proofs.BufferedLaws.{puts-then}
 use Rattle.pictures.specs.Nodes.{edge_line}
 use Rattle.pictures.proofs.node.put_edge.Goals as goal
 

@@ -1,4 +1,4 @@
-use Rattle.counted_io.proofs.BufferedLemmas.{puts-byte}
+use Rattle.counted_io.proofs.BufferedLaws.{puts-byte}
 use Rattle.pictures.specs.Nodes.{node_name}
 use Rattle.pictures.proofs.node.put_node.Goals as goal
 

@@ -1,4 +1,4 @@
-use Rattle.counted_io.proofs.BufferedLemmas.{puts-then}
+use Rattle.counted_io.proofs.BufferedLaws.{puts-then}
 use Rattle.pictures.specs.Pictures.{all_properties}
 use Rattle.pictures.proofs.properties.put_properties.Goals as goal
 

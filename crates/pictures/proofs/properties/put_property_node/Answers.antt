@@ -1,4 +1,4 @@
-use Rattle.counted_io.proofs.BufferedLemmas.{puts-then}
+use Rattle.counted_io.proofs.BufferedLaws.{puts-then}
 use Rattle.pictures.specs.Nodes.{property_line}
 use Rattle.pictures.proofs.properties.put_property_node.Goals as goal
 

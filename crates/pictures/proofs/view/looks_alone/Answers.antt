@@ -1,5 +1,5 @@
 use Rattle.std.proofs.Common.{◌+◌, ◌∙◌, ap, sym, arith}
-use Rattle.variable_tables.proofs.TableLemmas.{entry, table-none, table-end}
+use Rattle.variable_tables.proofs.TableLaws.{entry, table-none, table-end}
 use Rattle.aig_graph.specs.Graph.{first_latch, latches_and_gates}
 use Rattle.pictures.specs.Looks.{look_alone}
 use Rattle.pictures.proofs.view.looks_alone.Goals as goal

@@ -6,8 +6,8 @@ use Rattle.flow_whole.specs.Runs.{any_active}
 use Rattle.pulse.specs.Values.{FlowState}
 use Rattle.pulse.specs.Conditions.{state_of}
 use Rattle.pulse.proofs.active.is_active.Goals as goal
-use Rattle.pulse.proofs.CrewLemmas.{lists_seen}
-use Rattle.pulse.proofs.FlowLemmas.{flow_unspent, parts_seen}
+use Rattle.pulse.proofs.CrewLaws.{lists_seen}
+use Rattle.pulse.proofs.FlowLaws.{flow_unspent, parts_seen}
 
 pub any_active_node-requires-clause-parts : goal.any_active_node-requires-clause-parts
 any_active_node-requires-clause-parts c =

@@ -1,5 +1,5 @@
 use Rattle.pulse.proofs.fast_run.part_ahead.Goals as goal
-use Rattle.pulse.proofs.PartLemmas.{between_parts, parted_lists, parted_state}
+use Rattle.pulse.proofs.PartLaws.{between_parts, parted_lists, parted_state}
 
 pub part_flow-requires-clause-parts : goal.part_flow-requires-clause-parts
 part_flow-requires-clause-parts c =

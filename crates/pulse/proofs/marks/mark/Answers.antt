@@ -2,7 +2,7 @@ use Rattle.std.proofs.Common.{◌≡◌, ℕ, ◌<◌, true, false, length, slic
 use Rattle.std.proofs.lemmas.List.{length-set}
 use Rattle.flow_whole.specs.Marks.{and_range}
 use Rattle.pulse.proofs.marks.mark.Goals as goal
-use Rattle.pulse.proofs.MarkLemmas.{range_none, mark_more}
+use Rattle.pulse.proofs.MarkLaws.{range_none, mark_more}
 
 pub loop-v-init : goal.loop-v-init
 loop-v-init c = record { len = refl; marks = λ v l. sym (range_none (λ u. slice_index_or c.args.delivered.now u false) c.args.first v) }

@@ -4,9 +4,9 @@ use Rattle.std.proofs.lemmas.List.{with_items_is}
 use Rattle.flow_part.specs.Listing.{ListActive}
 use Rattle.pulse.specs.Values.{FlowState, PushState}
 use Rattle.pulse.proofs.phases.deliver_by.Goals as goal
-use Rattle.pulse.proofs.CrewLemmas.{lists_seen}
-use Rattle.pulse.proofs.FlowLemmas.{parts_of}
-use Rattle.pulse.proofs.PhaseLemmas.{left_refused, phase_read, phase_delivered, phase_refused}
+use Rattle.pulse.proofs.CrewLaws.{lists_seen}
+use Rattle.pulse.proofs.FlowLaws.{parts_of}
+use Rattle.pulse.proofs.PhaseLaws.{left_refused, phase_read, phase_delivered, phase_refused}
 
 pub deliver_all-requires-clause-flow : goal.deliver_all-requires-clause-flow
 deliver_all-requires-clause-flow g c κs within = parts_of c.args.net.now c.args.flow.now c.flow.inside.parts.items c.flow.inside.labels.items c.flow.inside.delivered.items c.flow.inside.caps.items c.flow.inside.spent c.flow.view_is c.if-flow.false c.requires.flow

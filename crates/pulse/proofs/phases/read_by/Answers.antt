@@ -1,6 +1,6 @@
 use Rattle.pulse.proofs.phases.read_by.Goals as goal
-use Rattle.pulse.proofs.FlowLemmas.{parts_seen, rows_of}
-use Rattle.pulse.proofs.PhaseLemmas.{listed_seen, read_fits, read_walked}
+use Rattle.pulse.proofs.FlowLaws.{parts_seen, rows_of}
+use Rattle.pulse.proofs.PhaseLaws.{listed_seen, read_fits, read_walked}
 
 pub read_all-requires-clause-flow : goal.read_all-requires-clause-flow
 read_all-requires-clause-flow g c κs within =

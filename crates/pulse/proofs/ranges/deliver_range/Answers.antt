@@ -6,8 +6,8 @@ use Rattle.pulse.specs.Values.{FlowState, PushState, flow_state, push_state}
 use Rattle.pulse.specs.Conditions.{IsFlowOf, is_marked}
 use Rattle.pulse.specs.Phases.{RangeDelivered}
 use Rattle.pulse.proofs.ranges.deliver_range.Goals as goal
-use Rattle.pulse.proofs.FlowLemmas.{flow_unspent, parts_of, parts_seen, pushes_unspent, rows_seen}
-use Rattle.pulse.proofs.EventLemmas.{range_safe, range_delivered}
+use Rattle.pulse.proofs.FlowLaws.{flow_unspent, parts_of, parts_seen, pushes_unspent, rows_seen}
+use Rattle.pulse.proofs.EventLaws.{range_safe, range_delivered}
 
 pub deliver_each-requires-clause-pushes : goal.deliver_each-requires-clause-pushes
 deliver_each-requires-clause-pushes c =

@@ -4,8 +4,8 @@ use Rattle.std.proofs.lemmas.List.{with_items_is}
 use Rattle.pulse.specs.Values.{FlowState, PushState, flow_state, push_state}
 use Rattle.pulse.specs.Phases.{RangeRead}
 use Rattle.pulse.proofs.ranges.read_range.Goals as goal
-use Rattle.pulse.proofs.FlowLemmas.{flow_unspent, parts_seen, pushes_unspent, rows_of, rows_seen}
-use Rattle.pulse.proofs.EventLemmas.{range_read}
+use Rattle.pulse.proofs.FlowLaws.{flow_unspent, parts_seen, pushes_unspent, rows_of, rows_seen}
+use Rattle.pulse.proofs.EventLaws.{range_read}
 
 pub read_each-requires-clause-flow : goal.read_each-requires-clause-flow
 read_each-requires-clause-flow c =

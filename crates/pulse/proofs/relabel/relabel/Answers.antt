@@ -2,8 +2,8 @@ use Rattle.std.proofs.Common.{arith, ap, ◌∙◌, length}
 use Rattle.std.specs.Vec.{with_items}
 use Rattle.std.proofs.lemmas.List.{with_items_is}
 use Rattle.pulse.specs.Values.{FlowState}
-use Rattle.pulse.proofs.FlowLemmas.{flow_unspent, parts_seen}
-use Rattle.pulse.proofs.RelabelLemmas.{held_flow, hold_ready, holds_seen, lists_relabelled, relabelled}
+use Rattle.pulse.proofs.FlowLaws.{flow_unspent, parts_seen}
+use Rattle.pulse.proofs.RelabelLaws.{held_flow, hold_ready, holds_seen, lists_relabelled, relabelled}
 use Rattle.pulse.proofs.relabel.relabel.Goals as goal
 
 pub exact_labels-requires-clause-parts : goal.exact_labels-requires-clause-parts

@@ -1,7 +1,7 @@
 use Rattle.std.proofs.Common.{sym, ◌∙◌}
 use Rattle.frame_net.specs.FlowNet.{node_count}
 use Rattle.pulse.specs.Conditions.{state_of}
-use Rattle.pulse.proofs.RelabelLemmas.{when_due, when_not_due, when_ended}
+use Rattle.pulse.proofs.RelabelLaws.{when_due, when_not_due, when_ended}
 use Rattle.pulse.proofs.relabel.relabel_when_due.Goals.{else-count-nodes-eq0-via-then-count-nodes-eq0+else-is_active, else-count-nodes-eq0-via-else-count-nodes-eq0}
 use Rattle.pulse.proofs.relabel.relabel_when_due.Goals as goal
 

@@ -2,8 +2,8 @@ use Rattle.std.proofs.Common.{arith, ap, ◌∙◌, length}
 use Rattle.std.specs.Vec.{with_items}
 use Rattle.std.proofs.lemmas.List.{with_items_is}
 use Rattle.pulse.specs.Values.{FlowState}
-use Rattle.pulse.proofs.FlowLemmas.{flow_unspent, parts_seen}
-use Rattle.pulse.proofs.WishLemmas.{sent_state, sound_seen}
+use Rattle.pulse.proofs.FlowLaws.{flow_unspent, parts_seen}
+use Rattle.pulse.proofs.WishLaws.{sent_state, sound_seen}
 use Rattle.pulse.proofs.wishes.send_along.Goals as goal
 
 pub send_wished-requires-clause-parts : goal.send_wished-requires-clause-parts

@@ -1,7 +1,7 @@
 use Rattle.std.proofs.Common.{arith, length}
 use Rattle.flow_part.specs.Parts.{values_of}
 use Rattle.pulse.proofs.workers.deliver_all.Goals as goal
-use Rattle.pulse.proofs.CrewLemmas.{sound_anew, read_anew, labels_ready, all_pulsed, keep_labels, lists_turned}
+use Rattle.pulse.proofs.CrewLaws.{sound_anew, read_anew, labels_ready, all_pulsed, keep_labels, lists_turned}
 
 pub deliver_parts-requires-clause-sound : goal.deliver_parts-requires-clause-sound
 deliver_parts-requires-clause-sound g c κs within =

@@ -5,7 +5,7 @@ use Rattle.flow_part.specs.Listing.{ListsActive}
 use Rattle.flow_part.specs.Parts.{FlowPartFits, values_of}
 use Rattle.flow_part.specs.Delivering.{PartSafe}
 use Rattle.pulse.proofs.workers.deliver_by_crew.Goals as goal
-use Rattle.flow_part.proofs.Left.{part_fits}
+use Rattle.flow_part.proofs.PartsLeftLaws.{part_fits}
 
 pub map_vec-requires-after_bounds : goal.map_vec-requires-after_bounds
 map_vec-requires-after_bounds g c κs within = λ i x h e. (

@@ -5,7 +5,7 @@ use Rattle.flow_part.specs.declared.parts.FlowPart.{FlowPart}
 use Rattle.flow_part.specs.Listing.{ListActive}
 use Rattle.flow_part.specs.Parts.{values_of}
 use Rattle.pulse.proofs.workers.deliver_parts.Goals as goal
-use Rattle.pulse.proofs.CrewLemmas.{all_safe, all_delivered}
+use Rattle.pulse.proofs.CrewLaws.{all_safe, all_delivered}
 
 pub deliver_every-requires-clause-safe : goal.deliver_every-requires-clause-safe
 deliver_every-requires-clause-safe g c =

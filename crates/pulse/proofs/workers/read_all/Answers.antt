@@ -1,7 +1,7 @@
 use Rattle.std.proofs.Common.{arith, ap, refl}
 use Rattle.std.proofs.lemmas.List.{with_items_is}
 use Rattle.pulse.proofs.workers.read_all.Goals as goal
-use Rattle.pulse.proofs.CrewLemmas.{all_read, all_walked}
+use Rattle.pulse.proofs.CrewLaws.{all_read, all_walked}
 
 pub returns-then-not-phase-clause-read : goal.returns-then-not-phase-clause-read
 returns-then-not-phase-clause-read g c =

@@ -7,7 +7,7 @@ use Rattle.rebuild.proofs.BuildLaws.{border-member, border-more, border-skip, pl
 use Rattle.rebuild.specs.Moved.{copy_variable, is_latched, latch_for}
 use Rattle.rebuild.specs.Planned.{planned}
 use Rattle.rebuild.specs.Starting.{start_reset}
-use Rattle.variable_tables.proofs.TableLemmas.{length-table}
+use Rattle.variable_tables.proofs.TableLaws.{length-table}
 use Rattle.rebuild.proofs.graph.push_border.Goals as goal
 use Rattle.rebuild.proofs.graph.push_border.Goals.{then-is_latched+in_ok-push, else-is_latched}
 

@@ -1,5 +1,5 @@
 use Rattle.std.proofs.Common.{rules}
-use Rattle.counted_io.proofs.BufferedLemmas.{writes-whole}
+use Rattle.counted_io.proofs.BufferedLaws.{writes-whole}
 use Rattle.reports.proofs.batch.print_job.Goals as goal
 
 pub returns : goal.returns

@@ -1,5 +1,5 @@
 use Rattle.std.specs.Prelude.{codes}
-use Rattle.counted_io.proofs.BufferedLemmas.{puts-nothing, puts-then}
+use Rattle.counted_io.proofs.BufferedLaws.{puts-nothing, puts-then}
 use Rattle.reports.specs.Batches.{offset_text}
 use Rattle.reports.proofs.batch.put_offset.Goals as goal
 

@@ -1,4 +1,4 @@
-use Rattle.counted_io.proofs.BufferedLemmas.{puts-byte, puts-then}
+use Rattle.counted_io.proofs.BufferedLaws.{puts-byte, puts-then}
 use Rattle.reports.specs.Counts.{count_line}
 use Rattle.reports.proofs.counts.put_count.Goals as goal
 

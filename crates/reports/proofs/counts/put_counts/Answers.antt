@@ -1,4 +1,4 @@
-use Rattle.counted_io.proofs.BufferedLemmas.{puts-then}
+use Rattle.counted_io.proofs.BufferedLaws.{puts-then}
 use Rattle.reports.specs.Counts.{counts_text}
 use Rattle.reports.proofs.counts.put_counts.Goals as goal
 

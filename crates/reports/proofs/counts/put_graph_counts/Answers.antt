@@ -1,6 +1,6 @@
 use Rattle.std.proofs.Common.{ap, ◌∙◌, length}
 use Rattle.aig_graph.specs.Graph.{Graph, free_latches}
-use Rattle.counted_io.proofs.BufferedLemmas.{puts-then}
+use Rattle.counted_io.proofs.BufferedLaws.{puts-then}
 use Rattle.reports.specs.Counts.{graph_counts}
 use Rattle.reports.proofs.counts.put_graph_counts.Goals as goal
 

@@ -1,4 +1,4 @@
-use Rattle.counted_io.proofs.BufferedLemmas.{puts-then}
+use Rattle.counted_io.proofs.BufferedLaws.{puts-then}
 use Rattle.reports.specs.Counts.{property_counts}
 use Rattle.reports.proofs.counts.put_property_counts.Goals as goal
 

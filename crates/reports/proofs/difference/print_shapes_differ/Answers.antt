@@ -1,5 +1,5 @@
 use Rattle.std.proofs.Common.{rules}
-use Rattle.counted_io.proofs.BufferedLemmas.{writes-whole}
+use Rattle.counted_io.proofs.BufferedLaws.{writes-whole}
 use Rattle.reports.proofs.difference.print_shapes_differ.Goals as goal
 
 pub returns : goal.returns

@@ -1,5 +1,5 @@
 use Rattle.std.proofs.lemmas.List.{get_or_default}
-use Rattle.counted_io.proofs.BufferedLemmas.{puts-numbered_next}
+use Rattle.counted_io.proofs.BufferedLaws.{puts-numbered_next}
 use Rattle.reports.specs.Retimings.{frame_line}
 use Rattle.reports.proofs.retiming.put_frames.Goals as goal
 

@@ -1,5 +1,5 @@
 use Rattle.std.proofs.Common.{[], ◌∷◌}
-use Rattle.counted_io.proofs.BufferedLemmas.{puts-then}
+use Rattle.counted_io.proofs.BufferedLaws.{puts-then}
 use Rattle.reports.specs.Traces.{sequence_at}
 use Rattle.reports.proofs.trace.put_sequence.Goals as goal
 

@@ -1,4 +1,4 @@
-use Rattle.counted_io.proofs.BufferedLemmas.{puts-byte, puts-then}
+use Rattle.counted_io.proofs.BufferedLaws.{puts-byte, puts-then}
 use Rattle.reports.specs.Traces.{step_at}
 use Rattle.reports.proofs.trace.put_step.Goals as goal
 

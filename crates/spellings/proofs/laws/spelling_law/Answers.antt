@@ -1,4 +1,4 @@
-use Rattle.spellings.proofs.SpellingLemmas.{the_spelling_law}
+use Rattle.spellings.proofs.SpellingLaws.{the_spelling_law}
 use Rattle.spellings.proofs.laws.spelling_law.Goals as goal
 
 pub returns : goal.returns

@@ -1,7 +1,7 @@
 use Rattle.std.proofs.Common.{◌∙◌}
 use Rattle.std.proofs.lemmas.List.{with_items_is}
 use Rattle.variable_tables.specs.Marking.{has}
-use Rattle.variable_tables.proofs.MarkingLemmas.{table-marks}
+use Rattle.variable_tables.proofs.MarkingLaws.{table-marks}
 use Rattle.variable_tables.proofs.marks.marks_of.Goals as goal
 
 pub returns : goal.returns

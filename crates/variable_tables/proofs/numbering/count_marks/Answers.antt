@@ -1,5 +1,5 @@
 use Rattle.std.proofs.Common.{arith, sym, length}
-use Rattle.variable_tables.proofs.MarkingLemmas.{count-start, count-entry, count-end}
+use Rattle.variable_tables.proofs.MarkingLaws.{count-start, count-entry, count-end}
 use Rattle.variable_tables.proofs.numbering.count_marks.Goals as goal
 
 pub loop-mark-init : goal.loop-mark-init

@@ -1,7 +1,7 @@
 use Rattle.std.proofs.Common.{sym, ◌∙◌, ◌++◌, ◌+◌, List, ℕ, Bool, ap, cond, [], ◌∷◌, Vec, Global}
 use Rattle.std.proofs.lemmas.List.{append-nil}
 use Rattle.variable_tables.specs.Counting.{places}
-use Rattle.variable_tables.proofs.MarkingLemmas.{places-start, places-entry}
+use Rattle.variable_tables.proofs.MarkingLaws.{places-start, places-entry}
 use Rattle.variable_tables.proofs.numbering.marked_variables.Goals as goal
 use Rattle.variable_tables.proofs.numbering.marked_variables.Goals.{then-mark+in_ok-push, else-mark}
 

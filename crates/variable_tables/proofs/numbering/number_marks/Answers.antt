@@ -1,7 +1,7 @@
 use Rattle.std.proofs.Common.{arith, sym, ◌∙◌, ◌+◌, length}
 use Rattle.variable_tables.specs.Counting.{count_below}
-use Rattle.variable_tables.proofs.MarkingLemmas.{count-start, count-entry}
-use Rattle.variable_tables.proofs.TableLemmas.{table-none, table-end, entry}
+use Rattle.variable_tables.proofs.MarkingLaws.{count-start, count-entry}
+use Rattle.variable_tables.proofs.TableLaws.{table-none, table-end, entry}
 use Rattle.variable_tables.proofs.numbering.number_marks.Goals as goal
 
 pub loop-mark-init : goal.loop-mark-init

@@ -1,7 +1,7 @@
 use Rattle.std.proofs.Common.{arith, sym, ◌∙◌, ◌<◌, length}
 use Rattle.variable_tables.specs.Counting.{numbered}
-use Rattle.variable_tables.proofs.MarkingLemmas.{count-start, count-entry}
-use Rattle.variable_tables.proofs.TableLemmas.{table-none, table-end, entry, numbered-first, numbered-next, numbered-other}
+use Rattle.variable_tables.proofs.MarkingLaws.{count-start, count-entry}
+use Rattle.variable_tables.proofs.TableLaws.{table-none, table-end, entry, numbered-first, numbered-next, numbered-other}
 use Rattle.variable_tables.proofs.numbering.renumber.Goals as goal
 use Rattle.variable_tables.proofs.numbering.renumber.Goals.{then-ahead-k, else-ahead-k+then-behind-k, else-ahead-k+else-behind-k}
 

@@ -1,5 +1,5 @@
 use Rattle.std.proofs.Common.{arith, length, ◌-◌}
-use Rattle.variable_tables.proofs.TableLemmas.{read-table}
+use Rattle.variable_tables.proofs.TableLaws.{read-table}
 use Rattle.variable_tables.proofs.tables.entry.Goals as goal
 
 pub returns : goal.returns

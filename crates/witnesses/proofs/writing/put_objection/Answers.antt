@@ -1,4 +1,4 @@
-use Rattle.counted_io.proofs.BufferedLemmas.{puts-then}
+use Rattle.counted_io.proofs.BufferedLaws.{puts-then}
 use Rattle.witnesses.proofs.writing.put_objection.Goals as goal
 
 pub returns : goal.returns

@@ -1,5 +1,5 @@
 use Rattle.std.specs.Prelude.{codes}
-use Rattle.counted_io.proofs.BufferedLemmas.{puts-then}
+use Rattle.counted_io.proofs.BufferedLaws.{puts-then}
 use Rattle.witnesses.specs.Texts.{witness_text}
 use Rattle.witnesses.proofs.writing.put_witness.Goals as goal
 

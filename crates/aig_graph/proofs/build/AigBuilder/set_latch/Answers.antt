@@ -3,7 +3,7 @@ use Rattle.std.proofs.lemmas.Option.{slice_get_read}
 use Rattle.aig_graph.specs.declared.graph.Latch.{Latch}
 use Rattle.aig_graph.specs.Graph.{Graph}
 use Rattle.aig_graph.specs.Building.{with_next}
-use Rattle.aig_graph.proofs.GraphLemmas.{IsGraph-with_next, next_at-slice_set}
+use Rattle.aig_graph.proofs.GraphLaws.{IsGraph-with_next, next_at-slice_set}
 use Rattle.aig_graph.proofs.build.AigBuilder.set_latch.Goals as goal
 
 pub invariant_of-self : goal.invariant_of-self

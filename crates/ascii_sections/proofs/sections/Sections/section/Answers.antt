@@ -1,5 +1,5 @@
 use Rattle.std.proofs.Common.{sym, arith}
-use Rattle.ascii_file.proofs.States.{is_inputs, is_latches, is_safety, is_sizes, is_liveness, is_gates, is_symbols}
+use Rattle.ascii_file.proofs.StateLaws.{is_inputs, is_latches, is_safety, is_sizes, is_liveness, is_gates, is_symbols}
 use Rattle.ascii_sections.specs.Taking.{raw_of}
 use Rattle.ascii_sections.proofs.sections.Sections.section.Goals as goal
 

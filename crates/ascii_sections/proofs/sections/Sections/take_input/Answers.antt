@@ -4,7 +4,7 @@ use Rattle.std.specs.Option.{option_map}
 use Rattle.ascii_file.specs.declared.raw.Section.TheVariants.{Inputs}
 use Rattle.ascii_file.specs.Reading.{definition_checks, with_item}
 use Rattle.ascii_file.specs.Items.{InputItem}
-use Rattle.ascii_file.proofs.Checks.{fits_where_passes}
+use Rattle.ascii_file.proofs.CheckLaws.{fits_where_passes}
 use Rattle.file_words.specs.declared.fault.ReadError.TheVariants.{BadLine}
 use Rattle.file_parts.specs.Names.{AreNamesOf}
 use Rattle.ascii_sections.specs.declared.sections.Sections.{Sections}

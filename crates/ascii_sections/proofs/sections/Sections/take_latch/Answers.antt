@@ -5,7 +5,7 @@ use Rattle.ascii_file.specs.declared.raw.RawLatch.{RawLatch}
 use Rattle.ascii_file.specs.declared.raw.Section.TheVariants.{Latches}
 use Rattle.ascii_file.specs.Reading.{unless, is_bad_reset, definition_checks, with_item}
 use Rattle.ascii_file.specs.Items.{LatchItem}
-use Rattle.ascii_file.proofs.Checks.{fits_where_passes}
+use Rattle.ascii_file.proofs.CheckLaws.{fits_where_passes}
 use Rattle.file_words.specs.declared.fault.ReadError.TheVariants.{BadLine, BadReset}
 use Rattle.file_parts.specs.Names.{AreNamesOf}
 use Rattle.ascii_sections.specs.declared.sections.Sections.{Sections}

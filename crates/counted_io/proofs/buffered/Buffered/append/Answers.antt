@@ -1,4 +1,4 @@
-use Rattle.counted_io.proofs.BufferedLemmas.{puts-waits}
+use Rattle.counted_io.proofs.BufferedLaws.{puts-waits}
 use Rattle.counted_io.proofs.buffered.Buffered.append.Goals as goal
 
 pub returns-clause-puts : goal.returns-clause-puts

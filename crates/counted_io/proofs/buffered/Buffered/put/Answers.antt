@@ -1,4 +1,4 @@
-use Rattle.counted_io.proofs.BufferedLemmas.{puts-piece}
+use Rattle.counted_io.proofs.BufferedLaws.{puts-piece}
 use Rattle.counted_io.proofs.buffered.Buffered.put.Goals as goal
 
 pub loop-rest-preserved : goal.loop-rest-preserved

@@ -1,5 +1,5 @@
 use Rattle.std.proofs.Common.{refl}
-use Rattle.counted_io.proofs.BufferedLemmas.{puts-dropped, puts-sent}
+use Rattle.counted_io.proofs.BufferedLaws.{puts-dropped, puts-sent}
 use Rattle.counted_io.proofs.buffered.Buffered.send.Goals as goal
 use Rattle.counted_io.proofs.buffered.Buffered.send.Goals.{then-self, else-self}
 

@@ -1,5 +1,5 @@
 use Rattle.std.proofs.Common.{ℕ, ◌<◌, List, All, subst}
-use Rattle.deltas.proofs.DeltaLemmas.{is_delta-ended}
+use Rattle.deltas.proofs.DeltaLaws.{is_delta-ended}
 use Rattle.deltas.proofs.decode.DeltaReader.push.Goals as goal
 
 pub returns-then-byte-lt128-clause-form : goal.returns-then-byte-lt128-clause-form

@@ -2,8 +2,8 @@ use Rattle.std.proofs.Common.{rules, ◌≡◌, ◌≤◌, ℕ, arith, ap, ◌�
 use Rattle.draws.specs.Rule.{is_past, past}
 use Rattle.draws.specs.declared.draws.Drawer.{Drawer}
 use Rattle.draws.specs.Drawing.{HasDrawn, drawn}
-use Rattle.draws.proofs.Counting.{weigh_snoc, is_past_job, is_past_none, all_below}
-use Rattle.draws.proofs.Keeps.{draws}
+use Rattle.draws.proofs.WeightLaws.{weigh_snoc, is_past_job, is_past_none, all_below}
+use Rattle.draws.proofs.StepLaws.{draws}
 use Rattle.draws.proofs.draws.Draws.draw.Goals as goal
 
 pub fetch_add-number-requires : goal.fetch_add-number-requires

@@ -1,7 +1,7 @@
 use Rattle.std.proofs.Common.{rules, ◌≡◌, ◌+◌, arith, ap, ◌∙◌, subst, List, All}
 use Rattle.draws.specs.declared.draws.Drawer.{Drawer}
-use Rattle.draws.proofs.Keeps.{collects, tallies}
-use Rattle.draws.proofs.Gathering.{has_first, has_more, last_of_all, front_of_all, each_once}
+use Rattle.draws.proofs.StepLaws.{collects, tallies}
+use Rattle.draws.proofs.GatheringLaws.{has_first, has_more, last_of_all, front_of_all, each_once}
 use Rattle.draws.proofs.draws.Draws.gather.Goals as goal
 
 pub loop-next-init : goal.loop-next-init

@@ -1,7 +1,7 @@
 use Rattle.std.proofs.Common.{◌≡◌, ◌∙◌, arith, ap, List, ℕ, Bool, length}
 use Rattle.variable_tables.specs.Marking.{mark_at}
-use Rattle.variable_tables.proofs.MarkingLemmas.{AreMarks-table, mark_at-covered}
-use Rattle.variable_tables.proofs.TableLemmas.{length-table}
+use Rattle.variable_tables.proofs.MarkingLaws.{AreMarks-table, mark_at-covered}
+use Rattle.variable_tables.proofs.TableLaws.{length-table}
 use Rattle.aig_graph.specs.Graph.{Graph, first_latch, latches_and_gates}
 use Rattle.frame_net.specs.Capacity.{leaves}
 use Rattle.frame_net.proofs.layout.Layout.leaves.Goals as goal

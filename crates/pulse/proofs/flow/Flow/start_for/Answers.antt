@@ -1,6 +1,6 @@
 use Rattle.std.proofs.Common.{arith}
 use Rattle.pulse.proofs.flow.Flow.start_for.Goals as goal
-use Rattle.pulse.proofs.TurnLemmas.{started_flow}
+use Rattle.pulse.proofs.TurnLaws.{started_flow}
 
 pub returns : goal.returns
 returns c =

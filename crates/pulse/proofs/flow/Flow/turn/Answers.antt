@@ -4,8 +4,8 @@ use Rattle.std.proofs.lemmas.List.{with_items_is}
 use Rattle.pulse.specs.Values.{FlowState, flow_state}
 use Rattle.pulse.specs.Phases.{Turns}
 use Rattle.pulse.proofs.flow.Flow.turn.Goals as goal
-use Rattle.pulse.proofs.FlowLemmas.{flow_unspent}
-use Rattle.pulse.proofs.TurnLemmas.{turn_ready, turned}
+use Rattle.pulse.proofs.FlowLaws.{flow_unspent}
+use Rattle.pulse.proofs.TurnLaws.{turn_ready, turned}
 
 pub turn-requires-clause-parts : goal.turn-requires-clause-parts
 turn-requires-clause-parts c =

@@ -1,5 +1,5 @@
 use Rattle.pulse.proofs.pushes.Pushes.arcs_walked.Goals as goal
-use Rattle.pulse.proofs.FlowLemmas.{pushes_unspent, rows_seen}
+use Rattle.pulse.proofs.FlowLaws.{pushes_unspent, rows_seen}
 
 pub arcs_over-requires : goal.arcs_over-requires
 arcs_over-requires c =

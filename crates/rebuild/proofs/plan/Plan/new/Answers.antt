@@ -4,7 +4,7 @@ use Rattle.rebuild.proofs.MovedLaws.{copies_start-is, gates_start-is}
 use Rattle.rebuild.proofs.PlanLaws.{all-latched, all-members, all-outside, copies-table, counted, length-by_variable, variables-table}
 use Rattle.rebuild.specs.Moved.{is_latched, is_outside}
 use Rattle.rebuild.specs.Planned.{marked}
-use Rattle.variable_tables.proofs.PlacesLemmas.{count-bound}
+use Rattle.variable_tables.proofs.PlacesLaws.{count-bound}
 use Rattle.variable_tables.specs.Marking.{AreAllMarks, has}
 use Rattle.rebuild.proofs.plan.Plan.new.Goals as goal
 
