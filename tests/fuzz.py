@@ -118,6 +118,9 @@ def compare_small(rng, comparison):
     comparison.run(['sim', 'in', 'stim'], {'in': data, 'stim': stim})
     if retimed:
         comparison.run(['same', 'in', 'other', 'stim'], {'in': data, 'other': retimed, 'stim': stim})
+        found = random_files.witness(rng, read(retimed)[0], rng.randint(0, 4))
+        found = found if rng.random() < 0.8 else random_files.damaged(rng, found)
+        comparison.run(['witness', 'in', 'other', 'wit'], {'in': data, 'other': retimed, 'wit': found})
 
 
 def compare_certificates(rng, comparison):

@@ -1,6 +1,7 @@
-"""Random circuits, the files that spell them, stimuli, and damaged files, for fuzz.py. A seed gives the same files everywhere."""
+"""Random circuits, the files that spell them, stimuli, witnesses, and damaged files, for fuzz.py. A seed gives the same files everywhere."""
 from reference.certificates import read_blocks, written
 from reference.circuit import FREE, KINDS, Circuit, delta, header, joined, ordered, property_lines, reset_of, symbol_lines
+from reference.witnesses import bad_places, first_step
 
 NAMES = [b'', b'a', b'b', b'a b', b'c0', b'\xff\x01', b'x' * 40]
 
@@ -165,6 +166,18 @@ def stimulus(rng, c, sequences, steps):
     for _ in range(sequences):
         lines.append('=' + digits(rng, c.free_latches()))
         lines += [':' + digits(rng, c.inputs) for _ in range(rng.randint(0, steps))]
+    return ''.join(f'{line}\n' for line in lines).encode()
+
+
+def witness(rng, c, steps):
+    """A witness of random values, mostly of properties that fail under them."""
+    latches = ''.join(rng.choices('01x', (4, 4, 1), k=len(c.latches)))
+    rows = [''.join(rng.choices('01x', (4, 4, 1), k=c.inputs)) for _ in range(steps)]
+    numbers = list(range(len(bad_places(c))))
+    reached = [k for k in numbers if first_step(c, latches, rows, k) is not None]
+    some = rng.sample(reached, rng.randint(1, len(reached))) if reached and rng.random() < 0.9 else numbers[:1]
+    names = ' '.join(f'b{k}' for k in some) or rng.choice(['b0', 'j0'])
+    lines = ['c any text'] * rng.randint(0, 1) + ['1', names, latches, *rows, '.']
     return ''.join(f'{line}\n' for line in lines).encode()
 
 

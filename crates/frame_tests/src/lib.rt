@@ -1,5 +1,5 @@
 //! Tests of the public calls on tables by variable, graphs and whole circuits: cleaning, moving over a set of gates, frames by crews,
-//! from bytes to bytes, and simulating. They stand in a crate of their own, since a crate with tests is proved twice.
+//! from bytes to bytes, simulating, and witnesses. They stand in a crate of their own, since a crate with tests is proved twice.
 #![tactic(auto)]
 
 #[cfg(test)]
@@ -32,5 +32,7 @@ mod retiming;
 mod simulated;
 #[cfg(test)]
 mod tables;
+#[cfg(test)]
+mod witnessed;
 #[cfg(test)]
 mod workers;
