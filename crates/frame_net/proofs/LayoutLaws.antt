@@ -1,5 +1,5 @@
 -- The tables by which a network is built.
-use Rattle.std.proofs.Common.{◌≡◌, ℕ, ◌+◌, ◌-◌, ◌<◌, ◌≤◌, ◌^◌, Bool, true, false, not, ◌&&◌, ◌||◌, List, length, replicate, take, slice_get, get_or, Option, Some, None, arith, refl, ap, ap₂, sym, ◌∙◌, subst, inl, inr}
+use Rattle.std.proofs.Common.{◌≡◌, ℕ, ◌+◌, ◌-◌, ◌/◌, ◌<◌, ◌≤◌, ◌^◌, Bool, true, false, not, ◌&&◌, ◌||◌, List, length, replicate, take, slice_get, get_or, Option, Some, None, arith, refl, ap, ap₂, sym, ◌∙◌, subst, inl, inr}
 use Rattle.std.proofs.lemmas.Bool.{cases_lt, and_parts}
 use Rattle.std.proofs.lemmas.Option.{slice_get-get_or}
 use Rattle.std.proofs.lemmas.List.{get_or-take, length-take}
@@ -18,9 +18,11 @@ use Rattle.aig_graph.proofs.FoldingLaws.{gate_at-is}
 use Rattle.aig_graph.proofs.KindLaws.{latch_at-before}
 use Rattle.aig_graph.proofs.ClosedLaws.{is_settled-gate}
 use Rattle.frame_net.specs.Passable.{is_passable}
+use Rattle.frame_net.specs.declared.layout.Layout.{Layout}
+use Rattle.frame_net.specs.Layout.{nodes_of}
 use Rattle.frame_net.specs.Capacity.{has_node, node_variables, latch_count, leaves, latch_number}
 use Rattle.frame_net.proofs.PassableLaws.{passable-no_gate, passable-at_gate, has-passable, settled-split}
-use Rattle.frame_net.proofs.NodeLaws.{has_node-latch, has_node-gate, rank-latch, rank-gate}
+use Rattle.frame_net.proofs.NodeLaws.{has_node-latch, has_node-gate, rank-latch, rank-gate, latches-among}
 
 pub node-before : (g : Graph) (held : List ℕ) (v : ℕ) → v < first_latch g → has_node g held v ≡ false
 node-before g held v h = has_node-latch g held v (omega (arith, h)) ∙ ap (λ (o : Option Latch). is_known o) (latch_at-before g v h)
@@ -83,6 +85,23 @@ gate-place g held i u r h = elim (cases_lt u (first_gate g)) [
   | inl lt ↦ absurd (omega (arith, rank-latch g held u r.passes lt, r.rank, h))
   | inr ge ↦ ge
 ]
+
+-- ---- the variables of a layout, by the numbers of their nodes
+
+-- a place among the latches is one among all variables
+pub place-within : (l : Layout) (i : ℕ) → i < l.latches → i < length l.variables.items
+place-within l i h = omega (arith, h, l.latches_are, latches-among l.aig.now l.keep.now, ap (λ (xs : List ℕ). length xs) l.variables_are)
+
+-- the place of the gate of node v
+pub gate-within : (l : Layout) (v : ℕ) → 2 ≤ v → v < nodes_of l → l.latches ≤ v - 2 → l.latches + (v - 2 - l.latches) / 2 < length l.variables.items
+gate-within l v from h past = omega (arith, from, h, past, l.latches_are, latches-among l.aig.now l.keep.now, ap (λ (xs : List ℕ). length xs) l.variables_are)
+
+pub latch-rank : (l : Layout) (i u : ℕ) → i < l.latches → u ≡ get_or l.variables.items i u → Ranks (has_node l.aig.now l.keep.now) (variables_end l.aig.now) i u
+latch-rank l i u h is = place-of l.aig.now l.keep.now l.variables.items i u l.variables_are (place-within l i h) is
+
+pub gate-rank : (l : Layout) (v u : ℕ) → 2 ≤ v → v < nodes_of l → l.latches ≤ v - 2 → u ≡ get_or l.variables.items (l.latches + (v - 2 - l.latches) / 2) u
+    → Ranks (has_node l.aig.now l.keep.now) (variables_end l.aig.now) (l.latches + (v - 2 - l.latches) / 2) u
+gate-rank l v u from h past is = place-of l.aig.now l.keep.now l.variables.items (l.latches + (v - 2 - l.latches) / 2) u l.variables_are (gate-within l v from h past) is
 
 -- what has a node is after the inputs
 pub node-from : (g : Graph) (held : List ℕ) (u : ℕ) → has_node g held u ≡ true → first_latch g ≤ u

@@ -8,13 +8,11 @@ ghost use Rattle.std.specs.List.{slice_index_or};
 ghost use Rattle.variable_tables.specs.Counting.{count_below};
 ghost use Rattle.variable_tables.specs.Marking.{AreAllMarks};
 ghost use Rattle.variable_tables.specs.Tables.{table};
-ghost use Rattle.aig_graph.specs.declared.properties.Props.{Props as PropsOf};
-ghost use Rattle.aig_graph.specs.Graph.{Graph, first_latch, first_gate, variables_end, latches_and_gates};
+ghost use Rattle.aig_graph.specs.Graph.{IsGraph, first_latch, first_gate, variables_end, latches_and_gates};
 ghost use Rattle.frame_net.specs.Passable.{IsPassSet};
 ghost use Rattle.frame_net.specs.Edges.{AreLinks};
-ghost use Rattle.frame_net.specs.Links.{links_of, NumbersFit};
-ghost use Rattle.frame_net.specs.Capacity.{has_node, leaves, latch_number, latch_count, before_number, node_total, great, capacity};
-ghost use Rattle.frame_net.specs.Layout.{IsLayout};
+ghost use Rattle.frame_net.specs.Links.{NumbersFit};
+ghost use Rattle.frame_net.specs.Capacity.{has_node, leaves, latch_number, latch_count, before_number, node_variables};
 
 use crate::links::NodeLinks;
 use crate::pass_set::PassSet;
@@ -22,15 +20,26 @@ use aig_graph::{Aig, Keep, NoMemory, Props, mark_held, mark_read};
 use std::alloc::Global;
 use variable_tables::{count_marks, mark_at, marked_variables, number_marks};
 
-/// The tables by which a network is built, from the first latch on: whether a variable's output leaves the frame, and its
-/// number, which is that of the node after a latch, or of the one before a gate if each gate had one node.
+/// A graph with its properties and held latches, and the tables by which its network is built, from the first latch on: whether a
+/// variable's output leaves the frame, and its number, which is that of the node after a latch, or of the one before a gate if each
+/// gate had one node. The ghost fields say that the tables are of this graph, so functions over a `Layout` need no premise for it.
 #[derive(Drop)]
 pub struct Layout<'a> {
     pub aig: &'a Aig,
+    /// Read by clauses alone, as is `keep`: what the tables were made from.
+    pub props: &'a Props,
+    pub keep: &'a Keep,
     pub leaving: Vec<bool>,
     pub numbers: Vec<u32>,
     pub variables: Vec<u32>,
     pub latches: u32,
+    ghost graph: { IsGraph aig.now },
+    ghost leaving_are: { leaving.items ≡ table (first_latch aig.now)
+        (latches_and_gates aig.now) (leaves aig.now props.now keep.now) },
+    ghost numbers_are: { numbers.items ≡ table (first_latch aig.now)
+        (latches_and_gates aig.now) (latch_number aig.now keep.now) },
+    ghost variables_are: { variables.items ≡ node_variables aig.now keep.now },
+    ghost latches_are: { latches ≡ latch_count aig.now keep.now },
 }
 
 /// Marks what is held, or read by a gate that isn't passable, a next literal or a property.
@@ -98,16 +107,20 @@ fn count_latches(marks: &[bool], latches: usize) -> u32
 }
 
 impl<'a> Layout<'a> {
+    ghost use Rattle.frame_net.specs.Layout.{nodes_of, capacity_of, links_in};
+
     /// The tables of a graph, its properties and its held latches.
     pub fn new(
         alloc: Global,
         aig: &'a Aig,
-        props: &Props,
+        props: &'a Props,
         pass: &PassSet,
-        keep: &Keep,
+        keep: &'a Keep,
     ) -> Result<Layout<'a>, NoMemory>
         requires { IsPassSet aig.now keep.now pass.now }
-        ensures { IfOk result (λ layout. IsLayout aig.now props.now keep.now layout) }
+        ensures graph { IfOk result (λ layout. layout.aig.now ≡ aig.now) }
+        ensures properties { IfOk result (λ layout. layout.props.now ≡ props.now) }
+        ensures held { IfOk result (λ layout. layout.keep.now ≡ keep.now) }
     {
         let first = aig.first_latch();
         let leaving = leaving_marks(alloc, aig, props, pass, keep)?;
@@ -117,6 +130,8 @@ impl<'a> Layout<'a> {
         let variables = marked_variables(alloc, first, nodes)?;
         Ok(Layout {
             aig,
+            props,
+            keep,
             leaving,
             numbers,
             variables,
@@ -127,12 +142,9 @@ impl<'a> Layout<'a> {
     /// What a node, which isn't the source or the sink, is linked to.
     #[inline(always)]
     pub fn links(&self, v: u32) -> NodeLinks
-        requires { (g : Graph) × (props : PropsOf) × (held : List ℕ)
-            × IsLayout g props held self.now × (2 ≤ v) × (v < node_total g held) }
-        ensures links { (g : Graph) (props : PropsOf) (held : List ℕ)
-            → IsLayout g props held self.now → v < node_total g held
-            → AreLinks (capacity g props held) v
-            (links_of (2 + latch_count g held) (great g held) result) }
+        requires from { 2 ≤ v }
+        requires below { v < nodes_of self.now }
+        ensures links { AreLinks (capacity_of self.now) v (links_in self.now result) }
         ensures fit { NumbersFit result }
     {
         let place = v - 2;
@@ -151,13 +163,11 @@ impl<'a> Layout<'a> {
 
     /// What the node before a gate is linked to.
     fn before_links(&self, var: u32) -> NodeLinks
-        requires { (g : Graph) × (props : PropsOf) × (held : List ℕ)
-            × IsLayout g props held self.now × (first_gate g ≤ var) × (var < variables_end g)
-            × (has_node g held var ≡ true) }
-        ensures links { (g : Graph) (props : PropsOf) (held : List ℕ)
-            → IsLayout g props held self.now → first_gate g ≤ var → var < variables_end g
-            → has_node g held var ≡ true
-            → AreLinks (capacity g props held) (before_number g held var) (links_of (2 + latch_count g held) (great g held) result) }
+        requires from { first_gate self.now.aig.now ≤ var }
+        requires below { var < variables_end self.now.aig.now }
+        requires node { has_node self.now.aig.now self.now.keep.now var ≡ true }
+        ensures links { AreLinks (capacity_of self.now)
+            (before_number self.now.aig.now self.now.keep.now var) (links_in self.now result) }
         ensures fit { NumbersFit result }
     {
         match self.aig.gate(var) {
@@ -172,26 +182,23 @@ impl<'a> Layout<'a> {
 
     /// Whether the variable's output leaves the frame.
     fn leaves(&self, var: u32) -> bool
-        ensures { (g : Graph) (props : PropsOf) (held : List ℕ) → IsLayout g props held self.now
-            → first_latch g ≤ var → var < variables_end g → result ≡ leaves g props held var }
+        ensures { first_latch self.now.aig.now ≤ var → var < variables_end self.now.aig.now
+            → result ≡ leaves self.now.aig.now self.now.props.now self.now.keep.now var }
     {
         mark_at(self.leaving.as_slice(), self.aig.first_latch(), var)
     }
 
     /// The variable's number.
     fn number(&self, var: u32) -> u32
-        ensures { (g : Graph) (props : PropsOf) (held : List ℕ) → IsLayout g props held self.now
-            → first_latch g ≤ var → var < variables_end g → result ≡ latch_number g held var }
+        ensures { first_latch self.now.aig.now ≤ var → var < variables_end self.now.aig.now
+            → result ≡ latch_number self.now.aig.now self.now.keep.now var }
     {
         entry_or_zero(self.numbers.as_slice(), self.aig.first_latch(), var)
     }
 
     /// The number of nodes.
     pub fn nodes(&self) -> u32
-        requires { (g : Graph) × (props : PropsOf) × (held : List ℕ)
-            × IsLayout g props held self.now }
-        ensures { (g : Graph) (props : PropsOf) (held : List ℕ) → IsLayout g props held self.now
-            → result ≡ node_total g held }
+        ensures { result ≡ nodes_of self.now }
     {
         let variables = self.variables.len() as u32;
         2 + self.latches + 2 * (variables - self.latches)

@@ -57,13 +57,12 @@ impl Net {
         ensures { IfOk result (λ net. IsNetOf aig.now props.now keep.now net) }
     {
         let layout = Layout::new(alloc, aig, props, pass, keep)?;
-        let nodes = layout.nodes();
         let Rows {
             starts,
             heads,
             mates,
             caps,
-        } = fill_rows(alloc, &layout, nodes)?;
+        } = fill_rows(alloc, &layout)?;
         let Layout {
             variables,
             latches,

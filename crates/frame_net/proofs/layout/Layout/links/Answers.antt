@@ -1,61 +1,69 @@
-use Rattle.std.proofs.Common.{◌≡◌, ◌+◌, ◌-◌, ◌/◌, ◌<◌, ◌∙◌, arith, ap, sym, subst, List, ℕ, Bool, length}
+use Rattle.std.proofs.Common.{◌≡◌, ◌+◌, ◌-◌, ◌/◌, ◌∙◌, arith, ap, sym, subst, List, ℕ, Bool}
 use Rattle.variable_tables.proofs.PlacesLaws.{Ranks}
 use Rattle.aig_graph.specs.Graph.{variables_end}
 use Rattle.frame_net.specs.declared.edges.Link.{Link}
 use Rattle.frame_net.specs.Edges.{AreLinks}
-use Rattle.frame_net.specs.Links.{latch_links, after_links, links_of}
-use Rattle.frame_net.specs.Capacity.{has_node, leaves, latch_count, latch_number, before_number, after_number, capacity, great}
-use Rattle.frame_net.proofs.NodeLaws.{latches-among}
+use Rattle.frame_net.specs.Links.{latch_links, after_links}
+use Rattle.frame_net.specs.Capacity.{has_node, leaves, latch_number, before_number, after_number, great}
+use Rattle.frame_net.specs.Layout.{capacity_of, links_in}
 use Rattle.frame_net.proofs.ArcLaws.{latch-links, after-links}
-use Rattle.frame_net.proofs.LayoutLaws.{place-of, latch-place, gate-place, node-from}
+use Rattle.frame_net.proofs.LayoutLaws.{latch-place, gate-place, node-from, place-within, latch-rank, gate-rank}
 use Rattle.frame_net.proofs.layout.Layout.links.Goals as goal
 
 pub index-var-requires : goal.index-var-requires
-index-var-requires c = let r = c.requires in omega (arith, c.if-place-self.true, r.3.latches, latches-among r.0 r.2, ap (λ (xs : List ℕ). length xs) r.3.variables)
+index-var-requires c = omega (arith, place-within c.args.self.now (c.args.v - 2) (omega (arith, c.if-place-self.true)))
 
 pub returns-then-place-self-clause-links : goal.returns-then-place-self-clause-links
-returns-then-place-self-clause-links c = λ g props held l below.
-    let u : ℕ = c.index-var.result.now in
-    let long : c.args.v - 2 < length c.args.self.now.variables.items = omega (arith, c.if-place-self.true, l.latches, latches-among g held, ap (λ (xs : List ℕ). length xs) l.variables) in
-    let r : Ranks (has_node g held) (variables_end g) (c.args.v - 2) c.index-var.result.now = place-of g held c.args.self.now.variables.items (c.args.v - 2) c.index-var.result.now l.variables long c.index-var.ensures in
-    let low = latch-place g held (c.args.v - 2) c.index-var.result.now r (omega (arith, c.if-place-self.true, l.latches)) in
-    subst (λ (n : ℕ). AreLinks (capacity g props held) n (latch_links c.leaves.result (great g held))) (omega (arith, r.rank, c.requires.4))
-    (subst (λ (b : Bool). AreLinks (capacity g props held) (latch_number g held c.index-var.result.now) (latch_links b (great g held)))
-    (sym (c.leaves.ensures g props held l (node-from g held c.index-var.result.now r.passes) r.below))
-    (latch-links g props held l.valid c.index-var.result.now r.passes low))
+returns-then-place-self-clause-links c =
+    let k = c.args.self.now in
+    let g = k.aig.now in
+    let held = k.keep.now in
+    let r : Ranks (has_node k.aig.now k.keep.now) (variables_end k.aig.now) (c.args.v - 2) c.index-var.result.now = latch-rank k (c.args.v - 2) c.index-var.result.now (omega (arith, c.if-place-self.true)) c.index-var.ensures in
+    let low = latch-place g held (c.args.v - 2) c.index-var.result.now r (omega (arith, c.if-place-self.true, k.latches_are)) in
+    subst (λ (n : ℕ). AreLinks (capacity_of k) n (latch_links c.leaves.result (great g held))) (omega (arith, r.rank, c.requires.from))
+    (subst (λ (b : Bool). AreLinks (capacity_of k) (latch_number g held c.index-var.result.now) (latch_links b (great g held)))
+    (sym (c.leaves.ensures (node-from g held c.index-var.result.now r.passes) r.below))
+    (latch-links g k.props.now held k.graph c.index-var.result.now r.passes low))
 
-pub before_links-requires : goal.before_links-requires
-before_links-requires c =
-    let q = c.requires in
-    let l = q.3 in
-    let i : ℕ = c.args.self.now.latches + (c.args.v - 2 - c.args.self.now.latches) / 2 in
-    let long : c.args.self.now.latches + (c.args.v - 2 - c.args.self.now.latches) / 2 < length c.args.self.now.variables.items =
-    omega (arith, q.5, l.latches, latches-among q.0 q.2, ap (λ (xs : List ℕ). length xs) l.variables, c.if-place-self.false) in
-    let r : Ranks (has_node q.0 q.2) (variables_end q.0) (c.args.self.now.latches + (c.args.v - 2 - c.args.self.now.latches) / 2) c.index-var-2.result.now =
-    place-of q.0 q.2 c.args.self.now.variables.items (c.args.self.now.latches + (c.args.v - 2 - c.args.self.now.latches) / 2) c.index-var-2.result.now l.variables long c.index-var-2.ensures in
-    (q.0, q.1, q.2, l, gate-place q.0 q.2 (c.args.self.now.latches + (c.args.v - 2 - c.args.self.now.latches) / 2) c.index-var-2.result.now r (omega (arith, l.latches)), r.below, r.passes)
+pub before_links-requires-clause-from : goal.before_links-requires-clause-from
+before_links-requires-clause-from c =
+    let k = c.args.self.now in
+    let r : Ranks (has_node k.aig.now k.keep.now) (variables_end k.aig.now) (k.latches + (c.args.v - 2 - k.latches) / 2) c.index-var-2.result.now =
+    gate-rank k c.args.v c.index-var-2.result.now c.requires.from c.requires.below (omega (arith, c.if-place-self.false)) c.index-var-2.ensures in
+    gate-place k.aig.now k.keep.now (k.latches + (c.args.v - 2 - k.latches) / 2) c.index-var-2.result.now r (omega (arith, k.latches_are))
+
+pub before_links-requires-clause-below : goal.before_links-requires-clause-below
+before_links-requires-clause-below c =
+    let k = c.args.self.now in
+    (gate-rank k c.args.v c.index-var-2.result.now c.requires.from c.requires.below (omega (arith, c.if-place-self.false)) c.index-var-2.ensures).below
+
+pub before_links-requires-clause-node : goal.before_links-requires-clause-node
+before_links-requires-clause-node c =
+    let k = c.args.self.now in
+    (gate-rank k c.args.v c.index-var-2.result.now c.requires.from c.requires.below (omega (arith, c.if-place-self.false)) c.index-var-2.ensures).passes
 
 pub returns-then-side-eq1-clause-links : goal.returns-then-side-eq1-clause-links
-returns-then-side-eq1-clause-links c = λ g props held l below.
-    let long : c.args.self.now.latches + (c.args.v - 2 - c.args.self.now.latches) / 2 < length c.args.self.now.variables.items =
-    omega (arith, below, l.latches, latches-among g held, ap (λ (xs : List ℕ). length xs) l.variables, c.if-place-self.false) in
-    let r : Ranks (has_node g held) (variables_end g) (c.args.self.now.latches + (c.args.v - 2 - c.args.self.now.latches) / 2) c.index-var-2.result.now =
-    place-of g held c.args.self.now.variables.items (c.args.self.now.latches + (c.args.v - 2 - c.args.self.now.latches) / 2) c.index-var-2.result.now l.variables long c.index-var-2.ensures in
-    let high = gate-place g held (c.args.self.now.latches + (c.args.v - 2 - c.args.self.now.latches) / 2) c.index-var-2.result.now r (omega (arith, l.latches)) in
-    let number : after_number g held c.index-var-2.result.now ≡ c.args.v = omega (arith, r.rank, l.latches, c.requires.4, c.if-place-self.false, c.if-side-eq1.true) in
-    subst (λ (n : ℕ). AreLinks (capacity g props held) n (after_links c.leaves-then-side-eq1.result (great g held) (c.args.v - 1))) number
-    (subst (λ (xs : List Link). AreLinks (capacity g props held) (after_number g held c.index-var-2.result.now) xs)
-    (sym (ap (λ (b : Bool). after_links b (great g held) (c.args.v - 1)) (c.leaves-then-side-eq1.ensures g props held l (node-from g held c.index-var-2.result.now r.passes) r.below)
-    ∙ ap (λ (n : ℕ). after_links (leaves g props held c.index-var-2.result.now) (great g held) n) (omega (arith, number))))
-    (after-links g props held l.valid c.index-var-2.result.now r.passes high r.below))
+returns-then-side-eq1-clause-links c =
+    let k = c.args.self.now in
+    let g = k.aig.now in
+    let held = k.keep.now in
+    let r : Ranks (has_node k.aig.now k.keep.now) (variables_end k.aig.now) (k.latches + (c.args.v - 2 - k.latches) / 2) c.index-var-2.result.now =
+    gate-rank k c.args.v c.index-var-2.result.now c.requires.from c.requires.below (omega (arith, c.if-place-self.false)) c.index-var-2.ensures in
+    let high = gate-place g held (k.latches + (c.args.v - 2 - k.latches) / 2) c.index-var-2.result.now r (omega (arith, k.latches_are)) in
+    let number : after_number k.aig.now k.keep.now c.index-var-2.result.now ≡ c.args.v = omega (arith, r.rank, k.latches_are, c.requires.from, c.if-place-self.false, c.if-side-eq1.true) in
+    subst (λ (n : ℕ). AreLinks (capacity_of k) n (after_links c.leaves-then-side-eq1.result (great g held) (c.args.v - 1))) number
+    (subst (λ (xs : List Link). AreLinks (capacity_of k) (after_number g held c.index-var-2.result.now) xs)
+    (sym (ap (λ (b : Bool). after_links b (great g held) (c.args.v - 1)) (c.leaves-then-side-eq1.ensures (node-from g held c.index-var-2.result.now r.passes) r.below)
+    ∙ ap (λ (n : ℕ). after_links (leaves g k.props.now held c.index-var-2.result.now) (great g held) n) (omega (arith, number))))
+    (after-links g k.props.now held k.graph c.index-var-2.result.now r.passes high r.below))
 
 pub returns-else-side-eq1-clause-links : goal.returns-else-side-eq1-clause-links
-returns-else-side-eq1-clause-links c = λ g props held l below.
-    let long : c.args.self.now.latches + (c.args.v - 2 - c.args.self.now.latches) / 2 < length c.args.self.now.variables.items =
-    omega (arith, below, l.latches, latches-among g held, ap (λ (xs : List ℕ). length xs) l.variables, c.if-place-self.false) in
-    let r : Ranks (has_node g held) (variables_end g) (c.args.self.now.latches + (c.args.v - 2 - c.args.self.now.latches) / 2) c.index-var-2.result.now =
-    place-of g held c.args.self.now.variables.items (c.args.self.now.latches + (c.args.v - 2 - c.args.self.now.latches) / 2) c.index-var-2.result.now l.variables long c.index-var-2.ensures in
-    let high = gate-place g held (c.args.self.now.latches + (c.args.v - 2 - c.args.self.now.latches) / 2) c.index-var-2.result.now r (omega (arith, l.latches)) in
-    let number : before_number g held c.index-var-2.result.now ≡ c.args.v = omega (arith, r.rank, l.latches, c.requires.4, c.if-place-self.false, c.if-side-eq1.false) in
-    subst (λ (n : ℕ). AreLinks (capacity g props held) n (links_of (2 + latch_count g held) (great g held) c.before_links.result)) number
-    (c.before_links.ensures.links g props held l high r.below r.passes)
+returns-else-side-eq1-clause-links c =
+    let k = c.args.self.now in
+    let g = k.aig.now in
+    let held = k.keep.now in
+    let r : Ranks (has_node k.aig.now k.keep.now) (variables_end k.aig.now) (k.latches + (c.args.v - 2 - k.latches) / 2) c.index-var-2.result.now =
+    gate-rank k c.args.v c.index-var-2.result.now c.requires.from c.requires.below (omega (arith, c.if-place-self.false)) c.index-var-2.ensures in
+    let number : before_number k.aig.now k.keep.now c.index-var-2.result.now ≡ c.args.v =
+    omega (arith, r.rank, gate-place g held (k.latches + (c.args.v - 2 - k.latches) / 2) c.index-var-2.result.now r (omega (arith, k.latches_are)), k.latches_are, c.requires.from, c.if-place-self.false, c.if-side-eq1.false) in
+    subst (λ (n : ℕ). AreLinks (capacity_of k) n (links_in k c.before_links.result)) number c.before_links.ensures.links

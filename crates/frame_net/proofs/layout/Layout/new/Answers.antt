@@ -1,4 +1,4 @@
-use Rattle.std.proofs.Common.{◌≡◌, ◌∙◌, arith, ap, sym, subst, List, ℕ, Bool, refl, length, take}
+use Rattle.std.proofs.Common.{◌≡◌, ◌∙◌, arith, ap, sym, subst, List, ℕ, Bool, length, take}
 use Rattle.variable_tables.specs.Counting.{count_below, places}
 use Rattle.variable_tables.specs.Tables.{table}
 use Rattle.variable_tables.specs.Marking.{AreAllMarks}
@@ -33,8 +33,8 @@ count_latches-requires-clause-among c =
 pub count_latches-requires-clause-small : goal.count_latches-requires-clause-small
 count_latches-requires-clause-small c = omega (arith, c.first_latch-first.ensures.graph.small, ap (λ (xs : List Latch). length xs) c.latches.ensures.value)
 
-pub returns : goal.returns
-returns c =
+pub invariant_of-result : goal.invariant_of-result
+invariant_of-result c =
     let g = c.args.aig.now in
     let held = c.args.keep.now in
     let filled : c.as_slice-nodes.result.now ≡ table (first_latch g) (latches_and_gates g) (has_node g held) = c.as_slice-nodes.ensures.value ∙ c.in_ok-marks.ensures held c.requires in
@@ -42,13 +42,12 @@ returns c =
     let marks : AreAllMarks (first_latch g) c.as_slice-nodes.result.now (has_node g held) = node-marks g held c.as_slice-nodes.result.now filled in
     let count : length c.latches.result.now ≡ length g.latches = ap (λ (xs : List Latch). length xs) c.latches.ensures.value in
     record {
-      graph = refl;
-      valid = c.first_latch-first.ensures.graph;
-      leaving = c.in_ok-leaving.ensures;
-      numbers = c.in_ok-numbers.ensures (first_latch g) (has_node g held) marks ∙ ap (λ (n : ℕ). table (first_latch g) n (latch_number g held)) long;
-      variables = c.in_ok-variables.ensures (has_node g held) (subst (λ (n : ℕ). AreAllMarks n c.as_slice-nodes.result.now (has_node g held)) (sym c.first_latch-first.ensures.value) marks)
+      graph = c.first_latch-first.ensures.graph;
+      leaving_are = c.in_ok-leaving.ensures;
+      numbers_are = c.in_ok-numbers.ensures (first_latch g) (has_node g held) marks ∙ ap (λ (n : ℕ). table (first_latch g) n (latch_number g held)) long;
+      variables_are = c.in_ok-variables.ensures (has_node g held) (subst (λ (n : ℕ). AreAllMarks n c.as_slice-nodes.result.now (has_node g held)) (sym c.first_latch-first.ensures.value) marks)
           ∙ ap (λ (n : ℕ). places (has_node g held) n) (omega (arith, long, c.first_latch-first.ensures.value));
-      latches = c.count_latches.ensures (first_latch g) (has_node g held)
+      latches_are = c.count_latches.ensures (first_latch g) (has_node g held)
           (latch-marks g held c.as_slice-nodes.result.now (take (length c.latches.result.now) c.as_slice-nodes.result.now) filled (ap (λ (n : ℕ). take n c.as_slice-nodes.result.now) count))
           ∙ ap (λ (n : ℕ). count_below (has_node g held) n) (omega (arith, count));
     }
