@@ -35,6 +35,8 @@ class Saying:
 
 
 SAYINGS = [
+    Saying('README.md', 'retime examples/two_latches.aag out.aag', 0, 'frame 1: 2 to 1'),
+    Saying('README.md', 'retime examples/two_latches.aag out.aag', 0, 'latches 2 to 1'),
     Saying('README.md', 'retime examples/refused.aag out.aag', 1, 'examples/refused.aag: DefinedTwice at 16'),
     Saying('README.md', 'retime examples/two_latches.aag out.aag --keep none', 1, 'NoSuchName'),
     Saying('README.md', 'retime missing.aag out.aag', 3, 'device'),
