@@ -1,3 +1,4 @@
+pub mod FrontLaws
 pub mod SinkWalkLaws
 pub mod GateLaws
 pub mod LoweringLaws

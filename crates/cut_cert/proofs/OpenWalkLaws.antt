@@ -1,17 +1,11 @@
 -- A walk over open arcs marks the nodes to which they lead from the source.
-use Rattle.std.proofs.Common.{ℕ, zero, suc, ◌+◌, ◌<◌, ◌≤◌, ◌≡◌, ◌⊎◌, inl, inr, List, [], ◌∷◌, length, replicate, Bool, true, false, not, ◌&&◌, ◌||◌, nat_lt, cond, Some, None, slice_get, slice_index_or, get_or, count_by, refl, arith, ap, sym, ◌∙◌, subst}
-use Rattle.std.proofs.lemmas.Bool.{cases_Bool, cases_eq, cases_lt, cond-true, cond-false, or_left}
-use Rattle.std.proofs.lemmas.Option.{none-some, slice_get_within, same_Some}
-use Rattle.std.proofs.lemmas.List.{length-set, get_or-set_same, get_or-set_other, length_push, length-replicate, get_or-replicate}
-use Rattle.std.proofs.lemmas.List.Sums.{sum_by-set, count_by-le-length}
-use Rattle.std.proofs.lemmas.List.Folds.{sum_by-replicate}
-use Rattle.aig_graph.proofs.KindLaws.{element}
-use Rattle.variable_tables.proofs.PlacesLaws.{slice_get_push, slice_get-append_left, slice_get-append_right}
+use Rattle.std.proofs.Common.{ℕ, zero, suc, ◌+◌, ◌<◌, ◌≤◌, ◌≡◌, inl, inr, List, length, Bool, true, false, not, ◌&&◌, ◌||◌, nat_lt, Some, None, slice_get, slice_index_or, refl, arith, ap, sym, ◌∙◌, subst}
+use Rattle.std.proofs.lemmas.Bool.{cases_Bool, cases_eq, cond-true, cond-false, or_left}
 use Rattle.frame_net.specs.FlowNet.{FlowNet, IsFlowNet, node_count, start, row_len, head, mate, cap_at, point_of}
-use Rattle.cut_cert.specs.SinkWalk.{Front, is_marked, reach}
-use Rattle.cut_cert.proofs.SinkWalkLaws.{Waits, Grows, reach_new, reach-marked, reach-new, reach-long, marked-within}
+use Rattle.cut_cert.specs.Fronts.{Front, is_marked, reach}
+use Rattle.cut_cert.specs.OpenWalk.{read_open}
 use Rattle.cut_cert.specs.Steps.{is_open, is_used, is_behind, NoneOpen, IsOpenSide}
-use Rattle.cut_cert.specs.Fronts.{read_open}
+use Rattle.cut_cert.proofs.FrontLaws.{Grows, Sweeps, Goes, reach-long, grows-self, grows-then, marked-within, no_front, sweeps-none, sweeps-few, sweeps-next, sweeps-read, reach-goes}
 
 -- ---- the heads of a row's open arcs
 
@@ -36,170 +30,59 @@ open-long net used w (suc k) r = elim (cases_Bool (is_open net used w k)) [
 
 -- ---- what the walk keeps
 
-grows-then : (r s t : Front) → Grows r s → Grows s t → Grows r t
-grows-then r s t p q = record { marks = λ v e. q.marks v (p.marks v e); queue = λ i v e. q.queue i v (p.queue i v e) }
-
-grows-self : (r : Front) → Grows r r
-grows-self r = record { marks = λ v m. m; queue = λ i v m. m }
-
-module _ (r : Front) (w : ℕ) (within : w < length r.marks) where
-  new-here : is_marked (reach_new r w) w ≡ true
-  new-here = get_or-set_same r.marks w true false within
-
-  new-other : (v : ℕ) → (v ≡ w → ⊥) → is_marked (reach_new r w) v ≡ is_marked r v
-  new-other v other = get_or-set_other r.marks w v true false other
-
-  new-cases : (v : ℕ) → is_marked (reach_new r w) v ≡ true → (v ≡ w) ⊎ (is_marked r v ≡ true)
-  new-cases v e = elim (cases_eq v w) [
-    | inl same ↦ inl same
-    | inr other ↦ inr (sym (new-other v other) ∙ e)
-  ]
-
-  new-grows : Grows r (reach_new r w)
-  new-grows = record {
-    marks = λ v e. elim (cases_eq v w) [
-      | inl same ↦ ap (is_marked (reach_new r w)) same ∙ new-here
-      | inr other ↦ new-other v other ∙ e
-    ];
-    queue = λ i v e. slice_get-append_left r.queue (w ∷ []) i v e;
-  }
-
 module _ (net : FlowNet) (used : List Bool) where
-  -- the heads of all open arcs of w's row are marked
-  abbrev pub HasRead : Front → ℕ → ℕ → Type 0
-  HasRead r w m = (k : ℕ) → k < m → is_open net used w k ≡ true → is_marked r (head net w k) ≡ true
+  -- the heads of the first open arcs of w's row are marked
+  abbrev pub HaveRead : Front → ℕ → ℕ → Type 0
+  HaveRead r w m = (k : ℕ) → k < m → is_open net used w k ≡ true → is_marked r (head net w k) ≡ true
+
+  -- the heads of all of them are
+  abbrev pub HasRead : Front → ℕ → Type 0
+  HasRead r w = HaveRead r w (row_len net w)
 
   -- the node is in every set with the source that no open arc leaves
   abbrev pub Inside : ℕ → Type 0
   Inside v = (side : ℕ → Bool) → side 0 ≡ true → NoneOpen net used side → side v ≡ true
 
-  -- the queue has the marked nodes, once each; those before place k are read; and each is in every such set
-  pub record Sweeps (r : Front) (k : ℕ) : Type 0 where
-    pub as_long : length r.marks ≡ node_count net
-    pub within : k ≤ length r.queue
-    pub counted : length r.queue ≡ count_by (λ b. b) r.marks
-    pub queued : (i v : ℕ) → slice_get r.queue i ≡ Some v → is_marked r v ≡ true
-    pub pending : (v : ℕ) → is_marked r v ≡ true → Waits r.queue k v ⊎ HasRead r v (row_len net v)
-    pub inside : (v : ℕ) → is_marked r v ≡ true → Inside v
+  read-still : (r t : Front) → Grows r t → (w : ℕ) → HasRead r w → HasRead t w
+  read-still r t grows w read k h on = grows.marks (head net w k) (read k h on)
 
-  -- the same without the source's mark, which the start makes
+  -- each marked node is in every such set
+  abbrev pub SweepsOn : Front → ℕ → Type 0
+  SweepsOn r k = Sweeps (node_count net) (λ v. Inside v) (λ t w. HasRead t w) r k
+
+  abbrev pub GoesOn : ℕ → Front → Front → Type 0
+  GoesOn k r t = Goes (node_count net) (λ v. Inside v) (λ u w. HasRead u w) k r t
+
+  pub reach-on : (r : Front) (k v : ℕ) → SweepsOn r k → v < node_count net → Inside v → GoesOn k r (reach r v) × (is_marked (reach r v) v ≡ true)
+  reach-on r k v sweep below way = reach-goes (node_count net) (λ u. Inside u) (λ t w. HasRead t w) read-still r k v sweep below way
+
+  -- the same, with the source's mark, which the start makes
   pub record Swept (r : Front) (k : ℕ) : Type 0 where
-    pub sweeps : Sweeps r k
+    pub sweeps : SweepsOn r k
     pub source : is_marked r 0 ≡ true
 
-  sweeps-new : (r : Front) (k w : ℕ) → Sweeps r k → Inside w → w < node_count net → is_marked r w ≡ false → Sweeps (reach_new r w) k
-  sweeps-new r k w sweep way below fresh =
-      let h : w < length r.marks = omega (arith, sweep.as_long, below) in
-      record {
-        as_long = length-set r.marks w true ∙ sweep.as_long;
-        within = omega (arith, length_push r.queue w, sweep.within);
-        counted =
-            let counts = sum_by-set (λ (b : Bool). cond b 1 0) r.marks w true false h in
-            let before : cond {A = ℕ} (get_or r.marks w false) 1 0 ≡ zero = ap (λ (b : Bool). cond {A = ℕ} b 1 0) fresh in
-            let old : length r.queue ≡ count_by (λ b. b) r.marks = sweep.counted in
-            omega (arith, length_push r.queue w, counts, before, old);
-        queued = λ i v e. elim (slice_get_push r.queue w i v e) [
-          | inl before ↦ (new-grows r w h).marks v (sweep.queued i v before)
-          | inr last ↦ ap (is_marked (reach_new r w)) last.1 ∙ new-here r w h
-        ];
-        pending = λ v e. elim (new-cases r w h v e) [
-          | inl same ↦ inl (record {
-            place = length r.queue + 0;
-            from = omega (arith, sweep.within);
-            there = slice_get-append_right r.queue (w ∷ []) 0 ∙ ap (λ (m : ℕ). Some m) (sym same);
-          })
-          | inr before ↦ elim (sweep.pending v before) [
-            | inl waits ↦ inl (record { place = waits.place; from = waits.from; there = slice_get-append_left r.queue (w ∷ []) waits.place v waits.there })
-            | inr read ↦ inr (λ j l p. (new-grows r w h).marks (head net v j) (read j l p))
-          ]
-        ];
-        inside = λ v e. elim (new-cases r w h v e) [
-          | inl same ↦ subst Inside (sym same) way
-          | inr before ↦ sweep.inside v before
-        ];
-      }
-
-  -- what reaching keeps, and what it adds
-  pub record Goes (k : ℕ) (r t : Front) : Type 0 where
-    pub sweeps : Sweeps t k
-    pub grows : Grows r t
-
-  reach-goes : (r : Front) (k v : ℕ) → Sweeps r k → v < node_count net → Inside v → Goes k r (reach r v) × (is_marked (reach r v) v ≡ true)
-  reach-goes r k v sweep below way = elim (cases_Bool (is_marked r v)) [
-    | inl marked ↦ subst (λ (t : Front). Goes k r t × (is_marked t v ≡ true)) (sym (reach-marked r v marked)) (record { sweeps = sweep; grows = grows-self r }, marked)
-    | inr fresh ↦ (
-        let h : v < length r.marks = omega (arith, sweep.as_long, below) in
-        subst (λ (t : Front). Goes k r t × (is_marked t v ≡ true)) (sym (reach-new r v fresh))
-        (record { sweeps = sweeps-new r k v sweep way below fresh; grows = new-grows r v h }, new-here r v h))
-  ]
-
-  -- the node at place k has been read
-  sweeps-next : (r : Front) (k v : ℕ) → Sweeps r k → slice_get r.queue k ≡ Some v → HasRead r v (row_len net v) → Sweeps r (k + 1)
-  sweeps-next r k v sweep there reads = record {
-    as_long = sweep.as_long;
-    within = omega (arith, slice_get_within r.queue k v there);
-    counted = sweep.counted;
-    queued = sweep.queued;
-    pending = λ w e. elim (sweep.pending w e) [
-      | inl waits ↦ elim (cases_eq waits.place k) [
-        | inl same ↦ (
-            let here : v ≡ w = same_Some v w (sym there ∙ ap (slice_get r.queue) (sym same) ∙ waits.there) in
-            inr (subst (λ (u : ℕ). HasRead r u (row_len net u)) here reads))
-        | inr other ↦ inl (record { place = waits.place; from = omega (arith, waits.from); there = waits.there })
-      ]
-      | inr done ↦ inr done
-    ];
-    inside = sweep.inside;
-  }
-
-  abbrev pub no_front : Front
-  no_front = record { marks = replicate (node_count net) false; queue = [] }
-
-  no-marks : (v : ℕ) → is_marked no_front v ≡ true → ⊥
-  no-marks v e =
-      let less : v < node_count net = omega (arith, marked-within no_front v e, length-replicate (node_count net) false) in
-      let clash : false ≡ true = sym (get_or-replicate (node_count net) v false false less) ∙ e in
-      absurd (cc)
-
-  -- nothing is marked at the start
-  sweeps-none : Sweeps no_front 0
-  sweeps-none = record {
-    as_long = length-replicate (node_count net) false;
-    within = omega arith;
-    counted = sym (sum_by-replicate (λ (b : Bool). cond b 1 0) (node_count net) false ∙ omega arith);
-    queued = λ i v e. absurd (none-some v e);
-    pending = λ v e. absurd (no-marks v e);
-    inside = λ v e. absurd (no-marks v e);
-  }
-
-  pub sweeps-start : (r : Front) → 0 < node_count net → r ≡ reach no_front 0 → Swept r 0
+  pub sweeps-start : (r : Front) → 0 < node_count net → r ≡ reach (no_front (node_count net)) 0 → Swept r 0
   sweeps-start r some e =
-      let goes = reach-goes no_front 0 0 sweeps-none some (λ side on none. on) in
+      let goes = reach-on (no_front (node_count net)) 0 0 (sweeps-none (node_count net) (λ u. Inside u) (λ t w. HasRead t w)) some (λ side on none. on) in
       subst (λ (t : Front). Swept t 0) (sym e) (record { sweeps = goes.0.sweeps; source = goes.1 })
 
   -- no more nodes are marked than there are
-  pub sweeps-few : (r : Front) (k : ℕ) → Sweeps r k → length r.queue ≤ node_count net
-  sweeps-few r k sweep = omega (arith, sweep.counted, sweep.as_long, count_by-le-length (λ (b : Bool). b) r.marks)
-
-  waits-end : (queue : List ℕ) (k v : ℕ) → slice_get queue k ≡ None → Waits queue k v → k ≤ length queue → ⊥
-  waits-end queue k v last waits within = elim (cases_lt k (length queue)) [
-    | inl less ↦ (let there = element queue k less in none-some there.0 (sym last ∙ there.1))
-    | inr past ↦ omega (arith, slice_get_within queue waits.place v waits.there, waits.from)
-  ]
+  pub swept-few : (r : Front) (k : ℕ) → Swept r k → length r.queue ≤ node_count net
+  swept-few r k sweep = sweeps-few (node_count net) (λ u. Inside u) (λ t w. HasRead t w) r k sweep.sweeps
 
   module _ (ok : IsFlowNet net) where
-    row-goes : (r : Front) (p w k : ℕ) → Sweeps r p → w < node_count net → Inside w → k ≤ row_len net w
-        → Goes p r (read_open net used w k r) × HasRead (read_open net used w k r) w k
+    row-goes : (r : Front) (p w k : ℕ) → SweepsOn r p → w < node_count net → Inside w → k ≤ row_len net w
+        → GoesOn p r (read_open net used w k r) × HaveRead (read_open net used w k r) w k
     row-goes r p w zero sweep h way l =
-        subst (λ (t : Front). Goes p r t × HasRead t w 0) (sym (open-none net used w r)) (record { sweeps = sweep; grows = grows-self r }, (λ j less. absurd (omega (arith, less))))
+        subst (λ (t : Front). GoesOn p r t × HaveRead t w 0) (sym (open-none net used w r)) (record { sweeps = sweep; grows = grows-self r }, (λ j less. absurd (omega (arith, less))))
     row-goes r p w (suc k) sweep h way l =
         let before : Front = read_open net used w k r in
         let ih = row-goes r p w k sweep h way (omega (arith, l)) in
         let less : k < row_len net w = omega (arith, l) in
-        let P : Front → Type 0 = λ t. Goes p r t × HasRead t w (suc k) in
+        let P : Front → Type 0 = λ t. GoesOn p r t × HaveRead t w (suc k) in
         elim (cases_Bool (is_open net used w k)) [
           | inl on ↦ (
-              let one = reach-goes before p (head net w k) ih.0.sweeps (ok.heads_in w k h less) (λ side source none. none w k h less (way side source none) on) in
+              let one = reach-on before p (head net w k) ih.0.sweeps (ok.heads_in w k h less) (λ side source none. none w k h less (way side source none) on) in
               subst P (sym (open-on net used w k r on)) (
                 record { sweeps = one.0.sweeps; grows = grows-then r before (reach before (head net w k)) ih.0.grows one.0.grows },
                 (λ j b q. elim (cases_eq j k) [
@@ -223,7 +106,7 @@ module _ (net : FlowNet) (used : List Bool) where
         let h : w < node_count net = omega (arith, marked-within r w marked, sweep.sweeps.as_long) in
         let go = row-goes r k w (row_len net w) sweep.sweeps h (sweep.sweeps.inside w marked) (omega arith) in
         subst (λ (f : Front). Swept f (k + 1)) (sym e) (record {
-          sweeps = sweeps-next (read_open net used w (row_len net w) r) k w go.0.sweeps (go.0.grows.queue k w there) go.1;
+          sweeps = sweeps-next (node_count net) (λ u. Inside u) (λ t u. HasRead t u) (read_open net used w (row_len net w) r) k w go.0.sweeps (go.0.grows.queue k w there) go.1;
           source = go.0.grows.marks 0 sweep.source;
         })
 
@@ -231,10 +114,7 @@ module _ (net : FlowNet) (used : List Bool) where
   pub sweeps-end : (r : Front) (k : ℕ) → Swept r k → slice_get r.queue k ≡ None → IsOpenSide net used (is_marked r)
   sweeps-end r k sweep last = record {
     with_source = sweep.source;
-    none_open = λ x j h l on e. elim (sweep.sweeps.pending x on) [
-      | inl waits ↦ absurd (waits-end r.queue k x last waits sweep.sweeps.within)
-      | inr done ↦ done j l e
-    ];
+    none_open = λ x j h l on e. sweeps-read (node_count net) (λ u. Inside u) (λ t u. HasRead t u) r k sweep.sweeps last x on j l e;
     within = λ other source none v on. sweep.sweeps.inside v on other source none;
   }
 

@@ -1,10 +1,14 @@
--- How the nodes to which open arcs lead are marked, node after node.
-use Rattle.std.specs.Prelude.{ℕ, zero, suc, Bool, List, if◌then◌else◌}
-use Rattle.frame_net.specs.FlowNet.{FlowNet, head}
-use Rattle.cut_cert.specs.SinkWalk.{Front, reach}
-use Rattle.cut_cert.specs.Steps.{is_open}
+-- How nodes are marked that a walk reaches, node after node.
+use Rattle.std.specs.Prelude.{ℕ, ◌++◌, Bool, true, false, List, [], ◌∷◌, slice_set, slice_index_or, if◌then◌else◌}
 
--- the heads of the first open arcs from w, so many, are reached
-unfoldable pub read_open : FlowNet → List Bool → ℕ → ℕ → Front → Front
-read_open net used w zero r = r
-read_open net used w (suc k) r = if is_open net used w k then reach (read_open net used w k r) (head net w k) else read_open net used w k r
+-- a mark for each node, and the marked nodes in the order in which they were reached
+pub record Front : Type 0 where
+  pub marks : List Bool
+  pub queue : List ℕ
+
+abbrev pub is_marked : Front → ℕ → Bool
+is_marked r v = slice_index_or r.marks v false
+
+-- a node that isn't marked is marked and queued
+unfoldable pub reach : Front → ℕ → Front
+reach r v = if is_marked r v then r else record { marks = slice_set r.marks v true; queue = r.queue ++ v ∷ [] }

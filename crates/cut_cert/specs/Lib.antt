@@ -1,7 +1,8 @@
+pub mod Fronts
 pub mod SinkWalk
 pub mod Gates
 pub mod Shown
 pub mod Walks
 pub mod Cuts
 pub mod Steps
-pub mod Fronts
+pub mod OpenWalk

@@ -5,17 +5,18 @@ ghost use Rattle.aig_graph.specs.Border.{IsGreatestLeast};
 ghost use Rattle.frame_net.specs.FlowNet.{node_count};
 ghost use Rattle.frame_cuts.specs.Cuts.{IsNetworkOf};
 ghost use Rattle.pulse.specs.Conditions.{IsMaxPreflow};
-ghost use Rattle.cut_cert.specs.SinkWalk.{is_marked};
+ghost use Rattle.cut_cert.specs.Fronts.{is_marked};
 ghost use Rattle.cut_cert.specs.Gates.{gate_of, gates_below};
 
-use crate::sink_side::{SinkSide, sink_side};
+use crate::reached::Reached;
+use crate::sink_side::sink_side;
 use aig_graph::{ClosedSet, NoMemory};
 use frame_net::Net;
 use pulse::MaxPreflow;
 use std::alloc::Global;
 
 /// The gate with this node before it, where the node doesn't reach the sink.
-fn gate_of(net: &Net, side: &SinkSide, v: u32) -> Option<u32>
+fn gate_of(net: &Net, side: &Reached, v: u32) -> Option<u32>
     requires node { v < node_count net.now }
     requires long { length side.now.marks ≡ node_count net.now }
     ensures { result ≡ gate_of net.now (λ u. not (is_marked side.now u)) v }
@@ -30,7 +31,7 @@ fn gate_of(net: &Net, side: &SinkSide, v: u32) -> Option<u32>
 }
 
 /// The gates whose nodes before them don't reach the sink, in the order of the nodes.
-fn gates_of(alloc: Global, net: &Net, side: &SinkSide) -> Result<Vec<u32>, NoMemory>
+fn gates_of(alloc: Global, net: &Net, side: &Reached) -> Result<Vec<u32>, NoMemory>
     requires { length side.now.marks ≡ node_count net.now }
     ensures { IfOk result (λ gates. gates.items ≡ gates_below net.now
         (λ u. not (is_marked side.now u)) (node_count net.now)) }

@@ -21,6 +21,7 @@ mod greatest;
 mod least_set;
 mod lookup;
 mod nearest;
+mod reached;
 mod sink_side;
 mod source_side;
 mod trail;

@@ -1,6 +1,6 @@
 use Rattle.std.proofs.Common.{◌∙◌, ap, sym, Bool, not, Some}
 use Rattle.std.proofs.lemmas.Bool.{not-false, not-true}
-use Rattle.cut_cert.specs.SinkWalk.{is_marked}
+use Rattle.cut_cert.specs.Fronts.{is_marked}
 use Rattle.cut_cert.specs.Gates.{gate_after}
 use Rattle.cut_cert.proofs.GateLaws.{gate-in, gate-out}
 use Rattle.cut_cert.proofs.greatest.gate_of.Goals as goal

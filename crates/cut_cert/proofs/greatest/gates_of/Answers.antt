@@ -1,5 +1,5 @@
 use Rattle.std.proofs.Common.{◌∙◌, ap, sym, ℕ, Bool, not}
-use Rattle.cut_cert.specs.SinkWalk.{is_marked}
+use Rattle.cut_cert.specs.Fronts.{is_marked}
 use Rattle.cut_cert.proofs.GateLaws.{gates-none, step-take, step-skip}
 use Rattle.cut_cert.proofs.greatest.gates_of.Goals as goal
 use Rattle.cut_cert.proofs.greatest.gates_of.Goals.{in-Some+in_ok-push, in_default}

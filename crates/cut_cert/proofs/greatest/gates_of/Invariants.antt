@@ -1,5 +1,5 @@
 use Rattle.std.proofs.Common.{◌≡◌, not}
-use Rattle.cut_cert.specs.SinkWalk.{is_marked}
+use Rattle.cut_cert.specs.Fronts.{is_marked}
 use Rattle.cut_cert.specs.Gates.{gates_below}
 use Rattle.cut_cert.proofs.greatest.gates_of.Given as goal
 

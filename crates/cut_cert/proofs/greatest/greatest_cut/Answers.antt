@@ -1,7 +1,7 @@
 use Rattle.std.proofs.Common.{◌∙◌, sym, subst, ℕ, Bool, not, List}
 use Rattle.std.specs.List.Sorted.{IsStrictlyIncreasing}
 use Rattle.aig_graph.specs.Border.{IsGreatestLeast}
-use Rattle.cut_cert.specs.SinkWalk.{is_marked}
+use Rattle.cut_cert.specs.Fronts.{is_marked}
 use Rattle.cut_cert.proofs.GateLaws.{are-gates, greatest-set}
 use Rattle.cut_cert.proofs.greatest.greatest_cut.Goals as goal
 

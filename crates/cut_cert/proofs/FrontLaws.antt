@@ -1,0 +1,195 @@
+-- What a walk keeps that marks and queues nodes, whatever a marked node is and whatever its reading marks.
+use Rattle.std.proofs.Common.{ℕ, zero, ◌+◌, ◌<◌, ◌≤◌, ◌≡◌, ◌⊎◌, inl, inr, List, [], ◌∷◌, ◌++◌, length, replicate, Bool, true, false, cond, Some, None, slice_get, set, get_or, count_by, arith, ap, sym, ◌∙◌, subst}
+use Rattle.std.proofs.lemmas.Bool.{cases_Bool, cases_eq, cases_lt, cond-true, cond-false}
+use Rattle.std.proofs.lemmas.Option.{none-some, slice_get_within, same_Some}
+use Rattle.std.proofs.lemmas.List.{length-set, get_or-set_same, get_or-set_other, get_or_past, length_push, length-replicate, get_or-replicate}
+use Rattle.std.proofs.lemmas.List.Sums.{sum_by-set, count_by-le-length}
+use Rattle.std.proofs.lemmas.List.Folds.{sum_by-replicate}
+use Rattle.aig_graph.proofs.KindLaws.{element}
+use Rattle.variable_tables.proofs.PlacesLaws.{slice_get_push, slice_get-append_left, slice_get-append_right}
+use Rattle.cut_cert.specs.Fronts.{Front, is_marked, reach}
+
+-- ---- one more node
+
+abbrev pub reach_new : Front → ℕ → Front
+reach_new r v = record { marks = set r.marks v true; queue = r.queue ++ v ∷ [] }
+
+pub reach-marked : (r : Front) (v : ℕ) → is_marked r v ≡ true → reach r v ≡ r
+unfolding reach
+reach-marked r v e = cond-true (is_marked r v) r (reach_new r v) e
+
+pub reach-new : (r : Front) (v : ℕ) → is_marked r v ≡ false → reach r v ≡ reach_new r v
+unfolding reach
+reach-new r v e = cond-false (is_marked r v) r (reach_new r v) e
+
+-- the length of the marks stays
+pub reach-long : (r : Front) (v : ℕ) → length (reach r v).marks ≡ length r.marks
+reach-long r v = elim (cases_Bool (is_marked r v)) [
+  | inl marked ↦ ap (λ (s : Front). length s.marks) (reach-marked r v marked)
+  | inr fresh ↦ ap (λ (s : Front). length s.marks) (reach-new r v fresh) ∙ length-set r.marks v true
+]
+
+-- what was marked stays so, and what was queued
+pub record Grows (r s : Front) : Type 0 where
+  pub marks : (v : ℕ) → is_marked r v ≡ true → is_marked s v ≡ true
+  pub queue : (i v : ℕ) → slice_get r.queue i ≡ Some v → slice_get s.queue i ≡ Some v
+
+pub grows-then : (r s t : Front) → Grows r s → Grows s t → Grows r t
+grows-then r s t p q = record { marks = λ v e. q.marks v (p.marks v e); queue = λ i v e. q.queue i v (p.queue i v e) }
+
+pub grows-self : (r : Front) → Grows r r
+grows-self r = record { marks = λ v m. m; queue = λ i v m. m }
+
+pub marked-within : (r : Front) (v : ℕ) → is_marked r v ≡ true → v < length r.marks
+marked-within r v e = elim (cases_lt v (length r.marks)) [
+  | inl less ↦ less
+  | inr past ↦ (let clash : false ≡ true = sym (get_or_past r.marks v false past) ∙ e in absurd (cc))
+]
+
+module _ (r : Front) (w : ℕ) (within : w < length r.marks) where
+  new-here : is_marked (reach_new r w) w ≡ true
+  new-here = get_or-set_same r.marks w true false within
+
+  new-other : (v : ℕ) → (v ≡ w → ⊥) → is_marked (reach_new r w) v ≡ is_marked r v
+  new-other v other = get_or-set_other r.marks w v true false other
+
+  new-cases : (v : ℕ) → is_marked (reach_new r w) v ≡ true → (v ≡ w) ⊎ (is_marked r v ≡ true)
+  new-cases v e = elim (cases_eq v w) [
+    | inl same ↦ inl same
+    | inr other ↦ inr (sym (new-other v other) ∙ e)
+  ]
+
+  new-grows : Grows r (reach_new r w)
+  new-grows = record {
+    marks = λ v e. elim (cases_eq v w) [
+      | inl same ↦ ap (is_marked (reach_new r w)) same ∙ new-here
+      | inr other ↦ new-other v other ∙ e
+    ];
+    queue = λ i v e. slice_get-append_left r.queue (w ∷ []) i v e;
+  }
+
+-- ---- what the walk keeps
+
+-- nothing is reached of so many nodes
+abbrev pub no_front : ℕ → Front
+no_front n = record { marks = replicate n false; queue = [] }
+
+-- a node at place k of the queue, or after it
+pub record Waits (queue : List ℕ) (k v : ℕ) : Type 0 where
+  pub place : ℕ
+  pub from : k ≤ place
+  pub there : slice_get queue place ≡ Some v
+
+waits-end : (queue : List ℕ) (k v : ℕ) → slice_get queue k ≡ None → Waits queue k v → k ≤ length queue → ⊥
+waits-end queue k v last waits within = elim (cases_lt k (length queue)) [
+  | inl less ↦ (let there = element queue k less in none-some there.0 (sym last ∙ there.1))
+  | inr past ↦ omega (arith, slice_get_within queue waits.place v waits.there, waits.from)
+]
+
+no-marks : (n v : ℕ) → is_marked (no_front n) v ≡ true → ⊥
+no-marks n v e =
+    let less : v < n = omega (arith, marked-within (no_front n) v e, length-replicate n false) in
+    let clash : false ≡ true = sym (get_or-replicate n v false false less) ∙ e in
+    absurd (cc)
+
+-- a walk over n nodes: what holds of each marked node, and when a node is read
+module _ (n : ℕ) (Inside : ℕ → Type 0) (HasRead : Front → ℕ → Type 0) where
+  -- the queue has the marked nodes, once each; and those before place k are read
+  pub record Sweeps (r : Front) (k : ℕ) : Type 0 where
+    pub as_long : length r.marks ≡ n
+    pub within : k ≤ length r.queue
+    pub counted : length r.queue ≡ count_by (λ b. b) r.marks
+    pub queued : (i v : ℕ) → slice_get r.queue i ≡ Some v → is_marked r v ≡ true
+    pub pending : (v : ℕ) → is_marked r v ≡ true → Waits r.queue k v ⊎ HasRead r v
+    pub inside : (v : ℕ) → is_marked r v ≡ true → Inside v
+
+  -- what reaching keeps, and what it adds
+  pub record Goes (k : ℕ) (r t : Front) : Type 0 where
+    pub sweeps : Sweeps t k
+    pub grows : Grows r t
+
+  pub goes-self : (k : ℕ) (r : Front) → Sweeps r k → Goes k r r
+  goes-self k r sweep = record { sweeps = sweep; grows = grows-self r }
+
+  -- nothing is marked at the start
+  pub sweeps-none : Sweeps (no_front n) 0
+  sweeps-none = record {
+    as_long = length-replicate n false;
+    within = omega arith;
+    counted = sym (sum_by-replicate (λ (b : Bool). cond b 1 0) n false ∙ omega arith);
+    queued = λ i v e. absurd (none-some v e);
+    pending = λ v e. absurd (no-marks n v e);
+    inside = λ v e. absurd (no-marks n v e);
+  }
+
+  -- no more nodes are marked than there are
+  pub sweeps-few : (r : Front) (k : ℕ) → Sweeps r k → length r.queue ≤ n
+  sweeps-few r k sweep = omega (arith, sweep.counted, sweep.as_long, count_by-le-length (λ (b : Bool). b) r.marks)
+
+  -- the node at place k has been read
+  pub sweeps-next : (r : Front) (k v : ℕ) → Sweeps r k → slice_get r.queue k ≡ Some v → HasRead r v → Sweeps r (k + 1)
+  sweeps-next r k v sweep there reads = record {
+    as_long = sweep.as_long;
+    within = omega (arith, slice_get_within r.queue k v there);
+    counted = sweep.counted;
+    queued = sweep.queued;
+    pending = λ w e. elim (sweep.pending w e) [
+      | inl waits ↦ elim (cases_eq waits.place k) [
+        | inl same ↦ (
+            let here : v ≡ w = same_Some v w (sym there ∙ ap (slice_get r.queue) (sym same) ∙ waits.there) in
+            inr (subst (λ (u : ℕ). HasRead r u) here reads))
+        | inr other ↦ inl (record { place = waits.place; from = omega (arith, waits.from); there = waits.there })
+      ]
+      | inr done ↦ inr done
+    ];
+    inside = sweep.inside;
+  }
+
+  -- where the queue is at its end, each marked node is read
+  pub sweeps-read : (r : Front) (k : ℕ) → Sweeps r k → slice_get r.queue k ≡ None → (v : ℕ) → is_marked r v ≡ true → HasRead r v
+  sweeps-read r k sweep last v e = elim (sweep.pending v e) [
+    | inl waits ↦ absurd (waits-end r.queue k v last waits sweep.within)
+    | inr done ↦ done
+  ]
+
+  module _ (still : (r t : Front) → Grows r t → (v : ℕ) → HasRead r v → HasRead t v) where
+    sweeps-new : (r : Front) (k w : ℕ) → Sweeps r k → Inside w → w < n → is_marked r w ≡ false → Sweeps (reach_new r w) k
+    sweeps-new r k w sweep way below fresh =
+        let h : w < length r.marks = omega (arith, sweep.as_long, below) in
+        record {
+          as_long = length-set r.marks w true ∙ sweep.as_long;
+          within = omega (arith, length_push r.queue w, sweep.within);
+          counted =
+              let counts = sum_by-set (λ (b : Bool). cond b 1 0) r.marks w true false h in
+              let before : cond {A = ℕ} (get_or r.marks w false) 1 0 ≡ zero = ap (λ (b : Bool). cond {A = ℕ} b 1 0) fresh in
+              let old : length r.queue ≡ count_by (λ b. b) r.marks = sweep.counted in
+              omega (arith, length_push r.queue w, counts, before, old);
+          queued = λ i v e. elim (slice_get_push r.queue w i v e) [
+            | inl before ↦ (new-grows r w h).marks v (sweep.queued i v before)
+            | inr last ↦ ap (is_marked (reach_new r w)) last.1 ∙ new-here r w h
+          ];
+          pending = λ v e. elim (new-cases r w h v e) [
+            | inl same ↦ inl (record {
+              place = length r.queue + 0;
+              from = omega (arith, sweep.within);
+              there = slice_get-append_right r.queue (w ∷ []) 0 ∙ ap (λ (m : ℕ). Some m) (sym same);
+            })
+            | inr before ↦ elim (sweep.pending v before) [
+              | inl waits ↦ inl (record { place = waits.place; from = waits.from; there = slice_get-append_left r.queue (w ∷ []) waits.place v waits.there })
+              | inr read ↦ inr (still r (reach_new r w) (new-grows r w h) v read)
+            ]
+          ];
+          inside = λ v e. elim (new-cases r w h v e) [
+            | inl same ↦ subst (λ (u : ℕ). Inside u) (sym same) way
+            | inr before ↦ sweep.inside v before
+          ];
+        }
+
+    pub reach-goes : (r : Front) (k v : ℕ) → Sweeps r k → v < n → Inside v → Goes k r (reach r v) × (is_marked (reach r v) v ≡ true)
+    reach-goes r k v sweep below way = elim (cases_Bool (is_marked r v)) [
+      | inl marked ↦ subst (λ (t : Front). Goes k r t × (is_marked t v ≡ true)) (sym (reach-marked r v marked)) (goes-self k r sweep, marked)
+      | inr fresh ↦ (
+          let h : v < length r.marks = omega (arith, sweep.as_long, below) in
+          subst (λ (t : Front). Goes k r t × (is_marked t v ≡ true)) (sym (reach-new r v fresh))
+          (record { sweeps = sweeps-new r k v sweep way below fresh; grows = new-grows r v h }, new-here r v h))
+    ]

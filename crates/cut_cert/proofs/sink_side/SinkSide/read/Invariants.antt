@@ -1,6 +1,0 @@
-use Rattle.std.proofs.Common.{◌≡◌}
-use Rattle.cut_cert.specs.SinkWalk.{read_arcs}
-use Rattle.cut_cert.proofs.sink_side.SinkSide.read.Given as goal
-
-abbrev pub invariant-loop-k : goal.invariant-loop-k
-invariant-loop-k l = l.self ≡ read_arcs l.net l.preflow.flow.cells.residuals l.w l.k l.fn.self

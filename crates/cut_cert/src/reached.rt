@@ -1,0 +1,73 @@
+//! What a walk over a network's arcs has reached. The queue is never taken from: a place in it walks from its front to its end,
+//! and at the end it lists all marked nodes.
+ghost use Rattle.std.specs.Prelude.{◌≡◌, ◌<◌, IfOk, OnOk, [], false, length, replicate, slice_get};
+ghost use Rattle.cut_cert.specs.Fronts.{is_marked, reach};
+
+use aig_graph::NoMemory;
+use std::alloc::Global;
+use std::marker::Model;
+
+/// A mark for each node, and the marked nodes in the order in which they were reached. A node enters the queue once, so a walk
+/// that looks once at the arcs of each queued node is linear.
+#[derive(Drop)]
+pub(crate) struct Reached {
+    marks: Vec<bool>,
+    queue: Vec<u32>,
+}
+
+impl Model for Reached {
+    ghost use Rattle.cut_cert.specs.Fronts.{Front};
+
+    ghost Value = { Front };
+
+    ghost view = { λ r. record { marks = r.marks.items; queue = r.queue.items } };
+}
+
+impl Reached {
+    /// None of so many nodes.
+    pub(crate) fn none(alloc: Global, nodes: u32) -> Result<Reached, NoMemory>
+        ensures { IfOk result (λ r. r ≡ record { marks = replicate nodes false; queue = [] }) }
+    {
+        let marks = vec![in alloc; false; nodes as usize]?;
+        let queue = Vec::new(alloc);
+        Ok(Reached { marks, queue })
+    }
+
+    /// Marks and queues a node that isn't marked.
+    pub(crate) fn reach(&mut self, node: u32) -> Result<(), NoMemory>
+        requires { node < length self.old.marks }
+        ensures { OnOk result (self.new ≡ reach self.old node) }
+    {
+        if !self.marks[node as usize] {
+            self.queue.push(node)?;
+            self.marks[node as usize] = true;
+        }
+        Ok(())
+    }
+
+    /// The node at a place of the queue.
+    pub(crate) fn queued(&self, place: usize) -> Option<u32>
+        ensures { result ≡ slice_get self.now.queue place }
+    {
+        self.queue.get(place).copied()
+    }
+
+    /// Whether a node is reached.
+    pub(crate) fn has(&self, node: u32) -> bool
+        requires { node < length self.now.marks }
+        ensures { result ≡ is_marked self.now node }
+    {
+        self.marks[node as usize]
+    }
+
+    /// The marks of all nodes.
+    pub(crate) fn into_marks(self) -> Vec<bool>
+        ensures { result.items ≡ self.marks }
+    {
+        let Reached {
+            marks,
+            queue: _queue,
+        } = self;
+        marks
+    }
+}
