@@ -14,7 +14,8 @@ use std::alloc::Global;
 pub(crate) fn resolve(alloc: Global, sections: Sections) -> Result<Circuit, ReadError>
     ensures { (symbols : List RawSymbol) → IsAt sections symbols
         → reading.is_complete sections.header (raw_of sections symbols) ≡ true
-        → Gives (λ circuit. circuit) result (reading.resolve sections.header (raw_of sections symbols)) }
+        → Gives (λ circuit. circuit) result
+        (reading.resolve sections.header (raw_of sections symbols)) }
 {
     let Sections {
         header,

@@ -99,7 +99,8 @@ impl Items {
     fn take_line(&mut self) -> Result<(), ReadError>
         ensures { (state : reading.State) (line : List ℕ)
             → StandAt self.old.sections self.old.line self.old.at state line
-            → Leads (λ next. StandAt self.new.sections self.new.line (self.old.at + length line + 1) next []) result
+            → Leads (λ next. StandAt self.new.sections self.new.line
+            (self.old.at + length line + 1) next []) result
             (reading.take_line state line) }
     {
         match mem::replace(&mut self.line, OpenLine::Comment) {
@@ -111,9 +112,12 @@ impl Items {
 
     fn take_numbers(&mut self, line: NumberLine) -> Result<(), ReadError>
         ensures { (symbols : List RawSymbol) (bytes : List ℕ) → IsAt self.old.sections symbols
-            → reading.is_complete self.old.sections.header (raw_of self.old.sections symbols) ≡ false → numbers_with line [] ≡ row_of bytes
-            → Leads (λ next. StandAt self.new.sections self.new.line (self.old.at + length bytes + 1) next []) result
-            (reading.take_line (reading.InItems self.old.sections.header (raw_of self.old.sections symbols) self.old.at) bytes) }
+            → reading.is_complete self.old.sections.header (raw_of self.old.sections symbols)
+            ≡ false → numbers_with line [] ≡ row_of bytes
+            → Leads (λ next. StandAt self.new.sections self.new.line
+            (self.old.at + length bytes + 1) next []) result
+            (reading.take_line (reading.InItems self.old.sections.header
+            (raw_of self.old.sections symbols) self.old.at) bytes) }
     {
         let mut line = line;
         self.sections.take_numbers(self.at, line.numbers())?;
@@ -123,9 +127,12 @@ impl Items {
 
     fn take_symbol(&mut self, line: SymbolLine) -> Result<(), ReadError>
         ensures { (symbols : List RawSymbol) (bytes : List ℕ) → IsAt self.old.sections symbols
-            → reading.is_complete self.old.sections.header (raw_of self.old.sections symbols) ≡ true → text_with line [] ≡ text_of bytes
-            → Leads (λ next. StandAt self.new.sections self.new.line (self.old.at + length bytes + 1) next []) result
-            (reading.take_line (reading.InItems self.old.sections.header (raw_of self.old.sections symbols) self.old.at) bytes) }
+            → reading.is_complete self.old.sections.header (raw_of self.old.sections symbols) ≡ true
+            → text_with line [] ≡ text_of bytes
+            → Leads (λ next. StandAt self.new.sections self.new.line
+            (self.old.at + length bytes + 1) next []) result
+            (reading.take_line (reading.InItems self.old.sections.header
+            (raw_of self.old.sections symbols) self.old.at) bytes) }
     {
         match line.text() {
             SymbolText::Comment => self.line = OpenLine::Comment,
@@ -142,7 +149,8 @@ impl Items {
 pub(crate) fn close(alloc: Global, sections: Sections, end: u64) -> Result<Circuit, ReadError>
     ensures { (symbols : List RawSymbol) (in_comment : Bool) (at : ℕ) → IsAt sections symbols
         → (in_comment ≡ true → reading.is_complete sections.header (raw_of sections symbols) ≡ true)
-        → Gives (λ circuit. circuit) result (reading.finish end (state_of sections symbols in_comment at)) }
+        → Gives (λ circuit. circuit) result
+        (reading.finish end (state_of sections symbols in_comment at)) }
 {
     match sections.section() {
         Section::Symbols => resolve(alloc, sections),

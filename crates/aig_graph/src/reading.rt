@@ -44,7 +44,8 @@ fn mark_gate(read: &mut [bool], first: u32, inside: bool, gate: Gate)
 fn mark_gates(read: &mut [bool], first: u32, inside: &[bool], first_gate: u32, gates: &[Gate])
     requires { first_gate + length gates.now ≤ MAX_VARIABLES }
     ensures { Marks first read.old read.new
-        (λ v. list_any (λ e. not (mark_at first inside.now e.0) && is_fan_in v e.1) (enumerate_from first_gate gates.now)) }
+        (λ v. list_any (λ e. not (mark_at first inside.now e.0)
+        && is_fan_in v e.1) (enumerate_from first_gate gates.now)) }
 {
     for (k, gate) in gates.iter().enumerate() {
         mark_gate(

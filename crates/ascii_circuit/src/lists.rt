@@ -48,7 +48,8 @@ impl RawLists {
         ensures { IsTrue result ↔ ((length self.now.properties.safety
             ≡ safety_count self.now.header)
             × (length self.now.properties.sizes ≡ self.now.header.justice)
-            × (length self.now.properties.liveness ≡ sum self.now.properties.sizes + self.now.header.fairness)) }
+            × (length self.now.properties.liveness ≡ sum self.now.properties.sizes
+            + self.now.header.fairness)) }
     {
         let header = &self.header;
         let safety = header.outputs + header.bad + header.constraints;
@@ -65,7 +66,8 @@ impl RawLists {
         ensures { Gives (λ p. p) result (placed_lists self.now.places
             (length self.now.inputs.items + length self.now.latches.items + length
             self.now.gates.items)
-            self.now.latches.items self.now.properties.safety self.now.properties.liveness self.now.gates.items) }
+            self.now.latches.items self.now.properties.safety self.now.properties.liveness
+            self.now.gates.items) }
     {
         let count = self.inputs.len() + self.latches.len() + self.gates.len();
         place_all(

@@ -115,7 +115,8 @@ impl Sections {
         ensures { (symbols : List RawSymbol) (line : List ℕ) → IsAt self.old symbols
             → reading.is_complete self.old.header (raw_of self.old symbols) ≡ false
             → MatchOption numbers.entry (row_of line ≡ None) (λ ns. row_of line ≡ Some ns.now)
-            → Takes self.old self.new result (reading.read_line self.old.header (raw_of self.old symbols) at line) }
+            → Takes self.old self.new result
+            (reading.read_line self.old.header (raw_of self.old symbols) at line) }
     {
         let Some(numbers) = numbers else {
             return Err(ReadError::BadLine(at));
@@ -141,7 +142,8 @@ impl Sections {
         ensures { (symbols : List RawSymbol) (line : List ℕ) → IsAt self.old symbols
             → reading.is_complete self.old.header (raw_of self.old symbols) ≡ true
             → begins_comment line ≡ false → text ≡ text_of line
-            → Takes self.old self.new result (reading.read_line self.old.header (raw_of self.old symbols) at line) }
+            → Takes self.old self.new result
+            (reading.read_line self.old.header (raw_of self.old symbols) at line) }
     {
         match text {
             SymbolText::NoSymbol => Err(ReadError::Trailing(at)),
@@ -154,7 +156,9 @@ impl Sections {
     fn take_input(&mut self, at: u64, numbers: &[u32]) -> Result<(), ReadError>
         requires { reading.next_section self.old.header (raw_of self.old []) ≡ Inputs }
         ensures { (symbols : List RawSymbol) → IsAt self.old symbols
-            → Takes self.old self.new result (reading.take_item self.old.header (raw_of self.old symbols) at (BadLine at) (item_in Inputs numbers.now)) }
+            → Takes self.old self.new result
+            (reading.take_item self.old.header (raw_of self.old symbols) at (BadLine at)
+            (item_in Inputs numbers.now)) }
     {
         let Some(lit) = only(numbers) else {
             return Err(ReadError::BadLine(at));
@@ -168,7 +172,9 @@ impl Sections {
     fn take_latch(&mut self, at: u64, numbers: &[u32]) -> Result<(), ReadError>
         requires { reading.next_section self.old.header (raw_of self.old []) ≡ Latches }
         ensures { (symbols : List RawSymbol) → IsAt self.old symbols
-            → Takes self.old self.new result (reading.take_item self.old.header (raw_of self.old symbols) at (BadLine at) (item_in Latches numbers.now)) }
+            → Takes self.old self.new result
+            (reading.take_item self.old.header (raw_of self.old symbols) at (BadLine at)
+            (item_in Latches numbers.now)) }
     {
         let Some(latch) = latch_of(numbers) else {
             return Err(ReadError::BadLine(at));
@@ -185,7 +191,9 @@ impl Sections {
     fn take_safety(&mut self, at: u64, numbers: &[u32]) -> Result<(), ReadError>
         requires { reading.next_section self.old.header (raw_of self.old []) ≡ Safety }
         ensures { (symbols : List RawSymbol) → IsAt self.old symbols
-            → Takes self.old self.new result (reading.take_item self.old.header (raw_of self.old symbols) at (BadLine at) (item_in Safety numbers.now)) }
+            → Takes self.old self.new result
+            (reading.take_item self.old.header (raw_of self.old symbols) at (BadLine at)
+            (item_in Safety numbers.now)) }
     {
         let Some(lit) = only(numbers) else {
             return Err(ReadError::BadLine(at));
@@ -202,7 +210,9 @@ impl Sections {
     fn take_size(&mut self, at: u64, numbers: &[u32]) -> Result<(), ReadError>
         requires { reading.next_section self.old.header (raw_of self.old []) ≡ Sizes }
         ensures { (symbols : List RawSymbol) → IsAt self.old symbols
-            → Takes self.old self.new result (reading.take_item self.old.header (raw_of self.old symbols) at (BadLine at) (item_in Sizes numbers.now)) }
+            → Takes self.old self.new result
+            (reading.take_item self.old.header (raw_of self.old symbols) at (BadLine at)
+            (item_in Sizes numbers.now)) }
     {
         let Some(size) = only(numbers) else {
             return Err(ReadError::BadLine(at));
@@ -219,7 +229,9 @@ impl Sections {
     fn take_liveness(&mut self, at: u64, numbers: &[u32]) -> Result<(), ReadError>
         requires { reading.next_section self.old.header (raw_of self.old []) ≡ Liveness }
         ensures { (symbols : List RawSymbol) → IsAt self.old symbols
-            → Takes self.old self.new result (reading.take_item self.old.header (raw_of self.old symbols) at (BadLine at) (item_in Liveness numbers.now)) }
+            → Takes self.old self.new result
+            (reading.take_item self.old.header (raw_of self.old symbols) at (BadLine at)
+            (item_in Liveness numbers.now)) }
     {
         let Some(lit) = only(numbers) else {
             return Err(ReadError::BadLine(at));
@@ -236,7 +248,9 @@ impl Sections {
     fn take_gate(&mut self, at: u64, numbers: &[u32]) -> Result<(), ReadError>
         requires { reading.next_section self.old.header (raw_of self.old []) ≡ Gates }
         ensures { (symbols : List RawSymbol) → IsAt self.old symbols
-            → Takes self.old self.new result (reading.take_item self.old.header (raw_of self.old symbols) at (BadLine at) (item_in Gates numbers.now)) }
+            → Takes self.old self.new result
+            (reading.take_item self.old.header (raw_of self.old symbols) at (BadLine at)
+            (item_in Gates numbers.now)) }
     {
         let Some(gate) = gate_of(numbers) else {
             return Err(ReadError::BadLine(at));
@@ -256,7 +270,9 @@ impl Sections {
     ) -> Result<(), ReadError>
         ensures { (symbols : List RawSymbol) → IsAt self.old symbols
             → reading.next_section self.old.header (raw_of self.old symbols) ≡ Symbols
-            → Takes self.old self.new result (reading.take_item self.old.header (raw_of self.old symbols) at (BadSymbol at) (Some (SymbolItem (symbol_at kind position name)))) }
+            → Takes self.old self.new result
+            (reading.take_item self.old.header (raw_of self.old symbols) at (BadSymbol at)
+            (Some (SymbolItem (symbol_at kind position name)))) }
     {
         if position >= self.header.count_of(kind) {
             return Err(ReadError::BadSymbol(at));
@@ -271,7 +287,9 @@ impl Sections {
     /// The checks of a line that defines the literal and reads the others.
     fn check_definition(&self, at: u64, lit: u32, others: &[u32]) -> Result<(), ReadError>
         ensures checks { (symbols : List RawSymbol) → IsAt self.now symbols
-            → result ≡ reading.unless (reading.definition_checks self.now.header (raw_of self.now symbols) at lit others.now) (Ok (tt {0})) }
+            → result ≡ reading.unless
+            (reading.definition_checks self.now.header (raw_of self.now symbols) at lit others.now)
+            (Ok (tt {0})) }
         ensures absent { OnOk result (place_of self.now.places (variable lit) ≡ None) }
     {
         if is_past(self.greatest_literal(), lit, others) {
@@ -291,7 +309,8 @@ impl Sections {
         requires { place_of self.old.places variable ≡ None }
         ensures same { self.new ≡ record self.old { places = self.new.places } }
         ensures places { (symbols : List RawSymbol) → IsAt self.old symbols
-            → OnOk result (ArePlacesOf self.new.places (defined (raw_of self.old symbols) ++ variable ∷ [])) }
+            → OnOk result (ArePlacesOf self.new.places
+            (defined (raw_of self.old symbols) ++ variable ∷ [])) }
     {
         let place = self.inputs.len() + self.latches.len() + self.gates.len();
         self.places.insert(variable, place as u32)

@@ -17,7 +17,8 @@ pub(crate) fn take_delta<'a>(
     requires { 0 < length piece.now }
     ensures taken { (at : ℕ) (state : List ℕ → State) (end_delta : List ℕ → Result State ReadError)
         → AreDeltaStates at state end_delta
-        → IfOk result (λ taken. IsTaken state end_delta reader.old reader.new piece.now taken.0 taken.1.now) }
+        → IfOk result (λ taken. IsTaken state end_delta reader.old reader.new piece.now taken.0
+        taken.1.now) }
     ensures too_long { (at : ℕ) (state : List ℕ → State) (end_delta : List ℕ
         → Result State ReadError) → AreDeltaStates at state end_delta
         → OnErr result (feed (state reader.old) piece.now ≡ Err (BadDelta at)) }
@@ -39,7 +40,8 @@ fn take_new<'a>(
     requires new { reader.old ≡ [] }
     ensures taken { (at : ℕ) (state : List ℕ → State) (end_delta : List ℕ → Result State ReadError)
         → AreDeltaStates at state end_delta
-        → IfOk result (λ taken. IsTaken state end_delta reader.old reader.new piece.now taken.0 taken.1.now) }
+        → IfOk result (λ taken. IsTaken state end_delta reader.old reader.new piece.now taken.0
+        taken.1.now) }
     ensures too_long { (at : ℕ) (state : List ℕ → State) (end_delta : List ℕ
         → Result State ReadError) → AreDeltaStates at state end_delta
         → OnErr result (feed (state reader.old) piece.now ≡ Err (BadDelta at)) }
@@ -59,7 +61,8 @@ fn take_byte<'a>(
     requires { 0 < length piece.now }
     ensures taken { (at : ℕ) (state : List ℕ → State) (end_delta : List ℕ → Result State ReadError)
         → AreDeltaStates at state end_delta
-        → IfOk result (λ taken. IsTaken state end_delta reader.old reader.new piece.now taken.0 taken.1.now) }
+        → IfOk result (λ taken. IsTaken state end_delta reader.old reader.new piece.now taken.0
+        taken.1.now) }
     ensures too_long { (at : ℕ) (state : List ℕ → State) (end_delta : List ℕ
         → Result State ReadError) → AreDeltaStates at state end_delta
         → OnErr result (feed (state reader.old) piece.now ≡ Err (BadDelta at)) }

@@ -50,7 +50,8 @@ impl Sections {
     fn push_gate(&mut self, at: u64, rhs0: u32, rhs1: u32) -> Result<(), ReadError>
         requires { rhs1 ≤ rhs0 }
         ensures { section_of self.old ≡ Gates → rhs0 < gate_literal self.old
-            → Gives (λ _. self.new) result (Ok (with_gate self.old (record { rhs0 = rhs0; rhs1 = rhs1 }))) }
+            → Gives (λ _. self.new) result
+            (Ok (with_gate self.old (record { rhs0 = rhs0; rhs1 = rhs1 }))) }
     {
         let is_missing = self.gates.len() < self.header.gates as usize;
         if !is_missing || rhs0 >= self.gate_literal() {

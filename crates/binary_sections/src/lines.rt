@@ -33,7 +33,8 @@ impl Sections {
     pub fn take_numbers(&mut self, at: u64, numbers: Option<&[u32]>) -> Result<(), ReadError>
         ensures { (h : Header) (raw : Raw) (line : List ℕ) → IsAt self.old h raw
             → is_symbols (next_section h raw) ≡ false
-            → MatchOption numbers.entry (row_of line ≡ None) (λ ns. row_of line ≡ Some ns.now) → Takes h self.new result (read_line h raw at line) }
+            → MatchOption numbers.entry (row_of line ≡ None) (λ ns. row_of line ≡ Some ns.now)
+            → Takes h self.new result (read_line h raw at line) }
     {
         let _ = &self.header;
         let Some(numbers) = numbers else {

@@ -29,7 +29,8 @@ impl Sections {
     pub fn take_symbol(&mut self, at: u64, text: SymbolText) -> Result<(), ReadError>
         ensures { (h : Header) (raw : Raw) (line : List ℕ) → IsAt self.old h raw
             → next_section h raw ≡ Symbols
-            → begins_comment line ≡ false → text ≡ text_of line → Takes h self.new result (read_line h raw at line) }
+            → begins_comment line ≡ false → text ≡ text_of line
+            → Takes h self.new result (read_line h raw at line) }
     {
         let _ = &self.header;
         match text {
@@ -48,7 +49,8 @@ impl Sections {
         name: Sequence<u8>,
     ) -> Result<(), ReadError>
         ensures { (symbols : List RawSymbol) → self.old.names ≡ symbols_of symbols
-            → Gives (λ _. self.new) result (symbol_taken self.old symbols at (symbol_at kind position name)) }
+            → Gives (λ _. self.new) result
+            (symbol_taken self.old symbols at (symbol_at kind position name)) }
     {
         if position >= self.header.count_of(kind) {
             return Err(ReadError::BadSymbol(at));

@@ -50,7 +50,8 @@ pub(crate) fn end_at(
     requires { NoneMissing (names_of names.now) circuit.now }
     ensures { IfOk result (λ found. MatchOption found
         (GoesOn (names_of names.now) circuit.now block.now rest.now)
-        (λ audit. Audits (names_of names.now) circuit.now (block.now ∷ rest.now) audit.confirmed audit.end)) }
+        (λ audit. Audits (names_of names.now) circuit.now
+        (block.now ∷ rest.now) audit.confirmed audit.end)) }
 {
     let (confirmed, end) = match judge(alloc, circuit, block, names)? {
         Finding::Objected(objection) => (0, End::Objected(objection)),

@@ -21,7 +21,8 @@ fn next_gate(lines: &mut Lines<'_>) -> Result<u32, CertError>
     ensures end { lines.new.end ≡ lines.old.end }
     ensures shorter { length lines.new.rest.now ≤ length lines.old.rest.now }
     ensures reads { (blocks : List Block) (block : Block) (gates routes : ℕ)
-        → Leads (λ v. read_rest lines.new.end lines.new.rest.now (settled blocks (with_gate block v) gates routes)) result
+        → Leads (λ v. read_rest lines.new.end lines.new.rest.now
+        (settled blocks (with_gate block v) gates routes)) result
         (read_rest lines.old.end lines.old.rest.now (settled blocks block (suc gates) routes)) }
 {
     let line = lines.next_line()?;
@@ -33,7 +34,8 @@ fn next_route(alloc: Global, lines: &mut Lines<'_>) -> Result<Sequence<Point>, C
     ensures end { lines.new.end ≡ lines.old.end }
     ensures shorter { length lines.new.rest.now ≤ length lines.old.rest.now }
     ensures reads { (blocks : List Block) (block : Block) (routes : ℕ)
-        → Leads (λ points. read_rest lines.new.end lines.new.rest.now (settled blocks (with_route block points) 0 routes)) result
+        → Leads (λ points. read_rest lines.new.end lines.new.rest.now
+        (settled blocks (with_route block points) 0 routes)) result
         (read_rest lines.old.end lines.old.rest.now (settled blocks block 0 (suc routes))) }
 {
     let line = lines.next_line()?;
@@ -45,7 +47,8 @@ fn next_frame(lines: &mut Lines<'_>) -> Result<FrameLine, CertError>
     ensures end { lines.new.end ≡ lines.old.end }
     ensures shorter { OnOk result (length lines.new.rest.now < length lines.old.rest.now) }
     ensures reads { (blocks : List Block) → 0 < length lines.old.rest.now
-        → Leads (λ frame. read_rest lines.new.end lines.new.rest.now (settled blocks (block_of frame.count [] []) frame.gates frame.routes)) result
+        → Leads (λ frame. read_rest lines.new.end lines.new.rest.now
+        (settled blocks (block_of frame.count [] []) frame.gates frame.routes)) result
         (read_rest lines.old.end lines.old.rest.now (closed blocks)) }
 {
     let line = lines.next_line()?;
@@ -57,8 +60,10 @@ fn read_gates(alloc: Global, lines: &mut Lines<'_>, count: u32) -> Result<Sequen
     ensures end { lines.new.end ≡ lines.old.end }
     ensures shorter { length lines.new.rest.now ≤ length lines.old.rest.now }
     ensures reads { (blocks : List Block) (stated routes : ℕ)
-        → Leads (λ gates. read_rest lines.new.end lines.new.rest.now (settled blocks (block_of stated gates []) 0 routes)) result
-        (read_rest lines.old.end lines.old.rest.now (settled blocks (block_of stated [] []) count routes)) }
+        → Leads (λ gates. read_rest lines.new.end lines.new.rest.now
+        (settled blocks (block_of stated gates []) 0 routes)) result
+        (read_rest lines.old.end lines.old.rest.now
+        (settled blocks (block_of stated [] []) count routes)) }
 {
     let mut gates = Vec::new(alloc);
     for _ in 0..count {
@@ -77,8 +82,10 @@ fn read_routes(
     ensures end { lines.new.end ≡ lines.old.end }
     ensures shorter { length lines.new.rest.now ≤ length lines.old.rest.now }
     ensures reads { (blocks : List Block) (stated : ℕ) (gates : List ℕ)
-        → Leads (λ routes. read_rest lines.new.end lines.new.rest.now (closed (blocks ++ block_of stated gates routes ∷ []))) result
-        (read_rest lines.old.end lines.old.rest.now (settled blocks (block_of stated gates []) 0 count)) }
+        → Leads (λ routes. read_rest lines.new.end lines.new.rest.now
+        (closed (blocks ++ block_of stated gates routes ∷ []))) result
+        (read_rest lines.old.end lines.old.rest.now
+        (settled blocks (block_of stated gates []) 0 count)) }
 {
     let mut routes = Vec::new(alloc);
     for _ in 0..count {
@@ -93,7 +100,8 @@ fn next_block(alloc: Global, lines: &mut Lines<'_>) -> Result<Certificate, CertE
     ensures end { lines.new.end ≡ lines.old.end }
     ensures shorter { OnOk result (length lines.new.rest.now < length lines.old.rest.now) }
     ensures reads { (blocks : List Block) → 0 < length lines.old.rest.now
-        → Leads (λ block. read_rest lines.new.end lines.new.rest.now (closed (blocks ++ block ∷ []))) result
+        → Leads (λ block. read_rest lines.new.end lines.new.rest.now
+        (closed (blocks ++ block ∷ []))) result
         (read_rest lines.old.end lines.old.rest.now (closed blocks)) }
 {
     let frame = next_frame(lines)?;

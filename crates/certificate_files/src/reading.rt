@@ -34,7 +34,8 @@ fn choice(text: &[u8]) -> Option<Choice>
 fn second_line(lines: &mut Lines<'_>) -> Result<Choice, CertError>
     ensures { (at : ℕ) → (lines.old.rest.now ≡ []) ⊎
         (at ≡ lines.old.end - length lines.old.rest.now)
-        → Leads (λ choice. with_choice choice (read_rest lines.new.end lines.new.rest.now nothing_read)) result
+        → Leads (λ choice. with_choice choice
+        (read_rest lines.new.end lines.new.rest.now nothing_read)) result
         (read_second at lines.old.end (format.lines lines.old.rest.now)) }
 {
     let line = lines.next_line()?;
@@ -47,7 +48,8 @@ fn second_line(lines: &mut Lines<'_>) -> Result<Choice, CertError>
 /// Takes the lines before the blocks.
 fn first_lines(lines: &mut Lines<'_>) -> Result<Choice, CertError>
     ensures { length lines.old.rest.now ≡ lines.old.end
-        → Leads (λ choice. with_choice choice (read_rest lines.new.end lines.new.rest.now nothing_read)) result
+        → Leads (λ choice. with_choice choice
+        (read_rest lines.new.end lines.new.rest.now nothing_read)) result
         (read_file lines.old.end (format.lines lines.old.rest.now)) }
 {
     let Ok(first) = lines.next_line() else {

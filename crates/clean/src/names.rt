@@ -16,7 +16,8 @@ fn latch_names(
     requires { All (λ name. name.position < length trim.now.aig.now.latches) names.now }
     ensures { IfOk result (λ copies. copies ≡
         map (new_name trim.now.aig.now (is_marked trim.now.reached.now))
-        (filter (λ name. is_marked trim.now.reached.now (first_latch trim.now.aig.now + name.position)) names.now)) }
+        (filter (λ name. is_marked trim.now.reached.now
+        (first_latch trim.now.aig.now + name.position)) names.now)) }
 {
     let mut copies = Vec::new(alloc);
     for name in names.as_slice() {

@@ -88,7 +88,8 @@ impl<'a> Trim<'a> {
     fn latches(&self, alloc: Global) -> Result<Vec<Latch>, NoMemory>
         ensures { IfOk result (λ latches. latches.items ≡
             map (renumbered_latch self.now.aig.now (is_marked self.now.reached.now))
-            (picked (stays self.now.aig.now (is_marked self.now.reached.now)) (first_latch self.now.aig.now) self.now.aig.now.latches)) }
+            (picked (stays self.now.aig.now (is_marked self.now.reached.now))
+            (first_latch self.now.aig.now) self.now.aig.now.latches)) }
     {
         let mut latches = Vec::new(alloc);
         for (place, latch) in self.aig.latches().iter().enumerate() {
@@ -103,7 +104,8 @@ impl<'a> Trim<'a> {
     fn gates(&self, alloc: Global) -> Result<Vec<Gate>, NoMemory>
         ensures { IfOk result (λ gates. gates.items ≡
             map (renumbered_gate self.now.aig.now (is_marked self.now.reached.now))
-            (picked (stays self.now.aig.now (is_marked self.now.reached.now)) (first_gate self.now.aig.now) self.now.aig.now.gates)) }
+            (picked (stays self.now.aig.now (is_marked self.now.reached.now))
+            (first_gate self.now.aig.now) self.now.aig.now.gates)) }
     {
         let first = self.aig.first_gate();
         let mut gates = Vec::new(alloc);
@@ -150,9 +152,11 @@ impl<'a> Trim<'a> {
         requires names { All (λ name. name.position < length self.now.aig.now.latches)
             symbols.now.latches }
         requires netlist { IsNetlist (trimmed_of
-            (record { aig = self.now.aig.now; props = props.now; symbols = symbols.now }) (is_marked self.now.reached.now)) }
+            (record { aig = self.now.aig.now; props = props.now; symbols = symbols.now })
+            (is_marked self.now.reached.now)) }
         ensures { IfOk result (λ circuit. circuit ≡ trimmed_of
-            (record { aig = self.now.aig.now; props = props.now; symbols = symbols.now }) (is_marked self.now.reached.now)) }
+            (record { aig = self.now.aig.now; props = props.now; symbols = symbols.now })
+            (is_marked self.now.reached.now)) }
     {
         let aig = self.graph(alloc)?;
         let props = props.mapped(alloc, &self.literals)?;

@@ -64,7 +64,8 @@ fn write_view<'a, W: CountedWrite>(
 ) -> Result<(), Failure<'a>>
     ensures picture { (held : List ℕ) (set : Option (List ℕ)) (drawn : ℕ → Bool)
         → IsViewOf circuit.now held set drawn view.now
-        → OnOk result (WritesAll (W.output writer.old) (W.output writer.new) (picture circuit.now held set drawn)) }
+        → OnOk result (WritesAll (W.output writer.old) (W.output writer.new)
+        (picture circuit.now held set drawn)) }
     ensures err { IfErr result (λ failure. outcome_of failure ≡ Device) }
 {
     match write_dot(circuit, view, writer) {
@@ -83,7 +84,8 @@ fn draw<'a, W: CountedWrite>(
     writer: &mut W,
 ) -> Result<(), Failure<'a>>
     ensures picture { OnOk result (WritesAll (W.output writer.old) (W.output writer.new)
-        (picture circuit.now keep.now (option_map (λ s. s.now) set.entry) (shown circuit.now task.now))) }
+        (picture circuit.now keep.now (option_map (λ s. s.now) set.entry)
+        (shown circuit.now task.now))) }
     ensures prints { IfErr result (λ failure. Prints (outcome_of failure) (W.output writer.old)
         (W.output writer.new)) }
 {

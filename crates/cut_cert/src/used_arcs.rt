@@ -16,7 +16,8 @@ fn mark_step(net: &Net, used: &mut [bool], node: u32, point: Point) -> Option<u3
     ensures head { MatchOption result (Unit {0}) (λ next. next < node_count net.now) }
     ensures there { PointsRise net.now → (k : ℕ) → k < row_len net.now node
         → point_of net.now (head net.now node k) ≡ Some point
-        → (result ≡ Some (head net.now node k)) × (used.new ≡ slice_set used.old (start net.now node + k) true) }
+        → (result ≡ Some (head net.now node k))
+        × (used.new ≡ slice_set used.old (start net.now node + k) true) }
 {
     let _nodes = net.nodes();
     let place = place_of(net, node, point)?;

@@ -58,7 +58,8 @@ fn is_settled(marks: &[bool], aig: &Aig, keep: &Keep, var: u32) -> bool
 fn rests_on_settled(marks: &[bool], aig: &Aig, keep: &Keep, gate: Gate) -> bool
     ensures { result ≡ ((mark_at (first_latch aig.now) marks.now
         (variable gate.rhs0) || may_move aig.now keep.now (variable gate.rhs0))
-        && (mark_at (first_latch aig.now) marks.now (variable gate.rhs1) || may_move aig.now keep.now (variable gate.rhs1))) }
+        && (mark_at (first_latch aig.now) marks.now (variable gate.rhs1)
+        || may_move aig.now keep.now (variable gate.rhs1))) }
 {
     is_settled(marks, aig, keep, gate.rhs0.var()) && is_settled(marks, aig, keep, gate.rhs1.var())
 }

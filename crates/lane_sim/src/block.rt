@@ -100,7 +100,8 @@ pub(crate) fn simulate_blocks(
 ) -> Result<Vec<Block>, NoMemory>
     requires { All (λ lit. variable lit < variables_end aig.now) literals.now }
     ensures { IfOk result (λ blocks. (b : ℕ) → 256 * b < length sequences.now
-        → IsSomeAnd (slice_get blocks.items b) (IsBlock aig.now literals.now (block_of sequences.now b))) }
+        → IsSomeAnd (slice_get blocks.items b)
+        (IsBlock aig.now literals.now (block_of sequences.now b))) }
 {
     let blocks: Result<Vec<Block>, NoMemory> = (0..sequences.len().div_ceil(LANES))
         .into_par_iter()

@@ -54,7 +54,8 @@ fn lane_difference(
     requires rows { (t : ℕ) → t < steps → HaveRow xs.now ys.now t }
     ensures { MatchOption result ((t : ℕ) → t < steps
         → packed_rows xs.now lane t ≡ packed_rows ys.now lane t)
-        (λ found. (found.0 < steps) × IsFirstIn (packed_rows xs.now lane found.0) (packed_rows ys.now lane found.0) found.1
+        (λ found. (found.0 < steps)
+        × IsFirstIn (packed_rows xs.now lane found.0) (packed_rows ys.now lane found.0) found.1
         × ((t : ℕ) → t < found.0 → packed_rows xs.now lane t ≡ packed_rows ys.now lane t)) }
 {
     for step in 0..steps {
@@ -202,7 +203,8 @@ fn compare_all(
 fn first_found(found: &[Option<Place>]) -> Option<Place>
     ensures { MatchOption result ((i : ℕ) → i < length found.now
         → slice_index_or found.now i None ≡ None)
-        (λ place. (i : ℕ) × (i < length found.now) × (slice_index_or found.now i None ≡ Some place) × ((j : ℕ) → j < i → slice_index_or found.now j None ≡ None)) }
+        (λ place. (i : ℕ) × (i < length found.now) × (slice_index_or found.now i None ≡ Some place)
+        × ((j : ℕ) → j < i → slice_index_or found.now j None ≡ None)) }
 {
     for answer in found {
         if let Some(place) = answer {
@@ -223,7 +225,8 @@ pub fn first_difference(
     stimulus: &Stimulus,
 ) -> Result<Option<Place>, SimError>
     ensures ok { IfOk result (λ found. HaveSameShape a.now b.now
-        × MatchOption found (trace a.now stimulus.now ≡ trace b.now stimulus.now) (IsFirstDifference (trace a.now stimulus.now) (trace b.now stimulus.now))) }
+        × MatchOption found (trace a.now stimulus.now ≡ trace b.now stimulus.now)
+        (IsFirstDifference (trace a.now stimulus.now) (trace b.now stimulus.now))) }
     ensures shape { IsErrOf result Shape → DifferInShape a.now b.now }
 {
     if !have_same_shape(a, b) {

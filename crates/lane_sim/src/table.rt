@@ -82,7 +82,8 @@ fn gate_lanes(table: &[Lanes], gate: Gate) -> Lanes
     requires first { variable gate.rhs0 < length table.now }
     requires second { variable gate.rhs1 < length table.now }
     ensures { (k : ℕ) → k < 256 → lane result k
-        ≡ (signed gate.rhs0 (held table.now (variable gate.rhs0) k) && signed gate.rhs1 (held table.now (variable gate.rhs1) k)) }
+        ≡ (signed gate.rhs0 (held table.now (variable gate.rhs0) k)
+        && signed gate.rhs1 (held table.now (variable gate.rhs1) k)) }
 {
     let a = table[gate.rhs0.var() as usize];
     let b = table[gate.rhs1.var() as usize];

@@ -40,7 +40,8 @@ pub fn write_dot<W: CountedWrite>(
 ) -> Result<(), WriteError>
     ensures { (held : List ℕ) (set : Option (List ℕ)) (shown : ℕ → Bool)
         → IsViewOf circuit.now held set shown view.now
-        → Writes (W.output writer.old) (W.output writer.new) result (picture circuit.now held set shown) }
+        → Writes (W.output writer.old) (W.output writer.new) result
+        (picture circuit.now held set shown) }
 {
     let mut out = Buffered::new(writer);
     put_dot(&mut out, circuit, view);

@@ -35,7 +35,8 @@ pub(crate) struct MarkedSet<'a> {
 #[tactic(auto, using(crate::proofs::PlanLaws::marks_in_turn))]
 fn mark_read_or_held(marks: &mut [bool], aig: &Aig, props: &Props, inside: &[bool], keep: &Keep)
     ensures { Marks (first_latch aig.now) marks.old marks.new
-        (λ v. is_read_outside aig.now props.now (mark_at (first_latch aig.now) inside.now) v || is_held aig.now keep.now v) }
+        (λ v. is_read_outside aig.now props.now (mark_at (first_latch aig.now) inside.now) v
+        || is_held aig.now keep.now v) }
 {
     mark_read(marks, aig, props, inside);
     mark_held(marks, aig, keep);

@@ -174,8 +174,10 @@ impl<'a> Plan<'a> {
     pub(crate) fn staying_position(&self, position: u32) -> Option<u32>
         requires { position < length (planned self.now).circuit.aig.latches }
         ensures { result ≡
-            (if is_latched (planned self.now) (first_latch (planned self.now).circuit.aig + position)
-            then Some (count_below (is_latched (planned self.now)) (first_latch (planned self.now).circuit.aig + position))
+            (if is_latched (planned self.now)
+            (first_latch (planned self.now).circuit.aig + position)
+            then Some (count_below (is_latched (planned self.now))
+            (first_latch (planned self.now).circuit.aig + position))
             else None) }
     {
         let first = self.aig().first_latch();

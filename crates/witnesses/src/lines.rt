@@ -57,7 +57,8 @@ impl<'a> Lines<'a> {
         ensures end { self.new.end ≡ self.old.end }
         ensures shorter { OnSome result (length self.new.rest.now < length self.old.rest.now) }
         ensures lines { MatchOption result (left self.old ≡ [])
-            (λ line. left self.old ≡ record { at = line.at; text = line.text.now } ∷ left self.new) }
+            (λ line. left self.old ≡ record { at = line.at; text = line.text.now }
+            ∷ left self.new) }
     {
         while let Some(line) = self.any_line() {
             if !is_comment(line.text) {

@@ -71,7 +71,8 @@ fn first_met(trace: &Trace, place: usize, places: Places) -> Option<usize>
 /// has been 1 up to then. In a circuit without bad states the outputs are those.
 pub fn first_reached(circuit: &Circuit, trace: &Trace, number: usize) -> Option<usize>
     ensures { (run : InputSequence) → trace.now ≡ traces.trace circuit.now (run ∷ [])
-        → MatchOption result (NeverReached circuit.now run number) (IsFirstReached circuit.now run number) }
+        → MatchOption result (NeverReached circuit.now run number)
+        (IsFirstReached circuit.now run number) }
 {
     let props = circuit.props();
     let place = bad_place(props, number)?;
