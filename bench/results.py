@@ -1,4 +1,5 @@
-"""The stored results of bench/compare: a file of JSON with the machine, the program's sum, and an entry a circuit."""
+"""The stored results of bench/compare: a file of JSON with the machine, the sums of the programs that were timed and counted, and
+an entry a circuit."""
 import hashlib
 import json
 import os
@@ -33,15 +34,35 @@ def merged(old, new):
     return both
 
 
+def without_times(entry):
+    return {name: value for name, value in entry.items() if name != 'abc'} | {'workers': {}}
+
+
+def without_counts(entry):
+    return {name: value for name, value in entry.items() if name not in ('instructions', 'node_frames')}
+
+
+def headed(stored, head, without):
+    """What is stored, under this head: where it was under another, without what that head spoke of."""
+    same = all(stored.get(name) == value for name, value in head.items())
+    entries = [entry if same else without(entry) for entry in stored.get('circuits', [])]
+    return stored | head | {'circuits': [entry for entry in entries if entry['workers'] or entry.get('instructions')]}
+
+
 def put(path, program, found):
-    """Adds an entry. Entries of another program or machine go."""
+    """Adds what was measured of a circuit. Times of another program or machine go, and so do instructions of another program: the
+    head has the sum of the program that was timed (`program`), and of the one whose instructions were counted (`counted`)."""
     with open(program, 'rb') as file:
-        head = {'machine': measure.kind(), 'program': hashlib.sha256(file.read()).hexdigest()}
+        measured = hashlib.sha256(file.read()).hexdigest()
     stored = read(path) if os.path.exists(path) else {}
-    if {name: stored.get(name) for name in head} != head:
-        stored = head | {'circuits': []}
-    entries = {entry['circuit']: entry for entry in stored['circuits']}
+    if found['workers']:
+        stored = headed(stored, {'machine': measure.kind(), 'program': measured}, without_times)
+    if found.get('instructions'):
+        stored = headed(stored, {'counted': measured}, without_counts)
+    entries = {entry['circuit']: entry for entry in stored.get('circuits', [])}
     old = entries.get(found['circuit'])
+    if old and not found['workers']:
+        found = found | {'date': old['date']}
     entries[found['circuit']] = merged(old, found) if old and old['date'] == found['date'] else found
     order = lambda entry: (entry['circuit'].split()[0], entry['gates'], entry['latches'])
     stored['circuits'] = sorted(entries.values(), key=order)
