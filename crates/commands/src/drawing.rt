@@ -1,5 +1,5 @@
 //! The command `dot`.
-ghost use Rattle.std.specs.Prelude.{ℕ, Bool, List, Option, IfErr, IfOk, IfSome, OnOk, option_map};
+ghost use Rattle.std.specs.Prelude.{ℕ, ◌≡◌, Bool, List, Option, IfErr, IfOk, IfSome, OnOk, option_map};
 ghost use Rattle.aig_graph.specs.Border.{IsGreatestLeast};
 ghost use Rattle.counted_io.specs.Output.{WritesAll};
 ghost use Rattle.pictures.specs.Looks.{IsViewOf};
