@@ -1,10 +1,14 @@
--- The near side of a greatest flow, and the smallest of the least cuts.
+-- The greatest of the least cuts, the near side of a greatest flow, and the smallest of the least cuts.
 use Rattle.std.specs.Prelude.{◌≡◌, ℕ, ◌<◌, ◌≤◌, Bool, true, false, List}
 use Rattle.flow_theory.specs.Flow.{State, IsPreflow, IsCut, cut_value}
 use Rattle.aig_graph.specs.Circuits.{Netlist}
-use Rattle.aig_graph.specs.Border.{IsSmallestLeast}
+use Rattle.aig_graph.specs.Border.{IsGreatestLeast, IsSmallestLeast}
 use Rattle.frame_net.specs.FlowNet.{FlowNet, node_count, capacity_between}
 use Rattle.frame_cuts.specs.Cuts.{AreGatesOf, IsNetworkOf}
+
+-- s is the greatest least set of each circuit and held latches whose network this is
+abbrev pub IsGreatestLeastOf : FlowNet → List ℕ → Type 0
+IsGreatestLeastOf net s = (c : Netlist) (held : List ℕ) → IsNetworkOf c held net → IsGreatestLeast c held s
 
 -- no residual arc leaves the set of nodes
 abbrev pub NoneLeaves : ℕ → State → (ℕ → Bool) → Type 0

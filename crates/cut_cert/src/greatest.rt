@@ -1,12 +1,10 @@
 //! The gates of the source's side of the greatest least cut.
-ghost use Rattle.std.specs.Prelude.{◌≡◌, ℕ, ◌<◌, IfOk, List, [], length, not};
-ghost use Rattle.aig_graph.specs.Circuits.{Netlist};
-ghost use Rattle.aig_graph.specs.Border.{IsGreatestLeast};
+ghost use Rattle.std.specs.Prelude.{◌≡◌, ◌<◌, IfOk, [], length, not};
 ghost use Rattle.frame_net.specs.FlowNet.{node_count};
-ghost use Rattle.frame_cuts.specs.Cuts.{IsNetworkOf};
 ghost use Rattle.pulse.specs.Conditions.{IsMaxPreflow};
 ghost use Rattle.cut_cert.specs.Fronts.{is_marked};
 ghost use Rattle.cut_cert.specs.Gates.{gate_of, gates_below};
+ghost use Rattle.cut_cert.specs.Cuts.{IsGreatestLeastOf};
 
 use crate::reached::Reached;
 use crate::sink_side::sink_side;
@@ -50,8 +48,7 @@ fn gates_of(alloc: Global, net: &Net, side: &Reached) -> Result<Vec<u32>, NoMemo
 /// Linear in the network.
 pub fn greatest_cut(alloc: Global, net: &Net, preflow: &MaxPreflow) -> Result<ClosedSet, NoMemory>
     requires { IsMaxPreflow net.now preflow.now }
-    ensures { IfOk result (λ set. (c : Netlist) (held : List ℕ) → IsNetworkOf c held net.now
-        → IsGreatestLeast c held set) }
+    ensures { IfOk result (IsGreatestLeastOf net.now) }
 {
     let side = sink_side(alloc, net, preflow)?;
     let gates = gates_of(alloc, net, &side)?;
