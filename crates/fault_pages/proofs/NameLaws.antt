@@ -1,0 +1,44 @@
+-- Each fault is one of the list, so a name that none of the list has is no fault's.
+use Rattle.std.specs.Prelude.{ℕ, ◌≡◌, ◌<◌, Bool, true, false, List, length, get_or, Option, Some, None, MatchOption, refl}
+use Rattle.std.proofs.Common.{ap, sym, ◌∙◌, arith}
+use Rattle.std.proofs.lemmas.Slice.Eq.{bytes_eq-Decides}
+use Rattle.fault_pages.specs.declared.fault.Fault.{Fault}
+use Rattle.fault_pages.specs.declared.fault.Fault.TheVariants.{BadHeader, TooLarge, MaxIndex, BadLine, BadLiteral, DefinedTwice, Undefined, Cycle, BadReset, BadDelta, Truncated, BadSymbol, Trailing, Width, TooMany, NoSuchName, NoSuchProperty, TooManyNodes, NotClosed, BadRoute, UsedTwice, CountDiffers}
+use Rattle.fault_pages.specs.Faults.{all_faults, name_of, has_name, HaveOtherNames, IsNoName}
+
+stands : (fault : Fault) → (k : ℕ) × (k < length all_faults) × (get_or all_faults k BadHeader ≡ fault)
+unfolding all_faults
+stands BadHeader = (0, omega arith, refl)
+stands TooLarge = (1, omega arith, refl)
+stands MaxIndex = (2, omega arith, refl)
+stands BadLine = (3, omega arith, refl)
+stands BadLiteral = (4, omega arith, refl)
+stands DefinedTwice = (5, omega arith, refl)
+stands Undefined = (6, omega arith, refl)
+stands Cycle = (7, omega arith, refl)
+stands BadReset = (8, omega arith, refl)
+stands BadDelta = (9, omega arith, refl)
+stands Truncated = (10, omega arith, refl)
+stands BadSymbol = (11, omega arith, refl)
+stands Trailing = (12, omega arith, refl)
+stands Width = (13, omega arith, refl)
+stands TooMany = (14, omega arith, refl)
+stands NoSuchName = (15, omega arith, refl)
+stands NoSuchProperty = (16, omega arith, refl)
+stands TooManyNodes = (17, omega arith, refl)
+stands NotClosed = (18, omega arith, refl)
+stands BadRoute = (19, omega arith, refl)
+stands UsedTwice = (20, omega arith, refl)
+stands CountDiffers = (21, omega arith, refl)
+
+not_both : (test : Bool) → test ≡ true → test ≡ false → ⊥
+not_both true yes_it_is no_it_is = cc
+not_both false yes_it_is no_it_is = cc
+
+pub named_of : (name : List ℕ) (found : Option Fault) → MatchOption found (HaveOtherNames all_faults name) (λ fault. has_name name fault ≡ true)
+    → MatchOption found (IsNoName name) (λ fault. name_of fault ≡ name)
+named_of name None others = λ fault same.
+    let place = stands fault in
+    not_both (has_name name fault) ((bytes_eq-Decides (name_of fault) name).1 same)
+    (ap (has_name name) (sym place.2) ∙ others place.0 place.1)
+named_of name (Some fault) named = (bytes_eq-Decides (name_of fault) name).0 named

@@ -1,0 +1,46 @@
+-- The faults and their names.
+use Rattle.std.specs.Prelude.{ℕ, ◌≡◌, ◌≢◌, ◌<◌, Bool, false, List, [], ◌∷◌, length, get_or, codes}
+use Rattle.std.specs.Str.{bytes_eq}
+use Rattle.fault_pages.specs.declared.fault.Fault.{Fault}
+use Rattle.fault_pages.specs.declared.fault.Fault.TheVariants.{BadHeader, TooLarge, MaxIndex, BadLine, BadLiteral, DefinedTwice, Undefined, Cycle, BadReset, BadDelta, Truncated, BadSymbol, Trailing, Width, TooMany, NoSuchName, NoSuchProperty, TooManyNodes, NotClosed, BadRoute, UsedTwice, CountDiffers}
+
+unfoldable pub all_faults : List Fault
+all_faults =
+    BadHeader ∷ TooLarge ∷ MaxIndex ∷ BadLine ∷ BadLiteral ∷ DefinedTwice ∷ Undefined ∷ Cycle ∷ BadReset ∷ BadDelta ∷ Truncated
+    ∷ BadSymbol ∷ Trailing ∷ Width ∷ TooMany ∷ NoSuchName ∷ NoSuchProperty ∷ TooManyNodes ∷ NotClosed ∷ BadRoute ∷ UsedTwice
+    ∷ CountDiffers ∷ []
+
+abbrev pub name_of : Fault → List ℕ
+name_of BadHeader = codes "BadHeader"
+name_of TooLarge = codes "TooLarge"
+name_of MaxIndex = codes "MaxIndex"
+name_of BadLine = codes "BadLine"
+name_of BadLiteral = codes "BadLiteral"
+name_of DefinedTwice = codes "DefinedTwice"
+name_of Undefined = codes "Undefined"
+name_of Cycle = codes "Cycle"
+name_of BadReset = codes "BadReset"
+name_of BadDelta = codes "BadDelta"
+name_of Truncated = codes "Truncated"
+name_of BadSymbol = codes "BadSymbol"
+name_of Trailing = codes "Trailing"
+name_of Width = codes "Width"
+name_of TooMany = codes "TooMany"
+name_of NoSuchName = codes "NoSuchName"
+name_of NoSuchProperty = codes "NoSuchProperty"
+name_of TooManyNodes = codes "TooManyNodes"
+name_of NotClosed = codes "NotClosed"
+name_of BadRoute = codes "BadRoute"
+name_of UsedTwice = codes "UsedTwice"
+name_of CountDiffers = codes "CountDiffers"
+
+abbrev pub has_name : List ℕ → Fault → Bool
+has_name name fault = bytes_eq (name_of fault) name
+
+-- none of the faults has the name
+abbrev pub HaveOtherNames : List Fault → List ℕ → Type 0
+HaveOtherNames faults name = (k : ℕ) → k < length faults → has_name name (get_or faults k BadHeader) ≡ false
+
+-- no fault has the name
+abbrev pub IsNoName : List ℕ → Type 0
+IsNoName name = (fault : Fault) → name_of fault ≢ name

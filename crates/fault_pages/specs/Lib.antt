@@ -1,0 +1,4 @@
+pub mod Faults
+pub mod Files
+pub mod Lines
+pub mod Nearest

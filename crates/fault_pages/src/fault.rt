@@ -1,0 +1,120 @@
+ghost use Rattle.std.specs.Prelude.{◌≡◌, MatchOption, true};
+ghost use Rattle.fault_pages.specs.Faults.{all_faults, has_name, HaveOtherNames, IsNoName, name_of};
+
+/// A fault that the program names.
+#[derive(Clone, Copy, Debug, PartialEq, Eq)]
+pub enum Fault {
+    BadHeader,
+    TooLarge,
+    MaxIndex,
+    BadLine,
+    BadLiteral,
+    DefinedTwice,
+    Undefined,
+    Cycle,
+    BadReset,
+    BadDelta,
+    Truncated,
+    BadSymbol,
+    Trailing,
+    Width,
+    TooMany,
+    NoSuchName,
+    NoSuchProperty,
+    TooManyNodes,
+    NotClosed,
+    BadRoute,
+    UsedTwice,
+    CountDiffers,
+}
+
+const FAULTS: [Fault; 22] = [
+    Fault::BadHeader,
+    Fault::TooLarge,
+    Fault::MaxIndex,
+    Fault::BadLine,
+    Fault::BadLiteral,
+    Fault::DefinedTwice,
+    Fault::Undefined,
+    Fault::Cycle,
+    Fault::BadReset,
+    Fault::BadDelta,
+    Fault::Truncated,
+    Fault::BadSymbol,
+    Fault::Trailing,
+    Fault::Width,
+    Fault::TooMany,
+    Fault::NoSuchName,
+    Fault::NoSuchProperty,
+    Fault::TooManyNodes,
+    Fault::NotClosed,
+    Fault::BadRoute,
+    Fault::UsedTwice,
+    Fault::CountDiffers,
+];
+
+impl Fault {
+    /// All faults: those of a circuit first, in the order of `docs/FORMAT.md`.
+    #[tactic(auto, unfolding(crate::specs::Faults::all_faults))]
+    pub fn all() -> &'static [Fault]
+        ensures { result.now ≡ all_faults }
+    {
+        &FAULTS
+    }
+
+    /// The name, as messages have it.
+    pub fn name(self) -> &'static str
+        ensures { result.now ≡ name_of self }
+    {
+        match self {
+            Fault::BadHeader => "BadHeader",
+            Fault::TooLarge => "TooLarge",
+            Fault::MaxIndex => "MaxIndex",
+            Fault::BadLine => "BadLine",
+            Fault::BadLiteral => "BadLiteral",
+            Fault::DefinedTwice => "DefinedTwice",
+            Fault::Undefined => "Undefined",
+            Fault::Cycle => "Cycle",
+            Fault::BadReset => "BadReset",
+            Fault::BadDelta => "BadDelta",
+            Fault::Truncated => "Truncated",
+            Fault::BadSymbol => "BadSymbol",
+            Fault::Trailing => "Trailing",
+            Fault::Width => "Width",
+            Fault::TooMany => "TooMany",
+            Fault::NoSuchName => "NoSuchName",
+            Fault::NoSuchProperty => "NoSuchProperty",
+            Fault::TooManyNodes => "TooManyNodes",
+            Fault::NotClosed => "NotClosed",
+            Fault::BadRoute => "BadRoute",
+            Fault::UsedTwice => "UsedTwice",
+            Fault::CountDiffers => "CountDiffers",
+        }
+    }
+
+    /// The fault of this name.
+    pub fn named(name: &str) -> Option<Fault>
+        ensures { MatchOption result (IsNoName name.now) (λ fault. name_of fault ≡ name.now) }
+    {
+        named_among(Fault::all(), name)
+    }
+}
+
+fn has_name(fault: Fault, name: &str) -> bool
+    ensures { result ≡ has_name name.now fault }
+{
+    fault.name() == name
+}
+
+/// The first of these faults that has the name.
+fn named_among(faults: &[Fault], name: &str) -> Option<Fault>
+    ensures { MatchOption result (HaveOtherNames faults.now name.now)
+        (λ fault. has_name name.now fault ≡ true) }
+{
+    for fault in faults {
+        if has_name(*fault, name) {
+            return Some(*fault);
+        }
+    }
+    None
+}

@@ -1,0 +1,70 @@
+//! The pages of the faults that no circuit has by itself.
+use crate::page::Page;
+
+pub const WIDTH: Page = Page {
+    meaning: "A line has another number of values than there are latches or inputs.",
+    rule: "In a stimulus a line '=' has a digit for each free latch, and a line ':' one
+for each input, of A where two circuits are compared. The second line of values
+of a witness has one for each latch, each further line one for each input.",
+    advice: "Ask 'fretime stat IN' for the number of inputs and of free latches.",
+};
+
+pub const TOO_MANY: Page = Page {
+    meaning: "A stimulus has more than 1048576 sequences.",
+    rule: "A line '=' begins a sequence.",
+    advice: "Cut the stimulus before a line '=', and run each part.",
+};
+
+pub const NO_SUCH_NAME: Page = Page {
+    meaning: "The circuit has no latch of this name.",
+    rule: "The names of latches are those of the symbols 'l' of the file, compared byte by
+byte.",
+    advice: "List the names: grep -a '^l[0-9]' IN. A file without names gets them where it
+is written, as by Yosys' write_aiger -symbols.",
+};
+
+pub const NO_SUCH_PROPERTY: Page = Page {
+    meaning: "A witness names a property that the circuit doesn't have.",
+    rule: "The second line of a witness names bad states, b0 on, and justice properties,
+j0 on, by their positions.",
+    advice: "See that the witness is one of this circuit: 'fretime stat OUT' counts its
+properties.",
+};
+
+pub const TOO_MANY_NODES: Page = Page {
+    meaning: "A circuit of over 2000 nodes makes no picture that can be read.",
+    rule: "Inputs, latches, gates and properties are nodes.",
+    advice: "Draw a neighbourhood: 'fretime dot IN OUT --around NAME --depth 3'.",
+};
+
+/// What to do where a certificate is rejected.
+const CHECK_AGAIN: &str =
+    "See that the certificates are of this IN, and give each --keep that 'retime'
+got. Else they are wrong: 'fretime retime IN OUT --cert FILE' writes others.";
+
+pub const NOT_CLOSED: Page = Page {
+    meaning: "The set of gates of a certificate isn't closed.",
+    rule: "Its gates rise strictly. Each is a gate that latches may pass, and each gate
+that it reads is one of the set.",
+    advice: CHECK_AGAIN,
+};
+
+pub const BAD_ROUTE: Page = Page {
+    meaning: "A list of points of a certificate is no route.",
+    rule: "A route goes from a known latch through gates that latches may pass to what no
+move passes, by the steps of docs/CERTIFICATES.md.",
+    advice: CHECK_AGAIN,
+};
+
+pub const USED_TWICE: Page = Page {
+    meaning: "Two routes of a certificate pass one variable.",
+    rule: "Over all routes no point v+ stands twice.",
+    advice: CHECK_AGAIN,
+};
+
+pub const COUNT_DIFFERS: Page = Page {
+    meaning: "The numbers of a certificate differ.",
+    rule: "The count that it states, the size of the border of its set and the number of
+its routes are one number.",
+    advice: CHECK_AGAIN,
+};

@@ -1,0 +1,33 @@
+use crate::fault::Fault;
+use crate::page::Page;
+use crate::{circuit_pages as circuits, other_pages as others};
+
+impl Fault {
+    /// What a user is told of it.
+    pub fn page(self) -> Page {
+        match self {
+            Fault::BadHeader => circuits::BAD_HEADER,
+            Fault::TooLarge => circuits::TOO_LARGE,
+            Fault::MaxIndex => circuits::MAX_INDEX,
+            Fault::BadLine => circuits::BAD_LINE,
+            Fault::BadLiteral => circuits::BAD_LITERAL,
+            Fault::DefinedTwice => circuits::DEFINED_TWICE,
+            Fault::Undefined => circuits::UNDEFINED,
+            Fault::Cycle => circuits::CYCLE,
+            Fault::BadReset => circuits::BAD_RESET,
+            Fault::BadDelta => circuits::BAD_DELTA,
+            Fault::Truncated => circuits::TRUNCATED,
+            Fault::BadSymbol => circuits::BAD_SYMBOL,
+            Fault::Trailing => circuits::TRAILING,
+            Fault::Width => others::WIDTH,
+            Fault::TooMany => others::TOO_MANY,
+            Fault::NoSuchName => others::NO_SUCH_NAME,
+            Fault::NoSuchProperty => others::NO_SUCH_PROPERTY,
+            Fault::TooManyNodes => others::TOO_MANY_NODES,
+            Fault::NotClosed => others::NOT_CLOSED,
+            Fault::BadRoute => others::BAD_ROUTE,
+            Fault::UsedTwice => others::USED_TWICE,
+            Fault::CountDiffers => others::COUNT_DIFFERS,
+        }
+    }
+}
