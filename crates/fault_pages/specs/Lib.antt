@@ -2,3 +2,4 @@ pub mod Faults
 pub mod Files
 pub mod Lines
 pub mod Nearest
+pub mod Pages

@@ -1,10 +1,17 @@
+ghost use Rattle.std.specs.Prelude.{◌≡◌};
+ghost use Rattle.fault_pages.specs.Pages.{meaning_of, rule_of, advice_of};
+
 use crate::fault::Fault;
 use crate::page::Page;
 use crate::{circuit_pages as circuits, other_pages as others};
 
 impl Fault {
     /// What a user is told of it.
-    pub fn page(self) -> Page {
+    pub fn page(self) -> Page
+        ensures meaning { result.meaning.now ≡ meaning_of self }
+        ensures rule { result.rule.now ≡ rule_of self }
+        ensures advice { result.advice.now ≡ advice_of self }
+    {
         match self {
             Fault::BadHeader => circuits::BAD_HEADER,
             Fault::TooLarge => circuits::TOO_LARGE,
