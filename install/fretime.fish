@@ -1,5 +1,11 @@
 # Completions of fretime for fish.
 
+# The names of the latches of IN, the word after the command.
+function __fretime_names
+    set -l words (commandline -opc)
+    grep -a '^l[0-9]* ' -- $words[3] 2> /dev/null | string replace -r '^l[0-9]* ' ''
+end
+
 complete -c fretime -n __fish_use_subcommand -f -a retime -d 'Moves latches forward over gates, frame by frame, until none helps'
 complete -c fretime -n __fish_use_subcommand -f -a batch -d 'Retimes the circuits of a list, many at once'
 complete -c fretime -n __fish_use_subcommand -f -a stat -d 'Counts what a circuit has, as it was read'
@@ -9,10 +15,11 @@ complete -c fretime -n __fish_use_subcommand -f -a same -d 'Finds the first diff
 complete -c fretime -n __fish_use_subcommand -f -a verify -d 'Checks the certificates that \'retime --cert\' wrote'
 complete -c fretime -n __fish_use_subcommand -f -a dot -d 'Writes a picture of a circuit, for Graphviz'
 complete -c fretime -n __fish_use_subcommand -f -a witness -d 'Carries a witness of a retimed circuit back to the circuit it was made of'
+complete -c fretime -n __fish_use_subcommand -f -a explain -d 'Says what a fault is, and what to do'
 complete -c fretime -n __fish_use_subcommand -f -a help -d 'Print this message or the help of the given subcommand(s)'
 complete -c fretime -n __fish_use_subcommand -s V -l version -d 'Print version'
 complete -c fretime -n 'not __fish_seen_subcommand_from help' -s h -l help -d 'Print help'
-complete -c fretime -n '__fish_seen_subcommand_from help' -f -a 'retime batch stat convert sim same verify dot witness help'
+complete -c fretime -n '__fish_seen_subcommand_from help' -f -a 'retime batch stat convert sim same verify dot witness explain help'
 
 complete -c fretime -n '__fish_seen_subcommand_from retime' -l ascii -d 'Write ASCII'
 complete -c fretime -n '__fish_seen_subcommand_from retime' -l binary -d 'Write binary'
@@ -37,3 +44,7 @@ complete -c fretime -n '__fish_seen_subcommand_from dot' -l frame -d 'Show over 
 complete -c fretime -n '__fish_seen_subcommand_from dot' -x -l keep -d 'Hold each latch with this name in its place; may be given more than once'
 complete -c fretime -n '__fish_seen_subcommand_from dot' -x -l around -d 'Draw the neighbourhood of the input, latch or property with this name alone'
 complete -c fretime -n '__fish_seen_subcommand_from dot' -x -l depth -d 'How many edges the neighbourhood reaches'
+
+complete -c fretime -n '__fish_seen_subcommand_from retime verify dot' -x -l keep -a '(__fretime_names)'
+
+complete -c fretime -n '__fish_seen_subcommand_from explain' -f -a 'BadHeader TooLarge MaxIndex BadLine BadLiteral DefinedTwice Undefined Cycle BadReset BadDelta Truncated BadSymbol Trailing Width TooMany NoSuchName NoSuchProperty TooManyNodes NotClosed BadRoute UsedTwice CountDiffers'

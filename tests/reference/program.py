@@ -4,6 +4,7 @@ import sys
 
 from reference.certificates import audit, certificates, read_blocks, written
 from reference.circuit import text
+from reference.names import hint
 from reference.pictures import MOST_NODES, has_name, neighbourhood, nodes, picture
 from reference.reading import Fault, read
 from reference.retiming import NoSuchName, frames_of, held_latches, passable, retimed
@@ -86,6 +87,11 @@ def circuit_of(path):
         raise Ends(1, f'{source_name(path)}: {fault}') from fault
 
 
+def no_such_name(path, c, name):
+    """How a run ends where no latch has the name: a file is read again for the nearest one, standard input isn't."""
+    return Ends(1, f'{source_name(path)}: NoSuchName {os.fsdecode(name)}' + ('' if source_name(path) == 'stdin' else hint(c, name)))
+
+
 def stimulus_of(path, c):
     try:
         return read_stimulus(bytes_of(path), c.inputs, c.free_latches())
@@ -124,7 +130,7 @@ def retime(paths, options):
     try:
         d, frames = retimed(c, most, names, smallest)
     except NoSuchName as missing:
-        raise Ends(1, f'{source_name(paths[0])}: NoSuchName {os.fsdecode(missing.args[0])}') from missing
+        raise no_such_name(paths[0], c, missing.args[0]) from missing
     write(paths[1], text(d, letters_of(options, letters)))
     for path in options.get('--cert', []):
         write(path, written('smallest' if smallest else 'greatest', certificates(c, most, names, smallest)))
@@ -210,7 +216,7 @@ def verify(paths, options):
     try:
         lines, status = audit(c, [os.fsencode(name) for name in options.get('--keep', [])], blocks)
     except NoSuchName as missing:
-        raise Ends(1, f'{source_name(paths[0])}: NoSuchName {os.fsdecode(missing.args[0])}') from missing
+        raise no_such_name(paths[0], c, missing.args[0]) from missing
     return status, ''.join(f'{line}\n' for line in lines)
 
 
@@ -224,17 +230,18 @@ def drawn_circuit(c, path, options):
             return c, held, None
         d, held, count, members = frames_of(c, 1, names)[0]
     except NoSuchName as missing:
-        raise Ends(1, f'{source_name(path)}: NoSuchName {os.fsdecode(missing.args[0])}') from missing
+        raise no_such_name(path, c, missing.args[0]) from missing
     return d, held, members if count < d.known_latches() else None
 
 
 def dot(paths, options):
-    c, held, members = drawn_circuit(circuit_of(paths[0])[0], paths[0], options)
+    whole, _ = circuit_of(paths[0])
+    c, held, members = drawn_circuit(whole, paths[0], options)
     around, drawn = options.get('--around'), range(c.end())
     if around:
         name = os.fsencode(around[0])
         if not has_name(c, name):
-            raise Ends(1, f'{source_name(paths[0])}: NoSuchName {around[0]}')
+            raise no_such_name(paths[0], whole, name)
         drawn = neighbourhood(c, name, int(options.get('--depth', ['2'])[0]))
     elif nodes(c) > MOST_NODES:
         raise Ends(1, f'{source_name(paths[0])}: TooManyNodes, over 2000: --around NAME draws a neighbourhood')

@@ -16,7 +16,7 @@ use Rattle.command_line.specs.declared.task.Batch.{Batch as Batching}
 use Rattle.command_line.specs.declared.task.Verification.{Verification}
 use Rattle.command_line.specs.declared.task.Drawing.{Drawing}
 use Rattle.command_line.specs.declared.task.Task.{Task}
-use Rattle.command_line.specs.declared.task.Task.TheVariants.{Retime, Batch, Stat, Convert, Sim, Same, Verify, Dot, Witness}
+use Rattle.command_line.specs.declared.task.Task.TheVariants.{Retime, Batch, Stat, Convert, Sim, Same, Verify, Dot, Witness, Explain}
 
 -- the text is the first value of the argument with this id
 abbrev pub IsGiven : ArgMatches → List ℕ → Bor (List ℕ) → Type 0
@@ -100,7 +100,7 @@ pub record IsDrawing (matches : ArgMatches) (drawing : Drawing) : Type 0 where
   pub depth : IsNumber matches (codes "depth") 2 drawing.depth
   pub names : map (λ name. name.now) drawing.keep.items ≡ values_of matches (codes "keep")
 
--- each path of the task is the value of its own argument, so that no file is written that was to be read
+-- each path of the task, and the name of a fault, is the value of its own argument, so that no file is written that was to be read
 abbrev pub AsksFor : ArgMatches → Task → Type 0
 AsksFor matches (Retime retiming) = IsRetiming matches retiming
 AsksFor matches (Batch batch) = IsBatch matches batch
@@ -111,3 +111,4 @@ AsksFor matches (Same first second stimulus) = IsSource matches (codes "A") firs
 AsksFor matches (Verify verification) = IsVerification matches verification
 AsksFor matches (Dot drawing) = IsDrawing matches drawing
 AsksFor matches (Witness input retimed witness) = IsSource matches (codes "IN") input × IsSource matches (codes "OUT") retimed × IsSource matches (codes "WITNESS") witness
+AsksFor matches (Explain name) = IsGiven matches (codes "FAULT") name

@@ -5,7 +5,7 @@ use Rattle.stream_paths.specs.Streams.{is_stdin, is_stdout}
 use Rattle.stream_paths.specs.declared.source.Source.{Source}
 use Rattle.stream_paths.specs.declared.target.Target.{Target}
 use Rattle.command_line.specs.declared.task.Task.{Task}
-use Rattle.command_line.specs.declared.task.Task.TheVariants.{Retime, Batch, Stat, Convert, Sim, Same, Verify, Dot, Witness}
+use Rattle.command_line.specs.declared.task.Task.TheVariants.{Retime, Batch, Stat, Convert, Sim, Same, Verify, Dot, Witness, Explain}
 
 -- what a task reads
 abbrev pub sources_of : Task → List Source
@@ -18,6 +18,7 @@ sources_of (Same first second stimulus) = first ∷ second ∷ stimulus ∷ []
 sources_of (Verify verification) = verification.input ∷ verification.certificates ∷ []
 sources_of (Dot drawing) = drawing.input ∷ []
 sources_of (Witness input retimed witness) = input ∷ retimed ∷ witness ∷ []
+sources_of (Explain name) = []
 
 -- the circuit and the certificates that a retiming writes
 abbrev pub both_targets : Target → Option Target → List Target
@@ -35,6 +36,7 @@ targets_of (Same first second stimulus) = []
 targets_of (Verify verification) = []
 targets_of (Dot drawing) = drawing.output ∷ []
 targets_of (Witness input retimed witness) = []
+targets_of (Explain name) = []
 
 -- standard input is read once at most, and standard output written once, but for printed lines
 pub record UsesStreamsOnce (task : Task) : Type 0 where

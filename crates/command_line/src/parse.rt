@@ -178,6 +178,12 @@ fn witness<'a>(matches: &ArgMatches<'a>) -> Option<Task<'a>>
     Some(Task::Witness(input, retimed, source(matches, "WITNESS")?))
 }
 
+fn explanation<'a>(matches: &ArgMatches<'a>) -> Option<Task<'a>>
+    ensures { IfSome result (AsksFor matches.now) }
+{
+    Some(Task::Explain(matches.get_str("FAULT")?))
+}
+
 /// What the matches of a subcommand ask for.
 fn task<'a>(
     alloc: Global,
@@ -194,6 +200,7 @@ fn task<'a>(
         "verify" => verification(alloc, matches)?.map(|verification| Task::Verify(verification)),
         "dot" => drawing(alloc, matches)?.map(|drawing| Task::Dot(drawing)),
         "witness" => witness(matches),
+        "explain" => explanation(matches),
         _ => None,
     };
     Ok(task)

@@ -138,6 +138,21 @@ After the printed one a comment says at which step each property fails:
 
 Exit status: 0 done, 1 a file is refused or shapes differ, 2 command line, 3 device, 4 out of memory, 5 a property doesn't fail.";
 
+const EXPLAIN_ABOUT: &str = "Says what a fault is, and what to do";
+
+const EXPLAIN_LONG_ABOUT: &str =
+    "Prints the page of a fault that a message names: what it is, the rule that is broken, a smallest file
+that has it, and what to do.";
+
+const EXPLAIN_EXAMPLE: &str = "Example:
+  fretime explain MaxIndex
+
+Faults of circuits, and some of them of other files too: BadHeader, TooLarge, MaxIndex, BadLine, BadLiteral, DefinedTwice, Undefined,
+Cycle, BadReset, BadDelta, Truncated, BadSymbol, Trailing. Of a stimulus or a witness: Width, TooMany, NoSuchProperty. Of names and
+pictures: NoSuchName, TooManyNodes. Of certificates: NotClosed, BadRoute, UsedTwice, CountDiffers.
+
+Exit status: 0 done, 2 command line, or there is no such fault, 3 device, 4 out of memory.";
+
 /// A path that has to be given.
 fn path<'a>(alloc: Global, id: &'a str, help: &'a str) -> Arg<'a> {
     Arg::new(alloc, id).required(true).help(help)
@@ -369,6 +384,15 @@ fn witness<'a>(alloc: Global) -> Result<Command<'a>, AllocError> {
     with(command, path(alloc, "WITNESS", "The witness for OUT"))
 }
 
+fn explain<'a>(alloc: Global) -> Result<Command<'a>, AllocError> {
+    Command::new(alloc, "explain")
+        .about(EXPLAIN_ABOUT)
+        .long_about(EXPLAIN_LONG_ABOUT)
+        .after_help(EXPLAIN_EXAMPLE)
+        .arg_required_else_help(true)
+        .arg(path(alloc, "FAULT", "The name of the fault"))
+}
+
 /// The program without its commands.
 fn bare_program<'a>(alloc: Global) -> Command<'a> {
     Command::new(alloc, "fretime")
@@ -390,5 +414,6 @@ pub(crate) fn program<'a>(alloc: Global) -> Result<Command<'a>, AllocError> {
     let program = with_command(program, same(alloc));
     let program = with_command(program, verify(alloc));
     let program = with_command(program, dot(alloc));
-    with_command(program, witness(alloc))
+    let program = with_command(program, witness(alloc));
+    with_command(program, explain(alloc))
 }

@@ -33,6 +33,7 @@ fn stdin_uses(task: &Task<'_>) -> usize
         ]),
         Task::Verify(verification) => stdin_count(&[verification.input, verification.certificates]),
         Task::Dot(drawing) => stdin_count(&[drawing.input]),
+        Task::Explain(_) => 0,
     }
 }
 
@@ -52,7 +53,8 @@ fn stdout_uses(task: &Task<'_>) -> usize
         | Task::Sim(_, _)
         | Task::Same(_, _, _)
         | Task::Verify(_)
-        | Task::Witness(_, _, _) => 0,
+        | Task::Witness(_, _, _)
+        | Task::Explain(_) => 0,
     }
 }
 

@@ -87,4 +87,6 @@ pub enum Task<'a> {
     Dot(Drawing<'a>),
     /// Carry a witness of a retimed circuit, the second, back to the first.
     Witness(Source<'a>, Source<'a>, Source<'a>),
+    /// Print the page of the fault with this name.
+    Explain(&'a str),
 }

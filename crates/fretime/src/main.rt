@@ -3,11 +3,13 @@
 #![tactic(auto)]
 
 mod batch;
+mod explaining;
 mod run;
 
 use counted_io::Counted;
 use run::{report_unreadable_arguments, run_words};
 use std::env::Env;
+use std::io::IsTerminal;
 use std::process::ExitCode;
 use std::{env, io};
 
@@ -20,11 +22,13 @@ fn main(rt: HostRuntime) -> ExitCode {
     let mut stdin = Counted::new(rt.stdin());
     let mut out = Counted::new(rt.stdout());
     let mut err = Counted::new(rt.stderr());
+    let is_terminal = rt.stderr().is_terminal();
     let status = match words(&rt) {
         Ok(words) => run_words(
             &rt,
             rt.alloc(),
             words.as_slice(),
+            is_terminal,
             &mut stdin,
             &mut out,
             &mut err,

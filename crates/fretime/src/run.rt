@@ -8,6 +8,7 @@ ghost use Rattle.fretime.specs.Runs.{MayPrint};
 ghost use Rattle.fretime.specs.Batches.{PrintsFiles};
 
 use crate::batch::retime_list;
+use crate::explaining::explain;
 use circuit_files::{Failure, Outcome};
 use clap::Error;
 use clap::error::ErrorKind;
@@ -17,6 +18,7 @@ use commands::{
     print_verification, print_witness_back, report_failure, write_picture,
 };
 use counted_io::{Buffered, CountedRead, CountedWrite};
+use failure_hints::give_hint;
 use std::alloc::Global;
 use std::fmt::Write;
 use std::io;
@@ -24,16 +26,26 @@ use std::rt::Files;
 use std::thread::Threads;
 
 /// How a command ends. Where it failed, reports why.
-fn reported<'a, E: CountedWrite>(ended: Result<Outcome, Failure<'a>>, err: &mut E) -> Outcome
+fn reported<'a, R: Files, E: CountedWrite>(
+    rt: &R,
+    alloc: Global,
+    ended: Result<Outcome, Failure<'a>>,
+    is_terminal: bool,
+    err: &mut E,
+) -> Outcome
     ensures { result ≡ ending ended.entry }
 {
     match ended {
         Ok(outcome) => outcome,
-        Err(failure) => report_failure(failure, err),
+        Err(failure) => {
+            let outcome = report_failure(failure, err);
+            give_hint(rt, alloc, failure, is_terminal, err);
+            outcome
+        }
     }
 }
 
-/// Does what the command line asks for, and returns how the run ends.
+/// Does what the command line asks for.
 fn run_task<'a, R: Files + Threads + Sync, I: CountedRead, O: CountedWrite, E: CountedWrite>(
     rt: &R,
     alloc: Global,
@@ -41,40 +53,26 @@ fn run_task<'a, R: Files + Threads + Sync, I: CountedRead, O: CountedWrite, E: C
     stdin: &mut I,
     out: &mut O,
     err: &mut E,
-) -> Outcome
-    ensures { MayPrint result (O.output out.old) (O.output out.new) }
+) -> Result<Outcome, Failure<'a>>
+    ensures { MayPrint (ending result) (O.output out.old) (O.output out.new) }
 {
     match task {
-        Task::Retime(retiming) => {
-            let ended = print_retimed(rt, alloc, retiming, stdin, out, err);
-            reported(ended, err)
-        }
-        Task::Batch(batch) => retime_list(rt, alloc, batch, stdin, out, err),
-        Task::Stat(input) => reported(print_statistics(rt, alloc, *input, stdin, out), err),
+        Task::Retime(retiming) => print_retimed(rt, alloc, retiming, stdin, out, err),
+        Task::Batch(batch) => Ok(retime_list(rt, alloc, batch, stdin, out, err)),
+        Task::Stat(input) => print_statistics(rt, alloc, *input, stdin, out),
         Task::Convert(input, output, spelling) => {
-            let ended = convert(rt, alloc, *input, *output, *spelling, stdin, out);
-            reported(ended, err)
+            convert(rt, alloc, *input, *output, *spelling, stdin, out)
         }
-        Task::Sim(input, stimulus) => {
-            let ended = print_simulation(rt, alloc, *input, *stimulus, stdin, out);
-            reported(ended, err)
-        }
+        Task::Sim(input, stimulus) => print_simulation(rt, alloc, *input, *stimulus, stdin, out),
         Task::Same(first, second, stimulus) => {
-            let ended = print_comparison(rt, alloc, *first, *second, *stimulus, stdin, out);
-            reported(ended, err)
+            print_comparison(rt, alloc, *first, *second, *stimulus, stdin, out)
         }
-        Task::Verify(verification) => {
-            let ended = print_verification(rt, alloc, verification, stdin, out);
-            reported(ended, err)
-        }
-        Task::Dot(drawing) => {
-            let ended = write_picture(rt, alloc, drawing, stdin, out);
-            reported(ended, err)
-        }
+        Task::Verify(verification) => print_verification(rt, alloc, verification, stdin, out),
+        Task::Dot(drawing) => write_picture(rt, alloc, drawing, stdin, out),
         Task::Witness(input, retimed, witness) => {
-            let ended = print_witness_back(rt, alloc, *input, *retimed, *witness, stdin, out);
-            reported(ended, err)
+            print_witness_back(rt, alloc, *input, *retimed, *witness, stdin, out)
         }
+        Task::Explain(name) => explain(alloc, *name, out, err),
     }
 }
 
@@ -115,6 +113,7 @@ fn run_command<R: Files + Threads + Sync, I: CountedRead, O: CountedWrite, E: Co
     rt: &R,
     alloc: Global,
     words: &[String],
+    is_terminal: bool,
     stdin: &mut I,
     out: &mut O,
     err: &mut E,
@@ -122,7 +121,10 @@ fn run_command<R: Files + Threads + Sync, I: CountedRead, O: CountedWrite, E: Co
     ensures { MayPrint result (O.output out.old) (O.output out.new) }
 {
     match parse_arguments(alloc, words) {
-        Ok(task) => run_task(rt, alloc, &task, stdin, out, err),
+        Ok(task) => {
+            let ended = run_task(rt, alloc, &task, stdin, out, err);
+            reported(rt, alloc, ended, is_terminal, err)
+        }
         Err(error) => report_usage(&error, err),
     }
 }
@@ -132,11 +134,13 @@ fn run_command<R: Files + Threads + Sync, I: CountedRead, O: CountedWrite, E: Co
 ///
 /// `stdin`, `out` and `err` are the standard streams. What was done is printed to `out` once the file is written; of a batch, file by
 /// file. Where a circuit or certificates are written to `out`, that is printed to `err`. Why nothing was done goes to `err`, and so do
-/// help and the version; a failed write to `err` doesn't change the status. The texts on `err` are only tested.
+/// help and the version; a failed write to `err` doesn't change the status. Where `is_terminal`, that standard error is a terminal,
+/// a refused circuit's line at fault follows there. The texts on `err` are only tested.
 pub fn run_words<R: Files + Threads + Sync, I: CountedRead, O: CountedWrite, E: CountedWrite>(
     rt: &R,
     alloc: Global,
     words: &[String],
+    is_terminal: bool,
     stdin: &mut I,
     out: &mut O,
     err: &mut E,
@@ -149,5 +153,5 @@ pub fn run_words<R: Files + Threads + Sync, I: CountedRead, O: CountedWrite, E: 
     ensures memory { (result ≡ 4) → (O.output out.new ≡ O.output out.old)
         ⊎ PrintsFiles Memory (O.output out.old) (O.output out.new) }
 {
-    run_command(rt, alloc, words, stdin, out, err).status()
+    run_command(rt, alloc, words, is_terminal, stdin, out, err).status()
 }

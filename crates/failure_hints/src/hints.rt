@@ -1,0 +1,146 @@
+//! Nothing that is told beside the fixed text of a failure changes how the run ends: a file that can't be read again, want of memory
+//! and a failed write leave it out.
+use crate::line::line_of_file;
+use aig_graph::Circuit;
+use circuit_files::{Failure, circuit_at};
+use counted_io::{Buffered, Counted, CountedWrite};
+use fault_pages::{Fault, nearest, printable};
+use file_words::ReadError;
+use std::alloc::{AllocError, Global};
+use std::rt::Files;
+use std::{fs, io};
+use stream_paths::Source;
+
+/// The fault of a circuit that an error of reading is, and the offset of its line, if it has one.
+fn fault_of(error: ReadError) -> Option<(Fault, Option<u64>)> {
+    match error {
+        ReadError::BadHeader(at) => Some((Fault::BadHeader, Some(at))),
+        ReadError::TooLarge(at) => Some((Fault::TooLarge, Some(at))),
+        ReadError::MaxIndex(at) => Some((Fault::MaxIndex, Some(at))),
+        ReadError::BadLine(at) => Some((Fault::BadLine, Some(at))),
+        ReadError::BadLiteral(at) => Some((Fault::BadLiteral, Some(at))),
+        ReadError::DefinedTwice(at) => Some((Fault::DefinedTwice, Some(at))),
+        ReadError::Undefined => Some((Fault::Undefined, None)),
+        ReadError::Cycle => Some((Fault::Cycle, None)),
+        ReadError::BadReset(at) => Some((Fault::BadReset, Some(at))),
+        ReadError::BadDelta(at) => Some((Fault::BadDelta, Some(at))),
+        ReadError::Truncated(at) => Some((Fault::Truncated, Some(at))),
+        ReadError::BadSymbol(at) => Some((Fault::BadSymbol, Some(at))),
+        ReadError::Trailing(at) => Some((Fault::Trailing, Some(at))),
+        ReadError::NoMemory | ReadError::Device => None,
+    }
+}
+
+/// Whether what a failure names is a file that can be read again: not standard input, whose name is `stdin`, and no pipe, since
+/// opening one again would wait for a writer.
+fn can_be_read_again<R: Files>(rt: &R, name: &str) -> bool {
+    if name == "stdin" {
+        return false;
+    }
+    match fs::metadata(rt, name) {
+        Ok(metadata) => metadata.is_file(),
+        Err(_) => false,
+    }
+}
+
+/// Puts the line of an ASCII circuit at fault, and what the fault is.
+fn put_fault<R: Files, W: CountedWrite>(
+    rt: &R,
+    alloc: Global,
+    path: &str,
+    error: ReadError,
+    out: &mut Buffered<'_, W>,
+) {
+    let Some((fault, offset)) = fault_of(error) else {
+        return;
+    };
+    if let Some(offset) = offset {
+        if can_be_read_again(rt, path) {
+            put_line(rt, alloc, path, offset, out);
+        }
+    }
+    out.put(fault.page().meaning.as_bytes());
+    out.put(b" 'fretime explain ");
+    out.put(fault.name().as_bytes());
+    out.put(b"' says more.\n");
+}
+
+fn put_line<R: Files, W: CountedWrite>(
+    rt: &R,
+    alloc: Global,
+    path: &str,
+    offset: u64,
+    out: &mut Buffered<'_, W>,
+) {
+    if let Some(line) = line_of_file(rt, alloc, path, offset) {
+        out.put(line.as_slice());
+        drop(line);
+    }
+}
+
+/// Puts a name; no byte of it steers the terminal.
+fn put_found<W: CountedWrite>(name: &[u8], out: &mut Buffered<'_, W>) {
+    out.put(b"the nearest name of a latch is ");
+    for byte in name {
+        out.put_byte(printable(*byte));
+    }
+    out.put(b"\n");
+}
+
+/// Puts the name of a latch that is nearest to this one, if one is near.
+fn put_nearest<W: CountedWrite>(
+    alloc: Global,
+    circuit: &Circuit,
+    name: &str,
+    out: &mut Buffered<'_, W>,
+) -> Result<(), AllocError> {
+    let mut names = Vec::new(alloc);
+    for symbol in circuit.symbols().latches.as_slice() {
+        names.push(symbol.name.as_slice())?;
+    }
+    if let Some(place) = nearest(alloc, name.as_bytes(), names.as_slice())? {
+        put_found(names.get(place).copied().unwrap_or(b""), out);
+    }
+    Ok(())
+}
+
+/// Reads the circuit of a file again, for the names of its latches.
+fn put_name<R: Files, W: CountedWrite>(
+    rt: &R,
+    alloc: Global,
+    path: &str,
+    name: &str,
+    out: &mut Buffered<'_, W>,
+) {
+    let mut nothing = Counted::new(io::empty());
+    if let Ok(spelt) = circuit_at(rt, alloc, Source::File(path), &mut nothing) {
+        let _ = put_nearest(alloc, &spelt.circuit, name, out);
+        drop(spelt);
+    }
+}
+
+/// Says more of a failure on standard error: the nearest name to one that no latch has, and, where that is a terminal, the line at
+/// fault of a refused ASCII circuit, and what the fault is. Only a regular file is read again, and none of the name `stdin`.
+pub fn give_hint<R: Files, E: CountedWrite>(
+    rt: &R,
+    alloc: Global,
+    failure: Failure<'_>,
+    is_terminal: bool,
+    err: &mut E,
+) {
+    let mut out = Buffered::new(err);
+    match failure {
+        Failure::Refused(path, error) => {
+            if is_terminal {
+                put_fault(rt, alloc, path, error, &mut out);
+            }
+        }
+        Failure::NoSuchName(path, name) => {
+            if can_be_read_again(rt, path) {
+                put_name(rt, alloc, path, name, &mut out);
+            }
+        }
+        _ => {}
+    }
+    let _ = out.flush();
+}
