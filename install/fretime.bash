@@ -25,8 +25,8 @@ _fretime() {
         explain)
             if [ "$COMP_CWORD" = 2 ]; then
                 mapfile -t COMPREPLY < <(compgen -W "--help BadHeader TooLarge MaxIndex BadLine BadLiteral DefinedTwice Undefined Cycle \
-                    BadReset BadDelta Truncated BadSymbol Trailing Width TooMany NoSuchName \
-                    NoSuchProperty TooManyNodes NotClosed BadRoute UsedTwice CountDiffers" -- "$word")
+                    BadReset BadDelta Truncated BadSymbol Trailing Width TooMany NoSuchProperty \
+                    NoSuchName TooManyNodes NotClosed BadRoute UsedTwice CountDiffers" -- "$word")
             fi
             return
             ;;

@@ -47,4 +47,4 @@ complete -c fretime -n '__fish_seen_subcommand_from dot' -x -l depth -d 'How man
 
 complete -c fretime -n '__fish_seen_subcommand_from retime verify dot' -x -l keep -a '(__fretime_names)'
 
-complete -c fretime -n '__fish_seen_subcommand_from explain' -f -a 'BadHeader TooLarge MaxIndex BadLine BadLiteral DefinedTwice Undefined Cycle BadReset BadDelta Truncated BadSymbol Trailing Width TooMany NoSuchName NoSuchProperty TooManyNodes NotClosed BadRoute UsedTwice CountDiffers'
+complete -c fretime -n '__fish_seen_subcommand_from explain' -f -a 'BadHeader TooLarge MaxIndex BadLine BadLiteral DefinedTwice Undefined Cycle BadReset BadDelta Truncated BadSymbol Trailing Width TooMany NoSuchProperty NoSuchName TooManyNodes NotClosed BadRoute UsedTwice CountDiffers'

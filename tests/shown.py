@@ -135,7 +135,7 @@ def can_run(command, folder):
     circuits = re.findall(r'(?<!write_aiger )\b[\w./]+\.a[ai]g\b', command)
     if name in OWN:
         return all((folder / circuit).exists() for circuit in circuits[:1])
-    files = circuits if name == 'berkeley-abc' else ['match.map'] if name == 'sed' else []
+    files = circuits if name == 'berkeley-abc' else re.findall(r'(\S+) >', command) if name == 'sed' else []
     return shutil.which(name) is not None and all((folder / file).exists() for file in files)
 
 
