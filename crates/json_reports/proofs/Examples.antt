@@ -1,0 +1,79 @@
+-- The lines of worked reports, computed.
+use Rattle.std.proofs.Common.{◌≡◌, [], ◌∷◌, Some, None, refl}
+use Rattle.std.specs.Prelude.{ℕ, List, codes}
+use Rattle.std.specs.Borrow.{Bor}
+use Rattle.std.specs.Fmt.{digits}
+use Rattle.file_words.specs.declared.fault.ReadError.TheVariants.{BadHeader}
+use Rattle.reports.specs.declared.batch.JobReport.TheVariants.{Done, Refused}
+use Rattle.certificates.specs.declared.verdict.Objection.TheVariants.{BadRoute}
+use Rattle.certificate_audits.specs.declared.outcome.End.TheVariants.{Objected}
+use Rattle.aig_graph.specs.Circuits.{Netlist}
+use Rattle.aig_graph.specs.declared.graph.Reset.TheVariants.{Zero}
+use Rattle.serde_json.proofs.OnLiterals.{serde_json_on_literals}
+use Rattle.json_reports.specs.Audits.{audit_data}
+use Rattle.json_reports.specs.Batches.{batch_data}
+use Rattle.json_reports.specs.Counts.{statistics_data}
+use Rattle.json_reports.specs.Differences.{difference_data}
+use Rattle.json_reports.specs.Lines.{json_line}
+use Rattle.json_reports.specs.Refusals.{refusal_data}
+use Rattle.json_reports.specs.Retimings.{retiming_data}
+use Rattle.json_reports.specs.declared.fault.Fault.TheVariants.{NoSuchName}
+
+-- two inputs, a latch after each, and a gate that reads both
+abbrev two_latches : Netlist
+two_latches = record {
+  aig = record {
+    inputs = 2;
+    latches = record { next = 2; reset = Zero } ∷ record { next = 4; reset = Zero } ∷ [];
+    gates = record { rhs0 = 8; rhs1 = 6 } ∷ [];
+  };
+  props = record { outputs = 10 ∷ []; bad = []; constraints = []; justice = []; fairness = [] };
+  symbols = record { inputs = []; latches = []; outputs = []; bad = []; constraints = []; justice = []; fairness = [] };
+}
+
+same_example : json_line (difference_data None) ≡ codes "{\"command\":\"same\",\"difference\":null,\"result\":\"Same\",\"status\":0}\n"
+unfolding serde_json_on_literals digits
+same_example = refl
+
+differ_example : json_line (difference_data (Some (record { sequence = 0; step = 13; place = 1 })))
+    ≡ codes "{\"command\":\"same\",\"difference\":{\"place\":1,\"sequence\":0,\"step\":13},\"result\":\"Differ\",\"status\":5}\n"
+unfolding serde_json_on_literals digits
+differ_example = refl
+
+stat_example : json_line (statistics_data two_latches 1)
+    ≡ codes "{\"circuit\":{\"bad\":0,\"constraints\":0,\"fairness\":0,\"free\":0,\"gates\":1,\"inputs\":2,\"justice\":0,\"latches\":2,\"outputs\":1},\"command\":\"stat\",\"passable\":1,\"status\":0}\n"
+unfolding serde_json_on_literals digits
+stat_example = refl
+
+audit_example : json_line (audit_data [] (record { confirmed = 0; end = Objected BadRoute }) 5)
+    ≡ codes "{\"command\":\"verify\",\"counts\":[],\"end\":\"Objected\",\"objection\":\"BadRoute\",\"status\":5}\n"
+unfolding serde_json_on_literals digits
+audit_example = refl
+
+batch_example : json_line (batch_data (Done 2 1 ∷ Refused (BadHeader 0) ∷ []) 1)
+    ≡ codes "{\"command\":\"batch\",\"files\":[{\"fault\":null,\"latches\":{\"after\":1,\"before\":2}},{\"fault\":{\"name\":\"BadHeader\",\"offset\":0},\"latches\":null}],\"status\":1}\n"
+unfolding serde_json_on_literals digits
+batch_example = refl
+
+-- one latch after the gate, in place of the two
+abbrev one_latch : Netlist
+one_latch = record {
+  aig = record {
+    inputs = 2;
+    latches = record { next = 8; reset = Zero } ∷ [];
+    gates = record { rhs0 = 4; rhs1 = 2 } ∷ [];
+  };
+  props = record { outputs = 6 ∷ []; bad = []; constraints = []; justice = []; fairness = [] };
+  symbols = record { inputs = []; latches = []; outputs = []; bad = []; constraints = []; justice = []; fairness = [] };
+}
+
+retime_example : json_line (retiming_data (record { circuit = one_latch; kept_free = []; read_latches = 2; frames = record { before = 2; after = 1; moved = 1 } ∷ []; certificates = [] }))
+    ≡ codes "{\"after\":{\"bad\":0,\"constraints\":0,\"fairness\":0,\"free\":0,\"gates\":1,\"inputs\":2,\"justice\":0,\"latches\":1,\"outputs\":1},\"before\":{\"latches\":2},\"command\":\"retime\",\"frames\":[{\"after\":1,\"before\":2,\"gates\":1}],\"free_kept\":[],\"status\":0}\n"
+unfolding serde_json_on_literals digits
+retime_example = refl
+
+-- a quotation mark in a name is escaped
+refusal_example : (text : Bor (List ℕ)) → json_line (refusal_data (record { command = record text { now = codes "retime" }; fault = NoSuchName; latch = Some (record text { now = codes "a\"b" }); path = Some (record text { now = codes "in.aag" }); status = 1 }))
+    ≡ codes "{\"command\":\"retime\",\"fault\":{\"name\":\"NoSuchName\",\"offset\":null},\"latch\":\"a\\\"b\",\"path\":\"in.aag\",\"status\":1}\n"
+unfolding serde_json_on_literals digits
+refusal_example text = refl

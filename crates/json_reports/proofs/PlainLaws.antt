@@ -1,0 +1,121 @@
+-- What is printed has no float and nests a few levels, so that readers take it.
+use Rattle.std.proofs.Common.{ℕ, ◌≡◌, ◌≤◌, suc, false, List, [], ◌∷◌, map, Option, Some, None, Result, refl, sym, subst, arith}
+use Rattle.std.specs.Prelude.{codes}
+use Rattle.std.proofs.Math.Nat.{max-le}
+use Rattle.std.proofs.lemmas.Bool.{or_from}
+use Rattle.aig_graph.specs.Circuits.{Netlist}
+use Rattle.certificates.specs.declared.certificate.Certificate.{Certificate}
+use Rattle.certificate_audits.specs.declared.outcome.Audit.{Audit}
+use Rattle.counted_io.specs.Output.{Output}
+use Rattle.lane_sim.specs.declared.difference.Place.{Place}
+use Rattle.reports.specs.declared.batch.JobReport.{JobReport}
+use Rattle.reports.specs.declared.batch.JobReport.TheVariants.{Done, Refused, NoMemory, NoSuchName}
+use Rattle.retimed_circuits.specs.declared.report.Retimed.{Retimed}
+use Rattle.serde_json.specs.Data.{Data, null, string, object, array, Members, member, no_members, depth, items_depth, members_depth}
+use Rattle.serde_json.specs.View.{items_of}
+use Rattle.serde_json.specs.Written.{has_float, items_have_float, members_have_float}
+use Rattle.json_reports.specs.Audits.{audit_data, block_data, objection_at, objection_name}
+use Rattle.json_reports.specs.Batches.{batch_data, job_data, latches_data}
+use Rattle.json_reports.specs.Counts.{circuit_data, statistics_data}
+use Rattle.json_reports.specs.Differences.{difference_data, place_data, shapes_data}
+use Rattle.json_reports.specs.Faults.{fault_data, fault_offset}
+use Rattle.json_reports.specs.Lines.{IsPlain, PrintsLine}
+use Rattle.json_reports.specs.Members.{count, array_of, or_null}
+use Rattle.json_reports.specs.Refusals.{refusal_data}
+use Rattle.json_reports.specs.Retimings.{before_data, frame_data, retiming_data}
+use Rattle.json_reports.specs.declared.fault.Fault.{Fault}
+use Rattle.json_reports.specs.declared.fault.Fault.TheVariants as faults
+use Rattle.json_reports.specs.declared.printing.PrintError.{PrintError}
+use Rattle.json_reports.specs.declared.refusal.Refusal.{Refusal}
+
+record Plain (n : ℕ) (d : Data) : Type 0 where
+  whole : has_float d ≡ false
+  nests : depth d ≤ n
+
+record PlainMembers (n : ℕ) (ms : Members) : Type 0 where
+  whole : members_have_float ms ≡ false
+  nests : members_depth ms ≤ n
+
+plain-none : {n : ℕ} → PlainMembers n no_members
+plain-none = record { whole = refl; nests = omega arith }
+
+plain-member : {n : ℕ} {k : List ℕ} {d : Data} {ms : Members} → Plain n d → PlainMembers n ms → PlainMembers n (member k d ms)
+plain-member p q = record { whole = or_from _ _ p.whole q.whole; nests = max-le p.nests q.nests }
+
+plain-object : {n : ℕ} {ms : Members} → PlainMembers n ms → Plain (suc n) (object ms)
+plain-object p = record { whole = p.whole; nests = omega (arith, p.nests) }
+
+plain-null : {n : ℕ} → Plain n null
+plain-null = record { whole = refl; nests = omega arith }
+
+plain-string : {n : ℕ} (s : List ℕ) → Plain n (string s)
+plain-string s = record { whole = refl; nests = omega arith }
+
+plain-count : {n : ℕ} (m : ℕ) → Plain n (count m)
+plain-count m = record { whole = refl; nests = omega arith }
+
+plain-or_null : {X : Type 0} {n : ℕ} (value : X → Data) → ((x : X) → Plain n (value x)) → (o : Option X) → Plain n (or_null value o)
+plain-or_null value each None = plain-null
+plain-or_null value each (Some x) = each x
+
+floats-none : {X : Type 0} (n : ℕ) (value : X → Data) (xs : List X) → ((x : X) → Plain n (value x)) → items_have_float (items_of (map value xs)) ≡ false
+floats-none n value [] each = refl
+floats-none n value (x ∷ xs) each = let e = each x in or_from _ _ e.whole (floats-none n value xs each)
+
+nests-most : {X : Type 0} (n : ℕ) (value : X → Data) (xs : List X) → ((x : X) → Plain n (value x)) → items_depth (items_of (map value xs)) ≤ n
+nests-most n value [] each = omega arith
+nests-most n value (x ∷ xs) each = let e = each x in max-le e.nests (nests-most n value xs each)
+
+plain-array : {X : Type 0} {n : ℕ} (value : X → Data) (xs : List X) → ((x : X) → Plain n (value x)) → Plain (suc n) (array_of value xs)
+plain-array {n = n} value xs each = let below = nests-most n value xs each in record { whole = floats-none n value xs each; nests = omega (arith, below) }
+
+is_plain : {n : ℕ} {d : Data} → n ≤ 127 → Plain n d → IsPlain d
+is_plain few p = record { whole = p.whole; nests = omega (arith, few, p.nests) }
+
+plain-fault : (fault : Fault) → Plain 1 (fault_data fault)
+plain-fault fault = plain-object (plain-member (plain-string _) (plain-member (plain-or_null count plain-count (fault_offset fault)) plain-none))
+
+plain-circuit : {n : ℕ} (c : Netlist) → Plain (suc n) (circuit_data c)
+plain-circuit c = record { whole = refl; nests = omega arith }
+
+pub statistics : (c : Netlist) (passable : ℕ) → IsPlain (statistics_data c passable)
+statistics c passable = record { whole = refl; nests = omega arith }
+
+pub difference : (found : Option Place) → IsPlain (difference_data found)
+difference None = record { whole = refl; nests = omega arith }
+difference (Some place) = record { whole = refl; nests = omega arith }
+
+pub shapes : IsPlain shapes_data
+shapes = record { whole = refl; nests = omega arith }
+
+plain-frame : (f : _) → Plain 1 (frame_data f)
+plain-frame f = record { whole = refl; nests = omega arith }
+
+pub retiming : (r : Retimed) → IsPlain (retiming_data r)
+retiming r =
+    is_plain {n = 3} (omega arith) (plain-object (plain-member (plain-circuit r.circuit) (plain-member record { whole = refl; nests = omega arith }
+    (plain-member (plain-string _) (plain-member (plain-array frame_data r.frames plain-frame) (plain-member (plain-array count r.kept_free plain-count) (plain-member (plain-count 0) plain-none)))))))
+
+pub audit : (blocks : List Certificate) (a : Audit) (status : ℕ) → IsPlain (audit_data blocks a status)
+audit blocks a status =
+    is_plain {n = 2} (omega arith) (plain-object (plain-member (plain-string _) (plain-member (plain-array block_data _ (λ b. plain-count b.count))
+    (plain-member (plain-string _) (plain-member (plain-or_null (λ o. string (objection_name o)) (λ o. plain-string _) (objection_at a.end)) (plain-member (plain-count status) plain-none))))))
+
+plain-job : (report : JobReport) → Plain 2 (job_data report)
+plain-job (Done before after) = record { whole = refl; nests = omega arith }
+plain-job (Refused fault) = plain-object (plain-member (plain-fault (faults.Circuit fault)) (plain-member {k = codes "latches"} plain-null plain-none))
+plain-job NoMemory = record { whole = refl; nests = omega arith }
+plain-job NoSuchName = record { whole = refl; nests = omega arith }
+
+pub batch : (reports : List JobReport) (status : ℕ) → IsPlain (batch_data reports status)
+batch reports status =
+    is_plain {n = 4} (omega arith) (plain-object (plain-member (plain-string _) (plain-member (plain-array job_data reports plain-job) (plain-member (plain-count status) plain-none))))
+
+pub refusal : (r : Refusal) → IsPlain (refusal_data r)
+refusal r =
+    is_plain {n = 2} (omega arith) (plain-object (plain-member (plain-string _) (plain-member (plain-fault r.fault) (plain-member (plain-or_null (λ name. string name.now) (λ name. plain-string _) r.latch)
+    (plain-member (plain-or_null (λ path. string path.now) (λ path. plain-string _) r.path) (plain-member (plain-count r.status) plain-none))))))
+
+-- what prints a value prints what that is, where it is plain
+pub prints_as : {T : Type 0} {d e : Data} (old new : Output) (result : Result T PrintError) → d ≡ e → IsPlain e → (IsPlain d → PrintsLine d old new result) → PrintsLine e old new result
+prints_as old new result same plain prints = subst (λ x. PrintsLine x old new result) same (prints (subst IsPlain (sym same) plain))

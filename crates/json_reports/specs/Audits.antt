@@ -1,0 +1,43 @@
+-- An audit of certificates, as an object.
+use Rattle.std.specs.Prelude.{ℕ, List, Option, Some, None, take, codes}
+use Rattle.certificates.specs.declared.certificate.Certificate.{Certificate}
+use Rattle.certificates.specs.declared.verdict.Objection.{Objection}
+use Rattle.certificates.specs.declared.verdict.Objection.TheVariants.{NotClosed, BadRoute, UsedTwice, CountDiffers}
+use Rattle.certificate_audits.specs.declared.outcome.Audit.{Audit}
+use Rattle.certificate_audits.specs.declared.outcome.End.{End}
+use Rattle.certificate_audits.specs.declared.outcome.End.TheVariants.{NoBlocks, Certified, Open, BlocksFollow, Objected}
+use Rattle.serde_json.specs.Data.{Data, string, object, member, no_members}
+use Rattle.json_reports.specs.Members.{count, array_of, or_null}
+
+abbrev pub end_name : End → List ℕ
+end_name NoBlocks = codes "NoBlocks"
+end_name Certified = codes "Certified"
+end_name Open = codes "Open"
+end_name BlocksFollow = codes "BlocksFollow"
+end_name (Objected objection) = codes "Objected"
+
+abbrev pub objection_name : Objection → List ℕ
+objection_name NotClosed = codes "NotClosed"
+objection_name BadRoute = codes "BadRoute"
+objection_name UsedTwice = codes "UsedTwice"
+objection_name CountDiffers = codes "CountDiffers"
+
+-- why the block after the confirmed ones isn't confirmed
+abbrev pub objection_at : End → Option Objection
+objection_at (Objected objection) = Some objection
+objection_at NoBlocks = None
+objection_at Certified = None
+objection_at Open = None
+objection_at BlocksFollow = None
+
+abbrev pub block_data : Certificate → Data
+block_data block = count block.count
+
+-- the counts of the confirmed blocks, in order, and how the audit ended
+abbrev pub audit_data : List Certificate → Audit → ℕ → Data
+audit_data blocks audit status =
+    object (member (codes "command") (string (codes "verify"))
+    (member (codes "counts") (array_of block_data (take audit.confirmed blocks))
+    (member (codes "end") (string (end_name audit.end))
+    (member (codes "objection") (or_null (λ objection. string (objection_name objection)) (objection_at audit.end))
+    (member (codes "status") (count status) no_members)))))

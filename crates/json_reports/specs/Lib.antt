@@ -1,0 +1,9 @@
+pub mod Members
+pub mod Lines
+pub mod Counts
+pub mod Differences
+pub mod Retimings
+pub mod Audits
+pub mod Faults
+pub mod Refusals
+pub mod Batches

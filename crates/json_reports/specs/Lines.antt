@@ -1,0 +1,23 @@
+-- An object of JSON on a line, and what printing it does.
+use Rattle.std.specs.Prelude.{ℕ, ◌≡◌, ◌≤◌, List, [], ◌∷◌, ◌++◌, Some, Bool, false, Result, Ok, Err}
+use Rattle.counted_io.specs.Output.{Output, WritesAll, WritesPart}
+use Rattle.serde_json.specs.Data.{Data, depth}
+use Rattle.serde_json.specs.Read.{read, max_depth}
+use Rattle.serde_json.specs.Written.{compact_text, has_float}
+use Rattle.json_reports.specs.declared.printing.PrintError.{PrintError}
+use Rattle.json_reports.specs.declared.printing.PrintError.TheVariants.{NoMemory, Device}
+
+-- the value without a space, and a newline
+abbrev pub json_line : Data → List ℕ
+json_line d = compact_text d ++ 10 ∷ []
+
+-- no number is a float, and arrays and objects nest no deeper than readers take them
+pub record IsPlain (d : Data) : Type 0 where
+  pub whole : has_float d ≡ false
+  pub nests : depth d ≤ max_depth
+
+-- all of the line is written, and its value is read back; a beginning of it where a write failed; nothing where memory was refused
+abbrev pub PrintsLine : {T : Type 0} → Data → Output → Output → Result T PrintError → Type 0
+PrintsLine d old new (Ok x) = WritesAll old new (json_line d) × (read (compact_text d) ≡ Some d)
+PrintsLine d old new (Err Device) = WritesPart old new (json_line d)
+PrintsLine d old new (Err NoMemory) = new ≡ old

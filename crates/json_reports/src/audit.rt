@@ -1,0 +1,90 @@
+//! An audit of certificates.
+ghost use Rattle.std.specs.Prelude.{◌≡◌, IfOk, take};
+ghost use Rattle.serde_json.specs.View.{view};
+ghost use Rattle.json_reports.specs.Audits.{audit_data, block_data};
+ghost use Rattle.json_reports.specs.Audits as names;
+ghost use Rattle.json_reports.specs.Members.{array_of, or_null};
+ghost use Rattle.serde_json.specs.Data.{string};
+
+use certificate_audits::{Audit, End};
+use certificates::{Certificate, Objection};
+use serde_json::{Value, json};
+use std::alloc::{AllocError, Global};
+
+fn end_name(end: End) -> &'static str
+    ensures { result.now ≡ names.end_name end }
+{
+    match end {
+        End::NoBlocks => "NoBlocks",
+        End::Certified => "Certified",
+        End::Open => "Open",
+        End::BlocksFollow => "BlocksFollow",
+        End::Objected(_) => "Objected",
+    }
+}
+
+fn objection_name(objection: Objection) -> &'static str
+    ensures { result.now ≡ names.objection_name objection }
+{
+    match objection {
+        Objection::NotClosed => "NotClosed",
+        Objection::BadRoute => "BadRoute",
+        Objection::UsedTwice => "UsedTwice",
+        Objection::CountDiffers => "CountDiffers",
+    }
+}
+
+fn objection_value(alloc: Global, end: End) -> Result<Value, AllocError>
+    ensures { IfOk result (λ v. view v
+        ≡ or_null (λ o. string (names.objection_name o)) (names.objection_at end)) }
+{
+    match end {
+        End::Objected(objection) => Value::try_from_str(alloc, objection_name(objection)),
+        _ => Ok(Value::Null),
+    }
+}
+
+fn counts_array(alloc: Global, blocks: &[Certificate]) -> Result<Value, AllocError>
+    ensures { IfOk result (λ v. view v ≡ array_of block_data blocks.now) }
+{
+    let mut list = Vec::new(alloc);
+    for block in blocks {
+        serde_json::push(&mut list, Value::from(block.count))?;
+    }
+    Ok(Value::Array(list))
+}
+
+/// The first blocks, so many as are confirmed.
+fn first_blocks(blocks: &[Certificate], confirmed: usize) -> &[Certificate]
+    ensures { result.now ≡ take confirmed blocks.now }
+{
+    if confirmed < blocks.len() {
+        &blocks[..confirmed]
+    } else {
+        blocks
+    }
+}
+
+/// What `verify` prints of the audit of a file's blocks, where it ends with this status.
+///
+/// # Errors
+///
+/// Memory is refused.
+pub fn audit_object(
+    alloc: Global,
+    blocks: &[Certificate],
+    audit: Audit,
+    status: u8,
+) -> Result<Value, AllocError>
+    ensures { IfOk result (λ v. view v ≡ audit_data blocks.now audit status) }
+{
+    let counts = counts_array(alloc, first_blocks(blocks, audit.confirmed))?;
+    let objection = objection_value(alloc, audit.end)?;
+    json!(in alloc; {
+        "command": "verify",
+        "counts": counts,
+        "end": end_name(audit.end),
+        "objection": objection,
+        "status": status,
+    })
+}

@@ -1,0 +1,141 @@
+//! What each command prints.
+ghost use Rattle.json_reports.specs.Audits.{audit_data};
+ghost use Rattle.json_reports.specs.Batches.{batch_data};
+ghost use Rattle.json_reports.specs.Counts.{statistics_data};
+ghost use Rattle.json_reports.specs.Differences.{difference_data, shapes_data};
+ghost use Rattle.json_reports.specs.Lines.{PrintsLine};
+ghost use Rattle.json_reports.specs.Refusals.{refusal_data};
+ghost use Rattle.json_reports.specs.Retimings.{retiming_data};
+
+use crate::audit::audit_object;
+use crate::batch::batch_object;
+use crate::counts::statistics_object;
+use crate::difference::{difference_object, shapes_object};
+use crate::printing::{PrintError, print_object};
+use crate::refusal::{Refusal, refusal_object};
+use crate::retiming::retiming_object;
+use aig_graph::Circuit;
+use certificate_audits::Audit;
+use certificates::Certificate;
+use counted_io::CountedWrite;
+use lane_sim::Place;
+use reports::JobReport;
+use retimed_circuits::Retimed;
+use std::alloc::Global;
+
+/// Prints what [`retiming_object`] makes, on a line.
+///
+/// # Errors
+///
+/// Those of [`print_object`].
+pub fn print_retiming<W: CountedWrite>(
+    alloc: Global,
+    retimed: &Retimed,
+    writer: &mut W,
+) -> Result<(), PrintError>
+    ensures { PrintsLine (retiming_data retimed.now)
+        (W.output writer.old) (W.output writer.new) result }
+{
+    let object = retiming_object(alloc, retimed)?;
+    print_object(alloc, &object, writer)
+}
+
+/// Prints what [`statistics_object`] makes, on a line.
+///
+/// # Errors
+///
+/// Those of [`print_object`].
+pub fn print_statistics<W: CountedWrite>(
+    alloc: Global,
+    circuit: &Circuit,
+    passable: u32,
+    writer: &mut W,
+) -> Result<(), PrintError>
+    ensures { PrintsLine (statistics_data circuit.now passable)
+        (W.output writer.old) (W.output writer.new) result }
+{
+    let object = statistics_object(alloc, circuit, passable)?;
+    print_object(alloc, &object, writer)
+}
+
+/// Prints what [`difference_object`] makes, on a line.
+///
+/// # Errors
+///
+/// Those of [`print_object`].
+pub fn print_difference<W: CountedWrite>(
+    alloc: Global,
+    found: Option<Place>,
+    writer: &mut W,
+) -> Result<(), PrintError>
+    ensures { PrintsLine (difference_data found) (W.output writer.old) (W.output writer.new) result }
+{
+    let object = difference_object(alloc, found)?;
+    print_object(alloc, &object, writer)
+}
+
+/// Prints what [`shapes_object`] makes, on a line.
+///
+/// # Errors
+///
+/// Those of [`print_object`].
+pub fn print_shapes_differ<W: CountedWrite>(alloc: Global, writer: &mut W) -> Result<(), PrintError>
+    ensures { PrintsLine shapes_data (W.output writer.old) (W.output writer.new) result }
+{
+    let object = shapes_object(alloc)?;
+    print_object(alloc, &object, writer)
+}
+
+/// Prints what [`audit_object`] makes, on a line.
+///
+/// # Errors
+///
+/// Those of [`print_object`].
+pub fn print_audit<W: CountedWrite>(
+    alloc: Global,
+    blocks: &[Certificate],
+    audit: Audit,
+    status: u8,
+    writer: &mut W,
+) -> Result<(), PrintError>
+    ensures { PrintsLine (audit_data blocks.now audit status)
+        (W.output writer.old) (W.output writer.new) result }
+{
+    let object = audit_object(alloc, blocks, audit, status)?;
+    print_object(alloc, &object, writer)
+}
+
+/// Prints what [`batch_object`] makes, on a line.
+///
+/// # Errors
+///
+/// Those of [`print_object`].
+pub fn print_batch<W: CountedWrite>(
+    alloc: Global,
+    reports: &[JobReport],
+    status: u8,
+    writer: &mut W,
+) -> Result<(), PrintError>
+    ensures { PrintsLine (batch_data reports.now status)
+        (W.output writer.old) (W.output writer.new) result }
+{
+    let object = batch_object(alloc, reports, status)?;
+    print_object(alloc, &object, writer)
+}
+
+/// Prints what [`refusal_object`] makes, on a line.
+///
+/// # Errors
+///
+/// Those of [`print_object`].
+pub fn print_refusal<W: CountedWrite>(
+    alloc: Global,
+    refusal: &Refusal<'_>,
+    writer: &mut W,
+) -> Result<(), PrintError>
+    ensures { PrintsLine (refusal_data refusal.now)
+        (W.output writer.old) (W.output writer.new) result }
+{
+    let object = refusal_object(alloc, refusal)?;
+    print_object(alloc, &object, writer)
+}
