@@ -1,6 +1,6 @@
 //! From a reader's bytes to a writer's.
 ghost use Rattle.std.specs.Prelude.{◌≡◌, [], IfOk, OnOk, IfErr};
-ghost use Rattle.aig_binary.specs.Ending.{ReadsToEnd};
+ghost use Rattle.aig_binary.specs.Ending.{IsReadError, ReadsToEnd, Spells};
 ghost use Rattle.counted_io.specs.Output.{Writes};
 ghost use Rattle.aig_graph.specs.Circuits.{IsNetlist};
 ghost use Rattle.aig_graph.specs.Graph.{IsGraph};
@@ -8,10 +8,12 @@ ghost use Rattle.frames.specs.Answering.{IsAnswered, IsBytesError, IsStop, IsWri
 
 use crate::errors::BytesError;
 use crate::options::Options;
-use crate::retiming::retime;
+use crate::retiming::retime_watched;
+use crate::watcher::{FrameWatcher, NoWatcher, Stage};
 use aig_binary::{AnyReader, CircuitReader, SpeltCircuit, read_circuit};
 use aig_graph::Circuit;
 use counted_io::{CountedRead, CountedWrite, WriteError};
+use file_words::ReadError;
 use pulse::{Crew, PhaseGate};
 use retimed_circuits::Retimed;
 use spellings::write;
@@ -41,21 +43,23 @@ fn in_range(circuit: &Circuit)
 }
 
 /// Retimes the circuit that was read, and writes it.
-fn retime_spelt<W: CountedWrite, G: PhaseGate>(
+fn retime_spelt<W: CountedWrite, G: PhaseGate, V: FrameWatcher>(
     rt: &(impl Threads + Sync),
     alloc: Global,
     spelt: &SpeltCircuit,
     writer: &mut W,
     options: &Options,
     crew: &Crew<G>,
+    watcher: &mut V,
 ) -> Result<Retimed, BytesError>
     ensures ok { IfOk result (IsWritten options.now spelt.now (W.output writer.old)
         (W.output writer.new)) }
     ensures err { IfErr result (IsStop options.now spelt.now (W.output writer.old)
         (W.output writer.new)) }
 {
-    let retimed = retime(rt, alloc, &spelt.circuit, options, crew)?;
+    let retimed = retime_watched(rt, alloc, &spelt.circuit, options, crew, watcher)?;
     in_range(&retimed.circuit);
+    watcher.enter(Stage::Writing);
     match write_answer(&retimed, spelt, writer, options) {
         Ok(()) => Ok(retimed),
         Err(error) => {
@@ -91,35 +95,46 @@ pub fn retime_bytes<R: CountedRead, W: CountedWrite, G: PhaseGate>(
     ensures err { IfErr result (IsBytesError options.now (R.input reader.old) (R.input reader.new)
         (W.output writer.old) (W.output writer.new)) }
 {
-    retime_bytes_by(
-        rt,
-        alloc,
-        reader,
-        AnyReader::new(alloc),
-        writer,
-        options,
-        crew,
-    )
+    retime_bytes_watched(rt, alloc, reader, writer, options, crew, &mut NoWatcher)
 }
 
-/// [`retime_bytes_with`] over a reader of circuits of its own.
-fn retime_bytes_by<R: CountedRead, W: CountedWrite, C: CircuitReader + Drop, G: PhaseGate>(
+/// The circuit of a reader's bytes, by a reader of circuits that has been fed nothing yet.
+fn read_by<R: CountedRead, C: CircuitReader + Drop>(
+    reader: &mut R,
+    mut circuits: C,
+) -> Result<SpeltCircuit, ReadError>
+    requires { C.holds circuits [] }
+    ensures read { OnOk result (ReadsToEnd (R.input reader.old) (R.input reader.new)) }
+    ensures circuit { IfOk result (Spells (R.input reader.old)) }
+    ensures err { IfErr result (IsReadError (R.input reader.old) (R.input reader.new)) }
+{
+    read_circuit(reader, &mut circuits)
+}
+
+/// [`retime_bytes`], seen by a watcher. Reading goes before its first stage.
+///
+/// # Errors
+///
+/// Those of [`retime_bytes`].
+pub fn retime_bytes_watched<R: CountedRead, W: CountedWrite, G: PhaseGate, V: FrameWatcher>(
     rt: &(impl Threads + Sync),
     alloc: Global,
     reader: &mut R,
-    mut circuits: C,
     writer: &mut W,
     options: &Options,
     crew: &Crew<G>,
+    watcher: &mut V,
 ) -> Result<Retimed, BytesError>
-    requires { C.holds circuits [] }
     ensures read { OnOk result (ReadsToEnd (R.input reader.old) (R.input reader.new)) }
     ensures answer { IfOk result (IsAnswered (R.input reader.old) (W.output writer.old)
         (W.output writer.new) options.now) }
     ensures err { IfErr result (IsBytesError options.now (R.input reader.old) (R.input reader.new)
         (W.output writer.old) (W.output writer.new)) }
 {
-    retime_bytes_with(rt, alloc, reader, &mut circuits, writer, options, crew)
+    let spelt = read_by(reader, AnyReader::new(alloc))?;
+    let answer = retime_spelt(rt, alloc, &spelt, writer, options, crew, watcher);
+    drop(spelt);
+    answer
 }
 
 /// [`retime_bytes`] over a reader of circuits that has been fed nothing yet.
@@ -140,7 +155,7 @@ pub fn retime_bytes_with<R: CountedRead, W: CountedWrite, C: CircuitReader, G: P
         (W.output writer.old) (W.output writer.new)) }
 {
     let spelt = read_circuit(reader, circuits)?;
-    let answer = retime_spelt(rt, alloc, &spelt, writer, options, crew);
+    let answer = retime_spelt(rt, alloc, &spelt, writer, options, crew, &mut NoWatcher);
     drop(spelt);
     answer
 }

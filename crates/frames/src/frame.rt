@@ -13,6 +13,7 @@ use crate::helping::helping_set;
 use crate::holding::held;
 use crate::options::Options;
 use crate::settling::settled;
+use crate::watcher::{FrameWatcher, Stage};
 use aig_graph::{Circuit, ClosedSet, Keep, NoMemory};
 use chosen_cuts::Records;
 use clean::Cleaned;
@@ -87,13 +88,14 @@ fn carry(
 }
 
 /// The frame of a circuit, where one makes fewer latches.
-pub(crate) fn next_frame<G: PhaseGate>(
+pub(crate) fn next_frame<G: PhaseGate, V: FrameWatcher>(
     rt: &(impl Threads + Sync),
     alloc: Global,
     circuit: &Circuit,
     options: &Options,
     crew: &Crew<G>,
     records: &mut Records,
+    watcher: &mut V,
 ) -> Result<Option<Frame>, NoMemory>
     requires names { NoneMissing options.now circuit.now }
     requires tidy { IsTidyIn (names_in options.now) circuit.now }
@@ -107,6 +109,7 @@ pub(crate) fn next_frame<G: PhaseGate>(
     let keep = held(alloc, circuit, options)?;
     match helping_set(rt, alloc, circuit, &keep, options, crew, records)? {
         Some(found) => {
+            watcher.enter(Stage::Moving);
             let cleaned = moved_over(alloc, circuit, &keep, &found.set, options)?;
             let kept_gates = cleaned.kept_gates.as_slice();
             carry(alloc, circuit, &found.set, kept_gates, &mut records.flows);

@@ -13,8 +13,9 @@ mod limits;
 mod options;
 mod retiming;
 mod settling;
+mod watcher;
 
-pub use bytes::{retime_bytes, retime_bytes_with};
+pub use bytes::{retime_bytes, retime_bytes_watched, retime_bytes_with};
 pub use certificates::Certificate;
 pub use errors::{BytesError, RetimeError};
 pub use laws::answer_law;
@@ -22,4 +23,5 @@ pub use least_sets::Choice;
 pub use limits::{read_limits_law, retimed_limits_law};
 pub use options::Options;
 pub use retimed_circuits::{FrameReport, Retimed};
-pub use retiming::retime;
+pub use retiming::{retime, retime_watched};
+pub use watcher::{FrameWatcher, NoWatcher, Stage};

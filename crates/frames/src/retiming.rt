@@ -15,6 +15,7 @@ use crate::frame::{Frame, next_frame};
 use crate::history::{history_of, with_frame};
 use crate::holding::cleaned;
 use crate::options::Options;
+use crate::watcher::{FrameWatcher, NoWatcher, Stage};
 use aig_graph::{Circuit, Keep, NoMemory, Sequence, keep_of};
 use chosen_cuts::Records;
 use clean::Cleaned;
@@ -49,6 +50,23 @@ fn begun(
     })
 }
 
+/// The circuit before any frame, where a latch has each of the names.
+fn begun_by_names(
+    alloc: Global,
+    circuit: &Circuit,
+    options: &Options,
+) -> Result<Retimed, RetimeError>
+    ensures underway { IfOk result (IsUnderway options.now.choice (names_in options.now)
+        circuit.now 0) }
+    ensures none_missing { OnOk result (NoneMissing options.now circuit.now) }
+    ensures missing { (place : ℕ) → IsErrOf result (NoSuchName place)
+        → first_missing circuit.now.symbols.latches (names_in options.now) ≡ Some place }
+{
+    let keep = keep_of(alloc, circuit, options.keep.as_slice())?;
+    let start = begun(alloc, circuit, &keep, options)?;
+    Ok(start)
+}
+
 /// What one more frame makes of a retimed circuit.
 fn after_frame(
     alloc: Global,
@@ -80,32 +98,43 @@ fn after_frame(
     }
 }
 
+/// Tells a watcher that the set of the next frame is looked for.
+fn enter_looking<V: FrameWatcher>(retimed: &Retimed, watcher: &mut V) {
+    watcher.enter(Stage::Looking {
+        taken: retimed.frames.len(),
+        aig: retimed.circuit.aig(),
+    });
+}
+
 /// The circuit cleaned, and then retimed frame by frame; the records get a certificate of each circuit that is looked at, where they are
 /// wanted.
-fn all_frames<G: PhaseGate>(
+fn all_frames<G: PhaseGate, V: FrameWatcher>(
     rt: &(impl Threads + Sync),
     alloc: Global,
     circuit: &Circuit,
-    keep: &Keep,
     options: &Options,
     crew: &Crew<G>,
     records: &mut Records,
-) -> Result<Retimed, NoMemory>
-    requires keep { keep.now ≡ held_in (names_in options.now) circuit.now }
-    requires names { NoneMissing options.now circuit.now }
-    requires none { AreCollected options.now.choice
+    watcher: &mut V,
+) -> Result<Retimed, RetimeError>
+    requires { AreCollected options.now.choice
         (names_in options.now) circuit.now options.now.certify 0 records.old }
-    ensures { IfOk result (IsRun options.now.choice
+    ensures run { IfOk result (IsRun options.now.choice
         (names_in options.now) circuit.now options.now.max_frames options.now.certify records.new) }
+    ensures none_missing { OnOk result (NoneMissing options.now circuit.now) }
+    ensures missing { (place : ℕ) → IsErrOf result (NoSuchName place)
+        → first_missing circuit.now.symbols.latches (names_in options.now) ≡ Some place }
 {
-    let mut retimed = begun(alloc, circuit, keep, options)?;
+    watcher.enter(Stage::Cleaning);
+    let mut retimed = begun_by_names(alloc, circuit, options)?;
     for _ in 0..options.max_frames {
-        match next_frame(rt, alloc, &retimed.circuit, options, crew, records) {
+        enter_looking(&retimed, watcher);
+        match next_frame(rt, alloc, &retimed.circuit, options, crew, records, watcher) {
             Ok(Some(frame)) => retimed = after_frame(alloc, retimed, frame, options)?,
             Ok(None) => return Ok(retimed),
-            Err(error) => {
+            Err(NoMemory) => {
                 drop(retimed);
-                return Err(error);
+                return Err(RetimeError::NoMemory);
             }
         }
     }
@@ -137,30 +166,6 @@ fn with_certificates(retimed: Retimed, records: Records) -> Retimed
     }
 }
 
-/// The circuit cleaned and retimed, with the certificates of its frames.
-fn retime_held<G: PhaseGate>(
-    rt: &(impl Threads + Sync),
-    alloc: Global,
-    circuit: &Circuit,
-    keep: &Keep,
-    options: &Options,
-    crew: &Crew<G>,
-) -> Result<Retimed, NoMemory>
-    requires keep { keep.now ≡ held_in (names_in options.now) circuit.now }
-    requires names { NoneMissing options.now circuit.now }
-    ensures { IfOk result (IsRetimed options.now.choice circuit.now
-        (names_in options.now) options.now.max_frames options.now.certify) }
-{
-    let mut records = Records::new(alloc, options.certify);
-    match all_frames(rt, alloc, circuit, keep, options, crew, &mut records) {
-        Ok(retimed) => Ok(with_certificates(retimed, records)),
-        Err(error) => {
-            drop(records);
-            Err(error)
-        }
-    }
-}
-
 /// Cleans a circuit and retimes it forward, frame by frame: the latches move over the chosen least set of the circuit, and the
 /// circuit is cleaned again. It ends where no closed set needs fewer latches than there are, or at the limit of frames. The
 /// latches whose names the options have stay. The answer is the same for every crew, but for the routes of certificates.
@@ -185,7 +190,34 @@ pub fn retime<G: PhaseGate>(
     ensures missing { (place : ℕ) → IsErrOf result (NoSuchName place)
         → first_missing circuit.now.symbols.latches (names_in options.now) ≡ Some place }
 {
-    let keep = keep_of(alloc, circuit, options.keep.as_slice())?;
-    let retimed = retime_held(rt, alloc, circuit, &keep, options, crew)?;
-    Ok(retimed)
+    retime_watched(rt, alloc, circuit, options, crew, &mut NoWatcher)
+}
+
+/// [`retime`], seen by a watcher, which changes nothing of the answer.
+///
+/// # Errors
+///
+/// Those of [`retime`].
+pub fn retime_watched<G: PhaseGate, V: FrameWatcher>(
+    rt: &(impl Threads + Sync),
+    alloc: Global,
+    circuit: &Circuit,
+    options: &Options,
+    crew: &Crew<G>,
+    watcher: &mut V,
+) -> Result<Retimed, RetimeError>
+    ensures retimed { IfOk result (IsRetimed options.now.choice circuit.now
+        (names_in options.now) options.now.max_frames options.now.certify) }
+    ensures none_missing { OnOk result (NoneMissing options.now circuit.now) }
+    ensures missing { (place : ℕ) → IsErrOf result (NoSuchName place)
+        → first_missing circuit.now.symbols.latches (names_in options.now) ≡ Some place }
+{
+    let mut records = Records::new(alloc, options.certify);
+    match all_frames(rt, alloc, circuit, options, crew, &mut records, watcher) {
+        Ok(retimed) => Ok(with_certificates(retimed, records)),
+        Err(error) => {
+            drop(records);
+            Err(error)
+        }
+    }
 }

@@ -12,20 +12,20 @@ use Rattle.std.proofs.lemmas.Result.{IfOk-from_err}
 use Rattle.frames.proofs.retiming.all_frames.Goals as goal
 
 pub loop-init : goal.loop-init
-loop-init g c = (c.in_ok-retimed.ensures, c.requires.none)
+loop-init g c = (c.in_ok-retimed.ensures.underway, c.requires)
 
 pub next_frame-requires-clause-tidy : goal.next_frame-requires-clause-tidy
 next_frame-requires-clause-tidy g c κs within = c.loop.invariant.0.tidy
 
 pub next_frame-requires-clause-names : goal.next_frame-requires-clause-names
-next_frame-requires-clause-names g c κs within = names-stay (names_in c.args.options.now) c.args.circuit.now c.loop.retimed.circuit c.loop.invariant.0.held c.requires.names
+next_frame-requires-clause-names g c κs within = names-stay (names_in c.args.options.now) c.args.circuit.now c.loop.retimed.circuit c.loop.invariant.0.held c.in_ok-retimed.ensures.none_missing
 
 pub after_frame-requires-clause-underway : goal.after_frame-requires-clause-underway
 after_frame-requires-clause-underway g c = (c.args.circuit.now, c.loop.counter, c.loop.invariant.0)
 
 -- the last circuit was looked at, and none counts less
-pub returns-in-Ok-None : goal.returns-in-Ok-None
-returns-in-Ok-None g c =
+pub returns-in-Ok-None-clause-run : goal.returns-in-Ok-None-clause-run
+returns-in-Ok-None-clause-run g c =
     let choice = c.args.options.now.choice in
     let names = names_in c.args.options.now in
     let before = c.loop.retimed in
@@ -59,8 +59,8 @@ loop-preserved g c =
     )
 
 -- at the limit the last circuit isn't looked at
-pub returns : goal.returns
-returns g c = record {
+pub returns-clause-run : goal.returns-clause-run
+returns-clause-run g c = record {
   taken = c.loop.counter;
   underway = c.loop.invariant.0;
   within = c.loop.auto.counter-end;
@@ -71,17 +71,26 @@ returns g c = record {
   ended = λ less. absurd (omega (arith, c.loop-test.false, less));
 }
 
-pub begun-requires : goal.begun-requires
-begun-requires g c = c.requires.keep
-
 pub after_frame-requires-clause-moves : goal.after_frame-requires-clause-moves
 after_frame-requires-clause-moves g c =
     let names = names_in c.args.options.now in
     let P : Option Frame → Type 0 = λ found. MatchOption found (NoneSmaller names c.loop.retimed.circuit) (Moves c.args.options.now.choice names c.loop.retimed.circuit) in
     subst P c.in-Ok-Some.field-0-is c.in-Ok-Some.ensures.found
 
-pub returns-in_err-retimed : goal.returns-in_err-retimed
-returns-in_err-retimed g c = IfOk-from_err c.from_residual.result _ c.from_residual.ensures.0
+pub returns-in_err-retimed-clause-run : goal.returns-in_err-retimed-clause-run
+returns-in_err-retimed-clause-run g c = IfOk-from_err c.from_residual.result _ c.from_residual.ensures.0
 
-pub returns-in_err-retimed-in-Ok-Some : goal.returns-in_err-retimed-in-Ok-Some
-returns-in_err-retimed-in-Ok-Some g c = IfOk-from_err c.from_residual-in_err-retimed-in-Ok-Some.result _ c.from_residual-in_err-retimed-in-Ok-Some.ensures.0
+pub returns-in_err-retimed-clause-none_missing : goal.returns-in_err-retimed-clause-none_missing
+returns-in_err-retimed-clause-none_missing g c = IfOk-from_err c.from_residual.result _ c.from_residual.ensures.0
+
+pub returns-in_err-retimed-in-Ok-Some-clause-run : goal.returns-in_err-retimed-in-Ok-Some-clause-run
+returns-in_err-retimed-in-Ok-Some-clause-run g c = IfOk-from_err c.from_residual-in_err-retimed-in-Ok-Some.result _ c.from_residual-in_err-retimed-in-Ok-Some.ensures.0
+
+pub returns-in_err-retimed-in-Ok-Some-clause-none_missing : goal.returns-in_err-retimed-in-Ok-Some-clause-none_missing
+returns-in_err-retimed-in-Ok-Some-clause-none_missing g c = IfOk-from_err c.from_residual-in_err-retimed-in-Ok-Some.result _ c.from_residual-in_err-retimed-in-Ok-Some.ensures.0
+
+pub returns-in-Ok-None-clause-none_missing : goal.returns-in-Ok-None-clause-none_missing
+returns-in-Ok-None-clause-none_missing g c = c.in_ok-retimed.ensures.none_missing
+
+pub returns-clause-none_missing : goal.returns-clause-none_missing
+returns-clause-none_missing g c = c.in_ok-retimed.ensures.none_missing

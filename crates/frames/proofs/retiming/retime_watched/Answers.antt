@@ -4,20 +4,14 @@ use Rattle.retimed_circuits.specs.Retiming.{IsRetimed}
 use Rattle.frames.specs.Named.{names_in}
 use Rattle.frames.proofs.CertificateLaws.{none-collected}
 use Rattle.frames.proofs.FrameLaws.{ended}
-use Rattle.frames.proofs.retiming.retime_held.Goals as goal
+use Rattle.frames.proofs.retiming.retime_watched.Goals as goal
 
-pub all_frames-requires-clause-keep : goal.all_frames-requires-clause-keep
-all_frames-requires-clause-keep g c κs within = c.requires.keep
-
-pub all_frames-requires-clause-names : goal.all_frames-requires-clause-names
-all_frames-requires-clause-names g c κs within = c.requires.names
-
-pub all_frames-requires-clause-none : goal.all_frames-requires-clause-none
-all_frames-requires-clause-none g c κs within =
+pub all_frames-requires-after_bounds : goal.all_frames-requires-after_bounds
+all_frames-requires-after_bounds g c κs within =
     none-collected c.args.options.now.choice (names_in c.args.options.now) c.args.circuit.now c.args.options.now.certify c.new-records.result c.new-records.ensures.certify c.new-records.ensures.certificates
 
-pub returns-in-Ok : goal.returns-in-Ok
-returns-in-Ok g c =
+pub returns-in-Ok-clause-retimed : goal.returns-in-Ok-clause-retimed
+returns-in-Ok-clause-retimed g c =
     let options = c.args.options.now in
     let r = c.in-Ok.retimed in
     let records = c.all_frames.new.records in
@@ -31,4 +25,10 @@ returns-in-Ok g c =
       certificates = whole.certificates i;
     } in
     subst (IsRetimed options.choice c.args.circuit.now (names_in options) options.max_frames options.certify) (sym same)
-    (ended options.choice (names_in options) c.args.circuit.now options.max_frames options.certify records r c.in-Ok.ensures)
+    (ended options.choice (names_in options) c.args.circuit.now options.max_frames options.certify records r c.in-Ok.ensures.run)
+
+pub returns-in-Ok-clause-none_missing : goal.returns-in-Ok-clause-none_missing
+returns-in-Ok-clause-none_missing g c = c.in-Ok.ensures.none_missing
+
+pub returns-in-Err-clause-missing : goal.returns-in-Err-clause-missing
+returns-in-Err-clause-missing g c = c.in-Err.ensures.missing
