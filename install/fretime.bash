@@ -16,12 +16,13 @@ _fretime() {
         return
     fi
     case ${COMP_WORDS[1]} in
-        retime) options="--ascii --binary --workers --frames --near --keep --cert --help" ;;
-        batch) options="--ascii --binary --workers --frames --near --help" ;;
+        retime) options="--ascii --binary --workers --frames --near --keep --cert --json --help" ;;
+        batch) options="--ascii --binary --workers --frames --near --json --help" ;;
         convert) options="--ascii --binary --help" ;;
-        verify) options="--keep --help" ;;
+        verify) options="--keep --json --help" ;;
         dot) options="--frame --keep --around --depth --help" ;;
-        stat | sim | same | witness) options="--help" ;;
+        stat | same) options="--json --help" ;;
+        sim | witness) options="--help" ;;
         explain)
             if [ "$COMP_CWORD" = 2 ]; then
                 mapfile -t COMPREPLY < <(compgen -W "--help BadHeader TooLarge MaxIndex BadLine BadLiteral DefinedTwice Undefined Cycle \

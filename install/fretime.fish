@@ -28,17 +28,24 @@ complete -c fretime -n '__fish_seen_subcommand_from retime' -x -l frames -d 'The
 complete -c fretime -n '__fish_seen_subcommand_from retime' -l near -d 'Move each latch as few gates forward as a least count allows'
 complete -c fretime -n '__fish_seen_subcommand_from retime' -x -l keep -d 'Hold each latch with this name in its place; may be given more than once'
 complete -c fretime -n '__fish_seen_subcommand_from retime' -r -l cert -d 'Write a certificate of each frame to FILE, for \'verify\''
+complete -c fretime -n '__fish_seen_subcommand_from retime' -l json -d 'Print an object of JSON in place of the lines'
 
 complete -c fretime -n '__fish_seen_subcommand_from batch' -l ascii -d 'Write ASCII'
 complete -c fretime -n '__fish_seen_subcommand_from batch' -l binary -d 'Write binary'
 complete -c fretime -n '__fish_seen_subcommand_from batch' -x -l workers -d 'Threads, each of which retimes a circuit at a time'
 complete -c fretime -n '__fish_seen_subcommand_from batch' -x -l frames -d 'The most frames to take'
 complete -c fretime -n '__fish_seen_subcommand_from batch' -l near -d 'Move each latch as few gates forward as a least count allows'
+complete -c fretime -n '__fish_seen_subcommand_from batch' -l json -d 'Print an object of JSON in place of the lines'
+
+complete -c fretime -n '__fish_seen_subcommand_from stat' -l json -d 'Print an object of JSON in place of the lines'
 
 complete -c fretime -n '__fish_seen_subcommand_from convert' -l ascii -d 'Write ASCII'
 complete -c fretime -n '__fish_seen_subcommand_from convert' -l binary -d 'Write binary'
 
+complete -c fretime -n '__fish_seen_subcommand_from same' -l json -d 'Print an object of JSON in place of the lines'
+
 complete -c fretime -n '__fish_seen_subcommand_from verify' -x -l keep -d 'Hold each latch with this name in its place; may be given more than once'
+complete -c fretime -n '__fish_seen_subcommand_from verify' -l json -d 'Print an object of JSON in place of the lines'
 
 complete -c fretime -n '__fish_seen_subcommand_from dot' -l frame -d 'Show over which gates latches move next'
 complete -c fretime -n '__fish_seen_subcommand_from dot' -x -l keep -d 'Hold each latch with this name in its place; may be given more than once'

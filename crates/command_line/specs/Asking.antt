@@ -14,6 +14,7 @@ use Rattle.least_sets.specs.declared.choice.Choice.TheVariants.{Greatest, Smalle
 use Rattle.command_line.specs.declared.task.Retiming.{Retiming}
 use Rattle.command_line.specs.declared.task.Batch.{Batch as Batching}
 use Rattle.command_line.specs.declared.task.Verification.{Verification}
+use Rattle.command_line.specs.declared.task.Comparison.{Comparison}
 use Rattle.command_line.specs.declared.task.Drawing.{Drawing}
 use Rattle.command_line.specs.declared.task.Task.{Task}
 use Rattle.command_line.specs.declared.task.Task.TheVariants.{Retime, Batch, Stat, Convert, Sim, Same, Verify, Dot, Witness, Explain}
@@ -76,6 +77,7 @@ pub record IsRetiming (matches : ArgMatches) (retiming : Retiming) : Type 0 wher
   pub choice : IsChoice matches retiming.choice
   pub certificates : IsSomeTarget matches (codes "cert") retiming.certificates
   pub names : map (λ name. name.now) retiming.keep.items ≡ values_of matches (codes "keep")
+  pub json : IsFlag matches (codes "json") retiming.json
 
 -- the list and the options of a batch are the values of their own arguments
 pub record IsBatch (matches : ArgMatches) (batch : Batching) : Type 0 where
@@ -84,12 +86,21 @@ pub record IsBatch (matches : ArgMatches) (batch : Batching) : Type 0 where
   pub workers : IsNumber matches (codes "workers") 1 batch.workers
   pub frames : IsNumber matches (codes "frames") (2 ^ 28) batch.frames
   pub choice : IsChoice matches batch.choice
+  pub json : IsFlag matches (codes "json") batch.json
 
 -- the paths and the names of a verification are the values of their own arguments
 pub record IsVerification (matches : ArgMatches) (verification : Verification) : Type 0 where
   pub input : IsSource matches (codes "IN") verification.input
   pub certificates : IsSource matches (codes "CERT") verification.certificates
   pub names : map (λ name. name.now) verification.keep.items ≡ values_of matches (codes "keep")
+  pub json : IsFlag matches (codes "json") verification.json
+
+-- the paths and the flag of a comparison are the values of their own arguments
+pub record IsComparison (matches : ArgMatches) (comparison : Comparison) : Type 0 where
+  pub first : IsSource matches (codes "A") comparison.first
+  pub second : IsSource matches (codes "B") comparison.second
+  pub stimulus : IsSource matches (codes "STIM") comparison.stimulus
+  pub json : IsFlag matches (codes "json") comparison.json
 
 -- the paths, the options and the names of a drawing are the values of their own arguments
 pub record IsDrawing (matches : ArgMatches) (drawing : Drawing) : Type 0 where
@@ -104,10 +115,10 @@ pub record IsDrawing (matches : ArgMatches) (drawing : Drawing) : Type 0 where
 abbrev pub AsksFor : ArgMatches → Task → Type 0
 AsksFor matches (Retime retiming) = IsRetiming matches retiming
 AsksFor matches (Batch batch) = IsBatch matches batch
-AsksFor matches (Stat input) = IsSource matches (codes "IN") input
+AsksFor matches (Stat input json) = IsSource matches (codes "IN") input × IsFlag matches (codes "json") json
 AsksFor matches (Convert input output spelling) = IsSource matches (codes "IN") input × IsTarget matches (codes "OUT") output × IsSpelling matches spelling
 AsksFor matches (Sim input stimulus) = IsSource matches (codes "IN") input × IsSource matches (codes "STIM") stimulus
-AsksFor matches (Same first second stimulus) = IsSource matches (codes "A") first × IsSource matches (codes "B") second × IsSource matches (codes "STIM") stimulus
+AsksFor matches (Same comparison) = IsComparison matches comparison
 AsksFor matches (Verify verification) = IsVerification matches verification
 AsksFor matches (Dot drawing) = IsDrawing matches drawing
 AsksFor matches (Witness input retimed witness) = IsSource matches (codes "IN") input × IsSource matches (codes "OUT") retimed × IsSource matches (codes "WITNESS") witness

@@ -1,11 +1,11 @@
 ghost use Rattle.std.specs.Prelude.{◌≡◌, ◌^◌, IfOk, IfSome, codes, map};
-ghost use Rattle.command_line.specs.Asking.{AsksFor, IsChoice, IsNumber, IsSomeTarget, IsSource, IsSpelling, values_of};
+ghost use Rattle.command_line.specs.Asking.{AsksFor, IsChoice, IsFlag, IsNumber, IsSomeTarget, IsSource, IsSpelling, values_of};
 ghost use Rattle.command_line.specs.StreamUses.{UsesStreamsOnce};
 ghost use Rattle.command_line.specs.declared.task.Task.TheVariants.{Dot, Retime, Verify};
 
 use crate::program::program;
 use crate::stream_uses::stream_conflict;
-use crate::task::{Batch, Drawing, Retiming, Task, Verification};
+use crate::task::{Batch, Comparison, Drawing, Retiming, Task, Verification};
 use clap::error::ErrorKind;
 use clap::{ArgMatches, Command, Error};
 use least_sets::Choice;
@@ -78,6 +78,13 @@ fn keep<'a>(alloc: Global, matches: &ArgMatches<'a>) -> Result<Vec<&'a str>, All
     Vec::from_slice(alloc, matches.get_strs("keep").unwrap_or(&[]))
 }
 
+/// Whether an object of JSON is printed.
+fn json(matches: &ArgMatches<'_>) -> bool
+    ensures { IsFlag matches.now (codes "json") result }
+{
+    matches.get_flag("json")
+}
+
 fn retiming<'a>(alloc: Global, matches: &ArgMatches<'a>) -> Result<Option<Retiming<'a>>, AllocError>
     ensures { IfOk result (λ found. IfSome found (λ retiming. AsksFor matches.now
         (Retime retiming))) }
@@ -93,6 +100,7 @@ fn retiming<'a>(alloc: Global, matches: &ArgMatches<'a>) -> Result<Option<Retimi
         frames: frames(matches),
         choice: choice(matches),
         certificates: target(matches, "cert"),
+        json: json(matches),
         keep: keep(alloc, matches)?,
     }))
 }
@@ -110,6 +118,7 @@ fn verification<'a>(
     Ok(Some(Verification {
         input,
         certificates,
+        json: json(matches),
         keep: keep(alloc, matches)?,
     }))
 }
@@ -145,7 +154,14 @@ fn batch<'a>(matches: &ArgMatches<'a>) -> Option<Task<'a>>
         workers: workers(matches),
         frames: frames(matches),
         choice: choice(matches),
+        json: json(matches),
     }))
+}
+
+fn statistics<'a>(matches: &ArgMatches<'a>) -> Option<Task<'a>>
+    ensures { IfSome result (AsksFor matches.now) }
+{
+    Some(Task::Stat(source(matches, "IN")?, json(matches)))
 }
 
 fn conversion<'a>(matches: &ArgMatches<'a>) -> Option<Task<'a>>
@@ -165,9 +181,12 @@ fn simulation<'a>(matches: &ArgMatches<'a>) -> Option<Task<'a>>
 fn comparison<'a>(matches: &ArgMatches<'a>) -> Option<Task<'a>>
     ensures { IfSome result (AsksFor matches.now) }
 {
-    let first = source(matches, "A")?;
-    let second = source(matches, "B")?;
-    Some(Task::Same(first, second, source(matches, "STIM")?))
+    Some(Task::Same(Comparison {
+        first: source(matches, "A")?,
+        second: source(matches, "B")?,
+        stimulus: source(matches, "STIM")?,
+        json: json(matches),
+    }))
 }
 
 fn witness<'a>(matches: &ArgMatches<'a>) -> Option<Task<'a>>
@@ -193,7 +212,7 @@ fn task<'a>(
     let task = match name {
         "retime" => retiming(alloc, matches)?.map(|retiming| Task::Retime(retiming)),
         "batch" => batch(matches),
-        "stat" => source(matches, "IN").map(|input| Task::Stat(input)),
+        "stat" => statistics(matches),
         "convert" => conversion(matches),
         "sim" => simulation(matches),
         "same" => comparison(matches),

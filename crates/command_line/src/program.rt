@@ -200,6 +200,11 @@ fn names<'a>(alloc: Global) -> Arg<'a> {
         .help("Hold each latch with this name in its place; may be given more than once")
 }
 
+fn json<'a>(alloc: Global) -> Arg<'a> {
+    let help = "Print an object of JSON in place of the lines";
+    flag(alloc, "json", help)
+}
+
 /// A command with one more argument, where there was memory for the command.
 fn with<'a>(
     command: Result<Command<'a>, AllocError>,
@@ -272,7 +277,8 @@ fn retime<'a>(alloc: Global) -> Result<Command<'a>, AllocError> {
     let command = with_spelling(alloc, with_files(alloc, command), ascii);
     let command = with_limits(alloc, command, "Threads that work on the flow");
     let command = with(command, certificates(alloc));
-    with(command, names(alloc))
+    let command = with(command, names(alloc));
+    with(command, json(alloc))
 }
 
 fn batch<'a>(alloc: Global) -> Result<Command<'a>, AllocError> {
@@ -288,19 +294,21 @@ fn batch<'a>(alloc: Global) -> Result<Command<'a>, AllocError> {
             "The list: a line for each circuit, IN, a tab, and OUT",
         ));
     let command = with_spelling(alloc, command, ascii);
-    with_limits(
+    let command = with_limits(
         alloc,
         command,
         "Threads, each of which retimes a circuit at a time",
-    )
+    );
+    with(command, json(alloc))
 }
 
 fn stat<'a>(alloc: Global) -> Result<Command<'a>, AllocError> {
-    Command::new(alloc, "stat")
+    let command = Command::new(alloc, "stat")
         .about("Counts what a circuit has, as it was read")
         .after_help(STAT_EXAMPLE)
         .arg_required_else_help(true)
-        .arg(path(alloc, "IN", "The AIGER file to read"))
+        .arg(path(alloc, "IN", "The AIGER file to read"));
+    with(command, json(alloc))
 }
 
 fn convert<'a>(alloc: Global) -> Result<Command<'a>, AllocError> {
@@ -327,10 +335,11 @@ fn same<'a>(alloc: Global) -> Result<Command<'a>, AllocError> {
         .arg_required_else_help(true)
         .arg(path(alloc, "A", "The first AIGER file"));
     let command = with(command, path(alloc, "B", "The second AIGER file"));
-    with(
+    let command = with(
         command,
         path(alloc, "STIM", "The stimulus, with the widths of A"),
-    )
+    );
+    with(command, json(alloc))
 }
 
 fn verify<'a>(alloc: Global) -> Result<Command<'a>, AllocError> {
@@ -341,7 +350,8 @@ fn verify<'a>(alloc: Global) -> Result<Command<'a>, AllocError> {
         .arg_required_else_help(true)
         .arg(path(alloc, "IN", "The AIGER file that was retimed"));
     let command = with(command, path(alloc, "CERT", "The certificates"));
-    with(command, names(alloc))
+    let command = with(command, names(alloc));
+    with(command, json(alloc))
 }
 
 fn around<'a>(alloc: Global) -> Arg<'a> {

@@ -26,11 +26,14 @@ fn stdin_uses(task: &Task<'_>) -> usize
     match task {
         Task::Retime(retiming) => stdin_count(&[retiming.input]),
         Task::Batch(batch) => stdin_count(&[batch.list]),
-        Task::Stat(input) | Task::Convert(input, _, _) => stdin_count(&[*input]),
+        Task::Stat(input, _) | Task::Convert(input, _, _) => stdin_count(&[*input]),
         Task::Sim(input, stimulus) => stdin_count(&[*input, *stimulus]),
-        Task::Same(first, second, third) | Task::Witness(first, second, third) => stdin_count(&[
-            *first, *second, *third,
+        Task::Same(comparison) => stdin_count(&[
+            comparison.first,
+            comparison.second,
+            comparison.stimulus,
         ]),
+        Task::Witness(first, second, third) => stdin_count(&[*first, *second, *third]),
         Task::Verify(verification) => stdin_count(&[verification.input, verification.certificates]),
         Task::Dot(drawing) => stdin_count(&[drawing.input]),
         Task::Explain(_) => 0,
@@ -49,9 +52,9 @@ fn stdout_uses(task: &Task<'_>) -> usize
         Task::Convert(_, output, _) => stdout_count(&[*output]),
         Task::Dot(drawing) => stdout_count(&[drawing.output]),
         Task::Batch(_)
-        | Task::Stat(_)
+        | Task::Stat(_, _)
         | Task::Sim(_, _)
-        | Task::Same(_, _, _)
+        | Task::Same(_)
         | Task::Verify(_)
         | Task::Witness(_, _, _)
         | Task::Explain(_) => 0,

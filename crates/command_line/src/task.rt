@@ -21,6 +21,8 @@ pub struct Retiming<'a> {
     pub certificates: Option<Target<'a>>,
     /// The names of the latches that are held in their places.
     pub keep: Vec<&'a str>,
+    /// Whether an object of JSON is printed in place of the lines.
+    pub json: bool,
 }
 
 /// What `verify` is to do.
@@ -32,6 +34,21 @@ pub struct Verification<'a> {
     pub certificates: Source<'a>,
     /// The names of the latches that were held in their places.
     pub keep: Vec<&'a str>,
+    /// Whether an object of JSON is printed in place of the lines.
+    pub json: bool,
+}
+
+/// What `same` is to do.
+#[derive(Drop)]
+pub struct Comparison<'a> {
+    /// The first circuit.
+    pub first: Source<'a>,
+    /// The second circuit.
+    pub second: Source<'a>,
+    /// The stimulus, with the widths of the first.
+    pub stimulus: Source<'a>,
+    /// Whether an object of JSON is printed in place of the line.
+    pub json: bool,
 }
 
 /// What `batch` is to do.
@@ -47,6 +64,8 @@ pub struct Batch<'a> {
     pub frames: u32,
     /// Which of the least sets a frame takes.
     pub choice: Choice,
+    /// Whether an object of JSON is printed in place of the lines.
+    pub json: bool,
 }
 
 /// What `dot` is to do.
@@ -73,14 +92,14 @@ pub enum Task<'a> {
     Retime(Retiming<'a>),
     /// Retime the circuits of a list.
     Batch(Batch<'a>),
-    /// Count what a circuit has.
-    Stat(Source<'a>),
+    /// Count what a circuit has, and print it as an object of JSON or in lines.
+    Stat(Source<'a>, bool),
     /// Write a circuit in a spelling; `None` is the one that wasn't read.
     Convert(Source<'a>, Target<'a>, Option<Spelling>),
     /// Simulate a circuit under a stimulus.
     Sim(Source<'a>, Source<'a>),
     /// Compare two circuits under a stimulus.
-    Same(Source<'a>, Source<'a>, Source<'a>),
+    Same(Comparison<'a>),
     /// Check the certificates of a retiming.
     Verify(Verification<'a>),
     /// Write a picture of a circuit.

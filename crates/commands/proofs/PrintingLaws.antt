@@ -1,12 +1,15 @@
 -- What a command prints, by how it ends.
-use Rattle.std.proofs.Common.{◌≡◌, refl, sym, subst}
-use Rattle.counted_io.specs.Output.{Output}
+use Rattle.std.proofs.Common.{◌≡◌, inl, inr, Result, Ok, Err, refl, sym, subst}
+use Rattle.counted_io.specs.Output.{Output, WritesAll}
+use Rattle.serde_json.specs.Data.{Data}
+use Rattle.json_reports.specs.Lines.{json_line}
 use Rattle.circuit_files.specs.Outcomes.{outcome_of}
 use Rattle.circuit_files.specs.declared.outcome.Outcome.{Outcome}
 use Rattle.circuit_files.specs.declared.outcome.Outcome.TheVariants.{Device}
 use Rattle.circuit_files.specs.declared.outcome.Failure.{Failure}
 use Rattle.circuit_files.specs.declared.outcome.Failure.TheVariants as fails
-use Rattle.commands.specs.Printing.{Prints}
+use Rattle.command_objects.specs.Objects.{EndsPrintingObject, FailsPrintingObject}
+use Rattle.commands.specs.Printing.{Prints, ending}
 
 -- one that failed, and gave standard output nothing
 pub failing : (f : Failure) (s : Output) → Prints (outcome_of f) s s
@@ -26,3 +29,17 @@ failing_after f old new same = subst (λ (s : Output). Prints (outcome_of f) old
 -- a device that failed, whatever was given to it
 pub of_device : (f : Failure) (old new : Output) → outcome_of f ≡ Device → Prints (outcome_of f) old new
 of_device f old new is = subst (λ (e : Outcome). Prints e old new) (sym is) tt
+
+pub failing_object : (f : Failure) (object : Data) (old new : Output) → FailsPrintingObject object old new f → Prints (outcome_of f) old new
+failing_object f object old new (inl memory) = subst (λ (e : Outcome). Prints e old new) (sym memory.0) memory.1
+failing_object f object old new (inr device) = of_device f old new device.0
+
+-- an object that may be printed by a command that ends so
+pub object_prints : (outcome : Outcome) (object : Data) (old new : Output) (result : Result Outcome Failure)
+    → (WritesAll old new (json_line object) → Prints outcome old new) → EndsPrintingObject outcome object old new result → Prints (ending result) old new
+object_prints outcome object old new (Ok ended) may p = subst (λ (e : Outcome). Prints e old new) (sym p.0) (may p.1)
+object_prints outcome object old new (Err failure) may p = failing_object failure object old new p
+
+-- what was printed to standard output after nothing else
+pub prints_after : (o : Outcome) (old mid new : Output) → mid ≡ old → Prints o mid new → Prints o old new
+prints_after o old mid new same p = subst (λ (s : Output). Prints o s new) same p

@@ -1,5 +1,5 @@
 -- From standard input to standard output.
-use Rattle.std.specs.Prelude.{◌≡◌, Bool, true, false, Option, Some, None}
+use Rattle.std.specs.Prelude.{◌≡◌, ◌||◌, Bool, true, false, Option, Some, None}
 use Rattle.counted_io.specs.Input.{Input}
 use Rattle.counted_io.specs.Output.{Output, WritesAll}
 use Rattle.spellings.specs.Spellings.{text_in}
@@ -19,6 +19,10 @@ use Rattle.commands.specs.RetimingTasks.{AreOptionsOf}
 abbrev pub writes_stdout : Option Target → Bool
 writes_stdout (Some target) = is_stdout target
 writes_stdout None = false
+
+-- whether a circuit or certificates go to standard output
+abbrev pub takes_stdout : Retiming → Bool
+takes_stdout task = is_stdout task.output || writes_stdout task.certificates
 
 -- a retiming from standard input to standard output, which gets the circuit alone
 pub record IsPipe (task : Retiming) : Type 0 where

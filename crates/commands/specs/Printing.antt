@@ -1,7 +1,9 @@
 -- What a command may have given standard output, by how it ended.
-use Rattle.std.specs.Prelude.{ℕ, ◌≡◌, List, Result, Ok, Err, MatchResult}
+use Rattle.std.specs.Prelude.{ℕ, ◌≡◌, ◌⊎◌, List, Result, Ok, Err, MatchResult}
 use Rattle.counted_io.specs.Output.{Output, WritesAll, WritesPart}
 use Rattle.reports.specs.Differences.{shapes_text}
+use Rattle.json_reports.specs.Differences.{shapes_data}
+use Rattle.json_reports.specs.Lines.{json_line}
 use Rattle.circuit_files.specs.Outcomes.{outcome_of}
 use Rattle.circuit_files.specs.declared.outcome.Outcome.{Outcome}
 use Rattle.circuit_files.specs.declared.outcome.Outcome.TheVariants.{Done, Refused, ShapesDiffer, CommandLine, Device, Memory, Differ, Unconfirmed}
@@ -17,13 +19,18 @@ abbrev pub EndsPrinting : Outcome → List ℕ → Output → Output → Result 
 EndsPrinting outcome text old new result =
     MatchResult result (λ ended. (ended ≡ outcome) × WritesAll old new text) (λ failure. (outcome_of failure ≡ Device) × WritesPart old new text)
 
+-- where standard output has been given something else, nothing is printed to it, and the run ends so whatever becomes of that
+pub record EndsAside (outcome : Outcome) (old new : Output) (result : Result Outcome Failure) : Type 0 where
+  pub ends : ending result ≡ outcome
+  pub quiet : new ≡ old
+
 -- a command but `batch` gives standard output nothing where it was refused or lacked memory: it writes and prints once all else is done
 abbrev pub Prints : Outcome → Output → Output → Type 0
 Prints Done old new = Unit {0}
 Prints Differ old new = Unit {0}
 Prints Unconfirmed old new = Unit {0}
 Prints Device old new = Unit {0}
-Prints ShapesDiffer old new = WritesAll old new shapes_text
+Prints ShapesDiffer old new = WritesAll old new shapes_text ⊎ WritesAll old new (json_line shapes_data)
 Prints Refused old new = new ≡ old
 Prints CommandLine old new = new ≡ old
 Prints Memory old new = new ≡ old

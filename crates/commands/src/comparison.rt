@@ -1,11 +1,13 @@
 //! The command `same`.
 ghost use Rattle.std.specs.Prelude.{◌≡◌, IfOk};
-ghost use Rattle.commands.specs.Comparing.{IsFinding, finding_text, outcome_of_finding};
+ghost use Rattle.commands.specs.Comparing.{IsFinding, finding_object, finding_text, outcome_of_finding};
+ghost use Rattle.command_objects.specs.Objects.{EndsPrintingObject};
 ghost use Rattle.commands.specs.Printing.{EndsPrinting, Prints, ending};
 
 use crate::ended::ended;
 use aig_graph::Circuit;
 use circuit_files::{Failure, Outcome, circuit_at, stimulus_at};
+use command_line::Comparison;
 use counted_io::{CountedRead, CountedWrite};
 use lane_sim::{Place, SimError, Stimulus, first_difference};
 use reports::{print_difference, print_shapes_differ};
@@ -104,19 +106,48 @@ fn print_finding<'a, O: CountedWrite>(finding: Finding, out: &mut O) -> Result<O
     }
 }
 
+fn print_finding_object<'a, O: CountedWrite>(
+    alloc: Global,
+    finding: Finding,
+    out: &mut O,
+) -> Result<Outcome, Failure<'a>>
+    ensures { EndsPrintingObject (outcome_of_finding finding) (finding_object finding)
+        (O.output out.old) (O.output out.new) result }
+{
+    match finding {
+        Finding::Same => command_objects::print_difference(alloc, None, out),
+        Finding::Differ(place) => command_objects::print_difference(alloc, Some(place), out),
+        Finding::ShapesDiffer => command_objects::print_shapes_differ(alloc, out),
+    }
+}
+
+/// Prints a finding as an object of JSON or in a line.
+fn print_finding_as<'a, O: CountedWrite>(
+    alloc: Global,
+    finding: Finding,
+    json: bool,
+    out: &mut O,
+) -> Result<Outcome, Failure<'a>>
+    ensures { Prints (ending result) (O.output out.old) (O.output out.new) }
+{
+    if json {
+        print_finding_object(alloc, finding, out)
+    } else {
+        print_finding(finding, out)
+    }
+}
+
 /// Reads two circuits and a stimulus, which has the widths of the first, in this order, and prints the first difference of the
-/// circuits under the stimulus.
+/// circuits under the stimulus, as an object of JSON or in a line.
 pub fn print_comparison<'a, R: Files + Threads + Sync, I: CountedRead, O: CountedWrite>(
     rt: &R,
     alloc: Global,
-    first: Source<'a>,
-    second: Source<'a>,
-    stimulus: Source<'a>,
+    task: &Comparison<'a>,
     stdin: &mut I,
     out: &mut O,
 ) -> Result<Outcome, Failure<'a>>
     ensures { Prints (ending result) (O.output out.old) (O.output out.new) }
 {
-    let found = compared(rt, alloc, first, second, stimulus, stdin)?;
-    print_finding(found, out)
+    let found = compared(rt, alloc, task.first, task.second, task.stimulus, stdin)?;
+    print_finding_as(alloc, found, task.json, out)
 }

@@ -17,7 +17,7 @@ pub use comparison::print_comparison;
 pub use conversion::convert;
 pub use drawing::write_picture;
 pub use ended::report_failure;
-pub use retiming::print_retimed;
+pub use retiming::{print_retimed, takes_stdout};
 pub use simulation::print_simulation;
 pub use statistics::print_statistics;
 pub use verification::print_verification;

@@ -5,9 +5,10 @@ ghost use Rattle.certificate_files.specs.Texts.{file_text};
 ghost use Rattle.frames.specs.Answering.{IsAnswered};
 ghost use Rattle.stream_paths.specs.Streams.{is_stdin, is_stdout};
 ghost use Rattle.circuit_files.specs.Outcomes.{outcome_of};
-ghost use Rattle.circuit_files.specs.declared.outcome.Outcome.TheVariants.{Device};
+ghost use Rattle.circuit_files.specs.declared.outcome.Outcome.TheVariants.{Device, Done};
+ghost use Rattle.commands.specs.Pipes as pipes;
 ghost use Rattle.commands.specs.Pipes.{AnswersPipe, IsPipe, WritesPipe, writes_stdout};
-ghost use Rattle.commands.specs.Printing.{Prints, ending};
+ghost use Rattle.commands.specs.Printing.{EndsAside, Prints, ending};
 ghost use Rattle.commands.specs.RetimingTasks.{AreOptionsOf, IsFailureOf};
 
 use crate::ended::ended;
@@ -221,6 +222,7 @@ fn certified<'a, R: Files + Threads + Sync, I: CountedRead, O: CountedWrite>(
 ) -> Result<Retimed, Failure<'a>>
     ensures answer { IfOk result (λ retimed. IsPipe task.now
         → WritesPipe task.now (I.input stdin.old) (O.output out.old) (O.output out.new)) }
+    ensures file { pipes.takes_stdout task.now ≡ false → O.output out.new ≡ O.output out.old }
     ensures prints { IfErr result (λ failure. Prints (outcome_of failure) (O.output out.old)
         (O.output out.new)) }
 {
@@ -234,25 +236,56 @@ fn certified<'a, R: Files + Threads + Sync, I: CountedRead, O: CountedWrite>(
     }
 }
 
+/// Whether a circuit or certificates go to standard output, so that what is printed goes to standard error.
+pub fn takes_stdout(task: &Retiming<'_>) -> bool
+    ensures { result ≡ pipes.takes_stdout task.now }
+{
+    match task.certificates {
+        Some(certificates) => task.output.is_stdout() || certificates.is_stdout(),
+        None => task.output.is_stdout(),
+    }
+}
+
+/// Prints the frames that were taken, as an object of JSON or in lines.
+fn print_as<'a, W: CountedWrite>(
+    alloc: Global,
+    retimed: &Retimed,
+    json: bool,
+    writer: &mut W,
+) -> Result<Outcome, Failure<'a>>
+    ensures { Prints (ending result) (W.output writer.old) (W.output writer.new) }
+{
+    if json {
+        command_objects::print_retiming(alloc, retimed, writer)
+    } else {
+        ended(print_retiming(retimed, writer), Outcome::Done)
+    }
+}
+
 /// Prints the frames that were taken to standard output, or to standard error where a circuit or certificates have been written
 /// to standard output: a write that fails there changes nothing.
-fn print_frames<O: CountedWrite, E: CountedWrite>(
+fn print_frames<'a, O: CountedWrite, E: CountedWrite>(
+    alloc: Global,
     task: &Retiming<'_>,
     retimed: &Retimed,
     out: &mut O,
     err: &mut E,
-) -> Result<(), WriteError>
-    ensures { IsPipe task.now → O.output out.new ≡ O.output out.old }
+) -> Result<Outcome, Failure<'a>>
+    ensures aside { pipes.takes_stdout task.now ≡ true
+        → EndsAside Done (O.output out.old) (O.output out.new) result }
+    ensures prints { pipes.takes_stdout task.now ≡ false
+        → Prints (ending result) (O.output out.old) (O.output out.new) }
 {
-    if task.output.is_stdout() || task.certificates.is_some_and(|target| target.is_stdout()) {
-        let _ = print_retiming(retimed, err);
-        Ok(())
+    if takes_stdout(task) {
+        let _ = print_as(alloc, retimed, task.json, err);
+        Ok(Outcome::Done)
     } else {
-        print_retiming(retimed, out)
+        print_as(alloc, retimed, task.json, out)
     }
 }
 
-/// Reads a circuit, writes it, retimed, and the certificates where they are asked for, and then prints the frames that were taken.
+/// Reads a circuit, writes it, retimed, and the certificates where they are asked for, and then prints the frames that were taken,
+/// as an object of JSON or in lines.
 pub fn print_retimed<
     'a,
     R: Files + Threads + Sync,
@@ -272,7 +305,7 @@ pub fn print_retimed<
     ensures prints { Prints (ending result) (O.output out.old) (O.output out.new) }
 {
     let retimed = certified(rt, alloc, task, stdin, out)?;
-    let printed = print_frames(task, &retimed, out, err);
+    let ended = print_frames(alloc, task, &retimed, out, err);
     drop(retimed);
-    ended(printed, Outcome::Done)
+    ended
 }

@@ -21,25 +21,33 @@ fn passable_gates(alloc: Global, circuit: &Circuit) -> Result<u32, NoMemory>
     Ok(pass.count())
 }
 
-/// Prints what a circuit has.
+/// Prints what a circuit has, as an object of JSON or in lines.
 fn print_circuit<'a, O: CountedWrite>(
     alloc: Global,
     circuit: &Circuit,
+    json: bool,
     out: &mut O,
 ) -> Result<Outcome, Failure<'a>>
     ensures { Prints (ending result) (O.output out.old) (O.output out.new) }
 {
     match passable_gates(alloc, circuit) {
-        Ok(passable) => ended(print_counts(circuit, passable, out), Outcome::Done),
+        Ok(passable) => {
+            if json {
+                command_objects::print_statistics(alloc, circuit, passable, out)
+            } else {
+                ended(print_counts(circuit, passable, out), Outcome::Done)
+            }
+        }
         Err(_) => Err(Failure::Memory),
     }
 }
 
-/// Reads a circuit, and prints what it has.
+/// Reads a circuit, and prints what it has, as an object of JSON or in lines.
 pub fn print_statistics<'a, R: Files, I: CountedRead, O: CountedWrite>(
     rt: &R,
     alloc: Global,
     input: Source<'a>,
+    json: bool,
     stdin: &mut I,
     out: &mut O,
 ) -> Result<Outcome, Failure<'a>>
@@ -47,7 +55,7 @@ pub fn print_statistics<'a, R: Files, I: CountedRead, O: CountedWrite>(
 {
     match circuit_at(rt, alloc, input, stdin) {
         Ok(spelt) => {
-            let printed = print_circuit(alloc, &spelt.circuit, out);
+            let printed = print_circuit(alloc, &spelt.circuit, json, out);
             drop(spelt);
             printed
         }

@@ -4,7 +4,7 @@ ghost use Rattle.certificate_audits.specs.Audits.{IsAudit};
 ghost use Rattle.certificate_audits.specs.Named.{names_of};
 ghost use Rattle.reports.specs.Audits.{audit_text};
 ghost use Rattle.commands.specs.Printing.{EndsPrinting, Prints, ending};
-ghost use Rattle.commands.specs.Verifying.{IsFailureOfAudit, PrintsAudit, PrintsAuditFor, PrintsSomeAudit, held_names, outcome_of_end};
+ghost use Rattle.commands.specs.Verifying.{EndsWithAudit, IsFailureOfAudit, PrintsAudit, PrintsAuditFor, PrintsSomeAudit, held_names, outcome_of_end};
 
 use crate::ended::ended;
 use crate::names::{bytes_of_names, missing_name};
@@ -84,6 +84,25 @@ fn print_outcome<'a, O: CountedWrite>(
     ended(print_audit(blocks, audit, out), outcome_of(audit.end))
 }
 
+/// Prints an audit as an object of JSON or in lines.
+fn print_as<'a, O: CountedWrite>(
+    alloc: Global,
+    blocks: &[Certificate],
+    audit: Audit,
+    json: bool,
+    out: &mut O,
+) -> Result<Outcome, Failure<'a>>
+    ensures audit { IfOk result (EndsWithAudit json blocks.now audit (O.output out.old)
+        (O.output out.new)) }
+    ensures prints { Prints (ending result) (O.output out.old) (O.output out.new) }
+{
+    if json {
+        command_objects::print_audit(alloc, blocks, audit, outcome_of(audit.end), out)
+    } else {
+        print_outcome(blocks, audit, out)
+    }
+}
+
 /// Prints the audit of certificates.
 fn print_blocks<'a, O: CountedWrite>(
     alloc: Global,
@@ -93,11 +112,11 @@ fn print_blocks<'a, O: CountedWrite>(
     out: &mut O,
 ) -> Result<Outcome, Failure<'a>>
     ensures audit { IfOk result (λ ended. PrintsAudit
-        (held_names task.now) circuit.now blocks.now ended (O.output out.old) (O.output out.new)) }
+        task.now circuit.now blocks.now ended (O.output out.old) (O.output out.new)) }
     ensures prints { Prints (ending result) (O.output out.old) (O.output out.new) }
 {
     let audit = audited(alloc, circuit, blocks, task)?;
-    print_outcome(blocks, audit, out)
+    print_as(alloc, blocks, audit, task.json, out)
 }
 
 /// Prints the audit of the certificates that are read.
@@ -109,7 +128,7 @@ fn print_file<'a, R: Files, I: CountedRead, O: CountedWrite>(
     stdin: &mut I,
     out: &mut O,
 ) -> Result<Outcome, Failure<'a>>
-    ensures audit { IfOk result (λ ended. PrintsAuditFor (held_names task.now) circuit.now ended
+    ensures audit { IfOk result (λ ended. PrintsAuditFor task.now circuit.now ended
         (O.output out.old) (O.output out.new)) }
     ensures prints { Prints (ending result) (O.output out.old) (O.output out.new) }
 {
@@ -123,7 +142,7 @@ fn print_file<'a, R: Files, I: CountedRead, O: CountedWrite>(
     }
 }
 
-/// Reads a circuit, and then certificates, and prints whether each is confirmed. Whether a name is that of no latch shows once
+/// Reads a circuit, and then certificates, and prints whether each is confirmed, as an object of JSON or in lines. Whether a name is that of no latch shows once
 /// both were read.
 pub fn print_verification<'a, R: Files, I: CountedRead, O: CountedWrite>(
     rt: &R,
@@ -132,7 +151,7 @@ pub fn print_verification<'a, R: Files, I: CountedRead, O: CountedWrite>(
     stdin: &mut I,
     out: &mut O,
 ) -> Result<Outcome, Failure<'a>>
-    ensures audit { IfOk result (λ ended. PrintsSomeAudit (held_names task.now) ended
+    ensures audit { IfOk result (λ ended. PrintsSomeAudit task.now ended
         (O.output out.old) (O.output out.new)) }
     ensures prints { Prints (ending result) (O.output out.old) (O.output out.new) }
 {

@@ -1,10 +1,14 @@
 -- How a batch ends.
-use Rattle.std.proofs.Common.{List, [], ◌∷◌, fold, inr, sym, subst}
+use Rattle.std.proofs.Common.{◌≡◌, ◌⊎◌, Bool, List, [], ◌∷◌, fold, inl, inr, sym, ◌∙◌, subst}
 use Rattle.counted_io.specs.Output.{Output}
 use Rattle.reports.specs.declared.batch.JobReport.{JobReport}
 use Rattle.reports.specs.declared.batch.JobReport.TheVariants as reports
 use Rattle.circuit_files.specs.declared.outcome.Outcome.{Outcome}
 use Rattle.circuit_files.specs.declared.outcome.Outcome.TheVariants.{Done, Refused, ShapesDiffer, CommandLine, Device, Memory, Differ, Unconfirmed}
+use Rattle.circuit_files.specs.Outcomes.{outcome_of}
+use Rattle.circuit_files.specs.declared.outcome.Failure.{Failure}
+use Rattle.circuit_files.specs.declared.outcome.Failure.TheVariants as fails
+use Rattle.fretime.specs.Reporting.{PrintsFailure}
 use Rattle.fretime.specs.Batches.{Printed, PrintsList, after}
 
 -- done, refused, or without memory
@@ -35,15 +39,38 @@ after_all : (files : List JobReport) (ended : Outcome) → IsEnd ended → IsEnd
 after_all [] ended is = is
 after_all (r ∷ files) ended is = after_all files (after ended r) (after_one ended r is)
 
-listed : (ended : Outcome) (files : List JobReport) (old new : Output) → IsEnd ended → Printed files ended old new → PrintsList ended old new
-listed Done files old new is p = record { files = files; printed = p }
-listed Refused files old new is p = inr (record { files = files; printed = p })
-listed Memory files old new is p = inr (record { files = files; printed = p })
-listed Device files old new is p = tt
-listed ShapesDiffer files old new is p = is
-listed CommandLine files old new is p = is
-listed Differ files old new is p = is
-listed Unconfirmed files old new is p = is
+listed : (json : Bool) (ended : Outcome) (files : List JobReport) (old new : Output) → IsEnd ended → Printed json files ended old new → PrintsList json ended old new
+listed json Done files old new is p = record { files = files; printed = p }
+listed json Refused files old new is p = inr (record { files = files; printed = p })
+listed json Memory files old new is p = inr (record { files = files; printed = p })
+listed json Device files old new is p = tt
+listed json ShapesDiffer files old new is p = is
+listed json CommandLine files old new is p = is
+listed json Differ files old new is p = is
+listed json Unconfirmed files old new is p = is
 
-pub of_files : (ended : Outcome) (files : List JobReport) (old new : Output) → Printed files ended old new → PrintsList ended old new
-of_files ended files old new p = listed ended files old new (subst IsEnd (sym p.ends) (after_all files Done tt)) p
+pub of_files : (json : Bool) (ended : Outcome) (files : List JobReport) (old new : Output) → Printed json files ended old new → PrintsList json ended old new
+of_files json ended files old new p = listed json ended files old new (subst IsEnd (sym p.ends) (after_all files Done tt)) p
+
+-- a batch that failed
+refused : (json : Bool) (f : Failure) (old new : Output) → PrintsFailure json (outcome_of f) old new → PrintsList json (outcome_of f) old new
+refused json (fails.Refused path fault) old new p = inl p
+refused json (fails.RefusedStimulus path fault) old new p = inl p
+refused json (fails.RefusedList path fault) old new p = inl p
+refused json (fails.RefusedCertificates path fault) old new p = inl p
+refused json (fails.RefusedWitness path fault) old new p = inl p
+refused json (fails.NoSuchName path name) old new p = inl p
+refused json (fails.TooManyNodes path) old new p = inl p
+refused json (fails.Device path) old new p = tt
+refused json fails.Memory old new p = inl p
+
+-- how it ends
+pub of_failure : (json : Bool) (f : Failure) (ended : Outcome) (old new : Output) → ended ≡ outcome_of f → PrintsFailure json (outcome_of f) old new → PrintsList json ended old new
+of_failure json f ended old new is p = subst (λ (e : Outcome). PrintsList json e old new) (sym is) (refused json f old new p)
+
+-- where a device failed, or memory was wanting for the object before anything was printed
+pub of_late_failure : (json : Bool) (f : Failure) (ended : Outcome) (old mid new : Output)
+    → ended ≡ outcome_of f → (outcome_of f ≡ Device) ⊎ ((outcome_of f ≡ Memory) × (mid ≡ old)) → PrintsFailure json (outcome_of f) mid new → PrintsList json ended old new
+of_late_failure json f ended old mid new is (inl device) p = subst (λ (e : Outcome). PrintsList json e old new) (sym (is ∙ device)) tt
+of_late_failure json f ended old mid new is (inr memory) p =
+    of_failure json f ended old new is (subst (λ (s : Output). PrintsFailure json (outcome_of f) s new) memory.1 p)

@@ -1,13 +1,17 @@
 -- What is printed of a batch, by how it ends.
-use Rattle.std.specs.Prelude.{◌≡◌, ◌⊎◌, List, fold}
+use Rattle.std.specs.Prelude.{ℕ, ◌≡◌, ◌⊎◌, Bool, true, false, List, fold}
 use Rattle.counted_io.specs.Output.{Output, WritesAll}
 use Rattle.batch_pool.specs.declared.job.Outcome.{Outcome as JobOutcome}
 use Rattle.batch_pool.specs.declared.job.Outcome.TheVariants as jobs
 use Rattle.reports.specs.Batches.{job_lines}
 use Rattle.reports.specs.declared.batch.JobReport.{JobReport}
 use Rattle.reports.specs.declared.batch.JobReport.TheVariants as reports
+use Rattle.json_reports.specs.Batches.{batch_data}
+use Rattle.json_reports.specs.Lines.{json_line}
+use Rattle.circuit_files.specs.Codes.{status_of}
 use Rattle.circuit_files.specs.declared.outcome.Outcome.{Outcome}
 use Rattle.circuit_files.specs.declared.outcome.Outcome.TheVariants.{Done, Refused, ShapesDiffer, CommandLine, Device, Memory, Differ, Unconfirmed}
+use Rattle.fretime.specs.Reporting.{PrintsFailure}
 
 -- what is printed of an outcome
 abbrev pub report_of : JobOutcome → JobReport
@@ -28,23 +32,28 @@ abbrev pub after : Outcome → JobReport → Outcome
 after Done report = end_of report
 after ended report = ended
 
--- the lines of all files were printed, and the batch ends as they say
-pub record Printed (files : List JobReport) (ended : Outcome) (old new : Output) : Type 0 where
-  pub prints : WritesAll old new (job_lines files)
+-- what is printed of the files of a batch that ends so: an object on a line where that is asked for, else lines
+abbrev pub files_text : Bool → List JobReport → Outcome → List ℕ
+files_text true files ended = json_line (batch_data files (status_of ended))
+files_text false files ended = job_lines files
+
+-- all files were printed, as an object or in lines, and the batch ends as they say
+pub record Printed (json : Bool) (files : List JobReport) (ended : Outcome) (old new : Output) : Type 0 where
+  pub prints : WritesAll old new (files_text json files ended)
   pub ends : ended ≡ fold after Done files
 
 -- that is so of some files
-pub record PrintsFiles (ended : Outcome) (old new : Output) : Type 0 where
+pub record PrintsFiles (json : Bool) (ended : Outcome) (old new : Output) : Type 0 where
   pub files : List JobReport
-  pub printed : Printed files ended old new
+  pub printed : Printed json files ended old new
 
--- a batch prints the lines of all its files, or nothing where it was refused, or memory was wanting, before one was written
-abbrev pub PrintsList : Outcome → Output → Output → Type 0
-PrintsList Done old new = PrintsFiles Done old new
-PrintsList Refused old new = (new ≡ old) ⊎ PrintsFiles Refused old new
-PrintsList Memory old new = (new ≡ old) ⊎ PrintsFiles Memory old new
-PrintsList Device old new = Unit {0}
-PrintsList ShapesDiffer old new = ⊥
-PrintsList CommandLine old new = ⊥
-PrintsList Differ old new = ⊥
-PrintsList Unconfirmed old new = ⊥
+-- a batch prints all its files, or, where it was refused or memory was wanting before that, what a failure prints
+abbrev pub PrintsList : Bool → Outcome → Output → Output → Type 0
+PrintsList json Done old new = PrintsFiles json Done old new
+PrintsList json Refused old new = PrintsFailure json Refused old new ⊎ PrintsFiles json Refused old new
+PrintsList json Memory old new = PrintsFailure json Memory old new ⊎ PrintsFiles json Memory old new
+PrintsList json Device old new = Unit {0}
+PrintsList json ShapesDiffer old new = ⊥
+PrintsList json CommandLine old new = ⊥
+PrintsList json Differ old new = ⊥
+PrintsList json Unconfirmed old new = ⊥

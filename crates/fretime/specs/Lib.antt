@@ -1,2 +1,3 @@
+pub mod Reporting
 pub mod Batches
 pub mod Runs

@@ -1,17 +1,19 @@
 //! The command `batch`.
-ghost use Rattle.std.specs.Prelude.{◌≡◌, ◌+◌, IfErr, IfOk, MatchResult, OnOk, length, map};
+ghost use Rattle.std.specs.Prelude.{◌≡◌, ◌⊎◌, ◌+◌, false, IfErr, IfOk, MatchResult, OnOk, length, map};
 ghost use Rattle.counted_io.specs.Output.{WritesAll};
 ghost use Rattle.reports.specs.Batches.{job_line};
 ghost use Rattle.circuit_files.specs.Outcomes.{outcome_of};
-ghost use Rattle.circuit_files.specs.declared.outcome.Outcome.TheVariants.{Device};
+ghost use Rattle.circuit_files.specs.declared.outcome.Outcome.TheVariants.{Device, Memory};
+ghost use Rattle.fretime.specs.Reporting.{PrintsFailure};
 ghost use Rattle.fretime.specs.Batches.{Printed, PrintsList};
 ghost use Rattle.fretime.specs.Batches as wanted;
 
+use crate::batch_object::finish_as_object;
+use crate::reporting::report_failure_as;
 use batch_lists::{Entry, read_list};
 use batch_pool::{Job, run_batch};
 use circuit_files::{Failure, LazyFile, Outcome, bytes_at, bytes_of_file};
 use command_line::Batch;
-use commands::report_failure;
 use counted_io::{Counted, CountedRead, CountedWrite, write_all};
 use frames::Options;
 use pulse::{Crew, OpenGate};
@@ -87,7 +89,7 @@ fn outcomes<'a, R: Files + Threads + Sync>(
 }
 
 /// What is printed of an outcome.
-fn report_of(outcome: &batch_pool::Outcome) -> JobReport
+pub(crate) fn report_of(outcome: &batch_pool::Outcome) -> JobReport
     ensures { result ≡ wanted.report_of outcome.now }
 {
     match outcome {
@@ -109,7 +111,7 @@ fn write_file<'a, R: Files>(rt: &R, output: &'a str, bytes: &[u8]) -> Result<(),
 }
 
 /// Writes the circuit of a job, where it was retimed.
-fn write_answer<'a, R: Files>(
+pub(crate) fn write_answer<'a, R: Files>(
     rt: &R,
     output: &'a str,
     outcome: &batch_pool::Outcome,
@@ -155,7 +157,7 @@ fn finish_job<'a, R: Files, O: CountedWrite>(
 }
 
 /// How a batch ends after one more job.
-fn after(ended: Outcome, report: JobReport) -> Outcome
+pub(crate) fn after(ended: Outcome, report: JobReport) -> Outcome
     ensures { result ≡ wanted.after ended report }
 {
     match ended {
@@ -176,7 +178,7 @@ fn finish_jobs<'a, R: Files, O: CountedWrite>(
     out: &mut O,
 ) -> Result<Outcome, Failure<'a>>
     requires { length outcomes.now ≡ length entries.now }
-    ensures ok { IfOk result (λ ended. Printed (map wanted.report_of outcomes.now) ended
+    ensures ok { IfOk result (λ ended. Printed false (map wanted.report_of outcomes.now) ended
         (O.output out.old) (O.output out.new)) }
     ensures err { IfErr result (λ failure. outcome_of failure ≡ Device) }
 {
@@ -188,6 +190,43 @@ fn finish_jobs<'a, R: Files, O: CountedWrite>(
     Ok(ended)
 }
 
+/// Writes the circuits of all jobs, prints the files as an object of JSON or in lines, and returns how the batch ends.
+fn finish<'a, R: Files, O: CountedWrite>(
+    rt: &R,
+    alloc: Global,
+    entries: &[Entry<'a>],
+    outcomes: &[batch_pool::Outcome],
+    json: bool,
+    out: &mut O,
+) -> Result<Outcome, Failure<'a>>
+    requires { length outcomes.now ≡ length entries.now }
+    ensures ok { IfOk result (λ ended. Printed json (map wanted.report_of outcomes.now) ended
+        (O.output out.old) (O.output out.new)) }
+    ensures err { IfErr result (λ failure. (outcome_of failure ≡ Device)
+        ⊎ ((outcome_of failure ≡ Memory) × (O.output out.new ≡ O.output out.old))) }
+{
+    if json {
+        finish_as_object(rt, alloc, entries, outcomes, out)
+    } else {
+        finish_jobs(rt, entries, outcomes, out)
+    }
+}
+
+/// Reports why the batch ended, also as an object of JSON where that is asked for.
+fn refuse<O: CountedWrite, E: CountedWrite>(
+    alloc: Global,
+    task: &Batch<'_>,
+    failure: Failure<'_>,
+    out: &mut O,
+    err: &mut E,
+) -> Outcome
+    ensures outcome { result ≡ outcome_of failure.entry }
+    ensures prints { PrintsFailure task.now.json (outcome_of failure.entry) (O.output out.old)
+        (O.output out.new) }
+{
+    report_failure_as(alloc, "batch", failure, task.json, out, err)
+}
+
 /// Does the jobs of the entries.
 fn retime_entries<R: Files + Threads + Sync, O: CountedWrite, E: CountedWrite>(
     rt: &R,
@@ -197,14 +236,14 @@ fn retime_entries<R: Files + Threads + Sync, O: CountedWrite, E: CountedWrite>(
     out: &mut O,
     err: &mut E,
 ) -> Outcome
-    ensures { PrintsList result (O.output out.old) (O.output out.new) }
+    ensures { PrintsList task.now.json result (O.output out.old) (O.output out.new) }
 {
     match outcomes(rt, alloc, entries, task) {
-        Ok(outcomes) => match finish_jobs(rt, entries, outcomes.as_slice(), out) {
+        Ok(outcomes) => match finish(rt, alloc, entries, outcomes.as_slice(), task.json, out) {
             Ok(ended) => ended,
-            Err(failure) => report_failure(failure, err),
+            Err(failure) => refuse(alloc, task, failure, out, err),
         },
-        Err(failure) => report_failure(failure, err),
+        Err(failure) => refuse(alloc, task, failure, out, err),
     }
 }
 
@@ -217,11 +256,14 @@ fn retime_lines<R: Files + Threads + Sync, O: CountedWrite, E: CountedWrite>(
     out: &mut O,
     err: &mut E,
 ) -> Outcome
-    ensures { PrintsList result (O.output out.old) (O.output out.new) }
+    ensures { PrintsList task.now.json result (O.output out.old) (O.output out.new) }
 {
     match read_list(alloc, bytes) {
         Ok(entries) => retime_entries(rt, alloc, entries.as_slice(), task, out, err),
-        Err(error) => report_failure(Failure::of_list(error, task.list.name()), err),
+        Err(error) => {
+            let failure = Failure::of_list(error, task.list.name());
+            refuse(alloc, task, failure, out, err)
+        }
     }
 }
 
@@ -235,10 +277,10 @@ pub fn retime_list<R: Files + Threads + Sync, I: CountedRead, O: CountedWrite, E
     out: &mut O,
     err: &mut E,
 ) -> Outcome
-    ensures { PrintsList result (O.output out.old) (O.output out.new) }
+    ensures { PrintsList task.now.json result (O.output out.old) (O.output out.new) }
 {
     match bytes_at(rt, alloc, task.list, stdin) {
         Ok(bytes) => retime_lines(rt, alloc, bytes.as_slice(), task, out, err),
-        Err(failure) => report_failure(failure, err),
+        Err(failure) => refuse(alloc, task, failure, out, err),
     }
 }

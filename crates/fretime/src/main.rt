@@ -3,7 +3,9 @@
 #![tactic(auto)]
 
 mod batch;
+mod batch_object;
 mod explaining;
+mod reporting;
 mod run;
 
 use counted_io::Counted;

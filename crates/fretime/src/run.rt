@@ -1,14 +1,10 @@
 ghost use Rattle.std.specs.Prelude.{◌≡◌, ◌⊎◌, ◌≤◌};
-ghost use Rattle.counted_io.specs.Output.{WritesAll};
-ghost use Rattle.reports.specs.Differences.{shapes_text};
-ghost use Rattle.circuit_files.specs.Outcomes.{outcome_of};
 ghost use Rattle.circuit_files.specs.declared.outcome.Outcome.TheVariants.{Done, Refused, CommandLine, Memory};
-ghost use Rattle.commands.specs.Printing.{ending};
-ghost use Rattle.fretime.specs.Runs.{MayPrint};
-ghost use Rattle.fretime.specs.Batches.{PrintsFiles};
+ghost use Rattle.fretime.specs.Runs.{Gives, MayPrint, PrintsFilesOrRefusal, PrintsShapes};
 
 use crate::batch::retime_list;
 use crate::explaining::explain;
+use crate::reporting::reported;
 use circuit_files::{Failure, Outcome};
 use clap::Error;
 use clap::error::ErrorKind;
@@ -18,32 +14,11 @@ use commands::{
     print_verification, print_witness_back, report_failure, write_picture,
 };
 use counted_io::{Buffered, CountedRead, CountedWrite};
-use failure_hints::give_hint;
 use std::alloc::Global;
 use std::fmt::Write;
 use std::io;
 use std::rt::Files;
 use std::thread::Threads;
-
-/// How a command ends. Where it failed, reports why.
-fn reported<'a, R: Files, E: CountedWrite>(
-    rt: &R,
-    alloc: Global,
-    ended: Result<Outcome, Failure<'a>>,
-    is_terminal: bool,
-    err: &mut E,
-) -> Outcome
-    ensures { result ≡ ending ended.entry }
-{
-    match ended {
-        Ok(outcome) => outcome,
-        Err(failure) => {
-            let outcome = report_failure(failure, err);
-            give_hint(rt, alloc, failure, is_terminal, err);
-            outcome
-        }
-    }
-}
 
 /// Does what the command line asks for.
 fn run_task<'a, R: Files + Threads + Sync, I: CountedRead, O: CountedWrite, E: CountedWrite>(
@@ -54,19 +29,17 @@ fn run_task<'a, R: Files + Threads + Sync, I: CountedRead, O: CountedWrite, E: C
     out: &mut O,
     err: &mut E,
 ) -> Result<Outcome, Failure<'a>>
-    ensures { MayPrint (ending result) (O.output out.old) (O.output out.new) }
+    ensures { Gives result (O.output out.old) (O.output out.new) }
 {
     match task {
         Task::Retime(retiming) => print_retimed(rt, alloc, retiming, stdin, out, err),
         Task::Batch(batch) => Ok(retime_list(rt, alloc, batch, stdin, out, err)),
-        Task::Stat(input) => print_statistics(rt, alloc, *input, stdin, out),
+        Task::Stat(input, json) => print_statistics(rt, alloc, *input, *json, stdin, out),
         Task::Convert(input, output, spelling) => {
             convert(rt, alloc, *input, *output, *spelling, stdin, out)
         }
         Task::Sim(input, stimulus) => print_simulation(rt, alloc, *input, *stimulus, stdin, out),
-        Task::Same(first, second, stimulus) => {
-            print_comparison(rt, alloc, *first, *second, *stimulus, stdin, out)
-        }
+        Task::Same(comparison) => print_comparison(rt, alloc, comparison, stdin, out),
         Task::Verify(verification) => print_verification(rt, alloc, verification, stdin, out),
         Task::Dot(drawing) => write_picture(rt, alloc, drawing, stdin, out),
         Task::Witness(input, retimed, witness) => {
@@ -123,7 +96,7 @@ fn run_command<R: Files + Threads + Sync, I: CountedRead, O: CountedWrite, E: Co
     match parse_arguments(alloc, words) {
         Ok(task) => {
             let ended = run_task(rt, alloc, &task, stdin, out, err);
-            reported(rt, alloc, ended, is_terminal, err)
+            reported(rt, alloc, &task, ended, is_terminal, out, err)
         }
         Err(error) => report_usage(&error, err),
     }
@@ -147,11 +120,11 @@ pub fn run_words<R: Files + Threads + Sync, I: CountedRead, O: CountedWrite, E: 
 ) -> u8
     ensures status { result ≤ 5 }
     ensures refused { (result ≡ 1) → (O.output out.new ≡ O.output out.old)
-        ⊎ WritesAll (O.output out.old) (O.output out.new) shapes_text
-        ⊎ PrintsFiles Refused (O.output out.old) (O.output out.new) }
+        ⊎ PrintsShapes (O.output out.old) (O.output out.new)
+        ⊎ PrintsFilesOrRefusal Refused (O.output out.old) (O.output out.new) }
     ensures quiet { (result ≡ 2) → O.output out.new ≡ O.output out.old }
     ensures memory { (result ≡ 4) → (O.output out.new ≡ O.output out.old)
-        ⊎ PrintsFiles Memory (O.output out.old) (O.output out.new) }
+        ⊎ PrintsFilesOrRefusal Memory (O.output out.old) (O.output out.new) }
 {
     run_command(rt, alloc, words, is_terminal, stdin, out, err).status()
 }

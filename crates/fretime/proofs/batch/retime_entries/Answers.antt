@@ -1,5 +1,5 @@
-use Rattle.fretime.proofs.EndLaws.{of_files}
+use Rattle.fretime.proofs.EndLaws.{of_failure, of_files, of_late_failure}
 use Rattle.fretime.proofs.batch.retime_entries.Goals as goal
 
-pub returns-in-Ok-finish_jobs : goal.returns-in-Ok-finish_jobs
-returns-in-Ok-finish_jobs g c = of_files c.in-Ok-finish_jobs.ended _ _ _ c.in-Ok-finish_jobs.ensures.ok
+pub returns-in-Ok-finish : goal.returns-in-Ok-finish
+returns-in-Ok-finish g c = of_files c.args.task.now.json c.in-Ok-finish.ended _ _ _ c.in-Ok-finish.ensures.ok

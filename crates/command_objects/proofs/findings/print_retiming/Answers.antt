@@ -1,0 +1,5 @@
+use Rattle.command_objects.proofs.EndingLaws.{object_ends}
+use Rattle.command_objects.proofs.findings.print_retiming.Goals as goal
+
+pub returns : goal.returns
+returns g c = object_ends c.print_retiming-printed.result _ _ _ _ _ c.ended.ensures c.print_retiming-printed.ensures

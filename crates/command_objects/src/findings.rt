@@ -1,0 +1,122 @@
+//! What a command found, as an object of JSON.
+ghost use Rattle.std.specs.Prelude.{◌≡◌};
+ghost use Rattle.json_reports.specs.Audits.{audit_data};
+ghost use Rattle.json_reports.specs.Batches.{batch_data};
+ghost use Rattle.json_reports.specs.Counts.{statistics_data};
+ghost use Rattle.json_reports.specs.Differences.{difference_data, shapes_data};
+ghost use Rattle.json_reports.specs.Retimings.{retiming_data};
+ghost use Rattle.circuit_files.specs.Codes.{status_of};
+ghost use Rattle.circuit_files.specs.declared.outcome.Outcome.TheVariants.{Done, ShapesDiffer};
+ghost use Rattle.command_objects.specs.Objects.{EndsBy, EndsPrintingObject, outcome_of_difference};
+
+use aig_graph::Circuit;
+use certificate_audits::Audit;
+use certificates::Certificate;
+use circuit_files::{Failure, Outcome};
+use counted_io::CountedWrite;
+use json_reports::PrintError;
+use lane_sim::Place;
+use reports::JobReport;
+use retimed_circuits::Retimed;
+use std::alloc::Global;
+
+/// How a command ends that has printed an object, where there was room for it and standard output took all of it.
+fn ended<'a>(printed: Result<(), PrintError>, outcome: Outcome) -> Result<Outcome, Failure<'a>>
+    ensures { EndsBy printed outcome result }
+{
+    match printed {
+        Ok(()) => Ok(outcome),
+        Err(PrintError::NoMemory) => Err(Failure::Memory),
+        Err(PrintError::Device) => Err(Failure::Device("stdout")),
+    }
+}
+
+/// Prints the frames of a retiming, what the written circuit has, and which free latches stayed.
+pub fn print_retiming<'a, W: CountedWrite>(
+    alloc: Global,
+    retimed: &Retimed,
+    writer: &mut W,
+) -> Result<Outcome, Failure<'a>>
+    ensures { EndsPrintingObject Done (retiming_data retimed.now) (W.output writer.old)
+        (W.output writer.new) result }
+{
+    let printed = json_reports::print_retiming(alloc, retimed, writer);
+    ended(printed, Outcome::Done)
+}
+
+/// Prints what a circuit with so many passable gates has.
+pub fn print_statistics<'a, W: CountedWrite>(
+    alloc: Global,
+    circuit: &Circuit,
+    passable: u32,
+    writer: &mut W,
+) -> Result<Outcome, Failure<'a>>
+    ensures { EndsPrintingObject Done (statistics_data circuit.now passable) (W.output writer.old)
+        (W.output writer.new) result }
+{
+    let printed = json_reports::print_statistics(alloc, circuit, passable, writer);
+    ended(printed, Outcome::Done)
+}
+
+fn outcome_of_difference(found: Option<Place>) -> Outcome
+    ensures { result ≡ outcome_of_difference found }
+{
+    match found {
+        Some(_) => Outcome::Differ,
+        None => Outcome::Done,
+    }
+}
+
+/// Prints the first place where two circuits differ, or that there is none.
+pub fn print_difference<'a, W: CountedWrite>(
+    alloc: Global,
+    found: Option<Place>,
+    writer: &mut W,
+) -> Result<Outcome, Failure<'a>>
+    ensures { EndsPrintingObject (outcome_of_difference found) (difference_data found) (W.output writer.old)
+        (W.output writer.new) result }
+{
+    let printed = json_reports::print_difference(alloc, found, writer);
+    ended(printed, outcome_of_difference(found))
+}
+
+/// Prints that two circuits can't be compared.
+pub fn print_shapes_differ<'a, W: CountedWrite>(
+    alloc: Global,
+    writer: &mut W,
+) -> Result<Outcome, Failure<'a>>
+    ensures { EndsPrintingObject ShapesDiffer shapes_data (W.output writer.old)
+        (W.output writer.new) result }
+{
+    let printed = json_reports::print_shapes_differ(alloc, writer);
+    ended(printed, Outcome::ShapesDiffer)
+}
+
+/// Prints an audit after which the run ends so.
+pub fn print_audit<'a, W: CountedWrite>(
+    alloc: Global,
+    blocks: &[Certificate],
+    audit: Audit,
+    outcome: Outcome,
+    writer: &mut W,
+) -> Result<Outcome, Failure<'a>>
+    ensures { EndsPrintingObject outcome (audit_data blocks.now audit (status_of outcome)) (W.output writer.old)
+        (W.output writer.new) result }
+{
+    let printed = json_reports::print_audit(alloc, blocks, audit, outcome.status(), writer);
+    ended(printed, outcome)
+}
+
+/// Prints the files of a batch that ends so.
+pub fn print_batch<'a, W: CountedWrite>(
+    alloc: Global,
+    reports: &[JobReport],
+    outcome: Outcome,
+    writer: &mut W,
+) -> Result<Outcome, Failure<'a>>
+    ensures { EndsPrintingObject outcome (batch_data reports.now (status_of outcome)) (W.output writer.old)
+        (W.output writer.new) result }
+{
+    let printed = json_reports::print_batch(alloc, reports, outcome.status(), writer);
+    ended(printed, outcome)
+}

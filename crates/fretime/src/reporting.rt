@@ -1,0 +1,99 @@
+//! Why a command failed, on standard error, and as an object of JSON where that is asked for.
+ghost use Rattle.std.specs.Prelude.{◌≡◌, ◌⊎◌, true, false};
+ghost use Rattle.circuit_files.specs.Outcomes.{outcome_of};
+ghost use Rattle.commands.specs.Printing.{ending};
+ghost use Rattle.fretime.specs.Reporting.{MayRefuse, PrintsFailure};
+
+use circuit_files::{Failure, Outcome};
+use command_line::Task;
+use command_objects::print_failure;
+use commands::{report_failure, takes_stdout};
+use counted_io::CountedWrite;
+use failure_hints::give_hint;
+use std::alloc::Global;
+use std::rt::Files;
+
+/// Reports a failure of this command on one line, and prints it as an object of JSON where that is asked for; returns how the run
+/// ends. A failed write changes nothing.
+pub fn report_failure_as<O: CountedWrite, E: CountedWrite>(
+    alloc: Global,
+    command: &str,
+    failure: Failure<'_>,
+    json: bool,
+    out: &mut O,
+    err: &mut E,
+) -> Outcome
+    ensures outcome { result ≡ outcome_of failure.entry }
+    ensures prints { PrintsFailure json (outcome_of failure.entry) (O.output out.old)
+        (O.output out.new) }
+{
+    if json {
+        print_failure(alloc, command, failure, out);
+    }
+    report_failure(failure, err)
+}
+
+/// The name of a task's command, where its failures are printed as objects; a batch prints its own.
+fn command_with_objects(task: &Task<'_>) -> Option<&'static str> {
+    match task {
+        Task::Retime(retiming) if retiming.json => Some("retime"),
+        Task::Stat(_, json) if *json => Some("stat"),
+        Task::Same(comparison) if comparison.json => Some("same"),
+        Task::Verify(verification) if verification.json => Some("verify"),
+        _ => None,
+    }
+}
+
+/// Whether a task gives standard output a circuit or certificates, so that objects go to standard error.
+fn prints_aside(task: &Task<'_>) -> bool {
+    match task {
+        Task::Retime(retiming) => takes_stdout(retiming),
+        _ => false,
+    }
+}
+
+/// Prints why a task failed as an object of JSON, where the task asks for objects. A failed write changes nothing.
+fn print_object<O: CountedWrite, E: CountedWrite>(
+    alloc: Global,
+    task: &Task<'_>,
+    failure: Failure<'_>,
+    out: &mut O,
+    err: &mut E,
+)
+    ensures { PrintsFailure false (outcome_of failure.entry) (O.output out.old) (O.output out.new)
+        ⊎ PrintsFailure true (outcome_of failure.entry) (O.output out.old) (O.output out.new) }
+{
+    let Some(command) = command_with_objects(task) else {
+        return;
+    };
+    if prints_aside(task) {
+        print_failure(alloc, command, failure, err);
+    } else {
+        print_failure(alloc, command, failure, out);
+    }
+}
+
+/// How a task ends. Where it failed, reports why: as an object too where the task asks for objects, and with a hint on standard
+/// error.
+pub fn reported<'a, R: Files, O: CountedWrite, E: CountedWrite>(
+    rt: &R,
+    alloc: Global,
+    task: &Task<'a>,
+    ended: Result<Outcome, Failure<'a>>,
+    is_terminal: bool,
+    out: &mut O,
+    err: &mut E,
+) -> Outcome
+    ensures outcome { result ≡ ending ended.entry }
+    ensures prints { MayRefuse ended.entry (O.output out.old) (O.output out.new) }
+{
+    match ended {
+        Ok(outcome) => outcome,
+        Err(failure) => {
+            print_object(alloc, task, failure, out, err);
+            let outcome = report_failure(failure, err);
+            give_hint(rt, alloc, failure, is_terminal, err);
+            outcome
+        }
+    }
+}
