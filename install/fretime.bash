@@ -16,7 +16,7 @@ _fretime() {
         return
     fi
     case ${COMP_WORDS[1]} in
-        retime) options="--ascii --binary --workers --frames --near --keep --cert --json --help" ;;
+        retime) options="--ascii --binary --workers --frames --near --keep --cert --progress --quiet --json --help" ;;
         batch) options="--ascii --binary --workers --frames --near --json --help" ;;
         convert) options="--ascii --binary --help" ;;
         verify) options="--keep --json --help" ;;

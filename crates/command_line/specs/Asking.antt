@@ -11,6 +11,8 @@ use Rattle.stream_paths.specs.declared.source.Source.{Source}
 use Rattle.stream_paths.specs.declared.target.Target.{Target}
 use Rattle.least_sets.specs.declared.choice.Choice.{Choice}
 use Rattle.least_sets.specs.declared.choice.Choice.TheVariants.{Greatest, Smallest}
+use Rattle.command_line.specs.declared.task.Shown.{Shown}
+use Rattle.command_line.specs.declared.task.Shown.TheVariants.{OnTerminal, EachFrame, Nothing}
 use Rattle.command_line.specs.declared.task.Retiming.{Retiming}
 use Rattle.command_line.specs.declared.task.Batch.{Batch as Batching}
 use Rattle.command_line.specs.declared.task.Verification.{Verification}
@@ -57,6 +59,12 @@ abbrev pub IsChoice : ArgMatches → Choice → Type 0
 IsChoice matches Greatest = IsFlag matches (codes "near") false
 IsChoice matches Smallest = IsFlag matches (codes "near") true
 
+-- a line for each frame, or nothing, where its flag is given, else what a terminal is shown
+abbrev pub IsShown : ArgMatches → Shown → Type 0
+IsShown matches EachFrame = IsFlag matches (codes "progress") true
+IsShown matches Nothing = IsFlag matches (codes "progress") false × IsFlag matches (codes "quiet") true
+IsShown matches OnTerminal = IsFlag matches (codes "progress") false × IsFlag matches (codes "quiet") false
+
 -- the number is the value of the argument with this id, where that is a numeral of 32 bits, and the default where there is none
 pub record IsNumber (matches : ArgMatches) (id : List ℕ) (default number : ℕ) : Type 0 where
   pub none : one_text (found_of matches) id ≡ None → number ≡ default
@@ -76,6 +84,7 @@ pub record IsRetiming (matches : ArgMatches) (retiming : Retiming) : Type 0 wher
   pub frames : IsNumber matches (codes "frames") (2 ^ 28) retiming.frames
   pub choice : IsChoice matches retiming.choice
   pub certificates : IsSomeTarget matches (codes "cert") retiming.certificates
+  pub shown : IsShown matches retiming.shown
   pub names : map (λ name. name.now) retiming.keep.items ≡ values_of matches (codes "keep")
   pub json : IsFlag matches (codes "json") retiming.json
 

@@ -7,4 +7,4 @@ mod stream_uses;
 mod task;
 
 pub use parse::parse_arguments;
-pub use task::{Batch, Drawing, Retiming, Task, Verification};
+pub use task::{Batch, Comparison, Drawing, Retiming, Shown, Task, Verification};

@@ -1,11 +1,11 @@
 ghost use Rattle.std.specs.Prelude.{◌≡◌, ◌^◌, IfOk, IfSome, codes, map};
-ghost use Rattle.command_line.specs.Asking.{AsksFor, IsChoice, IsFlag, IsNumber, IsSomeTarget, IsSource, IsSpelling, values_of};
+ghost use Rattle.command_line.specs.Asking.{AsksFor, IsChoice, IsFlag, IsNumber, IsShown, IsSomeTarget, IsSource, IsSpelling, values_of};
 ghost use Rattle.command_line.specs.StreamUses.{UsesStreamsOnce};
 ghost use Rattle.command_line.specs.declared.task.Task.TheVariants.{Dot, Retime, Verify};
 
 use crate::program::program;
 use crate::stream_uses::stream_conflict;
-use crate::task::{Batch, Comparison, Drawing, Retiming, Task, Verification};
+use crate::task::{Batch, Comparison, Drawing, Retiming, Shown, Task, Verification};
 use clap::error::ErrorKind;
 use clap::{ArgMatches, Command, Error};
 use least_sets::Choice;
@@ -48,6 +48,19 @@ fn choice(matches: &ArgMatches<'_>) -> Choice
         Choice::Smallest
     } else {
         Choice::Greatest
+    }
+}
+
+/// What a flag asks to be shown of a run: a line for each frame, nothing, else what a terminal is shown.
+fn shown(matches: &ArgMatches<'_>) -> Shown
+    ensures { IsShown matches.now result }
+{
+    if matches.get_flag("progress") {
+        Shown::EachFrame
+    } else if matches.get_flag("quiet") {
+        Shown::Nothing
+    } else {
+        Shown::OnTerminal
     }
 }
 
@@ -101,6 +114,7 @@ fn retiming<'a>(alloc: Global, matches: &ArgMatches<'a>) -> Result<Option<Retimi
         choice: choice(matches),
         certificates: target(matches, "cert"),
         json: json(matches),
+        shown: shown(matches),
         keep: keep(alloc, matches)?,
     }))
 }

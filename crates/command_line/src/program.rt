@@ -29,7 +29,9 @@ OUT is created once IN has been read and retimed: a circuit that is refused leav
 With --cert, FILE gets a certificate of each frame, once OUT is written: 'verify IN FILE' checks from it that no other set of gates
 would have left fewer latches.
 
-Where OUT or FILE is '-', standard output, the lines that are printed go to standard error.";
+Where OUT or FILE is '-', standard output, the lines that are printed go to standard error.
+
+Where standard error is a terminal, one line of it shows how far a run of over a second is, and is gone at the end.";
 
 const RETIME_EXAMPLE: &str = "Example:
   fretime retime counter.aag smaller.aag
@@ -184,6 +186,17 @@ fn near<'a>(alloc: Global) -> Arg<'a> {
     )
 }
 
+/// The flag for a line a frame, which isn't given together with the one for none.
+fn progress<'a>(alloc: Global) -> Result<Arg<'a>, AllocError> {
+    let help = "Write a line to standard error as each frame begins";
+    flag(alloc, "progress", help).conflicts_with("quiet")
+}
+
+/// The flag for no line of progress, also on a terminal.
+fn quiet<'a>(alloc: Global) -> Arg<'a> {
+    flag(alloc, "quiet", "Show no progress on a terminal either")
+}
+
 fn certificates<'a>(alloc: Global) -> Arg<'a> {
     Arg::new(alloc, "cert")
         .long("cert")
@@ -269,6 +282,7 @@ fn with_limits<'a>(
 
 fn retime<'a>(alloc: Global) -> Result<Command<'a>, AllocError> {
     let ascii = ascii(alloc)?;
+    let progress = progress(alloc)?;
     let command = Command::new(alloc, "retime")
         .about(RETIME_ABOUT)
         .long_about(RETIME_LONG_ABOUT)
@@ -277,6 +291,8 @@ fn retime<'a>(alloc: Global) -> Result<Command<'a>, AllocError> {
     let command = with_spelling(alloc, with_files(alloc, command), ascii);
     let command = with_limits(alloc, command, "Threads that work on the flow");
     let command = with(command, certificates(alloc));
+    let command = with(command, progress);
+    let command = with(command, quiet(alloc));
     let command = with(command, names(alloc));
     with(command, json(alloc))
 }

@@ -2,6 +2,17 @@ use least_sets::Choice;
 use spellings::Spelling;
 use stream_paths::{Source, Target};
 
+/// What is shown of a run on standard error while it goes on.
+#[derive(Clone, Copy, Debug, PartialEq, Eq)]
+pub enum Shown {
+    /// One line, where standard error is a terminal.
+    OnTerminal,
+    /// A line for each frame.
+    EachFrame,
+    /// Nothing.
+    Nothing,
+}
+
 /// What `retime` is to do.
 #[derive(Drop)]
 pub struct Retiming<'a> {
@@ -19,6 +30,8 @@ pub struct Retiming<'a> {
     pub choice: Choice,
     /// What the certificates are written to; `None` asks for none.
     pub certificates: Option<Target<'a>>,
+    /// What is shown of the run.
+    pub shown: Shown,
     /// The names of the latches that are held in their places.
     pub keep: Vec<&'a str>,
     /// Whether an object of JSON is printed in place of the lines.

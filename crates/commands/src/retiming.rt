@@ -17,9 +17,10 @@ use aig_graph::Sequence;
 use certificate_files::{CertFile, Choice, write_cert};
 use certificates::Certificate;
 use circuit_files::{Failure, LazyFile, Outcome};
-use command_line::Retiming;
+use command_line::{Retiming, Shown};
 use counted_io::{Counted, CountedRead, CountedWrite, WriteError};
-use frames::{BytesError, Options, RetimeError, Retimed, retime_bytes};
+use frames::{BytesError, FrameWatcher, Options, RetimeError, Retimed, retime_bytes_watched};
+use progress::{Progress, Show};
 use pulse::{Crew, OpenGate};
 use reports::print_retiming;
 use std::alloc::{AllocError, Global};
@@ -27,6 +28,7 @@ use std::fs::File;
 use std::mem;
 use std::rt::Files;
 use std::thread::Threads;
+use std::time::Clock;
 use stream_paths::{Source, Target};
 
 /// The most workers of a crew.
@@ -65,13 +67,14 @@ fn failure_of<'a>(error: BytesError, task: &Retiming<'a>) -> Failure<'a>
 }
 
 /// Reads the circuit from the one, and writes it, retimed, to the other.
-fn retime_between<'a, R: Threads + Sync, I: CountedRead, W: CountedWrite>(
+fn retime_between<'a, R: Threads + Sync, I: CountedRead, W: CountedWrite, V: FrameWatcher>(
     rt: &R,
     alloc: Global,
     task: &Retiming<'a>,
     options: &Options,
     reader: &mut I,
     writer: &mut W,
+    watcher: &mut V,
 ) -> Result<Retimed, Failure<'a>>
     ensures answer { IfOk result (IsAnswered (I.input reader.old) (W.output writer.old)
         (W.output writer.new) options.now) }
@@ -79,20 +82,21 @@ fn retime_between<'a, R: Threads + Sync, I: CountedRead, W: CountedWrite>(
         (W.output writer.new)) }
 {
     let crew = crew(task);
-    match retime_bytes(rt, alloc, reader, writer, options, &crew) {
+    match retime_bytes_watched(rt, alloc, reader, writer, options, &crew, watcher) {
         Ok(retimed) => Ok(retimed),
         Err(error) => Err(failure_of(error, task)),
     }
 }
 
 /// Reads what the task reads.
-fn retime_input<'a, R: Files + Threads + Sync, I: CountedRead, W: CountedWrite>(
+fn retime_input<'a, R: Files + Threads + Sync, I: CountedRead, W: CountedWrite, V: FrameWatcher>(
     rt: &R,
     alloc: Global,
     task: &Retiming<'a>,
     options: &Options,
     stdin: &mut I,
     writer: &mut W,
+    watcher: &mut V,
 ) -> Result<Retimed, Failure<'a>>
     ensures answer { IfOk result (λ retimed. is_stdin task.now.input ≡ true
         → IsAnswered (I.input stdin.old) (W.output writer.old)
@@ -101,11 +105,11 @@ fn retime_input<'a, R: Files + Threads + Sync, I: CountedRead, W: CountedWrite>(
         (W.output writer.new)) }
 {
     match task.input {
-        Source::Stdin => retime_between(rt, alloc, task, options, stdin, writer),
+        Source::Stdin => retime_between(rt, alloc, task, options, stdin, writer, watcher),
         Source::File(path) => match File::open(rt, path) {
             Ok(file) => {
                 let mut reader = Counted::new(file);
-                retime_between(rt, alloc, task, options, &mut reader, writer)
+                retime_between(rt, alloc, task, options, &mut reader, writer, watcher)
             }
             Err(_) => Err(Failure::Device(path)),
         },
@@ -113,13 +117,14 @@ fn retime_input<'a, R: Files + Threads + Sync, I: CountedRead, W: CountedWrite>(
 }
 
 /// Reads what the task reads, and writes what it writes.
-fn retime_by<'a, R: Files + Threads + Sync, I: CountedRead, O: CountedWrite>(
+fn retime_by<'a, R: Files + Threads + Sync, I: CountedRead, O: CountedWrite, V: FrameWatcher>(
     rt: &R,
     alloc: Global,
     task: &Retiming<'a>,
     options: &Options,
     stdin: &mut I,
     out: &mut O,
+    watcher: &mut V,
 ) -> Result<Retimed, Failure<'a>>
     ensures answer { IfOk result (λ retimed. IsPipe task.now
         → IsAnswered (I.input stdin.old) (O.output out.old)
@@ -129,20 +134,21 @@ fn retime_by<'a, R: Files + Threads + Sync, I: CountedRead, O: CountedWrite>(
         (O.output out.new)) }
 {
     match task.output {
-        Target::Stdout => retime_input(rt, alloc, task, options, stdin, out),
+        Target::Stdout => retime_input(rt, alloc, task, options, stdin, out, watcher),
         Target::File(path) => {
             let mut writer = Counted::new(LazyFile::new(rt, path));
-            retime_input(rt, alloc, task, options, stdin, &mut writer)
+            retime_input(rt, alloc, task, options, stdin, &mut writer, watcher)
         }
     }
 }
 
-fn retimed<'a, R: Files + Threads + Sync, I: CountedRead, O: CountedWrite>(
+fn retimed<'a, R: Files + Threads + Sync, I: CountedRead, O: CountedWrite, V: FrameWatcher>(
     rt: &R,
     alloc: Global,
     task: &Retiming<'a>,
     stdin: &mut I,
     out: &mut O,
+    watcher: &mut V,
 ) -> Result<Retimed, Failure<'a>>
     ensures answer { IfOk result (λ retimed. IsPipe task.now
         → AnswersPipe task.now (I.input stdin.old) (O.output out.old) (O.output out.new) retimed) }
@@ -151,7 +157,7 @@ fn retimed<'a, R: Files + Threads + Sync, I: CountedRead, O: CountedWrite>(
         (O.output out.new)) }
 {
     match options(alloc, task) {
-        Ok(options) => retime_by(rt, alloc, task, &options, stdin, out),
+        Ok(options) => retime_by(rt, alloc, task, &options, stdin, out, watcher),
         Err(_) => Err(Failure::Memory),
     }
 }
@@ -213,12 +219,13 @@ fn certify<'a, R: Files, O: CountedWrite>(
 }
 
 /// Writes the circuit, and then the certificates.
-fn certified<'a, R: Files + Threads + Sync, I: CountedRead, O: CountedWrite>(
+fn certified<'a, R: Files + Threads + Sync, I: CountedRead, O: CountedWrite, V: FrameWatcher>(
     rt: &R,
     alloc: Global,
     task: &Retiming<'a>,
     stdin: &mut I,
     out: &mut O,
+    watcher: &mut V,
 ) -> Result<Retimed, Failure<'a>>
     ensures answer { IfOk result (λ retimed. IsPipe task.now
         → WritesPipe task.now (I.input stdin.old) (O.output out.old) (O.output out.new)) }
@@ -226,7 +233,7 @@ fn certified<'a, R: Files + Threads + Sync, I: CountedRead, O: CountedWrite>(
     ensures prints { IfErr result (λ failure. Prints (outcome_of failure) (O.output out.old)
         (O.output out.new)) }
 {
-    let mut retimed = retimed(rt, alloc, task, stdin, out)?;
+    let mut retimed = retimed(rt, alloc, task, stdin, out, watcher)?;
     match certify(rt, alloc, task, &mut retimed, out) {
         Ok(()) => Ok(retimed),
         Err(failure) => {
@@ -234,6 +241,43 @@ fn certified<'a, R: Files + Threads + Sync, I: CountedRead, O: CountedWrite>(
             Err(failure)
         }
     }
+}
+
+/// What is shown of a run, where standard error is a terminal or not.
+fn show(shown: Shown, is_terminal: bool) -> Show {
+    match shown {
+        Shown::EachFrame => Show::EachFrame,
+        Shown::OnTerminal if is_terminal => Show::InPlace,
+        Shown::OnTerminal | Shown::Nothing => Show::Nothing,
+    }
+}
+
+/// Writes the circuit and the certificates, and shows on standard error how far the run is.
+fn certified_in_view<
+    'a,
+    R: Files + Threads + Sync + Clock,
+    I: CountedRead,
+    O: CountedWrite,
+    E: CountedWrite,
+>(
+    rt: &R,
+    alloc: Global,
+    task: &Retiming<'a>,
+    is_terminal: bool,
+    stdin: &mut I,
+    out: &mut O,
+    err: &mut E,
+) -> Result<Retimed, Failure<'a>>
+    ensures answer { IfOk result (λ retimed. IsPipe task.now
+        → WritesPipe task.now (I.input stdin.old) (O.output out.old) (O.output out.new)) }
+    ensures file { pipes.takes_stdout task.now ≡ false → O.output out.new ≡ O.output out.old }
+    ensures prints { IfErr result (λ failure. Prints (outcome_of failure) (O.output out.old)
+        (O.output out.new)) }
+{
+    let mut progress = Progress::new(show(task.shown, is_terminal), rt, err);
+    let retimed = certified(rt, alloc, task, stdin, out, &mut progress);
+    progress.end();
+    retimed
 }
 
 /// Whether a circuit or certificates go to standard output, so that what is printed goes to standard error.
@@ -286,9 +330,11 @@ fn print_frames<'a, O: CountedWrite, E: CountedWrite>(
 
 /// Reads a circuit, writes it, retimed, and the certificates where they are asked for, and then prints the frames that were taken,
 /// as an object of JSON or in lines.
+///
+/// Shows how far the run is as the task asks; `is_terminal` is whether standard error is one.
 pub fn print_retimed<
     'a,
-    R: Files + Threads + Sync,
+    R: Files + Threads + Sync + Clock,
     I: CountedRead,
     O: CountedWrite,
     E: CountedWrite,
@@ -296,6 +342,7 @@ pub fn print_retimed<
     rt: &R,
     alloc: Global,
     task: &Retiming<'a>,
+    is_terminal: bool,
     stdin: &mut I,
     out: &mut O,
     err: &mut E,
@@ -304,7 +351,7 @@ pub fn print_retimed<
         → WritesPipe task.now (I.input stdin.old) (O.output out.old) (O.output out.new)) }
     ensures prints { Prints (ending result) (O.output out.old) (O.output out.new) }
 {
-    let retimed = certified(rt, alloc, task, stdin, out)?;
+    let retimed = certified_in_view(rt, alloc, task, is_terminal, stdin, out, err)?;
     let ended = print_frames(alloc, task, &retimed, out, err);
     drop(retimed);
     ended

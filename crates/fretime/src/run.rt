@@ -19,12 +19,20 @@ use std::fmt::Write;
 use std::io;
 use std::rt::Files;
 use std::thread::Threads;
+use std::time::Clock;
 
 /// Does what the command line asks for.
-fn run_task<'a, R: Files + Threads + Sync, I: CountedRead, O: CountedWrite, E: CountedWrite>(
+fn run_task<
+    'a,
+    R: Files + Threads + Sync + Clock,
+    I: CountedRead,
+    O: CountedWrite,
+    E: CountedWrite,
+>(
     rt: &R,
     alloc: Global,
     task: &Task<'a>,
+    is_terminal: bool,
     stdin: &mut I,
     out: &mut O,
     err: &mut E,
@@ -32,7 +40,9 @@ fn run_task<'a, R: Files + Threads + Sync, I: CountedRead, O: CountedWrite, E: C
     ensures { Gives result (O.output out.old) (O.output out.new) }
 {
     match task {
-        Task::Retime(retiming) => print_retimed(rt, alloc, retiming, stdin, out, err),
+        Task::Retime(retiming) => {
+            print_retimed(rt, alloc, retiming, is_terminal, stdin, out, err)
+        }
         Task::Batch(batch) => Ok(retime_list(rt, alloc, batch, stdin, out, err)),
         Task::Stat(input, json) => print_statistics(rt, alloc, *input, *json, stdin, out),
         Task::Convert(input, output, spelling) => {
@@ -82,7 +92,7 @@ pub fn report_unreadable_arguments<E: CountedWrite>(error: &io::Error, err: &mut
 }
 
 /// Does what the arguments ask for, and returns how the run ends.
-fn run_command<R: Files + Threads + Sync, I: CountedRead, O: CountedWrite, E: CountedWrite>(
+fn run_command<R: Files + Threads + Sync + Clock, I: CountedRead, O: CountedWrite, E: CountedWrite>(
     rt: &R,
     alloc: Global,
     words: &[String],
@@ -95,7 +105,7 @@ fn run_command<R: Files + Threads + Sync, I: CountedRead, O: CountedWrite, E: Co
 {
     match parse_arguments(alloc, words) {
         Ok(task) => {
-            let ended = run_task(rt, alloc, &task, stdin, out, err);
+            let ended = run_task(rt, alloc, &task, is_terminal, stdin, out, err);
             reported(rt, alloc, &task, ended, is_terminal, out, err)
         }
         Err(error) => report_usage(&error, err),
@@ -108,8 +118,13 @@ fn run_command<R: Files + Threads + Sync, I: CountedRead, O: CountedWrite, E: Co
 /// `stdin`, `out` and `err` are the standard streams. What was done is printed to `out` once the file is written; of a batch, file by
 /// file. Where a circuit or certificates are written to `out`, that is printed to `err`. Why nothing was done goes to `err`, and so do
 /// help and the version; a failed write to `err` doesn't change the status. Where `is_terminal`, that standard error is a terminal,
-/// a refused circuit's line at fault follows there. The texts on `err` are only tested.
-pub fn run_words<R: Files + Threads + Sync, I: CountedRead, O: CountedWrite, E: CountedWrite>(
+/// a refused circuit's line at fault follows there, and it is shown how far a retiming is. The texts on `err` are only tested.
+pub fn run_words<
+    R: Files + Threads + Sync + Clock,
+    I: CountedRead,
+    O: CountedWrite,
+    E: CountedWrite,
+>(
     rt: &R,
     alloc: Global,
     words: &[String],

@@ -1,0 +1,9 @@
+//! What a run of frames shows of itself on standard error while it goes on: a line a frame, or one line that is written over in its
+//! place and is gone at the end.
+#![tactic(auto)]
+
+mod lines;
+mod progress;
+
+pub use lines::State;
+pub use progress::{Progress, Show};

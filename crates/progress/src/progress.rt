@@ -1,0 +1,105 @@
+//! When a run is shown.
+use crate::lines::{State, clear_line, write_in_place, write_line};
+use aig_graph::Aig;
+use counted_io::CountedWrite;
+use frames::{FrameWatcher, Stage};
+use std::time::{Clock, Instant};
+
+/// What is shown of a run.
+#[derive(Clone, Copy, Debug, PartialEq, Eq)]
+pub enum Show {
+    /// Nothing.
+    Nothing,
+    /// A line for each frame that is looked for.
+    EachFrame,
+    /// From the first stage that begins a second after the run did, one line, which each stage writes over.
+    InPlace,
+}
+
+/// Shows a run on a writer, mostly standard error. A write that fails changes nothing of the run.
+///
+/// The seconds are whole ones since this was made; they are left out where the clock can't be read.
+pub struct Progress<'a, R, E> {
+    show: Show,
+    clock: &'a R,
+    began: Option<Instant>,
+    err: &'a mut E,
+    state: Option<State>,
+    on_line: bool,
+}
+
+impl<'a, R: Clock, E: CountedWrite> Progress<'a, R, E> {
+    pub fn new(show: Show, clock: &'a R, err: &'a mut E) -> Progress<'a, R, E> {
+        Progress {
+            show,
+            clock,
+            began: Instant::now(clock).ok(),
+            err,
+            state: None,
+            on_line: false,
+        }
+    }
+
+    /// The whole seconds since the run began.
+    fn seconds(&self) -> Option<u64> {
+        let began = self.began?;
+        let elapsed = began.elapsed(self.clock).ok()?;
+        Some(elapsed.as_secs())
+    }
+
+    /// Writes the line over, where the run has taken a second.
+    fn write_over(&mut self) {
+        let seconds = self.seconds();
+        if let Some(state) = self.state {
+            if seconds.unwrap_or(0) > 0 {
+                let _ = write_in_place(state, seconds, self.err);
+                self.on_line = true;
+            }
+        }
+    }
+
+    /// A set is looked for in the graph.
+    fn look(&mut self, taken: usize, aig: &Aig) {
+        self.state = Some(State {
+            frame: (taken as u64).saturating_add(1),
+            latches: aig.known_latches(),
+            gates: aig.gates().len() as u64,
+        });
+    }
+
+    /// Writes the line of the frame that is looked for.
+    fn write_frame(&mut self) {
+        let seconds = self.seconds();
+        if let Some(state) = self.state {
+            let _ = write_line(state, seconds, self.err);
+        }
+    }
+
+    /// Clears the line in its place, where there is one.
+    pub fn end(&mut self) {
+        if self.on_line {
+            let _ = clear_line(self.err);
+            self.on_line = false;
+        }
+    }
+}
+
+impl<R: Clock, E: CountedWrite> FrameWatcher for Progress<'_, R, E> {
+    fn enter(&mut self, stage: Stage<'_>) {
+        match self.show {
+            Show::Nothing => {}
+            Show::EachFrame => {
+                if let Stage::Looking { taken, aig } = stage {
+                    self.look(taken, aig);
+                    self.write_frame();
+                }
+            }
+            Show::InPlace => {
+                if let Stage::Looking { taken, aig } = stage {
+                    self.look(taken, aig);
+                }
+                self.write_over();
+            }
+        }
+    }
+}
