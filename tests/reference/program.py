@@ -12,7 +12,7 @@ from reference.simulation import difference_text, read_stimulus, trace, trace_te
 from reference.witnesses import carried_text
 
 PATHS = {'retime': 2, 'batch': 1, 'stat': 1, 'convert': 2, 'sim': 2, 'same': 3, 'verify': 2, 'dot': 2, 'witness': 3}
-OPTIONS = {'retime': {'--ascii', '--binary', '--workers', '--frames', '--near', '--keep', '--cert'},
+OPTIONS = {'retime': {'--ascii', '--binary', '--workers', '--frames', '--near', '--keep', '--cert', '--progress', '--quiet'},
            'verify': {'--keep'}, 'dot': {'--frame', '--keep', '--around', '--depth'},
            'batch': {'--ascii', '--binary', '--workers', '--frames', '--near'}, 'convert': {'--ascii', '--binary'}}
 WRITING = {'retime', 'convert', 'dot'}
@@ -47,7 +47,7 @@ def parsed(words):
         if name in GREATEST and not (value.isdigit() and 1 <= int(value) <= GREATEST[name]):
             raise Ends(2, f'error: {name} {value}')
         options.setdefault(name, []).append(value)
-    if len(paths) != PATHS[command] or {'--ascii', '--binary'} <= set(options):
+    if len(paths) != PATHS[command] or {'--ascii', '--binary'} <= set(options) or {'--progress', '--quiet'} <= set(options):
         raise Ends(2, 'error: wrong arguments')
     outputs = paths[1:] if command in WRITING else []
     if paths[:len(paths) - len(outputs)].count('-') > 1:
