@@ -33,6 +33,7 @@ mod simulated;
 #[cfg(test)]
 mod tables;
 #[cfg(test)]
+mod watched;
 mod witnessed;
 #[cfg(test)]
 mod workers;
