@@ -36,7 +36,7 @@ impl FrameWatcher for Seen {
 }
 
 /// What a watcher sees of the bytes' retiming by one worker.
-fn seen<R: Threads + Sync>(rt: &R, alloc: Global, bytes: &[u8]) -> Seen {
+fn stages_of<R: Threads + Sync>(rt: &R, alloc: Global, bytes: &[u8]) -> Seen {
     let options = Options {
         spelling: None,
         max_frames: 8,
@@ -80,6 +80,6 @@ fn a_watcher_is_told_of_each_frame(rt: HostRuntime) -> Result<(), Fail> {
         latches: 1,
         gates: 1,
     };
-    assert!(rt; seen(&rt, rt.alloc(), TWO_LATCHES) == wanted);
+    assert!(rt; stages_of(&rt, rt.alloc(), TWO_LATCHES) == wanted);
     Ok(())
 }
