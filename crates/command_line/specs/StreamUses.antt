@@ -1,9 +1,10 @@
 -- How often a task uses each standard stream.
-use Rattle.std.specs.Prelude.{◌≤◌, List, [], ◌∷◌, Option, Some, None}
+use Rattle.std.specs.Prelude.{◌≤◌, ◌||◌, Bool, false, List, [], ◌∷◌, Option, Some, None}
 use Rattle.std.specs.List.{count_by}
 use Rattle.stream_paths.specs.Streams.{is_stdin, is_stdout}
 use Rattle.stream_paths.specs.declared.source.Source.{Source}
 use Rattle.stream_paths.specs.declared.target.Target.{Target}
+use Rattle.command_line.specs.declared.task.Retiming.{Retiming}
 use Rattle.command_line.specs.declared.task.Task.{Task}
 use Rattle.command_line.specs.declared.task.Task.TheVariants.{Retime, Batch, Stat, Convert, Sim, Same, Verify, Dot, Witness, Explain}
 
@@ -42,3 +43,12 @@ targets_of (Explain name) = []
 pub record UsesStreamsOnce (task : Task) : Type 0 where
   pub stdin : count_by is_stdin (sources_of task) ≤ 1
   pub stdout : count_by is_stdout (targets_of task) ≤ 1
+
+-- whether something that is written where it is asked for goes to standard output
+abbrev pub writes_stdout : Option Target → Bool
+writes_stdout (Some target) = is_stdout target
+writes_stdout None = false
+
+-- whether a circuit or certificates go to standard output
+abbrev pub takes_stdout : Retiming → Bool
+takes_stdout task = is_stdout task.output || writes_stdout task.certificates

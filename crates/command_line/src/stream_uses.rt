@@ -3,8 +3,9 @@ ghost use Rattle.std.specs.Prelude.{◌≡◌, ◌≤◌, IfNone};
 ghost use Rattle.std.specs.List.{count_by};
 ghost use Rattle.stream_paths.specs.Streams.{is_stdin, is_stdout};
 ghost use Rattle.command_line.specs.StreamUses.{UsesStreamsOnce, sources_of, targets_of};
+ghost use Rattle.command_line.specs.StreamUses as uses;
 
-use crate::task::Task;
+use crate::task::{Retiming, Task};
 use stream_paths::{Source, Target};
 
 fn stdin_count(sources: &[Source<'_>]) -> usize
@@ -73,5 +74,17 @@ pub(crate) fn stream_conflict(task: &Task<'_>) -> Option<&'static str>
         )
     } else {
         None
+    }
+}
+
+impl Retiming<'_> {
+    /// Whether a circuit or certificates go to standard output, so that what is printed goes to standard error.
+    pub fn takes_stdout(&self) -> bool
+        ensures { result ≡ uses.takes_stdout self.now }
+    {
+        match self.certificates {
+            Some(certificates) => self.output.is_stdout() || certificates.is_stdout(),
+            None => self.output.is_stdout(),
+        }
     }
 }

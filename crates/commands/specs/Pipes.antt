@@ -1,5 +1,5 @@
 -- From standard input to standard output.
-use Rattle.std.specs.Prelude.{◌≡◌, ◌||◌, Bool, true, false, Option, Some, None}
+use Rattle.std.specs.Prelude.{◌≡◌, true, false, Option}
 use Rattle.counted_io.specs.Input.{Input}
 use Rattle.counted_io.specs.Output.{Output, WritesAll}
 use Rattle.spellings.specs.Spellings.{text_in}
@@ -10,19 +10,10 @@ use Rattle.retimed_circuits.specs.declared.report.Retimed.{Retimed}
 use Rattle.frames.specs.Answering.{IsAnswered}
 use Rattle.frames.specs.declared.options.Options.{Options}
 use Rattle.stream_paths.specs.Streams.{is_stdin, is_stdout}
-use Rattle.stream_paths.specs.declared.target.Target.{Target}
+use Rattle.command_line.specs.StreamUses.{writes_stdout}
 use Rattle.command_line.specs.declared.task.Retiming.{Retiming}
 use Rattle.commands.specs.OtherSpelling.{spelling_for}
 use Rattle.commands.specs.RetimingTasks.{AreOptionsOf}
-
--- whether something that is written where it is asked for goes to standard output
-abbrev pub writes_stdout : Option Target → Bool
-writes_stdout (Some target) = is_stdout target
-writes_stdout None = false
-
--- whether a circuit or certificates go to standard output
-abbrev pub takes_stdout : Retiming → Bool
-takes_stdout task = is_stdout task.output || writes_stdout task.certificates
 
 -- a retiming from standard input to standard output, which gets the circuit alone
 pub record IsPipe (task : Retiming) : Type 0 where

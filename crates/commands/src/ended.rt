@@ -3,8 +3,7 @@ ghost use Rattle.circuit_files.specs.Outcomes.{outcome_of};
 ghost use Rattle.circuit_files.specs.declared.outcome.Outcome.TheVariants.{Device};
 
 use circuit_files::{Failure, Outcome};
-use counted_io::{Buffered, CountedWrite, WriteError};
-use std::fmt::Write;
+use counted_io::WriteError;
 
 /// How a command ends that has printed, where standard output took all of it.
 pub fn ended<'a>(printed: Result<(), WriteError>, outcome: Outcome) -> Result<Outcome, Failure<'a>>
@@ -15,14 +14,4 @@ pub fn ended<'a>(printed: Result<(), WriteError>, outcome: Outcome) -> Result<Ou
         Ok(()) => Ok(outcome),
         Err(_) => Err(Failure::Device("stdout")),
     }
-}
-
-/// Reports a failure on one line, and returns how the run ends. A failed write changes nothing.
-pub fn report_failure<E: CountedWrite>(failure: Failure<'_>, err: &mut E) -> Outcome
-    ensures { result ≡ outcome_of failure.entry }
-{
-    let mut out = Buffered::new(err);
-    let _ = writeln!(out, "{failure}");
-    let _ = out.flush();
-    failure.outcome()
 }

@@ -4,10 +4,10 @@ ghost use Rattle.counted_io.specs.Output.{Writes};
 ghost use Rattle.certificate_files.specs.Texts.{file_text};
 ghost use Rattle.frames.specs.Answering.{IsAnswered};
 ghost use Rattle.stream_paths.specs.Streams.{is_stdin, is_stdout};
+ghost use Rattle.command_line.specs.StreamUses.{takes_stdout, writes_stdout};
 ghost use Rattle.circuit_files.specs.Outcomes.{outcome_of};
 ghost use Rattle.circuit_files.specs.declared.outcome.Outcome.TheVariants.{Device, Done};
-ghost use Rattle.commands.specs.Pipes as pipes;
-ghost use Rattle.commands.specs.Pipes.{AnswersPipe, IsPipe, WritesPipe, writes_stdout};
+ghost use Rattle.commands.specs.Pipes.{AnswersPipe, IsPipe, WritesPipe};
 ghost use Rattle.commands.specs.Printing.{EndsAside, Prints, ending};
 ghost use Rattle.commands.specs.RetimingTasks.{AreOptionsOf, IsFailureOf};
 
@@ -17,10 +17,10 @@ use aig_graph::Sequence;
 use certificate_files::{CertFile, Choice, write_cert};
 use certificates::Certificate;
 use circuit_files::{Failure, LazyFile, Outcome};
-use command_line::{Retiming, Shown};
+use command_line::Retiming;
 use counted_io::{Counted, CountedRead, CountedWrite, WriteError};
 use frames::{BytesError, FrameWatcher, Options, RetimeError, Retimed, retime_bytes_watched};
-use progress::{Progress, Show};
+use progress::Progress;
 use pulse::{Crew, OpenGate};
 use reports::print_retiming;
 use std::alloc::{AllocError, Global};
@@ -218,42 +218,8 @@ fn certify<'a, R: Files, O: CountedWrite>(
     }
 }
 
-/// Writes the circuit, and then the certificates.
-fn certified<'a, R: Files + Threads + Sync, I: CountedRead, O: CountedWrite, V: FrameWatcher>(
-    rt: &R,
-    alloc: Global,
-    task: &Retiming<'a>,
-    stdin: &mut I,
-    out: &mut O,
-    watcher: &mut V,
-) -> Result<Retimed, Failure<'a>>
-    ensures answer { IfOk result (λ retimed. IsPipe task.now
-        → WritesPipe task.now (I.input stdin.old) (O.output out.old) (O.output out.new)) }
-    ensures file { pipes.takes_stdout task.now ≡ false → O.output out.new ≡ O.output out.old }
-    ensures prints { IfErr result (λ failure. Prints (outcome_of failure) (O.output out.old)
-        (O.output out.new)) }
-{
-    let mut retimed = retimed(rt, alloc, task, stdin, out, watcher)?;
-    match certify(rt, alloc, task, &mut retimed, out) {
-        Ok(()) => Ok(retimed),
-        Err(failure) => {
-            drop(retimed);
-            Err(failure)
-        }
-    }
-}
-
-/// What is shown of a run, where standard error is a terminal or not.
-fn show(shown: Shown, is_terminal: bool) -> Show {
-    match shown {
-        Shown::EachFrame => Show::EachFrame,
-        Shown::OnTerminal if is_terminal => Show::InPlace,
-        Shown::OnTerminal | Shown::Nothing => Show::Nothing,
-    }
-}
-
-/// Writes the circuit and the certificates, and shows on standard error how far the run is.
-fn certified_in_view<
+/// Writes the circuit, and then the certificates. Shows on standard error how far the run is, until the circuit is written.
+fn certified<
     'a,
     R: Files + Threads + Sync + Clock,
     I: CountedRead,
@@ -270,23 +236,20 @@ fn certified_in_view<
 ) -> Result<Retimed, Failure<'a>>
     ensures answer { IfOk result (λ retimed. IsPipe task.now
         → WritesPipe task.now (I.input stdin.old) (O.output out.old) (O.output out.new)) }
-    ensures file { pipes.takes_stdout task.now ≡ false → O.output out.new ≡ O.output out.old }
+    ensures file { takes_stdout task.now ≡ false → O.output out.new ≡ O.output out.old }
     ensures prints { IfErr result (λ failure. Prints (outcome_of failure) (O.output out.old)
         (O.output out.new)) }
 {
-    let mut progress = Progress::new(show(task.shown, is_terminal), rt, err);
-    let retimed = certified(rt, alloc, task, stdin, out, &mut progress);
+    let mut progress = Progress::new(task.shown, is_terminal, rt, err);
+    let ended = retimed(rt, alloc, task, stdin, out, &mut progress);
     progress.end();
-    retimed
-}
-
-/// Whether a circuit or certificates go to standard output, so that what is printed goes to standard error.
-pub fn takes_stdout(task: &Retiming<'_>) -> bool
-    ensures { result ≡ pipes.takes_stdout task.now }
-{
-    match task.certificates {
-        Some(certificates) => task.output.is_stdout() || certificates.is_stdout(),
-        None => task.output.is_stdout(),
+    let mut retimed = ended?;
+    match certify(rt, alloc, task, &mut retimed, out) {
+        Ok(()) => Ok(retimed),
+        Err(failure) => {
+            drop(retimed);
+            Err(failure)
+        }
     }
 }
 
@@ -315,12 +278,12 @@ fn print_frames<'a, O: CountedWrite, E: CountedWrite>(
     out: &mut O,
     err: &mut E,
 ) -> Result<Outcome, Failure<'a>>
-    ensures aside { pipes.takes_stdout task.now ≡ true
+    ensures aside { takes_stdout task.now ≡ true
         → EndsAside Done (O.output out.old) (O.output out.new) result }
-    ensures prints { pipes.takes_stdout task.now ≡ false
+    ensures prints { takes_stdout task.now ≡ false
         → Prints (ending result) (O.output out.old) (O.output out.new) }
 {
-    if takes_stdout(task) {
+    if task.takes_stdout() {
         let _ = print_as(alloc, retimed, task.json, err);
         Ok(Outcome::Done)
     } else {
@@ -351,7 +314,7 @@ pub fn print_retimed<
         → WritesPipe task.now (I.input stdin.old) (O.output out.old) (O.output out.new)) }
     ensures prints { Prints (ending result) (O.output out.old) (O.output out.new) }
 {
-    let retimed = certified_in_view(rt, alloc, task, is_terminal, stdin, out, err)?;
+    let retimed = certified(rt, alloc, task, is_terminal, stdin, out, err)?;
     let ended = print_frames(alloc, task, &retimed, out, err);
     drop(retimed);
     ended

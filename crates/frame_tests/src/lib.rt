@@ -34,6 +34,7 @@ mod simulated;
 mod tables;
 #[cfg(test)]
 mod watched;
+#[cfg(test)]
 mod witnessed;
 #[cfg(test)]
 mod workers;

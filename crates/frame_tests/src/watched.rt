@@ -20,7 +20,7 @@ struct Seen {
 }
 
 impl FrameWatcher for Seen {
-    fn enter(&mut self, stage: Stage) {
+    fn enter(&mut self, stage: Stage<'_>) {
         match stage {
             Stage::Cleaning => self.cleaning = self.cleaning.saturating_add(1),
             Stage::Looking { taken, aig } => {

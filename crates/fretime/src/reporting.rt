@@ -7,11 +7,21 @@ ghost use Rattle.fretime.specs.Reporting.{MayRefuse, PrintsFailure};
 use circuit_files::{Failure, Outcome};
 use command_line::Task;
 use command_objects::print_failure;
-use commands::{report_failure, takes_stdout};
-use counted_io::CountedWrite;
+use counted_io::{Buffered, CountedWrite};
 use failure_hints::give_hint;
 use std::alloc::Global;
+use std::fmt::Write;
 use std::rt::Files;
+
+/// Reports a failure on one line, and returns how the run ends. A failed write changes nothing.
+pub fn report_failure<E: CountedWrite>(failure: Failure<'_>, err: &mut E) -> Outcome
+    ensures { result ≡ outcome_of failure.entry }
+{
+    let mut out = Buffered::new(err);
+    let _ = writeln!(out, "{failure}");
+    let _ = out.flush();
+    failure.outcome()
+}
 
 /// Reports a failure of this command on one line, and prints it as an object of JSON where that is asked for; returns how the run
 /// ends. A failed write changes nothing.
@@ -47,7 +57,7 @@ fn command_with_objects(task: &Task<'_>) -> Option<&'static str> {
 /// Whether a task gives standard output a circuit or certificates, so that objects go to standard error.
 fn prints_aside(task: &Task<'_>) -> bool {
     match task {
-        Task::Retime(retiming) => takes_stdout(retiming),
+        Task::Retime(retiming) => retiming.takes_stdout(),
         _ => false,
     }
 }

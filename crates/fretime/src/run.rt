@@ -4,14 +4,14 @@ ghost use Rattle.fretime.specs.Runs.{Gives, MayPrint, PrintsFilesOrRefusal, Prin
 
 use crate::batch::retime_list;
 use crate::explaining::explain;
-use crate::reporting::reported;
+use crate::reporting::{report_failure, reported};
 use circuit_files::{Failure, Outcome};
 use clap::Error;
 use clap::error::ErrorKind;
 use command_line::{Task, parse_arguments};
 use commands::{
     convert, print_comparison, print_retimed, print_simulation, print_statistics,
-    print_verification, print_witness_back, report_failure, write_picture,
+    print_verification, print_witness_back, write_picture,
 };
 use counted_io::{Buffered, CountedRead, CountedWrite};
 use std::alloc::Global;

@@ -6,4 +6,4 @@ mod lines;
 mod progress;
 
 pub use lines::State;
-pub use progress::{Progress, Show};
+pub use progress::Progress;

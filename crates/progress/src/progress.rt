@@ -1,13 +1,14 @@
 //! When a run is shown.
 use crate::lines::{State, clear_line, write_in_place, write_line};
 use aig_graph::Aig;
+use command_line::Shown;
 use counted_io::CountedWrite;
 use frames::{FrameWatcher, Stage};
 use std::time::{Clock, Instant};
 
 /// What is shown of a run.
 #[derive(Clone, Copy, Debug, PartialEq, Eq)]
-pub enum Show {
+enum Show {
     /// Nothing.
     Nothing,
     /// A line for each frame that is looked for.
@@ -16,9 +17,19 @@ pub enum Show {
     InPlace,
 }
 
+/// What is shown of a run that asks for this.
+fn show(shown: Shown, is_terminal: bool) -> Show {
+    match shown {
+        Shown::EachFrame => Show::EachFrame,
+        Shown::OnTerminal if is_terminal => Show::InPlace,
+        Shown::OnTerminal | Shown::Nothing => Show::Nothing,
+    }
+}
+
 /// Shows a run on a writer, mostly standard error. A write that fails changes nothing of the run.
 ///
 /// The seconds are whole ones since this was made; they are left out where the clock can't be read.
+#[derive(Drop)]
 pub struct Progress<'a, R, E> {
     show: Show,
     clock: &'a R,
@@ -29,9 +40,15 @@ pub struct Progress<'a, R, E> {
 }
 
 impl<'a, R: Clock, E: CountedWrite> Progress<'a, R, E> {
-    pub fn new(show: Show, clock: &'a R, err: &'a mut E) -> Progress<'a, R, E> {
+    /// Shows a run on `err` as the command line asks; `is_terminal` is whether that is a terminal.
+    pub fn new(
+        shown: Shown,
+        is_terminal: bool,
+        clock: &'a R,
+        err: &'a mut E,
+    ) -> Progress<'a, R, E> {
         Progress {
-            show,
+            show: show(shown, is_terminal),
             clock,
             began: Instant::now(clock).ok(),
             err,
