@@ -7,7 +7,8 @@ ghost use Rattle.json_reports.specs.Differences.{difference_data, shapes_data};
 ghost use Rattle.json_reports.specs.Retimings.{retiming_data};
 ghost use Rattle.circuit_files.specs.Codes.{status_of};
 ghost use Rattle.circuit_files.specs.declared.outcome.Outcome.TheVariants.{Done, ShapesDiffer};
-ghost use Rattle.command_objects.specs.Objects.{EndsBy, EndsPrintingObject, outcome_of_difference};
+ghost use Rattle.command_objects.specs.Objects.{EndsBy, EndsPrintingObject};
+ghost use Rattle.command_objects.specs.Objects as wanted;
 
 use aig_graph::Circuit;
 use certificate_audits::Audit;
@@ -59,7 +60,7 @@ pub fn print_statistics<'a, W: CountedWrite>(
 }
 
 fn outcome_of_difference(found: Option<Place>) -> Outcome
-    ensures { result ≡ outcome_of_difference found }
+    ensures { result ≡ wanted.outcome_of_difference found }
 {
     match found {
         Some(_) => Outcome::Differ,
@@ -73,8 +74,8 @@ pub fn print_difference<'a, W: CountedWrite>(
     found: Option<Place>,
     writer: &mut W,
 ) -> Result<Outcome, Failure<'a>>
-    ensures { EndsPrintingObject (outcome_of_difference found) (difference_data found) (W.output writer.old)
-        (W.output writer.new) result }
+    ensures { EndsPrintingObject (wanted.outcome_of_difference found) (difference_data found)
+        (W.output writer.old) (W.output writer.new) result }
 {
     let printed = json_reports::print_difference(alloc, found, writer);
     ended(printed, outcome_of_difference(found))
@@ -100,8 +101,8 @@ pub fn print_audit<'a, W: CountedWrite>(
     outcome: Outcome,
     writer: &mut W,
 ) -> Result<Outcome, Failure<'a>>
-    ensures { EndsPrintingObject outcome (audit_data blocks.now audit (status_of outcome)) (W.output writer.old)
-        (W.output writer.new) result }
+    ensures { EndsPrintingObject outcome (audit_data blocks.now audit (status_of outcome))
+        (W.output writer.old) (W.output writer.new) result }
 {
     let printed = json_reports::print_audit(alloc, blocks, audit, outcome.status(), writer);
     ended(printed, outcome)
@@ -114,8 +115,8 @@ pub fn print_batch<'a, W: CountedWrite>(
     outcome: Outcome,
     writer: &mut W,
 ) -> Result<Outcome, Failure<'a>>
-    ensures { EndsPrintingObject outcome (batch_data reports.now (status_of outcome)) (W.output writer.old)
-        (W.output writer.new) result }
+    ensures { EndsPrintingObject outcome (batch_data reports.now (status_of outcome))
+        (W.output writer.old) (W.output writer.new) result }
 {
     let printed = json_reports::print_batch(alloc, reports, outcome.status(), writer);
     ended(printed, outcome)

@@ -142,8 +142,8 @@ fn print_file<'a, R: Files, I: CountedRead, O: CountedWrite>(
     }
 }
 
-/// Reads a circuit, and then certificates, and prints whether each is confirmed, as an object of JSON or in lines. Whether a name is that of no latch shows once
-/// both were read.
+/// Reads a circuit, and then certificates, and prints whether each is confirmed, as an object of JSON or in lines. Whether a name
+/// is that of no latch shows once both were read.
 pub fn print_verification<'a, R: Files, I: CountedRead, O: CountedWrite>(
     rt: &R,
     alloc: Global,

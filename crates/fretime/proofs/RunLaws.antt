@@ -10,10 +10,10 @@ use Rattle.circuit_files.specs.declared.outcome.Failure.TheVariants as fails
 use Rattle.fretime.specs.Reporting.{MayRefuse, PrintsFailure}
 use Rattle.commands.specs.Printing.{Prints, ending}
 use Rattle.fretime.specs.Batches.{PrintsList}
-use Rattle.fretime.specs.Runs.{Gives, MayPrint, PrintsFilesOrRefusal, PrintsShapes}
+use Rattle.fretime.specs.Runs.{MayGive, MayPrint, PrintsFilesOrRefusal, PrintsShapes}
 
 -- a command that isn't a batch
-pub by_command : (r : Result Outcome Failure) (old new : Output) → Prints (ending r) old new → Gives r old new
+pub by_command : (r : Result Outcome Failure) (old new : Output) → Prints (ending r) old new → MayGive r old new
 by_command (Ok outcome) old new prints = inl prints
 by_command (Err failure) old new prints = prints
 
@@ -34,14 +34,14 @@ failed json (fails.TooManyNodes path) old mid new same p = printed json Refused 
 failed json (fails.Device path) old mid new before p = inl tt
 failed json fails.Memory old mid new same p = printed json Memory old mid new same (λ j q. inl q) refl p
 
-ended : (r : Result Outcome Failure) (old mid new : Output) → Gives r old mid → MayRefuse r mid new → MayPrint (ending r) old new
+ended : (r : Result Outcome Failure) (old mid new : Output) → MayGive r old mid → MayRefuse r mid new → MayPrint (ending r) old new
 ended (Ok outcome) old mid new gives (inl same) = subst (λ (s : Output). MayPrint outcome old s) (sym same) gives
 ended (Ok outcome) old mid new gives (inr same) = subst (λ (s : Output). MayPrint outcome old s) (sym same) gives
 ended (Err failure) old mid new prints (inl p) = failed false failure old mid new prints p
 ended (Err failure) old mid new prints (inr p) = failed true failure old mid new prints p
 
 -- a task that may print why it failed
-pub by_report : (o : Outcome) (r : Result Outcome Failure) (old mid new : Output) → o ≡ ending r → Gives r old mid → MayRefuse r mid new → MayPrint o old new
+pub by_report : (o : Outcome) (r : Result Outcome Failure) (old mid new : Output) → o ≡ ending r → MayGive r old mid → MayRefuse r mid new → MayPrint o old new
 by_report o r old mid new is gives p = subst (λ (e : Outcome). MayPrint e old new) (sym is) (ended r old mid new gives p)
 
 pub by_batch : (json : Bool) (o : Outcome) (old new : Output) → PrintsList json o old new → MayPrint o old new

@@ -16,9 +16,9 @@ abbrev pub MayPrint : Outcome → Output → Output → Type 0
 MayPrint outcome old new = Prints outcome old new ⊎ PrintsList false outcome old new ⊎ PrintsList true outcome old new
 
 -- by how a task ended; one that failed hasn't printed why yet
-abbrev pub Gives : Result Outcome Failure → Output → Output → Type 0
-Gives (Ok outcome) old new = MayPrint outcome old new
-Gives (Err failure) old new = Prints (outcome_of failure) old new
+abbrev pub MayGive : Result Outcome Failure → Output → Output → Type 0
+MayGive (Ok outcome) old new = MayPrint outcome old new
+MayGive (Err failure) old new = Prints (outcome_of failure) old new
 
 -- that two circuits can't be compared, in a line or as an object
 abbrev pub PrintsShapes : Output → Output → Type 0

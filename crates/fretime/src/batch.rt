@@ -267,8 +267,8 @@ fn retime_lines<R: Files + Threads + Sync, O: CountedWrite, E: CountedWrite>(
     }
 }
 
-/// Reads a list and all its files, of which `-` is one as any other, and retimes them; then, job by job, writes its circuit and prints its line. Reports why it ended
-/// before that, and returns how the run ends.
+/// Reads a list and all its files, of which `-` is one as any other, and retimes them; then, job by job, writes its circuit and
+/// prints its line, or writes all and prints one object. Reports why it ended before that, and returns how the run ends.
 pub fn retime_list<R: Files + Threads + Sync, I: CountedRead, O: CountedWrite, E: CountedWrite>(
     rt: &R,
     alloc: Global,

@@ -1,6 +1,6 @@
 ghost use Rattle.std.specs.Prelude.{◌≡◌, ◌⊎◌, ◌≤◌};
 ghost use Rattle.circuit_files.specs.declared.outcome.Outcome.TheVariants.{Done, Refused, CommandLine, Memory};
-ghost use Rattle.fretime.specs.Runs.{Gives, MayPrint, PrintsFilesOrRefusal, PrintsShapes};
+ghost use Rattle.fretime.specs.Runs.{MayGive, MayPrint, PrintsFilesOrRefusal, PrintsShapes};
 
 use crate::batch::retime_list;
 use crate::explaining::explain;
@@ -37,7 +37,7 @@ fn run_task<
     out: &mut O,
     err: &mut E,
 ) -> Result<Outcome, Failure<'a>>
-    ensures { Gives result (O.output out.old) (O.output out.new) }
+    ensures { MayGive result (O.output out.old) (O.output out.new) }
 {
     match task {
         Task::Retime(retiming) => {
@@ -118,7 +118,7 @@ fn run_command<R: Files + Threads + Sync + Clock, I: CountedRead, O: CountedWrit
 /// `stdin`, `out` and `err` are the standard streams. What was done is printed to `out` once the file is written; of a batch, file by
 /// file. Where a circuit or certificates are written to `out`, that is printed to `err`. Why nothing was done goes to `err`, and so do
 /// help and the version; a failed write to `err` doesn't change the status. Where `is_terminal`, that standard error is a terminal,
-/// a refused circuit's line at fault follows there, and it is shown how far a retiming is. The texts on `err` are only tested.
+/// a refused circuit's line at fault follows there, and a retiming shows how far it is. The texts on `err` are only tested.
 pub fn run_words<
     R: Files + Threads + Sync + Clock,
     I: CountedRead,
