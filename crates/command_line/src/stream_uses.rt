@@ -3,7 +3,7 @@ ghost use Rattle.std.specs.Prelude.{◌≡◌, ◌≤◌, IfNone};
 ghost use Rattle.std.specs.List.{count_by};
 ghost use Rattle.stream_paths.specs.Streams.{is_stdin, is_stdout};
 ghost use Rattle.command_line.specs.StreamUses.{UsesStreamsOnce, sources_of, targets_of};
-ghost use Rattle.command_line.specs.StreamUses as uses;
+ghost use Rattle.command_line.specs.StreamUses as wanted;
 
 use crate::task::{Retiming, Task};
 use stream_paths::{Source, Target};
@@ -77,10 +77,10 @@ pub(crate) fn stream_conflict(task: &Task<'_>) -> Option<&'static str>
     }
 }
 
-impl Retiming<'_> {
+impl<'a> Retiming<'a> {
     /// Whether a circuit or certificates go to standard output, so that what is printed goes to standard error.
     pub fn takes_stdout(&self) -> bool
-        ensures { result ≡ uses.takes_stdout self.now }
+        ensures { result ≡ wanted.takes_stdout self.now }
     {
         match self.certificates {
             Some(certificates) => self.output.is_stdout() || certificates.is_stdout(),
