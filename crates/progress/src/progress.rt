@@ -18,7 +18,7 @@ enum Show {
 }
 
 /// What is shown of a run that asks for this.
-fn show(shown: Shown, is_terminal: bool) -> Show {
+fn show_for(shown: Shown, is_terminal: bool) -> Show {
     match shown {
         Shown::EachFrame => Show::EachFrame,
         Shown::OnTerminal if is_terminal => Show::InPlace,
@@ -48,7 +48,7 @@ impl<'a, R: Clock, E: CountedWrite> Progress<'a, R, E> {
         err: &'a mut E,
     ) -> Progress<'a, R, E> {
         Progress {
-            show: show(shown, is_terminal),
+            show: show_for(shown, is_terminal),
             clock,
             began: Instant::now(clock).ok(),
             err,
