@@ -3,6 +3,7 @@ use Rattle.std.proofs.Common.{ℕ, ◌<◌, ◌≡◌, ◌⊎◌, inl, inr, suc,
 use Rattle.std.specs.Prelude.{◌↔◌}
 use Rattle.std.specs.List.{Contains, All}
 use Rattle.std.specs.List.Sorted.{IsStrictlyIncreasing}
+use Rattle.std.proofs.lemmas.Bool.{and_from}
 use Rattle.std.proofs.lemmas.List.{get_or_default}
 use Rattle.std.proofs.lemmas.Option.{none-some, same_Some}
 use Rattle.aig_graph.specs.declared.graph.Gate.{Gate}
@@ -15,10 +16,6 @@ use Rattle.aig_graph.proofs.FoldingLaws.{gate_at-before, gate_at-is, fold_gates-
 known-latch : (o : Option Latch) → IsTrue (is_known o) → (latch : Latch) × (o ≡ Some latch)
 known-latch None h = absurd (cc)
 known-latch (Some latch) h = (latch, refl)
-
-pub and_true : (a b : Bool) → IsTrue a → IsTrue b → IsTrue (a && b)
-and_true true b p q = q
-and_true false b p q = absurd (cc)
 
 pub and_left : (a b : Bool) → IsTrue (a && b) → IsTrue a
 and_left true b p = refl
@@ -84,7 +81,7 @@ module _ (g : Graph) (held : List ℕ) (valid : IsGraph g) (s : List ℕ) where
       let rest = rests v member in
       let here : IsGateAt v rest.0 = gate_at-is g valid v rest.0 rest.1 in
       subst (λ (b : Bool). IsTrue b) (sym (is_settled-gate g held valid v rest.0 rest.1))
-      (and_true (is_settled g held (variable rest.0.rhs0)) (is_settled g held (variable rest.0.rhs1))
+      (and_from (is_settled g held (variable rest.0.rhs0)) (is_settled g held (variable rest.0.rhs1))
       (settled-below rests n (variable rest.0.rhs0) (omega arith) rest.2)
       (settled-below rests n (variable rest.0.rhs1) (omega arith) rest.3))
 

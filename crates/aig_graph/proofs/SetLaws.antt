@@ -4,6 +4,7 @@ use Rattle.std.proofs.Math.Bool.{or-false}
 use Rattle.std.specs.Prelude.{◌↔◌}
 use Rattle.std.specs.List.{Contains}
 use Rattle.std.specs.List.Sorted.{IsStrictlyIncreasing}
+use Rattle.std.proofs.lemmas.Bool.{and_from}
 use Rattle.std.proofs.lemmas.List.{get_or_default}
 use Rattle.std.proofs.lemmas.List.Kept.{AllPairs-from_increasing}
 use Rattle.aig_graph.specs.declared.graph.Gate.{Gate}
@@ -12,7 +13,7 @@ use Rattle.aig_graph.specs.Circuits.{Netlist}
 use Rattle.aig_graph.specs.Closed.{is_held, is_settled, IsClosedSet}
 use Rattle.aig_graph.specs.Border.{is_read}
 use Rattle.aig_graph.specs.Laws.{MayMoveOrPassable, PassableLaw, EmptySetLaws, AtMostOne}
-use Rattle.aig_graph.proofs.ClosedLaws.{settled_where, is_settled-gate, and_true, and_left, and_right}
+use Rattle.aig_graph.proofs.ClosedLaws.{settled_where, is_settled-gate, and_left, and_right}
 use Rattle.aig_graph.proofs.ClosedBorderLaws.{closed-border_size}
 use Rattle.variable_tables.proofs.CountingLaws.{count_below-same}
 
@@ -36,7 +37,7 @@ passable_law g held v valid = (
         gate,
         rests.1,
         subst (λ (b : Bool). IsTrue b) (sym (is_settled-gate g held valid v gate rests.1))
-            (and_true (is_settled g held (variable gate.rhs0)) (is_settled g held (variable gate.rhs1))
+            (and_from (is_settled g held (variable gate.rhs0)) (is_settled g held (variable gate.rhs1))
             ((settled_iff g held (variable gate.rhs0)).1 rests.2) ((settled_iff g held (variable gate.rhs1)).1 rests.3)),
       )),
 )

@@ -1,3 +1,5 @@
+//! Held latches, by rising positions, so that one is found by a binary search. Where none is held, as in most runs, there is no
+//! list, and no memory is asked for.
 ghost use Rattle.std.specs.Prelude.{◌≡◌, ◌↔◌, [], IsTrue, Contains};
 ghost use Rattle.std.specs.List.Sorted.{IsStrictlyIncreasing};
 ghost use Rattle.variable_tables.specs.Marking.{has};

@@ -1,3 +1,5 @@
+//! What the sections of a file left, and whether it fits the header. That is looked at here once more, in linear time, so that
+//! `resolve` needn't ask its caller for it.
 use crate::placing::{Placed, place_all};
 use ascii_file::{Header, RawGate, RawLatch};
 use file_parts::{Names, PropertyLists};

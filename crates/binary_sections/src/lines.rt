@@ -1,3 +1,5 @@
+//! Lines of numbers, a function for each section. Which section a line is of follows from what has come (`sections`), and never
+//! from the line: so each function knows how many numbers to expect.
 use crate::numbers::{latch_numbers, literal, literal_within, only_number, reset_in};
 use crate::sections::Sections;
 use aig_graph::Latch;

@@ -1,3 +1,5 @@
+//! What is read of a file, and which section comes next. That is kept nowhere: it is the first section with fewer items than the
+//! header says, so it can't disagree with the items.
 ghost use Rattle.std.specs.Prelude.{◌≡◌};
 ghost use Rattle.ascii_file.specs.Raw.{safety_count};
 

@@ -1,3 +1,5 @@
+//! The versions of a file of certificates differ before the first block alone: the first has no line of the choice, and its sets
+//! are the greatest. So the blocks of both are read by one function.
 ghost use Rattle.std.specs.Prelude.{ℕ, [], ◌≡◌, ◌⊎◌, ◌-◌, length, IfOk, IfErr, Ok, Err};
 ghost use Rattle.file_words.specs.Lines as format;
 ghost use Rattle.certificate_files.specs.declared.fault.CertError.TheVariants.{NoMemory};

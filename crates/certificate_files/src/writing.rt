@@ -1,3 +1,5 @@
+//! A function for each part of the text, as the definition of the text has them. None of them can fail: the buffer keeps the
+//! failure of a write, and `write_cert` reports it at the end.
 ghost use Rattle.std.specs.Prelude.{◌≡◌};
 ghost use Rattle.std.specs.List.{flat_map};
 ghost use Rattle.counted_io.specs.Buffered.{Puts};

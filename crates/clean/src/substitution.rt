@@ -1,3 +1,5 @@
+//! What each variable is replaced by, in both steps of a pass: the literals that stand for others after merging, and the new
+//! numbers of what is kept. A table grows as the graph is walked, so a gate's fan-ins have their entries before the gate is met.
 ghost use Rattle.std.specs.Prelude.{◌≡◌, ◌+◌, ◌<◌, ◌≤◌, ◌^◌, ◌++◌, ◌∷◌, [], IfOk, OnOk, length};
 ghost use Rattle.aig_graph.specs.Graph.{variable};
 ghost use Rattle.cleaned_circuits.specs.Merged.{replaced, replaced_gate, replaced_latch};

@@ -1,3 +1,5 @@
+//! From the matches of the command-line library to a task. Each field of a task has a function of its own, whose clause says
+//! which argument it comes from; that the library matched the words as it should is only tested.
 ghost use Rattle.std.specs.Prelude.{◌≡◌, ◌^◌, IfOk, IfSome, codes, map};
 ghost use Rattle.command_line.specs.Asking.{AsksFor, IsChoice, IsFlag, IsNumber, IsShown, IsSomeTarget, IsSource, IsSpelling, values_of};
 ghost use Rattle.command_line.specs.StreamUses.{UsesStreamsOnce};

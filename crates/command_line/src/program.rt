@@ -1,3 +1,5 @@
+//! The commands with their options and texts, as the command-line library wants them. Each of its calls returns a command or a
+//! refusal of memory, so a step takes what the one before returned. Nothing is proved of texts: tests compare what is printed.
 use clap::builder::ValueParser;
 use clap::{Arg, ArgAction, Command};
 use std::alloc::{AllocError, Global};

@@ -1,3 +1,5 @@
+//! What a command line asks for, without how that was written: the words of options and their defaults are known in this crate
+//! alone. Paths and names are slices of the arguments, so a task takes memory for a list of names only.
 use least_sets::Choice;
 use spellings::Spelling;
 use stream_paths::{Source, Target};

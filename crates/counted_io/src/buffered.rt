@@ -1,6 +1,6 @@
-// A put returns nothing, and the failure of a write is kept and reported by `flush`, as an output
-// stream of C keeps its error indicator. So a text of many pieces has one place where it can fail,
-// and a function that puts pieces says of each only which text it put.
+//! A put returns nothing, and the failure of a write is kept and reported by `flush`, as an output stream of C keeps its error
+//! indicator. So a text of many pieces has one place where it can fail, and a function that puts pieces says of each only which
+//! text it put.
 ghost use Rattle.std.specs.Prelude.{◌≡◌, ◌+◌, ◌≤◌, [], ◌∷◌, ◌++◌, length, decimal, IsOk};
 ghost use Rattle.std.specs.List.{flat_map};
 ghost use Rattle.counted_io.specs.Line.{spaced, line};

@@ -1,3 +1,5 @@
+//! A reader, read to its end by pieces, since how much is to come isn't known. Reads that fail are counted in the clauses: so an
+//! error `Device` says that one did, and a refusal of memory that none did.
 ghost use Rattle.std.specs.Prelude.{◌≡◌, ◌<◌, ◌≤◌, length, take, IfOk, OnErr, IfErr, IsErrOf};
 ghost use Rattle.std.specs.Io.KnownBytes.{Consumes, IsAtEnd, Keeps};
 ghost use Rattle.counted_io.specs.Output.{one_more};

@@ -1,3 +1,5 @@
+//! Circuits, certificates, stimuli, witnesses and lists have faults of the same names, and a user looks for the name that was
+//! printed. So a fault is a name here, and has one page for all kinds of files.
 ghost use Rattle.std.specs.Prelude.{◌≡◌, MatchOption, true};
 ghost use Rattle.fault_pages.specs.Faults.{all_faults, has_name, HaveOtherNames, IsNoName, name_of};
 

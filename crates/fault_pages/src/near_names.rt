@@ -1,3 +1,5 @@
+//! The name that a user may have meant, by the fewest bytes that are inserted, dropped or replaced (Levenshtein, 1966). Where
+//! none is near there is no answer, since a wrong one would mislead.
 ghost use Rattle.std.specs.Prelude.{◌≡◌, ◌==◌, IfOk, map, position};
 ghost use Rattle.fault_pages.specs.Nearest.{are_alike_in_length, edits, nearest_of};
 

@@ -1,3 +1,5 @@
+//! The line at fault, for a terminal. A file may have one line of any length, and any bytes: so a part of the line is shown, and
+//! as many columns as bytes, for the mark to stand under its place.
 ghost use Rattle.std.specs.Prelude.{◌≡◌, ◌≤◌, ◌++◌, ◌==◌, IfOk, length, map, position, replicate};
 ghost use Rattle.fault_pages.specs.Lines.{column, line_length, printable, shown, shown_around};
 

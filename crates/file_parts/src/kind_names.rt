@@ -1,3 +1,5 @@
+//! Names by position, in an ordered map: a file may list its symbols in any order, few of them or all, while a circuit has them
+//! by rising position, and no position twice.
 ghost use Rattle.std.specs.Prelude.{◌<◌, ◌↔◌, All, IsTrue};
 ghost use Rattle.std.specs.Ordering.{nat_cmp};
 ghost use Rattle.std.specs.BTreeMap.{keys, IsOrdered};

@@ -1,3 +1,5 @@
+//! The properties of a file, as two lists of literals and one of sizes. Outputs, bad states and constraints have lines of one
+//! form, and so have justice and fairness: they are parted at the end, by the header's numbers.
 use crate::by_kind::props;
 use aig_graph::{NoMemory, Props};
 use ascii_file::Header;

@@ -1,3 +1,5 @@
+//! The faults of circuit files of either spelling. A place is an offset, since the gates of a binary file stand on no line; what
+//! only the whole file shows, an undefined variable or a cycle, has none.
 ghost use Rattle.std.specs.Prelude.{◌≡◌};
 
 use aig_graph::NoMemory;

@@ -1,3 +1,5 @@
+//! A network as compressed sparse rows: the arcs of a node stand side by side, and what an arc has stands in tables by its place.
+//! It never changes once it is made, so all workers read it, and a flow keeps its own table of residuals, by the same places.
 ghost use Rattle.std.specs.Prelude.{◌≡◌, ℕ, ◌+◌, ◌<◌, ◌≤◌, IfOk, length, slice_index};
 ghost use Rattle.frame_net.specs.Passable.{IsPassSet};
 ghost use Rattle.frame_net.specs.Capacity.{IsNetOf};

@@ -1,3 +1,5 @@
+//! What stops a retiming, by the step that it stopped: reading, retiming or writing. A caller tells a circuit that is refused
+//! from a device that failed by the variant, and never by a text.
 ghost use Rattle.std.specs.Prelude.{◌≡◌};
 
 use aig_graph::{KeepError, NoMemory};

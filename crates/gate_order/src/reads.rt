@@ -1,3 +1,5 @@
+//! Of a gate only the gates that it reads count for the order. One that both fan-ins read is read once: otherwise the gate would
+//! be met twice among its readers.
 ghost use Rattle.std.specs.Prelude.{◌≡◌, ◌<◌, ◌↔◌, false, length, IsTrue, IfSome};
 ghost use Rattle.gate_order.specs.Order.{is_met};
 ghost use Rattle.gate_order.specs.Ready.{mark_of};

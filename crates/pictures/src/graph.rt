@@ -1,3 +1,5 @@
+//! Inputs, latches and gates, each with the edges that lead to it: so every edge is put once, by the node that reads, and no list
+//! of edges is made.
 ghost use Rattle.std.specs.Prelude.{◌≡◌, ◌+◌, ◌-◌, ◌≤◌, ◌<◌, ◌++◌, [], ◌∷◌, length};
 ghost use Rattle.std.specs.List.{flat_map, range_with_len};
 ghost use Rattle.aig_graph.specs.declared.literal.TheConstants.{MAX_VARIABLES};

@@ -1,3 +1,5 @@
+//! Names of a file are any bytes, while a label of DOT is UTF-8 text in which quotation marks, backslashes and ampersands have a
+//! meaning. So those are escaped, and bytes that are no text are shown by their numbers.
 ghost use Rattle.std.specs.Prelude.{◌≡◌, ◌<◌};
 ghost use Rattle.std.specs.Str.{is_utf8};
 ghost use Rattle.std.specs.List.{flat_map};

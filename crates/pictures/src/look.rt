@@ -1,3 +1,5 @@
+//! Looks begin at the first latch, and marks of what is drawn are there only where something isn't: a header alone may announce
+//! 2^28 inputs, which take no room in a picture of the whole circuit.
 ghost use Rattle.std.specs.Prelude.{◌≡◌, None, Some};
 ghost use Rattle.pictures.specs.Views.{drawn_in, look_in, plain};
 

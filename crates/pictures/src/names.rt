@@ -1,3 +1,5 @@
+//! Names come after all nodes: in DOT a later line of a node changes its label. So a name is put where it stands in the circuit's
+//! list, and none is looked for.
 ghost use Rattle.std.specs.Prelude.{◌≡◌, ◌+◌, ◌<◌, All};
 ghost use Rattle.std.specs.List.{flat_map};
 ghost use Rattle.aig_graph.specs.declared.literal.TheConstants.{MAX_VARIABLES};

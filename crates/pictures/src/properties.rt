@@ -1,3 +1,5 @@
+//! Properties as nodes, since several may read one literal. A property is drawn where all of its literals are: with some of its
+//! edges alone it would look like another property.
 ghost use Rattle.std.specs.Prelude.{◌≡◌};
 ghost use Rattle.std.specs.Str.{byte};
 ghost use Rattle.counted_io.specs.Buffered.{Puts};

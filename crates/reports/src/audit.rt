@@ -1,3 +1,5 @@
+//! The lines of an audit: the blocks that were confirmed, then how it ended. Of blocks after one that is rejected nothing is
+//! printed: the circuits that they speak of aren't known.
 ghost use Rattle.std.specs.Prelude.{◌≡◌, take};
 ghost use Rattle.counted_io.specs.Buffered.{Puts};
 ghost use Rattle.counted_io.specs.Line.{numbered_lines};

@@ -1,3 +1,5 @@
+//! The line of a file of a batch. Names of faults stand here letter by letter, so that the clauses have the line as it is
+//! printed; `Display` gives the same names, but is only tested.
 ghost use Rattle.std.specs.Prelude.{◌≡◌, ◌++◌, decimal};
 ghost use Rattle.counted_io.specs.Buffered.{Puts};
 ghost use Rattle.counted_io.specs.Output.{Writes};

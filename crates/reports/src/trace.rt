@@ -1,3 +1,5 @@
+//! A trace as text. It is kept by blocks of sequences, step by step, and printed sequence by sequence: so each value is asked for
+//! by its place, and the text needs no room beside the trace.
 ghost use Rattle.std.specs.Prelude.{◌≡◌};
 ghost use Rattle.counted_io.specs.Buffered.{Puts};
 ghost use Rattle.counted_io.specs.Output.{Writes};

@@ -43,38 +43,38 @@ pub fn number_marks(alloc: Global, marks: &[bool], start: u32) -> Result<Vec<u32
     Ok(numbers)
 }
 
-/// By variable, from `first` on, its new number, for two groups of which the first comes ahead of the second: those marked in `ahead`
-/// count up from `start`, others marked in `behind` from `next`, and the rest keep their own.
+/// By variable, from `first` on, its new number, for two groups of variables: those marked in `ahead` count up from `start`, those
+/// marked in `others` from `next`, and the rest keep their own.
 pub fn renumber(
     alloc: Global,
     first: u32,
     ahead: &[bool],
-    behind: &[bool],
+    others: &[bool],
     start: u32,
     next: u32,
 ) -> Result<Vec<u32>, NoMemory>
-    requires same { length behind.now ≡ length ahead.now }
+    requires same { length others.now ≡ length ahead.now }
     requires variables { first + length ahead.now ≤ 2 ^ 30 }
     requires room { start + length ahead.now ≤ 2 ^ 30 }
     requires more_room { next + length ahead.now ≤ 2 ^ 30 }
     ensures { IfOk result (λ numbers. (p q : ℕ → Bool) → AreAllMarks first ahead.now p
-        → AreAllMarks first behind.now q →
+        → AreAllMarks first others.now q →
         numbers.items ≡ table first (length ahead.now) (numbered p q start next)) }
 {
     let mut numbers = Vec::with_capacity(alloc, ahead.len())?;
     let mut ahead_number = start;
-    let mut behind_number = next;
+    let mut other_number = next;
     for k in 0..ahead.len() {
         let number = if ahead[k] {
             ahead_number
-        } else if behind[k] {
-            behind_number
+        } else if others[k] {
+            other_number
         } else {
             first + k as u32
         };
         numbers.push(number)?;
         ahead_number += one_if(ahead[k]);
-        behind_number += one_if(behind[k]);
+        other_number += one_if(others[k]);
     }
     Ok(numbers)
 }

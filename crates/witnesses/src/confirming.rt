@@ -1,3 +1,5 @@
+//! Whether a witness, carried back, shows in the one circuit what it shows in the other. The laws have it so where the properties
+//! of both always agree; whether two files are such a pair isn't known here, so both are simulated.
 ghost use Rattle.std.specs.Prelude.{◌≡◌, ◌∷◌, [], IfOk};
 ghost use Rattle.lane_sim.specs.declared.stimulus.InputSequence.{InputSequence};
 ghost use Rattle.lane_sim.specs.Traces as traces;

@@ -1,3 +1,5 @@
+//! A witness has a value for each latch, and a stimulus for the free ones alone, since the others begin with their reset. So
+//! values are taken from all latches to the free ones, from circuit to circuit, and back to all.
 ghost use Rattle.std.specs.Prelude.{◌≡◌, IfOk, drop};
 ghost use Rattle.std.specs.List.{slice_index_or};
 ghost use Rattle.aig_graph.specs.Graph.{is_free};

@@ -1,3 +1,5 @@
+//! The lines of a text with their offsets. Comments may stand anywhere in a witness: they are passed over here, and the reader
+//! never meets one.
 ghost use Rattle.std.specs.Prelude.{◌≤◌, length};
 
 use crate::fault::WitnessError;

@@ -1,3 +1,5 @@
+//! The lines of a witness in their order, a function for each. What a line may be never rests on a later one, so the fault that
+//! is met first is the first of the text.
 ghost use Rattle.std.specs.Prelude.{ℕ, ◌≡◌, ◌⊎◌, [], IfOk, IfErr, Ok, Err};
 ghost use Rattle.witnesses.specs.declared.fault.WitnessError.TheVariants.{NoMemory};
 ghost use Rattle.witnesses.specs.Answering.{Gives};

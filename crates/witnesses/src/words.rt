@@ -1,3 +1,5 @@
+//! The words of the line of properties. A number may have any number of digits: it is read up to 2^64 - 1, which is past every
+//! circuit's properties, and stays there.
 ghost use Rattle.std.specs.Prelude.{◌≡◌, ◌+◌, ◌*◌, []};
 ghost use Rattle.file_words.specs.Lines.{pieces};
 ghost use Rattle.witnesses.specs.Answering.{Gives};

@@ -1,3 +1,5 @@
+//! A witness as AIGER's tools read it. What was found of it follows after its end, as comments, so that what is printed is a
+//! witness still.
 ghost use Rattle.std.specs.Prelude.{◌≡◌, ◌∷◌, []};
 ghost use Rattle.std.specs.List.{flat_map};
 ghost use Rattle.counted_io.specs.Buffered.{Puts};

@@ -7,8 +7,8 @@ use Rattle.variable_tables.proofs.numbering.renumber.Given as goal
 abbrev pub invariant-loop-k : goal.invariant-loop-k
 invariant-loop-k l = record {
   few : l.ahead_number ≤ l.start + l.k;
-  few_more : l.behind_number ≤ l.next + l.k;
+  few_more : l.other_number ≤ l.next + l.k;
   counted : (p : ℕ → Bool) → AreAllMarks l.first l.ahead p → l.ahead_number ≡ l.start + count_below p (l.first + l.k);
-  counted_more : (q : ℕ → Bool) → AreAllMarks l.first l.behind q → l.behind_number ≡ l.next + count_below q (l.first + l.k);
-  filled : (p q : ℕ → Bool) → AreAllMarks l.first l.ahead p → AreAllMarks l.first l.behind q → l.numbers.items ≡ table l.first l.k (numbered p q l.start l.next);
+  counted_more : (q : ℕ → Bool) → AreAllMarks l.first l.others q → l.other_number ≡ l.next + count_below q (l.first + l.k);
+  filled : (p q : ℕ → Bool) → AreAllMarks l.first l.ahead p → AreAllMarks l.first l.others q → l.numbers.items ≡ table l.first l.k (numbered p q l.start l.next);
 }
