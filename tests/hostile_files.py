@@ -30,6 +30,20 @@ def header(numbers):
     return ' '.join(['aag', *map(str, numbers[:shown])]) + '\n'
 
 
+def section_in_binary(kind, count):
+    """The same in binary: no line for an input, and a latch is what it reads."""
+    first, *lines = section(kind, count).decode().splitlines(keepends=True)
+    if kind == 'latches':
+        lines[1 : count + 1] = [line.split()[1] + '\n' for line in lines[1 : count + 1]]
+    return (first.replace('aag', 'aig') + ''.join(lines[1:])).encode()
+
+
+def free_latches(count):
+    """One input, and so many free latches: the first reads the input, each other one the latch before it, an output the last."""
+    lines = [f'{2 * k + 4} {2 * k + 2} {2 * k + 4}\n' for k in range(count)]
+    return f'aag {count + 1} 1 {count} 1 0\n2\n{"".join(lines)}{2 * count + 2}\n'.encode()
+
+
 def justice_of_one(count):
     """A justice property of so many literals."""
     return f'aag 1 1 0 0 0 0 0 1\n2\n{count}\n'.encode() + b'2\n' * count
@@ -42,6 +56,15 @@ def binary_outputs(count):
 def symbols(count):
     """So many inputs, each with a name."""
     return section('inputs', count) + ''.join(f'i{k} n{k}\n' for k in range(count)).encode()
+
+
+def symbols_of_each_kind(count):
+    """So many latches, outputs, bad states, constraints, justice and fairness properties, each with a name."""
+    latches = [f'{2 * k + 4} {2 * k + 2}\n' for k in range(count)]
+    lines = latches + ['2\n'] * (3 * count) + ['1\n'] * count + ['2\n'] * (2 * count)
+    lines[count] = f'{2 * count + 2}\n'
+    names = [f'{kind}{k} n{k}\n' for kind in 'lobcjf' for k in range(count)]
+    return f'{header([count + 1, 1, count, count, 0, *[count] * 4])}2\n{"".join(lines + names)}'.encode()
 
 
 def commented(count):
@@ -72,6 +95,46 @@ def wide_step(inputs):
 
 def nothing(_):
     return b''
+
+
+def steps(count):
+    """A sequence of so many steps of one input."""
+    return b'=\n' + b':1\n' * count
+
+
+def sequences(count):
+    """So many sequences of a step each."""
+    return b'=\n:1\n' * count
+
+
+def bad_input(_):
+    """An input that is a bad state."""
+    return b'aag 1 1 0 0 0 1\n2\n2\n'
+
+
+def witness_of_steps(count):
+    """So many steps, of which the last reaches the bad state."""
+    return b'1\nb0\n\n' + b'0\n' * (count - 1) + b'1\n.\n'
+
+
+def witness_carried(count):
+    """The same, with what was reached told after it."""
+    return witness_of_steps(count) + b'c b0 holds at step %d\n' % (count - 1)
+
+
+def long_property(length):
+    """A number of so many zeros."""
+    return b'1\nb' + b'0' * length + b'\n\n1\n.\n'
+
+
+def list_of_missing(count):
+    """Files that aren't there."""
+    return b'missing\tout\n' * count
+
+
+def list_of_one(count):
+    """One file, so many times; what is written goes nowhere."""
+    return b'in\t/dev/null\n' * count
 
 
 def read_latches(count):
@@ -124,11 +187,16 @@ def many_inputs(gates):
 MAKERS = {it.__name__: it for it in (
     justice_of_one, binary_outputs, symbols, commented, uncommented, long_name, long_line, no_newline, wide_step, nothing, chain,
     chain_in_binary, many_inputs, read_latches, route_each, listed_gates, long_route, blocks, announced_gates, announced_routes,
+    free_latches, symbols_of_each_kind, steps, sequences, bad_input, witness_of_steps, witness_carried, long_property,
+    list_of_missing, list_of_one,
 )}
 
 
 def made(name, number):
-    return section(name, number) if name in SECTIONS else MAKERS[name](number)
+    kind = name.removesuffix('_in_binary')
+    if kind in SECTIONS:
+        return section(kind, number) if kind == name else section_in_binary(kind, number)
+    return MAKERS[name](number)
 
 
 def headers():
@@ -203,4 +271,15 @@ def certified():
         yield f'fretime-cert {digits}\nframe 0 0 0\n'.encode()
 
 
-SMALL = {'headers': headers, 'deltas': deltas, 'numbers': numbered, 'certificates': certified}
+def properties():
+    """A bad state and a justice property."""
+    return b'aag 1 1 0 0 0 1 0 1\n2\n2\n1\n2\n'
+
+
+def witnessed():
+    """Each number in the place of that of a property of a witness."""
+    for digits in numbers():
+        yield from (f'1\n{kind}{digits}\n\n1\n.\n'.encode() for kind in 'bj')
+
+
+SMALL = {'headers': headers, 'deltas': deltas, 'numbers': numbered, 'certificates': certified, 'witnesses': witnessed}

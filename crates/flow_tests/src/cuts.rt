@@ -1,4 +1,4 @@
-//! The greatest least set of the first worked circuit.
+//! The greatest least sets of worked circuits, at the end of a run.
 use crate::nets::{TWO_LATCHES, net_of_text};
 use aig_graph::ClosedSet;
 use cut_cert::greatest_cut;
@@ -7,6 +7,21 @@ use pulse::{Crew, OpenGate, PulseError, run_to_end};
 use std::alloc::Global;
 use std::test::Fail;
 use std::thread::Threads;
+
+/// The two latches, the first of them free, so that no latch can move over their gate.
+const FREE_LATCH: &[u8] = b"aag 5 2 2 1 1\n2\n4\n6 2 6\n8 4\n10\n10 6 8\n";
+
+/// Two inputs, two latches in a row after each, and the gate of the last two, which is variable 7 and the output.
+const TWO_CHAINS: &[u8] = b"aag 7 2 4 1 1\n2\n4\n6 2\n8 6\n10 4\n12 10\n14\n14 8 12\n";
+
+/// Four inputs, a latch at each, and the gates 9 of the first two, 10 of that one and the third, 11 of 9 and the fourth, 12 of 10 and
+/// 11. The first two latches, 9 and 12 are the outputs: a move over some of the gates leaves five latches, one over all four, as many
+/// as there are.
+const EQUAL_COUNTS: &[u8] =
+    b"aag 12 4 4 4 4\n2\n4\n6\n8\n10 2\n12 4\n14 6\n16 8\n10\n12\n18\n24\n18 12 10\n20 18 14\n22 18 16\n24 22 20\n";
+
+/// The two latches, the first of them an output too: as many are left after a move over their gate.
+const READ_LATCH: &[u8] = b"aag 5 2 2 2 1\n2\n4\n6 2\n8 4\n10\n6\n10 6 8\n";
 
 fn cut_at_end<R: Threads + Sync>(
     rt: &R,
@@ -18,10 +33,46 @@ fn cut_at_end<R: Threads + Sync>(
     Ok(set)
 }
 
+/// Whether these are the gates of the greatest least set of a circuit.
+fn is_greatest<R: Threads + Sync>(
+    rt: &R,
+    alloc: Global,
+    text: &[u8],
+    gates: &[u32],
+) -> Result<bool, Fail> {
+    let net = net_of_text(alloc, text)?;
+    let set = cut_at_end(rt, alloc, &net)?;
+    Ok(set.vars() == gates)
+}
+
 #[test]
 fn moves_a_gate_of_two_latches(rt: HostRuntime) -> Result<(), Fail> {
     let net = net_of_text(rt.alloc(), TWO_LATCHES)?;
     let set = cut_at_end(&rt, rt.alloc(), &net)?;
     assert!(rt; set.vars().len() == 1 && set.has(5));
+    Ok(())
+}
+
+#[test]
+fn moves_no_gate_of_a_free_latch(rt: HostRuntime) -> Result<(), Fail> {
+    assert!(rt; is_greatest(&rt, rt.alloc(), FREE_LATCH, &[])?);
+    Ok(())
+}
+
+#[test]
+fn moves_the_gate_of_two_chains(rt: HostRuntime) -> Result<(), Fail> {
+    assert!(rt; is_greatest(&rt, rt.alloc(), TWO_CHAINS, &[7])?);
+    Ok(())
+}
+
+#[test]
+fn moves_all_gates_where_as_many_latches_are_left(rt: HostRuntime) -> Result<(), Fail> {
+    assert!(rt; is_greatest(&rt, rt.alloc(), EQUAL_COUNTS, &[9, 10, 11, 12])?);
+    Ok(())
+}
+
+#[test]
+fn moves_a_gate_of_a_latch_that_is_an_output(rt: HostRuntime) -> Result<(), Fail> {
+    assert!(rt; is_greatest(&rt, rt.alloc(), READ_LATCH, &[5])?);
     Ok(())
 }
