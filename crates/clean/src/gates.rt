@@ -77,7 +77,7 @@ pub(crate) fn merge_gates(
     ensures { OnOk result (stands.new ≡
         (merge_gates aig.now.gates (record { stands = stands.old; kept = [] })).stands) }
 {
-    let mut kept = KeptGates::new(alloc);
+    let mut kept = KeptGates::with_room(alloc, aig.gates().len())?;
     for gate in aig.gates() {
         merge_gate(&mut kept, stands, *gate)?;
     }

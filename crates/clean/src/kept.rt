@@ -1,4 +1,4 @@
-ghost use Rattle.std.specs.Prelude.{◌≡◌, ◌++◌, ◌∷◌, [], None, OnOk};
+ghost use Rattle.std.specs.Prelude.{◌≡◌, ◌++◌, ◌∷◌, [], None, IfOk, OnOk};
 ghost use Rattle.std.specs.Map.{lookup};
 ghost use Rattle.cleaned_circuits.specs.Merged.{is_gate};
 
@@ -23,13 +23,12 @@ impl Model for KeptGates {
 }
 
 impl KeptGates {
-    /// No gates.
-    pub(crate) fn new(alloc: Global) -> KeptGates
-        ensures { result ≡ [] }
+    /// No gates, with room for so many: a table that grows puts each gate in its place several times.
+    pub(crate) fn with_room(alloc: Global, room: usize) -> Result<KeptGates, NoMemory>
+        ensures { IfOk result (λ kept. kept ≡ []) }
     {
-        KeptGates {
-            literals: IndexMap::new(alloc),
-        }
+        let literals = IndexMap::with_capacity(alloc, room)?;
+        Ok(KeptGates { literals })
     }
 
     /// The literal of the kept gate of these literals.
