@@ -24,6 +24,11 @@ pub(crate) fn begin(
     line.extend(part);
     let header = line.header()?;
     let mut items = Items::new(alloc, header, end - rest.len() as u64);
-    items.feed(end, rest)?;
-    Ok(Some(items))
+    match items.feed(end, rest) {
+        Ok(()) => Ok(Some(items)),
+        Err(fault) => {
+            drop(items);
+            Err(fault)
+        }
+    }
 }

@@ -85,7 +85,13 @@ impl Items {
     {
         let mut items = self;
         if items.at < end {
-            items.take_line()?;
+            match items.take_line() {
+                Ok(()) => {}
+                Err(fault) => {
+                    drop(items);
+                    return Err(fault);
+                }
+            }
         }
         let Items {
             alloc,
@@ -154,6 +160,9 @@ pub(crate) fn close(alloc: Global, sections: Sections, end: u64) -> Result<Circu
 {
     match sections.section() {
         Section::Symbols => resolve(alloc, sections),
-        _ => Err(ReadError::Truncated(end)),
+        _ => {
+            drop(sections);
+            Err(ReadError::Truncated(end))
+        }
     }
 }

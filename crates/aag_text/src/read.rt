@@ -26,7 +26,9 @@ fn read(alloc: Global, bytes: &[u8]) -> Result<Circuit, ReadError>
     ensures { Gives (λ circuit. circuit) result (reading.read_bytes bytes.now) }
 {
     let mut reader = AagReader::new(alloc);
-    read_rest(&mut reader, bytes)
+    let circuit = read_rest(&mut reader, bytes);
+    drop(reader);
+    circuit
 }
 
 /// The circuit of a file that ends with these bytes.

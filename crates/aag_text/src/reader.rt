@@ -131,7 +131,7 @@ impl AagReader {
     fn enter(&mut self, phase: Phase)
         ensures { self.new ≡ record self.old { phase = phase } }
     {
-        self.phase = phase;
+        drop(mem::replace(&mut self.phase, phase));
     }
 }
 

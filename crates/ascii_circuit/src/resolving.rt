@@ -168,14 +168,31 @@ pub fn resolve(alloc: Global, lists: RawLists) -> Result<Circuit, ReadError>
         → Gives (λ circuit. circuit) result (reading.resolve lists.header (raw_of lists symbols)) }
 {
     if !lists.are_consistent() {
+        drop(lists);
         return Err(ReadError::Undefined);
     }
-    let placed = lists.placed(alloc)?;
-    let RawLists {
-        header,
-        properties,
-        names,
-        ..
-    } = lists;
-    in_order(alloc, &header, properties.sizes(), placed, names)
+    match lists.placed(alloc) {
+        Ok(placed) => {
+            let RawLists {
+                header,
+                inputs,
+                latches,
+                properties,
+                gates,
+                names,
+                places,
+            } = lists;
+            drop(inputs);
+            drop(latches);
+            drop(gates);
+            drop(places);
+            let circuit = in_order(alloc, &header, properties.sizes(), placed, names);
+            drop(properties);
+            circuit
+        }
+        Err(fault) => {
+            drop(lists);
+            Err(fault)
+        }
+    }
 }

@@ -297,8 +297,14 @@ impl Items {
         match opened {
             Opened::Numbers(line) => finish_numbers(sections, alloc, at, line, end),
             Opened::Symbol(line) => finish_symbol(sections, alloc, at, line, end),
-            Opened::First(_delta) => Err(ReadError::Truncated(at)),
-            Opened::Second(_, _delta) => Err(ReadError::Truncated(at)),
+            Opened::First(_delta) => {
+                drop(sections);
+                Err(ReadError::Truncated(at))
+            }
+            Opened::Second(_, _delta) => {
+                drop(sections);
+                Err(ReadError::Truncated(at))
+            }
             Opened::Comment => sections.finish(alloc, end),
         }
     }
@@ -321,7 +327,10 @@ fn finish_numbers(
     let mut sections = sections;
     match take_numbers(&mut sections, at, line) {
         Ok(()) => sections.finish(alloc, end),
-        Err(fault) => Err(fault),
+        Err(fault) => {
+            drop(sections);
+            Err(fault)
+        }
     }
 }
 
@@ -337,12 +346,16 @@ fn finish_symbol(
         → Gives (λ c. c) result (circuit_at end state) }
 {
     if at == end {
+        drop(line);
         return sections.finish(alloc, end);
     }
     let mut sections = sections;
     match take_text(&mut sections, at, line) {
         Ok(_) => sections.finish(alloc, end),
-        Err(fault) => Err(fault),
+        Err(fault) => {
+            drop(sections);
+            Err(fault)
+        }
     }
 }
 

@@ -101,7 +101,7 @@ impl AigReader {
     fn enter(&mut self, stage: Stage)
         ensures { self.new ≡ record self.old { stage = stage } }
     {
-        self.stage = stage;
+        drop(mem::replace(&mut self.stage, stage));
     }
 }
 
@@ -114,7 +114,9 @@ pub fn read_aig(alloc: Global, bytes: &[u8]) -> Result<Circuit, ReadError>
     ensures { Gives (λ c. c) result (read_binary bytes.now) }
 {
     let mut reader = AigReader::new(alloc);
-    read_rest(&mut reader, bytes)
+    let circuit = read_rest(&mut reader, bytes);
+    drop(reader);
+    circuit
 }
 
 /// The circuit of a file that ends with these bytes.

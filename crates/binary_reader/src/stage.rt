@@ -87,7 +87,10 @@ fn feed_items(alloc: Global, items: Items, end: u64, piece: &[u8]) -> Result<Sta
     let mut items = items;
     match items.feed(alloc, end, piece) {
         Ok(()) => Ok(Stage::Items(items)),
-        Err(fault) => Err(fault),
+        Err(fault) => {
+            drop(items);
+            Err(fault)
+        }
     }
 }
 

@@ -13,9 +13,8 @@ returns-in_err-header c bytes awaits whole =
     let first = awaits_more c.args.line.now c.extend-2.new.self bytes part c.in-Some.ensures.clean c.extend-2.ensures awaits in
     rw (p.1, p.2) (header_fails c.extend-2.new.self bytes part c.in-Some.rest.now c.args.piece.now c.in-Some.ensures first _ c.in_err-header.ensures.value)
 
-pub returns-in_err-feed : goal.returns-in_err-feed
-returns-in_err-feed c bytes awaits whole =
-    let p = err_from_is_err_and c.from_residual-in_err-feed.result c.from_residual-in_err-feed.ensures.1 in
+pub returns-in-Err : goal.returns-in-Err
+returns-in-Err c bytes awaits whole =
     let line = c.extend-2.new.self in
     let part = c.in-Some.part.now in
     let rest = c.in-Some.rest.now in
@@ -23,10 +22,10 @@ returns-in_err-feed c bytes awaits whole =
     let first = awaits_more c.args.line.now line bytes part cuts.clean c.extend-2.ensures awaits in
     let held = items_begin line bytes part rest c.args.piece.now cuts first c.in_ok-header.header c.new-items.result c.args.end (c.args.end - length rest) c.in_ok-header.ensures.value whole refl c.new-items.ensures.at c.new-items.ensures.stands in
     let joined = whole_piece line bytes part rest c.args.piece.now cuts first in
-    rw (p.1, p.2) (subst (λ (xs : List ℕ). Fails c.in_err-feed.field-0.0 (fed xs)) joined (c.in_err-feed.ensures (to_line_end line bytes part rest c.args.piece.now cuts first) held (ap length joined ∙ whole)))
+    subst (λ (xs : List ℕ). Fails c.in-Err.fault (fed xs)) joined (c.in-Err.ensures (to_line_end line bytes part rest c.args.piece.now cuts first) held (ap length joined ∙ whole))
 
-pub returns : goal.returns
-returns c bytes awaits whole =
+pub returns-in-Ok : goal.returns-in-Ok
+returns-in-Ok c bytes awaits whole =
     let line = c.extend-2.new.self in
     let part = c.in-Some.part.now in
     let rest = c.in-Some.rest.now in
@@ -34,4 +33,4 @@ returns c bytes awaits whole =
     let first = awaits_more c.args.line.now line bytes part cuts.clean c.extend-2.ensures awaits in
     let held = items_begin line bytes part rest c.args.piece.now cuts first c.in_ok-header.header c.new-items.result c.args.end (c.args.end - length rest) c.in_ok-header.ensures.value whole refl c.new-items.ensures.at c.new-items.ensures.stands in
     let joined = whole_piece line bytes part rest c.args.piece.now cuts first in
-    subst (Hold c.feed.new.self) joined (c.in_ok-feed.ensures (to_line_end line bytes part rest c.args.piece.now cuts first) held (ap length joined ∙ whole))
+    subst (Hold c.feed.new.self) joined (c.in-Ok.ensures (to_line_end line bytes part rest c.args.piece.now cuts first) held (ap length joined ∙ whole))

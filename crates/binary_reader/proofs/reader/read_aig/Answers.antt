@@ -2,4 +2,4 @@ use Rattle.std.proofs.Common.{[]}
 use Rattle.binary_reader.proofs.reader.read_aig.Goals as goal
 
 pub returns : goal.returns
-returns c = c.read_rest.ensures [] c.new-reader.ensures.holds
+returns c = c.read_rest-circuit.ensures [] c.new-reader.ensures.holds
