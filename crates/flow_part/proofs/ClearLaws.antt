@@ -80,6 +80,7 @@ listed_more net base list i v s e old mid new ev es ee from up c cl = record {
 pub listed_cleared : (net : FlowNet) (p : PushPart) (list was ws : List ℕ) → p.pushing.complete ≡ true → ListsPushing net p → list ≡ p.pushing.nodes.items → was ≡ p.values.items → length ws ≡ p.values.len → ClearsListed net p.base list (length list) was ws
     → PartCleared net p (record p { values = with_items p.values ws })
 listed_cleared net p list was ws on lists el ew len c = record {
+  same_worker = refl;
   same_first = refl;
   same_end = refl;
   same_base = refl;
@@ -108,6 +109,7 @@ listed_cleared net p list was ws on lists el ew len c = record {
 pub all_cleared : (net : FlowNet) (p : PushPart) (size : ℕ) (was ws : List ℕ) → IsFlowNet net → PushPartFits net p → was ≡ p.values.items → size ≡ length p.values.items → length ws ≡ p.values.len → Clears 0 size was ws
     → PartCleared net p (record p { values = with_items p.values ws })
 all_cleared net p size was ws ok fit ew es len c = record {
+  same_worker = refl;
   same_first = refl;
   same_end = refl;
   same_base = refl;

@@ -35,6 +35,7 @@ pub part_unread : (net : FlowNet) (labels : List ℕ) (first end low high : ℕ)
     → PartReadOn net labels first end c p p
 part_unread net labels first end low high c p fit el eh none = record {
   is_read = record {
+    same_worker = refl;
     same_first = refl;
     same_end = refl;
     same_base = refl;

@@ -109,6 +109,7 @@ step_safe net labels xs low high v q m lv vh safe s =
 pub step_clamped : (net : FlowNet) (labels xs : List ℕ) (first end low high : ℕ) (q r : FlowPart) → FlowPartFits net q → low ≡ max first q.first → high ≡ min end q.end → Stepped net labels xs low high q r
     → PartDelivered net labels xs first end q r
 step_clamped net labels xs first end low high q r fit el eh s = record {
+  same_worker = ap (λ (p : FlowPart). p.worker) s.same;
   same_first = same_first q r s.same;
   same_end = same_end q r s.same;
   same_base = same_base q r s.same;

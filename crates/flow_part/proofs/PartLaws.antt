@@ -36,6 +36,7 @@ part_given net labels pushes first end low high q rs es ns xs ys zs fit er ee en
     (subst (λ (x : ℕ). RangeDelivered net labels pushes q.base q.first x (min end q.end) (record { residuals = rs; excess = es; next = ns }) (record { residuals = xs; excess = ys; next = zs })) el
     (subst (λ (x : ℕ). RangeDelivered net labels pushes q.base q.first low x (record { residuals = rs; excess = es; next = ns }) (record { residuals = xs; excess = ys; next = zs })) eh r)) in
     record {
+      same_worker = refl;
       same_first = refl;
       same_end = refl;
       same_base = refl;

@@ -56,6 +56,7 @@ pub part_read : (net : FlowNet) (labels : List ℕ) (first end low high : ℕ) (
     → PartReads net labels low high c p r → PartReadOn net labels first end c p r
 part_read net labels first end low high c p r ok fit el eh some w = record {
   is_read = record {
+    same_worker = ap (λ (q : PushPart). q.worker) w.same;
     same_first = ap (λ (q : PushPart). q.first) w.same;
     same_end = ap (λ (q : PushPart). q.end) w.same;
     same_base = same_base p r w.same;

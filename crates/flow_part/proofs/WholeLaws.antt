@@ -12,6 +12,7 @@ use Rattle.flow_part.proofs.WalkLaws.{idle_push}
 pub whole_walked : (net : FlowNet) (labels : List ℕ) (c : Cells) (p r : PushPart) → PushPartFits net p → PartWalked net labels c p.end p r → WholeRead net labels c p r
 whole_walked net labels c p r fit w = record {
   is_read = record {
+    same_worker = ap (λ (q : PushPart). q.worker) w.same;
     same_first = first_is;
     same_end = end_is;
     same_base = same_base p r w.same;
@@ -53,6 +54,7 @@ zero_lists net p r fit cl = λ v k lo hi l.
 pub whole_after : (net : FlowNet) (labels : List ℕ) (c : Cells) (p q r : PushPart) → PushPartFits net p → PartCleared net p q → WholeRead net labels c q r → WholeRead net labels c p r
 whole_after net labels c p q r fit cl w = record {
   is_read = record {
+    same_worker = w.is_read.same_worker ∙ cl.same_worker;
     same_first = w.is_read.same_first ∙ cl.same_first;
     same_end = w.is_read.same_end ∙ cl.same_end;
     same_base = w.is_read.same_base ∙ cl.same_base;

@@ -89,6 +89,7 @@ KeepsLists old new = new ≡ record old { residuals = new.residuals; excess = ne
 
 -- the part of the flow after Deliver of its nodes from `first` up to `end`
 pub record PartDelivered (net : FlowNet) (labels pushes : List ℕ) (first end : ℕ) (old new : FlowPart) : Type 0 where
+  pub same_worker : new.worker ≡ old.worker
   pub same_first : new.first ≡ old.first
   pub same_end : new.end ≡ old.end
   pub same_base : new.base ≡ old.base

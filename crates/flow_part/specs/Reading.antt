@@ -86,6 +86,7 @@ pub record CoversActive (net : FlowNet) (labels : List ℕ) (c : Cells) (first e
 
 -- a part of the pushes after Read of those of its nodes that lie from `first` up to `end`
 pub record PartRead (net : FlowNet) (labels : List ℕ) (first end : ℕ) (c : Cells) (old new : PushPart) : Type 0 where
+  pub same_worker : new.worker ≡ old.worker
   pub same_first : new.first ≡ old.first
   pub same_end : new.end ≡ old.end
   pub same_base : new.base ≡ old.base
@@ -111,6 +112,7 @@ PartsReadOn net labels first end c olds news = (i : ℕ) (e : PushPart) → i < 
 
 -- a part of the pushes whose rows were all cleared
 pub record PartCleared (net : FlowNet) (old new : PushPart) : Type 0 where
+  pub same_worker : new.worker ≡ old.worker
   pub same_first : new.first ≡ old.first
   pub same_end : new.end ≡ old.end
   pub same_base : new.base ≡ old.base

@@ -16,5 +16,6 @@ pub mod EachLaws
 pub mod SizeLaws
 pub mod LabelLaws
 pub mod HoldLaws
+pub mod NumberLaws
 pub mod CopyLaws
 pub mod CarryLaws

@@ -1,4 +1,4 @@
-use Rattle.std.specs.Prelude.{◌≡◌, ℕ, ◌+◌, ◌*◌, ◌/◌, ◌<◌, ◌==◌, nat_lt, cond, List, [], ◌∷◌, length, slice_index}
+use Rattle.std.specs.Prelude.{◌≡◌, ℕ, ◌+◌, ◌*◌, ◌/◌, ◌<◌, ◌==◌, nat_lt, cond, List, [], ◌∷◌, length, slice_index, slice_index_or}
 use Rattle.flow_theory.specs.Flow.{sum_below}
 use Rattle.frame_net.specs.FlowNet.{FlowNet, node_count, start, row_len, head, cap_at, IsFlowNet, IsStartable}
 use Rattle.flow_part.specs.declared.parts.FlowPart.{FlowPart}
@@ -42,6 +42,13 @@ AreFlowShares nodes workers qs = AreShares (λ q. q.worker) (λ q. q.first) (λ 
 
 abbrev pub ArePushShares : ℕ → ℕ → List PushPart → Type 0
 ArePushShares nodes workers ps = AreShares (λ p. p.worker) (λ p. p.first) (λ p. p.end) nodes workers 0 ps
+
+-- the i-th part is worker i's
+abbrev pub FlowNumbered : List FlowPart → Type 0
+FlowNumbered qs = (i : ℕ) (d : FlowPart) → i < length qs → (slice_index_or qs i d).worker ≡ i
+
+abbrev pub PushesNumbered : List PushPart → Type 0
+PushesNumbered ps = (i : ℕ) (e : PushPart) → i < length ps → (slice_index_or ps i e).worker ≡ i
 
 -- the parts hold the nodes below m, end to end, with these residuals and this excess
 abbrev pub PartsHold : FlowNet → (ℕ → ℕ) → (ℕ → ℕ) → ℕ → List FlowPart → Type 0

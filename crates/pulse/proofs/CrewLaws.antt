@@ -12,9 +12,11 @@ use Rattle.flow_part.specs.Visiting.{WholeDelivered, WholesDelivered}
 use Rattle.flow_part.proofs.JoinedPartLaws.{AtPart, at_part}
 use Rattle.flow_whole.specs.Labels.{AreLabelled, KeepLabels, KeepsLabels}
 use Rattle.flow_whole.specs.Runs.{AreRead, ArePulsed}
+use Rattle.flow_whole.specs.Start.{PushesNumbered}
 use Rattle.flow_whole.proofs.AgreeingStateLaws.{agree_pulse, agree_then, sound_same}
 use Rattle.flow_whole.proofs.HoldLaws.{hold_same}
 use Rattle.flow_whole.proofs.LabelLaws.{labelled_parts}
+use Rattle.flow_whole.proofs.NumberLaws.{numbered_read}
 use Rattle.flow_whole.proofs.PulseLaws.{ready, ready_safe, Pulsed, pulsed}
 use Rattle.flow_whole.proofs.WholeDeliveryLaws.{cut_after_give}
 use Rattle.flow_whole.proofs.WholeReadLaws.{wholes_read, wholes_walked}
@@ -32,6 +34,12 @@ all_walked net labels qs ps was rs now ew en cut len reads =
     let sum : rows_walked rs + active_below net labels (cells_of qs) 0 ≡ active_below net labels (cells_of qs) (node_count net) =
     wholes_walked net labels 0 (cells_of qs) was rs (subst (λ (x : List PushPart). ArePushParts net 0 x) (sym ew) cut) len reads in
     omega (arith, sum, ap rows_walked en)
+
+-- the parts stay the workers' in their order
+pub all_numbered : (net : FlowNet) (labels : List ℕ) (qs : List FlowPart) (ps was rs now : List PushPart) → was ≡ ps → now ≡ rs → length rs ≡ length was → WholesRead net labels (cells_of qs) was rs → PushesNumbered ps → PushesNumbered now
+all_numbered net labels qs ps was rs now ew en len reads n =
+    subst (λ (x : List PushPart). PushesNumbered x) (sym en)
+    (numbered_read net labels 0 (node_count net) (cells_of qs) was rs len (wholes_read net labels (cells_of qs) was rs reads) (subst (λ (x : List PushPart). PushesNumbered x) (sym ew) n))
 
 pub all_safe : (net : FlowNet) (m : ℕ) (labels : List ℕ) (qs was : List FlowPart) (rs : List PushPart) → IsFlowNet net → m ≡ node_count net → was ≡ qs → AreFlowParts net 0 qs → IsSound net (pairs net (cells_of qs) labels)
     → AreRead net labels qs rs → PartsSafe net (values_of rs) 0 m was

@@ -1,5 +1,5 @@
 -- How a pulse is shared out.
-use Rattle.std.specs.Prelude.{ℕ, Bool, false, min, nat_le, nat_lt, if◌then◌else◌}
+use Rattle.std.specs.Prelude.{ℕ, ◌==◌, Bool, false, min, nat_le, nat_lt, if◌then◌else◌}
 use Rattle.std.specs.Int.{div_ceil}
 use Rattle.pulse.specs.declared.sharing.Share.{Share}
 
@@ -15,3 +15,7 @@ share_among workers = record { parts = workers; handed = nat_lt 1 workers }
 abbrev pub next_share : ℕ → ℕ → Bool → ℕ → Share → Share
 next_share nodes active due crew share =
     if are_many nodes active then share_among crew else (if due then share_among 1 else record { parts = share.parts; handed = false })
+
+-- the first pulse of a crew of one is made in one part; that of a larger crew is shared out as a next pulse is before which so many nodes are active
+abbrev pub first_share : ℕ → ℕ → ℕ → Share → Share
+first_share nodes active crew begun = if crew == 1 then share_among 1 else next_share nodes active false crew begun

@@ -1,10 +1,11 @@
 -- What contracts see of a flow, of pushes and of a run's end: values by arc and by node, and how the nodes are parted.
-use Rattle.std.specs.Prelude.{◌≡◌, ℕ, ◌+◌, ◌-◌, ◌<◌, ◌≤◌, ◌⊎◌, ◌^◌, min, Bool, true, List, length, slice_index, map}
+use Rattle.std.specs.Prelude.{◌≡◌, ℕ, ◌+◌, ◌-◌, ◌<◌, ◌≤◌, ◌⊎◌, ◌^◌, min, Bool, true, false, List, length, slice_index, map}
 use Rattle.frame_net.specs.FlowNet.{FlowNet, node_count, start, row_len}
 use Rattle.flow_part.specs.declared.parts.FlowPart.{FlowPart}
 use Rattle.flow_part.specs.declared.parts.PushPart.{PushPart}
-use Rattle.flow_part.specs.Listing.{AreWithin, IsListed}
+use Rattle.flow_part.specs.Listing.{AreWithin, IsListed, ListActive}
 use Rattle.flow_part.specs.Parts.{Cells, IsParted, cells_of, rows_walked, values_of}
+use Rattle.flow_whole.specs.Start.{FlowNumbered}
 
 -- the nodes from first up to end, their arcs, which are so many from base on, and the numbers of their excesses and new labels
 pub record FlowRange : Type 0 where
@@ -67,6 +68,11 @@ pub record FlowState : Type 0 where
 abbrev pub flow_state : List FlowPart → List ℕ → List Bool → List ℕ → Bool → FlowState
 flow_state parts labels delivered caps spent =
     record { ranges = map flow_range parts; cells = cells_of parts; labels = labels; delivered = delivered; caps = caps; spent = spent }
+
+-- what a flow keeps beside what contracts see: its parts are the workers' in their order; and where that is noted, their lists hold the active nodes
+pub record FlowKept (listed spent : Bool) (labels : List ℕ) (parts : List FlowPart) : Type 0 where
+  pub lists : listed ≡ true → ListActive (length labels) labels parts
+  pub numbered : spent ≡ false → FlowNumbered parts
 
 -- pushes by arc; whether a refused read phase has lost them; and how many rows were walked for pushes since the last read phase began,
 -- up to the greatest count of 32 bits

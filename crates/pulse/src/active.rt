@@ -1,11 +1,11 @@
 //! Whether a node is active, and how many are.
-ghost use Rattle.std.specs.Prelude.{◌≡◌, false};
+ghost use Rattle.std.specs.Prelude.{◌≡◌, ◌<◌, false};
+ghost use Rattle.flow_theory.specs.Flow.{is_active};
 ghost use Rattle.frame_net.specs.FlowNet.{node_count};
 ghost use Rattle.flow_whole.specs.Runs.{any_active};
-ghost use Rattle.pulse.specs.Conditions.{IsFlowOf, state_of};
+ghost use Rattle.pulse.specs.Conditions.{IsFlowOf, active_count, state_of};
 
 use crate::flow::Flow;
-use flow_part::excess_at;
 use flow_whole::any_active_node;
 use frame_net::Net;
 
@@ -24,17 +24,28 @@ pub(crate) fn is_active(net: &Net, flow: &Flow) -> bool
     )
 }
 
+/// Whether node `v` is active.
+fn is_node_active(net: &Net, flow: &Flow, v: u32) -> bool
+    requires flow { IsFlowOf net.now flow.now }
+    requires unspent { flow.now.spent ≡ false }
+    requires node { v < node_count net.now }
+    ensures { result ≡ is_active (node_count net.now) (state_of net.now flow.now) v }
+{
+    let nodes = net.nodes();
+    flow_part::is_active(v, flow.excess(v), flow.label(v), nodes)
+}
+
 /// How many nodes are active. All nodes are visited.
 pub(crate) fn active_nodes(net: &Net, flow: &Flow) -> usize
     requires flow { IsFlowOf net.now flow.now }
     requires unspent { flow.now.spent ≡ false }
+    ensures { result ≡ active_count net.now flow.now }
 {
     let nodes = net.nodes();
     let mut count: usize = 0;
-    for v in 2..nodes {
-        let at = v as usize;
-        if flow.labels[at] < nodes && excess_at(flow.parts.as_slice(), at) > 0 {
-            count = count.saturating_add(1);
+    for v in 0..nodes {
+        if is_node_active(net, flow, v) {
+            count += 1;
         }
     }
     count

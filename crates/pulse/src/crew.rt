@@ -16,7 +16,8 @@ impl<G: PhaseGate> Crew<G> {
     pub fn new(workers: u32, gate: G) -> Crew<G>
         requires some { 0 < workers }
         requires few { workers ≤ 64 }
-        ensures { result.workers ≡ workers }
+        ensures workers { result.workers ≡ workers }
+        ensures gate { result.gate ≡ gate }
     {
         Crew { workers, gate }
     }

@@ -5,8 +5,9 @@ ghost use Rattle.std.specs.Prelude.{◌≡◌, ◌*◌, ◌<◌, ◌≤◌, ◌�
 ghost use Rattle.frame_net.specs.FlowNet.{node_count};
 ghost use Rattle.flow_part.specs.Parts.{Agree};
 ghost use Rattle.exact_labels.specs.Distances.{exact};
-ghost use Rattle.pulse.specs.Conditions.{ArePushesOf, IsBetween, IsMaxPreflow, NoneActive, state_of};
+ghost use Rattle.pulse.specs.Conditions.{ArePushesOf, IsBetween, IsMaxPreflow, NoneActive, active_count, state_of};
 ghost use Rattle.pulse.specs.Phases.{AfterPulse};
+ghost use Rattle.pulse.specs.Sharing.{first_share};
 
 use crate::active::{active_nodes, is_active};
 use crate::crew::Crew;
@@ -137,7 +138,9 @@ fn first_share(net: &Net, flow: &Flow, begun: Share, crew: u32) -> Share
     requires flow { IsBetween net.now flow.now }
     requires begun { 0 < begun.parts }
     requires some { 0 < crew }
-    ensures { 0 < result.parts }
+    ensures share { result ≡ first_share (node_count net.now) (active_count net.now flow.now)
+        crew begun }
+    ensures some { 0 < result.parts }
 {
     if crew == 1 {
         return Share::among(1);

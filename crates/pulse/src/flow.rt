@@ -33,15 +33,13 @@ pub struct Flow {
 }
 
 impl Model for Flow {
-    ghost use Rattle.std.specs.Prelude.{◌≡◌, length, true};
-    ghost use Rattle.flow_part.specs.Listing.{ListActive};
-    ghost use Rattle.pulse.specs.Values.{FlowState, flow_state};
+    ghost use Rattle.pulse.specs.Values.{FlowKept, FlowState, flow_state};
 
     ghost Value = { FlowState };
 
     ghost view = { λ f. flow_state f.parts.items f.labels.items f.delivered.items f.caps.items f.spent };
 
-    ghost invariant = { λ f. f.listed ≡ true → ListActive (length f.labels.items) f.labels.items f.parts.items };
+    ghost invariant = { λ f. FlowKept f.listed f.spent f.labels.items f.parts.items };
 }
 
 impl Flow {

@@ -25,11 +25,15 @@ pub struct Pushes {
 }
 
 impl Model for Pushes {
+    ghost use Rattle.std.specs.Prelude.{◌≡◌, false};
+    ghost use Rattle.flow_whole.specs.Start.{PushesNumbered};
     ghost use Rattle.pulse.specs.Values.{PushState, push_state};
 
     ghost Value = { PushState };
 
     ghost view = { λ p. push_state p.parts.items p.spent };
+
+    ghost invariant = { λ p. p.spent ≡ false → PushesNumbered p.parts.items };
 }
 
 impl Pushes {

@@ -1,7 +1,7 @@
 //! A phase over the parts of all workers: by `map_vec` where they are handed out, else on the calling thread.
 //!
 //! Each worker gets its part by value and returns it, in worker order; all else is lent to all workers. A refusal drops the parts.
-ghost use Rattle.std.specs.Prelude.{◌≡◌, ℕ, ◌<◌, ◌≤◌, IfOk, OnErr, OnOk, List, length, true};
+ghost use Rattle.std.specs.Prelude.{◌≡◌, ℕ, ◌<◌, ◌≤◌, ◌⊎◌, IfOk, OnErr, OnOk, List, length, true};
 ghost use Rattle.frame_net.specs.FlowNet.{node_count};
 ghost use Rattle.flow_part.specs.Parts.{AreFlowParts, ArePushParts, Agree, FlowPartFits, IsSound, LabelsFit, PushPartFits, cells_of, pairs, rows_walked, values_of};
 ghost use Rattle.flow_part.specs.Reading.{WholeRead, WholesRead, active_below};
@@ -9,6 +9,7 @@ ghost use Rattle.flow_part.specs.Delivering.{PartSafe, PartsSafe};
 ghost use Rattle.flow_part.specs.Listing.{ListActive, ListsActive};
 ghost use Rattle.flow_part.specs.Visiting.{WholeDelivered, WholesDelivered};
 ghost use Rattle.flow_whole.specs.Runs.{ArePulsed, AreRead};
+ghost use Rattle.flow_whole.specs.Start.{AreFlowShares, ArePushShares, FlowNumbered, PushesNumbered};
 
 use crate::gate::PhaseGate;
 use crate::sharing::Phase;
@@ -28,7 +29,9 @@ fn part_pushes(
 ) -> Result<(), AllocError>
     requires some { 0 < workers }
     requires parts { ArePushParts net.now 0 parts.old.items }
-    ensures { OnOk result (ArePushParts net.now 0 parts.new.items) }
+    ensures parts { OnOk result (ArePushParts net.now 0 parts.new.items) }
+    ensures shares { (parts.new.items ≡ parts.old.items)
+        ⊎ ArePushShares (node_count net.now) workers parts.new.items }
 {
     if parts.len() != workers as usize {
         *parts = push_parts(alloc, net, workers)?;
@@ -48,6 +51,8 @@ pub(crate) fn part_flow(
     requires labels { LabelsFit net.now labels.now }
     requires parts { AreFlowParts net.now 0 parts.old.items }
     ensures parts { OnOk result (AreFlowParts net.now 0 parts.new.items) }
+    ensures shares { (parts.new.items ≡ parts.old.items)
+        ⊎ AreFlowShares (node_count net.now) workers parts.new.items }
     ensures agree { OnOk result (Agree (node_count net.now)
         (pairs net.now (cells_of parts.old.items) labels.now)
         (pairs net.now (cells_of parts.new.items) labels.now)) }
@@ -155,6 +160,8 @@ pub(crate) fn read_all<R: Threads + Sync, G: PhaseGate>(
     ensures read { OnOk result (AreRead net.now labels.now flow.now parts.new.items) }
     ensures walked { OnOk result (rows_walked parts.new.items
         ≡ active_below net.now labels.now (cells_of flow.now) (node_count net.now)) }
+    ensures numbered { OnOk result (PushesNumbered parts.old.items
+        → PushesNumbered parts.new.items) }
 {
     let _nodes = net.nodes();
     part_pushes(alloc, net, parts, phase.share.parts)?;
@@ -222,6 +229,7 @@ pub(crate) fn deliver_all<R: Threads + Sync, G: PhaseGate>(
     ensures ok { OnOk result (ArePulsed net.now labels.old labels.new flow.old.items
         flow.new.items) }
     ensures lists { OnOk result (ListActive (length labels.new) labels.new flow.new.items) }
+    ensures numbered { OnOk result (FlowNumbered flow.old.items → FlowNumbered flow.new.items) }
     ensures err { OnErr result (labels.new ≡ labels.old) }
 {
     let _nodes = net.nodes();

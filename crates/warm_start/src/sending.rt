@@ -2,6 +2,7 @@
 ghost use Rattle.std.specs.Prelude.{◌≡◌, ◌<◌, ◌∷◌, [], length, slice_index};
 ghost use Rattle.frame_net.specs.FlowNet.{node_count};
 ghost use Rattle.flow_part.specs.Parts.{AreFlowParts, IsSound, cells_of, pairs, part_cells};
+ghost use Rattle.flow_whole.specs.Start.{FlowNumbered};
 ghost use Rattle.warm_start.specs.Wished.{IsHeld};
 
 use crate::units::{next_place, send_unit};
@@ -69,6 +70,7 @@ fn send_in_part(net: &Net, labels: &[u32], part: &mut FlowPart, wishes: &mut [u3
     requires wishes { length wishes.old ≡ length net.now.heads }
     ensures part { AreFlowParts net.now 0 (part.new ∷ []) }
     ensures sound { IsSound net.now (pairs net.now (part_cells part.new) labels.now) }
+    ensures worker { part.new.worker ≡ part.old.worker }
 {
     let _nodes = net.nodes();
     let residuals = part.residuals.as_mut_slice();
@@ -85,6 +87,7 @@ pub fn send_wished(net: &Net, labels: &[u32], parts: &mut [FlowPart], wishes: &m
     requires sound { IsSound net.now (pairs net.now (cells_of parts.old) labels.now) }
     ensures parts { AreFlowParts net.now 0 parts.new }
     ensures sound { IsSound net.now (pairs net.now (cells_of parts.new) labels.now) }
+    ensures numbered { FlowNumbered parts.old → FlowNumbered parts.new }
 {
     if parts.len() == 1 && wishes.len() == net.arcs() {
         send_in_part(net, labels, &mut parts[0], wishes);

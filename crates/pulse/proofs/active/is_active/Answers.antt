@@ -17,7 +17,7 @@ any_active_node-requires-clause-parts c =
 pub any_active_node-requires-clause-lists : goal.any_active_node-requires-clause-lists
 any_active_node-requires-clause-lists c on =
     lists_seen c.args.net.now c.flow.inside.labels.items c.as_slice.result.now c.flow.inside.parts.items c.as_slice-2.result.now
-    (ap (λ (f : FlowState). length f.labels) c.flow.view_is ∙ c.requires.flow.labelled.each) c.as_slice.ensures.value c.as_slice-2.ensures.value (c.flow.invariant on)
+    (ap (λ (f : FlowState). length f.labels) c.flow.view_is ∙ c.requires.flow.labelled.each) c.as_slice.ensures.value c.as_slice-2.ensures.value (c.flow.invariant.lists on)
 
 pub returns : goal.returns
 returns c =

@@ -10,7 +10,7 @@ use Rattle.pulse.proofs.fast_run.run.Goals as goal
 
 pub pulses-init : goal.pulses-init
 pulses-init g c = record {
-  some = c.first_share-share.ensures;
+  some = c.first_share-share.ensures.some;
   between = c.relabel.ensures.flow;
   pushes = c.requires.pushes;
   usable = c.requires.usable;

@@ -1,5 +1,6 @@
 use Rattle.std.proofs.Common.{ℕ, List, arith, ap, length, refl, subst, sym, ◌∙◌}
 use Rattle.std.specs.Vec.{with_items}
+use Rattle.std.proofs.lemmas.Bool.{false≢true}
 use Rattle.std.proofs.lemmas.List.{with_items_is}
 use Rattle.flow_part.specs.Listing.{ListActive}
 use Rattle.pulse.specs.Values.{FlowState, PushState}
@@ -20,7 +21,7 @@ deliver_all-requires-clause-read g c κs within =
 pub deliver_all-requires-clause-lists : goal.deliver_all-requires-clause-lists
 deliver_all-requires-clause-lists g c κs within on =
     lists_seen c.args.net.now c.flow.inside.labels.items c.as_mut_slice-labels.result.now c.flow.inside.parts.items c.flow.inside.parts.items
-    (ap (λ (f : FlowState). length f.labels) c.flow.view_is ∙ c.requires.flow.labelled.each) c.as_mut_slice-labels.ensures.value refl (c.flow.invariant on)
+    (ap (λ (f : FlowState). length f.labels) c.flow.view_is ∙ c.requires.flow.labelled.each) c.as_mut_slice-labels.ensures.value refl (c.flow.invariant.lists on)
 
 pub returns-in-Ok-clause-fits : goal.returns-in-Ok-clause-fits
 returns-in-Ok-clause-fits g c =
@@ -47,5 +48,13 @@ returns-in-Err-clause-err g c =
     c.flow.inside.spent c.flow.view_is (with_items_is c.flow.inside.labels c.deliver_all.new.labels (omega arith) ∙ (c.in-Err.ensures.err ∙ c.as_mut_slice-labels.ensures.value))
 
 pub invariant_of-flow-in-Ok : goal.invariant_of-flow-in-Ok
-invariant_of-flow-in-Ok g c on =
-    subst (λ (x : List ℕ). ListActive (length x) x c.deliver_all.new.flow.items) (sym (with_items_is c.flow.inside.labels c.deliver_all.new.labels (omega arith))) c.in-Ok.ensures.lists
+invariant_of-flow-in-Ok g c = record {
+  lists = λ on. subst (λ (x : List ℕ). ListActive (length x) x c.deliver_all.new.flow.items) (sym (with_items_is c.flow.inside.labels c.deliver_all.new.labels (omega arith))) c.in-Ok.ensures.lists;
+  numbered = λ free. c.in-Ok.ensures.numbered (c.flow.invariant.numbered free);
+}
+
+pub invariant_of-flow : goal.invariant_of-flow
+invariant_of-flow g c = record { lists = λ on. c.flow.invariant.lists on; numbered = λ free. absurd (false≢true (sym free)) }
+
+pub invariant_of-flow-in-Err : goal.invariant_of-flow-in-Err
+invariant_of-flow-in-Err g c = record { lists = λ on. absurd (false≢true on); numbered = λ free. absurd (false≢true (sym free)) }

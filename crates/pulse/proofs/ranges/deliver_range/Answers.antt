@@ -1,7 +1,12 @@
-use Rattle.std.proofs.Common.{arith, sym, subst}
+use Rattle.std.proofs.Common.{List, arith, sym, subst}
 use Rattle.std.specs.Vec.{with_items}
+use Rattle.std.proofs.lemmas.Bool.{false≢true}
 use Rattle.std.proofs.lemmas.List.{with_items_is}
+use Rattle.flow_part.specs.declared.parts.FlowPart.{FlowPart}
+use Rattle.flow_part.specs.Parts.{values_of}
 use Rattle.flow_whole.specs.Marks.{NoneMarked, IsPartlyDelivered}
+use Rattle.flow_whole.specs.Start.{FlowNumbered}
+use Rattle.flow_whole.proofs.NumberLaws.{numbered_given}
 use Rattle.pulse.specs.Values.{FlowState, PushState, flow_state, push_state}
 use Rattle.pulse.specs.Conditions.{IsFlowOf, is_marked}
 use Rattle.pulse.specs.Phases.{RangeDelivered}
@@ -38,3 +43,12 @@ returns c =
     (subst (λ (f : FlowState). IsFlowOf c.args.net.now f) (sym c.flow.view_is) c.requires.flow)
     (subst (λ (f : FlowState). NoneMarked (is_marked f) c.args.first c.args.end) (sym c.flow.view_is) c.requires.none)
     c.deliver_each.ensures.len c.deliver_each.ensures.each (omega arith) c.mark.ensures))
+
+pub invariant_of-flow : goal.invariant_of-flow
+invariant_of-flow c = record {
+  lists = λ on. absurd (false≢true on);
+  numbered = λ free.
+      subst (λ (x : List FlowPart). FlowNumbered x) (sym (with_items_is c.flow.inside.parts c.deliver_each.new.parts (omega arith)))
+      (numbered_given c.args.net.now c.as_slice.result.now (values_of c.as_slice-2.result.now) c.args.first c.args.end c.as_mut_slice.result.now c.deliver_each.new.parts c.deliver_each.ensures.len c.deliver_each.ensures.each
+      (subst (λ (x : List FlowPart). FlowNumbered x) (sym c.as_mut_slice.ensures.value) (c.flow.invariant.numbered free)));
+}

@@ -1,6 +1,10 @@
-use Rattle.std.proofs.Common.{arith, subst}
+use Rattle.std.proofs.Common.{List, arith, subst, sym}
 use Rattle.std.specs.Vec.{with_items}
 use Rattle.std.proofs.lemmas.List.{with_items_is}
+use Rattle.flow_part.specs.declared.parts.PushPart.{PushPart}
+use Rattle.flow_part.specs.Parts.{cells_of}
+use Rattle.flow_whole.specs.Start.{PushesNumbered}
+use Rattle.flow_whole.proofs.NumberLaws.{numbered_read_on}
 use Rattle.pulse.specs.Values.{FlowState, PushState, flow_state, push_state}
 use Rattle.pulse.specs.Phases.{RangeRead}
 use Rattle.pulse.proofs.ranges.read_range.Goals as goal
@@ -26,3 +30,9 @@ returns c =
     c.pushes.inside.parts.items c.as_mut_slice.result.now c.read_each.new.parts (with_items c.pushes.inside.parts c.read_each.new.parts).items c.pushes.inside.spent c.nodes-nodes.ensures.network
     c.as_slice-2.ensures.value c.as_slice.ensures.value c.as_mut_slice.ensures.value (with_items_is c.pushes.inside.parts c.read_each.new.parts (omega arith)) (pushes_unspent c.args.pushes.now c.pushes.inside.parts.items c.pushes.inside.spent c.pushes.view_is c.requires.usable)
     (rows_of c.args.net.now c.args.pushes.now c.pushes.inside.parts.items c.pushes.inside.spent c.pushes.view_is (pushes_unspent c.args.pushes.now c.pushes.inside.parts.items c.pushes.inside.spent c.pushes.view_is c.requires.usable) c.requires.pushes) c.read_each.ensures.len c.requires.ordered (omega (arith, c.requires.within)) c.read_each.ensures.each))
+
+pub invariant_of-pushes : goal.invariant_of-pushes
+invariant_of-pushes c free =
+    subst (λ (x : List PushPart). PushesNumbered x) (sym (with_items_is c.pushes.inside.parts c.read_each.new.parts (omega arith)))
+    (numbered_read_on c.args.net.now c.as_slice.result.now c.args.first c.args.end (cells_of c.as_slice-2.result.now) c.as_mut_slice.result.now c.read_each.new.parts c.read_each.ensures.len c.read_each.ensures.each
+    (subst (λ (x : List PushPart). PushesNumbered x) (sym c.as_mut_slice.ensures.value) (c.pushes.invariant free)))

@@ -1,6 +1,7 @@
 use Rattle.std.proofs.Common.{arith, ap, ◌∙◌, length}
 use Rattle.std.specs.Vec.{with_items}
 use Rattle.std.proofs.lemmas.List.{with_items_is}
+use Rattle.flow_whole.proofs.NumberLaws.{numbered_held}
 use Rattle.pulse.specs.Values.{FlowState}
 use Rattle.pulse.proofs.FlowLaws.{flow_unspent, parts_seen}
 use Rattle.pulse.proofs.RelabelLaws.{held_flow, hold_ready, holds_seen, lists_relabelled, relabelled}
@@ -39,9 +40,15 @@ returns-clause-exact c =
     (with_items_is c.flow.inside.labels c.exact_labels.new.labels (omega arith)) (omega arith) c.requires.flow c.exact_labels.ensures)).agree
 
 pub invariant_of-flow : goal.invariant_of-flow
-invariant_of-flow c on =
-    lists_relabelled c.args.net.now c.args.flow.now c.flow.inside.parts.items c.as_slice.result.now (with_items c.flow.inside.parts c.hold_labels.new.parts).items c.flow.inside.labels.items c.as_mut_slice.result.now c.exact_labels.new.labels (with_items c.flow.inside.labels c.exact_labels.new.labels).items
-    c.flow.inside.delivered.items c.flow.inside.caps.items c.flow.inside.spent c.flow.view_is c.as_slice.ensures.value c.as_mut_slice.ensures.value (with_items_is c.flow.inside.labels c.exact_labels.new.labels (omega arith))
-    (omega arith) c.requires.flow c.exact_labels.ensures (ap length (with_items_is c.flow.inside.parts c.hold_labels.new.parts (omega arith)) ∙ (c.hold_labels.ensures.len ∙ ap length c.as_mut_slice-parts.ensures.value))
-    (holds_seen (with_items c.flow.inside.labels c.exact_labels.new.labels).items c.as_slice-labels.result.now c.flow.inside.parts.items c.as_mut_slice-parts.result.now (with_items c.flow.inside.parts c.hold_labels.new.parts).items c.hold_labels.new.parts c.as_slice-labels.ensures.value c.as_mut_slice-parts.ensures.value (with_items_is c.flow.inside.parts c.hold_labels.new.parts (omega arith)) c.hold_labels.ensures.each)
-    (c.flow.invariant on)
+invariant_of-flow c = record {
+  lists = λ on.
+      lists_relabelled c.args.net.now c.args.flow.now c.flow.inside.parts.items c.as_slice.result.now (with_items c.flow.inside.parts c.hold_labels.new.parts).items c.flow.inside.labels.items c.as_mut_slice.result.now c.exact_labels.new.labels (with_items c.flow.inside.labels c.exact_labels.new.labels).items
+      c.flow.inside.delivered.items c.flow.inside.caps.items c.flow.inside.spent c.flow.view_is c.as_slice.ensures.value c.as_mut_slice.ensures.value (with_items_is c.flow.inside.labels c.exact_labels.new.labels (omega arith))
+      (omega arith) c.requires.flow c.exact_labels.ensures (ap length (with_items_is c.flow.inside.parts c.hold_labels.new.parts (omega arith)) ∙ (c.hold_labels.ensures.len ∙ ap length c.as_mut_slice-parts.ensures.value))
+      (holds_seen (with_items c.flow.inside.labels c.exact_labels.new.labels).items c.as_slice-labels.result.now c.flow.inside.parts.items c.as_mut_slice-parts.result.now (with_items c.flow.inside.parts c.hold_labels.new.parts).items c.hold_labels.new.parts c.as_slice-labels.ensures.value c.as_mut_slice-parts.ensures.value (with_items_is c.flow.inside.parts c.hold_labels.new.parts (omega arith)) c.hold_labels.ensures.each)
+      (c.flow.invariant.lists on);
+  numbered = λ free. numbered_held (with_items c.flow.inside.labels c.exact_labels.new.labels).items c.flow.inside.parts.items (with_items c.flow.inside.parts c.hold_labels.new.parts).items
+      (ap length (with_items_is c.flow.inside.parts c.hold_labels.new.parts (omega arith)) ∙ (c.hold_labels.ensures.len ∙ ap length c.as_mut_slice-parts.ensures.value))
+      (holds_seen (with_items c.flow.inside.labels c.exact_labels.new.labels).items c.as_slice-labels.result.now c.flow.inside.parts.items c.as_mut_slice-parts.result.now (with_items c.flow.inside.parts c.hold_labels.new.parts).items c.hold_labels.new.parts c.as_slice-labels.ensures.value c.as_mut_slice-parts.ensures.value (with_items_is c.flow.inside.parts c.hold_labels.new.parts (omega arith)) c.hold_labels.ensures.each)
+      (c.flow.invariant.numbered free);
+}

@@ -1,6 +1,9 @@
-use Rattle.std.proofs.Common.{arith, ap, ◌∙◌, length}
+use Rattle.std.proofs.Common.{List, arith, ap, ◌∙◌, length, subst, sym}
 use Rattle.std.specs.Vec.{with_items}
+use Rattle.std.proofs.lemmas.Bool.{false≢true}
 use Rattle.std.proofs.lemmas.List.{with_items_is}
+use Rattle.flow_part.specs.declared.parts.FlowPart.{FlowPart}
+use Rattle.flow_whole.specs.Start.{FlowNumbered}
 use Rattle.pulse.specs.Values.{FlowState}
 use Rattle.pulse.proofs.FlowLaws.{flow_unspent, parts_seen}
 use Rattle.pulse.proofs.WishLaws.{sent_state, sound_seen}
@@ -27,3 +30,11 @@ returns c =
           c.flow.inside.delivered.items c.flow.inside.caps.items c.flow.inside.spent c.nodes-nodes.ensures.network c.flow.view_is c.as_slice-labels.ensures.value
           (with_items_is c.flow.inside.parts c.send_wished.new.parts (omega arith)) c.requires.flow c.send_wished.ensures.parts c.send_wished.ensures.sound;
     }
+
+pub invariant_of-flow : goal.invariant_of-flow
+invariant_of-flow c = record {
+  lists = λ on. absurd (false≢true on);
+  numbered = λ free.
+      subst (λ (x : List FlowPart). FlowNumbered x) (sym (with_items_is c.flow.inside.parts c.send_wished.new.parts (omega arith)))
+      (c.send_wished.ensures.numbered (subst (λ (x : List FlowPart). FlowNumbered x) (sym c.as_mut_slice-parts.ensures.value) (c.flow.invariant.numbered free)));
+}

@@ -1,7 +1,9 @@
 use Rattle.std.proofs.Common.{arith, length}
 use Rattle.flow_part.specs.Parts.{values_of}
 use Rattle.pulse.proofs.workers.deliver_all.Goals as goal
-use Rattle.pulse.proofs.CrewLaws.{sound_anew, read_anew, labels_ready, all_pulsed, keep_labels, lists_turned}
+use Rattle.frame_net.specs.FlowNet.{node_count}
+use Rattle.flow_whole.proofs.NumberLaws.{flow_parted, numbered_given}
+use Rattle.pulse.proofs.CrewLaws.{sound_anew, read_anew, labels_ready, all_pulsed, keep_labels, lists_turned, parts_delivered}
 
 pub deliver_parts-requires-clause-sound : goal.deliver_parts-requires-clause-sound
 deliver_parts-requires-clause-sound g c κs within =
@@ -33,3 +35,9 @@ pub returns-clause-lists : goal.returns-clause-lists
 returns-clause-lists g c =
     lists_turned c.args.net.now c.args.labels.now (values_of c.args.pushes.now) c.turn.new.labels c.part_flow.new.parts.items c.deliver_parts.new.flow.items c.as_slice.result.now c.nodes-nodes.ensures.network
     c.in_ok-part_flow.ensures.parts c.in_ok-deliver_parts.ensures.len c.in_ok-deliver_parts.ensures.each c.as_slice.ensures.value c.requires.labels.each (omega arith) c.turn.ensures
+
+pub returns-clause-numbered : goal.returns-clause-numbered
+returns-clause-numbered g c was =
+    numbered_given c.args.net.now c.args.labels.now (values_of c.args.pushes.now) 0 (node_count c.args.net.now) c.part_flow.new.parts.items c.deliver_parts.new.flow.items c.in_ok-deliver_parts.ensures.len
+    (parts_delivered c.args.net.now c.args.labels.now (values_of c.args.pushes.now) c.part_flow.new.parts.items c.deliver_parts.new.flow.items c.in_ok-deliver_parts.ensures.each)
+    (flow_parted (node_count c.args.net.now) c.args.phase.now.share.parts c.args.flow.now.items c.part_flow.new.parts.items c.part_flow.ensures.shares was)

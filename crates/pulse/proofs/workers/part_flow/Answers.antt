@@ -1,4 +1,4 @@
-use Rattle.std.proofs.Common.{List, subst, sym}
+use Rattle.std.proofs.Common.{List, inr, subst, sym}
 use Rattle.frame_net.specs.FlowNet.{node_count}
 use Rattle.flow_part.specs.declared.parts.FlowPart.{FlowPart}
 use Rattle.flow_part.specs.Listing.{ListActive}
@@ -8,6 +8,9 @@ use Rattle.flow_whole.proofs.StartStateLaws.{held_cut, parted_agrees}
 
 pub returns-in_ok-parts-clause-parts : goal.returns-in_ok-parts-clause-parts
 returns-in_ok-parts-clause-parts c = held_cut c.args.net.now _ _ c.in_ok-parts.field-0.items c.in_ok-parts.ensures.holds
+
+pub returns-in_ok-parts-clause-shares : goal.returns-in_ok-parts-clause-shares
+returns-in_ok-parts-clause-shares c = inr c.in_ok-parts.ensures.shares
 
 pub returns-in_ok-parts-clause-agree : goal.returns-in_ok-parts-clause-agree
 returns-in_ok-parts-clause-agree c =

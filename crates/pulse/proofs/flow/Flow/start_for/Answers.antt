@@ -1,4 +1,7 @@
 use Rattle.std.proofs.Common.{arith}
+use Rattle.std.proofs.lemmas.Bool.{false≢true}
+use Rattle.frame_net.specs.FlowNet.{node_count}
+use Rattle.flow_whole.proofs.NumberLaws.{flow_numbered}
 use Rattle.pulse.proofs.flow.Flow.start_for.Goals as goal
 use Rattle.pulse.proofs.TurnLaws.{started_flow}
 
@@ -7,3 +10,9 @@ returns c =
     started_flow c.args.net.now c.in_ok-parts.parts.items c.in_ok-labels.labels.items c.in_ok-delivered.delivered.items c.in_ok-caps.caps.items c.nodes-nodes.ensures.network c.arcs-arcs.ensures.startable c.in_ok-parts.ensures.starts
     c.in_ok-labels.ensures.len c.in_ok-labels.ensures.each (omega (arith, c.in_ok-delivered.ensures.len, c.nodes-nodes.ensures.count))
     (λ v h. c.in_ok-delivered.ensures.none v (omega (arith, h, c.in_ok-delivered.ensures.len, c.nodes-nodes.ensures.count))) c.in_ok-caps.ensures.len c.in_ok-caps.ensures.each
+
+pub invariant_of-result : goal.invariant_of-result
+invariant_of-result c = record {
+  lists = λ on. absurd (false≢true on);
+  numbered = λ free. flow_numbered (node_count c.args.net.now) c.args.workers c.in_ok-parts.parts.items c.in_ok-parts.ensures.shares;
+}

@@ -1,5 +1,6 @@
 use Rattle.std.proofs.Common.{arith, subst}
 use Rattle.std.specs.Vec.{with_items}
+use Rattle.std.proofs.lemmas.Bool.{false≢true}
 use Rattle.std.proofs.lemmas.List.{with_items_is}
 use Rattle.pulse.specs.Values.{FlowState, flow_state}
 use Rattle.pulse.specs.Phases.{Turns}
@@ -20,3 +21,6 @@ returns c =
     (flow_unspent c.args.self.now c.self.inside.parts.items c.self.inside.labels.items c.self.inside.delivered.items c.self.inside.caps.items c.self.inside.spent c.self.view_is c.requires.unspent)
     c.as_slice.ensures.value c.as_mut_slice.ensures.value (with_items_is c.self.inside.labels c.turn.new.labels (omega arith)) (with_items_is c.self.inside.delivered c.unmark.new.delivered (omega arith))
     (omega arith) c.turn.ensures (omega arith) c.unmark.ensures)
+
+pub invariant_of-self : goal.invariant_of-self
+invariant_of-self c = record { lists = λ on. absurd (false≢true on); numbered = λ free. c.self.invariant.numbered free }
