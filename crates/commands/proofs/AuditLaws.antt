@@ -1,5 +1,5 @@
 -- What is printed of an audit, by how the run ends.
-use Rattle.std.proofs.Common.{◌≡◌, true, false, IfOk, List, Result, Ok, Err, subst}
+use Rattle.std.proofs.Common.{◌≡◌, Bool, true, false, IfOk, List, Result, Ok, Err, sym, subst}
 use Rattle.counted_io.specs.Output.{Output}
 use Rattle.certificates.specs.declared.certificate.Certificate.{Certificate}
 use Rattle.certificate_audits.specs.declared.outcome.Audit.{Audit}
@@ -36,19 +36,26 @@ object_of_audit : (blocks : List Certificate) (audit : Audit) (old new : Output)
 object_of_audit blocks audit old new (Ok ended) p = record { prints = p.1; ends = p.0 }
 object_of_audit blocks audit old new (Err failure) p = tt
 
-pub ends_with_object : (blocks : List Certificate) (audit : Audit) (outcome : Outcome) (old new : Output) (result : Result Outcome Failure)
-    → outcome ≡ outcome_of_end audit.end → EndsWithObject blocks audit outcome old new result → IfOk result (EndsWithAudit true blocks audit old new)
-ends_with_object blocks audit outcome old new result is p = object_of_audit blocks audit old new result (by_end blocks audit outcome old new result is p)
+pub ends_with_object : (json : Bool) (blocks : List Certificate) (audit : Audit) (outcome : Outcome) (old new : Output) (result : Result Outcome Failure)
+    → json ≡ true → outcome ≡ outcome_of_end audit.end → EndsWithObject blocks audit outcome old new result → IfOk result (EndsWithAudit json blocks audit old new)
+ends_with_object json blocks audit outcome old new result asked is p =
+    subst (λ (j : Bool). IfOk result (EndsWithAudit j blocks audit old new)) (sym asked)
+    (object_of_audit blocks audit old new result (by_end blocks audit outcome old new result is p))
 
 pub audit_object_prints : (blocks : List Certificate) (audit : Audit) (outcome : Outcome) (old new : Output) (result : Result Outcome Failure)
     → outcome ≡ outcome_of_end audit.end → EndsWithObject blocks audit outcome old new result → Prints (ending result) old new
 audit_object_prints blocks audit outcome old new result is p =
     object_prints (outcome_of_end audit.end) (audit_data blocks audit (status_of (outcome_of_end audit.end))) old new result (λ written. audit_may_be_printed audit.end old new) (by_end blocks audit outcome old new result is p)
 
-pub ends_with_lines : (blocks : List Certificate) (audit : Audit) (old new : Output) (result : Result Outcome Failure)
+lines_of_audit : (blocks : List Certificate) (audit : Audit) (old new : Output) (result : Result Outcome Failure)
     → EndsPrinting (outcome_of_end audit.end) (audit_text blocks audit) old new result → IfOk result (EndsWithAudit false blocks audit old new)
-ends_with_lines blocks audit old new (Ok ended) p = record { prints = p.1; ends = p.0 }
-ends_with_lines blocks audit old new (Err failure) p = tt
+lines_of_audit blocks audit old new (Ok ended) p = record { prints = p.1; ends = p.0 }
+lines_of_audit blocks audit old new (Err failure) p = tt
+
+pub ends_with_lines : (json : Bool) (blocks : List Certificate) (audit : Audit) (old new : Output) (result : Result Outcome Failure)
+    → json ≡ false → EndsPrinting (outcome_of_end audit.end) (audit_text blocks audit) old new result → IfOk result (EndsWithAudit json blocks audit old new)
+ends_with_lines json blocks audit old new result unasked p =
+    subst (λ (j : Bool). IfOk result (EndsWithAudit j blocks audit old new)) (sym unasked) (lines_of_audit blocks audit old new result p)
 
 pub audit_prints : (blocks : List Certificate) (audit : Audit) (old new : Output) (result : Result Outcome Failure)
     → EndsPrinting (outcome_of_end audit.end) (audit_text blocks audit) old new result → Prints (ending result) old new
