@@ -27,13 +27,13 @@ EndsBy (Err printing.Device) outcome result = (name : Bor (List ℕ)) × (result
 
 -- nothing was printed where there was no room for the text, and else a beginning of it, and standard output has failed
 abbrev pub FailsPrintingObject : Data → Output → Output → Failure → Type 0
-FailsPrintingObject object old new failure =
-    ((outcome_of failure ≡ Memory) × (new ≡ old)) ⊎ ((outcome_of failure ≡ Device) × WritesPart old new (json_line object))
+FailsPrintingObject value old new failure =
+    ((outcome_of failure ≡ Memory) × (new ≡ old)) ⊎ ((outcome_of failure ≡ Device) × WritesPart old new (json_line value))
 
 -- all of the object is printed on a line and the run ends so, or the command failed
 abbrev pub EndsPrintingObject : Outcome → Data → Output → Output → Result Outcome Failure → Type 0
-EndsPrintingObject outcome object old new result =
-    MatchResult result (λ ended. (ended ≡ outcome) × WritesAll old new (json_line object)) (FailsPrintingObject object old new)
+EndsPrintingObject outcome value old new result =
+    MatchResult result (λ ended. (ended ≡ outcome) × WritesAll old new (json_line value)) (FailsPrintingObject value old new)
 
 -- how comparing two circuits ends
 abbrev pub outcome_of_difference : Option Place → Outcome

@@ -1,2 +1,4 @@
 pub mod PrintingLaws
+pub mod FindingLaws
+pub mod AuditLaws
 pub mod PipeLaws

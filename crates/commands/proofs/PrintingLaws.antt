@@ -1,5 +1,5 @@
 -- What a command prints, by how it ends.
-use Rattle.std.proofs.Common.{◌≡◌, inl, inr, Result, Ok, Err, refl, sym, subst}
+use Rattle.std.proofs.Common.{ℕ, ◌≡◌, inl, inr, List, Result, Ok, Err, refl, sym, subst}
 use Rattle.counted_io.specs.Output.{Output, WritesAll}
 use Rattle.serde_json.specs.Data.{Data}
 use Rattle.json_reports.specs.Lines.{json_line}
@@ -9,7 +9,7 @@ use Rattle.circuit_files.specs.declared.outcome.Outcome.TheVariants.{Device}
 use Rattle.circuit_files.specs.declared.outcome.Failure.{Failure}
 use Rattle.circuit_files.specs.declared.outcome.Failure.TheVariants as fails
 use Rattle.command_objects.specs.Objects.{EndsPrintingObject, FailsPrintingObject}
-use Rattle.commands.specs.Printing.{Prints, ending}
+use Rattle.commands.specs.Printing.{EndsPrinting, Prints, ending}
 
 -- one that failed, and gave standard output nothing
 pub failing : (f : Failure) (s : Output) → Prints (outcome_of f) s s
@@ -30,15 +30,21 @@ failing_after f old new same = subst (λ (s : Output). Prints (outcome_of f) old
 pub of_device : (f : Failure) (old new : Output) → outcome_of f ≡ Device → Prints (outcome_of f) old new
 of_device f old new is = subst (λ (e : Outcome). Prints e old new) (sym is) tt
 
-pub failing_object : (f : Failure) (object : Data) (old new : Output) → FailsPrintingObject object old new f → Prints (outcome_of f) old new
-failing_object f object old new (inl memory) = subst (λ (e : Outcome). Prints e old new) (sym memory.0) memory.1
-failing_object f object old new (inr device) = of_device f old new device.0
+pub failing_object : (f : Failure) (value : Data) (old new : Output) → FailsPrintingObject value old new f → Prints (outcome_of f) old new
+failing_object f value old new (inl memory) = subst (λ (e : Outcome). Prints e old new) (sym memory.0) memory.1
+failing_object f value old new (inr device) = of_device f old new device.0
 
 -- an object that may be printed by a command that ends so
-pub object_prints : (outcome : Outcome) (object : Data) (old new : Output) (result : Result Outcome Failure)
-    → (WritesAll old new (json_line object) → Prints outcome old new) → EndsPrintingObject outcome object old new result → Prints (ending result) old new
-object_prints outcome object old new (Ok ended) may p = subst (λ (e : Outcome). Prints e old new) (sym p.0) (may p.1)
-object_prints outcome object old new (Err failure) may p = failing_object failure object old new p
+pub object_prints : (outcome : Outcome) (value : Data) (old new : Output) (result : Result Outcome Failure)
+    → (WritesAll old new (json_line value) → Prints outcome old new) → EndsPrintingObject outcome value old new result → Prints (ending result) old new
+object_prints outcome value old new (Ok ended) may p = subst (λ (e : Outcome). Prints e old new) (sym p.0) (may p.1)
+object_prints outcome value old new (Err failure) may p = failing_object failure value old new p
+
+-- lines that may be printed by a command that ends so
+pub lines_print : (outcome : Outcome) (text : List ℕ) (old new : Output) (result : Result Outcome Failure)
+    → (WritesAll old new text → Prints outcome old new) → EndsPrinting outcome text old new result → Prints (ending result) old new
+lines_print outcome text old new (Ok ended) may p = subst (λ (e : Outcome). Prints e old new) (sym p.0) (may p.1)
+lines_print outcome text old new (Err failure) may p = of_device failure old new p.0
 
 -- what was printed to standard output after nothing else
 pub prints_after : (o : Outcome) (old mid new : Output) → mid ≡ old → Prints o mid new → Prints o old new

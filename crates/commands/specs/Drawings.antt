@@ -1,5 +1,5 @@
 -- What a picture shows.
-use Rattle.std.specs.Prelude.{ℕ, Bool, Option, Some, None}
+use Rattle.std.specs.Prelude.{ℕ, Bool, Some, None}
 use Rattle.aig_graph.specs.Circuits.{Netlist}
 use Rattle.pictures.specs.Looks.{everything}
 use Rattle.pictures.specs.Near.{is_near}

@@ -1,3 +1,4 @@
 pub mod BatchLaws
 pub mod EndLaws
+pub mod ObjectLaws
 pub mod RunLaws

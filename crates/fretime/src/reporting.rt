@@ -23,6 +23,21 @@ pub fn report_failure<E: CountedWrite>(failure: Failure<'_>, err: &mut E) -> Out
     failure.outcome()
 }
 
+/// Prints why this command failed as an object of JSON, where that is asked for. A failed write changes nothing.
+fn print_failure_as<O: CountedWrite>(
+    alloc: Global,
+    command: &str,
+    failure: Failure<'_>,
+    json: bool,
+    out: &mut O,
+)
+    ensures { PrintsFailure json (outcome_of failure.entry) (O.output out.old) (O.output out.new) }
+{
+    if json {
+        print_failure(alloc, command, failure, out);
+    }
+}
+
 /// Reports a failure of this command on one line, and prints it as an object of JSON where that is asked for; returns how the run
 /// ends. A failed write changes nothing.
 pub fn report_failure_as<O: CountedWrite, E: CountedWrite>(
@@ -37,9 +52,7 @@ pub fn report_failure_as<O: CountedWrite, E: CountedWrite>(
     ensures prints { PrintsFailure json (outcome_of failure.entry) (O.output out.old)
         (O.output out.new) }
 {
-    if json {
-        print_failure(alloc, command, failure, out);
-    }
+    print_failure_as(alloc, command, failure, json, out);
     report_failure(failure, err)
 }
 

@@ -1,5 +1,7 @@
+use Rattle.json_reports.specs.Retimings.{retiming_data}
 use Rattle.command_objects.proofs.EndingLaws.{object_ends}
 use Rattle.command_objects.proofs.findings.print_retiming.Goals as goal
 
 pub returns : goal.returns
-returns g c = object_ends c.print_retiming-printed.result _ _ _ _ _ c.ended.ensures c.print_retiming-printed.ensures
+returns g c =
+    object_ends c.print_retiming-printed.result _ (retiming_data c.args.retimed.now) _ _ _ c.ended.ensures c.print_retiming-printed.ensures

@@ -1,4 +1,4 @@
-use Rattle.fretime.proofs.EndLaws.{of_failure, of_files, of_late_failure}
+use Rattle.fretime.proofs.EndLaws.{of_files}
 use Rattle.fretime.proofs.batch.retime_entries.Goals as goal
 
 pub returns-in-Ok-finish : goal.returns-in-Ok-finish

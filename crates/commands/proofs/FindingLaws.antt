@@ -1,0 +1,30 @@
+-- What is printed of two circuits that were compared, by how the run ends.
+use Rattle.std.proofs.Common.{inl, inr, Result}
+use Rattle.counted_io.specs.Output.{Output, WritesAll}
+use Rattle.json_reports.specs.Lines.{json_line}
+use Rattle.circuit_files.specs.declared.outcome.Outcome.{Outcome}
+use Rattle.circuit_files.specs.declared.outcome.Failure.{Failure}
+use Rattle.command_objects.specs.Objects.{EndsPrintingObject}
+use Rattle.commands.specs.Comparing.{finding_object, finding_text, outcome_of_finding}
+use Rattle.commands.specs.Printing.{EndsPrinting, Prints, ending}
+use Rattle.commands.specs.declared.comparison.Finding.{Finding}
+use Rattle.commands.specs.declared.comparison.Finding.TheVariants.{Same, Differ, ShapesDiffer}
+use Rattle.commands.proofs.PrintingLaws.{lines_print, object_prints}
+
+line_may_be_printed : (f : Finding) (old new : Output) → WritesAll old new (finding_text f) → Prints (outcome_of_finding f) old new
+line_may_be_printed Same old new written = tt
+line_may_be_printed (Differ place) old new written = tt
+line_may_be_printed ShapesDiffer old new written = inl written
+
+object_may_be_printed : (f : Finding) (old new : Output) → WritesAll old new (json_line (finding_object f)) → Prints (outcome_of_finding f) old new
+object_may_be_printed Same old new written = tt
+object_may_be_printed (Differ place) old new written = tt
+object_may_be_printed ShapesDiffer old new written = inr written
+
+pub finding_prints : (f : Finding) (old new : Output) (result : Result Outcome Failure)
+    → EndsPrinting (outcome_of_finding f) (finding_text f) old new result → Prints (ending result) old new
+finding_prints f old new result p = lines_print (outcome_of_finding f) (finding_text f) old new result (line_may_be_printed f old new) p
+
+pub finding_object_prints : (f : Finding) (old new : Output) (result : Result Outcome Failure)
+    → EndsPrintingObject (outcome_of_finding f) (finding_object f) old new result → Prints (ending result) old new
+finding_object_prints f old new result p = object_prints (outcome_of_finding f) (finding_object f) old new result (object_may_be_printed f old new) p
