@@ -35,13 +35,17 @@ fn has_rows(net: &Net, starts: &[u32]) -> bool {
 /// Whether the gate alone is passable.
 fn passes_gate(alloc: Global, circuit: &Circuit) -> Result<bool, NoMemory> {
     let pass: PassSet = passable(alloc, circuit.aig(), &Keep::none())?;
-    Ok(pass.has(5) && !pass.has(4) && pass.count() == 1)
+    let passes = pass.has(5) && !pass.has(4) && pass.count() == 1;
+    drop(pass);
+    Ok(passes)
 }
 
 #[test]
 fn tells_passable_gates(rt: HostRuntime) -> Result<(), Fail> {
     let circuit = read_aag(rt.alloc(), TWO_LATCHES)?;
-    assert!(rt; passes_gate(rt.alloc(), &circuit)?);
+    let holds = passes_gate(rt.alloc(), &circuit);
+    drop(circuit);
+    assert!(rt; holds?);
     Ok(())
 }
 
@@ -71,6 +75,8 @@ fn builds_the_rows(rt: HostRuntime) -> Result<(), Fail> {
         var: 5,
         behind: false,
     };
-    assert!(rt; has_rows(&net, &[0, 2, 3, 5, 7, 10]) && fourth_point(&net) == Some(before));
+    let holds = has_rows(&net, &[0, 2, 3, 5, 7, 10]) && fourth_point(&net) == Some(before);
+    drop(net);
+    assert!(rt; holds);
     Ok(())
 }

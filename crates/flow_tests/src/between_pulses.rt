@@ -48,6 +48,8 @@ fn sends_both_units(alloc: Global, net: &Net) -> Result<bool, NoMemory> {
 #[test]
 fn sends_both_units_in_the_second_pulse(rt: HostRuntime) -> Result<(), Fail> {
     let net = net_of_text(rt.alloc(), TWO_LATCHES)?;
-    assert!(rt; sends_both_units(rt.alloc(), &net)?);
+    let holds = sends_both_units(rt.alloc(), &net);
+    drop(net);
+    assert!(rt; holds?);
     Ok(())
 }

@@ -99,7 +99,9 @@ fn is_stopped_by_each(alloc: Global, file: &CertFile) -> bool {
 #[test]
 fn stops_at_each_failed_write(rt: HostRuntime) -> Result<(), Fail> {
     let file = read_cert(rt.alloc(), SECOND_VERSION)?;
-    assert!(rt; is_stopped_by_each(rt.alloc(), &file));
+    let holds = is_stopped_by_each(rt.alloc(), &file);
+    drop(file);
+    assert!(rt; holds);
     Ok(())
 }
 

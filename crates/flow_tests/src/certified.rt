@@ -25,7 +25,9 @@ fn is_one_route(alloc: Global, net: &Net, preflow: &MaxPreflow) -> Result<bool, 
     requires { IsMaxPreflow net.now preflow.now }
 {
     let found = routes(alloc, net, preflow)?;
-    Ok(is_one_of_three(&found))
+    let one = is_one_of_three(&found);
+    drop(found);
+    Ok(one)
 }
 
 /// Whether the certificate passes all tests.
@@ -40,8 +42,9 @@ fn is_certified(
     requires preflow { IsMaxPreflow net.now preflow.now }
 {
     let made = certificate(alloc, circuit, keep, net, preflow)?;
-    let verdict = check(alloc, circuit, &made, keep)?;
-    Ok(verdict == Verdict::Yes)
+    let verdict = check(alloc, circuit, &made, keep);
+    drop(made);
+    Ok(verdict? == Verdict::Yes)
 }
 
 fn one_route_at_end<R: Threads + Sync>(
@@ -50,7 +53,9 @@ fn one_route_at_end<R: Threads + Sync>(
     net: &Net,
 ) -> Result<bool, PulseError> {
     let end = run_to_end(rt, alloc, net, &Crew::new(1, OpenGate))?;
-    Ok(is_one_route(alloc, net, &end)?)
+    let one = is_one_route(alloc, net, &end);
+    drop(end);
+    Ok(one?)
 }
 
 fn certified_at_end<R: Threads + Sync>(
@@ -63,7 +68,9 @@ fn certified_at_end<R: Threads + Sync>(
     requires { IsNetworkOf circuit.now keep.now net.now }
 {
     let end = run_to_end(rt, alloc, net, &Crew::new(1, OpenGate))?;
-    Ok(is_certified(alloc, circuit, keep, net, &end)?)
+    let certified = is_certified(alloc, circuit, keep, net, &end);
+    drop(end);
+    Ok(certified?)
 }
 
 fn has_certificate<R: Threads + Sync>(
@@ -73,20 +80,26 @@ fn has_certificate<R: Threads + Sync>(
 ) -> Result<bool, PulseError> {
     let keep = Keep::none();
     let net = net_of(alloc, circuit, &keep)?;
-    certified_at_end(rt, alloc, circuit, &keep, &net)
+    let certified = certified_at_end(rt, alloc, circuit, &keep, &net);
+    drop(net);
+    certified
 }
 
 #[test]
 fn one_route_goes_over_the_gate(rt: HostRuntime) -> Result<(), Fail> {
     let net = net_of_text(rt.alloc(), TWO_LATCHES)?;
-    assert!(rt; one_route_at_end(&rt, rt.alloc(), &net)?);
+    let holds = one_route_at_end(&rt, rt.alloc(), &net);
+    drop(net);
+    assert!(rt; holds?);
     Ok(())
 }
 
 #[test]
 fn the_certificate_passes(rt: HostRuntime) -> Result<(), Fail> {
     let circuit = read_aag(rt.alloc(), TWO_LATCHES)?;
-    assert!(rt; has_certificate(&rt, rt.alloc(), &circuit)?);
+    let holds = has_certificate(&rt, rt.alloc(), &circuit);
+    drop(circuit);
+    assert!(rt; holds?);
     Ok(())
 }
 
@@ -129,7 +142,9 @@ fn verdict_of(
     routes: &[&[(u32, bool)]],
 ) -> Result<Verdict, NoMemory> {
     let certificate = stated(alloc, count, gates, routes)?;
-    check(alloc, circuit, &certificate, &Keep::none())
+    let verdict = check(alloc, circuit, &certificate, &Keep::none());
+    drop(certificate);
+    verdict
 }
 
 /// Routes from each latch over the gate, and the first of them without its end.
@@ -156,7 +171,9 @@ fn are_judged(alloc: Global, circuit: &Circuit) -> Result<bool, NoMemory> {
 #[test]
 fn judges_certificates(rt: HostRuntime) -> Result<(), Fail> {
     let circuit = read_aag(rt.alloc(), TWO_LATCHES)?;
-    assert!(rt; are_judged(rt.alloc(), &circuit)?);
+    let holds = are_judged(rt.alloc(), &circuit);
+    drop(circuit);
+    assert!(rt; holds?);
     Ok(())
 }
 

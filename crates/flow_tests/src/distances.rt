@@ -25,6 +25,8 @@ fn starts_with(alloc: Global, net: &Net, distances: &[u32]) -> Result<bool, Allo
 #[test]
 fn finds_the_distances_at_the_start(rt: HostRuntime) -> Result<(), Fail> {
     let net = net_of_text(rt.alloc(), TWO_LATCHES)?;
-    assert!(rt; starts_with(rt.alloc(), &net, &[6, 0, 3, 3, 2, 1])?);
+    let holds = starts_with(rt.alloc(), &net, &[6, 0, 3, 3, 2, 1]);
+    drop(net);
+    assert!(rt; holds?);
     Ok(())
 }

@@ -21,14 +21,20 @@ fn nearest<R: Threads + Sync>(rt: &R, alloc: Global, net: &Net) -> Result<Closed
     Ok(set)
 }
 
+/// Whether the set has these gates.
+fn is_set(set: &ClosedSet, gates: &[u32]) -> bool {
+    set.vars() == gates
+}
+
 fn is_smallest_first_gate<R: Threads + Sync>(
     rt: &R,
     alloc: Global,
     circuit: &Circuit,
 ) -> Result<bool, PulseError> {
     let net = net_of(alloc, circuit, &Keep::none())?;
-    let set = nearest(rt, alloc, &net)?;
-    Ok(set.vars() == [7].as_slice())
+    let set = nearest(rt, alloc, &net);
+    drop(net);
+    Ok(is_set(&set?, &[7]))
 }
 
 fn is_greatest_both<R: Threads + Sync>(
@@ -38,19 +44,23 @@ fn is_greatest_both<R: Threads + Sync>(
 ) -> Result<bool, PulseError> {
     let crew = Crew::new(1, OpenGate);
     let set = greatest_least(rt, alloc, circuit, &Keep::none(), &crew)?;
-    Ok(set.vars() == [7, 8].as_slice())
+    Ok(is_set(&set, &[7, 8]))
 }
 
 #[test]
 fn smallest_has_the_first_gate(rt: HostRuntime) -> Result<(), Fail> {
     let circuit = read_aag(rt.alloc(), TWO_LEAST_SETS)?;
-    assert!(rt; is_smallest_first_gate(&rt, rt.alloc(), &circuit)?);
+    let holds = is_smallest_first_gate(&rt, rt.alloc(), &circuit);
+    drop(circuit);
+    assert!(rt; holds?);
     Ok(())
 }
 
 #[test]
 fn greatest_has_both_gates(rt: HostRuntime) -> Result<(), Fail> {
     let circuit = read_aag(rt.alloc(), TWO_LEAST_SETS)?;
-    assert!(rt; is_greatest_both(&rt, rt.alloc(), &circuit)?);
+    let holds = is_greatest_both(&rt, rt.alloc(), &circuit);
+    drop(circuit);
+    assert!(rt; holds?);
     Ok(())
 }

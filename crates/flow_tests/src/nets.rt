@@ -30,5 +30,7 @@ pub(crate) fn net_of(alloc: Global, circuit: &Circuit, keep: &Keep) -> Result<Ne
 /// The network of a circuit that is read, no latch held.
 pub(crate) fn net_of_text(alloc: Global, text: &[u8]) -> Result<Net, Fail> {
     let circuit = read_aag(alloc, text)?;
-    Ok(net_of(alloc, &circuit, &Keep::none())?)
+    let net = net_of(alloc, &circuit, &Keep::none());
+    drop(circuit);
+    Ok(net?)
 }

@@ -91,6 +91,8 @@ fn each_crew_passes<R: Threads + Sync>(
 #[test]
 fn passes_and_leaves_each_phase_once(rt: HostRuntime) -> Result<(), Fail> {
     let net = net_of_text(rt.alloc(), TWO_LATCHES)?;
-    assert!(rt; each_crew_passes(&rt, rt.alloc(), &net)?);
+    let holds = each_crew_passes(&rt, rt.alloc(), &net);
+    drop(net);
+    assert!(rt; holds?);
     Ok(())
 }

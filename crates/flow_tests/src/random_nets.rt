@@ -155,7 +155,9 @@ fn run_ends_at<R: Threads + Sync>(
     residuals: &[u32],
 ) -> Result<bool, PulseError> {
     let end = run_to_end(rt, alloc, net, &Crew::new(2, OpenGate))?;
-    Ok(ends_at(alloc, net, &end, value, residuals)?)
+    let ends = ends_at(alloc, net, &end, value, residuals);
+    drop(end);
+    Ok(ends?)
 }
 
 /// Whether the run with global relabeling does.
@@ -167,7 +169,9 @@ fn fast_run_ends_at<R: Threads + Sync>(
     residuals: &[u32],
 ) -> Result<bool, PulseError> {
     let end = run_with_global_relabeling(rt, alloc, net, &Crew::new(2, OpenGate))?;
-    Ok(ends_at(alloc, net, &end, value, residuals)?)
+    let ends = ends_at(alloc, net, &end, value, residuals);
+    drop(end);
+    Ok(ends?)
 }
 
 /// Whether both runs end as augmenting paths do.
@@ -186,8 +190,12 @@ fn next_ends_alike<R: Threads + Sync>(
     draws: &mut Draws,
 ) -> Result<bool, Fail> {
     let Drawn { aig, outputs } = draw_graph(alloc, draws)?;
-    let net = net_of_graph(alloc, &aig, outputs)?;
-    Ok(both_end_alike(rt, alloc, &net)?)
+    let net = net_of_graph(alloc, &aig, outputs);
+    drop(aig);
+    let net = net?;
+    let alike = both_end_alike(rt, alloc, &net);
+    drop(net);
+    Ok(alike?)
 }
 
 /// Whether they do on twenty networks.

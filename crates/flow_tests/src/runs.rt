@@ -27,7 +27,9 @@ fn ends_as_worked<R: Threads + Sync>(
     crew: &Crew<OpenGate>,
 ) -> Result<bool, PulseError> {
     let end = run_to_end(rt, alloc, net, crew)?;
-    Ok(end.pulses() == 6 && has_labels(net, &end, &[6, 0, 6, 6, 6, 1]))
+    let as_worked = end.pulses() == 6 && has_labels(net, &end, &[6, 0, 6, 6, 6, 1]);
+    drop(end);
+    Ok(as_worked)
 }
 
 /// Whether a run with global relabeling leaves the same labels. Both units of excess go to the gate; one goes on to the sink, the other
@@ -39,19 +41,25 @@ fn relabels_as_worked<R: Threads + Sync>(
     crew: &Crew<OpenGate>,
 ) -> Result<bool, PulseError> {
     let end = run_with_global_relabeling(rt, alloc, net, crew)?;
-    Ok(end.pulses() == 3 && has_labels(net, &end, &[6, 0, 6, 6, 6, 1]))
+    let as_worked = end.pulses() == 3 && has_labels(net, &end, &[6, 0, 6, 6, 6, 1]);
+    drop(end);
+    Ok(as_worked)
 }
 
 #[test]
 fn runs_with_global_relabeling(rt: HostRuntime) -> Result<(), Fail> {
     let net = net_of_text(rt.alloc(), TWO_LATCHES)?;
-    assert!(rt; relabels_as_worked(&rt, rt.alloc(), &net, &Crew::new(2, OpenGate))?);
+    let holds = relabels_as_worked(&rt, rt.alloc(), &net, &Crew::new(2, OpenGate));
+    drop(net);
+    assert!(rt; holds?);
     Ok(())
 }
 
 #[test]
 fn runs_to_the_end_in_six_pulses(rt: HostRuntime) -> Result<(), Fail> {
     let net = net_of_text(rt.alloc(), TWO_LATCHES)?;
-    assert!(rt; ends_as_worked(&rt, rt.alloc(), &net, &Crew::new(2, OpenGate))?);
+    let holds = ends_as_worked(&rt, rt.alloc(), &net, &Crew::new(2, OpenGate));
+    drop(net);
+    assert!(rt; holds?);
     Ok(())
 }

@@ -45,17 +45,30 @@ fn walks_as_worked<R: Threads + Sync>(
     let mut flow = Flow::start(alloc, net)?;
     let mut pushes = Pushes::new(alloc, net)?;
     for active in &ACTIVE {
-        let walked = walked_in_pulse(rt, alloc, net, &mut flow, &mut pushes, crew)?;
-        if walked != *active {
-            return Ok(false);
+        match walked_in_pulse(rt, alloc, net, &mut flow, &mut pushes, crew) {
+            Ok(walked) if walked == *active => {}
+            Ok(_) => {
+                drop(flow);
+                drop(pushes);
+                return Ok(false);
+            }
+            Err(error) => {
+                drop(flow);
+                drop(pushes);
+                return Err(error);
+            }
         }
     }
+    drop(flow);
+    drop(pushes);
     Ok(true)
 }
 
 #[test]
 fn walks_the_rows_of_active_nodes(rt: HostRuntime) -> Result<(), Fail> {
     let net = net_of_text(rt.alloc(), TWO_LATCHES)?;
-    assert!(rt; walks_as_worked(&rt, rt.alloc(), &net, &Crew::new(2, OpenGate))?);
+    let holds = walks_as_worked(&rt, rt.alloc(), &net, &Crew::new(2, OpenGate));
+    drop(net);
+    assert!(rt; holds?);
     Ok(())
 }

@@ -32,7 +32,9 @@ fn value_along<R: Threads + Sync>(
     let mut wishes = vec![in alloc; units; count]?;
     let crew = Crew::new(2, OpenGate);
     let end = run_along_wishes(rt, alloc, net, &crew, wishes.as_mut_slice())?;
-    Ok(value_of(net, &end))
+    let value = value_of(net, &end);
+    drop(end);
+    Ok(value)
 }
 
 /// Whether one unit flows, with too few wishes, with wishes of one unit, and with wishes of 2^32 - 1.
@@ -46,6 +48,8 @@ fn one_unit_flows<R: Threads + Sync>(rt: &R, alloc: Global, net: &Net) -> Result
 #[test]
 fn ends_with_a_maximum_whatever_is_wished(rt: HostRuntime) -> Result<(), Fail> {
     let net = net_of_text(rt.alloc(), TWO_LATCHES)?;
-    assert!(rt; one_unit_flows(&rt, rt.alloc(), &net)?);
+    let holds = one_unit_flows(&rt, rt.alloc(), &net);
+    drop(net);
+    assert!(rt; holds?);
     Ok(())
 }

@@ -112,10 +112,17 @@ fn follows_states<R: Threads + Sync>(
     let mut flow = Flow::start(alloc, net)?;
     let mut pushes = Pushes::new(alloc, net)?;
     for state in &STATES {
-        if !pulses_from(rt, alloc, net, &mut flow, &mut pushes, crew, state)? {
-            return Ok(false);
+        match pulses_from(rt, alloc, net, &mut flow, &mut pushes, crew, state) {
+            Ok(true) => {}
+            ended => {
+                drop(flow);
+                drop(pushes);
+                return ended;
+            }
         }
     }
+    drop(flow);
+    drop(pushes);
     Ok(true)
 }
 
@@ -137,7 +144,9 @@ fn all_follow_states<R: Threads + Sync>(
 #[test]
 fn follows_the_worked_states_by_every_crew(rt: HostRuntime) -> Result<(), Fail> {
     let net = net_of_text(rt.alloc(), TWO_LATCHES)?;
-    assert!(rt; all_follow_states(&rt, rt.alloc(), &net)?);
+    let holds = all_follow_states(&rt, rt.alloc(), &net);
+    drop(net);
+    assert!(rt; holds?);
     Ok(())
 }
 
@@ -172,9 +181,16 @@ fn is_at_after_eleven<R: Threads + Sync>(
     let mut flow = Flow::start(alloc, net)?;
     let mut pushes = Pushes::new(alloc, net)?;
     for _ in 0..11u32 {
-        pulse(rt, alloc, net, &mut flow, &mut pushes, crew)?;
+        if let Err(error) = pulse(rt, alloc, net, &mut flow, &mut pushes, crew) {
+            drop(flow);
+            drop(pushes);
+            return Err(error);
+        }
     }
-    pulses_from(rt, alloc, net, &mut flow, &mut pushes, crew, &AFTER_ELEVEN)
+    let is_at = pulses_from(rt, alloc, net, &mut flow, &mut pushes, crew, &AFTER_ELEVEN);
+    drop(flow);
+    drop(pushes);
+    is_at
 }
 
 /// Whether it is after eleven pulses of every crew.
@@ -195,7 +211,9 @@ fn all_are_at_after_eleven<R: Threads + Sync>(
 #[test]
 fn relabels_over_the_arcs_after_delivery_by_every_crew(rt: HostRuntime) -> Result<(), Fail> {
     let net = net_of_text(rt.alloc(), FOUR_LATCHES)?;
-    assert!(rt; all_are_at_after_eleven(&rt, rt.alloc(), &net)?);
+    let holds = all_are_at_after_eleven(&rt, rt.alloc(), &net);
+    drop(net);
+    assert!(rt; holds?);
     Ok(())
 }
 
@@ -221,16 +239,22 @@ fn follows_states_by_ranges(alloc: Global, net: &Net) -> Result<bool, NoMemory> 
     let mut pushes = Pushes::new(alloc, net)?;
     for state in &STATES {
         if !is_at(net, &flow, state) {
+            drop(flow);
+            drop(pushes);
             return Ok(false);
         }
         pulse_by_ranges(net, &mut flow, &mut pushes);
     }
+    drop(flow);
+    drop(pushes);
     Ok(true)
 }
 
 #[test]
 fn follows_the_worked_states_by_ranges(rt: HostRuntime) -> Result<(), Fail> {
     let net = net_of_text(rt.alloc(), TWO_LATCHES)?;
-    assert!(rt; follows_states_by_ranges(rt.alloc(), &net)?);
+    let holds = follows_states_by_ranges(rt.alloc(), &net);
+    drop(net);
+    assert!(rt; holds?);
     Ok(())
 }
