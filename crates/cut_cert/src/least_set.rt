@@ -50,7 +50,7 @@ fn maximum_preflow<G: PhaseGate>(
     alloc: Global,
     net: &Net,
     crew: &Crew<G>,
-    wishes: &mut [u32],
+    wishes: Vec<u32>,
 ) -> Result<MaxPreflow, NoMemory>
     ensures { IfOk result (IsMaxPreflow net.now) }
 {
@@ -92,8 +92,8 @@ pub fn preflow_along<G: PhaseGate>(
 ) -> Result<MaxPreflow, NoMemory>
     ensures { IfOk result (IsMaxPreflow net.now) }
 {
-    let mut wished = wishes(alloc, net, circuit.aig(), flows.as_slice())?;
-    let preflow = maximum_preflow(rt, alloc, net, crew, wished.as_mut_slice())?;
+    let wished = wishes(alloc, net, circuit.aig(), flows.as_slice())?;
+    let preflow = maximum_preflow(rt, alloc, net, crew, wished)?;
     note(alloc, circuit, net, &preflow, flows);
     Ok(preflow)
 }

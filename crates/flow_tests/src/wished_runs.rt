@@ -29,9 +29,9 @@ fn value_along<R: Threads + Sync>(
     units: u32,
     count: usize,
 ) -> Result<i64, PulseError> {
-    let mut wishes = vec![in alloc; units; count]?;
+    let wishes = vec![in alloc; units; count]?;
     let crew = Crew::new(2, OpenGate);
-    let end = run_along_wishes(rt, alloc, net, &crew, wishes.as_mut_slice())?;
+    let end = run_along_wishes(rt, alloc, net, &crew, wishes)?;
     let value = value_of(net, &end);
     drop(end);
     Ok(value)

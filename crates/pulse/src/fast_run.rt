@@ -21,6 +21,7 @@ use crate::relabel::{queue_for, relabel};
 use crate::sharing::Share;
 use crate::wishes::send_along;
 use crate::workers::part_flow;
+use aig_graph::NoMemory;
 use frame_net::Net;
 use std::alloc::Global;
 use std::thread::Threads;
@@ -52,8 +53,18 @@ pub fn run_with_global_relabeling<G: PhaseGate>(
     Ok(MaxPreflow { flow, pulses })
 }
 
+/// The flow from which a run along wishes begins. The wishes are dropped with it: a table by arc fewer while pulses are made.
+fn start_along(alloc: Global, net: &Net, mut wishes: Vec<u32>) -> Result<Flow, NoMemory>
+    ensures { IfOk result (IsBetween net.now) }
+{
+    let _nodes = net.nodes();
+    let mut flow = Flow::start_for(alloc, net, 1)?;
+    send_along(net, &mut flow, wishes.as_mut_slice());
+    Ok(flow)
+}
+
 /// The same run from another start: after the source's arcs are filled, units go along wishes. A wish is a number of units for an arc, as the
-/// flow of a network like this one that the arc had there. What is left of the wishes stays in them.
+/// flow of a network like this one that the arc had there. The wishes are dropped before the first pulse.
 ///
 /// It ends with a maximum preflow whatever is wished, after at most `2 * N * N` pulses. With a wish for each arc the start is made in one part,
 /// by the calling thread; with any other number of them nothing is sent.
@@ -62,16 +73,15 @@ pub fn run_along_wishes<G: PhaseGate>(
     alloc: Global,
     net: &Net,
     crew: &Crew<G>,
-    wishes: &mut [u32],
+    wishes: Vec<u32>,
 ) -> Result<MaxPreflow, PulseError>
     ensures greatest { IfOk result (λ m. IsMaxPreflow net.now m) }
     ensures bounded { IfOk result (λ m. m.pulses ≤ 2 * (node_count net.now * node_count net.now)) }
 {
     let _nodes = net.nodes();
     let first = Share::among(1);
-    let mut flow = Flow::start_for(alloc, net, 1)?;
+    let mut flow = start_along(alloc, net, wishes)?;
     let mut pushes = Pushes::new_for(alloc, net, 1)?;
-    send_along(net, &mut flow, wishes);
     let pulses = run(rt, alloc, net, &mut flow, &mut pushes, crew, first)?;
     Ok(MaxPreflow { flow, pulses })
 }
