@@ -8,7 +8,7 @@ use Rattle.frame_net.specs.FlowNet.{FlowNet, IsFlowNet, HasMate, node_count, sta
 use Rattle.flow_part.specs.Parts.{pair}
 use Rattle.cut_cert.specs.Fronts.{Front, is_marked, reach}
 use Rattle.cut_cert.specs.SinkWalk.{read_arc, read_arcs}
-use Rattle.cut_cert.proofs.FrontLaws.{Grows, Sweeps, Goes, reach-long, grows-self, grows-then, marked-within, no_front, sweeps-none, sweeps-few, sweeps-next, sweeps-read, reach-goes}
+use Rattle.cut_cert.proofs.FrontLaws.{Grows, Sweeps, Goes, reach-long, grows-self, grows-then, marked-within, no_front, sweeps-none, sweeps-few, sweeps-next, sweeps-read, reach-goes, reach-marked}
 
 -- ---- residuals of arcs and of pairs
 
@@ -204,3 +204,11 @@ pub arcs-step-off : (net : FlowNet) (xs : List ℕ) (w k : ℕ) (start before af
 arcs-step-off net xs w k start before after off e step =
     let next : k + 1 ≡ suc k = omega arith in
     step ∙ sym (arc-off net xs w k before off) ∙ ap (read_arc net xs w k) e ∙ sym (arcs-more net xs w k start) ∙ ap (λ (j : ℕ). read_arcs net xs w j start) (sym next)
+
+-- a head that is marked stays so, and no other is marked
+pub arcs-step-marked : (net : FlowNet) (xs : List ℕ) (w k : ℕ) (start before after : Front) → is_marked before (head net w k) ≡ true → before ≡ read_arcs net xs w k start → after ≡ before
+    → after ≡ read_arcs net xs w (k + 1) start
+arcs-step-marked net xs w k start before after marked e step = elim (cases_Bool (nat_lt 0 (slice_index xs (mate net w k)))) [
+  | inl on ↦ arcs-step-on net xs w k start before after on e (step ∙ sym (reach-marked before (head net w k) marked))
+  | inr off ↦ arcs-step-off net xs w k start before after off e step
+]

@@ -6,7 +6,7 @@ ghost use Rattle.pulse.specs.Conditions.{IsMaxPreflow};
 
 use crate::greatest::greatest_cut;
 use aig_graph::{Circuit, ClosedSet, Keep, NoMemory};
-use frame_net::{Net, passable};
+use frame_net::{Net, Tables, passable};
 use gate_flows::{GateFlow, gate_flows, wishes};
 use pulse::{Crew, MaxPreflow, PhaseGate, PulseError, run_along_wishes};
 use std::alloc::Global;
@@ -20,8 +20,24 @@ use std::thread::Threads;
 pub fn network(alloc: Global, circuit: &Circuit, keep: &Keep) -> Result<Net, NoMemory>
     ensures { IfOk result (IsNetworkOf circuit.now keep.now) }
 {
+    network_in(alloc, circuit, keep, Tables::none(alloc))
+}
+
+/// The same network, with its tables by arc in the memory of another network's.
+///
+/// # Errors
+///
+/// `NoMemory`.
+pub fn network_in(
+    alloc: Global,
+    circuit: &Circuit,
+    keep: &Keep,
+    tables: Tables,
+) -> Result<Net, NoMemory>
+    ensures { IfOk result (IsNetworkOf circuit.now keep.now) }
+{
     let pass = passable(alloc, circuit.aig(), keep)?;
-    let net = Net::build(alloc, circuit.aig(), circuit.props(), &pass, keep)?;
+    let net = Net::build_in(alloc, circuit.aig(), circuit.props(), &pass, keep, tables)?;
     // That a network has a point for each side of a gate is what its reader ensures.
     let _nodes = net.nodes();
     let _source = net.point(0);

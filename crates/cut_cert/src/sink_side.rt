@@ -33,8 +33,11 @@ fn read(net: &Net, preflow: &MaxPreflow, side: &mut Reached, w: u32) -> Result<(
     let heads = net.heads(w);
     let mates = net.mates(w);
     for k in 0..heads.len() {
-        if has_residual(preflow, mates[k]) {
-            side.reach(heads[k])?;
+        // Most nodes are marked by then, and a mark is cheaper to look at than a residual.
+        if !side.has(heads[k]) {
+            if has_residual(preflow, mates[k]) {
+                side.reach(heads[k])?;
+            }
         }
     }
     Ok(())

@@ -9,6 +9,12 @@ pub fn residual_at(parts: &[FlowPart], arc: usize) -> u32
     requires { arc < length (cells_of parts.now).residuals }
     ensures { result ≡ slice_index (cells_of parts.now).residuals arc }
 {
+    // Of one worker there is one part, so most arcs are found without a loop.
+    if let Some(first) = parts.first() {
+        if arc < first.residuals.len() {
+            return first.residuals[arc];
+        }
+    }
     let mut place = arc;
     for part in parts {
         let size = part.residuals.len();

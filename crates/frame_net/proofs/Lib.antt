@@ -3,6 +3,7 @@ pub mod EdgeLaws
 pub mod FilledLaws
 pub mod EdgeLoopLaws
 pub mod CountLaws
+pub mod JoinLaws
 pub mod RowsLaws
 pub mod NodeLaws
 pub mod LinkLaws

@@ -1,6 +1,7 @@
 pub mod FlowNet
 pub mod Passable
 pub mod Edges
+pub mod Joining
 pub mod Capacity
 pub mod Links
 pub mod Layout

@@ -6,11 +6,14 @@
 mod build;
 mod counting;
 mod edges;
+mod joining;
 mod layout;
 mod links;
 mod net;
 mod pass_set;
+mod tables;
 
 pub use layout::leaving_marks;
 pub use net::{Net, Point};
 pub use pass_set::{PassSet, passable};
+pub use tables::Tables;

@@ -6,6 +6,7 @@ ghost use Rattle.frame_net.specs.FlowNet.{node_count, start, row_len, head, mate
 use crate::build::{Rows, fill_rows};
 use crate::layout::Layout;
 use crate::pass_set::PassSet;
+use crate::tables::Tables;
 use aig_graph::{Aig, Keep, NoMemory, Props};
 use std::alloc::Global;
 use std::marker::Model;
@@ -56,13 +57,28 @@ impl Net {
         requires { IsPassSet aig.now keep.now pass.now }
         ensures { IfOk result (λ net. IsNetOf aig.now props.now keep.now net) }
     {
+        Net::build_in(alloc, aig, props, pass, keep, Tables::none(alloc))
+    }
+
+    /// The same network, with its tables by arc in the memory of another network's.
+    pub fn build_in(
+        alloc: Global,
+        aig: &Aig,
+        props: &Props,
+        pass: &PassSet,
+        keep: &Keep,
+        tables: Tables,
+    ) -> Result<Net, NoMemory>
+        requires { IsPassSet aig.now keep.now pass.now }
+        ensures { IfOk result (λ net. IsNetOf aig.now props.now keep.now net) }
+    {
         let layout = Layout::new(alloc, aig, props, pass, keep)?;
         let Rows {
             starts,
             heads,
             mates,
             caps,
-        } = fill_rows(alloc, &layout)?;
+        } = fill_rows(alloc, &layout, tables)?;
         let Layout {
             variables,
             latches,
@@ -76,6 +92,17 @@ impl Net {
             latches,
             variables,
         })
+    }
+
+    /// The memory of the tables by arc, for a network to come.
+    pub fn into_tables(self) -> Tables {
+        let Net {
+            heads,
+            mates,
+            caps,
+            ..
+        } = self;
+        Tables { heads, mates, caps }
     }
 
     /// The number of nodes, the source and the sink among them.

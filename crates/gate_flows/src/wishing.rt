@@ -48,14 +48,12 @@ fn wish_at(net: &Net, first: u32, flow: &GateFlow, wishes: &mut [u32], v: u32)
     }
 }
 
-/// The flow of the gate before which a node lies.
-fn flow_of(net: &Net, aig: &Aig, flows: &[GateFlow], v: u32) -> GateFlow
+/// The flow of the gate before which a node lies, where it is known.
+fn flow_of<'a>(net: &Net, aig: &Aig, flows: &'a [GateFlow], v: u32) -> Option<&'a GateFlow>
     requires { v < node_count net.now }
 {
-    match gate_place(net, aig, v) {
-        Some(place) => flows.get(place).copied().unwrap_or(GateFlow::unknown()),
-        None => GateFlow::none(),
-    }
+    let place = gate_place(net, aig, v)?;
+    flows.get(place)
 }
 
 /// A wish for each arc: what went over it, and a unit for each arc into the sink. Where the flow of a gate isn't known, a unit is wished
@@ -77,11 +75,12 @@ pub fn wishes(
     let first = first_before(aig);
     let mut wishes = vec![in alloc; 0u32; net.arcs()]?;
     wish_into_sink(net, wishes.as_mut_slice());
+    let unknown = GateFlow::unknown();
     for k in 0..nodes.saturating_sub(first) / 2 {
         let v = first + 2 * k;
-        let flow = flow_of(net, aig, flows, v);
+        let flow = flow_of(net, aig, flows, v).unwrap_or(&unknown);
         if !flow.is_none() {
-            wish_at(net, first, &flow, wishes.as_mut_slice(), v);
+            wish_at(net, first, flow, wishes.as_mut_slice(), v);
         }
     }
     Ok(wishes)

@@ -80,36 +80,8 @@ fn wished_place(
     None
 }
 
-/// The first such place whose arc leads to the sink, or to a node from which a unit can go on as is wished.
-fn leading_place(
-    net: &Net,
-    labels: &[u32],
-    residuals: &[u32],
-    wishes: &[u32],
-    v: u32,
-) -> Option<usize>
-    requires v { v < node_count net.now }
-    requires labels { length labels.now ≡ node_count net.now }
-    requires residuals { length residuals.now ≡ length net.now.heads }
-    requires wishes { length wishes.now ≡ length net.now.heads }
-    ensures can { IfSome result (λ k. CanSend net.now labels.now residuals.now v k) }
-    ensures wished { IfSome result (λ k. 0 < slice_index wishes.now (start net.now v + k)) }
-{
-    let _nodes = net.nodes();
-    let heads = net.heads(v);
-    for k in 0..heads.len() {
-        if is_wished(net, labels, residuals, wishes, v, k) {
-            let head = heads[k];
-            if head == 1 || wished_place(net, labels, residuals, wishes, head).is_some() {
-                return Some(k);
-            }
-        }
-    }
-    None
-}
-
-/// The place in a node's row of an arc over which units are wished and a unit can go: one that leads on, where there is one. There is none
-/// at the sink.
+/// The place in a node's row of the first arc over which units are wished and a unit can go. There is none at the sink. Whether that arc leads
+/// on isn't looked at: as a rule it does, and a unit that stops early is brought on by pulses.
 pub(crate) fn next_place(
     net: &Net,
     labels: &[u32],
@@ -127,8 +99,5 @@ pub(crate) fn next_place(
     if v == 1 {
         return None;
     }
-    match leading_place(net, labels, residuals, wishes, v) {
-        Some(k) => Some(k),
-        None => wished_place(net, labels, residuals, wishes, v),
-    }
+    wished_place(net, labels, residuals, wishes, v)
 }

@@ -4,7 +4,7 @@ use Rattle.aig_graph.specs.Graph.{Graph}
 use Rattle.frame_net.specs.FlowNet.{FlowNet}
 use Rattle.frame_net.specs.Capacity.{IsNetOf}
 use Rattle.frame_net.proofs.BuildLaws.{built-flow_net, built-startable, built-points, built-net}
-use Rattle.frame_net.proofs.net.Net.build.Goals as goal
+use Rattle.frame_net.proofs.net.Net.build_in.Goals as goal
 
 pub invariant_of-result : goal.invariant_of-result
 invariant_of-result c =

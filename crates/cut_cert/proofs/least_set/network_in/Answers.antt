@@ -1,5 +1,5 @@
 use Rattle.std.proofs.lemmas.Result.{IfOk-from_err}
-use Rattle.cut_cert.proofs.least_set.network.Goals as goal
+use Rattle.cut_cert.proofs.least_set.network_in.Goals as goal
 
 pub returns-in_err-pass : goal.returns-in_err-pass
 returns-in_err-pass c = IfOk-from_err c.from_residual.result _ c.from_residual.ensures.0
