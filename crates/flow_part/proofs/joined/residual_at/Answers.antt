@@ -12,5 +12,5 @@ loop-part-preserved c = ahead_next (λ (p : FlowPart). p.residuals.items) c.args
 
 pub returns-then-place-size : goal.returns-then-place-size
 returns-then-place-size c =
-    c.index.ensures ∙ (get_or_default_zero c.part-item.result.residuals.items c.loop-part.place c.index.result.now (omega arith)
+    c.index-then-place-size.ensures ∙ (get_or_default_zero c.part-item.result.residuals.items c.loop-part.place c.index-then-place-size.result.now (omega arith)
     ∙ ahead_here (λ (p : FlowPart). p.residuals.items) c.args.parts.now c.args.arc c.loop-part.place c.loop-part.part-index c.part-item.result (omega arith) c.part-item.is (omega arith) c.loop-part.invariant)
