@@ -12,11 +12,12 @@ ghost use Rattle.pulse.specs.Conditions.{IsMaxPreflow};
 use crate::records::Records;
 use aig_graph::{Circuit, ClosedSet, Keep, NoMemory};
 use certificates::Routes;
-use cut_cert::{greatest_cut, near_cut, network, preflow_along, routes};
-use frame_net::Net;
+use cut_cert::{greatest_cut, near_cut, network_in, preflow_along, routes};
+use frame_net::{Net, Tables};
 use least_sets::Choice;
 use pulse::{Crew, MaxPreflow, PhaseGate};
 use std::alloc::Global;
+use std::mem;
 use std::thread::Threads;
 
 /// The set; its certificate is added, where certificates are wanted.
@@ -114,11 +115,25 @@ fn chosen_set(
     }
 }
 
+/// The most arcs of a network whose memory is kept for the next one. A larger network's is given back, so that it isn't held while
+/// latches are moved.
+const MOST_ARCS_KEPT: usize = 1 << 20;
+
+/// The memory of a network's tables, or none where the network is large.
+fn tables_of(alloc: Global, net: Net) -> Tables {
+    if net.arcs() > MOST_ARCS_KEPT {
+        drop(net);
+        return Tables::none(alloc);
+    }
+    net.into_tables()
+}
+
 /// The chosen least set of a circuit whose held latches stay where they are, from a start along the records' flows; then they are what
 /// this flow did at the circuit's gates. They are hints: the set is the same whatever they say. Where the records want certificates, one
 /// of the set is added to them, which passes all tests of `certificates::check`.
 ///
-/// What is made on the way (the network, its flow, for the smallest set the routes of the flow) is dropped.
+/// What is made on the way (the network, its flow, for the smallest set the routes of the flow) is dropped, but for the memory of a
+/// small network's tables, which the records keep for the next circuit.
 ///
 /// # Errors
 ///
@@ -135,10 +150,11 @@ pub fn chosen_least_along<G: PhaseGate>(
     ensures set { IfOk result (IsChosen choice circuit.now keep.now) }
     ensures certificate { IfOk result (AddsOne circuit.now keep.now records.old records.new) }
 {
-    let net = network(alloc, circuit, keep)?;
+    let tables = mem::replace(&mut records.tables, Tables::none(alloc));
+    let net = network_in(alloc, circuit, keep, tables)?;
     let preflow = preflow_along(rt, alloc, circuit, &net, crew, &mut records.flows)?;
     let set = chosen_set(alloc, circuit, keep, &net, &preflow, choice, records);
     drop(preflow);
-    drop(net);
+    drop(mem::replace(&mut records.tables, tables_of(alloc, net)));
     set
 }

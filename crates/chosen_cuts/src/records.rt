@@ -1,6 +1,7 @@
 use aig_graph::{Circuit, ClosedSet, Keep, NoMemory};
 use certificates::{Certificate, Routes};
 use cut_cert::certificate_of;
+use frame_net::Tables;
 use gate_flows::GateFlow;
 use std::alloc::Global;
 
@@ -9,6 +10,8 @@ use std::alloc::Global;
 pub struct Records {
     /// What the last flow did at the gates of the circuit that comes next: hints.
     pub flows: Vec<GateFlow>,
+    /// The memory of the last network's tables by arc, for the next one.
+    pub tables: Tables,
     /// Whether certificates are wanted. Where they aren't, none is made.
     pub certify: bool,
     /// The certificates of the sets that were found, in order.
@@ -28,6 +31,7 @@ impl Records {
     {
         Records {
             flows: Vec::new(alloc),
+            tables: Tables::none(alloc),
             certify,
             certificates: Vec::new(alloc),
         }
