@@ -23,7 +23,7 @@ use Rattle.json_reports.specs.Lines.{IsPlain, PrintsLine}
 use Rattle.json_reports.specs.Members.{count, array_of, or_null}
 use Rattle.json_reports.specs.Refusals.{refusal_data}
 use Rattle.json_reports.specs.Retimings.{before_data, frame_data, retiming_data}
-use Rattle.json_reports.specs.Times.{frame_times_data, times_data}
+use Rattle.json_reports.specs.Timings.{frame_times_data, times_data}
 use Rattle.json_reports.specs.declared.fault.Fault.{Fault}
 use Rattle.json_reports.specs.declared.fault.Fault.TheVariants as faults
 use Rattle.json_reports.specs.declared.printing.PrintError.{PrintError}

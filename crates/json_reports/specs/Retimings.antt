@@ -5,7 +5,7 @@ use Rattle.retimed_circuits.specs.declared.report.Retimed.{Retimed}
 use Rattle.serde_json.specs.Data.{Data, string, object, member, no_members}
 use Rattle.json_reports.specs.Counts.{circuit_data}
 use Rattle.json_reports.specs.Members.{count, array_of, or_null}
-use Rattle.json_reports.specs.Times.{times_data}
+use Rattle.json_reports.specs.Timings.{times_data}
 use Rattle.json_reports.specs.declared.times.Times.{Times}
 
 -- the known latches before and right after a frame, and the gates that they move over

@@ -2,7 +2,7 @@
 ghost use Rattle.std.specs.Prelude.{◌≡◌, IfOk, option_map};
 ghost use Rattle.serde_json.specs.View.{view};
 ghost use Rattle.json_reports.specs.Members.{array_of, or_null};
-ghost use Rattle.json_reports.specs.Times.{frame_times_data, times_data};
+ghost use Rattle.json_reports.specs.Timings.{frame_times_data, times_data};
 
 use aig_graph::Sequence;
 use serde_json::{Value, json};
