@@ -90,7 +90,7 @@ difference (Some place) = record { whole = refl; nests = omega arith }
 pub shapes : IsPlain shapes_data
 shapes = record { whole = refl; nests = omega arith }
 
-plain-frame : (f : _) → Plain 1 (frame_data f)
+plain-frame : (f : _) → Plain 2 (frame_data f)
 plain-frame f = record { whole = refl; nests = omega arith }
 
 plain-times : (t : Times) → Plain 3 (times_data t)
