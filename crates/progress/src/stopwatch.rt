@@ -107,17 +107,26 @@ impl Stopwatch {
     }
 
     /// The last part ends.
-    pub(crate) fn stop<R: Clock>(mut self, clock: &R) -> Option<Times> {
-        let passed = self.lap(clock);
-        self.end_part(passed, false);
-        if self.has_failed {
+    pub(crate) fn stop<R: Clock>(self, clock: &R) -> Option<Times> {
+        let mut watch = self;
+        let passed = watch.lap(clock);
+        watch.end_part(passed, false);
+        let Stopwatch {
+            reading,
+            cleaning,
+            writing,
+            frames,
+            has_failed,
+            ..
+        } = watch;
+        if has_failed {
             return None;
         }
         Some(Times {
-            reading: self.reading,
-            cleaning: self.cleaning,
-            frames: Sequence::from_vec(self.frames),
-            writing: self.writing,
+            reading,
+            cleaning,
+            frames: Sequence::from_vec(frames),
+            writing,
         })
     }
 }
