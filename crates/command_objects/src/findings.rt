@@ -1,5 +1,5 @@
 //! What a command found, as an object of JSON.
-ghost use Rattle.std.specs.Prelude.{◌≡◌};
+ghost use Rattle.std.specs.Prelude.{◌≡◌, option_map};
 ghost use Rattle.json_reports.specs.Audits.{audit_data};
 ghost use Rattle.json_reports.specs.Batches.{batch_data};
 ghost use Rattle.json_reports.specs.Counts.{statistics_data};
@@ -15,7 +15,7 @@ use certificate_audits::Audit;
 use certificates::Certificate;
 use circuit_files::{Failure, Outcome};
 use counted_io::CountedWrite;
-use json_reports::PrintError;
+use json_reports::{PrintError, Times};
 use lane_sim::Place;
 use reports::JobReport;
 use retimed_circuits::Retimed;
@@ -32,16 +32,19 @@ fn ended<'a>(printed: Result<(), PrintError>, outcome: Outcome) -> Result<Outcom
     }
 }
 
-/// Prints the frames of a retiming, what the written circuit has, and which free latches stayed.
+/// Prints the frames of a retiming, what the written circuit has, which free latches stayed, and how long the parts of the run
+/// took, where that was measured.
 pub fn print_retiming<'a, W: CountedWrite>(
     alloc: Global,
     retimed: &Retimed,
+    times: Option<&Times>,
     writer: &mut W,
 ) -> Result<Outcome, Failure<'a>>
-    ensures { EndsPrintingObject Done (retiming_data retimed.now) (W.output writer.old)
-        (W.output writer.new) result }
+    ensures { EndsPrintingObject Done
+        (retiming_data retimed.now (option_map (λ t. t.now) times.entry))
+        (W.output writer.old) (W.output writer.new) result }
 {
-    let printed = json_reports::print_retiming(alloc, retimed, writer);
+    let printed = json_reports::print_retiming(alloc, retimed, times, writer);
     ended(printed, Outcome::Done)
 }
 

@@ -20,6 +20,7 @@ use circuit_files::{Failure, LazyFile, Outcome};
 use command_line::Retiming;
 use counted_io::{Counted, CountedRead, CountedWrite, WriteError};
 use frames::{BytesError, FrameWatcher, Options, RetimeError, Retimed, retime_bytes_watched};
+use json_reports::Times;
 use progress::Progress;
 use pulse::{Crew, OpenGate};
 use reports::print_retiming;
@@ -218,6 +219,13 @@ fn certify<'a, R: Files, O: CountedWrite>(
     }
 }
 
+/// A retiming, and how long its parts took, where that was measured.
+#[derive(Drop)]
+struct Timed {
+    retimed: Retimed,
+    times: Option<Times>,
+}
+
 /// Writes the circuit, and then the certificates. Shows on standard error how far the run is, until the circuit is written.
 fn certified<
     'a,
@@ -233,39 +241,34 @@ fn certified<
     stdin: &mut I,
     out: &mut O,
     err: &mut E,
-) -> Result<Retimed, Failure<'a>>
-    ensures answer { IfOk result (λ retimed. IsPipe task.now
+) -> Result<Timed, Failure<'a>>
+    ensures answer { IfOk result (λ _. IsPipe task.now
         → WritesPipe task.now (I.input stdin.old) (O.output out.old) (O.output out.new)) }
     ensures file { takes_stdout task.now ≡ false → O.output out.new ≡ O.output out.old }
     ensures prints { IfErr result (λ failure. Prints (outcome_of failure) (O.output out.old)
         (O.output out.new)) }
 {
-    let mut progress = Progress::new(task.shown, is_terminal, rt, err);
+    let mut progress = Progress::new(task, is_terminal, rt, alloc, err);
     let ended = retimed(rt, alloc, task, stdin, out, &mut progress);
-    progress.end();
+    let times = progress.end();
     let mut retimed = ended?;
-    match certify(rt, alloc, task, &mut retimed, out) {
-        Ok(()) => Ok(retimed),
-        Err(failure) => {
-            drop(retimed);
-            Err(failure)
-        }
-    }
+    certify(rt, alloc, task, &mut retimed, out)?;
+    Ok(Timed { retimed, times })
 }
 
 /// Prints the frames that were taken, as an object of JSON or in lines.
 fn print_as<'a, W: CountedWrite>(
     alloc: Global,
-    retimed: &Retimed,
+    timed: &Timed,
     json: bool,
     writer: &mut W,
 ) -> Result<Outcome, Failure<'a>>
     ensures { Prints (ending result) (W.output writer.old) (W.output writer.new) }
 {
     if json {
-        command_objects::print_retiming(alloc, retimed, writer)
+        command_objects::print_retiming(alloc, &timed.retimed, timed.times.as_ref(), writer)
     } else {
-        ended(print_retiming(retimed, writer), Outcome::Done)
+        ended(print_retiming(&timed.retimed, writer), Outcome::Done)
     }
 }
 
@@ -274,7 +277,7 @@ fn print_as<'a, W: CountedWrite>(
 fn print_frames<'a, O: CountedWrite, E: CountedWrite>(
     alloc: Global,
     task: &Retiming<'_>,
-    retimed: &Retimed,
+    timed: &Timed,
     out: &mut O,
     err: &mut E,
 ) -> Result<Outcome, Failure<'a>>
@@ -284,10 +287,10 @@ fn print_frames<'a, O: CountedWrite, E: CountedWrite>(
         → Prints (ending result) (O.output out.old) (O.output out.new) }
 {
     if task.takes_stdout() {
-        let _ = print_as(alloc, retimed, task.json, err);
+        let _ = print_as(alloc, timed, task.json, err);
         Ok(Outcome::Done)
     } else {
-        print_as(alloc, retimed, task.json, out)
+        print_as(alloc, timed, task.json, out)
     }
 }
 
@@ -314,8 +317,8 @@ pub fn print_retimed<
         → WritesPipe task.now (I.input stdin.old) (O.output out.old) (O.output out.new)) }
     ensures prints { Prints (ending result) (O.output out.old) (O.output out.new) }
 {
-    let retimed = certified(rt, alloc, task, is_terminal, stdin, out, err)?;
-    let ended = print_frames(alloc, task, &retimed, out, err);
-    drop(retimed);
+    let timed = certified(rt, alloc, task, is_terminal, stdin, out, err)?;
+    let ended = print_frames(alloc, task, &timed, out, err);
+    drop(timed);
     ended
 }

@@ -23,10 +23,12 @@ use Rattle.json_reports.specs.Lines.{IsPlain, PrintsLine}
 use Rattle.json_reports.specs.Members.{count, array_of, or_null}
 use Rattle.json_reports.specs.Refusals.{refusal_data}
 use Rattle.json_reports.specs.Retimings.{before_data, frame_data, retiming_data}
+use Rattle.json_reports.specs.Timings.{frame_times_data, times_data}
 use Rattle.json_reports.specs.declared.fault.Fault.{Fault}
 use Rattle.json_reports.specs.declared.fault.Fault.TheVariants as faults
 use Rattle.json_reports.specs.declared.printing.PrintError.{PrintError}
 use Rattle.json_reports.specs.declared.refusal.Refusal.{Refusal}
+use Rattle.json_reports.specs.declared.times.Times.{Times}
 
 record Plain (n : ℕ) (d : Data) : Type 0 where
   whole : has_float d ≡ false
@@ -88,13 +90,18 @@ difference (Some place) = record { whole = refl; nests = omega arith }
 pub shapes : IsPlain shapes_data
 shapes = record { whole = refl; nests = omega arith }
 
-plain-frame : (f : _) → Plain 1 (frame_data f)
+plain-frame : (f : _) → Plain 2 (frame_data f)
 plain-frame f = record { whole = refl; nests = omega arith }
 
-pub retiming : (r : Retimed) → IsPlain (retiming_data r)
-retiming r =
-    is_plain {n = 3} (omega arith) (plain-object (plain-member (plain-circuit r.circuit) (plain-member record { whole = refl; nests = omega arith }
-    (plain-member (plain-string _) (plain-member (plain-array frame_data r.frames plain-frame) (plain-member (plain-array count r.kept_free plain-count) (plain-member (plain-count 0) plain-none)))))))
+plain-times : (t : Times) → Plain 3 (times_data t)
+plain-times t =
+    plain-object (plain-member (plain-count t.cleaning) (plain-member (plain-array {n = 1} frame_times_data t.frames (λ f. record { whole = refl; nests = omega arith }))
+    (plain-member (plain-count t.reading) (plain-member (plain-count t.writing) plain-none))))
+
+pub retiming : (r : Retimed) (times : Option Times) → IsPlain (retiming_data r times)
+retiming r times =
+    is_plain {n = 4} (omega arith) (plain-object (plain-member (plain-circuit r.circuit) (plain-member record { whole = refl; nests = omega arith }
+    (plain-member (plain-string _) (plain-member (plain-array frame_data r.frames plain-frame) (plain-member (plain-array count r.kept_free plain-count) (plain-member (plain-or_null times_data plain-times times) (plain-member (plain-count 0) plain-none))))))))
 
 pub audit : (blocks : List Certificate) (a : Audit) (status : ℕ) → IsPlain (audit_data blocks a status)
 audit blocks a status =

@@ -2,6 +2,7 @@ pub mod Members
 pub mod Lines
 pub mod Counts
 pub mod Differences
+pub mod Timings
 pub mod Retimings
 pub mod Audits
 pub mod Faults

@@ -1,4 +1,5 @@
 //! What each command prints.
+ghost use Rattle.std.specs.Prelude.{option_map};
 ghost use Rattle.json_reports.specs.Audits.{audit_data};
 ghost use Rattle.json_reports.specs.Batches.{batch_data};
 ghost use Rattle.json_reports.specs.Counts.{statistics_data};
@@ -14,6 +15,7 @@ use crate::difference::{difference_object, shapes_object};
 use crate::printing::{PrintError, print_object};
 use crate::refusal::{Refusal, refusal_object};
 use crate::retiming::retiming_object;
+use crate::times::Times;
 use aig_graph::Circuit;
 use certificate_audits::Audit;
 use certificates::Certificate;
@@ -31,12 +33,13 @@ use std::alloc::Global;
 pub fn print_retiming<W: CountedWrite>(
     alloc: Global,
     retimed: &Retimed,
+    times: Option<&Times>,
     writer: &mut W,
 ) -> Result<(), PrintError>
-    ensures { PrintsLine (retiming_data retimed.now)
+    ensures { PrintsLine (retiming_data retimed.now (option_map (λ t. t.now) times.entry))
         (W.output writer.old) (W.output writer.new) result }
 {
-    let object = retiming_object(alloc, retimed)?;
+    let object = retiming_object(alloc, retimed, times)?;
     print_object(alloc, &object, writer)
 }
 

@@ -12,6 +12,7 @@ mod members;
 mod printing;
 mod refusal;
 mod retiming;
+mod times;
 
 pub use audit::audit_object;
 pub use batch::batch_object;
@@ -25,3 +26,4 @@ pub use fault::Fault;
 pub use printing::{PrintError, print_object};
 pub use refusal::{Refusal, refusal_object};
 pub use retiming::retiming_object;
+pub use times::{FrameTimes, Times};

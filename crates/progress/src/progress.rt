@@ -1,9 +1,13 @@
 //! When a run is shown.
 use crate::lines::{State, clear_line, write_in_place, write_line};
+use crate::stopwatch::Stopwatch;
 use aig_graph::Aig;
-use command_line::Shown;
+use command_line::{Retiming, Shown};
 use counted_io::CountedWrite;
 use frames::{FrameWatcher, Stage};
+use json_reports::Times;
+use std::alloc::Global;
+use std::mem;
 use std::time::{Clock, Instant};
 
 /// What is shown of a run.
@@ -37,23 +41,32 @@ pub struct Progress<'a, R, E> {
     err: &'a mut E,
     state: Option<State>,
     on_line: bool,
+    watch: Option<Stopwatch>,
 }
 
 impl<'a, R: Clock, E: CountedWrite> Progress<'a, R, E> {
-    /// Shows a run on `err` as the command line asks; `is_terminal` is whether that is a terminal.
+    /// Shows a run on `err` as the task asks, and takes its times where it prints an object; `is_terminal` is whether `err` is a
+    /// terminal.
     pub fn new(
-        shown: Shown,
+        task: &Retiming<'_>,
         is_terminal: bool,
         clock: &'a R,
+        alloc: Global,
         err: &'a mut E,
     ) -> Progress<'a, R, E> {
+        let watch = if task.json {
+            Stopwatch::start(clock, alloc)
+        } else {
+            None
+        };
         Progress {
-            show: show_for(shown, is_terminal),
+            show: show_for(task.shown, is_terminal),
             clock,
             began: Instant::now(clock).ok(),
             err,
             state: None,
             on_line: false,
+            watch,
         }
     }
 
@@ -93,16 +106,24 @@ impl<'a, R: Clock, E: CountedWrite> Progress<'a, R, E> {
     }
 
     /// Clears the line in its place, where there is one.
-    pub fn end(&mut self) {
+    fn clear(&mut self) {
         if self.on_line {
             let _ = clear_line(self.err);
             self.on_line = false;
         }
     }
-}
 
-impl<R: Clock, E: CountedWrite> FrameWatcher for Progress<'_, R, E> {
-    fn enter(&mut self, stage: Stage<'_>) {
+    /// Shows no more of the run, which has ended, and returns how long its parts took, where that was measured.
+    pub fn end(&mut self) -> Option<Times> {
+        self.clear();
+        match mem::replace(&mut self.watch, None) {
+            Some(watch) => watch.stop(self.clock),
+            None => None,
+        }
+    }
+
+    /// Shows that the stage begins.
+    fn show_stage(&mut self, stage: Stage<'_>) {
         match self.show {
             Show::Nothing => {}
             Show::EachFrame => {
@@ -118,5 +139,14 @@ impl<R: Clock, E: CountedWrite> FrameWatcher for Progress<'_, R, E> {
                 self.write_over();
             }
         }
+    }
+}
+
+impl<R: Clock, E: CountedWrite> FrameWatcher for Progress<'_, R, E> {
+    fn enter(&mut self, stage: Stage<'_>) {
+        if let Some(watch) = &mut self.watch {
+            watch.enter(self.clock, stage);
+        }
+        self.show_stage(stage);
     }
 }

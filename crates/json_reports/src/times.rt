@@ -1,0 +1,72 @@
+//! How long the parts of a run took.
+ghost use Rattle.std.specs.Prelude.{◌≡◌, IfOk, option_map};
+ghost use Rattle.serde_json.specs.View.{view};
+ghost use Rattle.json_reports.specs.Members.{array_of, or_null};
+ghost use Rattle.json_reports.specs.Timings.{frame_times_data, times_data};
+
+use aig_graph::Sequence;
+use serde_json::{Value, json};
+use std::alloc::{AllocError, Global};
+
+/// How long the parts of a frame took, in microseconds.
+#[derive(Clone, Copy, Debug, PartialEq, Eq)]
+pub struct FrameTimes {
+    /// Looking for the set: the network, its flow, the cut.
+    pub looking: u64,
+    /// Moving latches over it, and cleaning; 0 where no frame was taken.
+    pub moving: u64,
+}
+
+/// How long the parts of a run took, in microseconds.
+#[derive(Drop)]
+pub struct Times {
+    /// Reading the file, to a circuit.
+    pub reading: u64,
+    /// Cleaning it.
+    pub cleaning: u64,
+    /// Those of each circuit of which a set was looked for: of the frames, and of the last circuit where the limit of frames didn't end
+    /// the run.
+    pub frames: Sequence<FrameTimes>,
+    /// Writing the circuit.
+    pub writing: u64,
+}
+
+fn frame_object(alloc: Global, times: FrameTimes) -> Result<Value, AllocError>
+    ensures { IfOk result (λ v. view v ≡ frame_times_data times) }
+{
+    json!(in alloc; {"looking": times.looking, "moving": times.moving})
+}
+
+fn frames_array(alloc: Global, frames: &[FrameTimes]) -> Result<Value, AllocError>
+    ensures { IfOk result (λ v. view v ≡ array_of frame_times_data frames.now) }
+{
+    let mut list = Vec::new(alloc);
+    for frame in frames {
+        let object = frame_object(alloc, *frame)?;
+        serde_json::push(&mut list, object)?;
+    }
+    Ok(Value::Array(list))
+}
+
+fn times_object(alloc: Global, times: &Times) -> Result<Value, AllocError>
+    ensures { IfOk result (λ v. view v ≡ times_data times.now) }
+{
+    let frames = frames_array(alloc, times.frames.as_slice())?;
+    json!(in alloc; {
+        "cleaning": times.cleaning,
+        "frames": frames,
+        "reading": times.reading,
+        "writing": times.writing,
+    })
+}
+
+/// The times, or null where none were taken.
+pub(crate) fn times_value(alloc: Global, times: Option<&Times>) -> Result<Value, AllocError>
+    ensures { IfOk result (λ v. view v
+        ≡ or_null times_data (option_map (λ t. t.now) times.entry)) }
+{
+    match times {
+        Some(times) => times_object(alloc, times),
+        None => Ok(Value::Null),
+    }
+}
