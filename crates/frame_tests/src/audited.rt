@@ -101,13 +101,17 @@ fn objects(alloc: Global, circuit: &Circuit) -> bool {
 #[test]
 fn confirms_the_blocks_of_a_move(rt: HostRuntime) -> Result<(), Fail> {
     let circuit = read_aag(rt.alloc(), TWO_LATCHES)?;
-    assert!(rt; end_as_they_should(rt.alloc(), &circuit));
+    let holds = end_as_they_should(rt.alloc(), &circuit);
+    drop(circuit);
+    assert!(rt; holds);
     Ok(())
 }
 
 #[test]
 fn objects_to_a_route_that_does_not_leave(rt: HostRuntime) -> Result<(), Fail> {
     let circuit = read_aag(rt.alloc(), TWO_LATCHES)?;
-    assert!(rt; objects(rt.alloc(), &circuit));
+    let holds = objects(rt.alloc(), &circuit);
+    drop(circuit);
+    assert!(rt; holds);
     Ok(())
 }

@@ -42,13 +42,17 @@ fn certifies<R: Threads + Sync>(
 #[test]
 fn certifies_each_frame_and_the_last_circuit(rt: HostRuntime) -> Result<(), Fail> {
     let circuit = read_aag(rt.alloc(), CHAINS)?;
-    assert!(rt; certifies(&rt, rt.alloc(), &circuit, 1 << 28, &[3, 2, 2]));
+    let holds = certifies(&rt, rt.alloc(), &circuit, 1 << 28, &[3, 2, 2]);
+    drop(circuit);
+    assert!(rt; holds);
     Ok(())
 }
 
 #[test]
 fn certifies_no_more_than_the_frames_at_their_limit(rt: HostRuntime) -> Result<(), Fail> {
     let circuit = read_aag(rt.alloc(), CHAINS)?;
-    assert!(rt; certifies(&rt, rt.alloc(), &circuit, 2, &[3, 2]));
+    let holds = certifies(&rt, rt.alloc(), &circuit, 2, &[3, 2]);
+    drop(circuit);
+    assert!(rt; holds);
     Ok(())
 }

@@ -1,4 +1,4 @@
-//! A circuit with something for each rule of cleaning.
+//! A circuit with something for each rule of cleaning, and one with free latches.
 use aag_text::read_aag;
 use aig_graph::{Circuit, Keep, Latch, Lit, NoMemory, Reset};
 use clean::{Cleaned, clean};
@@ -32,5 +32,38 @@ fn cleans_to_a_latch(alloc: Global, circuit: &Circuit) -> Result<bool, NoMemory>
 fn cleans_a_stuck_latch_a_twin_and_equal_fan_ins(rt: HostRuntime) -> Result<(), Fail> {
     let circuit = read_aag(rt.alloc(), REDUNDANT)?;
     assert!(rt; cleans_to_a_latch(rt.alloc(), &circuit)?);
+    Ok(())
+}
+
+/// An input, and three free latches: the first two read it, the third reads the first and is the output.
+const FREE_LATCHES: &[u8] = b"aag 4 1 3 1 0\n2\n4 2 4\n6 2 6\n8 4 8\n8\n";
+
+/// A free latch.
+fn free_latch(next: Lit) -> Latch {
+    Latch {
+        next,
+        reset: Reset::Free,
+    }
+}
+
+/// Whether the first and the third latch are left, and the third is the output.
+fn are_first_and_third(cleaned: &Cleaned) -> bool {
+    let first = free_latch(Lit::new(1, false));
+    let third = free_latch(Lit::new(2, false));
+    cleaned.circuit.aig().latches() == [first, third].as_slice()
+        && cleaned.circuit.props().outputs.as_slice() == [Lit::new(3, false)].as_slice()
+        && cleaned.kept_free.as_slice() == [0, 2].as_slice()
+}
+
+/// Whether this is what is left of the circuit, no latch held.
+fn cleans_to_two_free_latches(alloc: Global, circuit: &Circuit) -> Result<bool, NoMemory> {
+    let cleaned = clean(alloc, circuit, &Keep::none())?;
+    Ok(are_first_and_third(&cleaned))
+}
+
+#[test]
+fn tells_which_free_latches_stay(rt: HostRuntime) -> Result<(), Fail> {
+    let circuit = read_aag(rt.alloc(), FREE_LATCHES)?;
+    assert!(rt; cleans_to_two_free_latches(rt.alloc(), &circuit)?);
     Ok(())
 }

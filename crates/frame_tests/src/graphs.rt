@@ -80,7 +80,9 @@ fn is_gate_of_two_latches(aig: &Aig) -> bool {
 #[test]
 fn builds_a_graph(rt: HostRuntime) -> Result<(), Fail> {
     let aig = gate_of_two_latches(rt.alloc())?;
-    assert!(rt; is_gate_of_two_latches(&aig));
+    let holds = is_gate_of_two_latches(&aig);
+    drop(aig);
+    assert!(rt; holds);
     Ok(())
 }
 
@@ -116,7 +118,9 @@ fn refuses_a_list_that_does_not_rise(rt: HostRuntime) -> Result<(), Fail> {
 #[test]
 fn reads_values_at_step_0(rt: HostRuntime) -> Result<(), Fail> {
     let aig = gate_of_two_latches(rt.alloc())?;
-    assert!(rt; !reset_value(&aig, &[false, true, true], Lit::new(5, true)));
+    let holds = !reset_value(&aig, &[false, true, true], Lit::new(5, true));
+    drop(aig);
+    assert!(rt; holds);
     Ok(())
 }
 

@@ -69,7 +69,9 @@ fn moves_to_one_latch(alloc: Global, circuit: &Circuit) -> bool {
 #[test]
 fn moves_over_a_gate(rt: HostRuntime) -> Result<(), Fail> {
     let circuit = read_aag(rt.alloc(), NEGATED_LATCHES)?;
-    assert!(rt; moves_to_one_latch(rt.alloc(), &circuit));
+    let holds = moves_to_one_latch(rt.alloc(), &circuit);
+    drop(circuit);
+    assert!(rt; holds);
     Ok(())
 }
 

@@ -48,7 +48,9 @@ fn holds_no_latch(alloc: Global, circuit: &Circuit) -> bool {
 #[test]
 fn holds_no_latch_without_names(rt: HostRuntime) -> Result<(), Fail> {
     let circuit = read_aag(rt.alloc(), TWO_LATCHES)?;
-    assert!(rt; holds_no_latch(rt.alloc(), &circuit));
+    let holds = holds_no_latch(rt.alloc(), &circuit);
+    drop(circuit);
+    assert!(rt; holds);
     Ok(())
 }
 

@@ -51,6 +51,8 @@ fn moves_gate_for_all<R: Threads + Sync>(rt: &R, alloc: Global, circuit: &Circui
 #[test]
 fn finds_the_same_set_whatever_is_known(rt: HostRuntime) -> Result<(), Fail> {
     let circuit = read_aag(rt.alloc(), CHAINS)?;
-    assert!(rt; moves_gate_for_all(&rt, rt.alloc(), &circuit));
+    let holds = moves_gate_for_all(&rt, rt.alloc(), &circuit);
+    drop(circuit);
+    assert!(rt; holds);
     Ok(())
 }

@@ -120,6 +120,8 @@ fn stops_at_the_limit_of_frames(rt: HostRuntime) -> Result<(), Fail> {
 fn refuses_a_name_that_no_latch_has(rt: HostRuntime) -> Result<(), Fail> {
     let circuit = read_aag(rt.alloc(), TWO_LATCHES)?;
     let name = Vec::from_array(rt.alloc(), [b'b'])?;
-    assert!(rt; refuses_name(&rt, rt.alloc(), &circuit, name));
+    let holds = refuses_name(&rt, rt.alloc(), &circuit, name);
+    drop(circuit);
+    assert!(rt; holds);
     Ok(())
 }

@@ -95,7 +95,9 @@ fn simulates_texts(
 #[test]
 fn simulates_blocks_of_any_size(rt: HostRuntime) -> Result<(), Fail> {
     let circuit = read_aag(rt.alloc(), FOLLOWER)?;
-    assert!(rt; simulates_texts(&rt, rt.alloc(), &circuit)?);
+    let holds = simulates_texts(&rt, rt.alloc(), &circuit);
+    drop(circuit);
+    assert!(rt; holds?);
     Ok(())
 }
 
@@ -137,7 +139,9 @@ fn differs_from(
 #[test]
 fn finds_no_difference_across_a_gate(rt: HostRuntime) -> Result<(), Fail> {
     let gate = read_aag(rt.alloc(), TWO_LATCHES)?;
-    assert!(rt; differs_from(&rt, rt.alloc(), &gate, ONE_LATCH, None));
+    let holds = differs_from(&rt, rt.alloc(), &gate, ONE_LATCH, None);
+    drop(gate);
+    assert!(rt; holds);
     Ok(())
 }
 
@@ -149,7 +153,9 @@ fn finds_the_first_difference(rt: HostRuntime) -> Result<(), Fail> {
         step: 0,
         place: 0,
     };
-    assert!(rt; differs_from(&rt, rt.alloc(), &gate, NEGATED_LATCHES, Some(first)));
+    let holds = differs_from(&rt, rt.alloc(), &gate, NEGATED_LATCHES, Some(first));
+    drop(gate);
+    assert!(rt; holds);
     Ok(())
 }
 

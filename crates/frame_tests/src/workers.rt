@@ -102,13 +102,17 @@ fn works_at_once<R: Threads + Sync>(rt: &R, alloc: Global, circuit: &Circuit, he
 #[test]
 fn holds_the_first_worker(rt: HostRuntime) -> Result<(), Fail> {
     let circuit = read_aag(rt.alloc(), TWO_LATCHES)?;
-    assert!(rt; works_at_once(&rt, rt.alloc(), &circuit, 0));
+    let holds = works_at_once(&rt, rt.alloc(), &circuit, 0);
+    drop(circuit);
+    assert!(rt; holds);
     Ok(())
 }
 
 #[test]
 fn holds_the_second_worker(rt: HostRuntime) -> Result<(), Fail> {
     let circuit = read_aag(rt.alloc(), TWO_LATCHES)?;
-    assert!(rt; works_at_once(&rt, rt.alloc(), &circuit, 1));
+    let holds = works_at_once(&rt, rt.alloc(), &circuit, 1);
+    drop(circuit);
+    assert!(rt; holds);
     Ok(())
 }
