@@ -1,6 +1,6 @@
 -- Laws of the first difference of two traces.
 use Rattle.std.proofs.Common.{ℕ, ◌+◌, ◌-◌, ◌*◌, ◌/◌, ◌<◌, ◌≤◌, ◌≡◌, inl, inr, ◌∷◌, [], suc, nat_lt, min, Bool, true, false, List, length, map, drop, get_or, slice_get, Option, Some, None, refl, arith, sym, ap, ap₂, ◌∙◌, subst}
-use Rattle.std.specs.Option.{option_map, IsSomeAnd, MatchOption}
+use Rattle.std.specs.Option.{option_map, IfNone, IfSome, IsSomeAnd, MatchOption}
 use Rattle.std.specs.List.{range_with_len, flat_map}
 use Rattle.std.proofs.Common.{length-append, ◌++◌}
 use Rattle.aig_graph.specs.declared.properties.Props.{Props}
@@ -17,6 +17,15 @@ use Rattle.lane_sim.specs.Blocks.{in_lane, block_of}
 use Rattle.lane_sim.specs.Traces.{row_of, trace, then_at, at_place}
 use Rattle.lane_sim.specs.Comparing.{IsFoundIn, AreSame, IsFirstOf, Compares, rows_by, steps_of}
 use Rattle.lane_sim.specs.Differences.{HaveSameShape, IsBefore, IsFirstDifference, at}
+
+-- what a search says of an answer, by its parts
+pub where_none : {A : Type 0} (o : Option A) (P : Type 0) (Q : A → Type 0) → MatchOption o P Q → IfNone o P
+where_none None P Q all = all
+where_none (Some x) P Q all = tt
+
+pub where_some : {A : Type 0} (o : Option A) (P : Type 0) (Q : A → Type 0) → MatchOption o P Q → IfSome o Q
+where_some None P Q all = tt
+where_some (Some x) P Q all = all
 
 module _ (sequences : List InputSequence) (f g : ℕ → ℕ → List Bool) (found : List (Option Place))
     (each : (b : ℕ) → 256 * b < length sequences → IsSomeAnd (slice_get found b) (Compares (256 * b) (256 * b + length (block_of sequences b)) (steps_of sequences) f g)) where

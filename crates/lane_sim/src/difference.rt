@@ -1,5 +1,5 @@
 //! The first place where two circuits differ.
-ghost use Rattle.std.specs.Prelude.{ℕ, ◌≡◌, ◌≢◌, ◌+◌, ◌*◌, ◌^◌, ◌<◌, ◌≤◌, ◌↔◌, MatchOption, IfSome, IsSomeAnd, IsErrOf, Some, None, IfOk, IsTrue, option_map, length, slice_get, All, OnOk};
+ghost use Rattle.std.specs.Prelude.{ℕ, ◌≡◌, ◌≢◌, ◌+◌, ◌*◌, ◌^◌, ◌<◌, ◌≤◌, ◌↔◌, MatchOption, IfNone, IfSome, IsSomeAnd, IsErrOf, Some, None, IfOk, IsTrue, option_map, length, slice_get, All, OnOk};
 ghost use Rattle.std.specs.List.{slice_index_or};
 ghost use Rattle.aig_graph.specs.Graph.{variable, variables_end};
 ghost use Rattle.aig_graph.specs.Streams.{property_literals};
@@ -224,8 +224,10 @@ pub fn first_difference(
     b: &Circuit,
     stimulus: &Stimulus,
 ) -> Result<Option<Place>, SimError>
-    ensures ok { IfOk result (λ found. HaveSameShape a.now b.now
-        × MatchOption found (trace a.now stimulus.now ≡ trace b.now stimulus.now)
+    ensures same_shape { OnOk result (HaveSameShape a.now b.now) }
+    ensures none { IfOk result (λ found. IfNone found
+        (trace a.now stimulus.now ≡ trace b.now stimulus.now)) }
+    ensures first { IfOk result (λ found. IfSome found
         (IsFirstDifference (trace a.now stimulus.now) (trace b.now stimulus.now))) }
     ensures shape { IsErrOf result Shape → DifferInShape a.now b.now }
 {
