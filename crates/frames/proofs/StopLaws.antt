@@ -34,8 +34,8 @@ stops-answering options old new before after spelt (Retime e) read spells stop =
 stops-answering options old new before after spelt (Write e) read spells stop = record { read = read; spelt = spelt; spells = spells; stop = stop }
 
 -- what is so of every error is so of the one that a result has
-pub of_error : {T E : Type 0} (r : Result T E) (e : E) (P : E → Type 0) → IfErr r P → r ≡ Err e → P e
-of_error r e P all is = subst (λ (s : Result T E). IfErr s P) is all
+pub of_error : (r : Result Retimed BytesError) (e : BytesError) (P : BytesError → Type 0) → IfErr r P → r ≡ Err e → P e
+of_error r e P all is = subst (λ (s : Result Retimed BytesError). IfErr s P) is all
 
 -- one statement of all errors, as a clause for each fact
 module _ (options : Options) (old new : Input) (before after : Output) where
