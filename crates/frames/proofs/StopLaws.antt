@@ -1,8 +1,9 @@
 -- Why a circuit that was read isn't retimed and written.
 use Rattle.std.proofs.Common.{ℕ, ◌≡◌, Some, Result, Ok, Err, refl, sym, subst}
-use Rattle.std.specs.Result.{IfErr, IsErrAnd}
+use Rattle.std.specs.Result.{IfErr, IfOk, IsErrAnd, OnOk}
 use Rattle.counted_io.specs.Input.{Input}
 use Rattle.counted_io.specs.Output.{Output}
+use Rattle.retimed_circuits.specs.declared.report.Retimed.{Retimed}
 use Rattle.aig_graph.specs.Keep.{first_missing}
 use Rattle.aig_binary.specs.declared.reading.SpeltCircuit.{SpeltCircuit}
 use Rattle.aig_binary.specs.Ending.{ReadsToEnd, Spells}
@@ -11,7 +12,7 @@ use Rattle.frames.specs.declared.errors.BytesError.TheVariants.{Read, Retime, Wr
 use Rattle.frames.specs.declared.errors.RetimeError.{RetimeError}
 use Rattle.frames.specs.declared.errors.RetimeError.TheVariants.{NoMemory, NoSuchName}
 use Rattle.frames.specs.declared.options.Options.{Options}
-use Rattle.frames.specs.Answering.{IsStop, IsBytesError}
+use Rattle.frames.specs.Answering.{AfterReading, AreOfCircuit, BeforeWriting, IsAnswered, IsBytesError, IsStop, RetimesBytes}
 use Rattle.frames.specs.Named.{names_in}
 
 -- what is so of an error is so of the result that has it
@@ -31,3 +32,55 @@ pub stops-answering : (options : Options) (old new : Input) (before after : Outp
 stops-answering options old new before after spelt (Read e) read spells stop = absurd stop
 stops-answering options old new before after spelt (Retime e) read spells stop = record { read = read; spelt = spelt; spells = spells; stop = stop }
 stops-answering options old new before after spelt (Write e) read spells stop = record { read = read; spelt = spelt; spells = spells; stop = stop }
+
+-- what is so of every error is so of the one that a result has
+pub of_error : (r : Result Retimed BytesError) (e : BytesError) (P : BytesError → Type 0) → IfErr r P → r ≡ Err e → P e
+of_error r e P all is = subst (λ (s : Result Retimed BytesError). IfErr s P) is all
+
+-- one statement of all errors, as a clause for each fact
+module _ (options : Options) (old new : Input) (before after : Output) where
+  read-of : (r : Result Retimed BytesError) → OnOk r (ReadsToEnd old new) → IfErr r (IsBytesError options old new before after) → AfterReading r (ReadsToEnd old new)
+  read-of (Ok r) read why = read
+  read-of (Err (Read e)) read why = tt
+  read-of (Err (Retime e)) read why = why.read
+  read-of (Err (Write e)) read why = why.read
+
+  circuit-of : (r : Result Retimed BytesError) → IfOk r (IsAnswered old before after options) → IfErr r (IsBytesError options old new before after) → AfterReading r (AreOfCircuit old)
+  circuit-of (Ok r) answer why = record { spelt = answer.spelt; spells = answer.read }
+  circuit-of (Err (Read e)) answer why = tt
+  circuit-of (Err (Retime e)) answer why = record { spelt = why.spelt; spells = why.spells }
+  circuit-of (Err (Write e)) answer why = record { spelt = why.spelt; spells = why.spells }
+
+  unwritten-of : (r : Result Retimed BytesError) → IfErr r (IsBytesError options old new before after) → BeforeWriting r (after ≡ before)
+  unwritten-of (Ok r) why = tt
+  unwritten-of (Err (Read e)) why = why.1
+  unwritten-of (Err (Retime NoMemory)) why = why.stop
+  unwritten-of (Err (Retime (NoSuchName place))) why = why.stop.0
+  unwritten-of (Err (Write e)) why = tt
+
+  pub facts_of : (r : Result Retimed BytesError) → OnOk r (ReadsToEnd old new) → IfOk r (IsAnswered old before after options)
+      → IfErr r (IsBytesError options old new before after) → RetimesBytes options old new before after r
+  facts_of r read answer why = record {
+    read = read-of r read why;
+    circuit = circuit-of r answer why;
+    answer = answer;
+    unread = λ e is. (of_error r (Read e) (IsBytesError options old new before after) why is).0;
+    missing = λ place is.
+        let at = of_error r (Retime (NoSuchName place)) (IsBytesError options old new before after) why is in
+        record { spelt = at.spelt; spells = at.spells; missing = at.stop.1 };
+    unwritten = unwritten-of r why;
+    cut_off = λ e is.
+        let at = of_error r (Write e) (IsBytesError options old new before after) why is in
+        record { spelt = at.spelt; spells = at.spells; stops = at.stop };
+  }
+
+  -- the clauses give that statement back
+  pub error_of : (e : BytesError) → RetimesBytes options old new before after (Err e) → IsBytesError options old new before after e
+  error_of (Read e) facts = (facts.unread e refl, facts.unwritten)
+  error_of (Retime NoMemory) facts = record { read = facts.read; spelt = facts.circuit.spelt; spells = facts.circuit.spells; stop = facts.unwritten }
+  error_of (Retime (NoSuchName place)) facts =
+      let at = facts.missing place refl in
+      record { read = facts.read; spelt = at.spelt; spells = at.spells; stop = (facts.unwritten, at.missing) }
+  error_of (Write e) facts =
+      let at = facts.cut_off e refl in
+      record { read = facts.read; spelt = at.spelt; spells = at.spells; stop = at.stops }

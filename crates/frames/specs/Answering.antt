@@ -1,8 +1,10 @@
 -- What becomes of a reader's bytes: the retimed circuit of those bytes, whose text is written, or an error.
-use Rattle.std.specs.Prelude.{ℕ, ◌≡◌, Bool, List, Some, Ok, unwrap_or}
+use Rattle.std.specs.Prelude.{ℕ, ◌≡◌, ⊤, Bool, List, Some, Result, Ok, Err, IfOk, IsErrOf, unwrap_or}
 use Rattle.counted_io.specs.Input.{Input}
 use Rattle.counted_io.specs.Output.{Output, WritesAll, WritesPart}
+use Rattle.counted_io.specs.declared.writing.WriteError.{WriteError}
 use Rattle.aig_graph.specs.Keep.{first_missing}
+use Rattle.file_words.specs.declared.fault.ReadError.{ReadError}
 use Rattle.ascii_file.specs.Laws.{IsWithinLimits}
 use Rattle.spellings.specs.Spellings.{read_any, text_in}
 use Rattle.aig_binary.specs.declared.reading.SpeltCircuit.{SpeltCircuit}
@@ -77,3 +79,44 @@ abbrev pub IsBytesError : Options → Input → Input → Output → Output → 
 IsBytesError options old new before after (Read e) = IsReadError old new e × (after ≡ before)
 IsBytesError options old new before after (Retime e) = IsStopped options old new before after (Retime e)
 IsBytesError options old new before after (Write e) = IsStopped options old new before after (Write e)
+
+-- P, where the bytes were read as a circuit's: after an answer, and after an error that came later
+abbrev pub AfterReading : Result Retimed BytesError → Type 0 → Type 0
+AfterReading (Ok r) P = P
+AfterReading (Err (Read e)) P = ⊤
+AfterReading (Err (Retime e)) P = P
+AfterReading (Err (Write e)) P = P
+
+-- P, where the run ended before its first write
+abbrev pub BeforeWriting : Result Retimed BytesError → Type 0 → Type 0
+BeforeWriting (Ok r) P = ⊤
+BeforeWriting (Err (Read e)) P = P
+BeforeWriting (Err (Retime e)) P = P
+BeforeWriting (Err (Write e)) P = ⊤
+
+-- the bytes are those of a circuit in a spelling
+pub record AreOfCircuit (input : Input) : Type 0 where
+  pub spelt : SpeltCircuit
+  pub spells : Spells input spelt
+
+-- the bytes are those of a circuit of whose latches none has the name at this place, the first such name
+pub record IsMissingIn (options : Options) (input : Input) (place : ℕ) : Type 0 where
+  pub spelt : SpeltCircuit
+  pub spells : Spells input spelt
+  pub missing : first_missing spelt.circuit.symbols.latches (names_in options) ≡ Some place
+
+-- the bytes are those of a circuit, and a beginning of the text of its answer was written
+pub record IsCutOff (options : Options) (input : Input) (old new : Output) : Type 0 where
+  pub spelt : SpeltCircuit
+  pub spells : Spells input spelt
+  pub stops : StopsWriting options spelt old new
+
+-- what retiming leaves of a reader and a writer: the clauses of `retime_bytes`, of whatever run
+pub record RetimesBytes (options : Options) (old new : Input) (before after : Output) (result : Result Retimed BytesError) : Type 0 where
+  pub read : AfterReading result (ReadsToEnd old new)
+  pub circuit : AfterReading result (AreOfCircuit old)
+  pub answer : IfOk result (IsAnswered old before after options)
+  pub unread : (e : ReadError) → IsErrOf result (Read e) → IsReadError old new e
+  pub missing : (place : ℕ) → IsErrOf result (Retime (NoSuchName place)) → IsMissingIn options old place
+  pub unwritten : BeforeWriting result (after ≡ before)
+  pub cut_off : (e : WriteError) → IsErrOf result (Write e) → IsCutOff options old before after

@@ -1,10 +1,11 @@
 //! From a reader's bytes to a writer's.
-ghost use Rattle.std.specs.Prelude.{◌≡◌, [], IfOk, OnOk, IfErr};
+ghost use Rattle.std.specs.Prelude.{◌≡◌, ℕ, [], IfOk, OnOk, IfErr, IsErrOf};
 ghost use Rattle.aig_binary.specs.Ending.{IsReadError, ReadsToEnd, Spells};
 ghost use Rattle.counted_io.specs.Output.{Writes};
 ghost use Rattle.aig_graph.specs.Circuits.{IsNetlist};
 ghost use Rattle.aig_graph.specs.Graph.{IsGraph};
-ghost use Rattle.frames.specs.Answering.{IsAnswered, IsBytesError, IsStop, IsWritten, text_for};
+ghost use Rattle.frames.specs.Answering.{AfterReading, AreOfCircuit, BeforeWriting, IsAnswered, IsCutOff, IsMissingIn, IsStop, IsWritten, RetimesBytes, text_for};
+ghost use Rattle.frames.specs.declared.errors.RetimeError.TheVariants.{NoSuchName};
 
 use crate::errors::BytesError;
 use crate::options::Options;
@@ -89,11 +90,17 @@ pub fn retime_bytes<R: CountedRead, W: CountedWrite, G: PhaseGate>(
     options: &Options,
     crew: &Crew<G>,
 ) -> Result<Retimed, BytesError>
-    ensures read { OnOk result (ReadsToEnd (R.input reader.old) (R.input reader.new)) }
+    ensures read { AfterReading result (ReadsToEnd (R.input reader.old) (R.input reader.new)) }
+    ensures circuit { AfterReading result (AreOfCircuit (R.input reader.old)) }
     ensures answer { IfOk result (IsAnswered (R.input reader.old) (W.output writer.old)
         (W.output writer.new) options.now) }
-    ensures err { IfErr result (IsBytesError options.now (R.input reader.old) (R.input reader.new)
-        (W.output writer.old) (W.output writer.new)) }
+    ensures unread { (e : ReadError) → IsErrOf result (BytesError.Read e)
+        → IsReadError (R.input reader.old) (R.input reader.new) e }
+    ensures missing { (place : ℕ) → IsErrOf result (BytesError.Retime (NoSuchName place))
+        → IsMissingIn options.now (R.input reader.old) place }
+    ensures unwritten { BeforeWriting result (W.output writer.new ≡ W.output writer.old) }
+    ensures cut_off { (e : WriteError) → IsErrOf result (BytesError.Write e)
+        → IsCutOff options.now (R.input reader.old) (W.output writer.old) (W.output writer.new) }
 {
     retime_bytes_watched(rt, alloc, reader, writer, options, crew, &mut NoWatcher)
 }
@@ -111,7 +118,8 @@ fn read_by<R: CountedRead, C: CircuitReader + Drop>(
     read_circuit(reader, &mut circuits)
 }
 
-/// [`retime_bytes`], seen by a watcher. Reading goes before its first stage.
+/// [`retime_bytes`], seen by a watcher. Reading goes before its first stage. What `RetimesBytes` says is what the clauses of
+/// `retime_bytes` say.
 ///
 /// # Errors
 ///
@@ -125,37 +133,11 @@ pub fn retime_bytes_watched<R: CountedRead, W: CountedWrite, G: PhaseGate, V: Fr
     crew: &Crew<G>,
     watcher: &mut V,
 ) -> Result<Retimed, BytesError>
-    ensures read { OnOk result (ReadsToEnd (R.input reader.old) (R.input reader.new)) }
-    ensures answer { IfOk result (IsAnswered (R.input reader.old) (W.output writer.old)
-        (W.output writer.new) options.now) }
-    ensures err { IfErr result (IsBytesError options.now (R.input reader.old) (R.input reader.new)
-        (W.output writer.old) (W.output writer.new)) }
+    ensures { RetimesBytes options.now (R.input reader.old) (R.input reader.new)
+        (W.output writer.old) (W.output writer.new) result }
 {
     let spelt = read_by(reader, AnyReader::new(alloc))?;
     let answer = retime_spelt(rt, alloc, &spelt, writer, options, crew, watcher);
-    drop(spelt);
-    answer
-}
-
-/// [`retime_bytes`] over a reader of circuits that has been fed nothing yet.
-pub fn retime_bytes_with<R: CountedRead, W: CountedWrite, C: CircuitReader, G: PhaseGate>(
-    rt: &(impl Threads + Sync),
-    alloc: Global,
-    reader: &mut R,
-    circuits: &mut C,
-    writer: &mut W,
-    options: &Options,
-    crew: &Crew<G>,
-) -> Result<Retimed, BytesError>
-    requires { C.holds circuits.old [] }
-    ensures read { OnOk result (ReadsToEnd (R.input reader.old) (R.input reader.new)) }
-    ensures answer { IfOk result (IsAnswered (R.input reader.old) (W.output writer.old)
-        (W.output writer.new) options.now) }
-    ensures err { IfErr result (IsBytesError options.now (R.input reader.old) (R.input reader.new)
-        (W.output writer.old) (W.output writer.new)) }
-{
-    let spelt = read_circuit(reader, circuits)?;
-    let answer = retime_spelt(rt, alloc, &spelt, writer, options, crew, &mut NoWatcher);
     drop(spelt);
     answer
 }

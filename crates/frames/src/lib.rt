@@ -15,7 +15,7 @@ mod retiming;
 mod settling;
 mod watcher;
 
-pub use bytes::{retime_bytes, retime_bytes_watched, retime_bytes_with};
+pub use bytes::{retime_bytes, retime_bytes_watched};
 pub use certificates::Certificate;
 pub use errors::{BytesError, RetimeError};
 pub use laws::answer_law;
