@@ -86,8 +86,13 @@ refusal_of command failure = record {
   status = status_of (outcome_of failure);
 }
 
+-- the line of this refusal was printed, or a beginning of it, or nothing
+abbrev pub SaysRefusal : Refusal → Output → Output → Type 0
+SaysRefusal refusal old new =
+    (new ≡ old) ⊎ WritesAll old new (json_line (refusal_data refusal)) ⊎ WritesPart old new (json_line (refusal_data refusal))
+
 -- the line of a refusal with this status, or a beginning of it, or nothing
 pub record PrintsRefusal (status : ℕ) (old new : Output) : Type 0 where
   pub refusal : Refusal
   pub states : refusal.status ≡ status
-  pub prints : (new ≡ old) ⊎ WritesAll old new (json_line (refusal_data refusal)) ⊎ WritesPart old new (json_line (refusal_data refusal))
+  pub prints : SaysRefusal refusal old new

@@ -2,7 +2,7 @@
 ghost use Rattle.std.specs.Prelude.{◌≡◌};
 ghost use Rattle.circuit_files.specs.Codes.{status_of};
 ghost use Rattle.circuit_files.specs.Outcomes.{outcome_of};
-ghost use Rattle.command_objects.specs.Objects.{PrintsRefusal};
+ghost use Rattle.command_objects.specs.Objects.{PrintsRefusal, SaysRefusal};
 ghost use Rattle.command_objects.specs.Objects as wanted;
 
 use circuit_files::Failure;
@@ -75,7 +75,9 @@ pub fn print_failure<O: CountedWrite>(
     failure: Failure<'_>,
     out: &mut O,
 )
-    ensures { PrintsRefusal (status_of (outcome_of failure.entry)) (O.output out.old)
+    ensures refuses { PrintsRefusal (status_of (outcome_of failure.entry)) (O.output out.old)
+        (O.output out.new) }
+    ensures says { SaysRefusal (wanted.refusal_of command.entry failure.entry) (O.output out.old)
         (O.output out.new) }
 {
     let refusal = refusal_of(command, failure);

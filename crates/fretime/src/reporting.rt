@@ -2,7 +2,7 @@
 ghost use Rattle.std.specs.Prelude.{◌≡◌, ◌⊎◌, true, false};
 ghost use Rattle.circuit_files.specs.Outcomes.{outcome_of};
 ghost use Rattle.commands.specs.Printing.{ending};
-ghost use Rattle.fretime.specs.Reporting.{MayRefuse, PrintsFailure};
+ghost use Rattle.fretime.specs.Reporting.{MayRefuse, PrintsFailure, SaysFailure};
 
 use circuit_files::{Failure, Outcome};
 use command_line::Task;
@@ -31,7 +31,10 @@ fn print_failure_as<O: CountedWrite>(
     json: bool,
     out: &mut O,
 )
-    ensures { PrintsFailure json (outcome_of failure.entry) (O.output out.old) (O.output out.new) }
+    ensures prints { PrintsFailure json (outcome_of failure.entry) (O.output out.old)
+        (O.output out.new) }
+    ensures says { SaysFailure json command.entry failure.entry (O.output out.old)
+        (O.output out.new) }
 {
     if json {
         print_failure(alloc, command, failure, out);
@@ -50,6 +53,8 @@ pub fn report_failure_as<O: CountedWrite, E: CountedWrite>(
 ) -> Outcome
     ensures outcome { result ≡ outcome_of failure.entry }
     ensures prints { PrintsFailure json (outcome_of failure.entry) (O.output out.old)
+        (O.output out.new) }
+    ensures says { SaysFailure json command.entry failure.entry (O.output out.old)
         (O.output out.new) }
 {
     print_failure_as(alloc, command, failure, json, out);
