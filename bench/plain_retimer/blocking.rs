@@ -1,5 +1,5 @@
 //! Blocking flows over exact distances to the sink, with short detours, from any preflow (after Dinic 1970), on the network without arcs.
-use crate::network::{NONE, Network};
+use crate::network::{Network, NONE};
 use crate::preflow::{Preflow, SINK};
 
 const FAR: u32 = u32::MAX;
@@ -134,7 +134,8 @@ impl Search {
         let mut found = None;
         while number < 2 * all && found.is_none() {
             let (own, detour) = if number < all { (number, 0) } else { (number - all, DETOUR) };
-            let fits = |to: &u32| entry(&self.distances, *to) <= distance - 1 + detour && entry(&self.marks, *to) < 2 * self.phase;
+            let fits =
+                |to: &u32| entry(&self.distances, *to) <= distance - 1 + detour && entry(&self.marks, *to) < 2 * self.phase;
             found = led(network, preflow, place, step(network, place, own)).filter(fits);
             number += usize::from(found.is_none());
         }

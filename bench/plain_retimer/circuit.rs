@@ -33,7 +33,11 @@ pub struct Circuit {
 
 /// Two fan-ins with the larger literal first.
 pub fn ordered(a: u32, b: u32) -> [u32; 2] {
-    if a >= b { [a, b] } else { [b, a] }
+    if a >= b {
+        [a, b]
+    } else {
+        [b, a]
+    }
 }
 
 fn line<'a>(bytes: &'a [u8], at: &mut usize) -> &'a str {
@@ -133,8 +137,7 @@ impl Circuit {
 
     pub fn written(&self) -> Vec<u8> {
         let variables = self.first_gate() as usize - 1 + self.gates.len();
-        let mut text =
-            format!("aig {variables} {} {} {} {}", self.inputs, self.next.len(), self.outputs, self.gates.len());
+        let mut text = format!("aig {variables} {} {} {} {}", self.inputs, self.next.len(), self.outputs, self.gates.len());
         if self.bad + self.constraints > 0 {
             text += &format!(" {}", self.bad);
         }

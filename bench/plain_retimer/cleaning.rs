@@ -1,6 +1,6 @@
 //! Cleaning, pass after pass: latches that never leave their reset and twins of earlier ones go, gates come down to constants, literals
 //! or earlier gates, and what no property rests on goes.
-use crate::circuit::{Circuit, FREE, ordered};
+use crate::circuit::{ordered, Circuit, FREE};
 use crate::tidy::PairTable;
 use std::collections::HashMap;
 

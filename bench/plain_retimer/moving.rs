@@ -1,5 +1,5 @@
 //! The latches that a move over a set leaves, and the circuit after it.
-use crate::circuit::{Circuit, FREE, ordered};
+use crate::circuit::{ordered, Circuit, FREE};
 
 /// By latch and gate whether it is a known latch or a gate of the set that is read from outside the set.
 pub fn border(circuit: &Circuit, set: &[bool]) -> Vec<bool> {

@@ -1,7 +1,7 @@
 //! A preflow of the network, and its start along what the last flow did at each gate. Whatever the notes say, each step goes where there
 //! is a residual, so what stands at the end is a preflow.
 use crate::circuit::{Circuit, GateFlow};
-use crate::network::{NONE, Network};
+use crate::network::{Network, NONE};
 
 pub const SINK: u32 = u32::MAX - 1;
 
