@@ -5,6 +5,7 @@ mod parse;
 mod program;
 mod stream_uses;
 mod task;
+mod texts;
 
 pub use parse::parse_arguments;
 pub use task::{Batch, Comparison, Drawing, Retiming, Shown, Task, Verification};

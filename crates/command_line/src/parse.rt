@@ -121,6 +121,18 @@ fn retiming<'a>(alloc: Global, matches: &ArgMatches<'a>) -> Result<Option<Retimi
     }))
 }
 
+fn retiming_task<'a>(
+    alloc: Global,
+    matches: &ArgMatches<'a>,
+) -> Result<Option<Task<'a>>, AllocError>
+    ensures { IfOk result (λ found. IfSome found (AsksFor matches.now)) }
+{
+    match retiming(alloc, matches)? {
+        Some(retiming) => Ok(Some(Task::Retime(retiming))),
+        None => Ok(None),
+    }
+}
+
 fn verification<'a>(
     alloc: Global,
     matches: &ArgMatches<'a>,
@@ -137,6 +149,18 @@ fn verification<'a>(
         json: json(matches),
         keep: keep(alloc, matches)?,
     }))
+}
+
+fn verification_task<'a>(
+    alloc: Global,
+    matches: &ArgMatches<'a>,
+) -> Result<Option<Task<'a>>, AllocError>
+    ensures { IfOk result (λ found. IfSome found (AsksFor matches.now)) }
+{
+    match verification(alloc, matches)? {
+        Some(verification) => Ok(Some(Task::Verify(verification))),
+        None => Ok(None),
+    }
 }
 
 fn depth(matches: &ArgMatches<'_>) -> u32
@@ -159,6 +183,15 @@ fn drawing<'a>(alloc: Global, matches: &ArgMatches<'a>) -> Result<Option<Drawing
         depth: depth(matches),
         keep: keep(alloc, matches)?,
     }))
+}
+
+fn drawing_task<'a>(alloc: Global, matches: &ArgMatches<'a>) -> Result<Option<Task<'a>>, AllocError>
+    ensures { IfOk result (λ found. IfSome found (AsksFor matches.now)) }
+{
+    match drawing(alloc, matches)? {
+        Some(drawing) => Ok(Some(Task::Dot(drawing))),
+        None => Ok(None),
+    }
 }
 
 fn batch<'a>(matches: &ArgMatches<'a>) -> Option<Task<'a>>
@@ -219,26 +252,32 @@ fn explanation<'a>(matches: &ArgMatches<'a>) -> Option<Task<'a>>
     Some(Task::Explain(matches.get_str("FAULT")?))
 }
 
+/// What the matches of a subcommand ask for, where it holds no latches by their names.
+fn task_without_names<'a>(name: &str, matches: &ArgMatches<'a>) -> Option<Task<'a>> {
+    match name {
+        "batch" => batch(matches),
+        "stat" => statistics(matches),
+        "convert" => conversion(matches),
+        "sim" => simulation(matches),
+        "same" => comparison(matches),
+        "witness" => witness(matches),
+        "explain" => explanation(matches),
+        _ => None,
+    }
+}
+
 /// What the matches of a subcommand ask for.
 fn task<'a>(
     alloc: Global,
     name: &str,
     matches: &ArgMatches<'a>,
 ) -> Result<Option<Task<'a>>, AllocError> {
-    let task = match name {
-        "retime" => retiming(alloc, matches)?.map(|retiming| Task::Retime(retiming)),
-        "batch" => batch(matches),
-        "stat" => statistics(matches),
-        "convert" => conversion(matches),
-        "sim" => simulation(matches),
-        "same" => comparison(matches),
-        "verify" => verification(alloc, matches)?.map(|verification| Task::Verify(verification)),
-        "dot" => drawing(alloc, matches)?.map(|drawing| Task::Dot(drawing)),
-        "witness" => witness(matches),
-        "explain" => explanation(matches),
-        _ => None,
-    };
-    Ok(task)
+    match name {
+        "retime" => retiming_task(alloc, matches),
+        "verify" => verification_task(alloc, matches),
+        "dot" => drawing_task(alloc, matches),
+        _ => Ok(task_without_names(name, matches)),
+    }
 }
 
 /// What the matches of a whole command line ask for; `None` where they name no command.

@@ -1,14 +1,15 @@
 //! An audit of certificates.
-ghost use Rattle.std.specs.Prelude.{◌≡◌, IfOk, take};
-ghost use Rattle.serde_json.specs.View.{view};
+ghost use Rattle.std.specs.Prelude.{◌≡◌, IfOk, OnOk, take};
+ghost use Rattle.serde_json.specs.View.{members_view, view};
 ghost use Rattle.json_reports.specs.Audits.{audit_data, block_data};
 ghost use Rattle.json_reports.specs.Audits as names;
 ghost use Rattle.json_reports.specs.Members.{array_of, or_null};
-ghost use Rattle.serde_json.specs.Data.{string};
+ghost use Rattle.serde_json.specs.Data.{no_members, object, string};
 
+use crate::members::{put_count, put_text};
 use certificate_audits::{Audit, End};
 use certificates::{Certificate, Objection};
-use serde_json::{Value, json};
+use serde_json::{Map, Value};
 use std::alloc::{AllocError, Global};
 
 fn end_name(end: End) -> &'static str
@@ -65,6 +66,31 @@ fn first_blocks(blocks: &[Certificate], confirmed: usize) -> &[Certificate]
     }
 }
 
+/// Puts the members of an audit into an object that has none.
+fn put_audit(
+    members: &mut Map<String, Value>,
+    alloc: Global,
+    blocks: &[Certificate],
+    audit: Audit,
+    status: u8,
+) -> Result<(), AllocError>
+    ensures { OnOk result (members_view members.old.entries ≡ no_members
+        → object (members_view members.new.entries) ≡ audit_data blocks.now audit status) }
+{
+    let confirmed = first_blocks(blocks, audit.confirmed);
+    put_text(members, alloc, "command", "verify")?;
+    serde_json::put(members, alloc, "counts", counts_array(alloc, confirmed)?)?;
+    put_text(members, alloc, "end", end_name(audit.end))?;
+    serde_json::put(
+        members,
+        alloc,
+        "objection",
+        objection_value(alloc, audit.end)?,
+    )?;
+    put_count(members, alloc, "status", u64::from(status))?;
+    Ok(())
+}
+
 /// What `verify` prints of the audit of a file's blocks, where it ends with this status.
 ///
 /// # Errors
@@ -78,13 +104,7 @@ pub fn audit_object(
 ) -> Result<Value, AllocError>
     ensures { IfOk result (λ v. view v ≡ audit_data blocks.now audit status) }
 {
-    let counts = counts_array(alloc, first_blocks(blocks, audit.confirmed))?;
-    let objection = objection_value(alloc, audit.end)?;
-    json!(in alloc; {
-        "command": "verify",
-        "counts": counts,
-        "end": end_name(audit.end),
-        "objection": objection,
-        "status": status,
-    })
+    let mut members = Map::new(alloc);
+    put_audit(&mut members, alloc, blocks, audit, status)?;
+    Ok(Value::Object(members))
 }

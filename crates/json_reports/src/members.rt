@@ -1,6 +1,6 @@
 //! Members of objects.
 ghost use Rattle.std.specs.Prelude.{◌≡◌, IfOk, OnOk};
-ghost use Rattle.serde_json.specs.Data.{object, no_members, put};
+ghost use Rattle.serde_json.specs.Data.{object, no_members, put, string};
 ghost use Rattle.serde_json.specs.View.{view, members_view};
 ghost use Rattle.json_reports.specs.Members.{count, with_counts};
 
@@ -18,6 +18,19 @@ pub(crate) fn put_count(
         ≡ put name.now (count number) (members_view members.old.entries)) }
 {
     serde_json::put(members, alloc, name, Value::from(number))
+}
+
+/// Puts a text under a name.
+pub(crate) fn put_text(
+    members: &mut Map<String, Value>,
+    alloc: Global,
+    name: &str,
+    text: &str,
+) -> Result<(), AllocError>
+    ensures { OnOk result (members_view members.new.entries
+        ≡ put name.now (string text.now) (members_view members.old.entries)) }
+{
+    serde_json::put(members, alloc, name, Value::try_from_str(alloc, text)?)
 }
 
 /// Puts numbers, each under its name.

@@ -1,13 +1,15 @@
 //! The frames of a retiming.
-ghost use Rattle.std.specs.Prelude.{◌≡◌, IfOk, option_map};
-ghost use Rattle.serde_json.specs.View.{view};
+ghost use Rattle.std.specs.Prelude.{◌≡◌, IfOk, OnOk, option_map};
+ghost use Rattle.serde_json.specs.Data.{no_members, object};
+ghost use Rattle.serde_json.specs.View.{members_view, view};
 ghost use Rattle.json_reports.specs.Members.{array_of, count};
 ghost use Rattle.json_reports.specs.Retimings.{before_data, frame_data, retiming_data};
 
 use crate::counts::circuit_object;
+use crate::members::{put_count, put_text};
 use crate::times::{Times, times_value};
 use retimed_circuits::{FrameReport, Retimed};
-use serde_json::{Value, json};
+use serde_json::{Map, Value, json};
 use std::alloc::{AllocError, Global};
 
 fn frame_object(alloc: Global, frame: FrameReport) -> Result<Value, AllocError>
@@ -43,6 +45,44 @@ fn before_object(alloc: Global, latches: u32) -> Result<Value, AllocError>
     json!(in alloc; {"latches": latches})
 }
 
+/// Puts the members of a retiming into an object that has none.
+fn put_retiming(
+    members: &mut Map<String, Value>,
+    alloc: Global,
+    retimed: &Retimed,
+    times: Option<&Times>,
+) -> Result<(), AllocError>
+    ensures { OnOk result (members_view members.old.entries ≡ no_members
+        → object (members_view members.new.entries)
+        ≡ retiming_data retimed.now (option_map (λ t. t.now) times.entry)) }
+{
+    let frames = retimed.frames.as_slice();
+    let free_kept = retimed.kept_free.as_slice();
+    serde_json::put(
+        members,
+        alloc,
+        "after",
+        circuit_object(alloc, &retimed.circuit)?,
+    )?;
+    serde_json::put(
+        members,
+        alloc,
+        "before",
+        before_object(alloc, retimed.read_latches)?,
+    )?;
+    put_text(members, alloc, "command", "retime")?;
+    serde_json::put(members, alloc, "frames", frames_array(alloc, frames)?)?;
+    serde_json::put(
+        members,
+        alloc,
+        "free_kept",
+        numbers_array(alloc, free_kept)?,
+    )?;
+    serde_json::put(members, alloc, "microseconds", times_value(alloc, times)?)?;
+    put_count(members, alloc, "status", 0)?;
+    Ok(())
+}
+
 /// What `retime` prints: each frame, what the written circuit has, the places of the free latches that stayed among those of the
 /// circuit that was read, and how long the parts of the run took, where that was measured.
 ///
@@ -57,18 +97,7 @@ pub fn retiming_object(
     ensures { IfOk result (λ v. view v
         ≡ retiming_data retimed.now (option_map (λ t. t.now) times.entry)) }
 {
-    let after = circuit_object(alloc, &retimed.circuit)?;
-    let before = before_object(alloc, retimed.read_latches)?;
-    let frames = frames_array(alloc, retimed.frames.as_slice())?;
-    let free_kept = numbers_array(alloc, retimed.kept_free.as_slice())?;
-    let microseconds = times_value(alloc, times)?;
-    json!(in alloc; {
-        "after": after,
-        "before": before,
-        "command": "retime",
-        "frames": frames,
-        "free_kept": free_kept,
-        "microseconds": microseconds,
-        "status": 0u32,
-    })
+    let mut members = Map::new(alloc);
+    put_retiming(&mut members, alloc, retimed, times)?;
+    Ok(Value::Object(members))
 }
