@@ -1,4 +1,4 @@
-use Rattle.std.proofs.Common.{◌∙◌, ap, sym, arith, ℕ, nat_lt, slice_index}
+use Rattle.std.proofs.Common.{◌∙◌, ap, arith, ℕ, nat_lt, slice_index}
 use Rattle.std.proofs.lemmas.List.{length-set}
 use Rattle.frame_net.specs.FlowNet.{node_count}
 use Rattle.cut_cert.proofs.LabelledSideLaws.{mark_more}
