@@ -1,6 +1,7 @@
 pub mod FrontLaws
 pub mod SinkWalkLaws
 pub mod GateLaws
+mod LabelledSideLaws
 pub mod LoweringLaws
 pub mod ArcPointLaws
 pub mod WalkLaws

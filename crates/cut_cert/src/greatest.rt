@@ -1,42 +1,57 @@
 //! The gates of the source's side of the greatest least cut.
-ghost use Rattle.std.specs.Prelude.{◌≡◌, ◌<◌, IfOk, [], length, not};
+ghost use Rattle.std.specs.Prelude.{◌≡◌, ◌<◌, IfOk, [], false, length, not, slice_index_or};
+ghost use Rattle.flow_theory.specs.Flow.{IsSourceSide};
 ghost use Rattle.frame_net.specs.FlowNet.{node_count};
-ghost use Rattle.pulse.specs.Conditions.{IsMaxPreflow};
-ghost use Rattle.cut_cert.specs.Fronts.{is_marked};
+ghost use Rattle.pulse.specs.Conditions.{IsMaxPreflow, state_of};
 ghost use Rattle.cut_cert.specs.Gates.{gate_of, gates_below};
 ghost use Rattle.cut_cert.specs.Cuts.{IsGreatestLeastOf};
 
-use crate::reached::Reached;
+use crate::labelled_side::labelled_side;
 use crate::sink_side::sink_side;
 use aig_graph::{ClosedSet, NoMemory};
 use frame_net::Net;
 use pulse::MaxPreflow;
 use std::alloc::Global;
 
-/// The gate with this node before it, where the node doesn't reach the sink.
-fn gate_of(net: &Net, side: &Reached, v: u32) -> Option<u32>
-    requires node { v < node_count net.now }
-    requires long { length side.now.marks ≡ node_count net.now }
-    ensures { result ≡ gate_of net.now (λ u. not (is_marked side.now u)) v }
+/// Marks the nodes that reach the sink: by exact labels, or else by a walk over the arcs, since with other labels a node may have one
+/// below the number of nodes and not reach the sink.
+fn marks_of(alloc: Global, net: &Net, preflow: &MaxPreflow) -> Result<Vec<bool>, NoMemory>
+    requires { IsMaxPreflow net.now preflow.now }
+    ensures side { IfOk result (λ marks. IsSourceSide (node_count net.now)
+        (state_of net.now preflow.now.flow) (λ v. not (slice_index_or marks.items v false))) }
+    ensures long { IfOk result (λ marks. length marks.items ≡ node_count net.now) }
 {
-    if side.has(v) {
+    if preflow.has_exact_labels() {
+        return labelled_side(alloc, net, preflow);
+    }
+    let side = sink_side(alloc, net, preflow)?;
+    Ok(side.into_marks())
+}
+
+/// The gate with this node before it, where the node isn't marked.
+fn gate_of(net: &Net, marks: &[bool], node: u32) -> Option<u32>
+    requires node { node < node_count net.now }
+    requires long { length marks.now ≡ node_count net.now }
+    ensures { result ≡ gate_of net.now (λ u. not (slice_index_or marks.now u false)) node }
+{
+    if marks[node as usize] {
         return None;
     }
-    match net.point(v) {
+    match net.point(node) {
         Some(point) if !point.behind => Some(point.var),
         _ => None,
     }
 }
 
-/// The gates whose nodes before them don't reach the sink, in the order of the nodes.
-fn gates_of(alloc: Global, net: &Net, side: &Reached) -> Result<Vec<u32>, NoMemory>
-    requires { length side.now.marks ≡ node_count net.now }
+/// The gates whose nodes before them aren't marked, in the order of the nodes.
+fn gates_of(alloc: Global, net: &Net, marks: &[bool]) -> Result<Vec<u32>, NoMemory>
+    requires { length marks.now ≡ node_count net.now }
     ensures { IfOk result (λ gates. gates.items ≡ gates_below net.now
-        (λ u. not (is_marked side.now u)) (node_count net.now)) }
+        (λ u. not (slice_index_or marks.now u false)) (node_count net.now)) }
 {
     let mut gates = Vec::new(alloc);
     for v in 0..net.nodes() {
-        if let Some(gate) = gate_of(net, side, v) {
+        if let Some(gate) = gate_of(net, marks, v) {
             gates.push(gate)?;
         }
     }
@@ -45,13 +60,13 @@ fn gates_of(alloc: Global, net: &Net, side: &Reached) -> Result<Vec<u32>, NoMemo
 
 /// The greatest least set of the circuit whose network it is, by any maximum preflow of that network. The nodes of a circuit's
 /// network stand in the order of its gates, so the gates rise; of another network whose gates don't, the empty set is returned.
-/// Linear in the network.
+/// Linear in the network; where the labels are exact no arc is looked at.
 pub fn greatest_cut(alloc: Global, net: &Net, preflow: &MaxPreflow) -> Result<ClosedSet, NoMemory>
     requires { IsMaxPreflow net.now preflow.now }
     ensures { IfOk result (IsGreatestLeastOf net.now) }
 {
-    let side = sink_side(alloc, net, preflow)?;
-    let gates = gates_of(alloc, net, &side)?;
+    let marks = marks_of(alloc, net, preflow)?;
+    let gates = gates_of(alloc, net, marks.as_slice())?;
     match ClosedSet::new(gates) {
         Some(set) => Ok(set),
         None => Ok(no_gates(alloc)),

@@ -18,6 +18,7 @@ mod carried;
 mod certifying;
 mod gathering;
 mod greatest;
+mod labelled_side;
 mod least_set;
 mod lookup;
 mod nearest;

@@ -3,7 +3,7 @@ use crate::nets::{TWO_LATCHES, net_of_text};
 use aig_graph::ClosedSet;
 use cut_cert::greatest_cut;
 use frame_net::Net;
-use pulse::{Crew, OpenGate, PulseError, run_to_end};
+use pulse::{Crew, OpenGate, PulseError, run_along_wishes, run_to_end};
 use std::alloc::Global;
 use std::test::Fail;
 use std::thread::Threads;
@@ -31,6 +31,21 @@ fn cut_at_end<R: Threads + Sync>(
     let end = run_to_end(rt, alloc, net, &Crew::new(1, OpenGate))?;
     let set = greatest_cut(alloc, net, &end)?;
     Ok(set)
+}
+
+/// Whether a run from a start along a wish for each arc ends with exact labels, and these gates are those of the cut.
+fn is_greatest_by_labels<R: Threads + Sync>(
+    rt: &R,
+    alloc: Global,
+    net: &Net,
+    gates: &[u32],
+) -> Result<bool, PulseError> {
+    let wishes = vec![in alloc; 1u32; net.arcs()]?;
+    let end = run_along_wishes(rt, alloc, net, &Crew::new(1, OpenGate), wishes)?;
+    let exact = end.has_exact_labels();
+    let set = greatest_cut(alloc, net, &end);
+    drop(end);
+    Ok(exact && set?.vars() == gates)
 }
 
 /// Whether these are the gates of the greatest least set of a circuit.
@@ -74,5 +89,14 @@ fn moves_all_gates_where_as_many_latches_are_left(rt: HostRuntime) -> Result<(),
 #[test]
 fn moves_a_gate_of_a_latch_that_is_an_output(rt: HostRuntime) -> Result<(), Fail> {
     assert!(rt; is_greatest(&rt, rt.alloc(), READ_LATCH, &[5])?);
+    Ok(())
+}
+
+#[test]
+fn moves_the_gate_by_exact_labels(rt: HostRuntime) -> Result<(), Fail> {
+    let net = net_of_text(rt.alloc(), TWO_LATCHES)?;
+    let holds = is_greatest_by_labels(&rt, rt.alloc(), &net, &[5]);
+    drop(net);
+    assert!(rt; holds?);
     Ok(())
 }

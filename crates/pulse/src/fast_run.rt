@@ -1,11 +1,11 @@
 //! Pulses from the start until no node is active, with exact labels whenever they are worth their walk: the global relabeling of
 //! Cherkassky and Goldberg (1997). A walk goes over all arcs; it is made at the start, and again once the rows walked since hold more
 //! than a quarter of the arcs.
-ghost use Rattle.std.specs.Prelude.{◌≡◌, ◌*◌, ◌<◌, ◌≤◌, ◌⊎◌, IfOk, OnOk, false, length};
+ghost use Rattle.std.specs.Prelude.{◌≡◌, ◌*◌, ◌<◌, ◌≤◌, ◌⊎◌, IfOk, OnOk, false, length, true};
 ghost use Rattle.frame_net.specs.FlowNet.{node_count};
 ghost use Rattle.flow_part.specs.Parts.{Agree};
 ghost use Rattle.exact_labels.specs.Distances.{exact};
-ghost use Rattle.pulse.specs.Conditions.{ArePushesOf, IsBetween, IsMaxPreflow, NoneActive, active_count, state_of};
+ghost use Rattle.pulse.specs.Conditions.{ArePushesOf, HasExactLabels, IsBetween, IsMaxPreflow, NoneActive, active_count, state_of};
 ghost use Rattle.pulse.specs.Phases.{AfterPulse};
 ghost use Rattle.pulse.specs.Sharing.{first_share};
 
@@ -49,8 +49,12 @@ pub fn run_with_global_relabeling<G: PhaseGate>(
     let first = Share::among(1).next(net, net.start(1), false, crew.workers());
     let mut flow = Flow::start_for(alloc, net, first.parts)?;
     let mut pushes = Pushes::new_for(alloc, net, first.parts)?;
-    let pulses = run(rt, alloc, net, &mut flow, &mut pushes, crew, first)?;
-    Ok(MaxPreflow { flow, pulses })
+    let ended = run(rt, alloc, net, &mut flow, &mut pushes, crew, first)?;
+    Ok(MaxPreflow {
+        flow,
+        pulses: ended.pulses,
+        exact: ended.exact,
+    })
 }
 
 /// The flow from which a run along wishes begins. The wishes are dropped with it: a table by arc fewer while pulses are made.
@@ -82,8 +86,12 @@ pub fn run_along_wishes<G: PhaseGate>(
     let first = Share::among(1);
     let mut flow = start_along(alloc, net, wishes)?;
     let mut pushes = Pushes::new_for(alloc, net, 1)?;
-    let pulses = run(rt, alloc, net, &mut flow, &mut pushes, crew, first)?;
-    Ok(MaxPreflow { flow, pulses })
+    let ended = run(rt, alloc, net, &mut flow, &mut pushes, crew, first)?;
+    Ok(MaxPreflow {
+        flow,
+        pulses: ended.pulses,
+        exact: ended.exact,
+    })
 }
 
 /// Parts the flow for the next pulse, so that both its phases find the lists of the last one in their parts.
@@ -127,20 +135,22 @@ fn is_due(net: &Net, walked: usize) -> bool {
     walked > net.arcs() / 4
 }
 
-/// Makes the labels exact where they are due; returns how many arcs were walked since they were exact.
-fn relabel_after_walks(net: &Net, flow: &mut Flow, queue: &mut [u32], walked: usize) -> usize
+/// Makes the labels exact where they are due, and then begins anew to count the arcs that are walked; returns whether it did so.
+fn relabel_after_walks(net: &Net, flow: &mut Flow, queue: &mut [u32], walked: &mut usize) -> bool
     requires flow { IsBetween net.now flow.old }
     requires queue { length queue.old ≡ node_count net.now }
     ensures flow { IsBetween net.now flow.new }
     ensures labels { (flow.new ≡ flow.old)
         ⊎ Agree (node_count net.now) (exact (node_count net.now) (state_of net.now flow.old))
         (state_of net.now flow.new) }
+    ensures exact { result ≡ true → HasExactLabels net.now flow.new }
 {
-    if !is_due(net, walked) {
-        return walked;
+    if !is_due(net, *walked) {
+        return false;
     }
     relabel(net, flow, queue);
-    0
+    *walked = 0;
+    true
 }
 
 /// How the first pulse is shared out, once the labels are exact.
@@ -158,7 +168,14 @@ fn first_share(net: &Net, flow: &Flow, begun: Share, crew: u32) -> Share
     begun.next(net, active_nodes(net, flow), false, crew)
 }
 
-/// Pulses until no node is active, from a flow that was parted so; returns their number.
+/// How many pulses a run made, and whether the labels are exact at its end: they are where no pulse came after they were made so.
+#[derive(Clone, Copy)]
+struct Ended {
+    pulses: u64,
+    exact: bool,
+}
+
+/// Pulses until no node is active, from a flow that was parted so.
 fn run<R: Threads + Sync, G: PhaseGate>(
     rt: &R,
     alloc: Global,
@@ -167,19 +184,21 @@ fn run<R: Threads + Sync, G: PhaseGate>(
     pushes: &mut Pushes,
     crew: &Crew<G>,
     begun: Share,
-) -> Result<u64, PulseError>
+) -> Result<Ended, PulseError>
     requires some { 0 < begun.parts }
     requires flow { IsBetween net.now flow.old }
     requires pushes { ArePushesOf net.now pushes.old }
     requires usable { pushes.old.spent ≡ false }
-    ensures flow { IfOk result (λ k. IsBetween net.now flow.new) }
-    ensures ended { IfOk result (λ k. NoneActive net.now flow.new) }
-    ensures bounded { IfOk result (λ k. k ≤ 2 * (node_count net.now * node_count net.now)) }
+    ensures flow { IfOk result (λ e. IsBetween net.now flow.new) }
+    ensures ended { IfOk result (λ e. NoneActive net.now flow.new) }
+    ensures bounded { IfOk result (λ e. e.pulses ≤ 2 * (node_count net.now * node_count net.now)) }
+    ensures exact { IfOk result (λ e. e.exact ≡ true → HasExactLabels net.now flow.new) }
 {
     let _nodes = net.nodes();
     let mut room = queue_for(alloc, net)?;
     let queue = room.as_mut_slice();
     relabel(net, flow, queue);
+    let mut exact = true;
     let mut share = first_share(net, flow, begun, crew.workers());
     let mut count = 0;
     let mut walked: usize = 0;
@@ -190,7 +209,10 @@ fn run<R: Threads + Sync, G: PhaseGate>(
         let active = pushes.walked() as usize;
         share = share.next(net, active, is_due(net, walked), crew.workers());
         part_ahead(alloc, net, flow, share.parts)?;
-        walked = relabel_after_walks(net, flow, queue, walked);
+        exact = relabel_after_walks(net, flow, queue, &mut walked);
     }
-    Ok(count)
+    Ok(Ended {
+        pulses: count,
+        exact,
+    })
 }

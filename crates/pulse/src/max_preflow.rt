@@ -11,6 +11,7 @@ use std::marker::Model;
 pub struct MaxPreflow {
     pub(crate) flow: Flow,
     pub(crate) pulses: u64,
+    pub(crate) exact: bool,
 }
 
 impl Model for MaxPreflow {
@@ -18,7 +19,7 @@ impl Model for MaxPreflow {
 
     ghost Value = { RunEnd };
 
-    ghost view = { λ m. record { flow = m.flow; pulses = m.pulses } };
+    ghost view = { λ m. record { flow = m.flow; pulses = m.pulses; exact = m.exact } };
 }
 
 impl MaxPreflow {
@@ -53,5 +54,13 @@ impl MaxPreflow {
         ensures { result ≡ slice_index self.now.flow.labels v }
     {
         self.flow.label(v)
+    }
+
+    /// Whether the labels are known to be exact: each the residual distance to the sink, or the number of nodes where there is none. So they
+    /// are where no pulse came after they were made exact.
+    pub fn has_exact_labels(&self) -> bool
+        ensures { result ≡ self.now.exact }
+    {
+        self.exact
     }
 }

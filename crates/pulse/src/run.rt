@@ -42,7 +42,11 @@ pub fn run_to_end<G: PhaseGate>(
         queue.as_mut_slice(),
         crew,
     )?;
-    Ok(MaxPreflow { flow, pulses })
+    Ok(MaxPreflow {
+        flow,
+        pulses,
+        exact: false,
+    })
 }
 
 /// Pulses until no node is active; returns their number.

@@ -1,26 +1,25 @@
-use Rattle.std.proofs.Common.{◌∙◌, ap, sym, Bool, not, Some}
+use Rattle.std.proofs.Common.{◌∙◌, ap, sym, Bool, not, slice_index_or, false, Some}
 use Rattle.std.proofs.lemmas.Bool.{not-false, not-true}
-use Rattle.cut_cert.specs.Fronts.{is_marked}
 use Rattle.cut_cert.specs.Gates.{gate_after}
 use Rattle.cut_cert.proofs.GateLaws.{gate-in, gate-out}
 use Rattle.cut_cert.proofs.greatest.gate_of.Goals as goal
 
-pub returns-then-has : goal.returns-then-has
-returns-then-has c = sym (gate-out c.args.net.now (λ u. not (is_marked c.args.side.now u)) c.args.v (ap not (sym c.has.ensures ∙ c.if-has.true)))
+pub returns-then-marks-node : goal.returns-then-marks-node
+returns-then-marks-node c = sym (gate-out c.args.net.now (λ u. not (slice_index_or c.args.marks.now u false)) c.args.node (ap not c.if-marks-node.true))
 
 pub returns-in-Some : goal.returns-in-Some
 returns-in-Some c =
-    sym (gate-in c.args.net.now (λ u. not (is_marked c.args.side.now u)) c.args.v (ap not (sym c.has.ensures ∙ c.if-has.false))
+    sym (gate-in c.args.net.now (λ u. not (slice_index_or c.args.marks.now u false)) c.args.node (ap not c.if-marks-node.false)
     ∙ ap gate_after (sym c.point.ensures.value ∙ c.in-Some.is)
     ∙ ap (λ (b : Bool). gate_after (Some (record { var = c.in-Some.point.var; behind = b }))) (not-true c.in-Some.point.behind c.if-not-point.true))
 
 pub returns-in_default : goal.returns-in_default
 returns-in_default c =
-    sym (gate-in c.args.net.now (λ u. not (is_marked c.args.side.now u)) c.args.v (ap not (sym c.has.ensures ∙ c.if-has.false))
+    sym (gate-in c.args.net.now (λ u. not (slice_index_or c.args.marks.now u false)) c.args.node (ap not c.if-marks-node.false)
     ∙ ap gate_after (sym c.point.ensures.value ∙ c.in-Some.is)
     ∙ ap (λ (b : Bool). gate_after (Some (record { var = c.in-Some.point.var; behind = b }))) (not-false c.in-Some.point.behind c.if-not-point.false))
 
 pub returns-in_default-2 : goal.returns-in_default-2
 returns-in_default-2 c =
-    sym (gate-in c.args.net.now (λ u. not (is_marked c.args.side.now u)) c.args.v (ap not (sym c.has.ensures ∙ c.if-has.false))
+    sym (gate-in c.args.net.now (λ u. not (slice_index_or c.args.marks.now u false)) c.args.node (ap not c.if-marks-node.false)
     ∙ ap gate_after (sym c.point.ensures.value ∙ c.in_default.is))

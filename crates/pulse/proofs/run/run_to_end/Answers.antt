@@ -1,3 +1,4 @@
+use Rattle.std.proofs.lemmas.Bool.{false≢true}
 use Rattle.flow_theory.specs.Laws.{started}
 use Rattle.frame_net.specs.FlowNet.{node_count}
 use Rattle.flow_part.specs.Parts.{pair}
@@ -9,3 +10,13 @@ pub returns-clause-run : goal.returns-clause-run
 returns-clause-run g c =
     run_from c.args.net.now c.in_ok-pulses.pulses (started (node_count c.args.net.now) (pair c.args.net.now c.args.net.now.caps)) (state_of c.args.net.now c.in_ok-flow.flow) (state_of c.args.net.now c.run.new.flow)
     c.in_ok-flow.ensures.agree c.in_ok-pulses.ensures.run
+
+pub returns-clause-greatest : goal.returns-clause-greatest
+returns-clause-greatest g c = record {
+  fits = c.in_ok-pulses.ensures.flow.fits;
+  unspent = c.in_ok-pulses.ensures.flow.unspent;
+  preflow = c.in_ok-pulses.ensures.flow.sound.preflow;
+  valid = c.in_ok-pulses.ensures.flow.sound.valid;
+  none_active = c.in_ok-pulses.ensures.run.ended;
+  exact = λ on. absurd (false≢true on);
+}
