@@ -105,7 +105,7 @@ no-marks n v e =
 
 -- a walk over n nodes: what holds of each marked node, and when a node is read
 module _ (n : ℕ) (Inside : ℕ → Type 0) (HasRead : Front → ℕ → Type 0) where
-  -- the queue has marked nodes, once each; those before place k are read, and those that it doesn't have
+  -- the queue has marked nodes, no more of them than there are; each marked node waits at place k or after it, or is read
   pub record Sweeps (r : Front) (k : ℕ) : Type 0 where
     pub as_long : length r.marks ≡ n
     pub within : k ≤ length r.queue
