@@ -2,12 +2,11 @@
 use Rattle.std.proofs.Common.{ℕ, zero, ◌+◌, ◌<◌, ◌≤◌, ◌≡◌, ◌⊎◌, inl, inr, List, [], ◌∷◌, ◌++◌, length, replicate, Bool, true, false, cond, Some, None, slice_get, set, get_or, count_by, arith, ap, sym, ◌∙◌, subst}
 use Rattle.std.proofs.lemmas.Bool.{cases_Bool, cases_eq, cases_lt, cond-true, cond-false}
 use Rattle.std.proofs.lemmas.Option.{none-some, slice_get_within, same_Some}
-use Rattle.std.proofs.lemmas.List.{length-set, get_or-set_same, get_or-set_other, get_or_past, length_push, length-replicate, get_or-replicate}
+use Rattle.std.proofs.lemmas.List.{length-set, get_or-set_same, get_or-set_other, get_or_past, set-get_or, length_push, length-replicate, get_or-replicate}
 use Rattle.std.proofs.lemmas.List.Sums.{sum_by-set, count_by-le-length}
-use Rattle.std.proofs.lemmas.List.Folds.{sum_by-replicate}
 use Rattle.aig_graph.proofs.KindLaws.{element}
 use Rattle.variable_tables.proofs.PlacesLaws.{slice_get_push, slice_get-append_left, slice_get-append_right}
-use Rattle.cut_cert.specs.Fronts.{Front, is_marked, reach}
+use Rattle.cut_cert.specs.Fronts.{Front, is_marked, mark, reach}
 
 -- ---- one more node
 
@@ -21,6 +20,15 @@ reach-marked r v e = cond-true (is_marked r v) r (reach_new r v) e
 pub reach-new : (r : Front) (v : ℕ) → is_marked r v ≡ false → reach r v ≡ reach_new r v
 unfolding reach
 reach-new r v e = cond-false (is_marked r v) r (reach_new r v) e
+
+-- a mark that is there stays as it is
+pub mark-marked : (r : Front) (v : ℕ) → is_marked r v ≡ true → mark r v ≡ r
+mark-marked r v e =
+    let same : set r.marks v true ≡ r.marks = ap (λ (b : Bool). set r.marks v b) (sym e) ∙ set-get_or r.marks v false in
+    ap (λ (marks : List Bool). record { marks = marks; queue = r.queue }) same
+
+pub mark-long : (r : Front) (v : ℕ) → length (mark r v).marks ≡ length r.marks
+mark-long r v = length-set r.marks v true
 
 -- the length of the marks stays
 pub reach-long : (r : Front) (v : ℕ) → length (reach r v).marks ≡ length r.marks
@@ -68,6 +76,9 @@ module _ (r : Front) (w : ℕ) (within : w < length r.marks) where
     queue = λ i v e. slice_get-append_left r.queue (w ∷ []) i v e;
   }
 
+  mark-grows : Grows r (mark r w)
+  mark-grows = record { marks = new-grows.marks; queue = λ i v e. e }
+
 -- ---- what the walk keeps
 
 -- nothing is reached of so many nodes
@@ -94,11 +105,11 @@ no-marks n v e =
 
 -- a walk over n nodes: what holds of each marked node, and when a node is read
 module _ (n : ℕ) (Inside : ℕ → Type 0) (HasRead : Front → ℕ → Type 0) where
-  -- the queue has the marked nodes, once each; and those before place k are read
+  -- the queue has marked nodes, no more of them than there are; each marked node waits at place k or after it, or is read
   pub record Sweeps (r : Front) (k : ℕ) : Type 0 where
     pub as_long : length r.marks ≡ n
     pub within : k ≤ length r.queue
-    pub counted : length r.queue ≡ count_by (λ b. b) r.marks
+    pub counted : length r.queue ≤ count_by (λ b. b) r.marks
     pub queued : (i v : ℕ) → slice_get r.queue i ≡ Some v → is_marked r v ≡ true
     pub pending : (v : ℕ) → is_marked r v ≡ true → Waits r.queue k v ⊎ HasRead r v
     pub inside : (v : ℕ) → is_marked r v ≡ true → Inside v
@@ -116,7 +127,7 @@ module _ (n : ℕ) (Inside : ℕ → Type 0) (HasRead : Front → ℕ → Type 0
   sweeps-none = record {
     as_long = length-replicate n false;
     within = omega arith;
-    counted = sym (sum_by-replicate (λ (b : Bool). cond b 1 0) n false ∙ omega arith);
+    counted = omega arith;
     queued = λ i v e. absurd (none-some v e);
     pending = λ v e. absurd (no-marks n v e);
     inside = λ v e. absurd (no-marks n v e);
@@ -162,7 +173,7 @@ module _ (n : ℕ) (Inside : ℕ → Type 0) (HasRead : Front → ℕ → Type 0
           counted =
               let counts = sum_by-set (λ (b : Bool). cond b 1 0) r.marks w true false h in
               let before : cond {A = ℕ} (get_or r.marks w false) 1 0 ≡ zero = ap (λ (b : Bool). cond {A = ℕ} b 1 0) fresh in
-              let old : length r.queue ≡ count_by (λ b. b) r.marks = sweep.counted in
+              let old : length r.queue ≤ count_by (λ b. b) r.marks = sweep.counted in
               omega (arith, length_push r.queue w, counts, before, old);
           queued = λ i v e. elim (slice_get_push r.queue w i v e) [
             | inl before ↦ (new-grows r w h).marks v (sweep.queued i v before)
@@ -193,3 +204,37 @@ module _ (n : ℕ) (Inside : ℕ → Type 0) (HasRead : Front → ℕ → Type 0
           subst (λ (t : Front). Goes k r t × (is_marked t v ≡ true)) (sym (reach-new r v fresh))
           (record { sweeps = sweeps-new r k v sweep way below fresh; grows = new-grows r v h }, new-here r v h))
     ]
+
+    sweeps-mark : (r : Front) (k w : ℕ) → Sweeps r k → Inside w → w < n → HasRead (mark r w) w → Sweeps (mark r w) k
+    sweeps-mark r k w sweep way below reads =
+        let h : w < length r.marks = omega (arith, sweep.as_long, below) in
+        record {
+          as_long = mark-long r w ∙ sweep.as_long;
+          within = sweep.within;
+          counted =
+              let counts = sum_by-set (λ (b : Bool). cond b 1 0) r.marks w true false h in
+              let old : length r.queue ≤ count_by (λ b. b) r.marks = sweep.counted in
+              omega (arith, counts, one (is_marked r w), old);
+          queued = λ i v e. (new-grows r w h).marks v (sweep.queued i v e);
+          pending = λ v e. elim (new-cases r w h v e) [
+            | inl same ↦ inr (subst (λ (u : ℕ). HasRead (mark r w) u) (sym same) reads)
+            | inr before ↦ elim (sweep.pending v before) [
+              | inl waits ↦ inl waits
+              | inr read ↦ inr (still r (mark r w) (mark-grows r w h) v read)
+            ]
+          ];
+          inside = λ v e. elim (new-cases r w h v e) [
+            | inl same ↦ subst (λ (u : ℕ). Inside u) (sym same) way
+            | inr before ↦ sweep.inside v before
+          ];
+        }
+      where
+        one : (b : Bool) → cond {A = ℕ} b 1 0 ≤ 1
+        one true = omega arith
+        one false = omega arith
+
+    -- a node that is marked alone counts as read
+    pub mark-goes : (r : Front) (k v : ℕ) → Sweeps r k → v < n → Inside v → HasRead (mark r v) v → Goes k r (mark r v) × (is_marked (mark r v) v ≡ true)
+    mark-goes r k v sweep below way reads =
+        let h : v < length r.marks = omega (arith, sweep.as_long, below) in
+        (record { sweeps = sweeps-mark r k v sweep way below reads; grows = mark-grows r v h }, new-here r v h)

@@ -1,14 +1,13 @@
-//! What a walk over a network's arcs has reached. The queue is never taken from: a place in it walks from its front to its end,
-//! and at the end it lists all marked nodes.
+//! What a walk over a network's arcs has reached. The queue is never taken from: a place in it walks from its front to its end.
 ghost use Rattle.std.specs.Prelude.{◌≡◌, ◌<◌, IfOk, OnOk, [], false, length, replicate, slice_get};
-ghost use Rattle.cut_cert.specs.Fronts.{is_marked, reach};
+ghost use Rattle.cut_cert.specs.Fronts.{is_marked, mark, reach};
 
 use aig_graph::NoMemory;
 use std::alloc::Global;
 use std::marker::Model;
 
-/// A mark for each node, and the marked nodes in the order in which they were reached. A node enters the queue once, so a walk
-/// that looks once at the arcs of each queued node is linear.
+/// A mark for each node, and marked nodes in the order in which they were reached. A node enters the queue at most once, so a
+/// walk that looks once at the arcs of each queued node is linear.
 #[derive(Drop)]
 pub(crate) struct Reached {
     marks: Vec<bool>,
@@ -43,6 +42,14 @@ impl Reached {
             self.marks[node as usize] = true;
         }
         Ok(())
+    }
+
+    /// Marks a node and doesn't queue it.
+    pub(crate) fn mark(&mut self, node: u32)
+        requires { node < length self.old.marks }
+        ensures { self.new ≡ mark self.old node }
+    {
+        self.marks[node as usize] = true;
     }
 
     /// The node at a place of the queue.

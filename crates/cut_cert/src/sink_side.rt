@@ -1,10 +1,11 @@
-//! The nodes that reach the sink over residual arcs, by a walk backward from it.
+//! The nodes that reach the sink over residual arcs, by a walk backward from it: a sweep over the nodes by falling number, in
+//! which each row is read after the one behind it in memory, and a queue of those to which the sweep doesn't come any more.
 ghost use Rattle.std.specs.Prelude.{◌≡◌, ◌<◌, IfOk, OnOk, length, not, nat_lt, slice_index};
 ghost use Rattle.flow_theory.specs.Flow.{IsSourceSide};
 ghost use Rattle.frame_net.specs.FlowNet.{node_count, row_len};
 ghost use Rattle.pulse.specs.Conditions.{IsMaxPreflow, state_of};
 ghost use Rattle.cut_cert.specs.Fronts.{is_marked};
-ghost use Rattle.cut_cert.specs.SinkWalk.{read_arcs};
+ghost use Rattle.cut_cert.specs.SinkWalk.{reach_in_sweep, read_arcs};
 
 use crate::reached::Reached;
 use aig_graph::NoMemory;
@@ -20,12 +21,31 @@ fn has_residual(preflow: &MaxPreflow, arc: u32) -> bool
     preflow.residual(arc) > 0
 }
 
+/// Reaches a node, where a sweep over the nodes from the last down to 2 has come down to `swept`. A node to which it comes later
+/// isn't queued.
+fn reach_in_sweep(side: &mut Reached, node: u32, swept: u32) -> Result<(), NoMemory>
+    requires { node < length side.old.marks }
+    ensures { OnOk result (side.new ≡ reach_in_sweep swept side.old node) }
+{
+    if 1 < node && node < swept {
+        side.mark(node);
+        return Ok(());
+    }
+    side.reach(node)
+}
+
 /// Reaches the nodes with a residual arc to `w`. An arc from such a node is the mate of one with tail `w`.
-fn read(net: &Net, preflow: &MaxPreflow, side: &mut Reached, w: u32) -> Result<(), NoMemory>
+fn read(
+    net: &Net,
+    preflow: &MaxPreflow,
+    side: &mut Reached,
+    w: u32,
+    swept: u32,
+) -> Result<(), NoMemory>
     requires preflow { IsMaxPreflow net.now preflow.now }
     requires long { length side.old.marks ≡ node_count net.now }
     requires node { w < node_count net.now }
-    ensures { OnOk result (side.new ≡ read_arcs net.now preflow.now.flow.cells.residuals w
+    ensures { OnOk result (side.new ≡ read_arcs net.now preflow.now.flow.cells.residuals swept w
         (row_len net.now w) side.old) }
 {
     let _nodes = net.nodes();
@@ -36,25 +56,33 @@ fn read(net: &Net, preflow: &MaxPreflow, side: &mut Reached, w: u32) -> Result<(
         // Most nodes are marked by then, and a mark is cheaper to look at than a residual.
         if !side.has(heads[k]) {
             if has_residual(preflow, mates[k]) {
-                side.reach(heads[k])?;
+                reach_in_sweep(side, heads[k], swept)?;
             }
         }
     }
     Ok(())
 }
 
-/// The nodes that reach the sink at the end of a run. Each arc is looked at once: linear in the network.
+/// The nodes that reach the sink at the end of a run. Most reach it over arcs to higher nodes, so that the sweep comes to them and
+/// they aren't queued. The row of each is read once: linear in the network.
 pub(crate) fn sink_side(alloc: Global, net: &Net, preflow: &MaxPreflow) -> Result<Reached, NoMemory>
     requires { IsMaxPreflow net.now preflow.now }
     ensures side { IfOk result (λ r. IsSourceSide (node_count net.now)
         (state_of net.now preflow.now.flow) (λ v. not (is_marked r v))) }
     ensures long { IfOk result (λ r. length r.marks ≡ node_count net.now) }
 {
-    let mut side = Reached::none(alloc, net.nodes())?;
+    let nodes = net.nodes();
+    let mut side = Reached::none(alloc, nodes)?;
     side.reach(1)?;
-    let mut place = 0;
+    read(net, preflow, &mut side, 1, nodes)?;
+    for v in (2..nodes).rev() {
+        if side.has(v) {
+            read(net, preflow, &mut side, v, v)?;
+        }
+    }
+    let mut place = 1;
     while let Some(w) = side.queued(place) {
-        read(net, preflow, &mut side, w)?;
+        read(net, preflow, &mut side, w, 2)?;
         place += 1;
     }
     Ok(side)
