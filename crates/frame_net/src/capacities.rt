@@ -6,7 +6,7 @@ use std::alloc::Global;
 use std::marker::Model;
 use std::sync::Arc;
 
-/// The capacities of all arcs, by arc: one table, with as many owners as there are values made from it by `share`.
+/// The capacities of all arcs, by arc: one table, which a network and its flows own together. The last of them drops it.
 #[derive(Drop)]
 pub struct Capacities {
     table: Arc<Vec<u32>>,
