@@ -4,6 +4,7 @@
 #![tactic(auto)]
 
 mod build;
+mod capacities;
 mod counting;
 mod edges;
 mod joining;
@@ -13,6 +14,7 @@ mod net;
 mod pass_set;
 mod tables;
 
+pub use capacities::Capacities;
 pub use layout::leaving_marks;
 pub use net::{Net, Point};
 pub use pass_set::{PassSet, passable};

@@ -6,6 +6,7 @@ ghost use Rattle.frame_net.specs.Capacity.{IsNetOf};
 ghost use Rattle.frame_net.specs.FlowNet.{node_count, start, row_len, head, mate, cap_at, point_of, IsFlowNet, IsStartable, HasPoints};
 
 use crate::build::{Rows, fill_rows};
+use crate::capacities::Capacities;
 use crate::layout::Layout;
 use crate::pass_set::PassSet;
 use crate::tables::Tables;
@@ -29,7 +30,7 @@ pub struct Net {
     starts: Vec<u32>,
     heads: Vec<u32>,
     mates: Vec<u32>,
-    caps: Vec<u32>,
+    caps: Capacities,
     latches: u32,
     variables: Vec<u32>,
 }
@@ -39,11 +40,11 @@ impl Model for Net {
 
     ghost Value = { FlowNet };
 
-    ghost view = { λ a. record { starts = a.starts.items; heads = a.heads.items; mates = a.mates.items; caps = a.caps.items; latches = a.latches; variables = a.variables.items } };
+    ghost view = { λ a. record { starts = a.starts.items; heads = a.heads.items; mates = a.mates.items; caps = a.caps; latches = a.latches; variables = a.variables.items } };
 
-    ghost invariant = { λ a. IsFlowNet (record { starts = a.starts.items; heads = a.heads.items; mates = a.mates.items; caps = a.caps.items; latches = a.latches; variables = a.variables.items })
-        × IsStartable (record { starts = a.starts.items; heads = a.heads.items; mates = a.mates.items; caps = a.caps.items; latches = a.latches; variables = a.variables.items })
-        × HasPoints (record { starts = a.starts.items; heads = a.heads.items; mates = a.mates.items; caps = a.caps.items; latches = a.latches; variables = a.variables.items }) };
+    ghost invariant = { λ a. IsFlowNet (record { starts = a.starts.items; heads = a.heads.items; mates = a.mates.items; caps = a.caps; latches = a.latches; variables = a.variables.items })
+        × IsStartable (record { starts = a.starts.items; heads = a.heads.items; mates = a.mates.items; caps = a.caps; latches = a.latches; variables = a.variables.items })
+        × HasPoints (record { starts = a.starts.items; heads = a.heads.items; mates = a.mates.items; caps = a.caps; latches = a.latches; variables = a.variables.items }) };
 }
 
 impl Net {
@@ -96,7 +97,7 @@ impl Net {
         })
     }
 
-    /// The memory of the tables by arc, for a network to come.
+    /// The memory of the tables by arc, for a network to come. That of the capacities is among it unless a flow still shares them.
     pub fn into_tables(self) -> Tables {
         let Net {
             heads,
@@ -104,7 +105,11 @@ impl Net {
             caps,
             ..
         } = self;
-        Tables { heads, mates, caps }
+        Tables {
+            heads,
+            mates,
+            caps: caps.into_table(),
+        }
     }
 
     /// The number of nodes, the source and the sink among them.
@@ -209,7 +214,14 @@ impl Net {
         requires { arc < length self.now.heads }
         ensures { result ≡ cap_at self.now arc }
     {
-        self.caps[arc as usize]
+        self.caps.at(arc)
+    }
+
+    /// The capacities of all arcs, to share.
+    pub fn capacities(&self) -> &Capacities
+        ensures { result.now ≡ self.now.caps }
+    {
+        &self.caps
     }
 
     /// The capacities of all arcs.

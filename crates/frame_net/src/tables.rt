@@ -10,7 +10,8 @@ use std::alloc::Global;
 pub struct Tables {
     pub(crate) heads: Vec<u32>,
     pub(crate) mates: Vec<u32>,
-    pub(crate) caps: Vec<u32>,
+    /// None where the table of the network before still has another owner.
+    pub(crate) caps: Option<Vec<u32>>,
 }
 
 impl Tables {
@@ -19,7 +20,7 @@ impl Tables {
         Tables {
             heads: Vec::new(alloc),
             mates: Vec::new(alloc),
-            caps: Vec::new(alloc),
+            caps: None,
         }
     }
 }

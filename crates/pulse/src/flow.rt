@@ -3,8 +3,7 @@
 //!     between two pulses ──deliver_phase──► between two pulses
 //!     between two pulses ──deliver_range──► delivered in part ──deliver_range, up to all nodes──► ──turn──► between two pulses
 //!     any ──deliver_phase, refused──► spent, and stays so
-ghost use Rattle.std.specs.Prelude.{◌≡◌, ℕ, ◌<◌, IfOk, false, length, pos, slice_index, slice_index_or, ◌-ℤ◌};
-ghost use Rattle.frame_net.specs.FlowNet.{cap_at};
+ghost use Rattle.std.specs.Prelude.{◌≡◌, ◌<◌, IfOk, length, pos, slice_index, ◌-ℤ◌};
 ghost use Rattle.pulse.specs.Conditions.{IsStart, IsTurnable, is_marked};
 ghost use Rattle.pulse.specs.Phases.{Turns};
 
@@ -12,12 +11,12 @@ use crate::marks::{no_marks, unmark};
 use aig_graph::NoMemory;
 use flow_part::{FlowPart, excess_at, residual_at};
 use flow_whole::{start_labels, start_parts, turn};
-use frame_net::Net;
-use std::alloc::{AllocError, Global};
+use frame_net::{Capacities, Net};
+use std::alloc::Global;
 use std::marker::Model;
 
 /// The flow of a network: the residuals of its arcs in parts, one for each worker of the last delivery phase, and the excess of its
-/// nodes; and the labels, which are lent to all workers.
+/// nodes; and the labels, which are lent to all workers. The capacities are the network's own table, which the flow shares.
 ///
 /// A delivery phase that is refused memory leaves the flow spent: its parts are gone, and each later phase is refused. Where `listed`
 /// is false the parts' lists of active nodes aren't those of this flow.
@@ -25,7 +24,7 @@ use std::marker::Model;
 pub struct Flow {
     pub(crate) labels: Vec<u32>,
     pub(crate) delivered: Vec<bool>,
-    pub(crate) caps: Vec<u32>,
+    pub(crate) caps: Capacities,
     pub(crate) parts: Vec<FlowPart>,
     pub(crate) phase: u32,
     pub(crate) spent: bool,
@@ -37,7 +36,7 @@ impl Model for Flow {
 
     ghost Value = { FlowState };
 
-    ghost view = { λ f. flow_state f.parts.items f.labels.items f.delivered.items f.caps.items f.spent };
+    ghost view = { λ f. flow_state f.parts.items f.labels.items f.delivered.items f.caps f.spent };
 
     ghost invariant = { λ f. FlowKept f.listed f.spent f.labels.items f.parts.items };
 }
@@ -58,7 +57,7 @@ impl Flow {
         let nodes = net.nodes();
         let _arcs = net.arcs();
         let labels = start_labels(alloc, net)?;
-        let caps = capacities(alloc, net)?;
+        let caps = net.capacities().share()?;
         let delivered = no_marks(alloc, nodes)?;
         let parts = start_parts(alloc, net, workers)?;
         Ok(Flow {
@@ -96,7 +95,7 @@ impl Flow {
             (slice_index self.now.cells.residuals arc) }
     {
         let residual = residual_at(self.parts.as_slice(), arc as usize);
-        i64::from(self.caps[arc as usize]) - i64::from(residual)
+        i64::from(self.caps.at(arc)) - i64::from(residual)
     }
 
     /// Whether node `v` was delivered since the last turn.
@@ -124,14 +123,4 @@ impl Flow {
         unmark(self.delivered.as_mut_slice());
         self.phase = self.phase.wrapping_add(2);
     }
-}
-
-/// The capacities of all arcs.
-fn capacities(alloc: Global, net: &Net) -> Result<Vec<u32>, AllocError>
-    ensures len { IfOk result (λ v. length v.items ≡ length net.now.heads) }
-    ensures each { IfOk result (λ v. (arc : ℕ) → arc < length v.items
-        → slice_index v.items arc ≡ cap_at net.now arc) }
-{
-    let _nodes = net.nodes();
-    Vec::from_slice(alloc, net.caps())
 }

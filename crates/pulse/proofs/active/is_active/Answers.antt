@@ -11,8 +11,8 @@ use Rattle.pulse.proofs.FlowLaws.{flow_unspent, parts_seen}
 
 pub any_active_node-requires-clause-parts : goal.any_active_node-requires-clause-parts
 any_active_node-requires-clause-parts c =
-    parts_seen c.args.net.now c.args.flow.now c.flow.inside.parts.items c.as_slice-2.result.now c.flow.inside.labels.items c.flow.inside.delivered.items c.flow.inside.caps.items c.flow.inside.spent c.flow.view_is
-    c.as_slice-2.ensures.value (flow_unspent c.args.flow.now c.flow.inside.parts.items c.flow.inside.labels.items c.flow.inside.delivered.items c.flow.inside.caps.items c.flow.inside.spent c.flow.view_is c.requires.unspent) c.requires.flow
+    parts_seen c.args.net.now c.args.flow.now c.flow.inside.parts.items c.as_slice-2.result.now c.flow.inside.labels.items c.flow.inside.delivered.items c.flow.inside.caps c.flow.inside.spent c.flow.view_is
+    c.as_slice-2.ensures.value (flow_unspent c.args.flow.now c.flow.inside.parts.items c.flow.inside.labels.items c.flow.inside.delivered.items c.flow.inside.caps c.flow.inside.spent c.flow.view_is c.requires.unspent) c.requires.flow
 
 pub any_active_node-requires-clause-lists : goal.any_active_node-requires-clause-lists
 any_active_node-requires-clause-lists c on =

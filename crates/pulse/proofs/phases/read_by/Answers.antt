@@ -6,7 +6,7 @@ use Rattle.pulse.proofs.PhaseLaws.{listed_seen, read_fits, read_walked}
 
 pub read_all-requires-clause-flow : goal.read_all-requires-clause-flow
 read_all-requires-clause-flow g c κs within =
-    parts_seen c.args.net.now c.args.flow.now c.flow.inside.parts.items c.as_slice-parts.result.now c.flow.inside.labels.items c.flow.inside.delivered.items c.flow.inside.caps.items c.flow.inside.spent c.flow.view_is
+    parts_seen c.args.net.now c.args.flow.now c.flow.inside.parts.items c.as_slice-parts.result.now c.flow.inside.labels.items c.flow.inside.delivered.items c.flow.inside.caps c.flow.inside.spent c.flow.view_is
     c.as_slice-parts.ensures.value c.if-flow.false c.requires.flow
 
 pub read_all-requires-clause-parts : goal.read_all-requires-clause-parts
@@ -14,7 +14,7 @@ read_all-requires-clause-parts g c κs within = rows_of c.args.net.now c.args.pu
 
 pub read_all-requires-clause-listed : goal.read_all-requires-clause-listed
 read_all-requires-clause-listed g c κs within =
-    listed_seen c.args.net.now c.args.flow.now c.flow.inside.parts.items c.as_slice-parts.result.now c.flow.inside.labels.items c.as_slice-labels.result.now c.flow.inside.delivered.items c.flow.inside.caps.items c.flow.inside.spent
+    listed_seen c.args.net.now c.args.flow.now c.flow.inside.parts.items c.as_slice-parts.result.now c.flow.inside.labels.items c.as_slice-labels.result.now c.flow.inside.delivered.items c.flow.inside.caps c.flow.inside.spent
     c.flow.inside.listed c.flow.view_is c.as_slice-parts.ensures.value c.as_slice-labels.ensures.value c.requires.flow c.flow.invariant.lists
 
 pub returns-in-Ok-clause-fits : goal.returns-in-Ok-clause-fits
@@ -23,7 +23,7 @@ returns-in-Ok-clause-fits g c =
 
 pub returns-in-Ok-clause-walked : goal.returns-in-Ok-clause-walked
 returns-in-Ok-clause-walked g c =
-    read_walked c.args.net.now c.args.flow.now c.flow.inside.parts.items c.as_slice-parts.result.now c.flow.inside.labels.items c.as_slice-labels.result.now c.flow.inside.delivered.items c.flow.inside.caps.items c.flow.inside.spent
+    read_walked c.args.net.now c.args.flow.now c.flow.inside.parts.items c.as_slice-parts.result.now c.flow.inside.labels.items c.as_slice-labels.result.now c.flow.inside.delivered.items c.flow.inside.caps c.flow.inside.spent
     c.read_all.new.parts.items c.nodes-nodes.ensures.network c.flow.view_is c.as_slice-parts.ensures.value c.as_slice-labels.ensures.value c.in-Ok.ensures.walked
 
 pub invariant_of-pushes : goal.invariant_of-pushes

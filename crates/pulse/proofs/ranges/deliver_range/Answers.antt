@@ -20,26 +20,26 @@ deliver_each-requires-clause-pushes c =
 
 pub deliver_each-requires-clause-parts : goal.deliver_each-requires-clause-parts
 deliver_each-requires-clause-parts c =
-    parts_seen c.args.net.now c.args.flow.now c.flow.inside.parts.items c.as_mut_slice.result.now c.flow.inside.labels.items c.flow.inside.delivered.items c.flow.inside.caps.items c.flow.inside.spent c.flow.view_is
-    c.as_mut_slice.ensures.value (flow_unspent c.args.flow.now c.flow.inside.parts.items c.flow.inside.labels.items c.flow.inside.delivered.items c.flow.inside.caps.items c.flow.inside.spent c.flow.view_is c.requires.unspent) c.requires.flow
+    parts_seen c.args.net.now c.args.flow.now c.flow.inside.parts.items c.as_mut_slice.result.now c.flow.inside.labels.items c.flow.inside.delivered.items c.flow.inside.caps c.flow.inside.spent c.flow.view_is
+    c.as_mut_slice.ensures.value (flow_unspent c.args.flow.now c.flow.inside.parts.items c.flow.inside.labels.items c.flow.inside.delivered.items c.flow.inside.caps c.flow.inside.spent c.flow.view_is c.requires.unspent) c.requires.flow
 
 pub deliver_each-requires-clause-safe : goal.deliver_each-requires-clause-safe
 deliver_each-requires-clause-safe c =
-    range_safe c.args.net.now c.args.first c.args.end c.flow.inside.parts.items c.as_mut_slice.result.now c.flow.inside.labels.items c.flow.inside.delivered.items c.flow.inside.caps.items c.flow.inside.spent
+    range_safe c.args.net.now c.args.first c.args.end c.flow.inside.parts.items c.as_mut_slice.result.now c.flow.inside.labels.items c.flow.inside.delivered.items c.flow.inside.caps c.flow.inside.spent
     c.pushes.inside.parts.items c.as_slice-2.result.now c.pushes.inside.spent c.nodes-nodes.ensures.network c.as_mut_slice.ensures.value c.as_slice-2.ensures.value
-    (parts_of c.args.net.now c.args.flow.now c.flow.inside.parts.items c.flow.inside.labels.items c.flow.inside.delivered.items c.flow.inside.caps.items c.flow.inside.spent c.flow.view_is (flow_unspent c.args.flow.now c.flow.inside.parts.items c.flow.inside.labels.items c.flow.inside.delivered.items c.flow.inside.caps.items c.flow.inside.spent c.flow.view_is c.requires.unspent) c.requires.flow)
+    (parts_of c.args.net.now c.args.flow.now c.flow.inside.parts.items c.flow.inside.labels.items c.flow.inside.delivered.items c.flow.inside.caps c.flow.inside.spent c.flow.view_is (flow_unspent c.args.flow.now c.flow.inside.parts.items c.flow.inside.labels.items c.flow.inside.delivered.items c.flow.inside.caps c.flow.inside.spent c.flow.view_is c.requires.unspent) c.requires.flow)
     (subst (λ (f : FlowState). NoneMarked (is_marked f) c.args.first c.args.end) (sym c.flow.view_is) c.requires.none)
     (subst (λ (f : FlowState). IsPartlyDelivered c.args.net.now f.labels (push_state c.pushes.inside.parts.items c.pushes.inside.spent).values (is_marked f) f.cells) (sym c.flow.view_is)
     (subst (λ (p : PushState). IsPartlyDelivered c.args.net.now c.args.flow.now.labels p.values (is_marked c.args.flow.now) c.args.flow.now.cells) (sym c.pushes.view_is) c.requires.opening))
 
 pub returns : goal.returns
 returns c =
-    subst (λ (f : FlowState). RangeDelivered c.args.net.now c.args.pushes.now c.args.first c.args.end f (flow_state (with_items c.flow.inside.parts c.deliver_each.new.parts).items c.flow.inside.labels.items (with_items c.flow.inside.delivered c.mark.new.delivered).items c.flow.inside.caps.items c.flow.inside.spent)) c.flow.view_is
-    (subst (λ (p : PushState). RangeDelivered c.args.net.now p c.args.first c.args.end (flow_state c.flow.inside.parts.items c.flow.inside.labels.items c.flow.inside.delivered.items c.flow.inside.caps.items c.flow.inside.spent) (flow_state (with_items c.flow.inside.parts c.deliver_each.new.parts).items c.flow.inside.labels.items (with_items c.flow.inside.delivered c.mark.new.delivered).items c.flow.inside.caps.items c.flow.inside.spent)) c.pushes.view_is
+    subst (λ (f : FlowState). RangeDelivered c.args.net.now c.args.pushes.now c.args.first c.args.end f (flow_state (with_items c.flow.inside.parts c.deliver_each.new.parts).items c.flow.inside.labels.items (with_items c.flow.inside.delivered c.mark.new.delivered).items c.flow.inside.caps c.flow.inside.spent)) c.flow.view_is
+    (subst (λ (p : PushState). RangeDelivered c.args.net.now p c.args.first c.args.end (flow_state c.flow.inside.parts.items c.flow.inside.labels.items c.flow.inside.delivered.items c.flow.inside.caps c.flow.inside.spent) (flow_state (with_items c.flow.inside.parts c.deliver_each.new.parts).items c.flow.inside.labels.items (with_items c.flow.inside.delivered c.mark.new.delivered).items c.flow.inside.caps c.flow.inside.spent)) c.pushes.view_is
     (range_delivered c.args.net.now c.args.first c.args.end c.flow.inside.parts.items c.as_mut_slice.result.now c.deliver_each.new.parts (with_items c.flow.inside.parts c.deliver_each.new.parts).items
-    c.flow.inside.labels.items c.as_slice.result.now c.flow.inside.delivered.items c.as_mut_slice-2.result.now c.mark.new.delivered (with_items c.flow.inside.delivered c.mark.new.delivered).items c.flow.inside.caps.items c.flow.inside.spent
+    c.flow.inside.labels.items c.as_slice.result.now c.flow.inside.delivered.items c.as_mut_slice-2.result.now c.mark.new.delivered (with_items c.flow.inside.delivered c.mark.new.delivered).items c.flow.inside.caps c.flow.inside.spent
     c.pushes.inside.parts.items c.as_slice-2.result.now c.pushes.inside.spent c.nodes-nodes.ensures.network c.as_mut_slice.ensures.value c.as_slice.ensures.value c.as_slice-2.ensures.value
-    (with_items_is c.flow.inside.parts c.deliver_each.new.parts (omega arith)) c.as_mut_slice-2.ensures.value (with_items_is c.flow.inside.delivered c.mark.new.delivered (omega arith)) (flow_unspent c.args.flow.now c.flow.inside.parts.items c.flow.inside.labels.items c.flow.inside.delivered.items c.flow.inside.caps.items c.flow.inside.spent c.flow.view_is c.requires.unspent)
+    (with_items_is c.flow.inside.parts c.deliver_each.new.parts (omega arith)) c.as_mut_slice-2.ensures.value (with_items_is c.flow.inside.delivered c.mark.new.delivered (omega arith)) (flow_unspent c.args.flow.now c.flow.inside.parts.items c.flow.inside.labels.items c.flow.inside.delivered.items c.flow.inside.caps c.flow.inside.spent c.flow.view_is c.requires.unspent)
     (subst (λ (f : FlowState). IsFlowOf c.args.net.now f) (sym c.flow.view_is) c.requires.flow)
     (subst (λ (f : FlowState). NoneMarked (is_marked f) c.args.first c.args.end) (sym c.flow.view_is) c.requires.none)
     c.deliver_each.ensures.len c.deliver_each.ensures.each (omega arith) c.mark.ensures))

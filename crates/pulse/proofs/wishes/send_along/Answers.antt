@@ -11,15 +11,15 @@ use Rattle.pulse.proofs.wishes.send_along.Goals as goal
 
 pub send_wished-requires-clause-parts : goal.send_wished-requires-clause-parts
 send_wished-requires-clause-parts c =
-    parts_seen c.args.net.now c.args.flow.now c.flow.inside.parts.items c.as_mut_slice-parts.result.now c.flow.inside.labels.items c.flow.inside.delivered.items c.flow.inside.caps.items c.flow.inside.spent c.flow.view_is
-    c.as_mut_slice-parts.ensures.value (flow_unspent c.args.flow.now c.flow.inside.parts.items c.flow.inside.labels.items c.flow.inside.delivered.items c.flow.inside.caps.items c.flow.inside.spent c.flow.view_is c.requires.flow.unspent) c.requires.flow.fits
+    parts_seen c.args.net.now c.args.flow.now c.flow.inside.parts.items c.as_mut_slice-parts.result.now c.flow.inside.labels.items c.flow.inside.delivered.items c.flow.inside.caps c.flow.inside.spent c.flow.view_is
+    c.as_mut_slice-parts.ensures.value (flow_unspent c.args.flow.now c.flow.inside.parts.items c.flow.inside.labels.items c.flow.inside.delivered.items c.flow.inside.caps c.flow.inside.spent c.flow.view_is c.requires.flow.unspent) c.requires.flow.fits
 
 pub send_wished-requires-clause-labels : goal.send_wished-requires-clause-labels
 send_wished-requires-clause-labels c = ap length c.as_slice-labels.ensures.value ∙ ap (λ (f : FlowState). length f.labels) c.flow.view_is ∙ c.requires.flow.fits.labelled.each
 
 pub send_wished-requires-clause-sound : goal.send_wished-requires-clause-sound
 send_wished-requires-clause-sound c =
-    sound_seen c.args.net.now c.args.flow.now c.flow.inside.parts.items c.as_mut_slice-parts.result.now c.flow.inside.labels.items c.as_slice-labels.result.now c.flow.inside.delivered.items c.flow.inside.caps.items c.flow.inside.spent c.flow.view_is
+    sound_seen c.args.net.now c.args.flow.now c.flow.inside.parts.items c.as_mut_slice-parts.result.now c.flow.inside.labels.items c.as_slice-labels.result.now c.flow.inside.delivered.items c.flow.inside.caps c.flow.inside.spent c.flow.view_is
     c.as_mut_slice-parts.ensures.value c.as_slice-labels.ensures.value c.requires.flow
 
 pub returns : goal.returns
@@ -27,7 +27,7 @@ returns c =
     record {
       flow =
           sent_state c.args.net.now c.args.flow.now c.flow.inside.parts.items (with_items c.flow.inside.parts c.send_wished.new.parts).items c.send_wished.new.parts c.flow.inside.labels.items c.as_slice-labels.result.now
-          c.flow.inside.delivered.items c.flow.inside.caps.items c.flow.inside.spent c.nodes-nodes.ensures.network c.flow.view_is c.as_slice-labels.ensures.value
+          c.flow.inside.delivered.items c.flow.inside.caps c.flow.inside.spent c.nodes-nodes.ensures.network c.flow.view_is c.as_slice-labels.ensures.value
           (with_items_is c.flow.inside.parts c.send_wished.new.parts (omega arith)) c.requires.flow c.send_wished.ensures.parts c.send_wished.ensures.sound;
     }
 

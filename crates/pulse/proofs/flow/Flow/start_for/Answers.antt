@@ -1,4 +1,4 @@
-use Rattle.std.proofs.Common.{arith}
+use Rattle.std.proofs.Common.{◌≡◌, ◌∙◌, ℕ, List, length, slice_index, ap, arith}
 use Rattle.std.proofs.lemmas.Bool.{false≢true}
 use Rattle.frame_net.specs.FlowNet.{node_count}
 use Rattle.flow_whole.proofs.NumberLaws.{flow_numbered}
@@ -7,9 +7,11 @@ use Rattle.pulse.proofs.TurnLaws.{started_flow}
 
 pub returns : goal.returns
 returns c =
-    started_flow c.args.net.now c.in_ok-parts.parts.items c.in_ok-labels.labels.items c.in_ok-delivered.delivered.items c.in_ok-caps.caps.items c.nodes-nodes.ensures.network c.arcs-arcs.ensures.startable c.in_ok-parts.ensures.starts
+    let same : c.in_ok-caps.caps ≡ c.args.net.now.caps = c.in_ok-caps.ensures ∙ c.capacities.ensures in
+    started_flow c.args.net.now c.in_ok-parts.parts.items c.in_ok-labels.labels.items c.in_ok-delivered.delivered.items c.in_ok-caps.caps c.nodes-nodes.ensures.network c.arcs-arcs.ensures.startable c.in_ok-parts.ensures.starts
     c.in_ok-labels.ensures.len c.in_ok-labels.ensures.each (omega (arith, c.in_ok-delivered.ensures.len, c.nodes-nodes.ensures.count))
-    (λ v h. c.in_ok-delivered.ensures.none v (omega (arith, h, c.in_ok-delivered.ensures.len, c.nodes-nodes.ensures.count))) c.in_ok-caps.ensures.len c.in_ok-caps.ensures.each
+    (λ v h. c.in_ok-delivered.ensures.none v (omega (arith, h, c.in_ok-delivered.ensures.len, c.nodes-nodes.ensures.count))) (ap length same ∙ c.nodes-nodes.ensures.network.same_caps)
+    (λ arc h. ap (λ (xs : List ℕ). slice_index xs arc) same)
 
 pub invariant_of-result : goal.invariant_of-result
 invariant_of-result c = record {

@@ -1,0 +1,60 @@
+//! The capacities of a network's arcs. They never change once the network is made, so a flow of it owns the same table, and copies none.
+ghost use Rattle.std.specs.Prelude.{◌≡◌, ◌<◌, IfOk, length, slice_index};
+
+use aig_graph::NoMemory;
+use std::alloc::Global;
+use std::marker::Model;
+use std::sync::Arc;
+
+/// The capacities of all arcs, by arc: one table, which a network and its flows own together. The last of them drops it.
+#[derive(Drop)]
+pub struct Capacities {
+    table: Arc<Vec<u32>>,
+}
+
+impl Model for Capacities {
+    ghost use Rattle.std.specs.Prelude.{List, ℕ};
+
+    ghost Value = { List ℕ };
+
+    ghost view = { λ c. c.table.value.items };
+}
+
+impl Capacities {
+    /// The capacities that the table holds, with one owner.
+    pub(crate) fn new(alloc: Global, table: Vec<u32>) -> Result<Capacities, NoMemory>
+        ensures { IfOk result (λ c. c ≡ table.items) }
+    {
+        let table = Arc::new(alloc, table)?;
+        Ok(Capacities { table })
+    }
+
+    /// One more owner of the same table. Takes no memory; it is refused only where the number of owners is at its limit.
+    pub fn share(&self) -> Result<Capacities, NoMemory>
+        ensures { IfOk result (λ c. c ≡ self.now) }
+    {
+        let table = Arc::try_clone(&self.table)?;
+        Ok(Capacities { table })
+    }
+
+    /// The capacity of an arc.
+    pub fn at(&self, arc: u32) -> u32
+        requires { arc < length self.now }
+        ensures { result ≡ slice_index self.now arc }
+    {
+        self.table[arc as usize]
+    }
+
+    /// The capacities by arc.
+    pub fn as_slice(&self) -> &[u32]
+        ensures { result.now ≡ self.now }
+    {
+        self.table.as_slice()
+    }
+
+    /// The table, where this is its last owner.
+    pub(crate) fn into_table(self) -> Option<Vec<u32>> {
+        let Capacities { table } = self;
+        Arc::into_inner(table)
+    }
+}
