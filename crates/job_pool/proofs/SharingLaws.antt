@@ -1,6 +1,8 @@
 -- What a worker gives back, and what its outcomes fill.
-use Rattle.std.proofs.Common.{◌≡◌, ◌≢◌, ℕ, zero, suc, ◌+◌, ◌<◌, ◌≤◌, cond, List, [], ◌∷◌, ◌++◌, length, get_or, set, All, Option, Some, None, refl, sym, ap, ◌∙◌, subst, arith, get_or-set_same, get_or-set_other}
+use Rattle.std.proofs.Common.{◌≡◌, ◌≢◌, ℕ, zero, suc, ◌+◌, ◌<◌, ◌≤◌, cond, List, [], ◌∷◌, ◌++◌, length, get_or, map, set, All, IfOk, Result, Option, Some, None, refl, sym, ap, ◌∙◌, subst, arith, get_or-set_same, get_or-set_other}
 use Rattle.std.specs.Prelude.{is_some}
+use Rattle.std.proofs.lemmas.List.{get_or-map, length-map}
+use Rattle.std.proofs.lemmas.Result.{IfOk-weaker}
 use mathlib.Core.Logic.{dite}
 use mathlib.Core.List.{map-append}
 use native.Mathlib.Decide.{ℕ_discrete, dec_le}
@@ -86,3 +88,29 @@ module _ {X : Type 0} where
 
 pub all_filled : {X : Type 0} (slots : List (Option X)) → ((k : ℕ) → k < length slots → 0 < filled slots k) → All IsFilled slots
 all_filled slots h k d lt = subst IsFilled (same_at slots k None d lt) (h k lt)
+
+no_outcome : {X : Type 0} (x : X) → None ≡ Some x → ⊥
+no_outcome x e = cc
+
+pub empty_are_slots : {X : Type 0} (gives : ℕ → X → Type 0) (slots : List (Option X)) → ((k : ℕ) → get_or slots k None ≡ None) → AreSlots gives slots
+empty_are_slots gives slots none k x e = absurd (no_outcome x (sym (none k) ∙ e))
+
+-- ---- the outcomes without their slots
+
+value_at : {X : Type 0} (values : List X) (slots : List (Option X)) (jobs k : ℕ) (x : X) → map Some values ≡ slots → length slots ≡ jobs → k < jobs
+    → get_or slots k None ≡ Some (get_or values k x)
+value_at {X} values slots jobs k x is len lt =
+    let same : length (map Some values) ≡ length slots = ap length is in
+    ap (λ (s : List (Option X)). get_or s k None) (sym is) ∙ get_or-map Some values k x None (omega (arith, lt, len, same, length-map values Some))
+
+pub ordered_len : {X V E : Type 0} (items : V → List X) (slots : List (Option X)) (jobs : ℕ) (r : Result V E) → length slots ≡ jobs
+    → IfOk r (λ v. map Some (items v) ≡ slots) → IfOk r (λ v. length (items v) ≡ jobs)
+ordered_len items slots jobs r len was =
+    IfOk-weaker r (λ v. map Some (items v) ≡ slots) (λ v. length (items v) ≡ jobs) (λ v is. sym (length-map (items v) Some) ∙ (ap length is ∙ len)) was
+
+-- the k-th is an outcome of job k
+pub ordered : {X V E : Type 0} (gives : ℕ → X → Type 0) (items : V → List X) (slots : List (Option X)) (jobs : ℕ) (r : Result V E) → length slots ≡ jobs
+    → AreSlots gives slots → IfOk r (λ v. map Some (items v) ≡ slots) → IfOk r (λ v. (k : ℕ) (x : X) → k < jobs → gives k (get_or (items v) k x))
+ordered {X} gives items slots jobs r len are was =
+    IfOk-weaker r (λ v. map Some (items v) ≡ slots) (λ v. (k : ℕ) (x : X) → k < jobs → gives k (get_or (items v) k x))
+    (λ v is k x lt. are k (get_or (items v) k x) (value_at (items v) slots jobs k x is len lt)) was
