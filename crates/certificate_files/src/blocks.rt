@@ -73,6 +73,28 @@ fn read_gates(alloc: Global, lines: &mut Lines<'_>, count: u32) -> Result<Sequen
     Ok(Sequence::from_vec(gates))
 }
 
+/// Takes the lines of the routes that are left of a block, and adds these routes.
+fn add_routes(
+    alloc: Global,
+    lines: &mut Lines<'_>,
+    count: u32,
+    routes: &mut Vec<Sequence<Point>>,
+) -> Result<(), CertError>
+    ensures end { lines.new.end ≡ lines.old.end }
+    ensures shorter { length lines.new.rest.now ≤ length lines.old.rest.now }
+    ensures reads { (blocks : List Block) (stated : ℕ) (gates : List ℕ)
+        → Leads (λ _. read_rest lines.new.end lines.new.rest.now
+        (closed (blocks ++ block_of stated gates routes.new.items ∷ []))) result
+        (read_rest lines.old.end lines.old.rest.now
+        (settled blocks (block_of stated gates routes.old.items) 0 count)) }
+{
+    for _ in 0..count {
+        let route = next_route(alloc, lines)?;
+        routes.push(route)?;
+    }
+    Ok(())
+}
+
 /// Takes the lines of the routes. Room is taken as the lines come.
 fn read_routes(
     alloc: Global,
@@ -88,11 +110,13 @@ fn read_routes(
         (settled blocks (block_of stated gates []) 0 count)) }
 {
     let mut routes = Vec::new(alloc);
-    for _ in 0..count {
-        let route = next_route(alloc, lines)?;
-        routes.push(route)?;
+    match add_routes(alloc, lines, count, &mut routes) {
+        Ok(()) => Ok(Sequence::from_vec(routes)),
+        Err(fault) => {
+            drop(routes);
+            Err(fault)
+        }
     }
-    Ok(Sequence::from_vec(routes))
 }
 
 /// Takes the lines of a block, where there is a line.

@@ -1,6 +1,8 @@
 -- What a worker gives back, and what its outcomes fill.
-use Rattle.std.proofs.Common.{◌≡◌, ◌≢◌, ℕ, zero, suc, ◌+◌, ◌<◌, ◌≤◌, cond, List, [], ◌∷◌, ◌++◌, length, get_or, set, All, Option, Some, None, refl, sym, ap, ◌∙◌, subst, arith, get_or-set_same, get_or-set_other}
+use Rattle.std.proofs.Common.{◌≡◌, ◌≢◌, ℕ, zero, suc, ◌+◌, ◌<◌, ◌≤◌, cond, List, [], ◌∷◌, ◌++◌, length, get_or, map, reverse, set, All, IfOk, Result, Option, Some, None, refl, sym, ap, ◌∙◌, subst, arith, append_assoc, get_or-set_same, get_or-set_other}
 use Rattle.std.specs.Prelude.{is_some}
+use Rattle.std.proofs.lemmas.List.{get_or-map, length-map, reverse-append}
+use Rattle.std.proofs.lemmas.Result.{IfOk-weaker}
 use mathlib.Core.Logic.{dite}
 use mathlib.Core.List.{map-append}
 use native.Mathlib.Decide.{ℕ_discrete, dec_le}
@@ -86,3 +88,48 @@ module _ {X : Type 0} where
 
 pub all_filled : {X : Type 0} (slots : List (Option X)) → ((k : ℕ) → k < length slots → 0 < filled slots k) → All IsFilled slots
 all_filled slots h k d lt = subst IsFilled (same_at slots k None d lt) (h k lt)
+
+no_outcome : {X : Type 0} (x : X) → None ≡ Some x → ⊥
+no_outcome x e = cc
+
+pub empty_are_slots : {X : Type 0} (gives : ℕ → X → Type 0) (slots : List (Option X)) → ((k : ℕ) → get_or slots k None ≡ None) → AreSlots gives slots
+empty_are_slots gives slots none k x e = absurd (no_outcome x (sym (none k) ∙ e))
+
+empty_and_one : {X : Type 0} (slots : List (Option X)) → ((k : ℕ) → get_or slots k None ≡ None) → (k : ℕ) → get_or (slots ++ None ∷ []) k None ≡ None
+empty_and_one [] none zero = refl
+empty_and_one [] none (suc k) = refl
+empty_and_one (slot ∷ slots) none zero = none zero
+empty_and_one (slot ∷ slots) none (suc k) = empty_and_one slots (λ j. none (suc j)) k
+
+-- one empty slot more
+pub still_empty : {X : Type 0} (slots now : List (Option X)) → now ≡ slots ++ None ∷ [] → ((k : ℕ) → get_or slots k None ≡ None) → (k : ℕ) → get_or now k None ≡ None
+still_empty {X} slots now pushed none k = ap (λ (l : List (Option X)). get_or l k None) pushed ∙ empty_and_one slots none k
+
+-- ---- the outcomes without their slots
+
+-- the last outcome is taken out of its slot
+pub unwrapped_one : {X : Type 0} (whole left rest : List (Option X)) (slot : Option X) (was now : List X) (x : X) → left ≡ rest ++ slot ∷ [] → slot ≡ Some x
+    → now ≡ was ++ x ∷ [] → left ++ map Some (reverse was) ≡ whole → rest ++ map Some (reverse now) ≡ whole
+unwrapped_one {X} whole left rest slot was now x is some pushed so_far =
+    ap (λ (l : List X). rest ++ map Some (reverse l)) pushed
+    ∙ (ap (λ (l : List X). rest ++ map Some l) (reverse-append was (x ∷ []))
+    ∙ (sym (append_assoc rest (Some x ∷ []) (map Some (reverse was)))
+    ∙ (ap (λ (o : Option X). (rest ++ o ∷ []) ++ map Some (reverse was)) (sym some) ∙ (ap (λ (l : List (Option X)). l ++ map Some (reverse was)) (sym is) ∙ so_far))))
+
+value_at : {X : Type 0} (values : List X) (slots : List (Option X)) (jobs k : ℕ) (x : X) → map Some values ≡ slots → length slots ≡ jobs → k < jobs
+    → get_or slots k None ≡ Some (get_or values k x)
+value_at {X} values slots jobs k x is len lt =
+    let same : length (map Some values) ≡ length slots = ap length is in
+    ap (λ (s : List (Option X)). get_or s k None) (sym is) ∙ get_or-map Some values k x None (omega (arith, lt, len, same, length-map values Some))
+
+pub ordered_len : {X V E : Type 0} (items : V → List X) (slots : List (Option X)) (jobs : ℕ) (r : Result V E) → length slots ≡ jobs
+    → IfOk r (λ v. map Some (items v) ≡ slots) → IfOk r (λ v. length (items v) ≡ jobs)
+ordered_len items slots jobs r len was =
+    IfOk-weaker r (λ v. map Some (items v) ≡ slots) (λ v. length (items v) ≡ jobs) (λ v is. sym (length-map (items v) Some) ∙ (ap length is ∙ len)) was
+
+-- the k-th is an outcome of job k
+pub ordered : {X V E : Type 0} (gives : ℕ → X → Type 0) (items : V → List X) (slots : List (Option X)) (jobs : ℕ) (r : Result V E) → length slots ≡ jobs
+    → AreSlots gives slots → IfOk r (λ v. map Some (items v) ≡ slots) → IfOk r (λ v. (k : ℕ) (x : X) → k < jobs → gives k (get_or (items v) k x))
+ordered {X} gives items slots jobs r len are was =
+    IfOk-weaker r (λ v. map Some (items v) ≡ slots) (λ v. (k : ℕ) (x : X) → k < jobs → gives k (get_or (items v) k x))
+    (λ v is k x lt. are k (get_or (items v) k x) (value_at (items v) slots jobs k x is len lt)) was

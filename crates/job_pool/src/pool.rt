@@ -1,9 +1,9 @@
-ghost use Rattle.std.specs.Prelude.{◌≡◌, ℕ, ◌^◌, ◌<◌, ◌≤◌, IfOk, [], length, slice_index_or};
+ghost use Rattle.std.specs.Prelude.{◌≡◌, ℕ, ◌^◌, ◌<◌, ◌≤◌, All, IfOk, [], length, slice_index_or};
 ghost use Rattle.draws.specs.Drawing.{IsDrawerOf, drawn, jobs_of};
 ghost use Rattle.job_pool.specs.Sharing.{IsShare};
 
 use crate::share::{Share, worked};
-use crate::slots::{empty_slots, put_shares, unwrapped};
+use crate::slots::in_order;
 use draws::{Drawer, Draws};
 use pulse::{Crew, PhaseGate};
 use std::alloc::Global;
@@ -33,15 +33,39 @@ pub fn run_jobs<R: Threads + Sync, X: Send + Drop, F: Fn(u64) -> X + Sync, G: Ph
         → F.post run.now k (slice_index_or outcomes.items k x)) }
 {
     let (draws, drawers) = Draws::new(alloc, jobs, crew.workers())?;
-    let gate = crew.gate();
+    let shares = match shares_of(rt, alloc, &draws, drawers, run, crew.gate()) {
+        Ok(shares) => shares,
+        Err(refused) => {
+            drop(draws);
+            return Err(refused);
+        }
+    };
+    let outcomes = in_order(alloc, &draws, run, jobs as usize, shares);
+    drop(draws);
+    outcomes
+}
+
+/// What the workers give back, each of which draws by one of the drawers.
+fn shares_of<R: Threads + Sync, X: Send + Drop, F: Fn(u64) -> X + Sync, G: PhaseGate>(
+    rt: &R,
+    alloc: Global,
+    draws: &Draws,
+    drawers: Vec<Drawer>,
+    run: &F,
+    gate: &G,
+) -> Result<Vec<Result<Share<X>, NoMemory>>, NoMemory>
+    requires mine { All (IsDrawerOf draws.now) drawers.items }
+    requires fresh { All (λ d. drawn d ≡ []) drawers.items }
+    requires run { (number : ℕ) → number < jobs_of draws.now → F.pre run.now number }
+    ensures len { IfOk result (λ shares. length shares.items ≡ length drawers.items) }
+    ensures each { IfOk result (λ shares.
+        All (λ s. IfOk s (IsShare (F.post run.now) draws.now)) shares.items) }
+{
     let work = |drawer: Drawer| -> Result<Share<X>, NoMemory>
-        requires mine { IsDrawerOf draws drawer }
+        requires mine { IsDrawerOf draws.now drawer }
         requires fresh { drawn drawer ≡ [] }
-        requires run { (number : ℕ) → number < jobs_of draws → F.pre run.now number }
-        ensures { IfOk result (λ share. IsShare (F.post run.entry.now) draws share) }
-    { worked(alloc, &draws, run, gate, drawer) };
-    let shares = thread::map_vec(rt, drawers, &work)?;
-    let mut slots = empty_slots(alloc, jobs as usize)?;
-    put_shares(alloc, &draws, run, &mut slots, shares)?;
-    unwrapped(alloc, slots)
+        requires run { (number : ℕ) → number < jobs_of draws.now → F.pre run.now number }
+        ensures { IfOk result (λ s. IsShare (F.post run.entry.now) draws.entry.now s) }
+    { worked(alloc, draws, run, gate, drawer) };
+    Ok(thread::map_vec(rt, drawers, &work)?)
 }

@@ -11,7 +11,7 @@ use std::mem;
 use variable_tables::NoMemory;
 
 /// So many empty slots, one for each job.
-pub fn empty_slots<X: Drop>(alloc: Global, count: usize) -> Result<Vec<Option<X>>, NoMemory>
+fn empty_slots<X: Drop>(alloc: Global, count: usize) -> Result<Vec<Option<X>>, NoMemory>
     ensures len { IfOk result (λ v. length v.items ≡ count) }
     ensures none { IfOk result (λ v. (k : ℕ) → slice_index_or v.items k None ≡ None) }
 {
@@ -31,7 +31,7 @@ fn put_outcome<X: Drop>(slots: &mut Vec<Option<X>>, place: usize, outcome: X)
 }
 
 /// Puts each outcome into the slot of its job. `run`, of whose calls they are, is named by the clauses alone.
-pub fn put_outcomes<X: Drop, F: Fn(u64) -> X>(
+fn put_outcomes<X: Drop, F: Fn(u64) -> X>(
     run: &F,
     slots: &mut Vec<Option<X>>,
     outcomes: Vec<Numbered<X>>,
@@ -51,7 +51,7 @@ pub fn put_outcomes<X: Drop, F: Fn(u64) -> X>(
 }
 
 /// Puts all workers' outcomes into their slots, and takes the drawers back: no slot is left empty. `run` is named by the clauses alone.
-pub fn put_shares<X: Drop, F: Fn(u64) -> X>(
+fn put_shares<X: Drop, F: Fn(u64) -> X>(
     alloc: Global,
     draws: &Draws,
     run: &F,
@@ -78,7 +78,7 @@ pub fn put_shares<X: Drop, F: Fn(u64) -> X>(
 }
 
 /// The outcomes in the order of their slots.
-pub fn unwrapped<X: Drop>(alloc: Global, slots: Vec<Option<X>>) -> Result<Vec<X>, NoMemory>
+fn unwrapped<X: Drop>(alloc: Global, slots: Vec<Option<X>>) -> Result<Vec<X>, NoMemory>
     requires { All IsFilled slots.items }
     ensures { IfOk result (λ v. map Some v.items ≡ slots.items) }
 {
@@ -90,4 +90,35 @@ pub fn unwrapped<X: Drop>(alloc: Global, slots: Vec<Option<X>>) -> Result<Vec<X>
     }
     values.reverse();
     Ok(values)
+}
+
+/// All workers' outcomes in the order of their jobs, so many, and the drawers taken back. `run` is named by the clauses alone.
+pub fn in_order<X: Drop, F: Fn(u64) -> X>(
+    alloc: Global,
+    draws: &Draws,
+    run: &F,
+    jobs: usize,
+    shares: Vec<Result<Share<X>, NoMemory>>,
+) -> Result<Vec<X>, NoMemory>
+    requires jobs { jobs ≡ jobs_of draws.now }
+    requires all { length shares.items ≡ drawers_of draws.now }
+    requires each { All (λ s. IfOk s (IsShare (F.post run.now) draws.now)) shares.items }
+    ensures len { IfOk result (λ outcomes. length outcomes.items ≡ jobs) }
+    ensures each { IfOk result (λ outcomes. (k : ℕ) (x : X) → k < jobs
+        → F.post run.now k (slice_index_or outcomes.items k x)) }
+{
+    let mut slots = match empty_slots(alloc, jobs) {
+        Ok(slots) => slots,
+        Err(refused) => {
+            drop(shares);
+            return Err(refused);
+        }
+    };
+    match put_shares(alloc, draws, run, &mut slots, shares) {
+        Ok(()) => unwrapped(alloc, slots),
+        Err(refused) => {
+            drop(slots);
+            Err(refused)
+        }
+    }
 }

@@ -1,12 +1,55 @@
-use Rattle.std.proofs.Common.{List, All, IfOk, Result, arith, sym, subst, ◌∙◌}
+use Rattle.std.proofs.Common.{ℕ, ◌<◌, List, All, IfOk, Result, arith, sym, subst, ◌∙◌}
 use Rattle.variable_tables.specs.declared.memory.NoMemory.{NoMemory}
 use Rattle.draws.specs.declared.draws.Drawer.{Drawer}
 use Rattle.draws.specs.Drawing.{IsDrawerOf, IsDone, jobs_of}
 use Rattle.draws.proofs.GatheringLaws.{last_of_all, front_of_all}
 use Rattle.job_pool.specs.declared.share.Share.{Share}
-use Rattle.job_pool.specs.Sharing.{IsShare}
-use Rattle.job_pool.proofs.SharingLaws.{all_snoc, share_covers}
+use Rattle.job_pool.specs.Sharing.{IsOutcome, IsShare}
+use Rattle.job_pool.proofs.SharingLaws.{all_filled, all_snoc, share_covers}
 use Rattle.job_pool.proofs.slots.put_shares.Goals as goal
+
+pub returns-in_err-back-clause-len : goal.returns-in_err-back-clause-len
+returns-in_err-back-clause-len g c = c.requires.len
+
+pub returns-in_err-back-clause-slots : goal.returns-in_err-back-clause-slots
+returns-in_err-back-clause-slots g c = c.requires.slots
+
+pub returns-in_err-drawer-clause-len : goal.returns-in_err-drawer-clause-len
+returns-in_err-drawer-clause-len g c = c.loop-next.invariant.0
+
+pub returns-in_err-drawer-clause-slots : goal.returns-in_err-drawer-clause-slots
+returns-in_err-drawer-clause-slots g c = c.loop-next.invariant.1
+
+pub put_outcomes-requires-clause-slots : goal.put_outcomes-requires-clause-slots
+put_outcomes-requires-clause-slots g c = c.loop-next.invariant.1
+
+pub put_outcomes-requires-clause-outcomes : goal.put_outcomes-requires-clause-outcomes
+put_outcomes-requires-clause-outcomes g c =
+    let A : Type 0 = Result (Share g.row.X.Denot) NoMemory in
+    let P : A → Type 0 = λ s. IfOk s (IsShare (goal.F-post g c.args.run.now) c.args.draws.now) in
+    let inv = c.loop-next.invariant in
+    let all = subst (λ (l : List A). All P l) c.in-Some.ensures.items inv.2 in
+    let one = subst P c.in_ok-drawer.was (last_of_all P c.pop.new.self.items c.in-Some.next all) in
+    subst (λ (jobs : ℕ). All (IsOutcome (goal.F-post g c.args.run.now) jobs) c.in_ok-drawer.field-0.done.items) (sym inv.0) one.outcomes
+
+pub gather-requires-clause-mine : goal.gather-requires-clause-mine
+gather-requires-clause-mine g c = c.loop-next.invariant.5
+
+pub gather-requires-clause-done : goal.gather-requires-clause-done
+gather-requires-clause-done g c = c.loop-next.invariant.6
+
+pub returns-clause-len : goal.returns-clause-len
+returns-clause-len g c = c.loop-next.invariant.0
+
+pub returns-clause-slots : goal.returns-clause-slots
+returns-clause-slots g c = c.loop-next.invariant.1
+
+pub returns-clause-filled : goal.returns-clause-filled
+returns-clause-filled g c =
+    let inv = c.loop-next.invariant in
+    all_filled c.loop-next.slots.items (λ k lt.
+    let job : k < jobs_of c.args.draws.now = omega (arith, lt, inv.0) in
+    inv.7 k job (omega (arith, c.gather.ensures k job)))
 
 pub loop-next-smaller : goal.loop-next-smaller
 loop-next-smaller g c = omega (arith, c.in-Some.ensures.len)
