@@ -1,15 +1,16 @@
 //! From a reader's bytes to a writer's.
-ghost use Rattle.std.specs.Prelude.{◌≡◌, ℕ, [], IfOk, OnOk, IfErr, IsErrOf};
+ghost use Rattle.std.specs.Prelude.{◌≡◌, ℕ, [], IfOk, OnOk, IfErr, IsErrOf, unwrap_or};
 ghost use Rattle.aig_binary.specs.Ending.{IsReadError, ReadsToEnd, Spells};
 ghost use Rattle.counted_io.specs.Output.{Writes};
 ghost use Rattle.aig_graph.specs.Circuits.{IsNetlist};
 ghost use Rattle.aig_graph.specs.Graph.{IsGraph};
-ghost use Rattle.frames.specs.Answering.{AfterReading, AreOfCircuit, BeforeWriting, IsAnswered, IsCutOff, IsMissingIn, IsStop, IsWritten, RetimesBytes, text_for};
+ghost use Rattle.spellings.specs.Spellings.{text_in};
+ghost use Rattle.frames.specs.Answering.{AfterReading, AreOfCircuit, BeforeWriting, IsAnswered, IsCutOff, IsMissingIn, IsStop, IsWritten, RetimesBytes};
 ghost use Rattle.frames.specs.declared.errors.RetimeError.TheVariants.{NoSuchName};
 
 use crate::errors::BytesError;
 use crate::options::Options;
-use crate::retiming::retime_watched;
+use crate::retiming::retime_over;
 use crate::watcher::{FrameWatcher, NoWatcher, Stage};
 use aig_binary::{AnyReader, CircuitReader, SpeltCircuit, read_circuit};
 use aig_graph::Circuit;
@@ -17,21 +18,21 @@ use counted_io::{CountedRead, CountedWrite, WriteError};
 use file_words::ReadError;
 use pulse::{Crew, PhaseGate};
 use retimed_circuits::Retimed;
-use spellings::write;
+use spellings::{Spelling, write};
 use std::alloc::Global;
 use std::thread::Threads;
 
-/// Writes the retimed circuit in the chosen spelling, else in that of the circuit that was read.
+/// Writes the retimed circuit in the chosen spelling, else in that of the circuit that was read, the fallback.
 fn write_answer<W: CountedWrite>(
     retimed: &Retimed,
-    spelt: &SpeltCircuit,
+    fallback: Spelling,
     writer: &mut W,
     options: &Options,
 ) -> Result<(), WriteError>
     ensures { Writes (W.output writer.old) (W.output writer.new) result
-        (text_for options.now spelt.now retimed.now) }
+        (text_in (unwrap_or options.now.spelling fallback) retimed.now.circuit) }
 {
-    let spelling = options.spelling.unwrap_or(spelt.spelling);
+    let spelling = options.spelling.unwrap_or(fallback);
     write(&retimed.circuit, spelling, writer)
 }
 
@@ -43,25 +44,26 @@ fn in_range(circuit: &Circuit)
     let _aig = circuit.aig();
 }
 
-/// Retimes the circuit that was read, and writes it.
+/// Retimes the circuit that was read, and writes it. Over the frames only its spelling is kept.
 fn retime_spelt<W: CountedWrite, G: PhaseGate, V: FrameWatcher>(
     rt: &(impl Threads + Sync),
     alloc: Global,
-    spelt: &SpeltCircuit,
+    spelt: SpeltCircuit,
     writer: &mut W,
     options: &Options,
     crew: &Crew<G>,
     watcher: &mut V,
 ) -> Result<Retimed, BytesError>
-    ensures ok { IfOk result (IsWritten options.now spelt.now (W.output writer.old)
+    ensures ok { IfOk result (IsWritten options.now spelt (W.output writer.old)
         (W.output writer.new)) }
-    ensures err { IfErr result (IsStop options.now spelt.now (W.output writer.old)
+    ensures err { IfErr result (IsStop options.now spelt (W.output writer.old)
         (W.output writer.new)) }
 {
-    let retimed = retime_watched(rt, alloc, &spelt.circuit, options, crew, watcher)?;
+    let SpeltCircuit { circuit, spelling } = spelt;
+    let retimed = retime_over(rt, alloc, circuit, options, crew, watcher)?;
     in_range(&retimed.circuit);
     watcher.enter(Stage::Writing);
-    match write_answer(&retimed, spelt, writer, options) {
+    match write_answer(&retimed, spelling, writer, options) {
         Ok(()) => Ok(retimed),
         Err(error) => {
             drop(retimed);
@@ -74,6 +76,7 @@ fn retime_spelt<W: CountedWrite, G: PhaseGate, V: FrameWatcher>(
 /// bytes.
 ///
 /// The reader is read to its end in pieces of at most 65536 bytes, also after a fault of the bytes, and no copy of them is kept.
+/// The circuit that was read is dropped once it is cleaned.
 /// Nothing is written before the whole answer is there. The text that is written rests on the bytes and the options alone, and is
 /// read as the circuit that is returned.
 ///
@@ -137,7 +140,5 @@ pub fn retime_bytes_watched<R: CountedRead, W: CountedWrite, G: PhaseGate, V: Fr
         (W.output writer.old) (W.output writer.new) result }
 {
     let spelt = read_by(reader, AnyReader::new(alloc))?;
-    let answer = retime_spelt(rt, alloc, &spelt, writer, options, crew, watcher);
-    drop(spelt);
-    answer
+    retime_spelt(rt, alloc, spelt, writer, options, crew, watcher)
 }

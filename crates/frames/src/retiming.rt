@@ -1,13 +1,12 @@
 //! Frame after frame.
-ghost use Rattle.std.specs.Prelude.{ℕ, ◌≡◌, suc, IfOk, OnOk, IsErrOf, None, Some};
+ghost use Rattle.std.specs.Prelude.{ℕ, ◌≡◌, suc, [], IfOk, OnOk, IsErrOf, None, Some};
 ghost use Rattle.aig_graph.specs.Circuits.{Netlist};
 ghost use Rattle.aig_graph.specs.Keep.{first_missing};
 ghost use Rattle.retimed_circuits.specs.Names.{held_in};
 ghost use Rattle.retimed_circuits.specs.Retiming.{IsRetimed};
-ghost use Rattle.frames.specs.Certified.{AreCollected};
 ghost use Rattle.frames.specs.Found.{Moves};
 ghost use Rattle.frames.specs.Named.{NoneMissing, names_in};
-ghost use Rattle.frames.specs.Underway.{IsRun, IsUnderway};
+ghost use Rattle.frames.specs.Underway.{IsBegun, IsRun, IsUnderway};
 ghost use Rattle.frames.specs.declared.errors.RetimeError.TheVariants.{NoSuchName};
 
 use crate::errors::RetimeError;
@@ -67,6 +66,19 @@ fn begun_by_names(
     Ok(start)
 }
 
+/// The circuit before any frame, where a latch has each of the names; the one that was read is dropped.
+fn begun_over(alloc: Global, circuit: Circuit, options: &Options) -> Result<Retimed, RetimeError>
+    ensures underway { IfOk result (IsUnderway options.now.choice (names_in options.now)
+        circuit 0) }
+    ensures none_missing { OnOk result (NoneMissing options.now circuit) }
+    ensures missing { (place : ℕ) → IsErrOf result (NoSuchName place)
+        → first_missing circuit.symbols.latches (names_in options.now) ≡ Some place }
+{
+    let start = begun_by_names(alloc, &circuit, options);
+    drop(circuit);
+    start
+}
+
 /// What one more frame makes of a retimed circuit.
 fn after_frame(
     alloc: Global,
@@ -106,35 +118,34 @@ fn enter_looking<V: FrameWatcher>(retimed: &Retimed, watcher: &mut V) {
     });
 }
 
-/// The circuit cleaned, and then retimed frame by frame; the records get a certificate of each circuit that is looked at, where they are
-/// wanted.
+/// What frames make of a cleaned circuit, one after another; the records get a certificate of each circuit that is looked at, where
+/// they are wanted. Of the circuit that was read nothing is needed.
 fn all_frames<G: PhaseGate, V: FrameWatcher>(
     rt: &(impl Threads + Sync),
     alloc: Global,
-    circuit: &Circuit,
+    start: Retimed,
     options: &Options,
     crew: &Crew<G>,
     records: &mut Records,
     watcher: &mut V,
-) -> Result<Retimed, RetimeError>
-    requires { AreCollected options.now.choice
-        (names_in options.now) circuit.now options.now.certify 0 records.old }
-    ensures run { IfOk result (IsRun options.now.choice
-        (names_in options.now) circuit.now options.now.max_frames options.now.certify records.new) }
-    ensures none_missing { OnOk result (NoneMissing options.now circuit.now) }
-    ensures missing { (place : ℕ) → IsErrOf result (NoSuchName place)
-        → first_missing circuit.now.symbols.latches (names_in options.now) ≡ Some place }
+) -> Result<Retimed, NoMemory>
+    requires begun { IsBegun options.now start }
+    requires wanted { records.old.certify ≡ options.now.certify }
+    requires none_yet { records.old.certificates.items ≡ [] }
+    ensures { IfOk result (λ r. (c : Netlist)
+        → IsUnderway options.now.choice (names_in options.now) c 0 start
+        → IsRun options.now.choice (names_in options.now) c options.now.max_frames
+        options.now.certify records.new r) }
 {
-    watcher.enter(Stage::Cleaning);
-    let mut retimed = begun_by_names(alloc, circuit, options)?;
+    let mut retimed = start;
     for _ in 0..options.max_frames {
         enter_looking(&retimed, watcher);
         match next_frame(rt, alloc, &retimed.circuit, options, crew, records, watcher) {
             Ok(Some(frame)) => retimed = after_frame(alloc, retimed, frame, options)?,
             Ok(None) => return Ok(retimed),
-            Err(NoMemory) => {
+            Err(error) => {
                 drop(retimed);
-                return Err(RetimeError::NoMemory);
+                return Err(error);
             }
         }
     }
@@ -163,6 +174,32 @@ fn with_certificates(retimed: Retimed, records: Records) -> Retimed
         read_latches,
         frames,
         certificates: Sequence::from_vec(certificates),
+    }
+}
+
+/// A cleaned circuit retimed to the end, with the certificates that are wanted: the answer for every circuit that it is the cleaning
+/// of.
+fn retimed_from<G: PhaseGate, V: FrameWatcher>(
+    rt: &(impl Threads + Sync),
+    alloc: Global,
+    start: Retimed,
+    options: &Options,
+    crew: &Crew<G>,
+    watcher: &mut V,
+) -> Result<Retimed, NoMemory>
+    requires { IsBegun options.now start }
+    ensures { IfOk result (λ r. (c : Netlist)
+        → IsUnderway options.now.choice (names_in options.now) c 0 start
+        → IsRetimed options.now.choice c (names_in options.now) options.now.max_frames
+        options.now.certify r) }
+{
+    let mut records = Records::new(alloc, options.certify);
+    match all_frames(rt, alloc, start, options, crew, &mut records, watcher) {
+        Ok(retimed) => Ok(with_certificates(retimed, records)),
+        Err(error) => {
+            drop(records);
+            Err(error)
+        }
     }
 }
 
@@ -212,12 +249,33 @@ pub fn retime_watched<G: PhaseGate, V: FrameWatcher>(
     ensures missing { (place : ℕ) → IsErrOf result (NoSuchName place)
         → first_missing circuit.now.symbols.latches (names_in options.now) ≡ Some place }
 {
-    let mut records = Records::new(alloc, options.certify);
-    match all_frames(rt, alloc, circuit, options, crew, &mut records, watcher) {
-        Ok(retimed) => Ok(with_certificates(retimed, records)),
-        Err(error) => {
-            drop(records);
-            Err(error)
-        }
-    }
+    watcher.enter(Stage::Cleaning);
+    let start = begun_by_names(alloc, circuit, options)?;
+    let retimed = retimed_from(rt, alloc, start, options, crew, watcher)?;
+    Ok(retimed)
+}
+
+/// [`retime_watched`] of a circuit that nobody needs once it is cleaned: it is dropped then, before the first frame.
+///
+/// # Errors
+///
+/// Those of [`retime`].
+pub(crate) fn retime_over<G: PhaseGate, V: FrameWatcher>(
+    rt: &(impl Threads + Sync),
+    alloc: Global,
+    circuit: Circuit,
+    options: &Options,
+    crew: &Crew<G>,
+    watcher: &mut V,
+) -> Result<Retimed, RetimeError>
+    ensures retimed { IfOk result (IsRetimed options.now.choice circuit
+        (names_in options.now) options.now.max_frames options.now.certify) }
+    ensures none_missing { OnOk result (NoneMissing options.now circuit) }
+    ensures missing { (place : ℕ) → IsErrOf result (NoSuchName place)
+        → first_missing circuit.symbols.latches (names_in options.now) ≡ Some place }
+{
+    watcher.enter(Stage::Cleaning);
+    let start = begun_over(alloc, circuit, options)?;
+    let retimed = retimed_from(rt, alloc, start, options, crew, watcher)?;
+    Ok(retimed)
 }

@@ -25,10 +25,10 @@ returns g c =
     let old = g.R.CountedRead.input c.args.reader.now in
     let new = g.R.CountedRead.input c.read_by.new.reader in
     let before = g.W.CountedWrite.output c.args.writer.now in
-    let after = g.W.CountedWrite.output c.retime_spelt-answer.new.writer in
+    let after = g.W.CountedWrite.output c.retime_spelt.new.writer in
     let spelt = c.in_ok-spelt.spelt in
     let read = c.in_ok-spelt.ensures.circuit in
-    let answer = c.retime_spelt-answer in
+    let answer = c.retime_spelt in
     let ReadsAll : Type 0 = ReadsToEnd old new in
     facts_of options old new before after answer.result
     (IfOk-weaker answer.result (IsWritten options spelt before after) (λ r. ReadsAll) (λ r written. c.in_ok-spelt.ensures.read) answer.ensures.ok)

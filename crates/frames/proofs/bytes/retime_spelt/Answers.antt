@@ -13,7 +13,7 @@ use Rattle.frames.proofs.bytes.retime_spelt.Goals as goal
 pub returns-in-Ok-clause-ok : goal.returns-in-Ok-clause-ok
 returns-in-Ok-clause-ok g c =
     let options = c.args.options.now in
-    let spelt = c.args.spelt.now in
+    let spelt = c.args.spelt in
     let r = c.in_ok-retimed.retimed in
     let retimed = c.in_ok-retimed.ensures.retimed in
     record {
@@ -30,7 +30,7 @@ returns-in_err-retimed-clause-ok g c = IfOk-from_err c.from_residual.result _ c.
 pub returns-in_err-retimed-clause-err : goal.returns-in_err-retimed-clause-err
 returns-in_err-retimed-clause-err g c =
     let options = c.args.options.now in
-    let spelt = c.args.spelt.now in
+    let spelt = c.args.spelt in
     let out = g.W.CountedWrite.output c.args.writer.now in
     let e = c.in_err-retimed.field-0.0 in
     at-error c.from_residual.result (Retime e) (IsStop options spelt out out) c.from_residual.ensures.1
@@ -39,7 +39,7 @@ returns-in_err-retimed-clause-err g c =
 pub returns-in-Err-clause-err : goal.returns-in-Err-clause-err
 returns-in-Err-clause-err g c =
     let options = c.args.options.now in
-    let spelt = c.args.spelt.now in
+    let spelt = c.args.spelt in
     let before = g.W.CountedWrite.output c.args.writer.now in
     let after = g.W.CountedWrite.output c.write_answer.new.writer in
     let retimed = c.in_ok-retimed.ensures in

@@ -7,69 +7,24 @@ use Rattle.frames.specs.Certified.{AreCollected}
 use Rattle.frames.specs.Found.{Moves}
 use Rattle.frames.specs.Named.{names_in}
 use Rattle.frames.specs.Underway.{IsUnderway}
-use Rattle.frames.proofs.CertificateLaws.{one-collected}
+use Rattle.frames.proofs.CertificateLaws.{none-collected, one-collected}
 use Rattle.std.proofs.lemmas.Result.{IfOk-from_err}
 use Rattle.frames.proofs.retiming.all_frames.Goals as goal
 
 pub loop-init : goal.loop-init
-loop-init g c = (c.in_ok-retimed.ensures.underway, c.requires)
+loop-init g c = λ d start.
+    (start, none-collected c.args.options.now.choice (names_in c.args.options.now) d c.args.options.now.certify c.args.records.now c.requires.wanted c.requires.none_yet)
 
 pub next_frame-requires-clause-tidy : goal.next_frame-requires-clause-tidy
-next_frame-requires-clause-tidy g c κs within = c.loop.invariant.0.tidy
+next_frame-requires-clause-tidy g c κs within = let begun = c.requires.begun in (c.loop.invariant begun.read begun.underway).0.tidy
 
 pub next_frame-requires-clause-names : goal.next_frame-requires-clause-names
-next_frame-requires-clause-names g c κs within = names-stay (names_in c.args.options.now) c.args.circuit.now c.loop.retimed.circuit c.loop.invariant.0.held c.in_ok-retimed.ensures.none_missing
+next_frame-requires-clause-names g c κs within =
+    let begun = c.requires.begun in
+    names-stay (names_in c.args.options.now) begun.read c.loop.retimed.circuit (c.loop.invariant begun.read begun.underway).0.held begun.names
 
 pub after_frame-requires-clause-underway : goal.after_frame-requires-clause-underway
-after_frame-requires-clause-underway g c = (c.args.circuit.now, c.loop.counter, c.loop.invariant.0)
-
--- the last circuit was looked at, and none counts less
-pub returns-in-Ok-None-clause-run : goal.returns-in-Ok-None-clause-run
-returns-in-Ok-None-clause-run g c =
-    let choice = c.args.options.now.choice in
-    let names = names_in c.args.options.now in
-    let before = c.loop.retimed in
-    let P : Option Frame → Type 0 = λ found. MatchOption found (NoneSmaller names before.circuit) (Moves choice names before.circuit) in
-    let none : NoneSmaller names before.circuit = subst P c.in-Ok-None.field-0-is c.in-Ok-None.ensures.found in
-    record {
-      taken = c.loop.counter;
-      underway = c.loop.invariant.0;
-      within = c.loop.auto.counter-end;
-      last = λ less. none;
-      looked = suc c.loop.counter;
-      collected = one-collected choice names c.args.circuit.now c.args.options.now.certify c.loop.counter c.loop.records c.next_frame.new.records before.circuit before.kept_free before.frames
-          c.loop.invariant.1 c.loop.invariant.0.frames c.in-Ok-None.ensures.certificate;
-      limited = λ at. absurd (omega (arith, at, c.loop-test.true));
-      ended = λ less. refl;
-    }
-
-pub loop-preserved : goal.loop-preserved
-loop-preserved g c =
-    let choice = c.args.options.now.choice in
-    let names = names_in c.args.options.now in
-    let certify = c.args.options.now.certify in
-    let first = c.args.circuit.now in
-    let before = c.loop.retimed in
-    let P : ℕ → Type 0 = λ n. IsUnderway choice names first n c.in_ok-retimed-in-Ok-Some.retimed in
-    let Q : ℕ → Type 0 = λ n. AreCollected choice names first certify n c.next_frame.new.records in
-    let next : suc c.loop.counter ≡ c.loop.counter + 1 = omega arith in (
-      subst P next (c.in_ok-retimed-in-Ok-Some.ensures first c.loop.counter c.loop.invariant.0),
-      subst Q next (one-collected choice names first certify c.loop.counter c.loop.records c.next_frame.new.records before.circuit before.kept_free before.frames c.loop.invariant.1 c.loop.invariant.0.frames
-          c.in-Ok-Some.ensures.certificate),
-    )
-
--- at the limit the last circuit isn't looked at
-pub returns-clause-run : goal.returns-clause-run
-returns-clause-run g c = record {
-  taken = c.loop.counter;
-  underway = c.loop.invariant.0;
-  within = c.loop.auto.counter-end;
-  last = λ less. absurd (omega (arith, c.loop-test.false, less));
-  looked = c.loop.counter;
-  collected = c.loop.invariant.1;
-  limited = λ at. refl;
-  ended = λ less. absurd (omega (arith, c.loop-test.false, less));
-}
+after_frame-requires-clause-underway g c = let begun = c.requires.begun in (begun.read, c.loop.counter, (c.loop.invariant begun.read begun.underway).0)
 
 pub after_frame-requires-clause-moves : goal.after_frame-requires-clause-moves
 after_frame-requires-clause-moves g c =
@@ -77,20 +32,56 @@ after_frame-requires-clause-moves g c =
     let P : Option Frame → Type 0 = λ found. MatchOption found (NoneSmaller names c.loop.retimed.circuit) (Moves c.args.options.now.choice names c.loop.retimed.circuit) in
     subst P c.in-Ok-Some.field-0-is c.in-Ok-Some.ensures.found
 
-pub returns-in_err-retimed-clause-run : goal.returns-in_err-retimed-clause-run
-returns-in_err-retimed-clause-run g c = IfOk-from_err c.from_residual.result _ c.from_residual.ensures.0
+-- the last circuit was looked at, and none counts less
+pub returns-in-Ok-None : goal.returns-in-Ok-None
+returns-in-Ok-None g c = λ d start.
+    let choice = c.args.options.now.choice in
+    let names = names_in c.args.options.now in
+    let before = c.loop.retimed in
+    let so_far = c.loop.invariant d start in
+    let P : Option Frame → Type 0 = λ found. MatchOption found (NoneSmaller names before.circuit) (Moves choice names before.circuit) in
+    let none : NoneSmaller names before.circuit = subst P c.in-Ok-None.field-0-is c.in-Ok-None.ensures.found in
+    record {
+      taken = c.loop.counter;
+      underway = so_far.0;
+      within = c.loop.auto.counter-end;
+      last = λ less. none;
+      looked = suc c.loop.counter;
+      collected = one-collected choice names d c.args.options.now.certify c.loop.counter c.loop.records c.next_frame.new.records before.circuit before.kept_free before.frames so_far.1 so_far.0.frames
+          c.in-Ok-None.ensures.certificate;
+      limited = λ at. absurd (omega (arith, at, c.loop-test.true));
+      ended = λ less. refl;
+    }
 
-pub returns-in_err-retimed-clause-none_missing : goal.returns-in_err-retimed-clause-none_missing
-returns-in_err-retimed-clause-none_missing g c = IfOk-from_err c.from_residual.result _ c.from_residual.ensures.0
+pub loop-preserved : goal.loop-preserved
+loop-preserved g c = λ d start.
+    let choice = c.args.options.now.choice in
+    let names = names_in c.args.options.now in
+    let certify = c.args.options.now.certify in
+    let before = c.loop.retimed in
+    let so_far = c.loop.invariant d start in
+    let P : ℕ → Type 0 = λ n. IsUnderway choice names d n c.in_ok-retimed-in-Ok-Some.retimed in
+    let Q : ℕ → Type 0 = λ n. AreCollected choice names d certify n c.next_frame.new.records in
+    let next : suc c.loop.counter ≡ c.loop.counter + 1 = omega arith in (
+      subst P next (c.in_ok-retimed-in-Ok-Some.ensures d c.loop.counter so_far.0),
+      subst Q next
+          (one-collected choice names d certify c.loop.counter c.loop.records c.next_frame.new.records before.circuit before.kept_free before.frames so_far.1 so_far.0.frames c.in-Ok-Some.ensures.certificate),
+    )
 
-pub returns-in_err-retimed-in-Ok-Some-clause-run : goal.returns-in_err-retimed-in-Ok-Some-clause-run
-returns-in_err-retimed-in-Ok-Some-clause-run g c = IfOk-from_err c.from_residual-in_err-retimed-in-Ok-Some.result _ c.from_residual-in_err-retimed-in-Ok-Some.ensures.0
+-- at the limit the last circuit isn't looked at
+pub returns : goal.returns
+returns g c = λ d start.
+    let so_far = c.loop.invariant d start in
+    record {
+      taken = c.loop.counter;
+      underway = so_far.0;
+      within = c.loop.auto.counter-end;
+      last = λ less. absurd (omega (arith, c.loop-test.false, less));
+      looked = c.loop.counter;
+      collected = so_far.1;
+      limited = λ at. refl;
+      ended = λ less. absurd (omega (arith, c.loop-test.false, less));
+    }
 
-pub returns-in_err-retimed-in-Ok-Some-clause-none_missing : goal.returns-in_err-retimed-in-Ok-Some-clause-none_missing
-returns-in_err-retimed-in-Ok-Some-clause-none_missing g c = IfOk-from_err c.from_residual-in_err-retimed-in-Ok-Some.result _ c.from_residual-in_err-retimed-in-Ok-Some.ensures.0
-
-pub returns-in-Ok-None-clause-none_missing : goal.returns-in-Ok-None-clause-none_missing
-returns-in-Ok-None-clause-none_missing g c = c.in_ok-retimed.ensures.none_missing
-
-pub returns-clause-none_missing : goal.returns-clause-none_missing
-returns-clause-none_missing g c = c.in_ok-retimed.ensures.none_missing
+pub returns-in_err-retimed-in-Ok-Some : goal.returns-in_err-retimed-in-Ok-Some
+returns-in_err-retimed-in-Ok-Some g c = IfOk-from_err c.from_residual.result _ c.from_residual.ensures.0

@@ -1,34 +1,23 @@
-use Rattle.std.proofs.Common.{◌≡◌, sym, subst}
-use Rattle.retimed_circuits.specs.declared.report.Retimed.{Retimed}
-use Rattle.retimed_circuits.specs.Retiming.{IsRetimed}
-use Rattle.frames.specs.Named.{names_in}
-use Rattle.frames.proofs.CertificateLaws.{none-collected}
-use Rattle.frames.proofs.FrameLaws.{ended}
+use Rattle.std.proofs.lemmas.Result.{IfOk-from_err}
 use Rattle.frames.proofs.retiming.retime_watched.Goals as goal
 
-pub all_frames-requires-after_bounds : goal.all_frames-requires-after_bounds
-all_frames-requires-after_bounds g c κs within =
-    none-collected c.args.options.now.choice (names_in c.args.options.now) c.args.circuit.now c.args.options.now.certify c.new-records.result c.new-records.ensures.certify c.new-records.ensures.certificates
+pub retimed_from-requires-after_bounds : goal.retimed_from-requires-after_bounds
+retimed_from-requires-after_bounds g c κs within = record { read = c.args.circuit.now; underway = c.in_ok-start.ensures.underway; names = c.in_ok-start.ensures.none_missing }
 
-pub returns-in-Ok-clause-retimed : goal.returns-in-Ok-clause-retimed
-returns-in-Ok-clause-retimed g c =
-    let options = c.args.options.now in
-    let r = c.in-Ok.retimed in
-    let records = c.all_frames.new.records in
-    let whole = c.with_certificates.ensures in
-    let s : Retimed = record { circuit = r.circuit; kept_free = r.kept_free; read_latches = r.read_latches; frames = r.frames; certificates = records.certificates.items } in
-    let same : c.with_certificates.result ≡ s = λ i. record {
-      circuit = whole.circuit i;
-      kept_free = whole.kept_free i;
-      read_latches = whole.read_latches i;
-      frames = whole.frames i;
-      certificates = whole.certificates i;
-    } in
-    subst (IsRetimed options.choice c.args.circuit.now (names_in options) options.max_frames options.certify) (sym same)
-    (ended options.choice (names_in options) c.args.circuit.now options.max_frames options.certify records r c.in-Ok.ensures.run)
+pub returns-clause-retimed : goal.returns-clause-retimed
+returns-clause-retimed g c = c.in_ok-retimed.ensures c.args.circuit.now c.in_ok-start.ensures.underway
 
-pub returns-in-Ok-clause-none_missing : goal.returns-in-Ok-clause-none_missing
-returns-in-Ok-clause-none_missing g c = c.in-Ok.ensures.none_missing
+pub returns-clause-none_missing : goal.returns-clause-none_missing
+returns-clause-none_missing g c = c.in_ok-start.ensures.none_missing
 
-pub returns-in-Err-clause-missing : goal.returns-in-Err-clause-missing
-returns-in-Err-clause-missing g c = c.in-Err.ensures.missing
+pub returns-in_err-start-clause-retimed : goal.returns-in_err-start-clause-retimed
+returns-in_err-start-clause-retimed g c = IfOk-from_err c.from_residual.result _ c.from_residual.ensures.0
+
+pub returns-in_err-start-clause-none_missing : goal.returns-in_err-start-clause-none_missing
+returns-in_err-start-clause-none_missing g c = IfOk-from_err c.from_residual.result _ c.from_residual.ensures.0
+
+pub returns-in_err-retimed-clause-retimed : goal.returns-in_err-retimed-clause-retimed
+returns-in_err-retimed-clause-retimed g c = IfOk-from_err c.from_residual-in_err-retimed.result _ c.from_residual-in_err-retimed.ensures.0
+
+pub returns-in_err-retimed-clause-none_missing : goal.returns-in_err-retimed-clause-none_missing
+returns-in_err-retimed-clause-none_missing g c = IfOk-from_err c.from_residual-in_err-retimed.result _ c.from_residual-in_err-retimed.ensures.0

@@ -1,0 +1,32 @@
+use Rattle.std.proofs.Common.{◌≡◌, sym, subst}
+use Rattle.retimed_circuits.specs.declared.report.Retimed.{Retimed}
+use Rattle.retimed_circuits.specs.Retiming.{IsRetimed}
+use Rattle.frames.specs.Named.{names_in}
+use Rattle.frames.proofs.FrameLaws.{ended}
+use Rattle.frames.proofs.retiming.retimed_from.Goals as goal
+
+pub all_frames-requires-clause-begun : goal.all_frames-requires-clause-begun
+all_frames-requires-clause-begun g c κs within = c.requires
+
+pub all_frames-requires-clause-wanted : goal.all_frames-requires-clause-wanted
+all_frames-requires-clause-wanted g c κs within = c.new-records.ensures.certify
+
+pub all_frames-requires-clause-none_yet : goal.all_frames-requires-clause-none_yet
+all_frames-requires-clause-none_yet g c κs within = c.new-records.ensures.certificates
+
+pub returns-in-Ok : goal.returns-in-Ok
+returns-in-Ok g c = λ d start.
+    let options = c.args.options.now in
+    let r = c.in-Ok.retimed in
+    let records = c.all_frames.new.records in
+    let whole = c.with_certificates.ensures in
+    let s : Retimed = record { circuit = r.circuit; kept_free = r.kept_free; read_latches = r.read_latches; frames = r.frames; certificates = records.certificates.items } in
+    let same : c.with_certificates.result ≡ s = λ i. record {
+      circuit = whole.circuit i;
+      kept_free = whole.kept_free i;
+      read_latches = whole.read_latches i;
+      frames = whole.frames i;
+      certificates = whole.certificates i;
+    } in
+    subst (IsRetimed options.choice d (names_in options) options.max_frames options.certify) (sym same)
+    (ended options.choice (names_in options) d options.max_frames options.certify records r (c.in-Ok.ensures d start))
