@@ -9,6 +9,7 @@ mod names;
 mod plan;
 mod properties;
 mod starting;
+mod values;
 
 pub use moving::moved;
 pub use starting::resets;

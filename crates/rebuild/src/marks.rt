@@ -8,7 +8,7 @@ ghost use Rattle.aig_graph.specs.Border.{is_read_outside};
 ghost use Rattle.aig_graph.specs.Move.{move_of};
 ghost use Rattle.variable_tables.specs.Marking.{has, mark_at, Marks};
 ghost use Rattle.rebuild.specs.Moved.{is_latched, is_outside};
-ghost use Rattle.rebuild.specs.Members.{ArePassable};
+ghost use Rattle.rebuild.specs.Members.{AreFanInsIn, ArePassable};
 ghost use Rattle.rebuild.specs.Entries.{by_variable, latched_by};
 
 use aig_graph::{Aig, Circuit, ClosedSet, Keep, NoMemory, Props, Reset, mark_held, mark_read};
@@ -27,6 +27,7 @@ pub(crate) struct MarkedSet<'a> {
     ghost graph: { IsGraph circuit.now.aig },
     ghost netlist: { IsNetlist circuit.now },
     ghost passable: { ArePassable circuit.now.aig keep.now set.now },
+    ghost fan_ins: { AreFanInsIn circuit.now.aig set.now },
     ghost members_are: { members.items ≡ by_variable circuit.now.aig (has set.now) },
     ghost latched_are: { latched.items ≡ by_variable circuit.now.aig (is_latched (move_of circuit.now keep.now set.now)) },
 }

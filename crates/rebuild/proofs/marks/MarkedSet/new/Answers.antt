@@ -2,6 +2,7 @@ use Rattle.std.proofs.Common.{◌∙◌, ◌≡◌, ap, sym, Bool, List, ℕ, re
 use Rattle.aig_graph.specs.Graph.{first_latch, latches_and_gates}
 use Rattle.aig_graph.specs.Move.{move_of}
 use Rattle.rebuild.proofs.BorderLaws.{closed-passable}
+use Rattle.rebuild.proofs.MemberLaws.{closed-fan_ins}
 use Rattle.rebuild.proofs.PlanLaws.{latched-table, members-table}
 use Rattle.rebuild.specs.Entries.{by_variable, latched_by}
 use Rattle.variable_tables.specs.Marking.{has}
@@ -19,6 +20,7 @@ invariant_of-result c =
       graph = c.aig-aig.ensures.graph;
       netlist = c.aig-aig.ensures.netlist;
       passable = passable;
+      fan_ins = closed-fan_ins c.args.circuit.now.aig c.args.keep.now c.args.set.now c.requires.closed;
       members_are = members;
       latched_are = latched-table m c.aig-aig.result.now c.props.result.now c.as_slice.result.now c.as_mut_slice-marks.result.now c.mark_read_or_held.new.marks c.in_ok-latched.latched.items
           c.aig-aig.ensures.value c.props.ensures.value passable (c.as_slice.ensures.value ∙ members)
