@@ -3,6 +3,7 @@
 #![tactic(auto)]
 
 mod graph;
+mod marking;
 mod marks;
 mod moving;
 mod names;
@@ -11,5 +12,6 @@ mod properties;
 mod starting;
 mod values;
 
-pub use moving::moved;
+pub use marking::MoveMarks;
+pub use moving::{moved, moved_by};
 pub use starting::resets;

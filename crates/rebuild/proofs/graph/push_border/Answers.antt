@@ -4,7 +4,7 @@ use Rattle.aig_graph.specs.Graph.{first_gate}
 use Rattle.aig_graph.specs.Value.{reset_to}
 use Rattle.aig_graph.specs.declared.graph.Latch.{Latch}
 use Rattle.rebuild.proofs.MemberLaws.{border-all, border-more, border-skip, member-at, member-place}
-use Rattle.rebuild.specs.Moved.{is_latched, latches_below}
+use Rattle.rebuild.specs.Moved.{latches_below}
 use Rattle.rebuild.specs.Planned.{planned}
 use Rattle.rebuild.specs.Starting.{start_value}
 use Rattle.rebuild.proofs.graph.push_border.Goals as goal
