@@ -1,7 +1,9 @@
 //! One frame: the latches of a cleaned circuit move over its chosen least set, and the circuit is cleaned again.
 ghost use Rattle.std.specs.Prelude.{◌≡◌, IfOk, OnOk, MatchOption};
 ghost use Rattle.aig_graph.specs.Graph.{IsGraph};
+ghost use Rattle.aig_graph.specs.Move.{move_of};
 ghost use Rattle.aig_graph.specs.Streams.{SameStreams};
+ghost use Rattle.rebuild.specs.Marked.{AreMarksOf};
 ghost use Rattle.retimed_circuits.specs.Frames.{CleansIn, IsHelpingSet, NoneSmaller, moved_in};
 ghost use Rattle.retimed_circuits.specs.Names.{held_in, held_latches};
 ghost use Rattle.frames.specs.Certified.{AddsChosen};
@@ -19,7 +21,7 @@ use chosen_cuts::Records;
 use clean::Cleaned;
 use gate_flows::{GateFlow, after_cleaning, after_move};
 use pulse::{Crew, PhaseGate};
-use rebuild::moved;
+use rebuild::{MoveMarks, moved_by};
 use retimed_circuits::FrameReport;
 use std::alloc::Global;
 use std::thread::Threads;
@@ -37,6 +39,7 @@ fn moved_over(
     circuit: &Circuit,
     keep: &Keep,
     set: &ClosedSet,
+    marks: MoveMarks,
     options: &Options,
 ) -> Result<Cleaned, NoMemory>
     requires keep { keep.now ≡ held_in (names_in options.now) circuit.now }
@@ -44,6 +47,7 @@ fn moved_over(
     requires graph { IsGraph circuit.now.aig }
     requires tidy { IsTidyIn (names_in options.now) circuit.now }
     requires helps { IsHelpingSet options.now.choice (names_in options.now) circuit.now set.now }
+    requires marked { AreMarksOf (move_of circuit.now keep.now set.now) marks }
     ensures cleaned { IfOk result (λ d. CleansIn (names_in options.now)
         (moved_in (names_in options.now) circuit.now set.now) d.circuit d.kept_free) }
     ensures streams { IfOk result (λ d. SameStreams circuit.now d.circuit d.kept_free) }
@@ -53,7 +57,7 @@ fn moved_over(
 {
     let _aig = circuit.aig();
     let copies = set.vars().len();
-    let after = moved(alloc, circuit, set, keep)?;
+    let after = moved_by(alloc, circuit, set, keep, marks)?;
     settled(alloc, after, copies, options)
 }
 
@@ -110,7 +114,8 @@ pub(crate) fn next_frame<G: PhaseGate, V: FrameWatcher>(
     match helping_set(rt, alloc, circuit, &keep, options, crew, records)? {
         Some(found) => {
             watcher.enter(Stage::Moving);
-            let cleaned = moved_over(alloc, circuit, &keep, &found.set, options)?;
+            let marks = found.marks;
+            let cleaned = moved_over(alloc, circuit, &keep, &found.set, marks, options)?;
             let kept_gates = cleaned.kept_gates.as_slice();
             carry(alloc, circuit, &found.set, kept_gates, &mut records.flows);
             Ok(Some(Frame {

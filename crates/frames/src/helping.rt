@@ -7,17 +7,19 @@ ghost use Rattle.frames.specs.Found.{Helps};
 ghost use Rattle.frames.specs.Named.{names_in};
 
 use crate::options::Options;
-use aig_graph::{Circuit, ClosedSet, Keep, NoMemory, count};
+use aig_graph::{Circuit, ClosedSet, Keep, NoMemory};
 use chosen_cuts::{Records, chosen_least_along};
 use pulse::{Crew, PhaseGate};
+use rebuild::MoveMarks;
 use retimed_circuits::FrameReport;
 use std::alloc::Global;
 use std::thread::Threads;
 
-/// A closed set over which a circuit has fewer latches, and what its frame is reported as.
+/// A closed set over which a circuit has fewer latches, the marks of its move, and what its frame is reported as.
 #[derive(Drop)]
 pub(crate) struct Helping {
     pub set: ClosedSet,
+    pub marks: MoveMarks,
     pub report: FrameReport,
 }
 
@@ -41,13 +43,14 @@ pub(crate) fn helping_set<G: PhaseGate>(
 {
     let set = chosen_least_along(rt, alloc, circuit, keep, options.choice, crew, records)?;
     let _aig = circuit.aig();
+    let marks = MoveMarks::new(alloc, circuit, &set, keep)?;
     let report = FrameReport {
         before: circuit.aig().known_latches(),
-        after: count(alloc, circuit, &set, keep)?,
+        after: marks.border_size(),
         moved: set.vars().len() as u32,
     };
     if report.after < report.before {
-        Ok(Some(Helping { set, report }))
+        Ok(Some(Helping { set, marks, report }))
     } else {
         Ok(None)
     }

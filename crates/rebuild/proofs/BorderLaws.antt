@@ -1,5 +1,5 @@
 -- What is read from outside a closed set, and what holds it.
-use Rattle.std.proofs.Common.{ℕ, ◌+◌, ◌-◌, ◌<◌, ◌≤◌, ◌≡◌, ◌⊎◌, inl, inr, suc, zero, List, [], ◌∷◌, Bool, true, false, ◌&&◌, ◌||◌, not, nat_le, nat_eq, Option, Some, None, is_some, slice_get, refl, arith, ap, ◌∙◌}
+use Rattle.std.proofs.Common.{ℕ, ◌+◌, ◌-◌, ◌<◌, ◌≤◌, ◌≡◌, ◌⊎◌, inl, inr, suc, zero, List, [], ◌∷◌, Bool, true, false, ◌&&◌, ◌||◌, not, nat_le, nat_eq, Option, Some, None, is_some, slice_get, refl, arith, ap, sym, ◌∙◌}
 use Rattle.std.specs.List.{list_any, enumerate_from}
 use Rattle.std.proofs.lemmas.Bool.{cases_Bool, and_from, and_parts, and_left, and_right, or_left, or_right, or_from, le-leb, lt-leb, eq-eqb, false_from_ne_true, cond-true, cond-false, both_ways, leb-true, not-true}
 use Rattle.std.proofs.lemmas.Option.{none-some, same_Some, slice_get_within, get_or_from_slice_get}
@@ -111,6 +111,13 @@ module _ (m : Move) where
         | inr other ↦ absurd (both_ways (is_latched m v) (latched-other v e other) kept)
       ]
 
+  -- a gate that has one is a member
+  pub border-member : (v : ℕ) → first_gate m.circuit.aig ≤ v → is_latched m v ≡ true → has m.set v ≡ true
+  border-member v after kept = elim (latched-cases v kept) [
+    | inl old ↦ absurd (none-some old.0 (sym (latch_at-gates m.circuit.aig v after) ∙ old.1))
+    | inr new ↦ new.1
+  ]
+
   pub outside_where : (v : ℕ) → first_gate m.circuit.aig ≤ v → has m.set v ≡ false → is_outside m v ≡ true
   unfolding is_outside
   outside_where v after other = and_from (nat_le (first_gate m.circuit.aig) v) (not (has m.set v)) (le-leb (first_gate m.circuit.aig) v after) (ap not other)
@@ -147,9 +154,6 @@ module _ (m : Move) (passable : ArePassable m.circuit.aig m.held m.set) where
       go : (o : Option Gate) → is_some o ≡ true → (gate : Gate) × (o ≡ Some gate)
       go None h = absurd (cc)
       go (Some gate) h = (gate, refl)
-
-  pub member-settled : (v : ℕ) → has m.set v ≡ true → is_settled m.circuit.aig m.held v ≡ true
-  member-settled v member = (and_parts (is_some (gate_at m.circuit.aig v)) (is_settled m.circuit.aig m.held v) (passable v member)).1
 
   pub gates-members : (v : ℕ) → is_gate_in m.circuit.aig m.set v ≡ has m.set v
   gates-members v = is_gate_in-same m.circuit.aig m.set (λ w member. (and_parts (is_some (gate_at m.circuit.aig w)) (is_settled m.circuit.aig m.held w) (passable w member)).0) v

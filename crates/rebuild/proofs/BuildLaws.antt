@@ -1,28 +1,23 @@
 -- How a moved graph is built, latch by latch and gate by gate.
-use Rattle.std.proofs.Common.{ℕ, ◌+◌, ◌*◌, ◌<◌, ◌≤◌, ◌≡◌, inl, inr, List, [], ◌∷◌, ◌++◌, length, map, take, Bool, true, false, Some, None, slice_get, get_or, refl, arith, ap, sym, ◌∙◌, subst, add-one, filter, cond, Result, IfOk}
+use Rattle.std.proofs.Common.{ℕ, ◌+◌, ◌<◌, ◌≤◌, ◌≡◌, List, [], ◌∷◌, ◌++◌, length, map, take, Bool, true, false, Some, None, slice_get, get_or, refl, arith, ap, sym, ◌∙◌, subst, add-one, filter, cond, Result, IfOk}
 use Rattle.std.proofs.lemmas.Bool.{cond-true, cond-false, false_from_ne_true}
 use Rattle.std.proofs.lemmas.Option.{none-some, slice_get_read, slice_get_within, cond_some}
 use Rattle.std.proofs.lemmas.List.{map_push, map_more, append_assoc, take_all, append-nil}
 use Rattle.std.proofs.lemmas.List.Elements.{filter_more}
 use Rattle.aig_graph.proofs.FoldingLaws.{gate_at-first_gate}
-use Rattle.aig_graph.proofs.KindLaws.{latch_at-before, latch_at-first_latch, latch_at-gates}
+use Rattle.aig_graph.proofs.KindLaws.{latch_at-before, latch_at-first_latch}
 use Rattle.aig_graph.specs.Building.{gate_of}
 use Rattle.aig_graph.specs.Graph.{Graph, IsGateAt, IsGraph, first_gate, first_latch, gate_at, latch_at, variable, variables_end}
 use Rattle.aig_graph.specs.Move.{Move}
-use Rattle.aig_graph.specs.Value.{reset_to}
 use Rattle.aig_graph.specs.declared.graph.Gate.{Gate}
 use Rattle.aig_graph.specs.declared.graph.Latch.{Latch}
-use Rattle.aig_graph.specs.declared.graph.Reset.{Reset}
 use Rattle.aig_graph.specs.declared.properties.Symbol.{Symbol}
 use Rattle.aig_graph.specs.declared.properties.Symbols.{Symbols}
-use Rattle.rebuild.proofs.BorderLaws.{latched-cases, latched-other, no-member-before, not_outside_before, not_outside_member, outside_where}
-use Rattle.rebuild.proofs.StartLaws.{start_reset-member}
+use Rattle.rebuild.proofs.BorderLaws.{latched-other, no-member-before, not_outside_before, not_outside_member, outside_where}
 use Rattle.rebuild.specs.Members.{ArePassable}
-use Rattle.rebuild.specs.Moved.{advanced_literal, copy_for, copy_variable, gate_between, gate_for, gates_below, is_latched, is_outside, latch_for, latch_from, latches_below, moved_graph, moved_literal, moved_name, moved_symbols, stays}
-use Rattle.rebuild.specs.Starting.{gate_resets, start_reset, start_value}
+use Rattle.rebuild.specs.Moved.{advanced_literal, copy_for, gate_between, gate_for, gates_below, is_latched, is_outside, latch_for, latch_from, latches_below, moved_graph, moved_literal, moved_name, moved_symbols, stays}
 use Rattle.variable_tables.proofs.CountingLaws.{places-none}
 use Rattle.variable_tables.proofs.PlacesLaws.{places-fail, places-pass}
-use Rattle.variable_tables.proofs.TableLaws.{length-table, table-at}
 use Rattle.variable_tables.specs.Counting.{places}
 use Rattle.variable_tables.specs.Marking.{has}
 
@@ -71,30 +66,6 @@ module _ (m : Move) where
   staying-skip k xs unkept listed =
       let v : ℕ = first_latch m.circuit.aig + k in
       places-at (is_latched m) (latch_for m) (v + 1) (first_latch m.circuit.aig + (k + 1)) xs (omega arith) (omega arith) (skip-place (is_latched m) (latch_for m) v xs unkept listed)
-
-  -- a kept gate is a member
-  pub border-member : (v : ℕ) → first_gate m.circuit.aig ≤ v → is_latched m v ≡ true → has m.set v ≡ true
-  border-member v after kept = elim (latched-cases m v kept) [
-    | inl old ↦ absurd (none-some old.0 (sym (latch_at-gates m.circuit.aig v after) ∙ old.1))
-    | inr new ↦ new.1
-  ]
-
-  pub border-more : ArePassable m.circuit.aig m.held m.set → (k : ℕ) (r : Reset) (xs ys : List Latch) (x : Latch) → is_latched m (first_gate m.circuit.aig + k) ≡ true
-      → r ≡ start_reset m.circuit.aig m.held (first_gate m.circuit.aig + k) → xs ≡ latches_below m (first_gate m.circuit.aig + k) → ys ≡ xs ++ x ∷ []
-      → x ≡ record { next = 2 * copy_variable m (first_gate m.circuit.aig + k); reset = r } → ys ≡ latches_below m (first_gate m.circuit.aig + (k + 1))
-  border-more passable k r xs ys x kept start listed pushed made =
-      let v : ℕ = first_gate m.circuit.aig + k in
-      let from : Reset → Latch = λ d. record { next = 2 * copy_variable m v; reset = d } in
-      let reset : r ≡ reset_to (start_value m.circuit.aig v) = start ∙ start_reset-member m passable v (border-member v (omega arith) kept) in
-      places-at (is_latched m) (latch_for m) (v + 1) (first_gate m.circuit.aig + (k + 1)) ys (omega arith) (omega arith)
-      (push-place (is_latched m) (latch_for m) v xs ys x kept listed pushed
-      (made ∙ ap from reset ∙ sym (ap (latch_from m v) (latch_at-gates m.circuit.aig v (omega arith)))))
-
-  pub border-skip : (k : ℕ) (xs : List Latch) → is_latched m (first_gate m.circuit.aig + k) ≡ false → xs ≡ latches_below m (first_gate m.circuit.aig + k)
-      → xs ≡ latches_below m (first_gate m.circuit.aig + (k + 1))
-  border-skip k xs unkept listed =
-      let v : ℕ = first_gate m.circuit.aig + k in
-      places-at (is_latched m) (latch_for m) (v + 1) (first_gate m.circuit.aig + (k + 1)) xs (omega arith) (omega arith) (skip-place (is_latched m) (latch_for m) v xs unkept listed)
 
   pub no-outside : gates_below m (first_gate m.circuit.aig) ≡ []
   no-outside = ap (map (gate_for m)) (places-none (is_outside m) (first_gate m.circuit.aig) (λ v h. not_outside_before m v h))
@@ -178,14 +149,3 @@ name-goes m names i name copies within read listed answer =
     let same : filter (stays m) (take (i + 1) names) ≡ filter (stays m) (take i names) =
     filter_more (stays m) names i name within ∙ ap (λ (xs : List Symbol). filter (stays m) (take i names) ++ xs) one ∙ append-nil (filter (stays m) (take i names)) in
     listed ∙ ap (map (moved_name m)) (sym same)
-
--- what a loop over the resets of gates reads
-pub resets-within : (g : Graph) (held : List ℕ) (resets : List Reset) (first k : ℕ) → resets ≡ gate_resets g held → first ≡ first_gate g → k < length resets → first + k < variables_end g
-resets-within g held resets first k filled starts within =
-    omega (arith, ap (λ (xs : List Reset). length xs) filled, length-table (first_gate g) (length g.gates) (start_reset g held))
-
-pub reset-there : (g : Graph) (held : List ℕ) (resets : List Reset) (k : ℕ) (d : Reset) → resets ≡ gate_resets g held → k < length resets → get_or resets k d ≡ start_reset g held (first_gate g + k)
-reset-there g held resets k d filled within =
-    ap (λ (xs : List Reset). get_or xs k d) filled
-    ∙ table-at (first_gate g) (length g.gates) (start_reset g held) k d
-    (omega (arith, ap (λ (xs : List Reset). length xs) filled, length-table (first_gate g) (length g.gates) (start_reset g held)))

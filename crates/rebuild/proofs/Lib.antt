@@ -7,4 +7,5 @@ pub mod StartLaws
 pub mod StreamLaws
 pub mod PlanLaws
 pub mod BuildLaws
+pub mod MemberLaws
 pub mod Examples

@@ -17,9 +17,9 @@ use Rattle.aig_graph.specs.declared.graph.Latch.{Latch}
 use Rattle.aig_graph.specs.declared.literal.TheConstants.{MAX_VARIABLES}
 use Rattle.rebuild.proofs.BorderLaws.{closed-passable, latched-cases, latched-latch, latched-member, member-gate, outside_parts, outside_where, new_variable-latched, new_variable-leaf, new_variable-outside, read-first, read-next, read-second}
 use Rattle.aig_graph.proofs.SignLaws.{gate_of-below, gate_of-ordered, variable-signed_as, variable-signed_as_twice}
+use Rattle.rebuild.proofs.MemberLaws.{members}
 use Rattle.rebuild.specs.Moved.{advanced, advanced_literal, copies_start, copy_for, copy_variable, gate_between, gate_for, gates_start, is_latched, is_outside, latch_for, latch_from, moved_graph, moved_literal, new_variable, next_of}
 use Rattle.variable_tables.proofs.ListLaws.{from_map, slice_get-map_some}
-use Rattle.variable_tables.proofs.MemberLaws.{places-members}
 use Rattle.variable_tables.proofs.PlacesLaws.{Ranks, at_rank, count-lt, length-places, rank_at, slice_get-append_left, slice_get-append_right}
 use Rattle.variable_tables.specs.Counting.{count_below, places}
 use Rattle.variable_tables.specs.Marking.{has}
@@ -35,10 +35,6 @@ members-below g held s set k d h =
     let there = set.closed.passable v (k, h, get_or_default s k v d h) in
     let place : GatePlace g v there.0 = gate_place g v there.0 there.1 in
     place.below
-
--- the set is the list of the places of its members
-members : (m : Move) → IsClosedSet m.circuit.aig m.held m.set → places (has m.set) (variables_end m.circuit.aig) ≡ m.set
-members m set = places-members m.set (variables_end m.circuit.aig) set.rising (members-below m.circuit.aig m.held m.set set)
 
 module _ (m : Move) where
   pub moved-inputs : (moved_graph m).inputs ≡ m.circuit.aig.inputs
@@ -83,7 +79,7 @@ module _ (m : Move) where
 module _ (m : Move) (set : IsClosedSet m.circuit.aig m.held m.set) where
   gates-split : (moved_graph m).gates ≡ map (gate_for m) (places (is_outside m) (variables_end m.circuit.aig)) ++ map (copy_for m) (places (has m.set) (variables_end m.circuit.aig))
   unfolding moved_graph
-  gates-split = ap (λ (vs : List ℕ). map (gate_for m) (places (is_outside m) (variables_end m.circuit.aig)) ++ map (copy_for m) vs) (sym (members m set))
+  gates-split = ap (λ (vs : List ℕ). map (gate_for m) (places (is_outside m) (variables_end m.circuit.aig)) ++ map (copy_for m) vs) (sym (members m (closed-passable m set.closed) set.rising))
 
   pub length-moved_gates : length (moved_graph m).gates ≡ count_below (is_outside m) (variables_end m.circuit.aig) + count_below (has m.set) (variables_end m.circuit.aig)
   length-moved_gates = ap length gates-split ∙

@@ -16,10 +16,8 @@ use Rattle.aig_graph.specs.declared.graph.Gate.{Gate}
 use Rattle.aig_graph.specs.declared.graph.Latch.{Latch}
 use Rattle.aig_graph.specs.declared.graph.Reset.{Reset}
 use Rattle.aig_graph.specs.declared.graph.Reset.TheVariants.{Free, One, Zero}
-use Rattle.rebuild.proofs.BorderLaws.{member-settled}
 use Rattle.aig_graph.proofs.SignLaws.{value_signed}
 use Rattle.rebuild.specs.Laws.{StartLaw}
-use Rattle.rebuild.specs.Members.{ArePassable}
 use Rattle.rebuild.specs.Starting.{and_reset, literal_start, start_reset, start_value}
 use Rattle.variable_tables.specs.Marking.{has}
 
@@ -45,13 +43,18 @@ value-gate g valid x f t v gate e =
     let here : 2 * v ≡ 2 * (first_gate g + (v - first_gate g)) = omega arith in
     ap (value g x f t) here ∙ (value_laws g valid x f).gate t (v - first_gate g) gate place.there
 
+-- the value of a latch at step 0
+pub start-latch : (g : Graph) → IsGraph g → (v : ℕ) (latch : Latch) → latch_at g v ≡ Some latch → start_value g v ≡ opening latch.reset false
+unfolding start_value
+start-latch g valid v latch e = value-latch_start g valid (λ t i. false) (λ j. false) v latch e
+
 opening-known : (r : Reset) (next : ℕ) (a b : Bool) → not (is_free (record { next = next; reset = r })) ≡ true → opening r a ≡ opening r b
 opening-known Zero next a b known = refl
 opening-known One next a b known = refl
 opening-known Free next a b known = absurd (cc)
 
 -- the value of a gate at step 0, from those of its fan-ins
-start-gate : (g : Graph) → IsGraph g → (v : ℕ) (gate : Gate) → gate_at g v ≡ Some gate
+pub start-gate : (g : Graph) → IsGraph g → (v : ℕ) (gate : Gate) → gate_at g v ≡ Some gate
     → start_value g v ≡ (signed gate.rhs0 (start_value g (variable gate.rhs0)) && signed gate.rhs1 (start_value g (variable gate.rhs1)))
 unfolding start_value
 start-gate g valid v gate e =
@@ -107,13 +110,6 @@ pub value-start_value : (m : Move) → IsGraph m.circuit.aig → IsClosed m.circ
     → start_value m.circuit.aig v ≡ value m.circuit.aig x f 0 (2 * v)
 value-start_value m valid closed x f v member = value-passable m.circuit.aig m.held valid x f v (closed.passable v ((has_iff_contains m.set v).0 member))
 
--- its reset is that of its latch
-pub start_reset-member : (m : Move) → ArePassable m.circuit.aig m.held m.set → (v : ℕ) → has m.set v ≡ true
-    → start_reset m.circuit.aig m.held v ≡ reset_to (start_value m.circuit.aig v)
-unfolding start_reset
-start_reset-member m passable v member =
-    cond-true (is_settled m.circuit.aig m.held v) (reset_to (start_value m.circuit.aig v)) Free (member-settled m passable v member)
-
 pub opening-reset_to : (b a : Bool) → opening (reset_to b) a ≡ b
 opening-reset_to true a = refl
 opening-reset_to false a = refl
@@ -129,11 +125,11 @@ module _ (g : Graph) (held : List ℕ) where
   start_reset-unmoved v h unmoved = cond-false (is_settled g held v) (reset_to (start_value g v)) Free (settled-leaf v h ∙ unmoved)
 
   pub start_reset-latch : IsGraph g → (v : ℕ) (latch : Latch) → latch_at g v ≡ Some latch → may_move g held v ≡ true → start_reset g held v ≡ latch.reset
-  unfolding start_reset start_value
+  unfolding start_reset
   start_reset-latch valid v latch e movable =
       let place : LatchPlace g v latch = latch_place g v latch e in
       cond-true (is_settled g held v) (reset_to (start_value g v)) Free (settled-leaf v place.below ∙ movable)
-      ∙ ap reset_to (value-latch_start g valid (λ t i. false) (λ j. false) v latch e)
+      ∙ ap reset_to (start-latch g valid v latch e)
       ∙ known_reset latch.reset latch.next (movable-known g held v latch e movable)
     where
       known_reset : (r : Reset) (next : ℕ) → is_free (record { next = next; reset = r }) ≡ false → reset_to (opening r false) ≡ r

@@ -4,11 +4,11 @@
 ghost use Rattle.std.specs.Prelude.{◌≡◌, ◌++◌, [], IfOk, OnOk, map};
 ghost use Rattle.aig_graph.specs.Graph.{variables_end, first_gate};
 ghost use Rattle.rebuild.specs.Moved.{latches_below, gates_below, copy_for, moved_graph};
-ghost use Rattle.rebuild.specs.Starting.{gate_resets};
+ghost use Rattle.rebuild.specs.Starting.{start_value};
 ghost use Rattle.rebuild.specs.Planned.{planned};
 
 use crate::plan::Plan;
-use crate::starting::resets;
+use crate::values::member_values;
 use aig_graph::{Aig, Gate, Latch, NoMemory, Reset};
 use std::alloc::Global;
 use variable_tables::count_marks;
@@ -28,20 +28,18 @@ fn push_staying(latches: &mut Vec<Latch>, plan: &Plan<'_>) -> Result<(), NoMemor
     Ok(())
 }
 
-/// Adds a latch for each gate of the border, in gate order, by the resets of the gates.
-fn push_border(latches: &mut Vec<Latch>, plan: &Plan<'_>, resets: &[Reset]) -> Result<(), NoMemory>
+/// Adds a latch for each gate of the border, in gate order, by the values of the members at step 0.
+fn push_border(latches: &mut Vec<Latch>, plan: &Plan<'_>, values: &[bool]) -> Result<(), NoMemory>
     requires staying { latches.old.items ≡ latches_below (planned plan.now)
         (first_gate (planned plan.now).circuit.aig) }
-    requires resets { resets.now ≡ gate_resets (planned plan.now).circuit.aig
-        (planned plan.now).held }
+    requires values { values.now ≡ map (start_value (planned plan.now).circuit.aig)
+        (planned plan.now).set }
     ensures { OnOk result (latches.new.items ≡ latches_below (planned plan.now)
         (variables_end (planned plan.now).circuit.aig)) }
 {
-    let first = plan.aig().first_gate();
-    for (k, reset) in resets.iter().enumerate() {
-        let var = first + k as u32;
-        if plan.marks.is_latched(var) {
-            latches.push(plan.border_latch(var, *reset))?;
+    for (k, var) in plan.marks.set.vars().iter().enumerate() {
+        if plan.marks.is_latched(*var) {
+            latches.push(plan.border_latch(*var, Reset::from(values[k])))?;
         }
     }
     Ok(())
@@ -51,11 +49,11 @@ fn moved_latches(alloc: Global, plan: &Plan<'_>) -> Result<Vec<Latch>, NoMemory>
     ensures { IfOk result (λ latches. latches.items
         ≡ latches_below (planned plan.now) (variables_end (planned plan.now).circuit.aig)) }
 {
-    let resets = resets(alloc, plan.aig(), plan.marks.keep)?;
+    let values = member_values(alloc, plan)?;
     let count = count_marks(plan.marks.latched.as_slice());
     let mut latches = Vec::with_capacity(alloc, count as usize)?;
     push_staying(&mut latches, plan)?;
-    push_border(&mut latches, plan, resets.as_slice())?;
+    push_border(&mut latches, plan, values.as_slice())?;
     Ok(latches)
 }
 

@@ -3,12 +3,15 @@
 #![tactic(auto)]
 
 mod graph;
+mod marking;
 mod marks;
 mod moving;
 mod names;
 mod plan;
 mod properties;
 mod starting;
+mod values;
 
-pub use moving::moved;
+pub use marking::MoveMarks;
+pub use moving::{moved, moved_by};
 pub use starting::resets;

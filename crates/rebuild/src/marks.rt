@@ -1,19 +1,19 @@
-//! A closed set beside what decides which variables get a latch after the move: what is held, and what is read from outside the
-//! set. The ghost fields say so of the tables, so functions over a `MarkedSet` need no premise.
-ghost use Rattle.std.specs.Prelude.{◌≡◌, ◌<◌, ◌||◌, IfOk};
-ghost use Rattle.aig_graph.specs.Graph.{IsGraph, first_latch, first_gate, variables_end};
+//! A closed set beside the marks of its move. The ghost fields say what the tables are, so functions over a `MarkedSet` need no
+//! premise.
+ghost use Rattle.std.specs.Prelude.{◌≡◌, ◌<◌, IfOk};
+ghost use Rattle.aig_graph.specs.Graph.{IsGraph, first_gate, variables_end};
 ghost use Rattle.aig_graph.specs.Circuits.{IsNetlist};
-ghost use Rattle.aig_graph.specs.Closed.{is_held, IsClosedSet};
-ghost use Rattle.aig_graph.specs.Border.{is_read_outside};
+ghost use Rattle.aig_graph.specs.Closed.{IsClosedSet};
 ghost use Rattle.aig_graph.specs.Move.{move_of};
-ghost use Rattle.variable_tables.specs.Marking.{has, mark_at, Marks};
+ghost use Rattle.variable_tables.specs.Marking.{has};
 ghost use Rattle.rebuild.specs.Moved.{is_latched, is_outside};
-ghost use Rattle.rebuild.specs.Members.{ArePassable};
-ghost use Rattle.rebuild.specs.Entries.{by_variable, latched_by};
+ghost use Rattle.rebuild.specs.Members.{AreFanInsIn, ArePassable};
+ghost use Rattle.rebuild.specs.Entries.{by_variable};
 
-use aig_graph::{Aig, Circuit, ClosedSet, Keep, NoMemory, Props, Reset, mark_held, mark_read};
+use crate::marking::MoveMarks;
+use aig_graph::{Aig, Circuit, ClosedSet, Keep, NoMemory};
 use std::alloc::Global;
-use variable_tables::{mark_at, marks_of};
+use variable_tables::mark_at;
 
 /// A closed set of a circuit, with marks of its members and of the variables that have a latch after the move. The tables begin
 /// at the first latch.
@@ -27,75 +27,33 @@ pub(crate) struct MarkedSet<'a> {
     ghost graph: { IsGraph circuit.now.aig },
     ghost netlist: { IsNetlist circuit.now },
     ghost passable: { ArePassable circuit.now.aig keep.now set.now },
+    ghost fan_ins: { AreFanInsIn circuit.now.aig set.now },
     ghost members_are: { members.items ≡ by_variable circuit.now.aig (has set.now) },
     ghost latched_are: { latched.items ≡ by_variable circuit.now.aig (is_latched (move_of circuit.now keep.now set.now)) },
 }
 
-/// Marks the variables that are read from outside the set, and those of held latches.
-#[tactic(auto, using(crate::proofs::PlanLaws::marks_in_turn))]
-fn mark_read_or_held(marks: &mut [bool], aig: &Aig, props: &Props, inside: &[bool], keep: &Keep)
-    ensures { Marks (first_latch aig.now) marks.old marks.new
-        (λ v. is_read_outside aig.now props.now (mark_at (first_latch aig.now) inside.now) v
-        || is_held aig.now keep.now v) }
-{
-    mark_read(marks, aig, props, inside);
-    mark_held(marks, aig, keep);
-}
-
-/// Whether the variable has a latch after the move, by the marks of the set and of what is held or read from outside.
-fn has_latch(aig: &Aig, inside: &[bool], marks: &[bool], var: u32) -> bool
-    ensures { result ≡ latched_by aig.now inside.now marks.now var }
-{
-    let first = aig.first_latch();
-    match aig.latch(var) {
-        Some(latch) => latch.reset == Reset::Free || mark_at(marks, first, var),
-        None => mark_at(inside, first, var) && mark_at(marks, first, var),
-    }
-}
-
-/// By variable whether it has a latch after the move.
-fn latched_marks(
-    alloc: Global,
-    aig: &Aig,
-    inside: &[bool],
-    marks: &[bool],
-) -> Result<Vec<bool>, NoMemory>
-    ensures { IfOk result (λ latched. latched.items
-        ≡ by_variable aig.now (latched_by aig.now inside.now marks.now)) }
-{
-    let mut latched = Vec::with_capacity(alloc, aig.latches_and_gates())?;
-    for var in aig.first_latch()..aig.variables() as u32 {
-        latched.push(has_latch(aig, inside, marks, var))?;
-    }
-    Ok(latched)
-}
-
 impl<'a> MarkedSet<'a> {
+    ghost use Rattle.rebuild.specs.Marked.{AreMarksOf};
     ghost use Rattle.rebuild.specs.Planned.{marked};
 
     pub(crate) fn new(
-        alloc: Global,
         circuit: &'a Circuit,
         set: &'a ClosedSet,
         keep: &'a Keep,
-    ) -> Result<MarkedSet<'a>, NoMemory>
-        requires { IsClosedSet circuit.now.aig keep.now set.now }
-        ensures { IfOk result (λ marks. marked marks ≡ move_of circuit.now keep.now set.now) }
+        marks: MoveMarks,
+    ) -> MarkedSet<'a>
+        requires closed { IsClosedSet circuit.now.aig keep.now set.now }
+        requires marked { AreMarksOf (move_of circuit.now keep.now set.now) marks }
+        ensures { marked result ≡ move_of circuit.now keep.now set.now }
     {
-        let aig = circuit.aig();
-        let entries = aig.latches_and_gates();
-        let members = marks_of(alloc, aig.first_latch(), entries, set.vars())?;
-        let mut held_or_read = vec![in alloc; false; entries]?;
-        let marks = held_or_read.as_mut_slice();
-        mark_read_or_held(marks, aig, circuit.props(), members.as_slice(), keep);
-        let latched = latched_marks(alloc, aig, members.as_slice(), marks)?;
-        Ok(MarkedSet {
+        let _aig = circuit.aig();
+        MarkedSet {
             circuit,
             keep,
             set,
-            members,
-            latched,
-        })
+            members: marks.members,
+            latched: marks.latched,
+        }
     }
 
     /// The graph before the move.

@@ -6,9 +6,11 @@ ghost use Rattle.aig_graph.specs.Move.{move_of};
 ghost use Rattle.aig_graph.specs.Border.{border_size};
 ghost use Rattle.aig_graph.specs.Laws.{all_free};
 ghost use Rattle.aig_graph.specs.Streams.{SameStreams};
+ghost use Rattle.rebuild.specs.Marked.{AreMarksOf};
 ghost use Rattle.rebuild.specs.Moved.{moved_of, moved_size};
 
 use crate::graph::moved_graph;
+use crate::marking::MoveMarks;
 use crate::marks::MarkedSet;
 use crate::names::moved_symbols;
 use crate::plan::Plan;
@@ -34,8 +36,29 @@ pub fn moved(
     ensures known { IfOk result (λ after. known_latches after.aig
         ≡ border_size (move_of circuit.now keep.now set.now)) }
 {
-    let marks = MarkedSet::new(alloc, circuit, set, keep)?;
-    let plan = Plan::new(alloc, marks)?;
+    let marks = MoveMarks::new(alloc, circuit, set, keep)?;
+    moved_by(alloc, circuit, set, keep, marks)
+}
+
+/// The same by marks of this move that were made before.
+pub fn moved_by(
+    alloc: Global,
+    circuit: &Circuit,
+    set: &ClosedSet,
+    keep: &Keep,
+    marks: MoveMarks,
+) -> Result<Circuit, NoMemory>
+    requires closed { IsClosedSet circuit.now.aig keep.now set.now }
+    requires room { moved_size (move_of circuit.now keep.now set.now) ≤ MAX_VARIABLES }
+    requires marked { AreMarksOf (move_of circuit.now keep.now set.now) marks }
+    ensures value { IfOk result (λ after. after ≡ moved_of (move_of circuit.now keep.now set.now)) }
+    ensures streams { IfOk result (λ after. SameStreams circuit.now after
+        (all_free circuit.now.aig)) }
+    ensures known { IfOk result (λ after. known_latches after.aig
+        ≡ border_size (move_of circuit.now keep.now set.now)) }
+{
+    let marked = MarkedSet::new(circuit, set, keep, marks);
+    let plan = Plan::new(alloc, marked)?;
     let aig = moved_graph(alloc, &plan)?;
     let props = moved_props(alloc, &plan)?;
     let symbols = moved_symbols(alloc, &plan)?;

@@ -24,10 +24,13 @@ pub(crate) struct Plan<'a> {
     variables: Vec<u32>,
     /// That of its copy, for a member of the set.
     copies: Vec<u32>,
+    /// That of the first copy.
+    first_copy: u32,
     ghost moved: { IsGraph (moved_graph (move_of marks.circuit.now marks.keep.now marks.set.now)) },
     ghost room: { copies_start (move_of marks.circuit.now marks.keep.now marks.set.now) + count_below (has marks.set.now) (variables_end marks.circuit.now.aig) ≤ MAX_VARIABLES },
     ghost variables_are: { variables.items ≡ by_variable marks.circuit.now.aig (new_variable (move_of marks.circuit.now marks.keep.now marks.set.now)) },
     ghost copies_are: { copies.items ≡ by_variable marks.circuit.now.aig (copy_variable (move_of marks.circuit.now marks.keep.now marks.set.now)) },
+    ghost first_copy_is: { first_copy ≡ copies_start (move_of marks.circuit.now marks.keep.now marks.set.now) },
 }
 
 /// The next literal of a latch, false where there is none.
@@ -52,7 +55,7 @@ impl<'a> Plan<'a> {
         let first = marks.aig().first_latch();
         let outside = marks.outside(alloc)?;
         let gates_start = first + count_marks(marks.latched.as_slice());
-        let copies_start = gates_start + count_marks(outside.as_slice());
+        let first_copy = gates_start + count_marks(outside.as_slice());
         let variables = renumber(
             alloc,
             first,
@@ -61,11 +64,12 @@ impl<'a> Plan<'a> {
             first,
             gates_start,
         )?;
-        let copies = number_marks(alloc, marks.members.as_slice(), copies_start)?;
+        let copies = number_marks(alloc, marks.members.as_slice(), first_copy)?;
         Ok(Plan {
             marks,
             variables,
             copies,
+            first_copy,
         })
     }
 
@@ -97,6 +101,16 @@ impl<'a> Plan<'a> {
     {
         let first = self.aig().first_latch();
         Lit::new(entry(self.copies.as_slice(), first, var), false)
+    }
+
+    /// How many members come before a variable.
+    pub(crate) fn members_before(&self, var: u32) -> u32
+        requires from { first_latch (planned self.now).circuit.aig ≤ var }
+        requires below { var < variables_end (planned self.now).circuit.aig }
+        ensures { result ≡ count_below (has (planned self.now).set) var }
+    {
+        let first = self.aig().first_latch();
+        entry(self.copies.as_slice(), first, var) - self.first_copy
     }
 
     /// The literal that has now the value that the variable has one step later: a member's copy, or a latch's next literal.

@@ -19,8 +19,8 @@ use Rattle.std.proofs.lemmas.Result.{IfOk-from_err, IfOk-weaker}
 use Rattle.aig_graph.specs.Closed.{IsClosedSet}
 use Rattle.frames.proofs.frame.moved_over.Goals as goal
 
-pub moved-requires-clause-room : goal.moved-requires-clause-room
-moved-requires-clause-room c =
+pub moved_by-requires-clause-room : goal.moved_by-requires-clause-room
+moved_by-requires-clause-room c =
     let before = c.args.circuit.now in
     let set = c.args.set.now in
     let P : List ℕ → Type 0 = λ held. moved_size (move_of before held set) ≤ MAX_VARIABLES in
@@ -55,8 +55,8 @@ settled-requires-clause-tidy c =
     subst P (sym same) (λ lows. tidy-moved names before set first (record { graph = c.aig-aig.ensures.graph; netlist = c.aig-aig.ensures.netlist })
     c.requires.tidy (helping-closed c.args.options.now.choice names before set c.requires.helps) ends lows)
 
-pub moved-requires-clause-closed : goal.moved-requires-clause-closed
-moved-requires-clause-closed c =
+pub moved_by-requires-clause-closed : goal.moved_by-requires-clause-closed
+moved_by-requires-clause-closed c =
     subst (λ (held : List ℕ). IsClosedSet c.args.circuit.now.aig held c.args.set.now) (sym c.requires.keep)
     (helping-closed c.args.options.now.choice (names_in c.args.options.now) c.args.circuit.now c.args.set.now c.requires.helps)
 
@@ -100,3 +100,6 @@ returns-clause-held c =
     let same : after ≡ moved_in names before set = c.in_ok-after.ensures.value ∙ ap (λ (held : List ℕ). moved_of (move_of before held set)) c.requires.keep in
     IfOk-weaker c.settled.result (λ d. held_latches names d.circuit ≡ held_latches names after) (λ d. held_latches names d.circuit ≡ held_latches names before)
     (λ d stays. stays ∙ ap (held_latches names) same ∙ moving-keeps names before set c.aig-aig.ensures.netlist) c.settled.ensures.held
+
+pub moved_by-requires-clause-marked : goal.moved_by-requires-clause-marked
+moved_by-requires-clause-marked c = c.requires.marked

@@ -1,6 +1,8 @@
-use Rattle.std.proofs.Common.{Option, subst}
+use Rattle.std.proofs.Common.{List, Option, subst, sym, ℕ}
 use Rattle.std.specs.Option.{MatchOption}
 use Rattle.std.proofs.lemmas.Result.{IfOk-from_err}
+use Rattle.aig_graph.specs.Move.{move_of}
+use Rattle.rebuild.specs.Marked.{AreMarksOf}
 use Rattle.retimed_circuits.specs.Frames.{NoneSmaller}
 use Rattle.frames.specs.declared.helping.Helping.{Helping}
 use Rattle.frames.specs.Found.{Helps}
@@ -84,3 +86,11 @@ returns-in-Some-clause-certificate g c =
       chosen = found.chosen;
       adds = record { certify = found.adds.certify; added = found.adds.added; none = found.adds.none };
     }
+
+pub moved_over-requires-clause-marked : goal.moved_over-requires-clause-marked
+moved_over-requires-clause-marked g c =
+    let names = names_in c.args.options.now in
+    let before = c.args.circuit.now in
+    let P : Option Helping → Type 0 = λ found. MatchOption found (NoneSmaller names before) (Helps c.args.options.now.choice names before) in
+    let helps : Helps c.args.options.now.choice names before c.in-Some.found = subst P c.in-Some.is c.in_ok-found.ensures.found in
+    subst (λ (held : List ℕ). AreMarksOf (move_of before held c.in-Some.found.set) c.in-Some.found.marks) (sym c.in_ok-keep.ensures) helps.marks

@@ -1,57 +1,32 @@
-use Rattle.std.proofs.Common.{◌≤◌, ◌∙◌, ap, sym, arith, subst}
-use Rattle.aig_graph.specs.Circuits.{IsNetlist, Netlist}
-use Rattle.aig_graph.specs.Closed.{IsClosedSet}
-use Rattle.aig_graph.specs.Graph.{IsGraph, known_latches}
-use Rattle.aig_graph.specs.Laws.{all_free}
-use Rattle.aig_graph.specs.Move.{Move, move_of}
-use Rattle.aig_graph.specs.Streams.{SameStreams}
-use Rattle.aig_graph.specs.declared.literal.TheConstants.{MAX_VARIABLES}
-use Rattle.rebuild.proofs.FreeLaws.{moved-known, moved-room}
-use Rattle.rebuild.proofs.MovedLaws.{IsGraph-moved, moved-end}
-use Rattle.rebuild.proofs.NameLaws.{IsNetlist-moved}
-use Rattle.rebuild.proofs.StreamLaws.{moved-whole, same_streams}
-use Rattle.rebuild.specs.Moved.{moved_of, moved_size}
-use Rattle.rebuild.specs.Planned.{marked, planned}
+use Rattle.std.proofs.lemmas.Result.{IfOk-from_err}
 use Rattle.rebuild.proofs.moving.moved.Goals as goal
 
-pub new-requires-2-clause-moved : goal.new-requires-2-clause-moved
-new-requires-2-clause-moved c =
-    let k = c.in_ok-marks.marks in
-    let set = subst (λ (m : Move). IsClosedSet m.circuit.aig m.held m.set) (sym c.in_ok-marks.ensures) c.requires.closed in
-    let room = subst (λ (m : Move). moved_size m ≤ MAX_VARIABLES) (sym c.in_ok-marks.ensures) c.requires.room in
-    IsGraph-moved (marked k) k.graph set (moved-room (marked k) set room)
+pub new-requires : goal.new-requires
+new-requires c = c.requires.closed
 
-pub new-requires-2-clause-room : goal.new-requires-2-clause-room
-new-requires-2-clause-room c =
-    let k = c.in_ok-marks.marks in
-    let set = subst (λ (m : Move). IsClosedSet m.circuit.aig m.held m.set) (sym c.in_ok-marks.ensures) c.requires.closed in
-    let room = subst (λ (m : Move). moved_size m ≤ MAX_VARIABLES) (sym c.in_ok-marks.ensures) c.requires.room in
-    omega (arith, moved-room (marked k) set room, moved-end (marked k) set)
+pub moved_by-requires-clause-closed : goal.moved_by-requires-clause-closed
+moved_by-requires-clause-closed c = c.requires.closed
 
-pub new-requires-3 : goal.new-requires-3
-new-requires-3 c =
-    let m = move_of c.args.circuit.now c.args.keep.now c.args.set.now in
-    let k = c.in_ok-marks.marks in
-    let same = c.in_ok-plan.ensures ∙ c.in_ok-marks.ensures in
-    let whole = moved-whole (planned c.in_ok-plan.plan) c.in_ok-aig.aig c.in_ok-props.props c.in_ok-symbols.symbols c.in_ok-aig.ensures c.in_ok-props.ensures c.in_ok-symbols.ensures ∙ ap moved_of same in
-    let valid : IsGraph m.circuit.aig = subst (λ (x : Move). IsGraph x.circuit.aig) c.in_ok-marks.ensures k.graph in
-    let netlist : IsNetlist m.circuit = subst (λ (x : Move). IsNetlist x.circuit) c.in_ok-marks.ensures k.netlist in
-    subst IsNetlist (sym whole) (IsNetlist-moved m valid c.requires.closed netlist)
+pub moved_by-requires-clause-room : goal.moved_by-requires-clause-room
+moved_by-requires-clause-room c = c.requires.room
+
+pub moved_by-requires-clause-marked : goal.moved_by-requires-clause-marked
+moved_by-requires-clause-marked c = c.in_ok-marks.ensures
+
+pub returns-clause-value : goal.returns-clause-value
+returns-clause-value c = c.moved_by.ensures.value
 
 pub returns-clause-streams : goal.returns-clause-streams
-returns-clause-streams c =
-    let m = move_of c.args.circuit.now c.args.keep.now c.args.set.now in
-    let k = c.in_ok-marks.marks in
-    let same = c.in_ok-plan.ensures ∙ c.in_ok-marks.ensures in
-    let whole = moved-whole (planned c.in_ok-plan.plan) c.in_ok-aig.aig c.in_ok-props.props c.in_ok-symbols.symbols c.in_ok-aig.ensures c.in_ok-props.ensures c.in_ok-symbols.ensures ∙ ap moved_of same in
-    let valid : IsGraph m.circuit.aig = subst (λ (x : Move). IsGraph x.circuit.aig) c.in_ok-marks.ensures k.graph in
-    let netlist : IsNetlist m.circuit = subst (λ (x : Move). IsNetlist x.circuit) c.in_ok-marks.ensures k.netlist in
-    subst (λ (x : Netlist). SameStreams c.args.circuit.now x (all_free c.args.circuit.now.aig)) (sym (c.new-3.ensures ∙ whole))
-    (same_streams m valid netlist c.requires.closed (IsGraph-moved m valid c.requires.closed (moved-room m c.requires.closed c.requires.room)))
+returns-clause-streams c = c.moved_by.ensures.streams
 
 pub returns-clause-known : goal.returns-clause-known
-returns-clause-known c =
-    let m = move_of c.args.circuit.now c.args.keep.now c.args.set.now in
-    let same = c.in_ok-plan.ensures ∙ c.in_ok-marks.ensures in
-    let whole = moved-whole (planned c.in_ok-plan.plan) c.in_ok-aig.aig c.in_ok-props.props c.in_ok-symbols.symbols c.in_ok-aig.ensures c.in_ok-props.ensures c.in_ok-symbols.ensures ∙ ap moved_of same in
-    ap (λ (x : Netlist). known_latches x.aig) (c.new-3.ensures ∙ whole) ∙ moved-known m c.requires.closed
+returns-clause-known c = c.moved_by.ensures.known
+
+pub returns-in_err-marks-clause-value : goal.returns-in_err-marks-clause-value
+returns-in_err-marks-clause-value c = IfOk-from_err c.from_residual.result _ c.from_residual.ensures.0
+
+pub returns-in_err-marks-clause-streams : goal.returns-in_err-marks-clause-streams
+returns-in_err-marks-clause-streams c = IfOk-from_err c.from_residual.result _ c.from_residual.ensures.0
+
+pub returns-in_err-marks-clause-known : goal.returns-in_err-marks-clause-known
+returns-in_err-marks-clause-known c = IfOk-from_err c.from_residual.result _ c.from_residual.ensures.0

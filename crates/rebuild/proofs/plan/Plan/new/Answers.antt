@@ -25,8 +25,8 @@ count_marks-requires-2 c =
     let k = c.args.marks in
     omega (arith, length-by_variable k.circuit.now.aig (is_outside (marked k)) c.as_slice-2.result.now (c.as_slice-2.ensures.value ∙ c.in_ok-outside.ensures), k.graph.small)
 
-pub overflow_add-copies_start : goal.overflow_add-copies_start
-overflow_add-copies_start c =
+pub overflow_add-first_copy : goal.overflow_add-first_copy
+overflow_add-first_copy c =
     let k = c.args.marks in
     let latched = counted (marked k) (is_latched (marked k)) c.as_slice.result.now c.count_marks.result (c.as_slice.ensures.value ∙ k.latched_are)
     (c.count_marks.ensures (first_latch k.circuit.now.aig) (is_latched (marked k)) (all-latched (marked k) k.passable c.as_slice.result.now (c.as_slice.ensures.value ∙ k.latched_are))) in
@@ -103,4 +103,5 @@ invariant_of-result c =
       copies_are = copies-table m (first_latch g) (c.first_latch-first.result + c.count_marks.result + c.count_marks-2.result) (length c.as_slice-5.result.now) c.in_ok-copies.copies.items
           (c.in_ok-copies.ensures (first_latch g) (has k.set.now) (all-members m k.passable c.as_slice-5.result.now (c.as_slice-5.ensures.value ∙ k.members_are)))
           refl (omega (arith, length-by_variable g (has k.set.now) c.as_slice-5.result.now (c.as_slice-5.ensures.value ∙ k.members_are))) (omega (arith, copies_start-is m, gates_start-is m));
+      first_copy_is = omega (arith, copies_start-is m, gates_start-is m);
     }

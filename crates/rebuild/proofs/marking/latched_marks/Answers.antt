@@ -2,7 +2,7 @@ use Rattle.std.proofs.Common.{arith}
 use Rattle.aig_graph.specs.Graph.{first_latch}
 use Rattle.rebuild.proofs.PlanLaws.{table-begin, table-next}
 use Rattle.rebuild.specs.Entries.{latched_by}
-use Rattle.rebuild.proofs.marks.latched_marks.Goals as goal
+use Rattle.rebuild.proofs.marking.latched_marks.Goals as goal
 
 pub loop-var-init : goal.loop-var-init
 loop-var-init c = record {

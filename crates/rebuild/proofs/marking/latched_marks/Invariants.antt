@@ -2,7 +2,7 @@ use Rattle.std.proofs.Common.{◌≡◌, ◌≤◌, ◌-◌}
 use Rattle.aig_graph.specs.Graph.{first_latch}
 use Rattle.rebuild.specs.Entries.{latched_by}
 use Rattle.variable_tables.specs.Tables.{table}
-use Rattle.rebuild.proofs.marks.latched_marks.Given as goal
+use Rattle.rebuild.proofs.marking.latched_marks.Given as goal
 
 abbrev pub invariant-loop-var : goal.invariant-loop-var
 invariant-loop-var l = record {

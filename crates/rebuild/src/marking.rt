@@ -1,0 +1,97 @@
+//! What decides which variables have a latch after latches have moved over a closed set: whether they are in the set, and whether
+//! they are held or read from outside it.
+ghost use Rattle.std.specs.Prelude.{◌≡◌, ◌||◌, IfOk};
+ghost use Rattle.aig_graph.specs.Graph.{first_latch};
+ghost use Rattle.aig_graph.specs.Closed.{is_held, IsClosedSet};
+ghost use Rattle.aig_graph.specs.Border.{border_size, is_read_outside};
+ghost use Rattle.aig_graph.specs.Move.{Move, move_of};
+ghost use Rattle.variable_tables.specs.Marking.{mark_at, Marks};
+ghost use Rattle.rebuild.specs.Entries.{by_variable, latched_by};
+
+use aig_graph::{Aig, Circuit, ClosedSet, Keep, NoMemory, Props, Reset, mark_held, mark_read};
+use std::alloc::Global;
+use variable_tables::{count_marks, mark_at, marks_of};
+
+/// The marks that a move over a closed set rests on: which variables are in the set, and which have a latch after the move. They are
+/// made once, for the size of the border and for `moved_by`. The tables begin at the first latch.
+#[derive(Drop)]
+pub struct MoveMarks {
+    pub(crate) members: Vec<bool>,
+    pub(crate) latched: Vec<bool>,
+    border: u32,
+}
+
+/// Marks the variables that are read from outside the set, and those of held latches.
+#[tactic(auto, using(crate::proofs::PlanLaws::marks_in_turn))]
+fn mark_read_or_held(marks: &mut [bool], aig: &Aig, props: &Props, inside: &[bool], keep: &Keep)
+    ensures { Marks (first_latch aig.now) marks.old marks.new
+        (λ v. is_read_outside aig.now props.now (mark_at (first_latch aig.now) inside.now) v
+        || is_held aig.now keep.now v) }
+{
+    mark_read(marks, aig, props, inside);
+    mark_held(marks, aig, keep);
+}
+
+/// Whether the variable has a latch after the move, by the marks of the set and of what is held or read from outside.
+fn has_latch(aig: &Aig, inside: &[bool], marks: &[bool], var: u32) -> bool
+    ensures { result ≡ latched_by aig.now inside.now marks.now var }
+{
+    let first = aig.first_latch();
+    match aig.latch(var) {
+        Some(latch) => latch.reset == Reset::Free || mark_at(marks, first, var),
+        None => mark_at(inside, first, var) && mark_at(marks, first, var),
+    }
+}
+
+/// By variable whether it has a latch after the move.
+fn latched_marks(
+    alloc: Global,
+    aig: &Aig,
+    inside: &[bool],
+    marks: &[bool],
+) -> Result<Vec<bool>, NoMemory>
+    ensures { IfOk result (λ latched. latched.items
+        ≡ by_variable aig.now (latched_by aig.now inside.now marks.now)) }
+{
+    let mut latched = Vec::with_capacity(alloc, aig.latches_and_gates())?;
+    for var in aig.first_latch()..aig.variables() as u32 {
+        latched.push(has_latch(aig, inside, marks, var))?;
+    }
+    Ok(latched)
+}
+
+impl MoveMarks {
+    ghost use Rattle.rebuild.specs.Marked.{AreMarksOf};
+
+    /// The marks of a closed set's move. Linear in the circuit; inputs cost nothing.
+    pub fn new(
+        alloc: Global,
+        circuit: &Circuit,
+        set: &ClosedSet,
+        keep: &Keep,
+    ) -> Result<MoveMarks, NoMemory>
+        requires { IsClosedSet circuit.now.aig keep.now set.now }
+        ensures { IfOk result (λ marks. AreMarksOf (move_of circuit.now keep.now set.now) marks) }
+    {
+        let aig = circuit.aig();
+        let entries = aig.latches_and_gates();
+        let members = marks_of(alloc, aig.first_latch(), entries, set.vars())?;
+        let mut held_or_read = vec![in alloc; false; entries]?;
+        let marks = held_or_read.as_mut_slice();
+        mark_read_or_held(marks, aig, circuit.props(), members.as_slice(), keep);
+        let latched = latched_marks(alloc, aig, members.as_slice(), marks)?;
+        let border = count_marks(latched.as_slice()) - aig.free_latches();
+        Ok(MoveMarks {
+            members,
+            latched,
+            border,
+        })
+    }
+
+    /// The size of the set's border, which is how many known latches there are after the move.
+    pub fn border_size(&self) -> u32
+        ensures { (m : Move) → AreMarksOf m self.now → result ≡ border_size m }
+    {
+        self.border
+    }
+}
