@@ -1,4 +1,6 @@
 pub mod PrintingLaws
 pub mod FindingLaws
+pub mod StatisticsLaws
+pub mod FateLaws
 pub mod AuditLaws
 pub mod PipeLaws

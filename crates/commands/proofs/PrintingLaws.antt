@@ -1,5 +1,5 @@
 -- What a command prints, by how it ends.
-use Rattle.std.proofs.Common.{ℕ, ◌≡◌, inl, inr, List, Result, Ok, Err, refl, sym, subst}
+use Rattle.std.proofs.Common.{ℕ, ◌≡◌, inl, inr, IfOk, List, Result, Ok, Err, refl, sym, subst}
 use Rattle.counted_io.specs.Output.{Output, WritesAll}
 use Rattle.serde_json.specs.Data.{Data}
 use Rattle.json_reports.specs.Lines.{json_line}
@@ -9,7 +9,7 @@ use Rattle.circuit_files.specs.declared.outcome.Outcome.TheVariants.{Device}
 use Rattle.circuit_files.specs.declared.outcome.Failure.{Failure}
 use Rattle.circuit_files.specs.declared.outcome.Failure.TheVariants as fails
 use Rattle.command_objects.specs.Objects.{EndsPrintingObject, FailsPrintingObject}
-use Rattle.commands.specs.Printing.{EndsPrinting, Prints, ending}
+use Rattle.commands.specs.Printing.{EndsPrinting, EndsWith, Prints, ending}
 
 -- one that failed, and gave standard output nothing
 pub failing : (f : Failure) (s : Output) → Prints (outcome_of f) s s
@@ -45,6 +45,17 @@ pub lines_print : (outcome : Outcome) (text : List ℕ) (old new : Output) (resu
     → (WritesAll old new text → Prints outcome old new) → EndsPrinting outcome text old new result → Prints (ending result) old new
 lines_print outcome text old new (Ok ended) may p = subst (λ (e : Outcome). Prints e old new) (sym p.0) (may p.1)
 lines_print outcome text old new (Err failure) may p = of_device failure old new p.0
+
+-- all of the text was printed where the command didn't fail
+pub ends_with_line : (outcome : Outcome) (text : List ℕ) (old new : Output) (result : Result Outcome Failure)
+    → EndsPrinting outcome text old new result → IfOk result (EndsWith outcome text old new)
+ends_with_line outcome text old new (Ok ended) p = record { ends = p.0; prints = p.1 }
+ends_with_line outcome text old new (Err failure) p = tt
+
+pub ends_with_object_line : (outcome : Outcome) (value : Data) (old new : Output) (result : Result Outcome Failure)
+    → EndsPrintingObject outcome value old new result → IfOk result (EndsWith outcome (json_line value) old new)
+ends_with_object_line outcome value old new (Ok ended) p = record { ends = p.0; prints = p.1 }
+ends_with_object_line outcome value old new (Err failure) p = tt
 
 -- what was printed to standard output after nothing else
 pub prints_after : (o : Outcome) (old mid new : Output) → mid ≡ old → Prints o mid new → Prints o old new

@@ -1,14 +1,22 @@
 -- What comparing two circuits finds, and what is printed of it.
-use Rattle.std.specs.Prelude.{ℕ, ◌≡◌, List, Some, None}
+use Rattle.std.specs.Prelude.{ℕ, ◌≡◌, Bool, true, false, List, Some, None}
 use Rattle.aig_graph.specs.Circuits.{Netlist}
+use Rattle.aig_binary.specs.declared.reading.SpeltCircuit.{SpeltCircuit}
 use Rattle.lane_sim.specs.Traces.{trace}
 use Rattle.lane_sim.specs.Differences.{HaveSameShape, DifferInShape, IsFirstDifference}
 use Rattle.lane_sim.specs.declared.stimulus.InputSequence.{InputSequence}
 use Rattle.reports.specs.Differences.{difference_text, shapes_text}
 use Rattle.serde_json.specs.Data.{Data}
 use Rattle.json_reports.specs.Differences.{difference_data, shapes_data}
+use Rattle.json_reports.specs.Lines.{json_line}
+use Rattle.counted_io.specs.Input.{Input}
+use Rattle.counted_io.specs.Output.{Output}
+use Rattle.stream_paths.specs.declared.source.Source.{Source}
+use Rattle.command_line.specs.declared.task.Comparison.{Comparison}
 use Rattle.circuit_files.specs.declared.outcome.Outcome.{Outcome}
 use Rattle.circuit_files.specs.declared.outcome.Outcome.TheVariants as ends
+use Rattle.commands.specs.Printing.{EndsWith}
+use Rattle.commands.specs.Sources.{IsCircuitAt, IsStimulusAt}
 use Rattle.commands.specs.declared.comparison.Finding.{Finding}
 use Rattle.commands.specs.declared.comparison.Finding.TheVariants.{Same, Differ, ShapesDiffer}
 
@@ -33,3 +41,34 @@ abbrev pub outcome_of_finding : Finding → Outcome
 outcome_of_finding Same = ends.Done
 outcome_of_finding (Differ place) = ends.Differ
 outcome_of_finding ShapesDiffer = ends.ShapesDiffer
+
+-- an object on a line where that is asked for, else the line
+abbrev pub printed_finding : Bool → Finding → List ℕ
+printed_finding true finding = json_line (finding_object finding)
+printed_finding false finding = finding_text finding
+
+-- what is found of two circuits under the stimulus that is read, which has the widths of the first
+pub record IsFindingUnder (c d : Netlist) (stimulus : Source) (before after : Input) (finding : Finding) : Type 0 where
+  pub sequences : List InputSequence
+  pub read : IsStimulusAt stimulus c.aig before after sequences
+  pub is : IsFinding c d sequences finding
+
+-- what is found of a circuit and the one that is read, under the stimulus that is read after it
+pub record IsFindingWith (c : Netlist) (second stimulus : Source) (before after : Input) (finding : Finding) : Type 0 where
+  pub spelt : SpeltCircuit
+  pub between : Input
+  pub read : IsCircuitAt second before between spelt
+  pub found : IsFindingUnder c spelt.circuit stimulus between after finding
+
+-- what is found of the circuits and the stimulus that are read in this order
+pub record IsFindingOf (first second stimulus : Source) (before after : Input) (finding : Finding) : Type 0 where
+  pub spelt : SpeltCircuit
+  pub between : Input
+  pub read : IsCircuitAt first before between spelt
+  pub found : IsFindingWith spelt.circuit second stimulus between after finding
+
+-- that was printed as the task asks, and the run ends by it
+pub record PrintsFinding (task : Comparison) (before after : Input) (old new : Output) (ended : Outcome) : Type 0 where
+  pub finding : Finding
+  pub found : IsFindingOf task.first task.second task.stimulus before after finding
+  pub printed : EndsWith (outcome_of_finding finding) (printed_finding task.json finding) old new ended

@@ -1,10 +1,72 @@
 -- What a picture shows.
-use Rattle.std.specs.Prelude.{ℕ, Bool, Some, None}
+use Rattle.std.specs.Prelude.{ℕ, ◌≡◌, Bool, true, false, List, map, Option, Some, None, IfSome}
 use Rattle.aig_graph.specs.Circuits.{Netlist}
+use Rattle.aig_graph.specs.Border.{IsGreatestLeast}
+use Rattle.aig_graph.specs.Keep.{held_by}
+use Rattle.aig_binary.specs.declared.reading.SpeltCircuit.{SpeltCircuit}
+use Rattle.counted_io.specs.Input.{Input}
+use Rattle.counted_io.specs.Output.{Output, WritesAll}
+use Rattle.stream_paths.specs.Streams.{is_stdout}
+use Rattle.circuit_files.specs.declared.outcome.Outcome.{Outcome}
+use Rattle.circuit_files.specs.declared.outcome.Outcome.TheVariants.{Done}
+use Rattle.least_sets.specs.declared.choice.Choice.TheVariants.{Greatest}
+use Rattle.retimed_circuits.specs.Retiming.{IsRetimed}
+use Rattle.retimed_circuits.specs.declared.report.Retimed.{Retimed}
+use Rattle.frames.specs.Named.{names_in}
+use Rattle.frames.specs.declared.options.Options.{Options}
 use Rattle.pictures.specs.Looks.{everything}
 use Rattle.pictures.specs.Near.{is_near}
+use Rattle.pictures.specs.Pictures.{picture}
 use Rattle.command_line.specs.declared.task.Drawing.{Drawing}
+use Rattle.commands.specs.Sources.{IsCircuitAt}
 
 -- the neighbourhood of what the name names, or all variables
 abbrev pub shown : Netlist → Drawing → ℕ → Bool
 shown c task = elim task.around [ None ↦ everything | Some name ↦ is_near c name.now task.depth ]
+
+-- the set that is shown: none, or where the next frame is asked for the greatest least set, if it is any
+abbrev pub IsSetFor : Bool → Netlist → List ℕ → Option (List ℕ) → Type 0
+IsSetFor true c held set = IfSome set (IsGreatestLeast c held)
+IsSetFor false c held set = set ≡ None
+
+-- the circuit that is drawn: that, or where the next frame is asked for it cleaned and retimed by the options
+abbrev pub IsCircuitFor : Bool → Netlist → Options → Netlist → Type 0
+IsCircuitFor true c options d = (r : Retimed) × IsRetimed options.choice c (names_in options) options.max_frames options.certify r × (d ≡ r.circuit)
+IsCircuitFor false c options d = d ≡ c
+
+-- the options of a retiming that takes no frame, which holds the latches that the task names
+pub record AreOptionsFor (task : Drawing) (options : Options) : Type 0 where
+  pub frames : options.max_frames ≡ 0
+  pub choice : options.choice ≡ Greatest
+  pub certify : options.certify ≡ false
+  pub names : names_in options ≡ map (λ name. name.now) task.keep.items
+
+-- the picture of a circuit with held latches was written, with a set where the next frame is asked for
+pub record Draws (frame : Bool) (c : Netlist) (held : List ℕ) (task : Drawing) (old new : Output) : Type 0 where
+  pub set : Option (List ℕ)
+  pub is : IsSetFor frame c held set
+  pub writes : WritesAll old new (picture c held set (shown c task))
+
+-- that of a circuit as it was read, or of what the options make of it
+pub record DrawsCircuit (c : Netlist) (options : Options) (task : Drawing) (old new : Output) : Type 0 where
+  pub drawn : Netlist
+  pub is : IsCircuitFor task.frame c options drawn
+  pub draws : Draws task.frame drawn (held_by (names_in options) drawn.symbols.latches) task old new
+
+-- by the options of the task
+pub record DrawsBy (c : Netlist) (task : Drawing) (old new : Output) : Type 0 where
+  pub options : Options
+  pub are : AreOptionsFor task options
+  pub draws : DrawsCircuit c options task old new
+
+-- that of the circuit that is read
+pub record DrawsInput (task : Drawing) (before after : Input) (old new : Output) : Type 0 where
+  pub spelt : SpeltCircuit
+  pub read : IsCircuitAt task.input before after spelt
+  pub draws : DrawsBy spelt.circuit task old new
+
+-- so where the task writes to standard output; where it writes to a file, standard output is given nothing
+pub record PrintsPicture (task : Drawing) (before after : Input) (old new : Output) (ended : Outcome) : Type 0 where
+  pub ends : ended ≡ Done
+  pub stdout : is_stdout task.output ≡ true → DrawsInput task before after old new
+  pub file : is_stdout task.output ≡ false → new ≡ old

@@ -1,7 +1,11 @@
 pub mod Printing
+pub mod Sources
 pub mod Comparing
 pub mod RetimingTasks
 pub mod OtherSpelling
 pub mod Pipes
 pub mod Verifying
 pub mod Drawings
+pub mod Statistics
+pub mod Simulating
+pub mod Fates

@@ -19,6 +19,11 @@ abbrev pub EndsPrinting : Outcome → List ℕ → Output → Output → Result 
 EndsPrinting outcome text old new result =
     MatchResult result (λ ended. (ended ≡ outcome) × WritesAll old new text) (λ failure. (outcome_of failure ≡ Device) × WritesPart old new text)
 
+-- all of the text was printed, and the run ends so
+pub record EndsWith (outcome : Outcome) (text : List ℕ) (old new : Output) (ended : Outcome) : Type 0 where
+  pub ends : ended ≡ outcome
+  pub prints : WritesAll old new text
+
 -- where standard output has been given something else, nothing is printed to it, and the run ends so whatever becomes of that
 pub record EndsAside (outcome : Outcome) (old new : Output) (result : Result Outcome Failure) : Type 0 where
   pub ends : ending result ≡ outcome

@@ -1,8 +1,8 @@
 //! The command `same`.
 ghost use Rattle.std.specs.Prelude.{◌≡◌, IfOk};
-ghost use Rattle.commands.specs.Comparing.{IsFinding, finding_object, finding_text, outcome_of_finding};
 ghost use Rattle.command_objects.specs.Objects.{EndsPrintingObject};
-ghost use Rattle.commands.specs.Printing.{EndsPrinting, Prints, ending};
+ghost use Rattle.commands.specs.Comparing.{IsFinding, IsFindingOf, IsFindingUnder, IsFindingWith, PrintsFinding, finding_object, finding_text, outcome_of_finding, printed_finding};
+ghost use Rattle.commands.specs.Printing.{EndsPrinting, EndsWith, Prints, ending};
 
 use crate::ended::ended;
 use aig_graph::Circuit;
@@ -51,7 +51,10 @@ fn compared_under<'a, R: Files + Threads + Sync, I: CountedRead>(
     second: &Circuit,
     stimulus: Source<'a>,
     stdin: &mut I,
-) -> Result<Finding, Failure<'a>> {
+) -> Result<Finding, Failure<'a>>
+    ensures { IfOk result (IsFindingUnder first.now second.now stimulus.entry (I.input stdin.old)
+        (I.input stdin.new)) }
+{
     match stimulus_at(rt, alloc, stimulus, first, stdin) {
         Ok(stimulus) => compare(rt, alloc, first, second, &stimulus),
         Err(failure) => Err(failure),
@@ -66,7 +69,10 @@ fn compared_with<'a, R: Files + Threads + Sync, I: CountedRead>(
     second: Source<'a>,
     stimulus: Source<'a>,
     stdin: &mut I,
-) -> Result<Finding, Failure<'a>> {
+) -> Result<Finding, Failure<'a>>
+    ensures { IfOk result (IsFindingWith first.now second.entry stimulus.entry (I.input stdin.old)
+        (I.input stdin.new)) }
+{
     match circuit_at(rt, alloc, second, stdin) {
         Ok(second) => {
             let found = compared_under(rt, alloc, first, &second.circuit, stimulus, stdin);
@@ -84,7 +90,10 @@ fn compared<'a, R: Files + Threads + Sync, I: CountedRead>(
     second: Source<'a>,
     stimulus: Source<'a>,
     stdin: &mut I,
-) -> Result<Finding, Failure<'a>> {
+) -> Result<Finding, Failure<'a>>
+    ensures { IfOk result (IsFindingOf first.entry second.entry stimulus.entry (I.input stdin.old)
+        (I.input stdin.new)) }
+{
     match circuit_at(rt, alloc, first, stdin) {
         Ok(first) => {
             let found = compared_with(rt, alloc, &first.circuit, second, stimulus, stdin);
@@ -128,7 +137,9 @@ fn print_finding_as<'a, O: CountedWrite>(
     json: bool,
     out: &mut O,
 ) -> Result<Outcome, Failure<'a>>
-    ensures { Prints (ending result) (O.output out.old) (O.output out.new) }
+    ensures finding { IfOk result (EndsWith (outcome_of_finding finding)
+        (printed_finding json finding) (O.output out.old) (O.output out.new)) }
+    ensures prints { Prints (ending result) (O.output out.old) (O.output out.new) }
 {
     if json {
         print_finding_object(alloc, finding, out)
@@ -146,7 +157,9 @@ pub fn print_comparison<'a, R: Files + Threads + Sync, I: CountedRead, O: Counte
     stdin: &mut I,
     out: &mut O,
 ) -> Result<Outcome, Failure<'a>>
-    ensures { Prints (ending result) (O.output out.old) (O.output out.new) }
+    ensures finding { IfOk result (PrintsFinding task.now (I.input stdin.old) (I.input stdin.new)
+        (O.output out.old) (O.output out.new)) }
+    ensures prints { Prints (ending result) (O.output out.old) (O.output out.new) }
 {
     let found = compared(rt, alloc, task.first, task.second, task.stimulus, stdin)?;
     print_finding_as(alloc, found, task.json, out)

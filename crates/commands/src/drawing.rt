@@ -1,12 +1,16 @@
 //! The command `dot`.
-ghost use Rattle.std.specs.Prelude.{ℕ, ◌≡◌, Bool, List, Option, IfErr, IfOk, IfSome, OnOk, option_map};
+ghost use Rattle.std.specs.Prelude.{ℕ, ◌≡◌, Bool, true, false, List, Option, IfErr, IfOk, IfSome, OnOk, map, option_map};
 ghost use Rattle.aig_graph.specs.Border.{IsGreatestLeast};
+ghost use Rattle.aig_graph.specs.Keep.{held_by};
 ghost use Rattle.counted_io.specs.Output.{WritesAll};
 ghost use Rattle.pictures.specs.Looks.{IsViewOf};
 ghost use Rattle.pictures.specs.Pictures.{picture};
+ghost use Rattle.retimed_circuits.specs.Retiming.{IsRetimed};
+ghost use Rattle.frames.specs.Named.{names_in};
+ghost use Rattle.stream_paths.specs.Streams.{is_stdout};
 ghost use Rattle.circuit_files.specs.Outcomes.{outcome_of};
 ghost use Rattle.circuit_files.specs.declared.outcome.Outcome.TheVariants.{Device};
-ghost use Rattle.commands.specs.Drawings.{shown};
+ghost use Rattle.commands.specs.Drawings.{AreOptionsFor, Draws, DrawsBy, DrawsCircuit, DrawsInput, PrintsPicture, shown};
 ghost use Rattle.commands.specs.Printing.{Prints, ending};
 
 use crate::names::{bytes_of_names, missing_name};
@@ -18,7 +22,7 @@ use cut_cert::greatest_least;
 use frames::{Choice, Options, RetimeError, Retimed, retime};
 use pictures::{View, has_name, write_dot};
 use pulse::{Crew, OpenGate};
-use std::alloc::Global;
+use std::alloc::{AllocError, Global};
 use std::rt::Files;
 use std::thread::Threads;
 use stream_paths::Target;
@@ -134,7 +138,10 @@ fn draw_allowed<'a, W: CountedWrite>(
     task: &Drawing<'a>,
     writer: &mut W,
 ) -> Result<(), Failure<'a>>
-    ensures { IfErr result (λ failure. Prints (outcome_of failure) (W.output writer.old)
+    ensures picture { OnOk result (WritesAll (W.output writer.old) (W.output writer.new)
+        (picture circuit.now keep.now (option_map (λ s. s.now) set.entry)
+        (shown circuit.now task.now))) }
+    ensures prints { IfErr result (λ failure. Prints (outcome_of failure) (W.output writer.old)
         (W.output writer.new)) }
 {
     match refusal(circuit, task) {
@@ -171,7 +178,9 @@ fn draw_next<'a, R: Threads + Sync, W: CountedWrite>(
     task: &Drawing<'a>,
     writer: &mut W,
 ) -> Result<(), Failure<'a>>
-    ensures { IfErr result (λ failure. Prints (outcome_of failure) (W.output writer.old)
+    ensures picture { OnOk result (Draws true circuit.now keep.now task.now (W.output writer.old)
+        (W.output writer.new)) }
+    ensures prints { IfErr result (λ failure. Prints (outcome_of failure) (W.output writer.old)
         (W.output writer.new)) }
 {
     match next_set(rt, alloc, circuit, keep) {
@@ -204,7 +213,9 @@ fn draw_kept<'a, R: Threads + Sync, W: CountedWrite>(
     task: &Drawing<'a>,
     writer: &mut W,
 ) -> Result<(), Failure<'a>>
-    ensures { IfErr result (λ failure. Prints (outcome_of failure) (W.output writer.old)
+    ensures picture { OnOk result (Draws task.now.frame circuit.now keep.now task.now
+        (W.output writer.old) (W.output writer.new)) }
+    ensures prints { IfErr result (λ failure. Prints (outcome_of failure) (W.output writer.old)
         (W.output writer.new)) }
 {
     if task.frame {
@@ -223,7 +234,10 @@ fn draw_held<'a, R: Threads + Sync, W: CountedWrite>(
     task: &Drawing<'a>,
     writer: &mut W,
 ) -> Result<(), Failure<'a>>
-    ensures { IfErr result (λ failure. Prints (outcome_of failure) (W.output writer.old)
+    ensures picture { OnOk result (Draws task.now.frame circuit.now
+        (held_by (map (λ name. name.items) names.now) circuit.now.symbols.latches) task.now
+        (W.output writer.old) (W.output writer.new)) }
+    ensures prints { IfErr result (λ failure. Prints (outcome_of failure) (W.output writer.old)
         (W.output writer.new)) }
 {
     match keep_of(alloc, circuit, names) {
@@ -242,7 +256,10 @@ fn cleaned<R: Threads + Sync>(
     alloc: Global,
     circuit: &Circuit,
     options: &Options,
-) -> Result<Retimed, RetimeError> {
+) -> Result<Retimed, RetimeError>
+    ensures { IfOk result (IsRetimed options.now.choice circuit.now (names_in options.now)
+        options.now.max_frames options.now.certify) }
+{
     let crew = Crew::new(1, OpenGate);
     retime(rt, alloc, circuit, options, &crew)
 }
@@ -256,7 +273,9 @@ fn draw_circuit<'a, R: Threads + Sync, W: CountedWrite>(
     task: &Drawing<'a>,
     writer: &mut W,
 ) -> Result<(), Failure<'a>>
-    ensures { IfErr result (λ failure. Prints (outcome_of failure) (W.output writer.old)
+    ensures picture { OnOk result (DrawsCircuit circuit.now options.now task.now
+        (W.output writer.old) (W.output writer.new)) }
+    ensures prints { IfErr result (λ failure. Prints (outcome_of failure) (W.output writer.old)
         (W.output writer.new)) }
 {
     if !task.frame {
@@ -283,14 +302,16 @@ fn draw_circuit<'a, R: Threads + Sync, W: CountedWrite>(
 }
 
 /// The options of a retiming that takes no frame.
-fn options(keep: Vec<Vec<u8>>) -> Options {
-    Options {
+fn options(alloc: Global, task: &Drawing<'_>) -> Result<Options, AllocError>
+    ensures { IfOk result (AreOptionsFor task.now) }
+{
+    Ok(Options {
         spelling: None,
         max_frames: 0,
         choice: Choice::Greatest,
         certify: false,
-        keep,
-    }
+        keep: bytes_of_names(alloc, task.keep.as_slice())?,
+    })
 }
 
 fn draw_with_names<'a, R: Threads + Sync, W: CountedWrite>(
@@ -300,12 +321,13 @@ fn draw_with_names<'a, R: Threads + Sync, W: CountedWrite>(
     task: &Drawing<'a>,
     writer: &mut W,
 ) -> Result<(), Failure<'a>>
-    ensures { IfErr result (λ failure. Prints (outcome_of failure) (W.output writer.old)
+    ensures picture { OnOk result (DrawsBy circuit.now task.now (W.output writer.old)
+        (W.output writer.new)) }
+    ensures prints { IfErr result (λ failure. Prints (outcome_of failure) (W.output writer.old)
         (W.output writer.new)) }
 {
-    match bytes_of_names(alloc, task.keep.as_slice()) {
-        Ok(names) => {
-            let options = options(names);
+    match options(alloc, task) {
+        Ok(options) => {
             let drawn = draw_circuit(rt, alloc, circuit, &options, task, writer);
             drop(options);
             drawn
@@ -322,7 +344,9 @@ fn draw_input<'a, R: Files + Threads + Sync, I: CountedRead, W: CountedWrite>(
     stdin: &mut I,
     writer: &mut W,
 ) -> Result<(), Failure<'a>>
-    ensures { IfErr result (λ failure. Prints (outcome_of failure) (W.output writer.old)
+    ensures picture { OnOk result (DrawsInput task.now (I.input stdin.old) (I.input stdin.new)
+        (W.output writer.old) (W.output writer.new)) }
+    ensures prints { IfErr result (λ failure. Prints (outcome_of failure) (W.output writer.old)
         (W.output writer.new)) }
 {
     match circuit_at(rt, alloc, task.input, stdin) {
@@ -343,7 +367,10 @@ fn drawn<'a, R: Files + Threads + Sync, I: CountedRead, O: CountedWrite>(
     stdin: &mut I,
     out: &mut O,
 ) -> Result<(), Failure<'a>>
-    ensures { IfErr result (λ failure. Prints (outcome_of failure) (O.output out.old)
+    ensures stdout { is_stdout task.now.output ≡ true → OnOk result (DrawsInput task.now
+        (I.input stdin.old) (I.input stdin.new) (O.output out.old) (O.output out.new)) }
+    ensures file { is_stdout task.now.output ≡ false → O.output out.new ≡ O.output out.old }
+    ensures prints { IfErr result (λ failure. Prints (outcome_of failure) (O.output out.old)
         (O.output out.new)) }
 {
     match task.output {
@@ -363,7 +390,10 @@ pub fn write_picture<'a, R: Files + Threads + Sync, I: CountedRead, O: CountedWr
     stdin: &mut I,
     out: &mut O,
 ) -> Result<Outcome, Failure<'a>>
-    ensures { Prints (ending result) (O.output out.old) (O.output out.new) }
+    ensures picture { IfOk result (PrintsPicture task.now (I.input stdin.old) (I.input stdin.new)
+        (O.output out.old) (O.output out.new)) }
+    ensures file { is_stdout task.now.output ≡ false → O.output out.new ≡ O.output out.old }
+    ensures prints { Prints (ending result) (O.output out.old) (O.output out.new) }
 {
     match drawn(rt, alloc, task, stdin, out) {
         Ok(()) => Ok(Outcome::Done),

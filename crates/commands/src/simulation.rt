@@ -1,6 +1,10 @@
 //! The command `sim`.
-ghost use Rattle.std.specs.Prelude.{◌≡◌};
-ghost use Rattle.commands.specs.Printing.{Prints, ending};
+ghost use Rattle.std.specs.Prelude.{◌≡◌, IfOk};
+ghost use Rattle.lane_sim.specs.Traces as traces;
+ghost use Rattle.reports.specs.Traces.{trace_text};
+ghost use Rattle.circuit_files.specs.declared.outcome.Outcome.TheVariants.{Done};
+ghost use Rattle.commands.specs.Printing.{EndsPrinting, Prints, ending};
+ghost use Rattle.commands.specs.Simulating.{IsTraceOf, IsTraceUnder, PrintsTrace};
 
 use crate::ended::ended;
 use aig_graph::Circuit;
@@ -18,7 +22,9 @@ fn trace<'a, R: Threads + Sync>(
     alloc: Global,
     circuit: &Circuit,
     stimulus: &Stimulus,
-) -> Result<Trace, Failure<'a>> {
+) -> Result<Trace, Failure<'a>>
+    ensures { IfOk result (λ found. found ≡ traces.trace circuit.now stimulus.now) }
+{
     match simulate(rt, alloc, circuit, stimulus) {
         Ok(trace) => Ok(trace),
         Err(_) => Err(Failure::Memory),
@@ -32,7 +38,10 @@ fn trace_under<'a, R: Files + Threads + Sync, I: CountedRead>(
     circuit: &Circuit,
     stimulus: Source<'a>,
     stdin: &mut I,
-) -> Result<Trace, Failure<'a>> {
+) -> Result<Trace, Failure<'a>>
+    ensures { IfOk result (IsTraceUnder circuit.now stimulus.entry (I.input stdin.old)
+        (I.input stdin.new)) }
+{
     match stimulus_at(rt, alloc, stimulus, circuit, stdin) {
         Ok(stimulus) => trace(rt, alloc, circuit, &stimulus),
         Err(failure) => Err(failure),
@@ -46,7 +55,10 @@ fn simulated<'a, R: Files + Threads + Sync, I: CountedRead>(
     input: Source<'a>,
     stimulus: Source<'a>,
     stdin: &mut I,
-) -> Result<Trace, Failure<'a>> {
+) -> Result<Trace, Failure<'a>>
+    ensures { IfOk result (IsTraceOf input.entry stimulus.entry (I.input stdin.old)
+        (I.input stdin.new)) }
+{
     match circuit_at(rt, alloc, input, stdin) {
         Ok(spelt) => {
             let trace = trace_under(rt, alloc, &spelt.circuit, stimulus, stdin);
@@ -55,6 +67,12 @@ fn simulated<'a, R: Files + Threads + Sync, I: CountedRead>(
         }
         Err(failure) => Err(failure),
     }
+}
+
+fn print_lines<'a, O: CountedWrite>(trace: &Trace, out: &mut O) -> Result<Outcome, Failure<'a>>
+    ensures { EndsPrinting Done (trace_text trace.now) (O.output out.old) (O.output out.new) result }
+{
+    ended(print_trace(trace, out), Outcome::Done)
 }
 
 /// Reads a circuit and then a stimulus, and prints the trace.
@@ -66,8 +84,10 @@ pub fn print_simulation<'a, R: Files + Threads + Sync, I: CountedRead, O: Counte
     stdin: &mut I,
     out: &mut O,
 ) -> Result<Outcome, Failure<'a>>
-    ensures { Prints (ending result) (O.output out.old) (O.output out.new) }
+    ensures trace { IfOk result (PrintsTrace input.entry stimulus.entry (I.input stdin.old)
+        (I.input stdin.new) (O.output out.old) (O.output out.new)) }
+    ensures prints { Prints (ending result) (O.output out.old) (O.output out.new) }
 {
     let trace = simulated(rt, alloc, input, stimulus, stdin)?;
-    ended(print_trace(&trace, out), Outcome::Done)
+    print_lines(&trace, out)
 }

@@ -1,6 +1,11 @@
 //! The command `witness`.
-ghost use Rattle.std.specs.Prelude.{◌≡◌};
-ghost use Rattle.commands.specs.Printing.{Prints, ending};
+ghost use Rattle.std.specs.Prelude.{◌≡◌, IfOk};
+ghost use Rattle.aig_graph.specs.Graph as graphs;
+ghost use Rattle.witnesses.specs.Texts.{whole_text};
+ghost use Rattle.circuit_files.specs.declared.outcome.Outcome.TheVariants.{Done};
+ghost use Rattle.commands.specs.Fates.{AreKept, IsFate, IsFateOf, IsFateUnder, IsFateWith, IsJudged, PrintsFate, fate_text, if_many, outcome_of_fate};
+ghost use Rattle.commands.specs.Fates as wanted;
+ghost use Rattle.commands.specs.Printing.{EndsPrinting, Prints, ending};
 
 use crate::ended::ended;
 use aig_graph::{Circuit, Keep, NoMemory, Sequence};
@@ -12,6 +17,7 @@ use std::alloc::Global;
 use std::rt::Files;
 use std::thread::Threads;
 use stream_paths::Source;
+use tidy::all_places;
 use witnesses::{Confirmed, Objection, Widths, Witness, confirm, print_objection, print_witness};
 
 /// What becomes of a witness.
@@ -23,17 +29,10 @@ enum Fate {
     ShapesDiffer,
 }
 
-/// Every place among so many free latches.
-fn all_places(alloc: Global, free: u32) -> Result<Sequence<u32>, NoMemory> {
-    let mut places = Vec::new(alloc);
-    for place in 0..free {
-        places.push(place)?;
-    }
-    Ok(Sequence::from_vec(places))
-}
-
 /// The places that cleaning leaves, where there are so many.
-fn places_left(cleaned: Cleaned, free: u32) -> Option<Sequence<u32>> {
+fn places_left(cleaned: Cleaned, free: u32) -> Option<Sequence<u32>>
+    ensures { result ≡ if_many (graphs.free_latches cleaned.circuit.aig) cleaned.kept_free free }
+{
     let Cleaned {
         circuit,
         kept_free,
@@ -52,10 +51,12 @@ fn kept_places(
     alloc: Global,
     circuit: &Circuit,
     retimed: &Circuit,
-) -> Result<Option<Sequence<u32>>, NoMemory> {
+) -> Result<Option<Sequence<u32>>, NoMemory>
+    ensures { IfOk result (AreKept circuit.now retimed.now) }
+{
     let free = retimed.aig().free_latches();
     if circuit.aig().free_latches() == free {
-        return Ok(Some(all_places(alloc, free)?));
+        return Ok(Some(all_places(alloc, circuit.aig())?));
     }
     match clean(alloc, circuit, &Keep::none()) {
         Ok(cleaned) => Ok(places_left(cleaned, free)),
@@ -64,7 +65,9 @@ fn kept_places(
 }
 
 /// Whether the circuits have as many properties and inputs.
-fn have_same_widths(circuit: &Circuit, retimed: &Circuit) -> bool {
+fn have_same_widths(circuit: &Circuit, retimed: &Circuit) -> bool
+    ensures { result ≡ wanted.have_same_widths circuit.now retimed.now }
+{
     let widths = Widths::of(circuit);
     let others = Widths::of(retimed);
     let constraints = circuit.props().constraints.len();
@@ -82,7 +85,9 @@ fn judged_with<R: Threads + Sync>(
     retimed: &Circuit,
     kept: &[u32],
     witness: Witness,
-) -> Result<Fate, NoMemory> {
+) -> Result<Fate, NoMemory>
+    ensures { IfOk result (IsJudged circuit.now retimed.now kept.now witness) }
+{
     match confirm(rt, alloc, circuit, retimed, kept, witness) {
         Ok(Ok(confirmed)) => Ok(Fate::Confirmed(confirmed)),
         Ok(Err(objection)) => Ok(Fate::Objected(objection)),
@@ -96,7 +101,9 @@ fn judged<'a, R: Threads + Sync>(
     circuit: &Circuit,
     retimed: &Circuit,
     witness: Witness,
-) -> Result<Fate, Failure<'a>> {
+) -> Result<Fate, Failure<'a>>
+    ensures { IfOk result (IsFate circuit.now retimed.now witness) }
+{
     if !have_same_widths(circuit, retimed) {
         return Ok(Fate::ShapesDiffer);
     }
@@ -120,7 +127,10 @@ fn fate_under<'a, R: Files + Threads + Sync, I: CountedRead>(
     retimed: &Circuit,
     witness: Source<'a>,
     stdin: &mut I,
-) -> Result<Fate, Failure<'a>> {
+) -> Result<Fate, Failure<'a>>
+    ensures { IfOk result (IsFateUnder circuit.now retimed.now witness.entry (I.input stdin.old)
+        (I.input stdin.new)) }
+{
     match witness_at(rt, alloc, witness, retimed, stdin) {
         Ok(witness) => judged(rt, alloc, circuit, retimed, witness),
         Err(failure) => Err(failure),
@@ -135,7 +145,10 @@ fn fate_with<'a, R: Files + Threads + Sync, I: CountedRead>(
     retimed: Source<'a>,
     witness: Source<'a>,
     stdin: &mut I,
-) -> Result<Fate, Failure<'a>> {
+) -> Result<Fate, Failure<'a>>
+    ensures { IfOk result (IsFateWith circuit.now retimed.entry witness.entry (I.input stdin.old)
+        (I.input stdin.new)) }
+{
     match circuit_at(rt, alloc, retimed, stdin) {
         Ok(retimed) => {
             let found = fate_under(rt, alloc, circuit, &retimed.circuit, witness, stdin);
@@ -153,7 +166,10 @@ fn fate_of<'a, R: Files + Threads + Sync, I: CountedRead>(
     retimed: Source<'a>,
     witness: Source<'a>,
     stdin: &mut I,
-) -> Result<Fate, Failure<'a>> {
+) -> Result<Fate, Failure<'a>>
+    ensures { IfOk result (IsFateOf input.entry retimed.entry witness.entry (I.input stdin.old)
+        (I.input stdin.new)) }
+{
     match circuit_at(rt, alloc, input, stdin) {
         Ok(circuit) => {
             let found = fate_with(rt, alloc, &circuit.circuit, retimed, witness, stdin);
@@ -168,14 +184,16 @@ fn print_confirmed<'a, O: CountedWrite>(
     confirmed: &Confirmed,
     out: &mut O,
 ) -> Result<Outcome, Failure<'a>>
-    ensures { Prints (ending result) (O.output out.old) (O.output out.new) }
+    ensures { EndsPrinting Done (whole_text confirmed.now.witness confirmed.now.reached)
+        (O.output out.old) (O.output out.new) result }
 {
     let printed = print_witness(&confirmed.witness, confirmed.reached.as_slice(), out);
     ended(printed, Outcome::Done)
 }
 
 fn print_fate<'a, O: CountedWrite>(fate: &Fate, out: &mut O) -> Result<Outcome, Failure<'a>>
-    ensures { Prints (ending result) (O.output out.old) (O.output out.new) }
+    ensures { EndsPrinting (outcome_of_fate fate.now) (fate_text fate.now) (O.output out.old)
+        (O.output out.new) result }
 {
     match fate {
         Fate::Confirmed(confirmed) => print_confirmed(confirmed, out),
@@ -194,7 +212,9 @@ pub fn print_witness_back<'a, R: Files + Threads + Sync, I: CountedRead, O: Coun
     stdin: &mut I,
     out: &mut O,
 ) -> Result<Outcome, Failure<'a>>
-    ensures { Prints (ending result) (O.output out.old) (O.output out.new) }
+    ensures fate { IfOk result (PrintsFate input.entry retimed.entry witness.entry
+        (I.input stdin.old) (I.input stdin.new) (O.output out.old) (O.output out.new)) }
+    ensures prints { Prints (ending result) (O.output out.old) (O.output out.new) }
 {
     let fate = fate_of(rt, alloc, input, retimed, witness, stdin)?;
     let printed = print_fate(&fate, out);

@@ -1,4 +1,6 @@
 pub mod BatchLaws
 pub mod EndLaws
+pub mod ExplainingLaws
 pub mod ObjectLaws
+pub mod SayingLaws
 pub mod RunLaws

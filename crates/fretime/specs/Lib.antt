@@ -1,3 +1,4 @@
 pub mod Reporting
 pub mod Batches
 pub mod Runs
+pub mod Explaining

@@ -1,7 +1,10 @@
 -- What is printed where a command failed.
-use Rattle.std.specs.Prelude.{ℕ, ◌≡◌, ◌⊎◌, Bool, true, false, List, Result, Ok, Err}
+use Rattle.std.specs.Prelude.{ℕ, ◌≡◌, ◌⊎◌, Bool, true, false, List, Option, Some, None, Result, Ok, Err, codes, if◌then◌else◌}
 use Rattle.std.specs.Borrow.{Bor}
 use Rattle.counted_io.specs.Output.{Output}
+use Rattle.command_line.specs.StreamUses.{takes_stdout}
+use Rattle.command_line.specs.declared.task.Task.{Task}
+use Rattle.command_line.specs.declared.task.Task.TheVariants.{Retime, Batch, Stat, Convert, Sim, Same, Verify, Dot, Witness, Explain}
 use Rattle.circuit_files.specs.Codes.{status_of}
 use Rattle.circuit_files.specs.Outcomes.{outcome_of}
 use Rattle.circuit_files.specs.declared.outcome.Outcome.{Outcome}
@@ -17,6 +20,51 @@ PrintsFailure false outcome old new = new ≡ old
 abbrev pub SaysFailure : Bool → Bor (List ℕ) → Failure → Output → Output → Type 0
 SaysFailure true command failure old new = SaysRefusal (refusal_of command failure) old new
 SaysFailure false command failure old new = new ≡ old
+
+-- the object of this failure of the command with this name
+pub record SaysFailureBy (json : Bool) (name : List ℕ) (failure : Failure) (old new : Output) : Type 0 where
+  pub command : Bor (List ℕ)
+  pub named : command.now ≡ name
+  pub says : SaysFailure json command failure old new
+
+abbrev pub if_json : Bool → List ℕ → Option (List ℕ)
+if_json json name = if json then Some name else None
+
+-- the name of a task's command, where its failures are printed as objects; a batch prints its own
+abbrev pub object_command : Task → Option (List ℕ)
+object_command (Retime retiming) = if_json retiming.json (codes "retime")
+object_command (Stat input json) = if_json json (codes "stat")
+object_command (Same comparison) = if_json comparison.json (codes "same")
+object_command (Verify verification) = if_json verification.json (codes "verify")
+object_command (Batch batch) = None
+object_command (Convert input output spelling) = None
+object_command (Sim input stimulus) = None
+object_command (Dot drawing) = None
+object_command (Witness input retimed witness) = None
+object_command (Explain name) = None
+
+-- whether objects go to standard error, since standard output is given a circuit or certificates
+abbrev pub prints_aside : Task → Bool
+prints_aside (Retime retiming) = takes_stdout retiming
+prints_aside (Batch batch) = false
+prints_aside (Stat input json) = false
+prints_aside (Convert input output spelling) = false
+prints_aside (Sim input stimulus) = false
+prints_aside (Same comparison) = false
+prints_aside (Verify verification) = false
+prints_aside (Dot drawing) = false
+prints_aside (Witness input retimed witness) = false
+prints_aside (Explain name) = false
+
+-- what a failure of the command with this name gives standard output, if it has any
+abbrev pub SaysOn : Bool → Option (List ℕ) → Failure → Output → Output → Type 0
+SaysOn aside None failure old new = new ≡ old
+SaysOn true (Some name) failure old new = new ≡ old
+SaysOn false (Some name) failure old new = SaysFailureBy true name failure old new
+
+-- what a failure of a task gives standard output
+abbrev pub SaysWhy : Task → Failure → Output → Output → Type 0
+SaysWhy task failure old new = SaysOn (prints_aside task) (object_command task) failure old new
 
 -- a failure prints so where a command failed, and else nothing more is printed
 abbrev pub PrintsEnd : Bool → Result Outcome Failure → Output → Output → Type 0

@@ -1,16 +1,28 @@
 -- What a run may have given standard output, by how it ended.
-use Rattle.std.specs.Prelude.{◌⊎◌, true, false, Result, Ok, Err}
+use Rattle.std.specs.Prelude.{◌≡◌, ◌⊎◌, true, false, Result, Ok, Err}
+use Rattle.counted_io.specs.Input.{Input}
 use Rattle.counted_io.specs.Output.{Output, WritesAll}
 use Rattle.reports.specs.Differences.{shapes_text}
 use Rattle.json_reports.specs.Differences.{shapes_data}
 use Rattle.json_reports.specs.Lines.{json_line}
+use Rattle.stream_paths.specs.Streams.{is_stdin, is_stdout}
+use Rattle.command_line.specs.declared.task.Task.{Task}
+use Rattle.command_line.specs.declared.task.Task.TheVariants.{Retime, Batch, Stat, Convert, Sim, Same, Verify, Dot, Witness, Explain}
 use Rattle.circuit_files.specs.Codes.{status_of}
 use Rattle.circuit_files.specs.Outcomes.{outcome_of}
 use Rattle.circuit_files.specs.declared.outcome.Outcome.{Outcome}
 use Rattle.circuit_files.specs.declared.outcome.Failure.{Failure}
 use Rattle.command_objects.specs.Objects.{PrintsRefusal}
+use Rattle.commands.specs.Comparing.{PrintsFinding}
+use Rattle.commands.specs.Drawings.{PrintsPicture}
+use Rattle.commands.specs.Fates.{PrintsFate}
+use Rattle.commands.specs.Pipes.{ConvertsPipe, IsPipe, WritesPipe}
 use Rattle.commands.specs.Printing.{Prints}
+use Rattle.commands.specs.Simulating.{PrintsTrace}
+use Rattle.commands.specs.Statistics.{PrintsStatistics}
+use Rattle.commands.specs.Verifying.{PrintsSomeAudit}
 use Rattle.fretime.specs.Batches.{PrintsFiles, PrintsList}
+use Rattle.fretime.specs.Explaining.{Explains}
 
 abbrev pub MayPrint : Outcome → Output → Output → Type 0
 MayPrint outcome old new = Prints outcome old new ⊎ PrintsList false outcome old new ⊎ PrintsList true outcome old new
@@ -19,6 +31,19 @@ MayPrint outcome old new = Prints outcome old new ⊎ PrintsList false outcome o
 abbrev pub MayGive : Result Outcome Failure → Output → Output → Type 0
 MayGive (Ok outcome) old new = MayPrint outcome old new
 MayGive (Err failure) old new = Prints (outcome_of failure) old new
+
+-- what a task gives standard output where it didn't fail, by what standard input had and has left
+abbrev pub Does : Task → Input → Input → Output → Output → Outcome → Type 0
+Does (Retime retiming) before after old new ended = IsPipe retiming → WritesPipe retiming before old new
+Does (Batch batch) before after old new ended = PrintsList batch.json ended old new
+Does (Stat input json) before after old new ended = PrintsStatistics input json before after old new ended
+Does (Convert input output spelling) before after old new ended = is_stdin input ≡ true → is_stdout output ≡ true → ConvertsPipe spelling before old new
+Does (Sim input stimulus) before after old new ended = PrintsTrace input stimulus before after old new ended
+Does (Same comparison) before after old new ended = PrintsFinding comparison before after old new ended
+Does (Verify verification) before after old new ended = PrintsSomeAudit verification ended old new
+Does (Dot drawing) before after old new ended = PrintsPicture drawing before after old new ended
+Does (Witness input retimed witness) before after old new ended = PrintsFate input retimed witness before after old new ended
+Does (Explain name) before after old new ended = Explains name.now old new ended
 
 -- that two circuits can't be compared, in a line or as an object
 abbrev pub PrintsShapes : Output → Output → Type 0

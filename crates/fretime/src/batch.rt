@@ -1,10 +1,10 @@
 //! The command `batch`.
-ghost use Rattle.std.specs.Prelude.{◌≡◌, ◌⊎◌, ◌+◌, false, IfErr, IfOk, MatchResult, OnOk, length, map};
+ghost use Rattle.std.specs.Prelude.{◌≡◌, ◌⊎◌, ◌+◌, false, IfErr, IfOk, MatchResult, OnOk, codes, length, map};
 ghost use Rattle.counted_io.specs.Output.{WritesAll};
 ghost use Rattle.reports.specs.Batches.{job_line};
 ghost use Rattle.circuit_files.specs.Outcomes.{outcome_of};
 ghost use Rattle.circuit_files.specs.declared.outcome.Outcome.TheVariants.{Device, Memory};
-ghost use Rattle.fretime.specs.Reporting.{PrintsFailure};
+ghost use Rattle.fretime.specs.Reporting.{PrintsFailure, SaysFailureBy};
 ghost use Rattle.fretime.specs.Batches.{Printed, PrintsList};
 ghost use Rattle.fretime.specs.Batches as wanted;
 
@@ -222,6 +222,8 @@ fn refuse<O: CountedWrite, E: CountedWrite>(
 ) -> Outcome
     ensures outcome { result ≡ outcome_of failure.entry }
     ensures prints { PrintsFailure task.now.json (outcome_of failure.entry) (O.output out.old)
+        (O.output out.new) }
+    ensures says { SaysFailureBy task.now.json (codes "batch") failure.entry (O.output out.old)
         (O.output out.new) }
 {
     report_failure_as(alloc, "batch", failure, task.json, out, err)

@@ -1,47 +1,87 @@
 //! The command `explain`.
-ghost use Rattle.counted_io.specs.Output.{Output};
+ghost use Rattle.std.specs.Prelude.{◌≡◌, IfOk};
+ghost use Rattle.std.specs.List.{flat_map};
+ghost use Rattle.counted_io.specs.Buffered.{Puts};
+ghost use Rattle.counted_io.specs.Output.{Output, Writes};
+ghost use Rattle.fault_pages.specs.Files.{smallest_file};
+ghost use Rattle.circuit_files.specs.declared.outcome.Outcome.TheVariants.{CommandLine};
 ghost use Rattle.commands.specs.Printing.{Prints, ending};
+ghost use Rattle.fretime.specs.Explaining.{Explains, file_part, file_text, indented, indented_byte, page_text};
 
 use circuit_files::{Failure, Outcome};
 use counted_io::{Buffered, CountedWrite, WriteError};
 use fault_pages::Fault;
 use std::alloc::Global;
 
-/// Puts the lines of a file, each after four spaces.
-fn put_lines<W: CountedWrite>(file: &str, out: &mut Buffered<'_, W>) {
-    for line in file.lines() {
-        out.put(b"    ");
-        out.put(line.as_bytes());
-        out.put(b"\n");
+/// Puts a byte of a file, and four spaces where it ends a line.
+fn put_indented<W: CountedWrite>(out: &mut Buffered<'_, W>, byte: u8)
+    ensures { Puts W.output out.old out.new (indented_byte byte) }
+{
+    if byte == b'\n' {
+        out.put(b"\n    ");
+    } else {
+        out.put_byte(byte);
     }
 }
 
-/// Puts a smallest file with a fault, if there is one.
-fn put_file<W: CountedWrite>(fault: Fault, out: &mut Buffered<'_, W>) {
-    let Some(file) = fault.smallest_file() else {
-        return;
-    };
+fn put_bytes<W: CountedWrite>(out: &mut Buffered<'_, W>, bytes: &[u8])
+    ensures { Puts W.output out.old out.new (flat_map indented_byte bytes.now) }
+{
+    for byte in bytes {
+        put_indented(out, *byte);
+    }
+}
+
+/// Puts the lines of a file that doesn't end with a newline, each after four spaces.
+fn put_lines<W: CountedWrite>(out: &mut Buffered<'_, W>, file: &[u8])
+    ensures { Puts W.output out.old out.new (indented file.now) }
+{
+    out.put(b"    ");
+    put_bytes(out, file);
+    out.put_byte(b'\n');
+}
+
+fn put_some_file<W: CountedWrite>(out: &mut Buffered<'_, W>, file: &[u8])
+    ensures { Puts W.output out.old out.new (file_part file.now) }
+{
     if file.is_empty() {
         out.put(b"The smallest file that has it is the empty one.\n\n");
     } else {
         out.put(b"A smallest file that has it:\n\n");
-        put_lines(file, out);
-        out.put(b"\n");
+        put_lines(out, file);
+        out.put_byte(b'\n');
     }
 }
 
-fn print_page<O: CountedWrite>(fault: Fault, out: &mut O) -> Result<(), WriteError> {
+/// Puts a smallest file with a fault, if there is one.
+fn put_file<W: CountedWrite>(out: &mut Buffered<'_, W>, fault: Fault)
+    ensures { Puts W.output out.old out.new (file_text (smallest_file fault)) }
+{
+    if let Some(file) = fault.smallest_file() {
+        put_some_file(out, file.as_bytes());
+    }
+}
+
+fn put_page<W: CountedWrite>(out: &mut Buffered<'_, W>, fault: Fault)
+    ensures { Puts W.output out.old out.new (page_text fault) }
+{
     let page = fault.page();
-    let mut out = Buffered::new(out);
     out.put(fault.name().as_bytes());
     out.put(b": ");
     out.put(page.meaning.as_bytes());
     out.put(b"\n\n");
     out.put(page.rule.as_bytes());
     out.put(b"\n\n");
-    put_file(fault, &mut out);
+    put_file(out, fault);
     out.put(page.advice.as_bytes());
-    out.put(b"\n");
+    out.put_byte(b'\n');
+}
+
+fn print_page<O: CountedWrite>(fault: Fault, out: &mut O) -> Result<(), WriteError>
+    ensures { Writes (O.output out.old) (O.output out.new) result (page_text fault) }
+{
+    let mut out = Buffered::new(out);
+    put_page(&mut out, fault);
     out.flush()
 }
 
@@ -51,7 +91,8 @@ fn report_missing<'a, E: CountedWrite>(
     name: &str,
     err: &mut E,
 ) -> Result<Outcome, Failure<'a>>
-    ensures { (out : Output) → Prints (ending result) out out }
+    ensures ends { IfOk result (λ ended. ended ≡ CommandLine) }
+    ensures prints { (out : Output) → Prints (ending result) out out }
 {
     let Ok(nearest) = Fault::nearest(alloc, name) else {
         return Err(Failure::Memory);
@@ -77,7 +118,8 @@ pub fn explain<'a, O: CountedWrite, E: CountedWrite>(
     out: &mut O,
     err: &mut E,
 ) -> Result<Outcome, Failure<'a>>
-    ensures { Prints (ending result) (O.output out.old) (O.output out.new) }
+    ensures page { IfOk result (Explains name.now (O.output out.old) (O.output out.new)) }
+    ensures prints { Prints (ending result) (O.output out.old) (O.output out.new) }
 {
     match Fault::named(name) {
         Some(fault) => match print_page(fault, out) {

@@ -1,8 +1,9 @@
 //! Why a command failed, on standard error, and as an object of JSON where that is asked for.
-ghost use Rattle.std.specs.Prelude.{◌≡◌, ◌⊎◌, true, false};
+ghost use Rattle.std.specs.Prelude.{◌≡◌, ◌⊎◌, true, false, IfErr, option_map};
 ghost use Rattle.circuit_files.specs.Outcomes.{outcome_of};
 ghost use Rattle.commands.specs.Printing.{ending};
-ghost use Rattle.fretime.specs.Reporting.{MayRefuse, PrintsFailure, SaysFailure};
+ghost use Rattle.fretime.specs.Reporting.{MayRefuse, PrintsFailure, SaysFailure, SaysWhy, object_command};
+ghost use Rattle.fretime.specs.Reporting as wanted;
 
 use circuit_files::{Failure, Outcome};
 use command_line::Task;
@@ -62,7 +63,9 @@ pub fn report_failure_as<O: CountedWrite, E: CountedWrite>(
 }
 
 /// The name of a task's command, where its failures are printed as objects; a batch prints its own.
-fn command_with_objects(task: &Task<'_>) -> Option<&'static str> {
+fn command_with_objects(task: &Task<'_>) -> Option<&'static str>
+    ensures { option_map (λ name. name.now) result ≡ object_command task.now }
+{
     match task {
         Task::Retime(retiming) if retiming.json => Some("retime"),
         Task::Stat(_, json) if *json => Some("stat"),
@@ -73,7 +76,9 @@ fn command_with_objects(task: &Task<'_>) -> Option<&'static str> {
 }
 
 /// Whether a task gives standard output a circuit or certificates, so that objects go to standard error.
-fn prints_aside(task: &Task<'_>) -> bool {
+fn prints_aside(task: &Task<'_>) -> bool
+    ensures { result ≡ wanted.prints_aside task.now }
+{
     match task {
         Task::Retime(retiming) => retiming.takes_stdout(),
         _ => false,
@@ -88,8 +93,10 @@ fn print_object<O: CountedWrite, E: CountedWrite>(
     out: &mut O,
     err: &mut E,
 )
-    ensures { PrintsFailure false (outcome_of failure.entry) (O.output out.old) (O.output out.new)
+    ensures prints { PrintsFailure false (outcome_of failure.entry) (O.output out.old)
+        (O.output out.new)
         ⊎ PrintsFailure true (outcome_of failure.entry) (O.output out.old) (O.output out.new) }
+    ensures says { SaysWhy task.now failure.entry (O.output out.old) (O.output out.new) }
 {
     let Some(command) = command_with_objects(task) else {
         return;
@@ -114,6 +121,8 @@ pub fn reported<'a, R: Files, O: CountedWrite, E: CountedWrite>(
 ) -> Outcome
     ensures outcome { result ≡ ending ended.entry }
     ensures prints { MayRefuse ended.entry (O.output out.old) (O.output out.new) }
+    ensures says { IfErr ended.entry (λ failure. SaysWhy task.now failure (O.output out.old)
+        (O.output out.new)) }
 {
     match ended {
         Ok(outcome) => outcome,

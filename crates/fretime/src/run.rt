@@ -1,8 +1,10 @@
 //! All of a run but the process: streams, files, clock and threads are the caller's, so that clauses can say what a run leaves in
 //! them.
-ghost use Rattle.std.specs.Prelude.{◌≡◌, ◌⊎◌, ◌≤◌};
+ghost use Rattle.std.specs.Prelude.{◌≡◌, ◌≢◌, ◌⊎◌, ◌≤◌, IfOk};
+ghost use Rattle.clap.specs.Values.{kind_of};
+ghost use Rattle.clap.specs.declared.error.kind.ErrorKind.TheVariants.{DisplayHelp, DisplayVersion, OutOfMemory};
 ghost use Rattle.circuit_files.specs.declared.outcome.Outcome.TheVariants.{Done, Refused, CommandLine, Memory};
-ghost use Rattle.fretime.specs.Runs.{MayGive, MayPrint, PrintsFilesOrRefusal, PrintsShapes};
+ghost use Rattle.fretime.specs.Runs.{Does, MayGive, MayPrint, PrintsFilesOrRefusal, PrintsShapes};
 
 use crate::batch::retime_list;
 use crate::explaining::explain;
@@ -39,7 +41,9 @@ fn run_task<
     out: &mut O,
     err: &mut E,
 ) -> Result<Outcome, Failure<'a>>
-    ensures { MayGive result (O.output out.old) (O.output out.new) }
+    ensures does { IfOk result (Does task.now (I.input stdin.old) (I.input stdin.new)
+        (O.output out.old) (O.output out.new)) }
+    ensures prints { MayGive result (O.output out.old) (O.output out.new) }
 {
     match task {
         Task::Retime(retiming) => {
@@ -64,7 +68,12 @@ fn run_task<
 /// Prints help, the version, or what is wrong with the arguments, and returns how the run ends. A failed write changes
 /// nothing.
 fn report_usage<E: CountedWrite>(error: &Error, err: &mut E) -> Outcome
-    ensures { (result ≡ Done) ⊎ (result ≡ CommandLine) ⊎ (result ≡ Memory) }
+    ensures ends { (result ≡ Done) ⊎ (result ≡ CommandLine) ⊎ (result ≡ Memory) }
+    ensures memory { kind_of error.now ≡ OutOfMemory → result ≡ Memory }
+    ensures shown { (kind_of error.now ≡ DisplayHelp) ⊎ (kind_of error.now ≡ DisplayVersion)
+        → result ≡ Done }
+    ensures mistake { kind_of error.now ≢ OutOfMemory → kind_of error.now ≢ DisplayHelp
+        → kind_of error.now ≢ DisplayVersion → result ≡ CommandLine }
 {
     if error.kind() == ErrorKind::OutOfMemory {
         return report_failure(Failure::Memory, err);

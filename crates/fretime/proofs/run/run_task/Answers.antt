@@ -1,32 +1,32 @@
 use Rattle.fretime.proofs.RunLaws.{by_batch, by_command}
 use Rattle.fretime.proofs.run.run_task.Goals as goal
 
-pub returns-in-Retime : goal.returns-in-Retime
-returns-in-Retime g c = by_command c.print_retimed.result _ _ c.print_retimed.ensures.prints
+pub returns-in-Retime-clause-prints : goal.returns-in-Retime-clause-prints
+returns-in-Retime-clause-prints g c = by_command c.print_retimed.result _ _ c.print_retimed.ensures.prints
 
-pub returns-in-Batch : goal.returns-in-Batch
-returns-in-Batch g c = by_batch c.in-Batch.batch.json c.retime_list.result _ _ c.retime_list.ensures
+pub returns-in-Batch-clause-prints : goal.returns-in-Batch-clause-prints
+returns-in-Batch-clause-prints g c = by_batch c.in-Batch.batch.json c.retime_list.result _ _ c.retime_list.ensures
 
-pub returns-in-Stat : goal.returns-in-Stat
-returns-in-Stat g c = by_command c.print_statistics.result _ _ c.print_statistics.ensures
+pub returns-in-Stat-clause-prints : goal.returns-in-Stat-clause-prints
+returns-in-Stat-clause-prints g c = by_command c.print_statistics.result _ _ c.print_statistics.ensures.prints
 
-pub returns-in-Convert : goal.returns-in-Convert
-returns-in-Convert g c = by_command c.convert.result _ _ c.convert.ensures.prints
+pub returns-in-Convert-clause-prints : goal.returns-in-Convert-clause-prints
+returns-in-Convert-clause-prints g c = by_command c.convert.result _ _ c.convert.ensures.prints
 
-pub returns-in-Sim : goal.returns-in-Sim
-returns-in-Sim g c = by_command c.print_simulation.result _ _ c.print_simulation.ensures
+pub returns-in-Sim-clause-prints : goal.returns-in-Sim-clause-prints
+returns-in-Sim-clause-prints g c = by_command c.print_simulation.result _ _ c.print_simulation.ensures.prints
 
-pub returns-in-Same : goal.returns-in-Same
-returns-in-Same g c = by_command c.print_comparison.result _ _ c.print_comparison.ensures
+pub returns-in-Same-clause-prints : goal.returns-in-Same-clause-prints
+returns-in-Same-clause-prints g c = by_command c.print_comparison.result _ _ c.print_comparison.ensures.prints
 
-pub returns-in-Verify : goal.returns-in-Verify
-returns-in-Verify g c = by_command c.print_verification.result _ _ c.print_verification.ensures.prints
+pub returns-in-Verify-clause-prints : goal.returns-in-Verify-clause-prints
+returns-in-Verify-clause-prints g c = by_command c.print_verification.result _ _ c.print_verification.ensures.prints
 
-pub returns-in-Dot : goal.returns-in-Dot
-returns-in-Dot g c = by_command c.write_picture.result _ _ c.write_picture.ensures
+pub returns-in-Dot-clause-prints : goal.returns-in-Dot-clause-prints
+returns-in-Dot-clause-prints g c = by_command c.write_picture.result _ _ c.write_picture.ensures.prints
 
-pub returns-in-Witness : goal.returns-in-Witness
-returns-in-Witness g c = by_command c.print_witness_back.result _ _ c.print_witness_back.ensures
+pub returns-in-Witness-clause-prints : goal.returns-in-Witness-clause-prints
+returns-in-Witness-clause-prints g c = by_command c.print_witness_back.result _ _ c.print_witness_back.ensures.prints
 
-pub returns-in-Explain : goal.returns-in-Explain
-returns-in-Explain g c = by_command c.explain.result _ _ c.explain.ensures
+pub returns-in-Explain-clause-prints : goal.returns-in-Explain-clause-prints
+returns-in-Explain-clause-prints g c = by_command c.explain.result _ _ c.explain.ensures.prints

@@ -1,0 +1,49 @@
+-- What `explain` prints.
+use Rattle.std.specs.Prelude.{ℕ, ◌≡◌, ◌==◌, ◌⊎◌, List, [], ◌∷◌, ◌++◌, Option, Some, None, codes, if◌then◌else◌}
+use Rattle.std.specs.List.{flat_map}
+use Rattle.counted_io.specs.Output.{Output}
+use Rattle.fault_pages.specs.Faults.{IsNoName, name_of}
+use Rattle.fault_pages.specs.Files.{smallest_file}
+use Rattle.fault_pages.specs.Pages.{advice_of, meaning_of, rule_of}
+use Rattle.fault_pages.specs.declared.fault.Fault.{Fault}
+use Rattle.circuit_files.specs.declared.outcome.Outcome.{Outcome}
+use Rattle.circuit_files.specs.declared.outcome.Outcome.TheVariants.{CommandLine, Done}
+use Rattle.commands.specs.Printing.{EndsWith}
+
+-- a byte of a file; four spaces begin the next line
+unfoldable pub indented_byte : ℕ → List ℕ
+indented_byte b = if b == 10 then codes "\n    " else b ∷ []
+
+-- the lines of a file that doesn't end with a newline, each after four spaces
+unfoldable pub indented : List ℕ → List ℕ
+indented file = codes "    " ++ (flat_map indented_byte file ++ 10 ∷ [])
+
+unfoldable pub file_part : List ℕ → List ℕ
+file_part [] = codes "The smallest file that has it is the empty one.\n\n"
+file_part (b ∷ bs) = codes "A smallest file that has it:\n\n" ++ (indented (b ∷ bs) ++ 10 ∷ [])
+
+-- a smallest file with a fault, if there is one
+abbrev pub file_text : Option (List ℕ) → List ℕ
+file_text None = []
+file_text (Some file) = file_part file
+
+-- what a fault is, the rule, a smallest file, and what to do
+unfoldable pub page_text : Fault → List ℕ
+page_text fault =
+    name_of fault ++ (codes ": " ++ (meaning_of fault ++ (codes "\n\n" ++ (rule_of fault ++ (codes "\n\n"
+    ++ (file_text (smallest_file fault) ++ (advice_of fault ++ 10 ∷ [])))))))
+
+-- the page of the fault with this name was printed
+pub record IsExplained (name : List ℕ) (old new : Output) (ended : Outcome) : Type 0 where
+  pub fault : Fault
+  pub named : name_of fault ≡ name
+  pub printed : EndsWith Done (page_text fault) old new ended
+
+-- no fault has the name, and nothing was printed
+pub record IsUnexplained (name : List ℕ) (old new : Output) (ended : Outcome) : Type 0 where
+  pub unnamed : IsNoName name
+  pub ends : ended ≡ CommandLine
+  pub quiet : new ≡ old
+
+abbrev pub Explains : List ℕ → Output → Output → Outcome → Type 0
+Explains name old new ended = IsExplained name old new ended ⊎ IsUnexplained name old new ended
