@@ -15,7 +15,7 @@ use certificates::Routes;
 use cut_cert::{greatest_cut, near_cut, network_in, preflow_along, routes};
 use frame_net::{Net, Tables};
 use least_sets::Choice;
-use pulse::{Crew, MaxPreflow, PhaseGate};
+use pulse::{Crew, MOST_ARCS_KEPT, MaxPreflow, PhaseGate};
 use std::alloc::Global;
 use std::mem;
 use std::thread::Threads;
@@ -115,10 +115,6 @@ fn chosen_set(
     }
 }
 
-/// The most arcs of a network whose memory is kept for the next one. A larger network's is given back, so that it isn't held while
-/// latches are moved.
-const MOST_ARCS_KEPT: usize = 1 << 20;
-
 /// The memory of a network's tables, or none where the network is large.
 fn tables_of(alloc: Global, net: Net) -> Tables {
     if net.arcs() > MOST_ARCS_KEPT {
@@ -128,12 +124,21 @@ fn tables_of(alloc: Global, net: Net) -> Tables {
     net.into_tables()
 }
 
+/// The memory of a preflow's residuals, or none where the network is large.
+fn residuals_of(alloc: Global, net: &Net, preflow: MaxPreflow) -> Vec<u32> {
+    if net.arcs() > MOST_ARCS_KEPT {
+        drop(preflow);
+        return Vec::new(alloc);
+    }
+    preflow.into_residuals(alloc)
+}
+
 /// The chosen least set of a circuit whose held latches stay where they are, from a start along the records' flows; then they are what
 /// this flow did at the circuit's gates. They are hints: the set is the same whatever they say. Where the records want certificates, one
 /// of the set is added to them, which passes all tests of `certificates::check`.
 ///
 /// What is made on the way (the network, its flow, for the smallest set the routes of the flow) is dropped, but for the memory of a
-/// small network's tables, which the records keep for the next circuit.
+/// small network's tables by arc, of its flow's residuals and of its pushes, which the records keep for the next circuit.
 ///
 /// # Errors
 ///
@@ -152,9 +157,13 @@ pub fn chosen_least_along<G: PhaseGate>(
 {
     let tables = mem::replace(&mut records.tables, Tables::none(alloc));
     let net = network_in(alloc, circuit, keep, tables)?;
-    let preflow = preflow_along(rt, alloc, circuit, &net, crew, &mut records.flows)?;
+    let Records {
+        flows, flow_tables, ..
+    } = &mut *records;
+    let preflow = preflow_along(rt, alloc, circuit, &net, crew, flows, flow_tables)?;
     let set = chosen_set(alloc, circuit, keep, &net, &preflow, choice, records);
-    drop(preflow);
+    let residuals = residuals_of(alloc, &net, preflow);
+    drop(mem::replace(&mut records.flow_tables.residuals, residuals));
     drop(mem::replace(&mut records.tables, tables_of(alloc, net)));
     set
 }

@@ -3,6 +3,7 @@ use certificates::{Certificate, Routes};
 use cut_cert::certificate_of;
 use frame_net::Tables;
 use gate_flows::GateFlow;
+use pulse::FlowTables;
 use std::alloc::Global;
 
 /// What is kept from circuit to circuit.
@@ -12,6 +13,8 @@ pub struct Records {
     pub flows: Vec<GateFlow>,
     /// The memory of the last network's tables by arc, for the next one.
     pub tables: Tables,
+    /// The memory of the last flow's tables by arc, for the next one.
+    pub flow_tables: FlowTables,
     /// Whether certificates are wanted. Where they aren't, none is made.
     pub certify: bool,
     /// The certificates of the sets that were found, in order.
@@ -32,6 +35,7 @@ impl Records {
         Records {
             flows: Vec::new(alloc),
             tables: Tables::none(alloc),
+            flow_tables: FlowTables::none(alloc),
             certify,
             certificates: Vec::new(alloc),
         }

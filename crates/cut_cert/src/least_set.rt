@@ -8,7 +8,7 @@ use crate::greatest::greatest_cut;
 use aig_graph::{Circuit, ClosedSet, Keep, NoMemory};
 use frame_net::{Net, Tables, passable};
 use gate_flows::{GateFlow, gate_flows, wishes};
-use pulse::{Crew, MaxPreflow, PhaseGate, PulseError, run_along_wishes};
+use pulse::{Crew, FlowTables, MaxPreflow, PhaseGate, PulseError, run_along_wishes};
 use std::alloc::Global;
 use std::thread::Threads;
 
@@ -51,10 +51,11 @@ fn maximum_preflow<G: PhaseGate>(
     net: &Net,
     crew: &Crew<G>,
     wishes: Vec<u32>,
+    tables: &mut FlowTables,
 ) -> Result<MaxPreflow, NoMemory>
     ensures { IfOk result (IsMaxPreflow net.now) }
 {
-    match run_along_wishes(rt, alloc, net, crew, wishes) {
+    match run_along_wishes(rt, alloc, net, crew, wishes, tables) {
         Ok(preflow) => Ok(preflow),
         Err(PulseError::NoMemory) => Err(NoMemory),
     }
@@ -77,7 +78,8 @@ fn note(
 }
 
 /// A maximum preflow of a circuit's network, from a start along `flows`, what the last flow did at the circuit's gates; then `flows` is
-/// what this one did there. They are hints: what is returned is a maximum preflow whatever they say.
+/// what this one did there. They are hints: what is returned is a maximum preflow whatever they say. Wishes, residuals and pushes stand in
+/// the memory of `tables`, where it serves.
 ///
 /// # Errors
 ///
@@ -89,11 +91,13 @@ pub fn preflow_along<G: PhaseGate>(
     net: &Net,
     crew: &Crew<G>,
     flows: &mut Vec<GateFlow>,
+    tables: &mut FlowTables,
 ) -> Result<MaxPreflow, NoMemory>
     ensures { IfOk result (IsMaxPreflow net.now) }
 {
-    let wished = wishes(alloc, net, circuit.aig(), flows.as_slice())?;
-    let preflow = maximum_preflow(rt, alloc, net, crew, wished)?;
+    let memory = tables.take_pushes(alloc);
+    let wished = wishes(net, circuit.aig(), flows.as_slice(), memory)?;
+    let preflow = maximum_preflow(rt, alloc, net, crew, wished, tables)?;
     note(alloc, circuit, net, &preflow, flows);
     Ok(preflow)
 }
@@ -117,7 +121,8 @@ pub fn greatest_least_along<G: PhaseGate>(
     ensures { IfOk result (IsGreatestLeast circuit.now keep.now) }
 {
     let net = network(alloc, circuit, keep)?;
-    let preflow = preflow_along(rt, alloc, circuit, &net, crew, flows)?;
+    let mut tables = FlowTables::none(alloc);
+    let preflow = preflow_along(rt, alloc, circuit, &net, crew, flows, &mut tables)?;
     let set = greatest_cut(alloc, &net, &preflow)?;
     Ok(set)
 }

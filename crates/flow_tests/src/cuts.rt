@@ -3,7 +3,7 @@ use crate::nets::{TWO_LATCHES, net_of_text};
 use aig_graph::ClosedSet;
 use cut_cert::greatest_cut;
 use frame_net::Net;
-use pulse::{Crew, OpenGate, PulseError, run_along_wishes, run_to_end};
+use pulse::{Crew, FlowTables, OpenGate, PulseError, run_along_wishes, run_to_end};
 use std::alloc::Global;
 use std::test::Fail;
 use std::thread::Threads;
@@ -41,7 +41,8 @@ fn is_greatest_by_labels<R: Threads + Sync>(
     gates: &[u32],
 ) -> Result<bool, PulseError> {
     let wishes = vec![in alloc; 1u32; net.arcs()]?;
-    let end = run_along_wishes(rt, alloc, net, &Crew::new(1, OpenGate), wishes)?;
+    let crew = Crew::new(1, OpenGate);
+    let end = run_along_wishes(rt, alloc, net, &crew, wishes, &mut FlowTables::none(alloc))?;
     let exact = end.has_exact_labels();
     let set = greatest_cut(alloc, net, &end);
     drop(end);

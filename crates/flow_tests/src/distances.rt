@@ -10,7 +10,7 @@ use std::test::Fail;
 fn starts_with(alloc: Global, net: &Net, distances: &[u32]) -> Result<bool, AllocError> {
     let nodes = net.nodes();
     let _arcs = net.arcs();
-    let parts = start_parts(alloc, net, 2)?;
+    let parts = start_parts(alloc, net, 2, Vec::new(alloc))?;
     let mut labels = vec![in alloc; 0u32; nodes as usize]?;
     let mut queue = vec![in alloc; 0u32; nodes as usize]?;
     exact_labels(

@@ -10,6 +10,7 @@ mod carrying;
 mod copying;
 mod labels;
 mod laws;
+mod memory;
 mod parting;
 mod phases;
 mod starting;

@@ -5,7 +5,6 @@ ghost use Rattle.frame_net.specs.FlowNet.{node_count};
 use crate::gate_flow::{GateFlow, first_before, gate_place, is_before};
 use aig_graph::{Aig, NoMemory};
 use frame_net::Net;
-use std::alloc::Global;
 
 /// Wishes so many units over an arc.
 fn wish(wishes: &mut [u32], arc: usize, units: u32) {
@@ -56,24 +55,33 @@ fn flow_of<'a>(net: &Net, aig: &Aig, flows: &'a [GateFlow], v: u32) -> Option<&'
     flows.get(place)
 }
 
+/// No wish for any of so many arcs, in the memory of a table whose values don't matter.
+fn no_wishes(memory: Vec<u32>, arcs: usize) -> Result<Vec<u32>, NoMemory> {
+    let mut wishes = memory;
+    wishes.clear();
+    wishes.resize(arcs, 0)?;
+    Ok(wishes)
+}
+
 /// A wish for each arc: what went over it, and a unit for each arc into the sink. Where the flow of a gate isn't known, a unit is wished
-/// from each of its fan-ins and one through it; where that of none is, there are no wishes.
+/// from each of its fan-ins and one through it; where that of none is, there are no wishes. They stand in the memory of a table whose values
+/// don't matter.
 ///
 /// # Errors
 ///
 /// `NoMemory` where the table is refused.
 pub fn wishes(
-    alloc: Global,
     net: &Net,
     aig: &Aig,
     flows: &[GateFlow],
+    memory: Vec<u32>,
 ) -> Result<Vec<u32>, NoMemory> {
     if flows.is_empty() {
-        return Ok(Vec::new(alloc));
+        return no_wishes(memory, 0);
     }
     let nodes = net.nodes();
     let first = first_before(aig);
-    let mut wishes = vec![in alloc; 0u32; net.arcs()]?;
+    let mut wishes = no_wishes(memory, net.arcs())?;
     wish_into_sink(net, wishes.as_mut_slice());
     let unknown = GateFlow::unknown();
     for k in 0..nodes.saturating_sub(first) / 2 {

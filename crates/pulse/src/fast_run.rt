@@ -13,6 +13,7 @@ use crate::active::{active_nodes, is_active};
 use crate::crew::Crew;
 use crate::error::PulseError;
 use crate::flow::Flow;
+use crate::flow_tables::{FlowTables, MOST_ARCS_KEPT};
 use crate::gate::PhaseGate;
 use crate::max_preflow::MaxPreflow;
 use crate::phases::{deliver_by, read_by};
@@ -47,8 +48,8 @@ pub fn run_with_global_relabeling<G: PhaseGate>(
     let _nodes = net.nodes();
     // At the start no nodes are active but those that the source has an arc to, and of these the ones from which the sink is reached.
     let first = Share::among(1).next(net, net.start(1), false, crew.workers());
-    let mut flow = Flow::start_for(alloc, net, first.parts)?;
-    let mut pushes = Pushes::new_for(alloc, net, first.parts)?;
+    let mut flow = Flow::start_for(alloc, net, first.parts, Vec::new(alloc))?;
+    let mut pushes = Pushes::new_for(alloc, net, first.parts, Vec::new(alloc))?;
     let ended = run(rt, alloc, net, &mut flow, &mut pushes, crew, first)?;
     Ok(MaxPreflow {
         flow,
@@ -57,18 +58,35 @@ pub fn run_with_global_relabeling<G: PhaseGate>(
     })
 }
 
-/// The flow from which a run along wishes begins. The wishes are dropped with it: a table by arc fewer while pulses are made.
-fn start_along(alloc: Global, net: &Net, mut wishes: Vec<u32>) -> Result<Flow, NoMemory>
+/// The flow from which a run along wishes begins, with its residuals in such memory.
+fn start_along(
+    alloc: Global,
+    net: &Net,
+    wishes: &mut [u32],
+    memory: Vec<u32>,
+) -> Result<Flow, NoMemory>
     ensures { IfOk result (IsBetween net.now) }
 {
     let _nodes = net.nodes();
-    let mut flow = Flow::start_for(alloc, net, 1)?;
-    send_along(net, &mut flow, wishes.as_mut_slice());
+    let mut flow = Flow::start_for(alloc, net, 1, memory)?;
+    send_along(net, &mut flow, wishes);
     Ok(flow)
 }
 
+/// The memory of the pushes, or none where the network is large.
+fn memory_of(alloc: Global, net: &Net, pushes: Pushes) -> Vec<u32> {
+    if net.arcs() > MOST_ARCS_KEPT {
+        drop(pushes);
+        return Vec::new(alloc);
+    }
+    pushes.into_memory(alloc)
+}
+
 /// The same run from another start: after the source's arcs are filled, units go along wishes. A wish is a number of units for an arc, as the
-/// flow of a network like this one that the arc had there. The wishes are dropped before the first pulse.
+/// flow of a network like this one that the arc had there. Before the first pulse the wishes' memory becomes that of the pushes.
+///
+/// The residuals stand in the memory of `tables`; that of a small network's pushes is put there once they are done with, and that of the
+/// residuals is the preflow's (`MaxPreflow::into_residuals`).
 ///
 /// It ends with a maximum preflow whatever is wished, after at most `2 * N * N` pulses. With a wish for each arc the start is made in one part,
 /// by the calling thread; with any other number of them nothing is sent.
@@ -77,16 +95,19 @@ pub fn run_along_wishes<G: PhaseGate>(
     alloc: Global,
     net: &Net,
     crew: &Crew<G>,
-    wishes: Vec<u32>,
+    mut wishes: Vec<u32>,
+    tables: &mut FlowTables,
 ) -> Result<MaxPreflow, PulseError>
     ensures greatest { IfOk result (λ m. IsMaxPreflow net.now m) }
     ensures bounded { IfOk result (λ m. m.pulses ≤ 2 * (node_count net.now * node_count net.now)) }
 {
     let _nodes = net.nodes();
     let first = Share::among(1);
-    let mut flow = start_along(alloc, net, wishes)?;
-    let mut pushes = Pushes::new_for(alloc, net, 1)?;
+    let memory = tables.take_residuals(alloc);
+    let mut flow = start_along(alloc, net, wishes.as_mut_slice(), memory)?;
+    let mut pushes = Pushes::new_for(alloc, net, 1, wishes)?;
     let ended = run(rt, alloc, net, &mut flow, &mut pushes, crew, first)?;
+    tables.pushes = memory_of(alloc, net, pushes);
     Ok(MaxPreflow {
         flow,
         pulses: ended.pulses,

@@ -46,11 +46,16 @@ impl Flow {
     pub fn start(alloc: Global, net: &Net) -> Result<Flow, NoMemory>
         ensures { IfOk result (λ f. IsStart net.now f) }
     {
-        Flow::start_for(alloc, net, 1)
+        Flow::start_for(alloc, net, 1, Vec::new(alloc))
     }
 
-    /// The flow at the start, in parts for so many workers.
-    pub(crate) fn start_for(alloc: Global, net: &Net, workers: u32) -> Result<Flow, NoMemory>
+    /// The flow at the start, in parts for so many workers, with its residuals in the memory of a table whose values don't matter.
+    pub(crate) fn start_for(
+        alloc: Global,
+        net: &Net,
+        workers: u32,
+        memory: Vec<u32>,
+    ) -> Result<Flow, NoMemory>
         requires { 0 < workers }
         ensures { IfOk result (λ f. IsStart net.now f) }
     {
@@ -59,7 +64,7 @@ impl Flow {
         let labels = start_labels(alloc, net)?;
         let caps = net.capacities().share()?;
         let delivered = no_marks(alloc, nodes)?;
-        let parts = start_parts(alloc, net, workers)?;
+        let parts = start_parts(alloc, net, workers, memory)?;
         Ok(Flow {
             labels,
             delivered,
@@ -122,5 +127,14 @@ impl Flow {
         turn(self.labels.as_mut_slice(), self.parts.as_slice(), false);
         unmark(self.delivered.as_mut_slice());
         self.phase = self.phase.wrapping_add(2);
+    }
+
+    /// The memory of the residuals of the last part, which is the only one where one thread made the last pulse.
+    pub(crate) fn into_residuals(self, alloc: Global) -> Vec<u32> {
+        let Flow { mut parts, .. } = self;
+        match parts.pop() {
+            Some(part) => part.residuals,
+            None => Vec::new(alloc),
+        }
     }
 }

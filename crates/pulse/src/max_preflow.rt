@@ -3,6 +3,7 @@ ghost use Rattle.std.specs.Prelude.{◌≡◌, ◌<◌, length, pos, slice_index
 
 use crate::flow::Flow;
 use flow_part::residual_at;
+use std::alloc::Global;
 use std::marker::Model;
 
 /// The preflow at the end of a run: no node is active, so that as much reaches the sink as can. Excess that can't reach the sink
@@ -62,5 +63,11 @@ impl MaxPreflow {
         ensures { result ≡ self.now.exact }
     {
         self.exact
+    }
+
+    /// The memory of the residuals, for a flow to come (`FlowTables`).
+    pub fn into_residuals(self, alloc: Global) -> Vec<u32> {
+        let MaxPreflow { flow, .. } = self;
+        flow.into_residuals(alloc)
     }
 }

@@ -42,17 +42,22 @@ impl Pushes {
         ensures fits { IfOk result (λ p. ArePushesOf net.now p) }
         ensures unspent { IfOk result (λ p. p.spent ≡ false) }
     {
-        Pushes::new_for(alloc, net, 1)
+        Pushes::new_for(alloc, net, 1, Vec::new(alloc))
     }
 
-    /// Room for the pushes, in parts for so many workers.
-    pub(crate) fn new_for(alloc: Global, net: &Net, workers: u32) -> Result<Pushes, NoMemory>
+    /// Room for the pushes, in parts for so many workers, in the memory of a table whose values don't matter.
+    pub(crate) fn new_for(
+        alloc: Global,
+        net: &Net,
+        workers: u32,
+        memory: Vec<u32>,
+    ) -> Result<Pushes, NoMemory>
         requires { 0 < workers }
         ensures fits { IfOk result (λ p. ArePushesOf net.now p) }
         ensures unspent { IfOk result (λ p. p.spent ≡ false) }
     {
         let _nodes = net.nodes();
-        let parts = push_parts(alloc, net, workers)?;
+        let parts = push_parts(alloc, net, workers, memory)?;
         Ok(Pushes {
             parts,
             spent: false,
@@ -81,6 +86,15 @@ impl Pushes {
         requires usable { self.now.spent ≡ false }
     {
         arcs_over(net, self.parts.as_slice())
+    }
+
+    /// The memory of the pushes of the last part, which is the only one where one thread made the last pulse.
+    pub(crate) fn into_memory(self, alloc: Global) -> Vec<u32> {
+        let Pushes { mut parts, .. } = self;
+        match parts.pop() {
+            Some(part) => part.values,
+            None => Vec::new(alloc),
+        }
     }
 
     /// Whether a read phase was refused.
