@@ -158,7 +158,9 @@ pub fn chosen_least_along<G: PhaseGate>(
     let tables = mem::replace(&mut records.tables, Tables::none(alloc));
     let net = network_in(alloc, circuit, keep, tables)?;
     let Records {
-        flows, flow_tables, ..
+        flows,
+        flow_tables,
+        ..
     } = &mut *records;
     let preflow = preflow_along(rt, alloc, circuit, &net, crew, flows, flow_tables)?;
     let set = chosen_set(alloc, circuit, keep, &net, &preflow, choice, records);
