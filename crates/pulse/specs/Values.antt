@@ -5,7 +5,7 @@ use Rattle.flow_part.specs.declared.parts.FlowPart.{FlowPart}
 use Rattle.flow_part.specs.declared.parts.PushPart.{PushPart}
 use Rattle.flow_part.specs.Listing.{AreWithin, IsListed, ListActive}
 use Rattle.flow_part.specs.Parts.{Cells, IsParted, cells_of, rows_walked, values_of}
-use Rattle.flow_whole.specs.Start.{FlowNumbered}
+use Rattle.flow_whole.specs.Start.{FlowNumbered, border_of}
 
 -- the nodes from first up to end, their arcs, which are so many from base on, and the numbers of their excesses and new labels
 pub record FlowRange : Type 0 where
@@ -53,6 +53,17 @@ AreFlowRanges net v rs = IsParted (FlowRangeFits net) (λ r. r.first) (λ r. r.e
 
 abbrev pub ArePushRanges : FlowNet → ℕ → List PushRange → Type 0
 ArePushRanges net v rs = IsParted (PushRangeFits net) (λ r. r.first) (λ r. r.end) (node_count net) v rs
+
+-- the ranges are those of the workers from k on, in their order: worker k's nodes begin where the shares of those before it end
+abbrev pub AreRangesOf : {R : Type 0} → (R → ℕ) → (R → ℕ) → ℕ → ℕ → ℕ → List R → Type 0
+AreRangesOf first end nodes workers k [] = k ≡ workers
+AreRangesOf first end nodes workers k (r ∷ rs) = (first r ≡ border_of nodes workers k) × ((end r ≡ border_of nodes workers (k + 1)) × AreRangesOf first end nodes workers (k + 1) rs)
+
+abbrev pub AreFlowRangesOf : ℕ → ℕ → List FlowRange → Type 0
+AreFlowRangesOf nodes workers rs = AreRangesOf (λ r. r.first) (λ r. r.end) nodes workers 0 rs
+
+abbrev pub ArePushRangesOf : ℕ → ℕ → List PushRange → Type 0
+ArePushRangesOf nodes workers rs = AreRangesOf (λ r. r.first) (λ r. r.end) nodes workers 0 rs
 
 -- a flow: residuals by arc, excess and new labels by node (`cells`); the labels; which nodes were delivered since the last turn;
 -- the capacities by arc; and whether a refused delivery has lost the cells

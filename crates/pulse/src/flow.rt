@@ -4,8 +4,10 @@
 //!     between two pulses ──deliver_range──► delivered in part ──deliver_range, up to all nodes──► ──turn──► between two pulses
 //!     any ──deliver_phase, refused──► spent, and stays so
 ghost use Rattle.std.specs.Prelude.{◌≡◌, ◌<◌, IfOk, length, pos, slice_index, ◌-ℤ◌};
+ghost use Rattle.frame_net.specs.FlowNet.{node_count};
 ghost use Rattle.pulse.specs.Conditions.{IsStart, IsTurnable, is_marked};
 ghost use Rattle.pulse.specs.Phases.{Turns};
+ghost use Rattle.pulse.specs.Values.{AreFlowRangesOf};
 
 use crate::marks::{no_marks, unmark};
 use aig_graph::NoMemory;
@@ -57,7 +59,8 @@ impl Flow {
         memory: Vec<u32>,
     ) -> Result<Flow, NoMemory>
         requires { 0 < workers }
-        ensures { IfOk result (λ f. IsStart net.now f) }
+        ensures start { IfOk result (λ f. IsStart net.now f) }
+        ensures shares { IfOk result (λ f. AreFlowRangesOf (node_count net.now) workers f.ranges) }
     {
         let nodes = net.nodes();
         let _arcs = net.arcs();

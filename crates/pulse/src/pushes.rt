@@ -7,6 +7,7 @@ ghost use Rattle.frame_net.specs.FlowNet.{node_count};
 ghost use Rattle.flow_part.specs.Listing.{AreWithin};
 ghost use Rattle.flow_part.specs.Parts.{ArePushParts};
 ghost use Rattle.pulse.specs.Conditions.{ArePushesOf};
+ghost use Rattle.pulse.specs.Values.{ArePushRangesOf};
 
 use aig_graph::NoMemory;
 use flow_part::{PushPart, push_over, walked_over};
@@ -55,6 +56,7 @@ impl Pushes {
         requires { 0 < workers }
         ensures fits { IfOk result (λ p. ArePushesOf net.now p) }
         ensures unspent { IfOk result (λ p. p.spent ≡ false) }
+        ensures shares { IfOk result (λ p. ArePushRangesOf (node_count net.now) workers p.ranges) }
     {
         let _nodes = net.nodes();
         let parts = push_parts(alloc, net, workers, memory)?;
