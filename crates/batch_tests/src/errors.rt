@@ -1,6 +1,7 @@
-//! The texts of the faults of a list, and of a batch without outcomes.
+//! The texts of the faults of a list, of a batch without outcomes, and of an object that isn't printed.
 use batch_lists::ListError;
 use batch_pool::BatchError;
+use json_reports::PrintError;
 use std::test::*;
 
 #[test]
@@ -22,5 +23,17 @@ fn spells_want_of_memory(rt: HostRuntime) -> Result<(), Fail> {
     let alloc = rt.alloc();
     let error = BatchError::NoMemory;
     assert_eq!(rt; format!(in alloc; "{error}")?.as_str(), "out of memory");
+    Ok(())
+}
+
+#[test]
+fn spells_what_keeps_an_object_from_print(rt: HostRuntime) -> Result<(), Fail> {
+    let alloc = rt.alloc();
+    for (error, text) in [
+        (PrintError::NoMemory, "out of memory"),
+        (PrintError::Device, "device"),
+    ] {
+        assert_eq!(rt; format!(in alloc; "{error}")?.as_str(), text);
+    }
     Ok(())
 }

@@ -1,7 +1,9 @@
-//! That each worker of a crew passes the gate of each phase once, and then leaves it once, before it passes the next.
-use crate::nets::{TWO_LATCHES, net_of_text};
+//! That each worker of a crew passes the gate of each phase once, and then leaves it once, before it passes the next; that phases count
+//! on after a pulse by ranges; and that a later pulse is handed to the crew too.
+use crate::nets::{FOUR_LATCHES, TWO_LATCHES, net_of_text};
+use crate::worked_pulses::{pulse, pulse_by_ranges};
 use frame_net::Net;
-use pulse::{Crew, PhaseGate, PulseError, run_to_end};
+use pulse::{Crew, Flow, PhaseGate, PulseError, Pushes, run_to_end, run_with_global_relabeling};
 use std::alloc::{AllocError, Global};
 use std::sync::atomic::{AtomicU64, Ordering};
 use std::test::Fail;
@@ -18,10 +20,11 @@ struct CountingGate {
 }
 
 impl CountingGate {
-    fn new(alloc: Global, workers: u32) -> Result<CountingGate, AllocError> {
+    /// The gate of so many workers, which are to pass a phase of this number first.
+    fn from(alloc: Global, workers: u32, phase: u64) -> Result<CountingGate, AllocError> {
         let mut calls = Vec::new(alloc);
         for _ in 0..workers {
-            calls.push(AtomicU64::new(0))?;
+            calls.push(AtomicU64::new(phase.saturating_mul(2)))?;
         }
         Ok(CountingGate {
             calls,
@@ -40,7 +43,7 @@ impl CountingGate {
         }
     }
 
-    /// Whether each worker passed and left so many phases, in turn.
+    /// Whether each worker passed and left the phases up to this number, in turn.
     fn saw_all(&self, phases: u64) -> bool {
         for calls in self.calls.as_slice() {
             if calls.load(Ordering::SeqCst) != phases.saturating_mul(2) {
@@ -68,7 +71,7 @@ fn each_phase_is_passed<R: Threads + Sync>(
     net: &Net,
     workers: u32,
 ) -> Result<bool, PulseError> {
-    let gate = CountingGate::new(alloc, workers)?;
+    let gate = CountingGate::from(alloc, workers, 0)?;
     let crew = Crew::new(workers.clamp(1, 64), gate);
     let pulses = run_to_end(rt, alloc, net, &crew)?.pulses();
     Ok(pulses == 6 && crew.gate().saw_all(12))
@@ -92,6 +95,69 @@ fn each_crew_passes<R: Threads + Sync>(
 fn passes_and_leaves_each_phase_once(rt: HostRuntime) -> Result<(), Fail> {
     let net = net_of_text(rt.alloc(), TWO_LATCHES)?;
     let holds = each_crew_passes(&rt, rt.alloc(), &net);
+    drop(net);
+    assert!(rt; holds?);
+    Ok(())
+}
+
+/// Whether the phases of the pulse after one by ranges are the third and the fourth.
+fn counts_on<R: Threads + Sync>(rt: &R, alloc: Global, net: &Net) -> Result<bool, PulseError> {
+    let _nodes = net.nodes();
+    let mut flow = Flow::start(alloc, net)?;
+    let mut pushes = Pushes::new(alloc, net)?;
+    let crew = Crew::new(1, CountingGate::from(alloc, 1, 2)?);
+    pulse_by_ranges(net, &mut flow, &mut pushes);
+    let ended = pulse(rt, alloc, net, &mut flow, &mut pushes, &crew);
+    drop(flow);
+    drop(pushes);
+    ended?;
+    Ok(crew.gate().saw_all(4))
+}
+
+#[test]
+fn numbers_phases_after_a_pulse_by_ranges(rt: HostRuntime) -> Result<(), Fail> {
+    let net = net_of_text(rt.alloc(), TWO_LATCHES)?;
+    let holds = counts_on(&rt, rt.alloc(), &net);
+    drop(net);
+    assert!(rt; holds?);
+    Ok(())
+}
+
+/// How many phases of the second pulse the second worker passed.
+#[derive(Drop)]
+struct SecondPulseGate {
+    passed: AtomicU64,
+}
+
+impl PhaseGate for SecondPulseGate {
+    fn pass(&self, phase: u64, worker: u32) {
+        if worker == 1 && (phase == 2 || phase == 3) {
+            self.passed.fetch_add(1, Ordering::SeqCst);
+        }
+    }
+
+    fn leave(&self, _phase: u64, _worker: u32) {}
+}
+
+/// Whether the second worker has a part in both phases of the second pulse. All four latches of twelve nodes are active in the first,
+/// which is over a quarter.
+fn second_pulse_is_shared<R: Threads + Sync>(
+    rt: &R,
+    alloc: Global,
+    net: &Net,
+) -> Result<bool, PulseError> {
+    let gate = SecondPulseGate {
+        passed: AtomicU64::new(0),
+    };
+    let crew = Crew::new(2, gate);
+    drop(run_with_global_relabeling(rt, alloc, net, &crew)?);
+    Ok(crew.gate().passed.load(Ordering::SeqCst) == 2)
+}
+
+#[test]
+fn hands_out_the_second_pulse(rt: HostRuntime) -> Result<(), Fail> {
+    let net = net_of_text(rt.alloc(), FOUR_LATCHES)?;
+    let holds = second_pulse_is_shared(&rt, rt.alloc(), &net);
     drop(net);
     assert!(rt; holds?);
     Ok(())

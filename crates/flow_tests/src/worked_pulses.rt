@@ -6,7 +6,8 @@ use crate::nets::{FOUR_LATCHES, TWO_LATCHES, net_of_text};
 use aig_graph::NoMemory;
 use frame_net::Net;
 use pulse::{
-    Crew, Flow, OpenGate, PulseError, Pushes, deliver_phase, deliver_range, read_phase, read_range,
+    Crew, Flow, OpenGate, PhaseGate, PulseError, Pushes, deliver_phase, deliver_range, read_phase,
+    read_range,
 };
 use std::alloc::Global;
 use std::test::Fail;
@@ -150,13 +151,14 @@ fn follows_the_worked_states_by_every_crew(rt: HostRuntime) -> Result<(), Fail> 
     Ok(())
 }
 
-fn pulse<R: Threads + Sync>(
+/// A pulse by both phases.
+pub(crate) fn pulse<R: Threads + Sync, G: PhaseGate>(
     rt: &R,
     alloc: Global,
     net: &Net,
     flow: &mut Flow,
     pushes: &mut Pushes,
-    crew: &Crew<OpenGate>,
+    crew: &Crew<G>,
 ) -> Result<(), PulseError>
     requires flow { IsBetween net.now flow.old }
     requires pushes { ArePushesOf net.now pushes.old }
