@@ -1,5 +1,5 @@
 -- What contracts see of a flow, of pushes and of a run's end: values by arc and by node, and how the nodes are parted.
-use Rattle.std.specs.Prelude.{◌≡◌, ℕ, ◌+◌, ◌-◌, ◌<◌, ◌≤◌, ◌⊎◌, ◌^◌, min, Bool, true, false, List, length, slice_index, map}
+use Rattle.std.specs.Prelude.{◌≡◌, ℕ, ◌+◌, ◌-◌, ◌<◌, ◌≤◌, ◌⊎◌, ◌^◌, min, Bool, true, false, List, [], ◌∷◌, length, slice_index, map}
 use Rattle.frame_net.specs.FlowNet.{FlowNet, node_count, start, row_len}
 use Rattle.flow_part.specs.declared.parts.FlowPart.{FlowPart}
 use Rattle.flow_part.specs.declared.parts.PushPart.{PushPart}

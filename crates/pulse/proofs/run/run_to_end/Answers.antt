@@ -9,7 +9,7 @@ use Rattle.exact_labels.proofs.RunLaws.{run_from}
 pub returns-clause-run : goal.returns-clause-run
 returns-clause-run g c =
     run_from c.args.net.now c.in_ok-pulses.pulses (started (node_count c.args.net.now) (pair c.args.net.now c.args.net.now.caps)) (state_of c.args.net.now c.in_ok-flow.flow) (state_of c.args.net.now c.run.new.flow)
-    c.in_ok-flow.ensures.agree c.in_ok-pulses.ensures.run
+    c.in_ok-flow.ensures.start.agree c.in_ok-pulses.ensures.run
 
 pub returns-clause-greatest : goal.returns-clause-greatest
 returns-clause-greatest g c = record {
