@@ -15,7 +15,7 @@ returns-clause-start c =
     (λ arc h. ap (λ (xs : List ℕ). slice_index xs arc) same)
 
 pub returns-clause-shares : goal.returns-clause-shares
-returns-clause-shares c = flow_ranges_of (node_count c.args.net.now) c.args.workers 0 c.in_ok-parts.parts.items c.in_ok-parts.ensures.shares c.in_ok-parts.ensures.len
+returns-clause-shares c = flow_ranges_of (node_count c.args.net.now) c.args.workers 0 c.in_ok-parts.parts.items c.in_ok-parts.ensures.shares (omega (arith, c.in_ok-parts.ensures.len))
 
 pub invariant_of-result : goal.invariant_of-result
 invariant_of-result c = record {
