@@ -33,7 +33,7 @@ version:
 
 install: all
 	install -d $(DESTDIR)$(PREFIX)/bin $(DESTDIR)$(MANDIR) $(DESTDIR)$(BASHDIR) $(DESTDIR)$(ZSHDIR) $(DESTDIR)$(FISHDIR)
-	install -d $(DESTDIR)$(DOCDIR)/docs/pictures $(DESTDIR)$(DOCDIR)/examples
+	install -d $(addprefix $(DESTDIR)$(DOCDIR)/,docs/pictures tests $(addprefix examples/,cluster match verilog))
 	install -m 755 "$$(release/make --program)" $(DESTDIR)$(PREFIX)/bin/fretime
 	$(FILLED) install/fretime.1 > $(DESTDIR)$(MANDIR)/fretime.1
 	chmod 644 $(DESTDIR)$(MANDIR)/fretime.1
@@ -41,14 +41,21 @@ install: all
 	install -m 644 install/_fretime $(DESTDIR)$(ZSHDIR)/_fretime
 	install -m 644 install/fretime.fish $(DESTDIR)$(FISHDIR)/fretime.fish
 	install -m 644 README.md LICENSE-APACHE LICENSE-MIT release/record $(DESTDIR)$(DOCDIR)
-	install -m 644 docs/*.md $(DESTDIR)$(DOCDIR)/docs
+	install -m 644 docs/*.md docs/reports.schema.json $(DESTDIR)$(DOCDIR)/docs
 	install -m 644 docs/pictures/*.svg $(DESTDIR)$(DOCDIR)/docs/pictures
-	install -m 644 examples/*.aag $(DESTDIR)$(DOCDIR)/examples
+	install -m 644 examples/*.aag examples/*.py $(DESTDIR)$(DOCDIR)/examples
+	install -m 755 examples/cluster/* $(DESTDIR)$(DOCDIR)/examples/cluster
+	install -m 644 examples/match/*.v examples/match/*.ys examples/match/*.stim $(DESTDIR)$(DOCDIR)/examples/match
+	install -m 644 examples/verilog/*.* $(DESTDIR)$(DOCDIR)/examples/verilog
+	install -m 755 examples/verilog/fretime_verilog $(DESTDIR)$(DOCDIR)/examples/verilog
+	install -m 755 tests/checker.py $(DESTDIR)$(DOCDIR)/tests
 
 uninstall:
 	rm -rf $(addprefix $(DESTDIR),$(INSTALLED))
 
-# The licences stand in the file that Debian wants, and the man page and the list of changes are compressed.
+# The licences stand in the file that Debian wants, and the man page and the list of changes are compressed. No file is younger than
+# DATE, so that the same tree gives the same bytes.
+deb: export SOURCE_DATE_EPOCH = $(shell date -u -d $(DATE) +%s)
 deb:
 	rm -rf $(STAGE)
 	$(MAKE) install DESTDIR=$(STAGE) PREFIX=/usr ZSHDIR=/usr/share/zsh/vendor-completions

@@ -6,6 +6,7 @@ import re
 import shutil
 import signal
 import subprocess
+import sys
 import tempfile
 import threading
 import time
@@ -13,7 +14,6 @@ import time
 TOP = os.path.dirname(os.path.dirname(os.path.abspath(__file__)))
 ABC = next((it for it in ('berkeley-abc', 'abc') if shutil.which(it)), None)
 TIME = shutil.which('time')
-BUILT = os.path.join(TOP, 'crates', 'fretime', 'out', 'fretime')
 
 
 class Run:
@@ -91,10 +91,16 @@ def machine():
     return f'{kind()}, {datetime.date.today()}'
 
 
-def program_of(words):
-    """The program that the words name, else the built one."""
-    given = [word for word in words if not word.startswith('--')]
-    return os.path.abspath(given[0]) if given else BUILT
+def program_of(path):
+    """The program of this path; where none is given, the one that ./fretime runs. Ends the script where that can't be run."""
+    if path is None:
+        said = subprocess.run([os.path.join(TOP, 'release', 'make'), '--program'], capture_output=True, text=True, check=False)
+        if said.returncode:
+            sys.exit(said.stderr.strip())
+        path = said.stdout.strip()
+    if not os.access(path, os.X_OK):
+        sys.exit(f'{path} is no program that can be run')
+    return os.path.abspath(path)
 
 
 def value(words, name, default):
@@ -112,6 +118,18 @@ def make(family, path):
 
 def row(fields):
     print('| ' + ' | '.join(map(str, fields)) + ' |', flush=True)
+
+
+class Table:
+    """A table that is printed as its rows come, and kept."""
+
+    def __init__(self, names):
+        self.names, self.rows = names, []
+        head(names)
+
+    def row(self, fields):
+        self.rows.append(list(map(str, fields)))
+        row(fields)
 
 
 def head(names):

@@ -4,7 +4,7 @@ import re
 import shutil
 import subprocess
 
-from tree import TOP, crates, crates_with_a_test, is_of_tests, sources
+from tree import CRATES, TOP, crates, crates_with_a_test, is_of_tests, sources
 
 WORDS = 'no one two three four five six seven eight nine ten eleven twelve'.split()
 NUMBERS = {word: number for number, word in enumerate(WORDS)}
@@ -50,6 +50,24 @@ def cases_of(part):
     return sum(f'\n== {part} ' in path.read_text() for path in (TOP / 'tests' / 'cases').rglob('*.case'))
 
 
+def megabytes_of_release():
+    """The size of the released program in megabytes, to two places."""
+    return f'{(TOP / "release" / "fretime-x86_64-linux").stat().st_size / 1e6:.2f}'
+
+
+def scripts_of_test():
+    """The scripts of tests/ that ./test runs."""
+    return set(re.findall(r'tests/([\w.]+)', re.sub(r'(?m)^#.*', '', (TOP / 'test').read_text())))
+
+
+def faults_of_scripts():
+    """Scripts that tests/README lists and ./test doesn't run, but those that it says so of."""
+    text = (TOP / 'tests' / 'README.md').read_text()
+    listed = set(re.findall(r'(?m)^\| `tests/([\w.]+)', text))
+    aside = set(re.findall(r'`tests/(\w+)`', re.search(r'runs all of these but ([^,]*),', text)[1]))
+    return sorted((listed - aside) ^ scripts_of_test())
+
+
 def kit():
     """The kit and its logic: those of the toolchain, where there is one, else those that the documents name in one place."""
     if shutil.which('rt'):
@@ -59,21 +77,22 @@ def kit():
 
 def claims():
     """All claims that are computed."""
-    greatest = constant('file_lines', 'GREATEST_VARIABLE')
+    greatest = constant('reader_parts', 'GREATEST_VARIABLE')
     return [
         Claim('README.md', r'With `([^`]+)`', kit()),
         Claim('docs/PROVED.md', r'With `([^`]+)`', kit()),
         Claim('docs/PROVED.md', r'every beginning of (\w+) files', cases_of('beginnings')),
         Claim('docs/FORMAT.md', r'M past (2\^28 - 1)', power(greatest)),
-        Claim('docs/FORMAT.md', r'J, F past (2\^\d+): `TooLarge`', power(constant('file_lines', 'MAX_PROPERTIES'))),
-        Claim('docs/FORMAT.md', r'sum of the sizes past (2\^\d+)', power(constant('ascii_sections', 'MAX_JUSTICE_LITERALS'))),
+        Claim('docs/FORMAT.md', r'J, F past (2\^\d+): `TooLarge`', power(constant('reader_parts', 'MAX_PROPERTIES'))),
+        Claim('docs/FORMAT.md', r'sum of the sizes past (2\^\d+)', power(constant('aag_text', 'MAX_JUSTICE_LITERALS'))),
         Claim('docs/FORMAT.md', r'sequence number (2\^\d+), from 0', power(constant('lane_sim', 'MAX_SEQUENCES'))),
         Claim('docs/FORMAT.md', r'a number above (2\^\d+ - 1)', power(constant('certificate_files', 'MAX_NUMBER'))),
         Claim('docs/DEFINITIONS.md', r'`MAX_VARIABLES` \((2\^\d+)\)', power(constant('aig_graph', 'MAX_VARIABLES'))),
+        Claim('docs/DECISIONS.md', r'links, ([\d.]+) MB', megabytes_of_release()),
         Claim('docs/DECISIONS.md', r'at least (\d+), or a quarter of all', constant('pulse', 'MANY_ACTIVE')),
         Claim('docs/DECISIONS.md', r'more than (\d+) arcs', constant('flow_part', 'LONG_ROW')),
-        Claim('docs/DECISIONS.md', r'below `(\d+) \* \(p', constant('variable_places', 'VARIABLES_A_PLACE')),
-        Claim('docs/DECISIONS.md', r'\* \(p \+ (\d+)\)`', constant('variable_places', 'SPARE')),
+        Claim('docs/DECISIONS.md', r'below `(\d+) \* \(p', constant('reader_parts', 'VARIABLES_A_PLACE')),
+        Claim('docs/DECISIONS.md', r'\* \(p \+ (\d+)\)`', constant('reader_parts', 'SPARE')),
     ]
 
 

@@ -59,7 +59,7 @@ OWN = {who: {'OUT': f'{who}.out', 'CERT': f'{who}.cert'} for who in ('reference'
 
 def ran(words):
     """The status, standard output and standard error of a program."""
-    said = subprocess.run(words, capture_output=True, timeout=60, check=False)
+    said = subprocess.run(words, capture_output=True, timeout=600, check=False)
     return said.returncode, said.stdout.decode('latin-1'), said.stderr.decode('latin-1')
 
 
@@ -190,7 +190,7 @@ def compare_with_one_worker(comparison, family):
     for workers in WORKERS:
         pathlib.Path('out').unlink(missing_ok=True)
         ran = subprocess.run([comparison.program, 'retime', 'in', 'out', '--workers', str(workers)],
-                             capture_output=True, timeout=120, check=False)
+                             capture_output=True, timeout=600, check=False)
         answers.append((ran.returncode, ran.stdout, ran.stderr, content('out')))
         well = ran.returncode == 0 and answers[-1] == answers[0] and bool(answers[-1][-1])
         comparison.count(well, f'{workers} workers on {family}')

@@ -1,6 +1,6 @@
-"""Runs the commands that README.md and docs/TUTORIAL.md show, and compares what they print with what these say, so that a reader
-gets what the text promises. Commands of programs that aren't installed are left out, and so are those after them that rest on
-their files."""
+"""Runs the commands that README.md, docs/TUTORIAL.md and docs/EMBEDDING.md show, and compares what they print with what these say,
+so that a reader gets what the text promises. Commands of programs that aren't installed are left out, and so are those after them
+that rest on their files."""
 import dataclasses
 import os
 import pathlib
@@ -11,10 +11,11 @@ import subprocess
 import tempfile
 
 import pages
+from copies import copy
 from tree import TOP
 
 OWN = ('./fretime', 'fretime')
-OTHERS = ('yosys', 'berkeley-abc', 'sed')
+OTHERS = ('yosys', 'berkeley-abc', 'sed', 'python3')
 
 
 @dataclasses.dataclass
@@ -55,6 +56,11 @@ SAYINGS = [
     Saying('docs/TUTORIAL.md', 'retime free.aig less.aig', 0, 'latches 16 to 16'),
     Saying('docs/TUTORIAL.md', 'retime zeroed.aig less.aig', 0, 'latches 16 to 1'),
     Saying('docs/TUTORIAL.md', 'retime zinit.aig less.aig', 0, 'latches 17 to 17'),
+    Saying('docs/TUTORIAL.md', 'retime synchronous.aig less.aig', 0, 'latches 16 to 1'),
+    Saying('docs/TUTORIAL.md', 'retime asynchronous.aig less.aig', 0, 'latches 16 to 16'),
+    Saying('docs/TUTORIAL.md', 'retime enable.aig less.aig', 0, 'latches 16 to 16'),
+    Saying('docs/TUTORIAL.md', 'retime --json match.aig less.aig', 0, 'free_kept'),
+    Saying('docs/TUTORIAL.md', 'same match.aig free.aig match.stim', 1, 'shapes differ'),
     Saying('docs/TUTORIAL.md', "retime --keep 'w[0]' named.aig less.aig", 0, 'frame 1: 16 to 5'),
     Saying('docs/TUTORIAL.md', "retime --keep 'w[0]' named.aig less.aig", 0, 'latches 16 to 5'),
 ]
@@ -70,11 +76,22 @@ def is_commands(block):
     return is_command(block.lines[0])
 
 
+def on_the_path(program, folder):
+    """A folder in which the program has its name, for the programs that call it."""
+    place = folder / 'programs'
+    if not place.exists():
+        place.mkdir()
+        (place / 'fretime').symlink_to(program)
+    return place
+
+
 def run(program, command, folder):
     """A command in a folder, in which our program has the name that the documents give it."""
     name, _, rest = command.split('    #')[0].partition(' ')
     words = f'{shlex.quote(str(program)) if name in OWN else name} {rest}'
-    done = subprocess.run(['sh', '-c', words], cwd=folder, stdin=subprocess.DEVNULL, capture_output=True, text=True, timeout=120)
+    path = {'PATH': f'{on_the_path(program, folder)}:{os.environ["PATH"]}', 'PYTHONPATH': str(TOP / 'install' / 'python')}
+    done = subprocess.run(['sh', '-c', words], cwd=folder, env=os.environ | path, stdin=subprocess.DEVNULL, capture_output=True,
+                          text=True, timeout=600)
     return Ran(done.returncode, done.stdout, done.stderr)
 
 
@@ -103,6 +120,7 @@ VARIANTS = {
     'free.aig': ('', 'free', ''),
     'zeroed.aig': ('', 'free', 'setundef -init -zero'),
     'zinit.aig': ('-zinit', 'free', ''),
+    **{f'{name}.aig': ('', name, '') for name in ('synchronous', 'asynchronous', 'enable')},
 }
 
 
@@ -120,11 +138,11 @@ def folder_of(path):
     """A copy of the files that a document's commands work on."""
     folder = pathlib.Path(tempfile.mkdtemp())
     if path.name == 'TUTORIAL.md':
-        shutil.copytree(TOP / 'examples' / 'match', folder, dirs_exist_ok=True)
+        copy(TOP / 'examples' / 'match', folder)
         if shutil.which('yosys'):
             write_variants(folder)
     else:
-        shutil.copytree(TOP / 'examples', folder / 'examples')
+        copy(TOP / 'examples', folder / 'examples')
     return folder
 
 
@@ -132,7 +150,8 @@ def can_run(command, folder):
     """Whether the programs that a command needs, and the files that it reads, are there."""
     command = command.split('    #')[0]
     name = command.split()[0]
-    circuits = re.findall(r'(?<!write_aiger )\b[\w./]+\.a[ai]g\b', command)
+    written = re.findall(r'(?:write_aiger|retime \S+) (\S+?)[;"]', command)
+    circuits = [it for it in re.findall(r'\b[\w./]+\.a[ai]g\b', command) if it not in written]
     if name in OWN:
         return all((folder / circuit).exists() for circuit in circuits[:1])
     files = circuits if name == 'berkeley-abc' else re.findall(r'(\S+) >', command) if name == 'sed' else []
@@ -184,10 +203,10 @@ def faults_of_saying(program, saying, path, folder):
 
 
 def faults_of_commands(program):
-    """Each command and printed text of the two documents, with what is wrong; or 'left out' with a command. A block of code is
+    """Each command and printed text of these documents, with what is wrong; or 'left out' with a command. A block of code is
     commands where its first word is a program; what is printed where the paragraph before it says 'prints'; and else the contents
     of the file that the paragraph before it names."""
-    for path in (TOP / 'README.md', TOP / 'docs' / 'TUTORIAL.md'):
+    for path in (TOP / 'README.md', TOP / 'docs' / 'TUTORIAL.md', TOP / 'docs' / 'EMBEDDING.md'):
         folder = folder_of(path)
         shown = pages.blocks(path, is_command)
         yield from faults_of_files(path, folder, shown)

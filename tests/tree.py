@@ -39,7 +39,7 @@ def crates():
 
 def documents():
     """The documents of the repository."""
-    return sorted([TOP / 'README.md', *(TOP / 'docs').glob('*.md'), *(TOP / 'bench').glob('*.md'), *(TOP / 'tests').glob('*.md')])
+    return sorted([*TOP.glob('*.md'), *(TOP / 'docs').glob('*.md'), *(TOP / 'bench').glob('*.md'), *(TOP / 'tests').glob('*.md')])
 
 
 def sources(crate, suffix='.rt', folders=('src',)):

@@ -6,10 +6,11 @@ import concurrent.futures
 import hashlib
 import os
 import pathlib
-import shutil
 import subprocess
 import tempfile
 import time
+
+from copies import copy
 
 TOP = pathlib.Path(__file__).resolve().parent.parent
 NOBODY = 65534
@@ -72,9 +73,9 @@ class Tree:
         self.room, self.top = room, room / 'tree'
         self.path = path_without_rt(room)
         (self.top / 'release').mkdir(parents=True)
-        shutil.copy(TOP / 'fretime', self.top)
+        copy(TOP / 'fretime', self.top)
         for name in ('make', 'parts.sh'):
-            shutil.copy(TOP / 'release' / name, self.top / 'release')
+            copy(TOP / 'release' / name, self.top / 'release')
         self.write('crates.txt', CRATES)
         for name in ('low', 'middle', 'aside', 'fretime'):
             self.write(f'crates/{name}/src/lib.rt', f'// {name}\n')
@@ -141,7 +142,7 @@ class Tree:
 
 
 def finished(started):
-    out, err = started.communicate(timeout=60)
+    out, err = started.communicate(timeout=600)
     return subprocess.CompletedProcess(started.args, started.returncode, out, err)
 
 

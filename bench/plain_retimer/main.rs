@@ -1,6 +1,8 @@
-//! Forward retiming frame by frame in plain Rust, without proofs: what `fretime retime` is measured beside (`bench/plain`). It has the
-//! program's method (a start along what the last flow did, pulses with exact labels, a check in place of a cleaning) or, in place of
-//! the pulses, blocking flows; and it writes the same bytes. Binary files with outputs, bad states and constraints alone.
+//! Forward retiming frame by frame in plain Rust, without proofs: what `fretime retime` is measured
+//! beside (`bench/compare --plain`). It has the program's method (a start along what the last flow
+//! did, pulses with exact labels, a check in place of a cleaning) or, in place of the pulses,
+//! blocking flows; and it writes the same bytes. Binary files with outputs, bad states and
+//! constraints alone.
 //!
 //! usage: plain_retimer pulses|blocking IN OUT
 mod blocking;

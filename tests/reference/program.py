@@ -4,7 +4,6 @@ import sys
 
 from reference.certificates import audit, certificates, read_blocks, written
 from reference.circuit import text
-from reference.names import hint
 from reference.pictures import MOST_NODES, has_name, neighbourhood, nodes, picture
 from reference.reading import Fault, read
 from reference.retiming import NoSuchName, frames_of, held_latches, passable, retimed
@@ -54,6 +53,8 @@ def parsed(words):
         raise Ends(2, 'error: standard input is read once')
     if (outputs + options.get('--cert', [])).count('-') > 1:
         raise Ends(2, 'error: standard output is written once')
+    if command == 'retime' and set(paths) - {'-'} & set(options.get('--cert', [])):
+        raise Ends(2, 'error: certificates have a file of their own')
     return command, paths, options
 
 
@@ -89,7 +90,7 @@ def circuit_of(path):
 
 def no_such_name(path, c, name):
     """How a run ends where no latch has the name: a file is read again for the nearest one, standard input isn't."""
-    return Ends(1, f'{source_name(path)}: NoSuchName {os.fsdecode(name)}' + ('' if source_name(path) == 'stdin' else hint(c, name)))
+    return Ends(1, f'{source_name(path)}: NoSuchName {os.fsdecode(name)}')
 
 
 def stimulus_of(path, c):

@@ -13,10 +13,10 @@ use Rattle.ascii_file.specs.Pieces.{ended_lines, open_line, fed, with_last_line}
 use Rattle.ascii_file.specs.Answering.{Fails, Gives}
 use Rattle.ascii_file.proofs.PieceLaws.{part_taken, end_taken, the_pieces_law}
 use Rattle.ascii_file.proofs.AnsweringLaws.{Gives-same}
-use Rattle.file_lines.specs.declared.header.HeaderLine.{HeaderLine}
-use Rattle.file_lines.specs.Header.{header_row, header_with}
-use Rattle.ascii_sections.specs.declared.sections.Sections.{Sections}
-use Rattle.ascii_sections.specs.Taking.{raw_of, IsAt}
+use Rattle.reader_parts.specs.declared.header.HeaderLine.{HeaderLine}
+use Rattle.reader_parts.specs.Header.{header_row, header_with}
+use Rattle.aag_text.specs.declared.sections.Sections.{Sections}
+use Rattle.aag_text.specs.Taking.{raw_of, IsAt}
 use Rattle.aag_text.specs.declared.items.Items.{Items}
 use Rattle.aag_text.specs.Beginning.{Awaits}
 use Rattle.aag_text.specs.Standing.{StandAt, Hold}

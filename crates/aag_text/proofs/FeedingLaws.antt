@@ -8,8 +8,8 @@ use Rattle.ascii_file.specs.Pieces.{ended_lines, open_line, fed}
 use Rattle.ascii_file.specs.Answering.{Fails}
 use Rattle.ascii_file.proofs.PieceLaws.{part_taken, end_taken, take_lines-append, the_pieces_law}
 use Rattle.ascii_file.proofs.AnsweringLaws.{Fails-same}
-use Rattle.ascii_sections.specs.declared.sections.Sections.{Sections}
-use Rattle.ascii_sections.specs.Taking.{raw_of}
+use Rattle.aag_text.specs.declared.sections.Sections.{Sections}
+use Rattle.aag_text.specs.Taking.{raw_of}
 use Rattle.aag_text.specs.declared.lines.OpenLine.{OpenLine}
 use Rattle.aag_text.specs.declared.items.Items.{Items}
 use Rattle.aag_text.specs.Lines.{IsOpen, is_comment}

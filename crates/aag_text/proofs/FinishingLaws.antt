@@ -8,11 +8,11 @@ use Rattle.ascii_file.specs.Pieces.{open_line, fed, with_last_line, closed}
 use Rattle.ascii_file.specs.Answering.{Fails, Gives}
 use Rattle.ascii_file.proofs.PieceLaws.{the_pieces_law}
 use Rattle.ascii_file.proofs.AnsweringLaws.{Fails-same, Fails-bind, Gives-same}
-use Rattle.ascii_sections.specs.declared.sections.Sections.{Sections}
+use Rattle.aag_text.specs.declared.sections.Sections.{Sections}
 use Rattle.aag_text.specs.declared.lines.OpenLine.{OpenLine}
 use Rattle.aag_text.specs.declared.lines.OpenLine.TheVariants.{Numbers, Symbol, Comment}
 use Rattle.aag_text.specs.declared.items.Items.{Items}
-use Rattle.ascii_sections.specs.Taking.{raw_of, IsAt}
+use Rattle.aag_text.specs.Taking.{raw_of, IsAt}
 use Rattle.aag_text.specs.Lines.{IsOpen, is_comment}
 use Rattle.aag_text.specs.Standing.{state_of, StandAt, Hold}
 

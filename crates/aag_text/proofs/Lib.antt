@@ -3,3 +3,16 @@ pub mod FeedingLaws
 pub mod FinishingLaws
 pub mod BeginningLaws
 pub mod ReaderLaws
+pub mod CountLaws
+pub mod KeepLaws
+pub mod ClampLaws
+pub mod LineLaws
+pub mod PlaceLaws
+pub mod TakeLaws
+pub mod CollectingLaws
+pub mod GraphLaws
+pub mod ArrangeLaws
+pub mod PositionLaws
+pub mod MeaningLaws
+pub mod ResolveLaws
+pub mod AnswerLaws

@@ -9,10 +9,10 @@ use Rattle.ascii_file.specs.Items.{Item, InputItem, LatchItem, SafetyItem, SizeI
 use Rattle.ascii_file.specs.Reading.{◌>>=◌, State, InItems, InComment, is_complete, is_symbols, next_section, read_line, take_line}
 use Rattle.ascii_file.specs.Answering.{Fails}
 use Rattle.ascii_file.proofs.AnsweringLaws.{Fails-same, Fails-bind}
-use Rattle.file_lines.specs.declared.symbols.SymbolText.TheVariants as text
-use Rattle.file_lines.specs.Symbols.{unnamed, text_without, text_of, text_of_item}
-use Rattle.ascii_sections.specs.declared.sections.Sections.{Sections}
-use Rattle.ascii_sections.specs.Taking.{raw_of, IsAt, GoesOn}
+use Rattle.reader_parts.specs.declared.symbols.SymbolText.TheVariants as text
+use Rattle.reader_parts.specs.Symbols.{unnamed, text_without, text_of, text_of_item}
+use Rattle.aag_text.specs.declared.sections.Sections.{Sections}
+use Rattle.aag_text.specs.Taking.{raw_of, IsAt, GoesOn}
 use Rattle.aag_text.specs.declared.lines.OpenLine.{OpenLine}
 use Rattle.aag_text.specs.declared.lines.OpenLine.TheVariants.{Comment}
 use Rattle.aag_text.specs.Lines.{IsOpen, is_comment}

@@ -4,8 +4,8 @@ use Rattle.file_words.specs.declared.fault.ReadError.{ReadError}
 use Rattle.file_words.specs.Cuts.{HasNoNewline}
 use Rattle.ascii_file.specs.Pieces.{fed}
 use Rattle.ascii_file.specs.Answering.{Fails}
-use Rattle.file_lines.specs.declared.header.HeaderLine.{HeaderLine}
-use Rattle.file_lines.specs.Header.{header_row, header_with}
+use Rattle.reader_parts.specs.declared.header.HeaderLine.{HeaderLine}
+use Rattle.reader_parts.specs.Header.{header_row, header_with}
 use Rattle.aag_text.specs.declared.items.Items.{Items}
 use Rattle.aag_text.specs.Standing.{Hold}
 

@@ -2,3 +2,9 @@ pub mod Lines
 pub mod Standing
 pub mod Beginning
 pub mod Readers
+pub mod Items
+pub mod Filling
+pub mod Taking
+pub mod Numbering
+pub mod Arranging
+pub mod Resolving

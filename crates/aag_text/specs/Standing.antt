@@ -5,8 +5,8 @@ use Rattle.ascii_file.specs.Raw.{RawSymbol}
 use Rattle.ascii_file.specs.Reading.{State, InItems, InComment, is_complete}
 use Rattle.ascii_file.specs.Pieces.{open_line, fed}
 use Rattle.ascii_file.specs.Answering.{Fails}
-use Rattle.ascii_sections.specs.declared.sections.Sections.{Sections}
-use Rattle.ascii_sections.specs.Taking.{raw_of, IsAt}
+use Rattle.aag_text.specs.declared.sections.Sections.{Sections}
+use Rattle.aag_text.specs.Taking.{raw_of, IsAt}
 use Rattle.aag_text.specs.declared.lines.OpenLine.{OpenLine}
 use Rattle.aag_text.specs.declared.items.Items.{Items}
 use Rattle.aag_text.specs.Lines.{IsOpen, is_comment}

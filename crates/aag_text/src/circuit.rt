@@ -1,12 +1,22 @@
+//! The last step of reading: the lists that the sections left become a circuit. Literals are renumbered by the places of the
+//! variables that the lines define, inputs first, then latches, then gates; gates take the order in which each reads only what
+//! stands before it.
 ghost use Rattle.std.specs.Prelude.{List, ◌≡◌, true};
 ghost use Rattle.ascii_file.specs.Raw.{RawSymbol};
 ghost use Rattle.ascii_file.specs.Reading as reading;
 ghost use Rattle.ascii_file.specs.Answering.{Gives};
-ghost use Rattle.ascii_sections.specs.Taking.{raw_of, IsAt};
+ghost use Rattle.aag_text.specs.Taking.{raw_of, IsAt};
 
+mod arranging;
+mod lists;
+mod numbering;
+mod order;
+mod placing;
+mod resolving;
+
+use crate::circuit::lists::RawLists;
+use crate::sections::Sections;
 use aig_graph::Circuit;
-use ascii_circuit::RawLists;
-use ascii_sections::Sections;
 use file_words::ReadError;
 use std::alloc::Global;
 
@@ -36,5 +46,5 @@ pub(crate) fn resolve(alloc: Global, sections: Sections) -> Result<Circuit, Read
         names,
         places,
     };
-    ascii_circuit::resolve(alloc, lists)
+    resolving::resolve(alloc, lists)
 }

@@ -2,8 +2,8 @@ ghost use Rattle.std.specs.Prelude.{ℕ, List, ◌≡◌, ◌≤◌, ◌++◌, l
 ghost use Rattle.aag_text.specs.Beginning.{Awaits, Begins};
 
 use crate::items::Items;
-use file_lines::HeaderLine;
 use file_words::{ReadError, cut};
+use reader_parts::HeaderLine;
 use std::alloc::Global;
 
 /// Takes the next bytes, which end at the offset, where the first line is open: the items, where these bytes end it.

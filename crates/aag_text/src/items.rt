@@ -8,16 +8,16 @@ ghost use Rattle.std.specs.Prelude.{ℕ, List, ◌≡◌, Bool, true};
 ghost use Rattle.ascii_file.specs.Raw.{RawSymbol};
 ghost use Rattle.ascii_file.specs.Reading as reading;
 ghost use Rattle.ascii_file.specs.Answering.{Gives};
-ghost use Rattle.ascii_sections.specs.Taking.{raw_of, IsAt};
+ghost use Rattle.aag_text.specs.Taking.{raw_of, IsAt};
 ghost use Rattle.aag_text.specs.Standing.{state_of};
 
 use crate::circuit::resolve;
 use crate::lines::{OpenLine, line_of};
+use crate::sections::Sections;
 use aig_graph::Circuit;
 use ascii_file::{Header, Section};
-use ascii_sections::Sections;
-use file_lines::{NumberLine, SymbolLine, SymbolText};
 use file_words::{ReadError, cut};
+use reader_parts::{NumberLine, SymbolLine, SymbolText};
 use std::alloc::Global;
 use std::mem;
 
@@ -38,10 +38,10 @@ impl Items {
     ghost use Rattle.ascii_file.specs.Pieces.{fed};
     ghost use Rattle.ascii_file.specs.Reading as reading;
     ghost use Rattle.ascii_file.specs.Answering.{Gives};
-    ghost use Rattle.file_lines.specs.Rows.{row_of};
-    ghost use Rattle.file_lines.specs.Open.{numbers_with};
-    ghost use Rattle.file_lines.specs.Symbols.{text_of, text_with};
-    ghost use Rattle.ascii_sections.specs.Taking.{raw_of, IsAt};
+    ghost use Rattle.reader_parts.specs.Rows.{row_of};
+    ghost use Rattle.reader_parts.specs.Open.{numbers_with};
+    ghost use Rattle.reader_parts.specs.Symbols.{text_of, text_with};
+    ghost use Rattle.aag_text.specs.Taking.{raw_of, IsAt};
     ghost use Rattle.aag_text.specs.Standing.{StandAt, Leads, Follows, Hold};
 
     /// The items after a header, whose first line begins at the offset. Takes no memory.

@@ -8,6 +8,7 @@ mod items;
 mod lines;
 mod read;
 mod reader;
+mod sections;
 
 pub use ascii_file::{pieces_law, reading_law, round_trip_law};
 pub use ascii_writer::write_aag;
@@ -15,3 +16,4 @@ pub use counted_io::{Counted, CountedRead, CountedWrite, FailAfter, Failure, One
 pub use file_words::ReadError;
 pub use read::read_aag;
 pub use reader::AagReader;
+pub use sections::Sections;

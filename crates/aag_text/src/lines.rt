@@ -3,7 +3,7 @@ ghost use Rattle.ascii_file.specs.Reading.{is_symbols};
 ghost use Rattle.aag_text.specs.Lines.{IsOpen, is_comment};
 
 use ascii_file::Section;
-use file_lines::{NumberLine, SymbolLine};
+use reader_parts::{NumberLine, SymbolLine};
 use std::alloc::{AllocError, Global};
 
 /// A line after the header, which comes in pieces.

@@ -10,10 +10,10 @@ ghost use Rattle.aag_text.specs.Readers.{PhaseHolds, phase_standing};
 
 use crate::header::begin;
 use crate::items::{Items, close};
+use crate::sections::Sections;
 use aig_graph::Circuit;
-use ascii_sections::Sections;
-use file_lines::HeaderLine;
 use file_words::ReadError;
+use reader_parts::HeaderLine;
 use std::alloc::Global;
 use std::mem;
 

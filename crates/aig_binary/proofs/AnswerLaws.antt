@@ -11,9 +11,9 @@ use Rattle.ascii_file.specs.Answering.{Gives}
 use Rattle.aag_text.specs.Standing.{Follows}
 use Rattle.binary_file.specs.Reading.{State, AtHeader, feed, read_binary}
 use Rattle.binary_reader.specs.Holding.{Answers}
-use Rattle.spellings.specs.declared.form.Spelling.{Spelling}
-use Rattle.spellings.specs.declared.form.Spelling.TheVariants.{Ascii, Binary}
-use Rattle.spellings.specs.Spellings.{spelling_of, read_in, read_any}
+use Rattle.file_words.specs.declared.spelling.Spelling.{Spelling}
+use Rattle.file_words.specs.declared.spelling.Spelling.TheVariants.{Ascii, Binary}
+use Rattle.aig_binary.specs.Spellings.{spelling_of, read_in, read_any}
 use Rattle.aig_binary.specs.Fed.{ascii_fed, binary_fed, fed_in, fed_any}
 use Rattle.ascii_file.proofs.AnsweringLaws.{Fails-bind}
 use Rattle.aig_binary.proofs.LetterLaws.{none_short}

@@ -8,8 +8,8 @@ use Rattle.counted_io.proofs.InputLaws.{ReadsFirst, first-all}
 use Rattle.aig_graph.specs.Circuits.{Netlist}
 use Rattle.file_words.specs.declared.fault.ReadError.{ReadError}
 use Rattle.file_words.specs.declared.fault.ReadError.TheVariants.{NoMemory, BadHeader}
-use Rattle.spellings.specs.declared.form.Spelling.{Spelling}
-use Rattle.spellings.specs.Spellings.{spelling_of, read_any, read_in}
+use Rattle.file_words.specs.declared.spelling.Spelling.{Spelling}
+use Rattle.aig_binary.specs.Spellings.{spelling_of, read_any, read_in}
 use Rattle.aig_binary.specs.declared.reading.SpeltCircuit.{SpeltCircuit}
 use Rattle.aig_binary.specs.Pieces.{FailsFrom, IsFinishError}
 use Rattle.aig_binary.specs.Ending.{ReadsToEnd, Spells, IsFaultOfBytes, StopsReading, IsReadError}

@@ -13,9 +13,9 @@ use Rattle.ascii_file.specs.Answering.{Fails, Gives}
 use Rattle.binary_file.specs.Reading.{AtHeader, feed, read_binary}
 use Rattle.binary_file.proofs.PieceLaws as binary
 use Rattle.binary_file.proofs.FaultLaws as binary_faults
-use Rattle.spellings.specs.declared.form.Spelling.{Spelling}
-use Rattle.spellings.specs.declared.form.Spelling.TheVariants.{Ascii, Binary}
-use Rattle.spellings.specs.Spellings.{spelling_of, read_in, read_any}
+use Rattle.file_words.specs.declared.spelling.Spelling.{Spelling}
+use Rattle.file_words.specs.declared.spelling.Spelling.TheVariants.{Ascii, Binary}
+use Rattle.aig_binary.specs.Spellings.{spelling_of, read_in, read_any}
 use Rattle.aig_binary.specs.Pieces.{IsFeedError, IsFinishError}
 use Rattle.aig_binary.specs.Fed.{ascii_fed, binary_fed, fed_any}
 use Rattle.aig_binary.proofs.LetterLaws.{letters_stay, named_stays}

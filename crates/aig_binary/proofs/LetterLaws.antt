@@ -3,8 +3,8 @@ use Rattle.std.proofs.Common.{ℕ, ◌+◌, ◌<◌, ◌≤◌, ◌≡◌, inl, 
 use Rattle.std.proofs.Math.Bool.{and-false}
 use Rattle.std.proofs.lemmas.Bool.{cases_lt}
 use Rattle.std.proofs.lemmas.List.{take_more, take-append-drop}
-use Rattle.spellings.specs.declared.form.Spelling.{Spelling}
-use Rattle.spellings.specs.Spellings.{spelling_of}
+use Rattle.file_words.specs.declared.spelling.Spelling.{Spelling}
+use Rattle.aig_binary.specs.Spellings.{spelling_of}
 
 -- ---- three bytes
 

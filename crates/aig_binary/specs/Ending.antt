@@ -6,7 +6,7 @@ use Rattle.file_words.specs.declared.fault.ReadError.{ReadError}
 use Rattle.file_words.specs.declared.fault.ReadError.TheVariants.{NoMemory, Device}
 use Rattle.file_words.specs.Codes.{is_fault_of_bytes}
 use Rattle.aig_graph.specs.Circuits.{Netlist}
-use Rattle.spellings.specs.Spellings.{spelling_of, read_any}
+use Rattle.aig_binary.specs.Spellings.{spelling_of, read_any}
 use Rattle.aig_binary.specs.declared.reading.SpeltCircuit.{SpeltCircuit}
 
 -- the reader was read to its end, and no read failed

@@ -5,9 +5,9 @@ use Rattle.file_words.specs.declared.fault.ReadError.TheVariants.{BadHeader}
 use Rattle.ascii_file.specs.Reading.{◌>>=◌}
 use Rattle.ascii_file.specs.Pieces.{fed}
 use Rattle.binary_file.specs.Reading.{AtHeader, feed}
-use Rattle.spellings.specs.declared.form.Spelling.{Spelling}
-use Rattle.spellings.specs.declared.form.Spelling.TheVariants.{Ascii, Binary}
-use Rattle.spellings.specs.Spellings.{spelling_of}
+use Rattle.file_words.specs.declared.spelling.Spelling.{Spelling}
+use Rattle.file_words.specs.declared.spelling.Spelling.TheVariants.{Ascii, Binary}
+use Rattle.aig_binary.specs.Spellings.{spelling_of}
 
 -- the fault of the bytes of an ASCII file, and of a binary one, whatever follows
 abbrev pub ascii_fed : List ℕ → Result (Unit {0}) ReadError

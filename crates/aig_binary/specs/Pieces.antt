@@ -3,7 +3,7 @@ use Rattle.std.specs.Prelude.{ℕ, ◌++◌, ◌≡◌, ◌⊎◌, true, List, E
 use Rattle.file_words.specs.declared.fault.ReadError.{ReadError}
 use Rattle.file_words.specs.declared.fault.ReadError.TheVariants.{NoMemory}
 use Rattle.file_words.specs.Codes.{is_fault_of_bytes}
-use Rattle.spellings.specs.Spellings.{read_any}
+use Rattle.aig_binary.specs.Spellings.{read_any}
 
 -- the bytes have this fault, whatever follows them
 pub record FailsFrom (bytes : List ℕ) (e : ReadError) : Type 0 where

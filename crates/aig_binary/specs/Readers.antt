@@ -4,9 +4,9 @@ use Rattle.file_words.specs.declared.fault.ReadError.{ReadError}
 use Rattle.file_words.specs.declared.fault.ReadError.TheVariants.{BadHeader}
 use Rattle.aag_text.specs.Readers as ascii
 use Rattle.binary_reader.specs.Holding as binary
-use Rattle.spellings.specs.declared.form.Spelling.{Spelling}
-use Rattle.spellings.specs.declared.form.Spelling.TheVariants.{Ascii, Binary}
-use Rattle.spellings.specs.Spellings.{spelling_of}
+use Rattle.file_words.specs.declared.spelling.Spelling.{Spelling}
+use Rattle.file_words.specs.declared.spelling.Spelling.TheVariants.{Ascii, Binary}
+use Rattle.aig_binary.specs.Spellings.{spelling_of}
 use Rattle.aig_binary.specs.declared.any_reader.AnyReader.{AnyReader}
 use Rattle.aig_binary.specs.declared.any_reader.Phase.{Phase}
 use Rattle.aig_binary.specs.declared.any_reader.Phase.TheVariants.{Letters, InAscii, InBinary, Neither}

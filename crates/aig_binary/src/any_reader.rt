@@ -8,8 +8,7 @@ use aag_text::AagReader;
 use aig_graph::Circuit;
 use arrayvec::ArrayVec;
 use binary_reader::AigReader;
-use file_words::ReadError;
-use spellings::Spelling;
+use file_words::{ReadError, Spelling};
 use std::alloc::Global;
 use std::mem;
 
@@ -36,7 +35,7 @@ impl AnyReader {
     ghost use Rattle.file_words.specs.declared.fault.ReadError.{ReadError};
     ghost use Rattle.file_words.specs.declared.fault.ReadError.TheVariants.{BadHeader};
     ghost use Rattle.ascii_file.specs.Answering.{Gives};
-    ghost use Rattle.spellings.specs.Spellings.{spelling_of, read_any};
+    ghost use Rattle.aig_binary.specs.Spellings.{spelling_of, read_any};
     ghost use Rattle.aig_binary.specs.Fed.{fed_any};
     ghost use Rattle.aig_binary.specs.Readers.{Holds, fault_of, spelling_read};
 

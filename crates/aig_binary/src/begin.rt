@@ -1,16 +1,16 @@
 ghost use Rattle.std.specs.Prelude.{◌≡◌, ◌++◌, Some, IfErr};
 ghost use Rattle.ascii_file.specs.Answering.{Gives};
-ghost use Rattle.spellings.specs.declared.form.Spelling.TheVariants.{Ascii, Binary};
-ghost use Rattle.spellings.specs.Spellings.{spelling_of};
+ghost use Rattle.file_words.specs.declared.spelling.Spelling.TheVariants.{Ascii, Binary};
+ghost use Rattle.aig_binary.specs.Spellings.{spelling_of};
 ghost use Rattle.aig_binary.specs.Fed.{fed_any};
 ghost use Rattle.aig_binary.specs.Readers.{PhaseHolds, phase_fault};
 
 use crate::any_reader::Phase;
+use crate::first_bytes::spelling;
 use crate::letters::{LETTERS, first_letters};
 use aag_text::AagReader;
 use binary_reader::AigReader;
-use file_words::ReadError;
-use spellings::{Spelling, spelling};
+use file_words::{ReadError, Spelling};
 use std::alloc::Global;
 
 /// How far a file has come with a piece, and what the piece answers.

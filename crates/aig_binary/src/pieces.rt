@@ -1,10 +1,9 @@
 ghost use Rattle.std.specs.Prelude.{ℕ, List, ◌≡◌, ◌++◌, IfOk, OnOk, IfErr, Ok};
-ghost use Rattle.spellings.specs.Spellings.{read_any, spelling_of};
+ghost use Rattle.aig_binary.specs.Spellings.{read_any, spelling_of};
 ghost use Rattle.aig_binary.specs.Pieces.{IsFeedError, IsFinishError};
 
 use aig_graph::Circuit;
-use file_words::ReadError;
-use spellings::Spelling;
+use file_words::{ReadError, Spelling};
 
 /// What reads a circuit of either spelling from bytes that come in pieces, however they are cut.
 pub trait CircuitReader {

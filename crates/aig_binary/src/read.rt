@@ -1,6 +1,6 @@
 ghost use Rattle.std.specs.Prelude.{ℕ, List, ◌++◌};
 ghost use Rattle.ascii_file.specs.Answering.{Gives};
-ghost use Rattle.spellings.specs.Spellings.{read_any};
+ghost use Rattle.aig_binary.specs.Spellings.{read_any};
 ghost use Rattle.aig_binary.specs.Readers.{Holds};
 
 use crate::any_reader::AnyReader;

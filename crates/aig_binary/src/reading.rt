@@ -1,5 +1,5 @@
 ghost use Rattle.std.specs.Prelude.{ℕ, List, ◌≡◌, [], IfOk, OnOk, IfErr, Ok, Some};
-ghost use Rattle.spellings.specs.Spellings.{read_any, spelling_of};
+ghost use Rattle.aig_binary.specs.Spellings.{read_any, spelling_of};
 ghost use Rattle.aig_binary.specs.Pieces.{IsFinishError};
 ghost use Rattle.aig_binary.specs.Ending.{IsReadError, ReadsToEnd, Spells};
 
@@ -7,8 +7,7 @@ use crate::pieces::CircuitReader;
 use crate::rest::{PIECE, drop_rest, next_piece};
 use aig_graph::Circuit;
 use counted_io::CountedRead;
-use file_words::ReadError;
-use spellings::Spelling;
+use file_words::{ReadError, Spelling};
 
 /// A circuit that was read, and the spelling of its bytes.
 #[derive(Drop)]

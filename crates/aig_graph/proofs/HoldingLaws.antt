@@ -1,16 +1,16 @@
 -- Looking up names, and the latches that they hold.
 use Rattle.std.proofs.Common.{ℕ, ◌+◌, ◌<◌, ◌≡◌, ◌||◌, not, Bool, true, false, cond, List, [], ◌∷◌, ◌++◌, take, map, filter, length, get_or, Some, None, refl, arith, ap, ap₂, sym, ◌∙◌, nat_lt, nat_eq}
-use Rattle.std.specs.List.{list_any, AllPairs}
+use Rattle.std.specs.List.{All, list_any, AllPairs}
 use Rattle.std.specs.List.Sorted.{IsStrictlyIncreasing}
 use Rattle.std.proofs.lemmas.Bool.{lt-ltb, le-ltb, ne_eqb}
 use Rattle.std.proofs.lemmas.List.{get_or-map, length-map}
-use Rattle.std.proofs.lemmas.List.Elements.{filter_more}
+use Rattle.std.proofs.lemmas.List.Elements.{All-filter, All-map, filter_more}
 use Rattle.std.proofs.lemmas.List.Folds.{list_any_more}
 use Rattle.std.proofs.lemmas.List.Kept.{AllPairs-from_increasing, AllPairs-filter}
 use Rattle.std.proofs.lemmas.List.Sums.{position_or_len_is}
 use Rattle.aig_graph.specs.declared.properties.Symbol.{Symbol}
-use Rattle.aig_graph.specs.Circuits.{AreNamesBelow}
-use Rattle.aig_graph.specs.Keep.{is_named, held_by, has_name, first_missing}
+use Rattle.aig_graph.specs.Circuits.{AreNamesBelow, IsNetlist, Netlist}
+use Rattle.aig_graph.specs.Keep.{is_named, held_by, held_in, has_name, first_missing}
 
 -- one more element of a list that a look-up finds
 pub found-more : {X : Type 0} (p : X → Bool) (xs : List X) (i : ℕ) (d : X) (b found : Bool) → i < length xs → b ≡ p (get_or xs i d) → found ≡ list_any p (take i xs)
@@ -96,6 +96,13 @@ held-rising names symbols n valid k h =
     let first = get_or-map position_of kept k nothing 0 (omega (arith, long)) in
     let second = get_or-map position_of kept (k + 1) nothing 0 (omega (arith, long)) in
     omega (arith, less, first, second)
+
+-- the held latches of a circuit are among its latches
+pub held-below : (names : List (List ℕ)) (c : Netlist) → IsNetlist c → All (λ j. j < length c.aig.latches) (held_in names c)
+unfolding held_by
+held-below names c netlist =
+    All-map (λ j. j < length c.aig.latches) position_of (filter (is_named names) c.symbols.latches)
+    (All-filter (is_named names) (λ s. s.position < length c.aig.latches) c.symbols.latches netlist.symbols.latches.below)
 
 -- no names hold nothing
 pub held-nobody : (symbols : List Symbol) → held_by [] symbols ≡ []

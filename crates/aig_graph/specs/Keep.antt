@@ -1,6 +1,8 @@
 -- The latches that names hold.
-use Rattle.std.specs.Prelude.{ℕ, Bool, not, List, map, filter, bytes_eq, Option}
+use Rattle.std.specs.Prelude.{ℕ, ◌≡◌, Bool, not, List, map, filter, bytes_eq, Option, None, Some}
+use Rattle.std.specs.Global.{Vec}
 use Rattle.std.specs.List.{list_any, position}
+use Rattle.aig_graph.specs.Circuits.{Netlist}
 use Rattle.aig_graph.specs.declared.properties.Symbol.{Symbol}
 use Rattle.aig_graph.specs.declared.holding.KeepError.{KeepError}
 use Rattle.aig_graph.specs.declared.holding.KeepError.TheVariants.{NoSuchName, NoMemory}
@@ -20,6 +22,22 @@ has_name symbols name = list_any (λ s. bytes_eq name s.name) symbols
 -- the place, from 0, of the first name that no symbol has
 unfoldable pub first_missing : List Symbol → List (List ℕ) → Option ℕ
 first_missing symbols names = position (λ name. not (has_name symbols name)) names
+
+-- the texts of names
+abbrev pub names_of : List (Vec ℕ) → List (List ℕ)
+names_of names = map (λ name. name.items) names
+
+-- the positions of the latches that the names hold
+abbrev pub held_in : List (List ℕ) → Netlist → List ℕ
+held_in names c = held_by names c.symbols.latches
+
+-- each of the names is that of a latch
+abbrev pub NoneMissing : List (List ℕ) → Netlist → Type 0
+NoneMissing names c = first_missing c.symbols.latches names ≡ None
+
+-- the name at this place, from 0, is the first that no latch has
+abbrev pub IsFirstMissing : List (List ℕ) → Netlist → ℕ → Type 0
+IsFirstMissing names c place = first_missing c.symbols.latches names ≡ Some place
 
 abbrev pub keep_error_code : KeepError → ℕ
 keep_error_code (NoSuchName place) = 1

@@ -39,15 +39,22 @@ impl Circuit {
         }
     }
 
+    /// What holds of every circuit. Costs nothing: a caller sees the value of a circuit alone, and has its invariant by this call.
+    pub fn known(&self)
+        ensures graph { IsGraph self.now.aig }
+        ensures netlist { IsNetlist self.now }
+    {
+        self.aig.known();
+    }
+
     /// The graph.
     pub fn aig(&self) -> &Aig
         ensures value { result.now ≡ self.now.aig }
         ensures graph { IsGraph self.now.aig }
         ensures netlist { IsNetlist self.now }
     {
-        let aig = &self.aig;
-        let _gates = aig.gates();
-        aig
+        self.aig.known();
+        &self.aig
     }
 
     /// The properties.

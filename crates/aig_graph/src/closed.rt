@@ -64,7 +64,7 @@ pub fn is_closed(aig: &Aig, set: &ClosedSet, keep: &Keep) -> bool
     ensures { IsTrue result ↔ IsClosedSet aig.now keep.now set.now }
 {
     // That fan-ins come before their gates is what a graph's readers ensure.
-    let _gates = aig.gates();
+    aig.known();
     each_rests_on(aig, set, keep)
 }
 

@@ -1,8 +1,8 @@
 //! Holding latches by their symbols' names.
-ghost use Rattle.std.specs.Prelude.{ℕ, List, ◌≡◌, map, bytes_eq, IfOk, OnOk, IsErrOf, None, Some};
+ghost use Rattle.std.specs.Prelude.{ℕ, List, ◌≡◌, map, bytes_eq, IfOk, OnOk, IsErrOf};
 ghost use Rattle.std.specs.HashSet.{contains_by};
 ghost use Rattle.std.specs.List.{list_any};
-ghost use Rattle.aig_graph.specs.Keep.{held_by, has_name, first_missing};
+ghost use Rattle.aig_graph.specs.Keep.{IsFirstMissing, NoneMissing, first_missing, has_name, held_by, held_in, names_of};
 ghost use Rattle.aig_graph.specs.declared.holding.KeepError.TheVariants.{NoMemory, NoSuchName};
 
 use crate::circuit::Circuit;
@@ -11,6 +11,7 @@ use crate::properties::Symbol;
 use std::alloc::{AllocError, AllocFailed, Global};
 use std::collections::HashSet;
 use thiserror::Error;
+use variable_tables::NoMemory;
 
 /// Why latches can't be held by name.
 #[derive(Clone, Copy, Debug, PartialEq, Eq, Error)]
@@ -116,13 +117,10 @@ fn held_by(alloc: Global, symbols: &[Symbol], names: &[Vec<u8>]) -> Result<Vec<u
 ///
 /// `NoSuchName` with the place of the first name that no latch has; `NoMemory` where memory is refused.
 pub fn keep_of(alloc: Global, circuit: &Circuit, names: &[Vec<u8>]) -> Result<Keep, KeepError>
-    ensures ok { IfOk result (λ keep. keep ≡ held_by
-        (map (λ name. name.items) names.now) circuit.now.symbols.latches) }
-    ensures none_missing { OnOk result (first_missing circuit.now.symbols.latches
-        (map (λ name. name.items) names.now) ≡ None) }
+    ensures ok { IfOk result (λ keep. keep ≡ held_in (names_of names.now) circuit.now) }
+    ensures none_missing { OnOk result (NoneMissing (names_of names.now) circuit.now) }
     ensures missing { (place : ℕ) → IsErrOf result (NoSuchName place)
-        → first_missing circuit.now.symbols.latches (map (λ name. name.items) names.now)
-        ≡ Some place }
+        → IsFirstMissing (names_of names.now) circuit.now place }
 {
     if names.is_empty() {
         return Ok(Keep::none());
@@ -132,4 +130,20 @@ pub fn keep_of(alloc: Global, circuit: &Circuit, names: &[Vec<u8>]) -> Result<Ke
         return Err(KeepError::NoSuchName(place));
     }
     Ok(Keep::new(held_by(alloc, symbols, names)?))
+}
+
+/// The latches that the names hold, in a circuit that has latches of all names: [`keep_of`] with no name missing.
+///
+/// # Errors
+///
+/// `NoMemory` where memory is refused.
+pub fn keep_by_names(alloc: Global, circuit: &Circuit, names: &[Vec<u8>]) -> Result<Keep, NoMemory>
+    requires { NoneMissing (names_of names.now) circuit.now }
+    ensures { IfOk result (λ keep. keep ≡ held_in (names_of names.now) circuit.now) }
+{
+    match keep_of(alloc, circuit, names) {
+        Ok(keep) => Ok(keep),
+        Err(KeepError::NoMemory) => Err(NoMemory),
+        Err(KeepError::NoSuchName(_)) => unreachable!(),
+    }
 }

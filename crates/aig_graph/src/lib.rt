@@ -23,7 +23,7 @@ pub use build::{AigBuilder, BuildError};
 pub use circuit::Circuit;
 pub use closed::{ClosedSet, is_closed};
 pub use graph::{Aig, Gate, Latch, Reset, reset_value};
-pub use holding::{KeepError, keep_of};
+pub use holding::{KeepError, keep_by_names, keep_of};
 pub use keep::Keep;
 pub use laws::{set_laws, stream_laws, value_laws};
 pub use literal::{Lit, MAX_VARIABLES};

@@ -16,3 +16,4 @@ pub mod OwnLiteralLaws
 pub mod RoundTripLaws
 pub mod PieceLaws
 pub mod AnsweringLaws
+pub mod OneLineLaws

@@ -1,1 +1,2 @@
 pub mod FileOutcomeLaws
+pub mod OutcomeLaws

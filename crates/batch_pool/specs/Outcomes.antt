@@ -1,15 +1,15 @@
 -- What becomes of the bytes of a file by options.
-use Rattle.std.specs.Prelude.{ℕ, ◌≡◌, ⊤, true, List, Some, Ok, Err, length}
+use Rattle.std.specs.Prelude.{ℕ, ◌≡◌, ⊤, true, List, Some, Ok, Err, length, slice_get}
 use Rattle.file_words.specs.declared.fault.ReadError.{ReadError}
 use Rattle.file_words.specs.Codes.{is_fault_of_bytes}
 use Rattle.aig_graph.specs.Circuits.{Netlist}
-use Rattle.aig_graph.specs.Keep.{first_missing}
-use Rattle.spellings.specs.Spellings.{spelling_of, read_any}
+use Rattle.aig_binary.specs.Spellings.{spelling_of, read_any}
 use Rattle.aig_binary.specs.declared.reading.SpeltCircuit.{SpeltCircuit}
 use Rattle.retimed_circuits.specs.declared.report.Retimed.{Retimed}
 use Rattle.frames.specs.declared.options.Options.{Options}
-use Rattle.frames.specs.Named.{names_in}
+use Rattle.frames.specs.Named.{IsFirstMissingBy}
 use Rattle.frames.specs.Answering.{IsAnswer, ReadsBack, text_for}
+use Rattle.batch_pool.specs.declared.job.Job.{Job}
 use Rattle.batch_pool.specs.declared.job.Outcome.{Outcome}
 use Rattle.batch_pool.specs.declared.job.Outcome.TheVariants.{Done, Refused, NoMemory, NoSuchName}
 
@@ -35,7 +35,7 @@ pub record IsRefused (bytes : List ℕ) (fault : ReadError) : Type 0 where
 pub record IsUnnamed (bytes : List ℕ) (options : Options) (place : ℕ) : Type 0 where
   pub circuit : Netlist
   pub read : read_any bytes ≡ Ok circuit
-  pub missing : first_missing circuit.symbols.latches (names_in options) ≡ Some place
+  pub missing : IsFirstMissingBy options circuit place
 
 -- what becomes of the bytes of a file; want of memory says nothing of them
 abbrev pub IsOutcome : List ℕ → Options → Outcome → Type 0
@@ -43,3 +43,8 @@ IsOutcome bytes options (Done text before after frames) = IsDone bytes options t
 IsOutcome bytes options (Refused fault) = IsRefused bytes fault
 IsOutcome bytes options NoMemory = ⊤
 IsOutcome bytes options (NoSuchName place) = IsUnnamed bytes options place
+
+-- what becomes of each job, in their order
+pub record AreOutcomes (options : Options) (jobs : List Job) (outcomes : List Outcome) : Type 0 where
+  pub many : length outcomes ≡ length jobs
+  pub each : (k : ℕ) (job : Job) (outcome : Outcome) → slice_get jobs k ≡ Some job → slice_get outcomes k ≡ Some outcome → IsOutcome job.bytes.items options outcome

@@ -1,7 +1,6 @@
-ghost use Rattle.std.specs.Prelude.{◌≡◌, ℕ, ◌<◌, IfOk, length, slice_index_or};
+ghost use Rattle.std.specs.Prelude.{◌<◌, IfOk, length, slice_index_or};
 ghost use Rattle.batch_pool.specs.declared.job.Job.{Job};
-ghost use Rattle.batch_pool.specs.declared.job.Outcome.{Outcome};
-ghost use Rattle.batch_pool.specs.Outcomes.{IsOutcome};
+ghost use Rattle.batch_pool.specs.Outcomes.{AreOutcomes, IsOutcome};
 
 use crate::error::BatchError;
 use crate::job::{Job, Outcome, retime_file};
@@ -27,11 +26,7 @@ pub fn run_batch<G: PhaseGate>(
     options: &Options,
     crew: &Crew<G>,
 ) -> Result<Vec<Outcome>, BatchError>
-    ensures len { IfOk result (λ outcomes. length outcomes.items ≡ length jobs.now) }
-    ensures each { IfOk result (λ outcomes. (k : ℕ) (job : Job) (outcome : Outcome)
-        → k < length jobs.now
-        → IsOutcome (slice_index_or jobs.now k job).bytes.items options.now
-        (slice_index_or outcomes.items k outcome)) }
+    ensures { IfOk result (λ outcomes. AreOutcomes options.now jobs.now outcomes.items) }
 {
     let retime = |number: u64| -> Outcome
         requires { number < length jobs.now }

@@ -9,6 +9,6 @@ mod error;
 mod job;
 
 pub use batch::run_batch;
-pub use draws::{Drawer, Draws};
 pub use error::BatchError;
 pub use job::{Job, Outcome};
+pub use job_pool::{Drawer, Draws};

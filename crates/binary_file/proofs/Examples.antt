@@ -7,7 +7,7 @@ use Rattle.file_words.specs.declared.fault.ReadError.TheVariants.{BadHeader, Too
 use Rattle.file_words.specs.Lines.{pieces, numbers_of}
 use Rattle.file_words.specs.Text.{text, latch_row, gate_row, symbol_line}
 use Rattle.counted_io.specs.Line.{line, spaced}
-use Rattle.deltas.specs.Deltas.{delta_value}
+use Rattle.binary_file.specs.Deltas.{delta_value, delta_of, bytes_within}
 use Rattle.ascii_file.specs.Raw.{nothing_yet}
 use Rattle.ascii_file.specs.Items.{item_of, begins_comment}
 use Rattle.ascii_file.specs.Meaning.{props_of, symbols_of}
@@ -62,3 +62,40 @@ refused = refl
 many_inputs : read_raw (codes "aig 268435455 268435455 0 0 0\n") ≡ Ok (record { greatest = 268435455; inputs = 268435455; latches = 0; outputs = 0; gates = 0; bad = 0; constraints = 0; justice = 0; fairness = 0 }, nothing_yet)
 unfolding read_raw feed end_line read_line read_header next_section header_of pieces numbers_of ascii.next_section
 many_inputs = refl
+
+zero_delta : delta_of 0 ≡ 0 ∷ []
+unfolding bytes_within
+zero_delta = refl
+
+small : delta_of 2 ≡ 2 ∷ []
+unfolding bytes_within
+small = refl
+
+greatest_of_one_byte : delta_of 127 ≡ 127 ∷ []
+unfolding bytes_within
+greatest_of_one_byte = refl
+
+two_bytes : delta_of 128 ≡ 128 ∷ 1 ∷ []
+unfolding bytes_within
+two_bytes = refl
+
+three_hundred : delta_of 300 ≡ 172 ∷ 2 ∷ []
+unfolding bytes_within
+three_hundred = refl
+
+three_bytes : delta_of 16384 ≡ 128 ∷ 128 ∷ 1 ∷ []
+unfolding bytes_within
+three_bytes = refl
+
+greatest_variable : delta_of 268435455 ≡ 255 ∷ 255 ∷ 255 ∷ 127 ∷ []
+unfolding bytes_within
+greatest_variable = refl
+
+five_bytes : delta_of 536870910 ≡ 254 ∷ 255 ∷ 255 ∷ 255 ∷ 1 ∷ []
+unfolding bytes_within
+five_bytes = refl
+
+-- more bytes than are wanted
+spelled_at_length : delta_value (130 ∷ 0 ∷ []) ≡ 2
+unfolding delta_value
+spelled_at_length = refl

@@ -4,7 +4,7 @@ use Rattle.aig_graph.specs.Circuits.{Netlist}
 use Rattle.file_words.specs.declared.fault.ReadError.{ReadError}
 use Rattle.file_words.specs.declared.fault.ReadError.TheVariants.{BadDelta, Truncated}
 use Rattle.file_words.specs.Codes.{is_fault_of_bytes}
-use Rattle.deltas.specs.Deltas.{delta_value}
+use Rattle.binary_file.specs.Deltas.{delta_value}
 use Rattle.ascii_file.specs.declared.header.Header.{Header}
 use Rattle.ascii_file.specs.Raw.{Raw, nothing_yet}
 use Rattle.ascii_file.specs.Items.{Item, InputItem, LatchItem, SafetyItem, SizeItem, LivenessItem, GateItem, SymbolItem, begins_comment}

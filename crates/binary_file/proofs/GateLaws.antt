@@ -4,7 +4,7 @@ use Rattle.std.proofs.lemmas.Bool.{cond-true, ltb-false, le-ltb, eqb-false, ne_e
 use Rattle.std.proofs.lemmas.List.{length-append}
 use Rattle.file_words.specs.declared.fault.ReadError.{ReadError}
 use Rattle.file_words.specs.declared.fault.ReadError.TheVariants.{BadDelta}
-use Rattle.deltas.specs.Deltas.{is_delta, delta_value}
+use Rattle.binary_file.specs.Deltas.{is_delta, delta_value}
 use Rattle.ascii_file.specs.declared.header.Header.{Header}
 use Rattle.ascii_file.specs.declared.raw.RawGate.{RawGate}
 use Rattle.ascii_file.specs.declared.raw.Section.TheVariants.{Gates}

@@ -6,3 +6,4 @@ pub mod GateLaws
 pub mod FileLaws
 pub mod PieceLaws
 pub mod CountLaws
+pub mod DeltaLaws

@@ -1,7 +1,7 @@
 -- What it means that bytes are a binary file.
 use Rattle.std.specs.Prelude.{ℕ, ◌+◌, ◌*◌, ◌^◌, ◌<◌, ◌≤◌, ◌≡◌, ◌≢◌, ◌⊎◌, true, false, List, [], ◌∷◌, ◌++◌, length, Some}
 use Rattle.std.specs.List.{list_any, sum}
-use Rattle.deltas.specs.Deltas.{is_delta, delta_value}
+use Rattle.binary_file.specs.Deltas.{is_delta, delta_value}
 use Rattle.ascii_file.specs.declared.header.Header.{Header}
 use Rattle.ascii_file.specs.declared.raw.RawGate.{RawGate}
 use Rattle.ascii_file.specs.declared.raw.Section.TheVariants.{Gates, Symbols}

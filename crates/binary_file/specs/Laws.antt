@@ -1,5 +1,5 @@
--- What holds of reading.
-use Rattle.std.specs.Prelude.{ℕ, ◌≡◌, List, [], ◌++◌, Ok, Err}
+-- What holds of reading, and of deltas of at most five bytes.
+use Rattle.std.specs.Prelude.{ℕ, ◌≡◌, List, [], ◌++◌, Ok, Err, ◌≤◌, length, IsTrue}
 use Rattle.aig_graph.specs.Circuits.{Netlist}
 use Rattle.file_words.specs.declared.fault.ReadError.{ReadError}
 use Rattle.ascii_file.specs.declared.header.Header.{Header}
@@ -8,6 +8,7 @@ use Rattle.ascii_file.specs.Reading.{◌>>=◌}
 use Rattle.ascii_file.specs.Files.{IsCountedBy}
 use Rattle.binary_file.specs.Files.{IsBinaryFile}
 use Rattle.binary_file.specs.Reading.{AtHeader, feed, circuit_of, read_binary, IsFaultOf}
+use Rattle.binary_file.specs.Deltas.{delta_value, is_delta, delta_of}
 
 -- reading gives a circuit exactly where the bytes are a file of a raw circuit, and then that one's; else a fault of the bytes
 pub record ReadingLaw (bytes : List ℕ) : Type 0 where
@@ -24,3 +25,13 @@ pub record PiecesLaw (bytes more : List ℕ) : Type 0 where
 -- a file has as many items of each section as its header says; inputs aren't listed
 abbrev pub CountsLaw : List ℕ → Type 0
 CountsLaw bytes = (h : Header) (raw : Raw) → IsBinaryFile bytes h raw → IsCountedBy (record h { inputs = 0 }) raw
+
+pub record DeltaLaws (n : ℕ) : Type 0 where
+  pub value : delta_value (delta_of n) ≡ n
+  pub form : IsTrue (is_delta (delta_of n))
+  pub shortest : (bytes : List ℕ) → IsTrue (is_delta bytes) → delta_value bytes ≡ n → length (delta_of n) ≤ length bytes
+
+-- where one delta ends, none of another length ends
+abbrev pub EndsOnce : List ℕ → List ℕ → List ℕ → List ℕ → Type 0
+EndsOnce first second rest other =
+    IsTrue (is_delta first) → IsTrue (is_delta second) → first ++ rest ≡ second ++ other → first ≡ second

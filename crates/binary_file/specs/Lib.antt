@@ -3,3 +3,4 @@ pub mod Items
 pub mod Reading
 pub mod Files
 pub mod Laws
+pub mod Deltas

@@ -1,5 +1,5 @@
-ghost use Rattle.std.specs.Prelude.{ℕ, List};
-ghost use Rattle.binary_file.specs.Laws.{CountsLaw, PiecesLaw, ReadingLaw};
+ghost use Rattle.std.specs.Prelude.{ℕ, List, ◌<◌, ◌^◌};
+ghost use Rattle.binary_file.specs.Laws.{CountsLaw, PiecesLaw, ReadingLaw, DeltaLaws, EndsOnce};
 
 /// Bytes are read, byte by byte, as a circuit exactly where they are a binary file of a raw circuit, and as the circuit
 /// of that raw circuit, as listed. Else what is read is a fault of the bytes.
@@ -16,4 +16,11 @@ pub fn pieces_law()
 /// A binary file has as many items of each section as its header says.
 pub fn counts_law()
     ensures { (bytes : List ℕ) → CountsLaw bytes }
+{}
+
+/// The bytes of a number below 2^35 are a delta that spells it, and none that does is shorter. Of bytes that go on, just
+/// one beginning is a delta.
+pub fn delta_laws()
+    ensures spelled { (n : ℕ) → n < 2 ^ 35 → DeltaLaws n }
+    ensures once { (first second rest other : List ℕ) → EndsOnce first second rest other }
 {}

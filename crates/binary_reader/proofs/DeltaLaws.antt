@@ -9,11 +9,11 @@ use Rattle.ascii_file.specs.Reading.{◌>>=◌}
 use Rattle.ascii_file.specs.Answering.{Fails}
 use Rattle.ascii_file.proofs.CheckLaws.{unless_ok, same_ok}
 use Rattle.ascii_file.proofs.AnsweringLaws.{Fails-as, Fails-bind, Fails-with}
-use Rattle.deltas.specs.Deltas.{delta_value}
+use Rattle.binary_file.specs.Deltas.{delta_value}
 use Rattle.binary_file.specs.Items.{next_gate}
 use Rattle.binary_file.specs.Reading.{InSecond, before_item, end_first, end_second}
-use Rattle.binary_sections.specs.Taking.{read_first, read_second}
-use Rattle.binary_sections.proofs.GateLaws.{end_first_is, end_second_is}
+use Rattle.binary_reader.specs.Taking.{read_first, read_second}
+use Rattle.binary_reader.proofs.GateLaws.{end_first_is, end_second_is}
 
 -- a first fan-in is below the gate's literal
 pub first_falls : (h : Header) (raw : Raw) (at delta rhs0 : ℕ) → Ok rhs0 ≡ read_first h raw at delta → rhs0 < next_gate h raw

@@ -8,11 +8,11 @@ use Rattle.ascii_file.specs.Items.{begins_comment}
 use Rattle.ascii_file.specs.Reading.{◌>>=◌, is_symbols}
 use Rattle.ascii_file.specs.Answering.{Fails}
 use Rattle.ascii_file.proofs.AnsweringLaws.{Fails-bind, Fails-as}
-use Rattle.file_lines.specs.declared.numbers.NumberLine.{NumberLine}
-use Rattle.file_lines.specs.declared.symbols.SymbolLine.{SymbolLine}
+use Rattle.reader_parts.specs.declared.numbers.NumberLine.{NumberLine}
+use Rattle.reader_parts.specs.declared.symbols.SymbolLine.{SymbolLine}
 use Rattle.binary_file.specs.Items.{next_section}
 use Rattle.binary_file.specs.Reading.{State, InLine, InComment, before_item, read_line, end_line, step}
-use Rattle.binary_sections.specs.Contents.{Contents}
+use Rattle.binary_reader.specs.Contents.{Contents}
 use Rattle.binary_reader.specs.Opened.{IsInNumbers, IsInSymbol}
 
 pub item_line : (h : Header) (raw : Raw) (at : ℕ) (line : List ℕ) → (is_symbols (next_section h raw) && begins_comment line) ≡ false

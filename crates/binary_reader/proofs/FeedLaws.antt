@@ -9,15 +9,15 @@ use Rattle.ascii_file.specs.Raw.{Raw}
 use Rattle.ascii_file.specs.Reading.{◌>>=◌}
 use Rattle.ascii_file.specs.Answering.{Fails}
 use Rattle.ascii_file.proofs.AnsweringLaws.{Fails-bind, Fails-as}
-use Rattle.file_lines.specs.declared.numbers.NumberLine.{NumberLine}
-use Rattle.file_lines.specs.declared.symbols.SymbolLine.{SymbolLine}
-use Rattle.file_lines.specs.Rows.{row_of}
-use Rattle.file_lines.specs.Open.{numbers_with}
-use Rattle.file_lines.specs.Symbols.{text_of, text_with}
-use Rattle.deltas.specs.Deltas.{delta_value}
+use Rattle.reader_parts.specs.declared.numbers.NumberLine.{NumberLine}
+use Rattle.reader_parts.specs.declared.symbols.SymbolLine.{SymbolLine}
+use Rattle.reader_parts.specs.Rows.{row_of}
+use Rattle.reader_parts.specs.Open.{numbers_with}
+use Rattle.reader_parts.specs.Symbols.{text_of, text_with}
+use Rattle.binary_file.specs.Deltas.{delta_value}
 use Rattle.binary_file.specs.Reading.{State, InLine, InComment, end_line, step, feed}
 use Rattle.binary_file.proofs.StepLaws.{comment_fed}
-use Rattle.binary_sections.specs.Contents.{Contents}
+use Rattle.binary_reader.specs.Contents.{Contents}
 use Rattle.binary_reader.specs.declared.items.Items.{Items}
 use Rattle.binary_reader.specs.declared.opened.Opened.{Opened}
 use Rattle.binary_reader.specs.declared.opened.Opened.TheVariants.{Comment}

@@ -14,8 +14,8 @@ use Rattle.ascii_file.specs.Answering.{Gives, Fails}
 use Rattle.ascii_file.proofs.AnsweringLaws.{Fails-as, Fails-bind}
 use Rattle.binary_file.specs.Items.{next_section}
 use Rattle.binary_file.specs.Reading.{State, InLine, InFirst, InSecond, InComment, is_gates, before_item, complete, finish, end_line, read_line, circuit_of}
-use Rattle.binary_sections.specs.Taking.{circuit_at_end}
-use Rattle.binary_sections.specs.Contents.{Contents, IsAt}
+use Rattle.binary_reader.specs.Taking.{circuit_at_end}
+use Rattle.binary_reader.specs.Contents.{Contents, IsAt}
 use Rattle.binary_reader.specs.Opened.{TakesText}
 use Rattle.binary_reader.specs.Standing.{circuit_at}
 use Rattle.binary_reader.proofs.EndLaws.{item_line, comment_line}

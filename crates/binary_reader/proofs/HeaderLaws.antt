@@ -7,9 +7,9 @@ use Rattle.ascii_file.specs.declared.header.Header.{Header}
 use Rattle.ascii_file.specs.Headers.{header_in}
 use Rattle.ascii_file.specs.Reading.{◌>>=◌, unless}
 use Rattle.ascii_file.proofs.CheckLaws.{Passes, unless_ok, same_ok}
-use Rattle.file_lines.specs.Header.{header_row}
-use Rattle.file_lines.specs.Limits.{limits, limited}
-use Rattle.file_lines.proofs.HeaderLaws.{cut, IsCuttable, formed, formed-limited, spelt, header-of-row}
+use Rattle.reader_parts.specs.Header.{header_row}
+use Rattle.reader_parts.specs.Limits.{limits, limited}
+use Rattle.reader_parts.proofs.HeaderLaws.{cut, IsCuttable, formed, formed-limited, spelt, header-of-row}
 use Rattle.binary_file.specs.Headers.{header_of, IsHeaderWithin}
 use Rattle.binary_file.specs.Reading.{checked_header, read_header}
 use Rattle.binary_reader.specs.Header.{is_off}

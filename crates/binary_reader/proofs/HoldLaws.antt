@@ -9,12 +9,12 @@ use Rattle.ascii_file.specs.Raw.{nothing_yet}
 use Rattle.ascii_file.specs.Reading.{◌>>=◌}
 use Rattle.ascii_file.specs.Answering.{Fails}
 use Rattle.ascii_file.proofs.AnsweringLaws.{Fails-as, Fails-bind, Fails-where, Fails-with}
-use Rattle.file_lines.specs.declared.header.HeaderLine.{HeaderLine}
-use Rattle.file_lines.specs.Header.{header_row, header_with}
+use Rattle.reader_parts.specs.declared.header.HeaderLine.{HeaderLine}
+use Rattle.reader_parts.specs.Header.{header_row, header_with}
 use Rattle.binary_file.specs.Headers.{header_of}
 use Rattle.binary_file.specs.Reading.{State, AtHeader, before_item, end_header, read_header, step, feed, finish, complete, read_raw, read_binary}
 use Rattle.binary_file.proofs.PieceLaws.{the_pieces_law}
-use Rattle.binary_sections.specs.Taking.{circuit_at_end}
+use Rattle.binary_reader.specs.Taking.{circuit_at_end}
 use Rattle.binary_reader.specs.declared.items.Items.{Items}
 use Rattle.binary_reader.specs.Standing.{Stands, circuit_at}
 use Rattle.binary_reader.specs.Stages.{HoldsHeader, HoldsItems}

@@ -7,3 +7,10 @@ pub mod DeltaLaws
 pub mod FinishLaws
 pub mod HoldLaws
 pub mod ReaderLaws
+pub mod ContentsLaws
+pub mod TakingLaws
+pub mod KeptLaws
+pub mod LineLaws
+pub mod SymbolTextLaws
+pub mod GateLaws
+pub mod CircuitLaws

@@ -3,9 +3,9 @@ use Rattle.std.proofs.Common.{ℕ, ◌≡◌, List, [], ◌∷◌, Option, Some,
 use Rattle.std.proofs.lemmas.List.{append-nil}
 use Rattle.ascii_file.specs.declared.raw.SymbolKind.{SymbolKind}
 use Rattle.ascii_file.specs.Items.{Item, InputItem, LatchItem, SafetyItem, SizeItem, LivenessItem, GateItem, SymbolItem, kind_of, symbol_of, begins_comment}
-use Rattle.file_lines.specs.declared.symbols.SymbolText.TheVariants.{Comment}
-use Rattle.file_lines.specs.declared.symbols.SymbolLine.{SymbolLine}
-use Rattle.file_lines.specs.Symbols.{unnamed, text_without, text_of_item, text_of, text_with}
+use Rattle.reader_parts.specs.declared.symbols.SymbolText.TheVariants.{Comment}
+use Rattle.reader_parts.specs.declared.symbols.SymbolLine.{SymbolLine}
+use Rattle.reader_parts.specs.Symbols.{unnamed, text_without, text_of_item, text_of, text_with}
 use Rattle.binary_reader.specs.Opened.{IsText}
 
 unnamed_isnt : (kind : Option SymbolKind) → unnamed kind ≡ Comment → ⊥

@@ -1,7 +1,7 @@
 -- Pieces and the deltas in them.
 use Rattle.std.specs.Prelude.{ℕ, ◌+◌, ◌<◌, ◌≤◌, ◌≡◌, true, List, [], ◌∷◌, ◌++◌, length, drop, Option, Some, None, Result}
 use Rattle.file_words.specs.declared.fault.ReadError.{ReadError}
-use Rattle.deltas.specs.Deltas.{is_delta, delta_value}
+use Rattle.binary_file.specs.Deltas.{is_delta, delta_value}
 use Rattle.ascii_file.specs.Reading.{◌>>=◌}
 use Rattle.binary_file.specs.Reading.{State, step, feed, delta_step}
 

@@ -4,3 +4,7 @@ pub mod Opened
 pub mod Standing
 pub mod Stages
 pub mod Holding
+pub mod Contents
+pub mod Kept
+pub mod Taking
+pub mod Items

@@ -7,15 +7,15 @@ use Rattle.ascii_file.specs.Raw.{Raw}
 use Rattle.ascii_file.specs.Items.{begins_comment}
 use Rattle.ascii_file.specs.Reading.{is_symbols}
 use Rattle.ascii_file.specs.Answering.{Fails}
-use Rattle.file_lines.specs.declared.numbers.NumberLine.{NumberLine}
-use Rattle.file_lines.specs.declared.symbols.SymbolLine.{SymbolLine}
-use Rattle.file_lines.specs.Rows.{row_of}
-use Rattle.file_lines.specs.Open.{numbers_with}
-use Rattle.file_lines.specs.Symbols.{text_of, text_with}
+use Rattle.reader_parts.specs.declared.numbers.NumberLine.{NumberLine}
+use Rattle.reader_parts.specs.declared.symbols.SymbolLine.{SymbolLine}
+use Rattle.reader_parts.specs.Rows.{row_of}
+use Rattle.reader_parts.specs.Open.{numbers_with}
+use Rattle.reader_parts.specs.Symbols.{text_of, text_with}
 use Rattle.binary_file.specs.Items.{next_section, next_gate}
 use Rattle.binary_file.specs.Reading.{State, InLine, InFirst, InSecond, InComment, read_line}
-use Rattle.binary_sections.specs.Contents.{Contents, IsAt}
-use Rattle.binary_sections.specs.Taking.{Takes}
+use Rattle.binary_reader.specs.Contents.{Contents, IsAt}
+use Rattle.binary_reader.specs.Taking.{Takes}
 use Rattle.binary_reader.specs.declared.opened.Opened.{Opened}
 use Rattle.binary_reader.specs.declared.opened.Opened.TheVariants.{Numbers, Symbol, First, Second, Comment}
 

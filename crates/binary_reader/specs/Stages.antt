@@ -2,8 +2,8 @@
 use Rattle.std.specs.Prelude.{ℕ, ◌≡◌, List, [], ◌++◌, length, Option, Some, None, Result, Ok, Err, codes}
 use Rattle.file_words.specs.declared.fault.ReadError.{ReadError}
 use Rattle.ascii_file.specs.Answering.{Fails}
-use Rattle.file_lines.specs.declared.header.HeaderLine.{HeaderLine}
-use Rattle.file_lines.specs.Header.{header_row, header_with}
+use Rattle.reader_parts.specs.declared.header.HeaderLine.{HeaderLine}
+use Rattle.reader_parts.specs.Header.{header_row, header_with}
 use Rattle.binary_file.specs.Reading.{State, AtHeader, feed}
 use Rattle.binary_reader.specs.declared.items.Items.{Items}
 use Rattle.binary_reader.specs.declared.stage.Stage.{Stage}

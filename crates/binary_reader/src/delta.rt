@@ -6,7 +6,7 @@ ghost use Rattle.file_words.specs.declared.fault.ReadError.TheVariants.{BadDelta
 ghost use Rattle.binary_file.specs.Reading.{State, feed};
 ghost use Rattle.binary_reader.specs.Cutting.{IsShortDelta, AreDeltaStates, IsTaken};
 
-use deltas::{DeltaError, DeltaReader};
+use binary_file::{DeltaError, DeltaReader};
 
 /// Takes bytes of a piece that isn't empty: up to the delta's last byte, whose number is the answer, or a byte of those
 /// before it. What is left of the piece is the answer too.

@@ -1,14 +1,14 @@
 ghost use Rattle.std.specs.Prelude.{ℕ, List, ◌≡◌, ◌∷◌, [], IfOk, Ok, codes};
 ghost use Rattle.ascii_file.specs.Reading.{unless};
 ghost use Rattle.file_words.specs.declared.fault.ReadError.TheVariants.{MaxIndex};
-ghost use Rattle.file_lines.specs.Header.{header_row, header_with};
+ghost use Rattle.reader_parts.specs.Header.{header_row, header_with};
 ghost use Rattle.binary_file.specs.Headers.{IsHeaderWithin};
 ghost use Rattle.binary_file.specs.Reading as reading;
 ghost use Rattle.binary_reader.specs.Header.{is_off};
 
 use ascii_file::Header;
-use file_lines::HeaderLine;
 use file_words::ReadError;
+use reader_parts::HeaderLine;
 
 /// The header of a binary file that the line spells, of which all bytes have come.
 pub(crate) fn binary_header(line: &mut HeaderLine) -> Result<Header, ReadError>

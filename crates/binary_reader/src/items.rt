@@ -13,12 +13,12 @@ ghost use Rattle.binary_reader.specs.Standing.{circuit_at};
 
 use crate::delta::take_delta;
 use crate::opened::{Opened, take_numbers, take_text};
+use crate::sections::Sections;
 use aig_graph::Circuit;
 use ascii_file::Header;
-use binary_sections::Sections;
-use deltas::DeltaReader;
-use file_lines::{NumberLine, SymbolLine};
+use binary_file::DeltaReader;
 use file_words::{ReadError, cut};
+use reader_parts::{NumberLine, SymbolLine};
 use std::alloc::Global;
 use std::mem;
 
@@ -37,11 +37,11 @@ impl Items {
     ghost use Rattle.ascii_file.specs.declared.raw.Section.TheVariants.{Gates};
     ghost use Rattle.ascii_file.specs.Raw.{Raw, nothing_yet};
     ghost use Rattle.ascii_file.specs.Answering.{Gives};
-    ghost use Rattle.deltas.specs.Deltas.{delta_value};
+    ghost use Rattle.binary_file.specs.Deltas.{delta_value};
     ghost use Rattle.binary_file.specs.Headers.{IsHeaderWithin};
     ghost use Rattle.binary_file.specs.Items.{next_section, next_gate};
     ghost use Rattle.binary_file.specs.Reading.{State, before_item, step, feed, end_first, end_second};
-    ghost use Rattle.binary_sections.specs.Contents.{IsAt};
+    ghost use Rattle.binary_reader.specs.Contents.{IsAt};
     ghost use Rattle.binary_reader.specs.Opened.{IsInNumbers, IsInSymbol, IsInFirst, IsInSecond};
     ghost use Rattle.binary_reader.specs.Standing.{Stands, Reaches, Feeds, circuit_at};
 

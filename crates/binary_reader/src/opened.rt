@@ -5,15 +5,15 @@ ghost use Rattle.ascii_file.specs.Raw.{Raw};
 ghost use Rattle.ascii_file.specs.Reading.{is_symbols};
 ghost use Rattle.binary_file.specs.Items.{next_section};
 ghost use Rattle.binary_file.specs.Reading.{before_item, read_line};
-ghost use Rattle.binary_sections.specs.Contents.{Contents, IsAt};
-ghost use Rattle.binary_sections.specs.Taking.{Takes};
+ghost use Rattle.binary_reader.specs.Contents.{Contents, IsAt};
+ghost use Rattle.binary_reader.specs.Taking.{Takes};
 ghost use Rattle.binary_reader.specs.Opened.{IsNumbers, IsText, IsOpened, TakesText};
 
+use crate::sections::Sections;
 use ascii_file::Section;
-use binary_sections::Sections;
-use deltas::DeltaReader;
-use file_lines::{NumberLine, SymbolLine, SymbolText};
+use binary_file::DeltaReader;
 use file_words::ReadError;
+use reader_parts::{NumberLine, SymbolLine, SymbolText};
 use std::alloc::Global;
 
 /// The item that has begun, as far as it has come.

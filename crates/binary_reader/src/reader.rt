@@ -9,8 +9,8 @@ ghost use Rattle.binary_reader.specs.Holding.{Holds};
 
 use crate::stage::Stage;
 use aig_graph::Circuit;
-use file_lines::HeaderLine;
 use file_words::ReadError;
+use reader_parts::HeaderLine;
 use std::alloc::Global;
 use std::mem;
 

@@ -11,11 +11,11 @@ ghost use Rattle.binary_reader.specs.Stages.{HoldsHeader, HoldsResult};
 
 use crate::header::binary_header;
 use crate::items::{Items, offset_of};
+use crate::sections::Sections;
 use aig_graph::Circuit;
 use ascii_file::Header;
-use binary_sections::Sections;
-use file_lines::HeaderLine;
 use file_words::{ReadError, cut};
+use reader_parts::HeaderLine;
 use std::alloc::Global;
 
 /// How far a reader has come.

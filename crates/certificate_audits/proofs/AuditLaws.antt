@@ -5,7 +5,8 @@ use Rattle.aig_graph.specs.Circuits.{Netlist}
 use Rattle.certificates.specs.declared.certificate.Certificate.{Certificate}
 use Rattle.certificates.specs.declared.verdict.Verdict.TheVariants.{Yes}
 use Rattle.certificates.proofs.RouteLaws.{yes-law}
-use Rattle.retimed_circuits.specs.Names.{held_in, held_latches}
+use Rattle.aig_graph.specs.Keep.{held_in}
+use Rattle.retimed_circuits.specs.Names.{held_latches}
 use Rattle.retimed_circuits.specs.Frames.{NoneSmaller}
 use Rattle.certificate_audits.specs.declared.outcome.Audit.{Audit}
 use Rattle.certificate_audits.specs.declared.outcome.End.{End}

@@ -1,3 +1,2 @@
-pub mod HoldingLaws
 pub mod AuditLaws
 pub mod UniqueLaws

@@ -7,7 +7,7 @@ use Rattle.certificates.specs.declared.verdict.Objection.{Objection}
 use Rattle.certificates.specs.declared.verdict.Verdict.{Verdict}
 use Rattle.certificates.specs.declared.verdict.Verdict.TheVariants.{Yes, No}
 use Rattle.certificates.specs.Verdicts.{IsVerdict}
-use Rattle.retimed_circuits.specs.Names.{held_in}
+use Rattle.aig_graph.specs.Keep.{held_in}
 use Rattle.retimed_circuits.specs.Frames.{CleansIn, moved_in}
 use Rattle.certificate_audits.specs.declared.outcome.Audit.{Audit}
 use Rattle.certificate_audits.specs.declared.outcome.End.{End}

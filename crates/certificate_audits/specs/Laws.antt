@@ -4,7 +4,7 @@ use Rattle.aig_graph.specs.Graph.{known_latches}
 use Rattle.aig_graph.specs.Circuits.{Netlist}
 use Rattle.aig_graph.specs.Border.{IsLeast}
 use Rattle.certificates.specs.declared.certificate.Certificate.{Certificate}
-use Rattle.retimed_circuits.specs.Names.{held_in}
+use Rattle.aig_graph.specs.Keep.{held_in}
 use Rattle.retimed_circuits.specs.Frames.{CleansIn, NoneSmaller, count_in}
 use Rattle.certificate_audits.specs.declared.outcome.Audit.{Audit}
 use Rattle.certificate_audits.specs.declared.outcome.End.TheVariants.{Certified}

@@ -1,4 +1,3 @@
-pub mod Named
 pub mod Ends
 pub mod Audits
 pub mod Findings

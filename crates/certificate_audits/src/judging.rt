@@ -1,12 +1,11 @@
 //! What one block shows of its circuit, and whether an audit ends with it.
 ghost use Rattle.std.specs.Prelude.{◌∷◌, IfOk, MatchOption};
+ghost use Rattle.aig_graph.specs.Keep.{NoneMissing, names_of};
 ghost use Rattle.certificate_audits.specs.Audits.{Audits};
 ghost use Rattle.certificate_audits.specs.Findings.{GoesOn, IsFinding};
-ghost use Rattle.certificate_audits.specs.Named.{NoneMissing, names_of};
 
-use crate::holding::held;
 use crate::outcome::{Audit, End};
-use aig_graph::{Circuit, NoMemory};
+use aig_graph::{Circuit, NoMemory, keep_by_names};
 use certificates::{Certificate, Objection, Verdict, check};
 use std::alloc::Global;
 
@@ -30,7 +29,7 @@ fn judge(
     requires { NoneMissing (names_of names.now) circuit.now }
     ensures { IfOk result (IsFinding (names_of names.now) circuit.now block.now) }
 {
-    let keep = held(alloc, circuit, names)?;
+    let keep = keep_by_names(alloc, circuit, names)?;
     let known = circuit.aig().known_latches();
     match check(alloc, circuit, block, &keep)? {
         Verdict::No(objection) => Ok(Finding::Objected(objection)),

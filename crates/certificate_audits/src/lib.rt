@@ -2,7 +2,6 @@
 //! where it is confirmed, latches move over its set and the circuit is cleaned, whoever found the sets.
 #![tactic(auto)]
 
-mod holding;
 mod judging;
 mod laws;
 mod moving;

@@ -1,15 +1,14 @@
 //! The circuit that a block makes of its own.
 ghost use Rattle.std.specs.Prelude.{◌≡◌, IfOk};
 ghost use Rattle.std.specs.List.Sorted.{IsStrictlyIncreasing};
+ghost use Rattle.aig_graph.specs.Keep.{NoneMissing, names_of};
 ghost use Rattle.retimed_circuits.specs.Frames.{moved_in};
 ghost use Rattle.retimed_circuits.specs.Names.{held_latches};
 ghost use Rattle.certificate_audits.specs.Audits.{IsNext, Saves};
-ghost use Rattle.certificate_audits.specs.Named.{NoneMissing, names_of};
 
-use crate::holding::{cleaned_by_names, held};
-use aig_graph::{Circuit, ClosedSet, NoMemory};
+use aig_graph::{Circuit, ClosedSet, NoMemory, keep_by_names};
 use certificates::Certificate;
-use clean::Cleaned;
+use clean::{Cleaned, clean_by_names};
 use rebuild::moved;
 use std::alloc::Global;
 
@@ -39,8 +38,8 @@ fn moved_over(
         (names_of names.now) circuit.now block.now.gates) }
 {
     // That the circuit is a graph is what its readers ensure.
-    let _aig = circuit.aig();
-    let keep = held(alloc, circuit, names)?;
+    circuit.known();
+    let keep = keep_by_names(alloc, circuit, names)?;
     let set = set_of(alloc, block.gates.as_slice())?;
     moved(alloc, circuit, &set, &keep)
 }
@@ -67,9 +66,10 @@ fn next_circuit(
         ≡ held_latches (names_of names.now) circuit.now) }
 {
     // What a circuit's names and latches are is what its readers ensure.
-    let _aig = circuit.aig();
+    circuit.known();
     let after = moved_over(alloc, circuit, block, names)?;
-    let cleaned = cleaned_by_names(alloc, &after, names);
+    after.known();
+    let cleaned = clean_by_names(alloc, &after, names);
     drop(after);
     match cleaned {
         Ok(found) => Ok(circuit_of(found)),

@@ -1,17 +1,15 @@
 //! Block after block.
-ghost use Rattle.std.specs.Prelude.{ℕ, ◌≡◌, IfOk, OnOk, IsErrOf, None, Some};
-ghost use Rattle.aig_graph.specs.Keep.{first_missing};
+ghost use Rattle.std.specs.Prelude.{ℕ, ◌≡◌, IfOk, OnOk, IsErrOf};
+ghost use Rattle.aig_graph.specs.Keep.{IsFirstMissing, NoneMissing, held_in, names_of};
 ghost use Rattle.aig_graph.specs.declared.holding.KeepError.TheVariants.{NoSuchName};
-ghost use Rattle.retimed_circuits.specs.Names.{held_in};
 ghost use Rattle.certificate_audits.specs.Audits.{Audits, IsAudit};
-ghost use Rattle.certificate_audits.specs.Named.{NoneMissing, names_of};
 
-use crate::holding::cleaned;
 use crate::judging::end_at;
 use crate::moving::{after_block, circuit_of};
 use crate::outcome::{Audit, End};
 use aig_graph::{Circuit, Keep, KeepError, NoMemory, keep_of};
 use certificates::Certificate;
+use clean::clean;
 use std::alloc::Global;
 
 /// The audit of blocks, the first of which is for this circuit.
@@ -61,7 +59,9 @@ fn audit_held(
     requires names { NoneMissing (names_of names.now) circuit.now }
     ensures { IfOk result (IsAudit (names_of names.now) circuit.now blocks.now) }
 {
-    let first = cleaned(alloc, circuit, keep, names)?;
+    // That the held latches are among the circuit's is what its readers ensure.
+    circuit.known();
+    let first = clean(alloc, circuit, keep)?;
     audit_from(alloc, circuit_of(first), blocks, names)
 }
 
@@ -85,7 +85,7 @@ pub fn audit_blocks(
     ensures audit { IfOk result (IsAudit (names_of names.now) circuit.now blocks.now) }
     ensures none_missing { OnOk result (NoneMissing (names_of names.now) circuit.now) }
     ensures missing { (place : ℕ) → IsErrOf result (NoSuchName place)
-        → first_missing circuit.now.symbols.latches (names_of names.now) ≡ Some place }
+        → IsFirstMissing (names_of names.now) circuit.now place }
 {
     let keep = keep_of(alloc, circuit, names)?;
     match audit_held(alloc, circuit, &keep, blocks, names) {

@@ -6,7 +6,7 @@ use Rattle.std.proofs.lemmas.Slice.Eq.{starts_is}
 use Rattle.std.specs.List.{list_all}
 use Rattle.std.specs.Option.{option_and_then}
 use Rattle.file_words.specs.Lines.{pieces, numbers_of}
-use Rattle.file_lines.specs.Rows.{clamped, up_to_nine, row_of}
+use Rattle.reader_parts.specs.Rows.{clamped, up_to_nine, row_of}
 use Rattle.certificate_files.specs.declared.fault.CertError.{CertError}
 use Rattle.certificate_files.specs.declared.fault.CertError.TheVariants.{BadLine, TooLarge}
 use Rattle.certificate_files.specs.declared.forms.FrameLine.{FrameLine}

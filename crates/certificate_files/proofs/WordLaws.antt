@@ -8,7 +8,7 @@ use Rattle.std.specs.List.{list_all}
 use Rattle.file_words.specs.Lines.{pieces, is_number, digits_value}
 use Rattle.file_words.specs.Cuts.{Cuts}
 use Rattle.file_words.proofs.DecimalLaws.{pieces-at_space}
-use Rattle.file_lines.specs.Rows.{clamped}
+use Rattle.reader_parts.specs.Rows.{clamped}
 use Rattle.frame_net.specs.declared.net.Point.{Point}
 use Rattle.certificate_files.specs.declared.fault.CertError.{CertError}
 use Rattle.certificate_files.specs.declared.fault.CertError.TheVariants.{BadLine, TooLarge}

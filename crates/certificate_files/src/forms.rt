@@ -6,7 +6,7 @@ ghost use Rattle.certificate_files.specs.Forms.{framed, gated};
 
 use crate::fault::CertError;
 use crate::lines::Line;
-use file_lines::NumberLine;
+use reader_parts::NumberLine;
 
 /// The greatest number in a file.
 const MAX_NUMBER: u32 = (1 << 28) - 1;

@@ -2,7 +2,7 @@
 //! at before the size of any number.
 ghost use Rattle.std.specs.Prelude.{◌≡◌, ◌∷◌, ◌+◌, ◌*◌, List, ℕ};
 ghost use Rattle.file_words.specs.Lines.{pieces};
-ghost use Rattle.file_lines.specs.Rows.{clamped};
+ghost use Rattle.reader_parts.specs.Rows.{clamped};
 ghost use Rattle.certificate_files.specs.Answering.{Gives, Leads};
 ghost use Rattle.certificate_files.specs.Files.{saying_of};
 ghost use Rattle.certificate_files.specs.Forms.{are_small, number_of, onto, routed, side_of, sized_points, spelt_at, spelt_point};

@@ -1,7 +1,9 @@
 -- Pass after pass.
-use Rattle.std.proofs.Common.{zero-add, ℕ, ◌+◌, ◌<◌, ◌≤◌, ◌≡◌, ◌≢◌, List, [], ◌∷◌, length, map, Bool, true, get_or, refl, arith, ap, sym, ◌∙◌, subst}
+use Rattle.std.proofs.Common.{zero-add, ℕ, ◌+◌, ◌<◌, ◌≤◌, ◌≡◌, ◌≢◌, ◌⊎◌, inl, inr, List, [], ◌∷◌, ◌++◌, length, map, Bool, true, get_or, refl, arith, ap, sym, ◌∙◌, subst}
 use Rattle.std.specs.List.{All, range_with_len}
-use Rattle.std.proofs.lemmas.List.{length-map, get_or-map}
+use Rattle.std.proofs.Math.Seq.{get_or-append_seam}
+use Rattle.std.proofs.lemmas.List.{length-map, get_or-map, append_assoc, length_push}
+use Rattle.std.proofs.lemmas.Bool.{cases_lt}
 use Rattle.std.proofs.lemmas.List.FromFn.{get_or-range_with_len}
 use Rattle.std.proofs.lemmas.List.Elements.{All-map, All-head, All-tail}
 use Rattle.aig_graph.specs.Graph.{first_latch, first_gate, variables_end, latches_and_gates, free_latches}
@@ -18,6 +20,10 @@ use Rattle.cleaned_circuits.proofs.PickedLaws.{count-all}
 use Rattle.cleaned_circuits.proofs.TrimmedLaws.{trimmed-first_latch, trimmed-first_gate, trimmed-end, new-less, new-from, stays-reached}
 use Rattle.cleaned_circuits.proofs.PassLaws.{IsCircuit, pass-streams, cleans-streams, IsCircuit-pass}
 use Rattle.cleaned_circuits.proofs.UnchangedLaws.{count-full, map-fixed_all, pass-unchanged}
+use Rattle.tidy.specs.Tidy.{IsTidy}
+use Rattle.tidy.proofs.PassLaws.{tidy-pass}
+use Rattle.clean.specs.Settled.{AreOwnLatches}
+use Rattle.clean.proofs.SettledLaws.{settled-tidy}
 
 -- composed with all places, a list is itself
 pub composed-all : (n : ℕ) (more : List ℕ) → All (λ place. place < n) more → composed (range_with_len 0 n) more ≡ more
@@ -186,3 +192,36 @@ module _ (held : List ℕ) (c : Netlist) (before : ℕ) (d : Netlist) (kept stil
       cleans-unchanged passed.from_held passed.from d passed.first still passed.valid passed.in_range passed.pass (omega (arith, many, passed.size)) in
       let P : List ℕ → Type 0 = λ places. Cleans d held c places in
       subst P (sym passed.is) (passed.front d passed.first last)
+
+-- the entries of a list from a place on, read one after another
+read-from : (ys xs : List ℕ) → map (λ place. get_or (ys ++ xs) place 0) (range_with_len (length ys) (length xs)) ≡ xs
+read-from ys [] = refl
+read-from ys (x ∷ xs) =
+    let f : List ℕ → ℕ → List ℕ = λ zs a. map (λ place. get_or zs place 0) (range_with_len a (length xs)) in
+    let rest : f (ys ++ x ∷ xs) (length ys + 1) ≡ xs =
+    ap (λ (zs : List ℕ). f zs (length ys + 1)) (sym (append_assoc ys (x ∷ []) xs)) ∙ ap (f (ys ++ x ∷ [] ++ xs)) (sym (length_push ys x)) ∙ read-from (ys ++ x ∷ []) xs in
+    ap (λ (n : ℕ). n ∷ f (ys ++ x ∷ xs) (length ys + 1)) (get_or-append_seam ys x xs 0) ∙ ap (λ (zs : List ℕ). x ∷ zs) rest
+
+-- all places, composed with a list, are the list
+composed-range : (xs : List ℕ) → composed xs (range_with_len 0 (length xs)) ≡ xs
+composed-range xs = read-from [] xs
+
+-- what a pass left is what is left of the circuit, where each latch stands for itself
+pub settled-end : (held : List ℕ) (c : Netlist) (before : ℕ) (d : Netlist) (kept still : List ℕ) → Passed held c before d kept still → AreOwnLatches d.aig still → Cleans d held c kept
+settled-end held c before d kept still passed own = elim (cases_lt (latches_and_gates d.aig) before) [
+  | inr many ↦ passed-end held c before d kept still passed many
+  | inl less ↦ (
+      let valid : IsCircuit d = passed-valid held c before d kept still passed in
+      let in_range : All (λ j. j < length d.aig.latches) still = passed-in_range held c before d kept still passed in
+      let tidy : IsTidy still d = settled-tidy passed.from_held passed.from d passed.first still passed.valid passed.in_range passed.pass own in
+      let same : IsPass still d d (all_free d.aig) still = tidy-pass still d valid in_range tidy in
+      let next : Passed held c (latches_and_gates d.aig) d (composed kept (all_free d.aig)) still =
+      passed-more held c before d kept still passed d (all_free d.aig) (composed kept (all_free d.aig)) still less same refl in
+      let places : composed kept (all_free d.aig) ≡ kept = ap (λ (n : ℕ). composed kept (range_with_len 0 n)) (sym (kept-long held c before d kept still passed)) ∙ composed-range kept in
+      subst (λ (xs : List ℕ). Cleans d held c xs) places (passed-end held c (latches_and_gates d.aig) d (composed kept (all_free d.aig)) still next (omega arith)))
+]
+
+-- so it is where the last pass took nothing away, or each latch stands for itself
+pub passed-done : (held : List ℕ) (c : Netlist) (before : ℕ) (d : Netlist) (kept still : List ℕ) → Passed held c before d kept still → (before ≤ latches_and_gates d.aig) ⊎ AreOwnLatches d.aig still → Cleans d held c kept
+passed-done held c before d kept still passed (inl many) = passed-end held c before d kept still passed many
+passed-done held c before d kept still passed (inr own) = settled-end held c before d kept still passed own

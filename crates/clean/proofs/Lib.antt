@@ -9,3 +9,5 @@ pub mod NamesLaws
 pub mod PassStepLaws
 pub mod CleaningLaws
 pub mod MappingLaws
+pub mod PlainLaws
+pub mod SettledLaws

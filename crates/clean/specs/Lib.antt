@@ -2,3 +2,4 @@ pub mod Substitutions
 pub mod Firsts
 pub mod Sweep
 pub mod Passes
+pub mod Settled

@@ -1,13 +1,17 @@
 //! Cleaning, pass after pass. A pass adds nothing, and what it replaces is read no more and goes: so one that leaves as many
-//! latches and gates as there were has changed nothing, and is the last. What a caller is told of places, among the free latches
+//! latches and gates as there were has changed nothing, and is the last. After a pass all gates differ and all is reached, so the next
+//! one changes something only where a latch doesn't stand for itself: where each does, it isn't made. What a caller is told of places, among the free latches
 //! and among the gates, is composed over all passes.
-ghost use Rattle.std.specs.Prelude.{◌≡◌, ◌<◌, All, IfOk, length, map, slice_index};
-ghost use Rattle.aig_graph.specs.Graph.{free_latches};
+ghost use Rattle.std.specs.Prelude.{◌≡◌, ◌<◌, ◌≤◌, ◌⊎◌, All, IfOk, false, length, map, slice_index, true};
+ghost use Rattle.aig_graph.specs.Graph.{free_latches, latches_and_gates};
 ghost use Rattle.aig_graph.specs.Streams.{SameStreams};
 ghost use Rattle.aig_graph.specs.Laws.{composed};
 ghost use Rattle.cleaned_circuits.specs.Cleaned.{Cleans};
 ghost use Rattle.clean.specs.Passes.{IsPassAfter};
+ghost use Rattle.clean.specs.Settled.{AreOwnLatches};
 
+use crate::held::Held;
+use crate::latches::are_own_latches;
 use crate::pass::{Pass, run_pass};
 use aig_graph::{Circuit, Keep, NoMemory, Sequence};
 use std::alloc::Global;
@@ -77,6 +81,34 @@ fn next_pass(alloc: Global, last: Pass) -> Result<Pass, NoMemory>
     pass_after(alloc, &last)
 }
 
+/// Whether each latch of what a pass left stands for itself.
+fn is_settled(alloc: Global, last: &Pass) -> Result<bool, NoMemory>
+    requires { All (λ j. j < length last.now.circuit.aig.latches) last.now.held.items }
+    ensures { IfOk result (λ yes. yes ≡ true → AreOwnLatches last.now.circuit.aig
+        last.now.held.items) }
+{
+    let aig = last.circuit.aig();
+    let held = Held::new(alloc, last.held.as_slice(), aig.latches().len())?;
+    are_own_latches(alloc, aig, &held)
+}
+
+/// Whether another pass is to be made of what the last one left, before which there were so many latches and gates. One that is made in
+/// vain changes nothing, so where memory for a look at the latches is refused, it is made.
+fn has_more(alloc: Global, last: &Pass, before: usize) -> bool
+    requires { All (λ j. j < length last.now.circuit.aig.latches) last.now.held.items }
+    ensures fewer { result ≡ true → latches_and_gates last.now.circuit.aig < before }
+    ensures done { result ≡ false → (before ≤ latches_and_gates last.now.circuit.aig)
+        ⊎ AreOwnLatches last.now.circuit.aig last.now.held.items }
+{
+    if last.circuit.aig().latches_and_gates() >= before {
+        return false;
+    }
+    match is_settled(alloc, last) {
+        Ok(settled) => !settled,
+        Err(NoMemory) => true,
+    }
+}
+
 /// What the last pass leaves.
 fn cleaned_by(last: Pass) -> Cleaned
     ensures circuit { result.circuit ≡ last.circuit }
@@ -95,7 +127,7 @@ fn cleaned_by(last: Pass) -> Cleaned
     }
 }
 
-/// A circuit without its redundant latches and gates, cleaned pass after pass until a pass changes nothing.
+/// A circuit without its redundant latches and gates, cleaned pass after pass until one would change nothing.
 ///
 /// In a pass a latch that never leaves its reset becomes that constant, and a latch with the next literal and the known
 /// reset of an earlier one becomes that one. Gates come down to constants, to one of their literals, or to an earlier gate
@@ -111,7 +143,7 @@ pub fn clean(alloc: Global, circuit: &Circuit, keep: &Keep) -> Result<Cleaned, N
 {
     let mut before = circuit.aig().latches_and_gates();
     let mut last = run_pass(alloc, circuit, keep.positions())?;
-    while last.circuit.aig().latches_and_gates() < before {
+    while has_more(alloc, &last, before) {
         before = last.circuit.aig().latches_and_gates();
         last = next_pass(alloc, last)?;
     }

@@ -1,11 +1,12 @@
 //! What stands for a latch: its reset's constant, where it never leaves that; else the first latch with its next literal and its
 //! known reset; else itself. Two free latches are never one, since they may begin with different values. A held latch stands for
 //! itself, and others may become it.
-ghost use Rattle.std.specs.Prelude.{◌≡◌, ◌<◌, ◌+◌, ◌*◌, ◌&&◌, ◌||◌, ◌==◌, not, slice_get, length, Some, OnOk, IfOk};
+ghost use Rattle.std.specs.Prelude.{◌≡◌, ◌<◌, ◌+◌, ◌*◌, ◌&&◌, ◌||◌, ◌==◌, not, slice_get, length, true, Some, OnOk, IfOk};
 ghost use Rattle.aig_graph.specs.Graph.{first_latch, first_gate, is_free};
 ghost use Rattle.variable_tables.specs.Tables.{table};
 ghost use Rattle.cleaned_circuits.specs.Latches.{constant_of, latch_stand, leaf_stand};
 ghost use Rattle.clean.specs.Firsts.{AreFirsts};
+ghost use Rattle.clean.specs.Settled.{AreOwnLatches};
 ghost use Rattle.clean.specs.Substitutions.{own_literals};
 
 use crate::firsts::FirstLatches;
@@ -88,4 +89,20 @@ pub(crate) fn latch_stands(
         stands.push(stand)?;
     }
     Ok(())
+}
+
+/// Whether each latch stands for itself.
+pub(crate) fn are_own_latches(alloc: Global, aig: &Aig, held: &Held<'_>) -> Result<bool, NoMemory>
+    requires held { length held.now.marks.items ≡ length aig.now.latches }
+    ensures { IfOk result (λ yes. yes ≡ true → AreOwnLatches aig.now held.now.positions.now) }
+{
+    let mut firsts = FirstLatches::new(alloc);
+    for (place, latch) in aig.latches().iter().enumerate() {
+        let stand = stand_for_latch(&mut firsts, aig, held, place, *latch)?;
+        let is_own = stand == own_literal(aig, place);
+        if !is_own {
+            return Ok(false);
+        }
+    }
+    Ok(true)
 }

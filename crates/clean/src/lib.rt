@@ -8,6 +8,7 @@ mod held;
 mod kept;
 mod latches;
 mod merged;
+mod named;
 mod names;
 mod pass;
 mod reached;
@@ -16,3 +17,4 @@ mod substitution;
 mod trim;
 
 pub use cleaning::{Cleaned, clean, composed};
+pub use named::clean_by_names;

@@ -1,9 +1,12 @@
--- How often a task uses each standard stream.
-use Rattle.std.specs.Prelude.{◌≤◌, ◌||◌, Bool, false, List, [], ◌∷◌, Option, Some, None}
+-- How often a task uses each standard stream, and what it writes over.
+use Rattle.std.specs.Prelude.{ℕ, ◌≡◌, ◌≤◌, ◌||◌, Bool, false, List, [], ◌∷◌, Option, Some, None}
 use Rattle.std.specs.List.{count_by}
+use Rattle.std.specs.Str.{bytes_eq}
 use Rattle.stream_paths.specs.Streams.{is_stdin, is_stdout}
 use Rattle.stream_paths.specs.declared.source.Source.{Source}
+use Rattle.stream_paths.specs.declared.source.Source.TheVariants as sources
 use Rattle.stream_paths.specs.declared.target.Target.{Target}
+use Rattle.stream_paths.specs.declared.target.Target.TheVariants as targets
 use Rattle.command_line.specs.declared.task.Retiming.{Retiming}
 use Rattle.command_line.specs.declared.task.Task.{Task}
 use Rattle.command_line.specs.declared.task.Task.TheVariants.{Retime, Batch, Stat, Convert, Sim, Same, Verify, Dot, Witness, Explain}
@@ -39,10 +42,40 @@ targets_of (Dot drawing) = drawing.output ∷ []
 targets_of (Witness input retimed witness) = []
 targets_of (Explain name) = []
 
--- standard input is read once at most, and standard output written once, but for printed lines
+-- whether the file with this path is read
+abbrev pub is_read_from : List ℕ → Source → Bool
+is_read_from path sources.Stdin = false
+is_read_from path (sources.File other) = bytes_eq other.now path
+
+-- whether the file with this path is written
+abbrev pub is_written_to : List ℕ → Target → Bool
+is_written_to path targets.Stdout = false
+is_written_to path (targets.File other) = bytes_eq other.now path
+
+-- whether certificates go to the file of the circuit, the one that is read or the one that is written
+abbrev pub covers : Retiming → Option Target → Bool
+covers retiming None = false
+covers retiming (Some targets.Stdout) = false
+covers retiming (Some (targets.File path)) = is_read_from path.now retiming.input || is_written_to path.now retiming.output
+
+abbrev pub covers_circuit : Task → Bool
+covers_circuit (Retime retiming) = covers retiming retiming.certificates
+covers_circuit (Batch batch) = false
+covers_circuit (Stat input json) = false
+covers_circuit (Convert input output spelling) = false
+covers_circuit (Sim input stimulus) = false
+covers_circuit (Same comparison) = false
+covers_circuit (Verify verification) = false
+covers_circuit (Dot drawing) = false
+covers_circuit (Witness input retimed witness) = false
+covers_circuit (Explain name) = false
+
+-- standard input is read once at most, and standard output written once, but for printed lines; and so is a file of certificates,
+-- which is none of the circuit's
 pub record UsesStreamsOnce (task : Task) : Type 0 where
   pub stdin : count_by is_stdin (sources_of task) ≤ 1
   pub stdout : count_by is_stdout (targets_of task) ≤ 1
+  pub apart : covers_circuit task ≡ false
 
 -- whether something that is written where it is asked for goes to standard output
 abbrev pub writes_stdout : Option Target → Bool

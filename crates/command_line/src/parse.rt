@@ -10,8 +10,8 @@ use crate::stream_uses::stream_conflict;
 use crate::task::{Batch, Comparison, Drawing, Retiming, Shown, Task, Verification};
 use clap::error::ErrorKind;
 use clap::{ArgMatches, Command, Error};
+use file_words::Spelling;
 use least_sets::Choice;
-use spellings::Spelling;
 use std::alloc::{AllocError, Global};
 use stream_paths::{Source, Target};
 

@@ -1,8 +1,9 @@
-//! Standard input is read once, and standard output written once.
+//! Standard input is read once, and standard output written once. Certificates are written last, so on the circuit's own file they
+//! would take its place.
 ghost use Rattle.std.specs.Prelude.{◌≡◌, ◌≤◌, IfNone};
 ghost use Rattle.std.specs.List.{count_by};
 ghost use Rattle.stream_paths.specs.Streams.{is_stdin, is_stdout};
-ghost use Rattle.command_line.specs.StreamUses.{UsesStreamsOnce, sources_of, targets_of};
+ghost use Rattle.command_line.specs.StreamUses.{UsesStreamsOnce, covers_circuit, is_read_from, is_written_to, sources_of, targets_of};
 ghost use Rattle.command_line.specs.StreamUses as wanted;
 
 use crate::task::{Retiming, Task};
@@ -62,7 +63,48 @@ fn stdout_uses(task: &Task<'_>) -> usize
     }
 }
 
-/// What is wrong where a task has more than one use for a standard stream.
+fn is_read_from(path: &str, source: Source<'_>) -> bool
+    ensures { result ≡ is_read_from path.now source.entry }
+{
+    match source {
+        Source::Stdin => false,
+        Source::File(other) => other == path,
+    }
+}
+
+fn is_written_to(path: &str, target: Target<'_>) -> bool
+    ensures { result ≡ is_written_to path.now target.entry }
+{
+    match target {
+        Target::Stdout => false,
+        Target::File(other) => other == path,
+    }
+}
+
+/// Whether a task writes certificates over a circuit, that which it reads or that which it writes.
+fn covers_circuit(task: &Task<'_>) -> bool
+    ensures { result ≡ covers_circuit task.now }
+{
+    match task {
+        Task::Retime(retiming) => match retiming.certificates {
+            Some(Target::File(path)) => {
+                is_read_from(path, retiming.input) || is_written_to(path, retiming.output)
+            }
+            Some(Target::Stdout) | None => false,
+        },
+        Task::Batch(_)
+        | Task::Stat(_, _)
+        | Task::Convert(_, _, _)
+        | Task::Sim(_, _)
+        | Task::Same(_)
+        | Task::Verify(_)
+        | Task::Dot(_)
+        | Task::Witness(_, _, _)
+        | Task::Explain(_) => false,
+    }
+}
+
+/// What is wrong where a task has more than one use for a standard stream, or certificates go over a circuit.
 pub(crate) fn stream_conflict(task: &Task<'_>) -> Option<&'static str>
     ensures { IfNone result (UsesStreamsOnce task.now) }
 {
@@ -72,6 +114,8 @@ pub(crate) fn stream_conflict(task: &Task<'_>) -> Option<&'static str>
         Some(
             "standard output is written once: '-' can stand for OUT or for the file of certificates, not for both",
         )
+    } else if covers_circuit(task) {
+        Some("certificates have a file of their own: FILE can't be that of IN or OUT")
     } else {
         None
     }

@@ -2,8 +2,8 @@
 use Rattle.std.specs.Prelude.{◌≡◌, true, false, Option}
 use Rattle.counted_io.specs.Input.{Input}
 use Rattle.counted_io.specs.Output.{Output, WritesAll}
-use Rattle.spellings.specs.Spellings.{text_in}
-use Rattle.spellings.specs.declared.form.Spelling.{Spelling}
+use Rattle.aig_binary.specs.Spellings.{text_in}
+use Rattle.file_words.specs.declared.spelling.Spelling.{Spelling}
 use Rattle.aig_binary.specs.declared.reading.SpeltCircuit.{SpeltCircuit}
 use Rattle.aig_binary.specs.Ending.{Spells}
 use Rattle.retimed_circuits.specs.declared.report.Retimed.{Retimed}

@@ -1,17 +1,17 @@
 //! The command `convert`.
 ghost use Rattle.std.specs.Prelude.{◌≡◌, true, false, IfErr, IfOk};
 ghost use Rattle.counted_io.specs.Output.{Writes};
-ghost use Rattle.spellings.specs.Spellings.{text_in};
+ghost use Rattle.aig_binary.specs.Spellings.{text_in};
 ghost use Rattle.stream_paths.specs.Streams.{is_stdin, is_stdout};
 ghost use Rattle.commands.specs.OtherSpelling.{other_spelling};
 ghost use Rattle.commands.specs.OtherSpelling as wanted;
 ghost use Rattle.commands.specs.Pipes.{ConvertsPipe};
 ghost use Rattle.commands.specs.Printing.{Prints, ending};
 
+use aig_binary::{Spelling, write};
 use aig_graph::Circuit;
 use circuit_files::{Failure, LazyFile, Outcome, circuit_at};
 use counted_io::{Counted, CountedRead, CountedWrite, WriteError};
-use spellings::{Spelling, write};
 use std::alloc::Global;
 use std::rt::Files;
 use stream_paths::{Source, Target};

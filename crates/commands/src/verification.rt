@@ -1,7 +1,7 @@
 //! The command `verify`.
 ghost use Rattle.std.specs.Prelude.{◌≡◌, IfOk};
 ghost use Rattle.certificate_audits.specs.Audits.{IsAudit};
-ghost use Rattle.certificate_audits.specs.Named.{names_of};
+ghost use Rattle.aig_graph.specs.Keep.{names_of};
 ghost use Rattle.reports.specs.Audits.{audit_text};
 ghost use Rattle.commands.specs.Printing.{EndsPrinting, Prints, ending};
 ghost use Rattle.commands.specs.Verifying.{EndsWithAudit, IsFailureOfAudit, PrintsAudit, PrintsAuditFor, PrintsSomeAudit, held_names, outcome_of_end};

@@ -3,8 +3,10 @@ use Rattle.std.specs.Prelude.{◌≡◌, ℕ, All, List, [], ◌∷◌, length}
 use Rattle.std.specs.List.{AllByRecursion}
 use Rattle.aig_graph.specs.Circuits.{Netlist}
 use Rattle.aig_graph.specs.Move.{move_of}
-use Rattle.aig_graph.specs.Border.{border_size, IsLeast}
+use Rattle.aig_graph.specs.Border.{border_size, IsLeast, IsSmallestLeast}
+use Rattle.frame_net.specs.FlowNet.{FlowNet}
 use Rattle.frame_net.specs.declared.net.Point.{Point}
+use Rattle.frame_cuts.specs.Cuts.{IsNetworkOf}
 use Rattle.certificates.specs.Verdicts.{AreRoutes, AreApart}
 
 -- no point stands twice in the list
@@ -18,3 +20,11 @@ pub record AreLeastRoutes (c : Netlist) (held : List ℕ) (routes : List (List P
   pub apart : AreApart routes
   pub once : All HasNoPointTwice routes
   pub count : (gates : List ℕ) → IsLeast c held gates → border_size (move_of c held gates) ≡ length routes
+
+-- the routes are such of each circuit and held latches whose network this is
+abbrev pub AreLeastRoutesOf : FlowNet → List (List Point) → Type 0
+AreLeastRoutesOf net routes = (c : Netlist) (held : List ℕ) → IsNetworkOf c held net → AreLeastRoutes c held routes
+
+-- s is the smallest least set of each circuit and held latches whose network this is, where the routes are such
+abbrev pub IsSmallestLeastBy : FlowNet → List (List Point) → List ℕ → Type 0
+IsSmallestLeastBy net routes s = (c : Netlist) (held : List ℕ) → IsNetworkOf c held net → AreLeastRoutes c held routes → IsSmallestLeast c held s

@@ -18,6 +18,7 @@ pub(crate) fn carried_by_arcs(
     requires { IsMaxPreflow net.now preflow.now }
     ensures { IfOk result (λ xs. AreCarried net.now preflow.now.flow.cells.residuals xs.items) }
 {
+    net.known_capacities();
     let arcs = net.arcs();
     let mut carried = Vec::with_capacity(alloc, arcs)?;
     for arc in 0..arcs {
@@ -37,8 +38,8 @@ pub(crate) fn incoming(net: &Net, carried: &[u32], node: u32, from: usize) -> Op
         (λ place. Comes net.now carried.now node place
         × ((from ≤ place) × NoneComes net.now carried.now node from place)) }
 {
-    let _nodes = net.nodes();
-    let _arcs = net.arcs();
+    net.known();
+    net.known_capacities();
     let mates = net.mates(node);
     for place in from..mates.len() {
         if carried[mates[place] as usize] > 0 {
@@ -55,8 +56,8 @@ pub(crate) fn lower(net: &Net, carried: &mut [u32], node: u32, place: usize) -> 
     ensures carried { carried.new ≡ lowered net.now carried.old node place }
     ensures tail { result ≡ head net.now node place }
 {
-    let _nodes = net.nodes();
-    let _arcs = net.arcs();
+    net.known();
+    net.known_capacities();
     let arc = net.mates(node)[place] as usize;
     carried[arc] -= 1;
     net.heads(node)[place]

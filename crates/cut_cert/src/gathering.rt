@@ -1,9 +1,7 @@
 //! All routes of a greatest flow.
-ghost use Rattle.std.specs.Prelude.{IfOk, ℕ, List};
-ghost use Rattle.aig_graph.specs.Circuits.{Netlist};
-ghost use Rattle.frame_cuts.specs.Cuts.{IsNetworkOf};
+ghost use Rattle.std.specs.Prelude.{IfOk};
 ghost use Rattle.pulse.specs.Conditions.{IsMaxPreflow};
-ghost use Rattle.cut_cert.specs.Shown.{AreLeastRoutes};
+ghost use Rattle.cut_cert.specs.Shown.{AreLeastRoutesOf};
 
 use crate::carried::{carried_by_arcs, first_places, incoming};
 use crate::trail::no_marks;
@@ -25,9 +23,9 @@ pub fn routes(
     preflow: &MaxPreflow,
 ) -> Result<Sequence<Sequence<Point>>, NoMemory>
     requires { IsMaxPreflow net.now preflow.now }
-    ensures { IfOk result (λ routes. (c : Netlist) (held : List ℕ) → IsNetworkOf c held net.now
-        → AreLeastRoutes c held routes) }
+    ensures { IfOk result (AreLeastRoutesOf net.now) }
 {
+    net.known();
     let nodes = net.nodes();
     let mut marks = no_marks(alloc, nodes)?;
     let mut places = first_places(alloc, nodes)?;

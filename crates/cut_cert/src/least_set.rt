@@ -7,10 +7,13 @@ ghost use Rattle.pulse.specs.Conditions.{IsMaxPreflow};
 use crate::greatest::greatest_cut;
 use aig_graph::{Circuit, ClosedSet, Keep, NoMemory};
 use frame_net::{Net, Tables, passable};
-use gate_flows::{GateFlow, gate_flows, wishes};
+use gate_flows::{GateFlow, first_wishes, gate_flows, wishes};
 use pulse::{Crew, FlowTables, MaxPreflow, PhaseGate, PulseError, run_along_wishes};
 use std::alloc::Global;
 use std::thread::Threads;
+
+/// From so many nodes on a crew's first flow has a start of its own.
+const MANY_NODES: u32 = 4096;
 
 /// The network of a circuit and its held latches.
 ///
@@ -39,8 +42,8 @@ pub fn network_in(
     let pass = passable(alloc, circuit.aig(), keep)?;
     let net = Net::build_in(alloc, circuit.aig(), circuit.props(), &pass, keep, tables)?;
     // That a network has a point for each side of a gate is what its reader ensures.
-    let _nodes = net.nodes();
-    let _source = net.point(0);
+    net.known();
+    net.known_points();
     Ok(net)
 }
 
@@ -77,9 +80,25 @@ fn note(
     }
 }
 
-/// A maximum preflow of a circuit's network, from a start along `flows`, what the last flow did at the circuit's gates; then `flows` is
-/// what this one did there. They are hints: what is returned is a maximum preflow whatever they say. Wishes, residuals and pushes stand in
-/// the memory of `tables`, where it serves.
+/// The wishes of a flow: along what the last one did, or along a first start where nothing is known of it. A crew of two or more begins the
+/// flow of a small network without any: its first pulses are large for their network, so they are shared out.
+fn start_wishes<G: PhaseGate>(
+    alloc: Global,
+    circuit: &Circuit,
+    net: &Net,
+    crew: &Crew<G>,
+    flows: &[GateFlow],
+    memory: Vec<u32>,
+) -> Result<Vec<u32>, NoMemory> {
+    if flows.is_empty() && (crew.workers() < 2 || net.nodes() >= MANY_NODES) {
+        return first_wishes(alloc, net, circuit.aig(), memory);
+    }
+    wishes(net, circuit.aig(), flows, memory)
+}
+
+/// A maximum preflow of a circuit's network, from a start along `flows`, what the last flow did at the circuit's gates, or along a start of
+/// their own where there are none; then `flows` is what this one did there. They are hints: what is returned is a maximum preflow whatever
+/// they say. Wishes, residuals and pushes stand in the memory of `tables`, where it serves.
 ///
 /// # Errors
 ///
@@ -96,7 +115,7 @@ pub fn preflow_along<G: PhaseGate>(
     ensures { IfOk result (IsMaxPreflow net.now) }
 {
     let memory = tables.take_pushes(alloc);
-    let wished = wishes(net, circuit.aig(), flows.as_slice(), memory)?;
+    let wished = start_wishes(alloc, circuit, net, crew, flows.as_slice(), memory)?;
     let preflow = maximum_preflow(rt, alloc, net, crew, wished, tables)?;
     note(alloc, circuit, net, &preflow, flows);
     Ok(preflow)

@@ -24,7 +24,7 @@ pub(crate) fn place_of(net: &Net, node: u32, point: Point) -> Option<usize>
     ensures there { PointsRise net.now → (k : ℕ) → k < row_len net.now node
         → point_of net.now (head net.now node k) ≡ Some point → result ≡ Some k }
 {
-    let _nodes = net.nodes();
+    net.known();
     let heads = net.heads(node);
     let mut low = 0;
     let mut high = heads.len();

@@ -1,11 +1,8 @@
 //! The gates of the near side.
-ghost use Rattle.std.specs.Prelude.{◌≡◌, ℕ, ◌<◌, IfOk, List, [], length, slice_index_or, false};
-ghost use Rattle.aig_graph.specs.Circuits.{Netlist};
-ghost use Rattle.aig_graph.specs.Border.{IsSmallestLeast};
+ghost use Rattle.std.specs.Prelude.{◌≡◌, ◌<◌, IfOk, [], length, slice_index_or, false};
 ghost use Rattle.frame_net.specs.FlowNet.{node_count};
-ghost use Rattle.frame_cuts.specs.Cuts.{IsNetworkOf};
 ghost use Rattle.cut_cert.specs.Gates.{gate_of, gates_below};
-ghost use Rattle.cut_cert.specs.Shown.{AreLeastRoutes};
+ghost use Rattle.cut_cert.specs.Shown.{IsSmallestLeastBy};
 
 use crate::source_side::source_side;
 use crate::used_arcs::used_arcs;
@@ -55,10 +52,9 @@ pub fn near_cut(
     net: &Net,
     routes: &Sequence<Sequence<Point>>,
 ) -> Result<ClosedSet, NoMemory>
-    ensures { IfOk result (λ set. (c : Netlist) (held : List ℕ) → IsNetworkOf c held net.now
-        → AreLeastRoutes c held routes.now → IsSmallestLeast c held set) }
+    ensures { IfOk result (IsSmallestLeastBy net.now routes.now) }
 {
-    let _nodes = net.nodes();
+    net.known();
     let used = used_arcs(alloc, net, routes.as_slice())?;
     let side = source_side(alloc, net, used.as_slice())?;
     let gates = gates_of(alloc, net, side.as_slice())?;

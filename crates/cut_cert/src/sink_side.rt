@@ -48,8 +48,8 @@ fn read(
     ensures { OnOk result (side.new ≡ read_arcs net.now preflow.now.flow.cells.residuals swept w
         (row_len net.now w) side.old) }
 {
-    let _nodes = net.nodes();
-    let _arcs = net.arcs();
+    net.known();
+    net.known_capacities();
     let heads = net.heads(w);
     let mates = net.mates(w);
     for k in 0..heads.len() {
@@ -71,6 +71,7 @@ pub(crate) fn sink_side(alloc: Global, net: &Net, preflow: &MaxPreflow) -> Resul
         (state_of net.now preflow.now.flow) (λ v. not (is_marked r v))) }
     ensures long { IfOk result (λ r. length r.marks ≡ node_count net.now) }
 {
+    net.known();
     let nodes = net.nodes();
     let mut side = Reached::none(alloc, nodes)?;
     side.reach(1)?;

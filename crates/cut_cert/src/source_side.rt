@@ -36,8 +36,8 @@ fn is_open(net: &Net, used: &[bool], node: u32, place: usize) -> bool
     requires long { length used.now ≡ length net.now.heads }
     ensures { result ≡ is_open net.now used.now node place }
 {
-    let _nodes = net.nodes();
-    let _arcs = net.arcs();
+    net.known();
+    net.known_capacities();
     let arc = net.start(node) + place;
     let mate = net.mates(node)[place] as usize;
     used[mate] || net.cap(arc as u32) > 0 && !is_taken(net, used, arc, net.heads(node)[place])
@@ -51,7 +51,7 @@ fn read(net: &Net, used: &[bool], side: &mut Reached, node: u32) -> Result<(), N
     ensures { OnOk result (side.new
         ≡ read_open net.now used.now node (row_len net.now node) side.old) }
 {
-    let _nodes = net.nodes();
+    net.known();
     let heads = net.heads(node);
     for place in 0..heads.len() {
         if is_open(net, used, node, place) {
@@ -67,6 +67,7 @@ pub(crate) fn source_side(alloc: Global, net: &Net, used: &[bool]) -> Result<Vec
     requires { length used.now ≡ length net.now.heads }
     ensures { IfOk result (λ marks. AreOfSource net.now used.now marks.items) }
 {
+    net.known();
     let mut side = Reached::none(alloc, net.nodes())?;
     side.reach(0)?;
     let mut place = 0;

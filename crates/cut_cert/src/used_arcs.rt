@@ -19,7 +19,7 @@ fn mark_step(net: &Net, used: &mut [bool], node: u32, point: Point) -> Option<u3
         → (result ≡ Some (head net.now node k))
         × (used.new ≡ slice_set used.old (start net.now node + k) true) }
 {
-    let _nodes = net.nodes();
+    net.known();
     let place = place_of(net, node, point)?;
     used[net.start(node) + place] = true;
     Some(net.heads(node)[place])
@@ -32,7 +32,7 @@ fn mark_route(net: &Net, used: &mut [bool], route: &[Point])
     ensures marks { PointsRise net.now → (nodes : List ℕ) → IsWay net.now 0 nodes route.now
         → Adds net.now used.old used.new 0 nodes }
 {
-    let _nodes = net.nodes();
+    net.known();
     let mut node = 0;
     for point in route {
         match mark_step(net, used, node, *point) {

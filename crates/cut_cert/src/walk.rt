@@ -18,7 +18,7 @@ fn step_back(net: &Net, carried: &mut [u32], places: &mut [usize], at: u32) -> O
         (λ tail. StepsBack net.now carried.old carried.new at tail) }
     ensures searched { AreSearched net.now carried.new places.new }
 {
-    let _nodes = net.nodes();
+    net.known();
     let _point = net.point(at)?;
     let place = incoming(net, carried, at, places[at as usize])?;
     places[at as usize] = place;
@@ -45,7 +45,7 @@ fn walk(
     ensures searched { OnOk result (AreSearched net.now carried.new places.new) }
     ensures on { IfOk result (λ nodes. AreOn (length marks.old) marks.new (reverse nodes.items)) }
 {
-    let _nodes = net.nodes();
+    net.known();
     let mut at = lower(net, carried, 1, end);
     let mut nodes = Vec::new(alloc);
     while let Some(tail) = step_back(net, carried, places, at) {

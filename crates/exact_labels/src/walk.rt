@@ -28,8 +28,9 @@ fn read_node(
     ensures { Sweeps (node_count net.now) (pairs net.now (cells_of parts.now) [])
         (slice_index labels.new) (slice_index queue.new) result (place + 1) }
 {
+    net.known();
     let nodes = net.nodes();
-    let _arcs = net.arcs();
+    net.known_capacities();
     let w = queue[place];
     let heads = net.heads(w);
     let mates = net.mates(w);
@@ -62,6 +63,7 @@ pub fn exact_labels(net: &Net, parts: &[FlowPart], labels: &mut [u32], queue: &m
     ensures { IsDistance (node_count net.now) (pairs net.now (cells_of parts.now) labels.old)
         (slice_index labels.new) }
 {
+    net.known();
     let nodes = net.nodes();
     unlabel(labels, nodes);
     labels[1] = 0;

@@ -1,5 +1,9 @@
 //! Nothing that is told beside the fixed text of a failure changes how the run ends: a file that can't be read again, want of memory
 //! and a failed write leave it out.
+ghost use Rattle.std.specs.List.{flat_map};
+ghost use Rattle.counted_io.specs.Buffered.{Puts};
+ghost use Rattle.failure_hints.specs.Lines.{nearest_line, shown_byte};
+
 use crate::line::line_of_file;
 use aig_graph::Circuit;
 use circuit_files::{Failure, circuit_at};
@@ -78,13 +82,21 @@ fn put_line<R: Files, W: CountedWrite>(
     }
 }
 
-/// Puts a name; no byte of it steers the terminal.
-fn put_found<W: CountedWrite>(name: &[u8], out: &mut Buffered<'_, W>) {
-    out.put(b"the nearest name of a latch is ");
+/// Puts a name so that no byte of it steers the terminal.
+fn put_printable<W: CountedWrite>(out: &mut Buffered<'_, W>, name: &[u8])
+    ensures { Puts W.output out.old out.new (flat_map shown_byte name.now) }
+{
     for byte in name {
         out.put_byte(printable(*byte));
     }
-    out.put(b"\n");
+}
+
+fn put_found<W: CountedWrite>(name: &[u8], out: &mut Buffered<'_, W>)
+    ensures { Puts W.output out.old out.new (nearest_line name.now) }
+{
+    out.put(b"the nearest name of a latch is ");
+    put_printable(out, name);
+    out.put_byte(b'\n');
 }
 
 /// Puts the name of a latch that is nearest to this one, if one is near.
@@ -119,8 +131,9 @@ fn put_name<R: Files, W: CountedWrite>(
     }
 }
 
-/// Says more of a failure on standard error: the nearest name to one that no latch has, and, where that is a terminal, the line at
-/// fault of a refused ASCII circuit, and what the fault is. Only a regular file is read again, and none of the name `stdin`.
+/// Says more of a failure on standard error, where that is a terminal: the line at fault of a refused ASCII circuit, and what the
+/// fault is; the nearest name to one that no latch has. Elsewhere a program may compare what is said, and it is the fixed text alone.
+/// Only a regular file is read again, and none of the name `stdin`.
 pub fn give_hint<R: Files, E: CountedWrite>(
     rt: &R,
     alloc: Global,
@@ -128,13 +141,12 @@ pub fn give_hint<R: Files, E: CountedWrite>(
     is_terminal: bool,
     err: &mut E,
 ) {
+    if !is_terminal {
+        return;
+    }
     let mut out = Buffered::new(err);
     match failure {
-        Failure::Refused(path, error) => {
-            if is_terminal {
-                put_fault(rt, alloc, path, error, &mut out);
-            }
-        }
+        Failure::Refused(path, error) => put_fault(rt, alloc, path, error, &mut out),
         Failure::NoSuchName(path, name) => {
             if can_be_read_again(rt, path) {
                 put_name(rt, alloc, path, name, &mut out);

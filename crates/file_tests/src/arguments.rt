@@ -1,6 +1,6 @@
 //! What the words of a command line ask for.
-use aig_binary::Spelling;
 use command_line::{Retiming, Task, parse_arguments};
+use file_words::Spelling;
 use std::alloc::{AllocError, Global};
 use std::test::Fail;
 use stream_paths::{Source, Target};

@@ -3,7 +3,7 @@ ghost use Rattle.std.specs.Prelude.{◌≡◌, ◌∷◌, [], IfOk};
 
 use aig_graph::{NoMemory, Sequence, Symbols};
 use ascii_file::{Header, SymbolKind};
-use file_parts::{Names, PropertyLists};
+use reader_parts::{Names, PropertyLists};
 use std::alloc::Global;
 use std::test::Fail;
 

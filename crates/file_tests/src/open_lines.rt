@@ -1,6 +1,6 @@
 //! Lines that come in two pieces.
 use ascii_file::SymbolKind;
-use file_lines::{HeaderLine, NumberLine, SymbolLine, SymbolText};
+use reader_parts::{HeaderLine, NumberLine, SymbolLine, SymbolText};
 use std::alloc::Global;
 use std::test::Fail;
 

@@ -1,7 +1,7 @@
 //! The places at which variables are defined.
+use reader_parts::Places;
 use std::alloc::Global;
 use std::test::Fail;
-use variable_places::Places;
 
 /// Whether two variables, the second far above their number, are given their places.
 fn keeps_both(alloc: Global) -> bool {

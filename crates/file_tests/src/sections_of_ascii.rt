@@ -1,8 +1,8 @@
 //! The sections of an ASCII file.
+use aag_text::Sections;
 use aig_graph::Sequence;
 use ascii_file::{Header, Section, SymbolKind};
-use ascii_sections::Sections;
-use file_lines::SymbolText;
+use reader_parts::SymbolText;
 use std::alloc::Global;
 use std::test::Fail;
 

@@ -2,8 +2,8 @@
 use aag_text::ReadError;
 use aig_graph::{Circuit, Sequence};
 use ascii_file::{Header, Section, SymbolKind};
-use binary_sections::Sections;
-use file_lines::SymbolText;
+use binary_reader::Sections;
+use reader_parts::SymbolText;
 use std::alloc::Global;
 use std::test::Fail;
 

@@ -1,9 +1,11 @@
-//! The words of ASCII circuit files, after the AIGER 1.9 note: their lines and numbers, the text of a circuit, and the faults of
-//! bytes that are no circuit.
+//! The words of circuit files, after the AIGER 1.9 note: their two spellings, lines and numbers, the text of a circuit in ASCII,
+//! and the faults of bytes that are no circuit.
 #![tactic(auto)]
 
 mod cutting;
 mod fault;
+mod spelling;
 
 pub use cutting::{cut, first_line};
 pub use fault::ReadError;
+pub use spelling::Spelling;

@@ -26,7 +26,7 @@ fn clear_listed(net: &Net, list: &[u32], base: usize, values: &mut [u32])
     requires to { EachListed list.now (λ v. start net.now (v + 1) ≤ base + length values.old) }
     ensures { ClearsListed net.now base list.now (length list.now) values.old values.new }
 {
-    let _nodes = net.nodes();
+    net.known();
     for i in 0..list.len() {
         let v = list[i];
         clear(values, net.start(v) - base, net.start(v + 1) - base);
@@ -38,7 +38,7 @@ pub(crate) fn clear_part(net: &Net, part: &mut PushPart)
     requires part { PushPartFits net.now part.old }
     ensures { PartCleared net.now part.old part.new }
 {
-    let _nodes = net.nodes();
+    net.known();
     if part.pushing.complete {
         let list = part.pushing.nodes.as_slice();
         clear_listed(net, list, part.base, part.values.as_mut_slice());

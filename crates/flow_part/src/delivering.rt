@@ -18,6 +18,7 @@ fn next_label(net: &Net, labels: &[u32], v: u32, excess: u32, outflow: u32, row:
     requires row { length row.now ≡ row_len net.now v }
     ensures { result ≡ label_after net.now labels.now v excess outflow (slice_index row.now) }
 {
+    net.known();
     let nodes = net.nodes();
     let label = labels[v as usize];
     if v > 1 && excess > 0 && label < nodes && outflow < excess {
@@ -83,7 +84,7 @@ pub(crate) fn deliver_at(
     ensures delivered { PartDelivered net.now labels.now (values_of pushes.now) v
         (v + 1) part.old part.new }
 {
-    let _nodes = net.nodes();
+    net.known();
     let from = net.start(v) - part.base;
     let to = net.start(v + 1) - part.base;
     let at = (v - part.first) as usize;
@@ -111,7 +112,7 @@ pub fn deliver_part(
     requires safe { PartSafe net.now (values_of pushes.now) first end part.old }
     ensures { PartDelivered net.now labels.now (values_of pushes.now) first end part.old part.new }
 {
-    let _nodes = net.nodes();
+    net.known();
     let low = first.max(part.first);
     let high = end.min(part.end);
     if low < high {

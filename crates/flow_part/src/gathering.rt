@@ -55,7 +55,7 @@ fn add_heads(net: &Net, pushes: &[PushPart], u: u32, first: u32, end: u32, list:
     ensures heads { list.new.complete ≡ true
         → HeadsListed net.now (values_of pushes.now) first end list.new.nodes.items u }
 {
-    let _nodes = net.nodes();
+    net.known();
     let heads = net.heads(u);
     let row = push_row(pushes, net, u);
     for k in 0..heads.len() {
@@ -115,7 +115,7 @@ fn add_all_pushes(net: &Net, pushes: &[PushPart], first: u32, end: u32, list: &m
     ensures listed { list.new.complete ≡ true
         → AllPushesListed net.now (values_of pushes.now) first end list.new.nodes.items }
 {
-    let _nodes = net.nodes();
+    net.known();
     for i in 0..pushes.len() {
         let part = &pushes[i];
         if !part.pushing.complete {
@@ -144,6 +144,7 @@ pub(crate) fn gather(
     ensures work { part.new.spare.complete ≡ true
         → ListsWork net.now labels.now (values_of pushes.now) part.new }
 {
+    net.known();
     let nodes = net.nodes();
     let first = part.first;
     let end = part.end;

@@ -23,7 +23,7 @@ fn add_each(parts: &[PushPart], net: &Net, v: u32, row: &mut [u32]) -> u32
     ensures inflow { result ≡ row_inflow net.now (values_of parts.now) v }
     ensures row { AddsPushes net.now (values_of parts.now) v row.old row.new }
 {
-    let _nodes = net.nodes();
+    net.known();
     let heads = net.heads(v);
     let mates = net.mates(v);
     let mut inflow = 0;
@@ -60,8 +60,8 @@ fn receive(parts: &[PushPart], net: &Net, u: u32, v: u32, row: &mut [u32]) -> u3
         → slice_index row.old k + back net.now (values_of parts.now) v k < 2 ^ 32 }
     ensures { Receives net.now (values_of parts.now) u v row.old row.new result }
 {
-    let _nodes = net.nodes();
-    let _arcs = net.arcs();
+    net.known();
+    net.known_capacities();
     let heads = net.heads(u);
     let j = place_of(heads, v);
     if j == heads.len() {
@@ -84,7 +84,7 @@ fn add_listed(parts: &[PushPart], net: &Net, v: u32, row: &mut [u32]) -> u32
     ensures inflow { result ≡ row_inflow net.now (values_of parts.now) v }
     ensures row { AddsPushes net.now (values_of parts.now) v row.old row.new }
 {
-    let _nodes = net.nodes();
+    net.known();
     let mut inflow = 0;
     for i in 0..parts.len() {
         let part = &parts[i];

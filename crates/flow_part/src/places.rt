@@ -13,7 +13,7 @@ pub fn part_of<'a>(parts: &'a [FlowPart], net: &Net, v: u32) -> &'a FlowPart
     requires v { v < node_count net.now }
     ensures { HoldsNode net.now (cells_of parts.now) v result.now }
 {
-    let _nodes = net.nodes();
+    net.known();
     for part in parts {
         if v < part.end {
             return part;
@@ -30,7 +30,7 @@ pub fn push_at(parts: &[PushPart], net: &Net, w: u32, arc: usize) -> u32
     requires to { arc < start net.now (w + 1) }
     ensures { result ≡ slice_index (values_of parts.now) arc }
 {
-    let _nodes = net.nodes();
+    net.known();
     for part in parts {
         if w < part.end {
             return part.values[arc - part.base];
@@ -47,7 +47,7 @@ pub(crate) fn push_row<'a>(parts: &'a [PushPart], net: &Net, v: u32) -> &'a [u32
     ensures value { (k : ℕ) → k < row_len net.now v
         → slice_index result.now k ≡ own net.now (values_of parts.now) v k }
 {
-    let _nodes = net.nodes();
+    net.known();
     let at = net.start(v);
     let next = net.start(v + 1);
     for part in parts {

@@ -29,6 +29,7 @@ fn walk_row(
         (slice_index residuals.now) excess k }
     ensures counted { walked.new ≡ min (walked.old + 1) (2 ^ 32 - 1) }
 {
+    net.known();
     let nodes = net.nodes();
     let heads = net.heads(v);
     write_pushes(heads, residuals, labels, nodes, v, excess, row);
@@ -54,7 +55,7 @@ pub(crate) fn walk_at(
         (cells_of flow.now) values.old values.new }
     ensures counted { walked.new ≡ min (walked.old + 1) (2 ^ 32 - 1) }
 {
-    let _nodes = net.nodes();
+    net.known();
     let at = net.start(v);
     let next = net.start(v + 1);
     let part = part_of(flow, net, v);
@@ -77,7 +78,7 @@ fn excess_of(net: &Net, flow: &[FlowPart], v: u32) -> u32
     requires v { v < node_count net.now }
     ensures { result ≡ slice_index (cells_of flow.now).excess v }
 {
-    let _nodes = net.nodes();
+    net.known();
     let part = part_of(flow, net, v);
     part.excess[(v - part.first) as usize]
 }
@@ -113,7 +114,7 @@ fn read_at(
     ensures counted { IsCountedOn walked.old
         (active_from net.now labels.now (cells_of flow.now) v (v + 1)) walked.new }
 {
-    let _nodes = net.nodes();
+    net.known();
     if is_active(net, labels, flow, v) {
         walk_at(net, labels, flow, v, base, values, walked);
     } else {
@@ -135,7 +136,7 @@ pub fn read_part(
     requires part { PushPartFits net.now part.old }
     ensures { PartReadOn net.now labels.now first end (cells_of flow.now) part.old part.new }
 {
-    let _nodes = net.nodes();
+    net.known();
     let low = first.max(part.first);
     let high = end.min(part.end);
     if low < high {

@@ -41,7 +41,7 @@ fn walk_all(net: &Net, labels: &[u32], flow: &[FlowPart], part: &mut PushPart)
     requires zero { HoldsZeros net.now part.old }
     ensures { WholeRead net.now labels.now (cells_of flow.now) part.old part.new }
 {
-    let _nodes = net.nodes();
+    net.known();
     let (first, end) = (part.first, part.end);
     part.pushing.begin();
     part.walked = 0;
@@ -60,7 +60,7 @@ fn walk_listed(net: &Net, labels: &[u32], flow: &[FlowPart], list: &[u32], part:
     requires zero { HoldsZeros net.now part.old }
     ensures { WholeRead net.now labels.now (cells_of flow.now) part.old part.new }
 {
-    let _nodes = net.nodes();
+    net.known();
     part.pushing.begin();
     part.walked = 0;
     for i in 0..list.len() {
@@ -94,7 +94,7 @@ fn walk_part(net: &Net, labels: &[u32], flow: &[FlowPart], part: &mut PushPart, 
     requires listed { listed ≡ true → ListActive (node_count net.now) labels.now flow.now }
     ensures { WholeRead net.now labels.now (cells_of flow.now) part.old part.new }
 {
-    let _nodes = net.nodes();
+    net.known();
     match listing_part(flow, part.first, part.end, listed) {
         Some(i) => {
             let list = flow[i].active.nodes.as_slice();

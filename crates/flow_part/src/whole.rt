@@ -27,7 +27,7 @@ fn deliver_listed(net: &Net, labels: &[u32], pushes: &[PushPart], part: &mut Flo
         (node_count net.now) part.old part.new }
     ensures turning { SparesTurning (node_count net.now) labels.now part.new }
 {
-    let _nodes = net.nodes();
+    net.known();
     for i in 0..part.spare.nodes.len() {
         let v = part.spare.nodes[i];
         deliver_at(net, labels, pushes, v, part);

@@ -7,6 +7,7 @@ use std::alloc::Global;
 use std::test::Fail;
 
 fn has_arcs(net: &Net, heads: &[u32], mates: &[u32], caps: &[u32]) -> bool {
+    net.known_capacities();
     for k in 0..net.arcs() {
         let arc = k as u32;
         if heads.get(k).copied() != Some(net.head(arc))

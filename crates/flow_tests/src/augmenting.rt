@@ -46,6 +46,7 @@ fn widen(net: &Net, residuals: &[u32], steps: &mut [Option<u32>], arc: u32) {
 pub(crate) fn search(net: &Net, residuals: &[u32]) -> Steps {
     let mut steps = [None; 64];
     for _ in 0..net.nodes() {
+        net.known_capacities();
         for arc in 0..net.arcs() {
             widen(net, residuals, &mut steps, arc as u32);
         }
@@ -77,6 +78,7 @@ fn augment(net: &Net, residuals: &mut [u32], steps: &[Option<u32>]) {
 /// The capacities of all arcs.
 pub(crate) fn capacities(alloc: Global, net: &Net) -> Result<Vec<u32>, AllocError> {
     let mut caps = Vec::new(alloc);
+    net.known_capacities();
     for arc in 0..net.arcs() {
         caps.push(net.cap(arc as u32))?;
     }

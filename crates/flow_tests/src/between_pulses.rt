@@ -28,6 +28,7 @@ fn sent(net: &Net, pushes: &Pushes) -> u32
     requires usable { pushes.now.spent ≡ false }
 {
     let mut sent: u32 = 0;
+    net.known_capacities();
     for arc in 0..net.arcs() {
         sent = sent.saturating_add(pushes.push(arc as u32));
     }

@@ -9,7 +9,7 @@ use std::test::Fail;
 /// Whether these are the distances at the start, when the source's arcs are full.
 fn starts_with(alloc: Global, net: &Net, distances: &[u32]) -> Result<bool, AllocError> {
     let nodes = net.nodes();
-    let _arcs = net.arcs();
+    net.known_capacities();
     let parts = start_parts(alloc, net, 2, Vec::new(alloc))?;
     let mut labels = vec![in alloc; 0u32; nodes as usize]?;
     let mut queue = vec![in alloc; 0u32; nodes as usize]?;

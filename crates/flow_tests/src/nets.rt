@@ -22,8 +22,8 @@ pub(crate) fn net_of(alloc: Global, circuit: &Circuit, keep: &Keep) -> Result<Ne
 {
     let pass = passable(alloc, circuit.aig(), keep)?;
     let net = Net::build(alloc, circuit.aig(), circuit.props(), &pass, keep)?;
-    let _nodes = net.nodes();
-    let _source = net.point(0);
+    net.known();
+    net.known_points();
     Ok(net)
 }
 

@@ -102,7 +102,7 @@ fn passes_and_leaves_each_phase_once(rt: HostRuntime) -> Result<(), Fail> {
 
 /// Whether the phases of the pulse after one by ranges are the third and the fourth.
 fn counts_on<R: Threads + Sync>(rt: &R, alloc: Global, net: &Net) -> Result<bool, PulseError> {
-    let _nodes = net.nodes();
+    net.known();
     let mut flow = Flow::start(alloc, net)?;
     let mut pushes = Pushes::new(alloc, net)?;
     let crew = Crew::new(1, CountingGate::from(alloc, 1, 2)?);

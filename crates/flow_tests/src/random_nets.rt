@@ -101,6 +101,7 @@ fn value_of(net: &Net, end: &MaxPreflow) -> i64
     requires { IsMaxPreflow net.now end.now }
 {
     let mut value: i64 = 0;
+    net.known_capacities();
     for arc in 0..net.arcs() {
         if net.head(arc as u32) == 1 {
             value = value.saturating_add(end.flow(arc as u32));
@@ -114,6 +115,7 @@ fn residuals_of(alloc: Global, net: &Net, end: &MaxPreflow) -> Result<Vec<u32>, 
     requires { IsMaxPreflow net.now end.now }
 {
     let mut residuals = Vec::new(alloc);
+    net.known_capacities();
     for arc in 0..net.arcs() {
         residuals.push(end.residual(arc as u32))?;
     }

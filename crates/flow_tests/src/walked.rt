@@ -41,7 +41,7 @@ fn walks_as_worked<R: Threads + Sync>(
     net: &Net,
     crew: &Crew<OpenGate>,
 ) -> Result<bool, PulseError> {
-    let _nodes = net.nodes();
+    net.known();
     let mut flow = Flow::start(alloc, net)?;
     let mut pushes = Pushes::new(alloc, net)?;
     for active in &ACTIVE {

@@ -109,7 +109,7 @@ fn follows_states<R: Threads + Sync>(
     net: &Net,
     crew: &Crew<OpenGate>,
 ) -> Result<bool, PulseError> {
-    let _nodes = net.nodes();
+    net.known();
     let mut flow = Flow::start(alloc, net)?;
     let mut pushes = Pushes::new(alloc, net)?;
     for state in &STATES {
@@ -179,7 +179,7 @@ fn is_at_after_eleven<R: Threads + Sync>(
     net: &Net,
     crew: &Crew<OpenGate>,
 ) -> Result<bool, PulseError> {
-    let _nodes = net.nodes();
+    net.known();
     let mut flow = Flow::start(alloc, net)?;
     let mut pushes = Pushes::new(alloc, net)?;
     for _ in 0..11u32 {
@@ -228,6 +228,7 @@ pub(crate) fn pulse_by_ranges(net: &Net, flow: &mut Flow, pushes: &mut Pushes)
     ensures pushes { ArePushesOf net.now pushes.new }
     ensures usable { pushes.new.spent ≡ false }
 {
+    net.known();
     let nodes = net.nodes();
     read_range(net, flow, pushes, 0, nodes);
     deliver_range(net, flow, pushes, 0, nodes);
@@ -236,7 +237,7 @@ pub(crate) fn pulse_by_ranges(net: &Net, flow: &mut Flow, pushes: &mut Pushes)
 
 /// Whether the pulses by ranges go through the states.
 fn follows_states_by_ranges(alloc: Global, net: &Net) -> Result<bool, NoMemory> {
-    let _nodes = net.nodes();
+    net.known();
     let mut flow = Flow::start(alloc, net)?;
     let mut pushes = Pushes::new(alloc, net)?;
     for state in &STATES {

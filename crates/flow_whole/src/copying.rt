@@ -38,7 +38,7 @@ pub(crate) fn copied_residuals(
         → slice_index v.items i ≡ slice_index (cells_of flow.now).residuals
         (start net.now first + i)) }
 {
-    let _nodes = net.nodes();
+    net.known();
     let mut residuals = Vec::with_capacity(alloc, net.start(end) - net.start(first))?;
     for i in 0..flow.len() {
         let part = &flow[i];
@@ -68,7 +68,7 @@ pub(crate) fn copied_excess(
     ensures each { IfOk result (λ v. (i : ℕ) → i < length v.items
         → slice_index v.items i ≡ slice_index (cells_of flow.now).excess (first + i)) }
 {
-    let _nodes = net.nodes();
+    net.known();
     let mut excess = Vec::with_capacity(alloc, (end - first) as usize)?;
     for i in 0..flow.len() {
         let part = &flow[i];

@@ -15,6 +15,7 @@ pub fn start_labels(alloc: Global, net: &Net) -> Result<Vec<u32>, AllocError>
     ensures len { IfOk result (λ v. length v.items ≡ node_count net.now) }
     ensures each { IfOk result (λ v. LabelsStart net.now v.items) }
 {
+    net.known();
     let nodes = net.nodes();
     let mut labels = vec![in alloc; 0u32; nodes as usize]?;
     labels[0] = nodes;

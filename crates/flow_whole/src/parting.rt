@@ -45,7 +45,7 @@ fn part_anew(
     ensures lists { IfOk result (λ q. ListActive (node_count net.now) labels.now flow.now
         → ListsActive (node_count net.now) labels.now q) }
 {
-    let _nodes = net.nodes();
+    net.known();
     let base = net.start(first);
     let residuals = copied_residuals(alloc, net, flow, first, end)?;
     let excess = copied_excess(alloc, net, flow, first, end)?;
@@ -111,7 +111,7 @@ fn push_part(
     ensures end { IfOk result (λ p. p.end ≡ end) }
     ensures fits { IfOk result (λ p. PushPartFits net.now p) }
 {
-    let _nodes = net.nodes();
+    net.known();
     let base = net.start(first);
     let size = net.start(end) - base;
     let values = zeros_in(memory, size)?;

@@ -38,8 +38,8 @@ fn replace_caps(net: &Net, base: u32, residuals: &mut [u32])
     ensures each { (i : ℕ) → i < length residuals.new
         → slice_index residuals.new i ≡ start_res net.now (base + i) }
 {
-    let _nodes = net.nodes();
-    let _arcs = net.arcs();
+    net.known();
+    net.known_capacities();
     let row = net.row(0);
     for arc in 0..row.end {
         let mate = net.mate(arc);
@@ -60,8 +60,8 @@ fn start_residuals(
     ensures each { IfOk result (λ v. (i : ℕ) → i < length v.items
         → slice_index v.items i ≡ start_res net.now (base + i)) }
 {
-    let _nodes = net.nodes();
-    let _arcs = net.arcs();
+    net.known();
+    net.known_capacities();
     let mut residuals = emptied(memory, size as usize)?;
     let from = base as usize;
     let to = from + size as usize;
@@ -78,8 +78,8 @@ fn fill_excesses(net: &Net, first: u32, excess: &mut [u32])
     ensures each { (i : ℕ) → i < length excess.new
         → slice_index excess.new i ≡ start_excess net.now (first + i) }
 {
-    let _nodes = net.nodes();
-    let _arcs = net.arcs();
+    net.known();
+    net.known_capacities();
     let row = net.row(0);
     for arc in 0..row.end {
         let head = net.head(arc);
@@ -117,8 +117,8 @@ fn start_part(
     ensures starts { IfOk result (λ q. PartHolds net.now (start_res net.now)
         (start_excess net.now) q) }
 {
-    let _nodes = net.nodes();
-    let _arcs = net.arcs();
+    net.known();
+    net.known_capacities();
     let base = net.start(first);
     let size = net.start(end) - base;
     let residuals = start_residuals(memory, net, base as u32, size as u32)?;

@@ -112,18 +112,38 @@ impl Net {
         }
     }
 
+    /// That each network is one of rows whose arcs have mates. Costs nothing: a caller sees the value of a network alone, and has
+    /// what holds of every network by a call of this or of the next two.
+    pub fn known(&self)
+        ensures network { IsFlowNet self.now }
+    {
+        let _starts = self.starts.as_slice();
+    }
+
+    /// That in each network the capacities of an arc and its mate, and those of all arcs of the source, fit in 32 bits.
+    pub fn known_capacities(&self)
+        ensures startable { IsStartable self.now }
+    {
+        let _starts = self.starts.as_slice();
+    }
+
+    /// That in each network all nodes but the source and the sink have points.
+    pub fn known_points(&self)
+        ensures points { HasPoints self.now }
+    {
+        let _starts = self.starts.as_slice();
+    }
+
     /// The number of nodes, the source and the sink among them.
     pub fn nodes(&self) -> u32
-        ensures count { result ≡ node_count self.now }
-        ensures network { IsFlowNet self.now }
+        ensures { result ≡ node_count self.now }
     {
         (self.starts.len() - 1) as u32
     }
 
     /// The number of arcs, the mates among them.
     pub fn arcs(&self) -> usize
-        ensures count { result ≡ length self.now.heads }
-        ensures startable { IsStartable self.now }
+        ensures { result ≡ length self.now.heads }
     {
         self.heads.len()
     }
@@ -131,8 +151,7 @@ impl Net {
     /// Where a node lies. The source and the sink have no point.
     pub fn point(&self, v: u32) -> Option<Point>
         requires { v < node_count self.now }
-        ensures value { result ≡ point_of self.now v }
-        ensures points { HasPoints self.now }
+        ensures { result ≡ point_of self.now v }
     {
         let latches = self.latches;
         if v < 2 {

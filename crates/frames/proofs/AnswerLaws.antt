@@ -4,16 +4,16 @@ use Rattle.std.proofs.Common.{ℕ, ◌≡◌, List, Option, Some, Result, Ok, ap
 use Rattle.counted_io.specs.Input.{Input}
 use Rattle.aig_graph.specs.Circuits.{Netlist}
 use Rattle.file_words.specs.declared.fault.ReadError.{ReadError}
-use Rattle.spellings.specs.declared.form.Spelling.{Spelling}
+use Rattle.file_words.specs.declared.spelling.Spelling.{Spelling}
 use Rattle.aig_binary.specs.declared.reading.SpeltCircuit.{SpeltCircuit}
 use Rattle.aig_binary.specs.Ending.{Spells}
 use Rattle.retimed_circuits.specs.Certified.{IsSameRetiming}
-use Rattle.retimed_circuits.specs.Retiming.{IsRetimed}
 use Rattle.retimed_circuits.proofs.RunLaws.{retiming-one}
 use Rattle.frames.specs.declared.options.Options.{Options}
 use Rattle.frames.specs.Named.{names_in}
-use Rattle.spellings.specs.Spellings.{text_in}
+use Rattle.aig_binary.specs.Spellings.{text_in}
 use Rattle.frames.specs.Answering.{IsOneAnswer}
+use Rattle.frames.specs.Retiming.{IsRetimedBy}
 
 same_circuit : (c d : Netlist) → ◌≡◌ {A = Result Netlist ReadError} (Ok c) (Ok d) → c ≡ d
 same_circuit c d e = cc
@@ -31,7 +31,7 @@ one-spelt bytes input other a b first second p q =
 pub one-answer : (bytes : List ℕ) (options : Options) → IsOneAnswer bytes options
 one-answer bytes options certify input other old new before after r s first second p q =
     let spelt : p.spelt ≡ q.spelt = one-spelt bytes input other p.spelt q.spelt first second p.read q.read in
-    let P : SpeltCircuit → Type 0 = λ a. IsRetimed options.choice a.circuit (names_in options) options.max_frames options.certify r in
+    let P : SpeltCircuit → Type 0 = λ a. IsRetimedBy options a.circuit r in
     let same : IsSameRetiming options.certify certify r s =
     retiming-one options.choice q.spelt.circuit (names_in options) options.max_frames options.certify certify r s (subst P spelt p.written.answer.retimed) q.written.answer.retimed in
     (same, ap₂ (λ (a : SpeltCircuit) (d : Netlist). text_in (unwrap_or options.spelling a.spelling) d) spelt same.circuit)

@@ -10,22 +10,22 @@ use Rattle.least_sets.specs.declared.choice.Choice.{Choice}
 use Rattle.least_sets.specs.Chosen.{IsChosen}
 use Rattle.retimed_circuits.specs.declared.report.FrameReport.{FrameReport}
 use Rattle.retimed_circuits.specs.declared.report.Retimed.{Retimed}
-use Rattle.retimed_circuits.specs.Names.{held_in}
 use Rattle.retimed_circuits.specs.Frames.{AfterFrames}
 use Rattle.retimed_circuits.specs.Certified.{IsCertificate, AreOfFrames, AreCertified}
 use Rattle.retimed_circuits.proofs.ReportLaws.{all-reported}
 use Rattle.retimed_circuits.proofs.RunLaws.{after-one}
+use Rattle.frames.specs.declared.options.Options.{Options}
 use Rattle.frames.specs.Certified.{AddsChosen, AreCollected}
+use Rattle.frames.specs.Named.{kept_by, names_in}
 
 none-yet : (choice : Choice) (names : List (List ℕ)) (c : Netlist) → AreOfFrames choice names c []
 none-yet choice names c i d kept reports cert run at =
     let within : i < 0 = slice_get_within {A = Certificate} [] i cert at in absurd (omega (arith, within))
 
-pub none-collected : (choice : Choice) (names : List (List ℕ)) (c : Netlist) (certify : Bool) (records : Records) → records.certify ≡ certify → records.certificates.items ≡ []
-    → AreCollected choice names c certify 0 records
-none-collected choice names c certify records wanted empty = record {
+pub none-collected : (options : Options) (c : Netlist) (records : Records) → records.certify ≡ options.certify → records.certificates.items ≡ [] → AreCollected options c 0 records
+none-collected options c records wanted empty = record {
   wanted = wanted;
-  each = λ yes. subst (AreOfFrames choice names c) (sym empty) (none-yet choice names c);
+  each = λ yes. subst (AreOfFrames options.choice (names_in options) c) (sym empty) (none-yet options.choice (names_in options) c);
   many = λ yes. ap (λ (certs : List Certificate). length certs) empty;
   none = λ no. empty;
 }
@@ -41,13 +41,15 @@ one-more-certificate choice names c certs cert d kept reports before run is i e 
       subst (IsCertificate choice names e) (sym last.1) (subst (λ (x : Netlist). IsCertificate choice names x cert) same is))
 ]
 
-pub one-collected : (choice : Choice) (names : List (List ℕ)) (c : Netlist) (certify : Bool) (n : ℕ) (mid new : Records) (d : Netlist) (kept : List ℕ) (reports : List FrameReport)
-    → AreCollected choice names c certify n mid → AfterFrames choice names c n d kept reports → AddsChosen choice names d mid new → AreCollected choice names c certify (suc n) new
-one-collected choice names c certify n mid new d kept reports before run adds = record {
+pub one-collected : (options : Options) (c : Netlist) (n : ℕ) (mid new : Records) (d : Netlist) (kept : List ℕ) (reports : List FrameReport)
+    → AreCollected options c n mid → AfterFrames options.choice (names_in options) c n d kept reports → AddsChosen options d mid new → AreCollected options c (suc n) new
+one-collected options c n mid new d kept reports before run adds = record {
   wanted = adds.adds.certify ∙ before.wanted;
   each = λ yes.
+      let choice = options.choice in
+      let names = names_in options in
       let added = adds.adds.added (before.wanted ∙ yes) in
-      let is : IsCertificate choice names d added.0 = record { chosen = subst (IsChosen choice d (held_in names d)) (sym added.1.gates) adds.chosen; passes = added.1.passes } in
+      let is : IsCertificate choice names d added.0 = record { chosen = subst (IsChosen choice d (kept_by options d)) (sym added.1.gates) adds.chosen; passes = added.1.passes } in
       let P : ℕ → Type 0 = λ m. AfterFrames choice names c m d kept reports in
       let all = one-more-certificate choice names c mid.certificates.items added.0 d kept reports (before.each yes) (subst P (sym (before.many yes)) run) is in
       subst (AreOfFrames choice names c) (sym added.2) all;
@@ -59,11 +61,13 @@ one-collected choice names c certify n mid new d kept reports before run adds = 
 }
 
 -- the certificates of r are those that were collected of the first n circuits: as many as frames at the limit, one more before it
-pub certified : (choice : Choice) (names : List (List ℕ)) (c : Netlist) (certify : Bool) (n max_frames : ℕ) (r : Retimed) (records : Records)
-    → AreCollected choice names c certify n records → r.certificates ≡ records.certificates.items → (taken : ℕ) → AfterFrames choice names c taken r.circuit r.kept_free r.frames
-    → (length r.frames ≡ max_frames → n ≡ length r.frames) → (length r.frames < max_frames → n ≡ suc (length r.frames)) → AreCertified choice c names max_frames certify r
-certified choice names c certify n max_frames r records all same taken run limit before =
-    let each : AreOfFrames choice names c r.certificates = subst (AreOfFrames choice names c) (sym same) (of-frames choice names c certify n records all) in
+pub certified : (options : Options) (c : Netlist) (n : ℕ) (r : Retimed) (records : Records) → AreCollected options c n records → r.certificates ≡ records.certificates.items
+    → (taken : ℕ) → AfterFrames options.choice (names_in options) c taken r.circuit r.kept_free r.frames → (length r.frames ≡ options.max_frames → n ≡ length r.frames)
+    → (length r.frames < options.max_frames → n ≡ suc (length r.frames)) → AreCertified options.choice c (names_in options) options.max_frames options.certify r
+certified options c n r records all same taken run limit before =
+    let choice = options.choice in
+    let names = names_in options in
+    let each : AreOfFrames choice names c r.certificates = subst (AreOfFrames choice names c) (sym same) (of-frames choice names c options.certify records.certificates.items all.each all.none) in
     record {
       each = each;
       reported = all-reported choice names c taken r.circuit r.kept_free r.frames r.certificates run each;
@@ -72,7 +76,7 @@ certified choice names c certify n max_frames r records all same taken run limit
       none = λ no. same ∙ all.none no;
     }
   where
-    of-frames : (choice : Choice) (names : List (List ℕ)) (c : Netlist) (certify : Bool) (n : ℕ) (records : Records) → AreCollected choice names c certify n records
-        → AreOfFrames choice names c records.certificates.items
-    of-frames choice names c true n records all = all.each refl
-    of-frames choice names c false n records all = subst (AreOfFrames choice names c) (sym (all.none refl)) (none-yet choice names c)
+    of-frames : (choice : Choice) (names : List (List ℕ)) (c : Netlist) (certify : Bool) (certs : List Certificate) → (certify ≡ true → AreOfFrames choice names c certs) → (certify ≡ false → certs ≡ [])
+        → AreOfFrames choice names c certs
+    of-frames choice names c true certs each none = each refl
+    of-frames choice names c false certs each none = subst (AreOfFrames choice names c) (sym (none refl)) (none-yet choice names c)

@@ -1,46 +1,41 @@
 -- What the frames of a run rest on.
-use Rattle.std.proofs.Common.{ℕ, Bool, ◌≡◌, ◌<◌, ◌≤◌, ◌++◌, suc, refl, List, [], ◌∷◌, length, filter, get_or, arith, ap, sym, ◌∙◌, subst, Result, Ok, Err}
+use Rattle.std.proofs.Common.{ℕ, ◌≡◌, ◌<◌, ◌≤◌, ◌++◌, suc, refl, List, [], ◌∷◌, length, get_or, arith, ap, sym, ◌∙◌, subst, Result, Ok, Err}
 use Rattle.std.specs.Result.{IfOk}
 use Rattle.std.specs.List.{All}
-use Rattle.std.proofs.lemmas.List.Elements.{All-filter, All-map}
 use Rattle.std.proofs.lemmas.List.FromFn.{length-range_with_len}
 use Rattle.aig_graph.specs.declared.literal.TheConstants.{MAX_VARIABLES}
-use Rattle.aig_graph.specs.declared.properties.Symbol.{Symbol}
 use Rattle.aig_graph.specs.Graph.{Graph, IsGraph, variables_end, free_latches, known_latches}
 use Rattle.aig_graph.specs.Circuits.{Netlist, IsNetlist}
 use Rattle.aig_graph.specs.Closed.{IsClosedSet}
-use Rattle.aig_graph.specs.Keep.{is_named, held_by}
+use Rattle.aig_graph.specs.Keep.{held_in}
 use Rattle.aig_graph.specs.Border.{IsLeast}
 use Rattle.aig_graph.specs.Laws.{all_free, composed}
 use Rattle.aig_graph.specs.Streams.{SameStreams}
-use Rattle.aig_graph.proofs.StreamLaws.{same_streams-transitive}
+use Rattle.aig_graph.proofs.StreamLaws.{same_streams-reflexive, same_streams-transitive}
 use Rattle.certificates.specs.declared.certificate.Certificate.{Certificate}
 use Rattle.chosen_cuts.specs.declared.records.Records.{Records}
 use Rattle.clean.specs.declared.cleaning.Cleaned.{Cleaned}
 use Rattle.clean.proofs.CleaningLaws.{composed-all}
+use Rattle.cleaned_circuits.proofs.PassLaws.{IsCircuit}
 use Rattle.variable_tables.specs.Counting.{places}
 use Rattle.variable_tables.specs.Marking.{has}
 use Rattle.variable_tables.proofs.MemberLaws.{places-members}
 use Rattle.variable_tables.proofs.PlacesLaws.{length-places, count-bound}
 use Rattle.rebuild.proofs.MovedLaws.{members-below}
-use Rattle.least_sets.specs.declared.choice.Choice.{Choice}
 use Rattle.least_sets.proofs.ChosenLaws.{chosen-least}
 use Rattle.retimed_circuits.specs.declared.report.Retimed.{Retimed}
-use Rattle.retimed_circuits.specs.Names.{held_in}
-use Rattle.retimed_circuits.specs.Frames.{AfterFrames, IsHelpingSet, NoneSmaller, count_in, frame}
-use Rattle.retimed_circuits.specs.Retiming.{IsRetimed}
+use Rattle.retimed_circuits.specs.Names.{held_latches}
+use Rattle.retimed_circuits.specs.Frames.{AfterFrames, CleansIn, count_in, cleaned, frame, moved_in}
+use Rattle.retimed_circuits.proofs.HeldLaws.{cleaning-keeps, moving-keeps}
 use Rattle.retimed_circuits.proofs.RunLaws.{after-length}
+use Rattle.tidy.proofs.FrameLaws.{cleans-tidy, tidy-cleaned}
 use Rattle.frames.specs.declared.frame.Frame.{Frame}
+use Rattle.frames.specs.declared.options.Options.{Options}
 use Rattle.frames.specs.Found.{Moves}
+use Rattle.frames.specs.Named.{kept_by, names_in}
+use Rattle.frames.specs.Retiming.{IsCleanedBy, IsHelpingSetBy, IsMovedBy, IsRetimedBy, IsTidyBy, Keeps, NoneSmallerBy}
 use Rattle.frames.specs.Underway.{IsUnderway, IsRun}
 use Rattle.frames.proofs.CertificateLaws.{certified}
-
-pub held-below : (names : List (List ℕ)) (c : Netlist) → IsNetlist c → All (λ j. j < length c.aig.latches) (held_in names c)
-unfolding held_by
-held-below names c netlist =
-    let position_of : Symbol → ℕ = λ s. s.position in
-    All-map (λ j. j < length c.aig.latches) position_of (filter (is_named names) c.symbols.latches)
-    (All-filter (is_named names) (λ s. s.position < length c.aig.latches) c.symbols.latches netlist.symbols.latches.below)
 
 -- a closed set has no more members than the graph has variables
 pub closed-length : (g : Graph) (held s : List ℕ) → IsGraph g → IsClosedSet g held s → length s ≤ MAX_VARIABLES
@@ -50,12 +45,12 @@ closed-length g held s valid set =
     omega (arith, long, length-places (has s) (variables_end g), count-bound (has s) (variables_end g), valid.small)
 
 -- where a least set counts no less than the known latches, no closed set does
-pub none-smaller : (names : List (List ℕ)) (c : Netlist) (s : List ℕ) → IsLeast c (held_in names c) s → known_latches c.aig ≤ count_in names c s → NoneSmaller names c
-none-smaller names c s is_least many r closed = let least = is_least.least r closed in omega (arith, least, many)
+pub none-smaller : (options : Options) (c : Netlist) (s : List ℕ) → IsLeast c (kept_by options c) s → known_latches c.aig ≤ count_in (names_in options) c s → NoneSmallerBy options c
+none-smaller options c s is_least many r closed = let least = is_least.least r closed in omega (arith, least, many)
 
 -- a helping set is closed
-pub helping-closed : (choice : Choice) (names : List (List ℕ)) (c : Netlist) (s : List ℕ) → IsHelpingSet choice names c s → IsClosedSet c.aig (held_in names c) s
-helping-closed choice names c s helps = (chosen-least choice c (held_in names c) s helps.chosen).closed
+pub helping-closed : (options : Options) (c : Netlist) (s : List ℕ) → IsHelpingSetBy options c s → IsClosedSet c.aig (kept_by options c) s
+helping-closed options c s helps = (chosen-least options.choice c (kept_by options c) s helps.chosen).closed
 
 -- every free latch stays, and then some of them
 pub streams-through : (c d e : Netlist) (kept : List ℕ) → SameStreams c d (all_free c.aig) → SameStreams d e kept → SameStreams c e kept
@@ -66,30 +61,74 @@ streams-through c d e kept first second =
     omega (arith, here, first.places.each, length-range_with_len 0 free) in
     subst (λ (places : List ℕ). SameStreams c e places) (composed-all free kept below) (same_streams-transitive c d e (all_free c.aig) kept first second)
 
--- what is so of a circuit with all its free latches is so of a result that is that circuit
-pub own-cleaned : {E : Type 0} (c : Netlist) (P : Netlist → List ℕ → Type 0) (r : Result Cleaned E) → IfOk r (λ d. d.circuit ≡ c) → IfOk r (λ d. d.kept_free ≡ all_free c.aig)
-    → P c (all_free c.aig) → IfOk r (λ d. P d.circuit d.kept_free)
-own-cleaned c P (Ok d) circuit places so = subst (λ (e : Netlist). P e d.kept_free) (sym circuit) (subst (P c) (sym places) so)
-own-cleaned c P (Err e) circuit places so = tt
+-- cleaning keeps what names hold, and leaves nothing to clean
+cleaned-keeps : (options : Options) (c d : Netlist) (places : List ℕ) → IsCircuit c → CleansIn (names_in options) c d places → SameStreams c d places → Keeps options c d places
+cleaned-keeps options c d places valid cleans streams =
+    let names = names_in options in
+    record { streams = streams; held = cleaning-keeps names c d places valid cleans; tidy = cleans-tidy names d (held_in names c) c places cleans refl valid }
+
+-- a result of cleaning
+pub cleaned-by : {E : Type 0} (options : Options) (c : Netlist) (r : Result Cleaned E) → IsCircuit c → IfOk r (λ d. CleansIn (names_in options) c d.circuit d.kept_free)
+    → IfOk r (λ d. SameStreams c d.circuit d.kept_free) → IfOk r (IsCleanedBy options c)
+cleaned-by options c (Ok d) valid cleans streams = record { cleaned = cleans; keeps = cleaned-keeps options c d.circuit d.kept_free valid cleans streams }
+cleaned-by options c (Err e) valid cleans streams = tt
+
+-- a tidy circuit is its own cleaning, and so is a result that is that circuit with all its free latches
+pub own-cleaned : {E : Type 0} (options : Options) (c : Netlist) (r : Result Cleaned E) → IfOk r (λ d. d.circuit ≡ c) → IfOk r (λ d. d.kept_free ≡ all_free c.aig) → IsCircuit c
+    → IsTidyBy options c → IfOk r (IsCleanedBy options c)
+own-cleaned options c (Ok d) circuit places valid tidy =
+    let names = names_in options in
+    let P : Netlist → List ℕ → Type 0 = λ e js. CleansIn names c e js × Keeps options c e js in
+    let own : P c (all_free c.aig) = (tidy-cleaned names c valid tidy, record { streams = same_streams-reflexive c; held = refl; tidy = tidy }) in
+    let both = subst (λ (e : Netlist). P e d.kept_free) (sym circuit) (subst (P c) (sym places) own) in
+    record { cleaned = both.0; keeps = both.1 }
+own-cleaned options c (Err e) circuit places valid tidy = tt
+
+-- a moved circuit, cleaned
+pub moved-by : {E : Type 0} (options : Options) (c after : Netlist) (set : List ℕ) (r : Result Cleaned E) → IsNetlist c → after ≡ moved_in (names_in options) c set
+    → SameStreams c after (all_free c.aig) → IfOk r (IsCleanedBy options after) → IfOk r (IsMovedBy options c set)
+moved-by options c after set (Ok d) netlist same streams is =
+    let names = names_in options in
+    record {
+      cleaned = subst (λ (e : Netlist). CleansIn names e d.circuit d.kept_free) same is.cleaned;
+      keeps = record {
+        streams = streams-through c after d.circuit d.kept_free streams is.keeps.streams;
+        held = is.keeps.held ∙ ap (held_latches names) same ∙ moving-keeps names c set netlist;
+        tidy = is.keeps.tidy;
+      };
+    }
+moved-by options c after set (Err e) netlist same streams is = tt
+
+-- a cleaned circuit is what no frame makes
+pub underway-first : (options : Options) (c : Netlist) (d : Cleaned) (r : Retimed) → IsCircuit c → CleansIn (names_in options) c d.circuit d.kept_free → SameStreams c d.circuit d.kept_free
+    → r.circuit ≡ d.circuit → r.kept_free ≡ d.kept_free → r.read_latches ≡ length c.aig.latches → r.frames ≡ [] → IsUnderway options c 0 r
+underway-first options c d r valid cleans streams circuit places latches none =
+    let s : Retimed = record { circuit = d.circuit; kept_free = d.kept_free; read_latches = length c.aig.latches; frames = []; certificates = r.certificates } in
+    let same : r ≡ s = λ i. record { circuit = circuit i; kept_free = places i; read_latches = latches i; frames = none i; certificates = r.certificates } in
+    subst (IsUnderway options c 0) (sym same)
+    (record { frames = cleaned d.circuit d.kept_free cleans; read_latches = refl; keeps = cleaned-keeps options c d.circuit d.kept_free valid cleans streams })
 
 -- whatever certificates the next state has
-pub one-more : (choice : Choice) (names : List (List ℕ)) (c : Netlist) (n : ℕ) (r : Retimed) (taken : Frame) (certs : List Certificate) → IsUnderway choice names c n r → Moves choice names r.circuit taken
-    → IsUnderway choice names c (suc n)
+pub one-more : (options : Options) (c : Netlist) (n : ℕ) (r : Retimed) (taken : Frame) (certs : List Certificate) → IsUnderway options c n r → Moves options r.circuit taken → IsUnderway options c (suc n)
     (record { circuit = taken.cleaned.circuit; kept_free = composed r.kept_free taken.cleaned.kept_free; read_latches = r.read_latches; frames = r.frames ++ taken.report ∷ []; certificates = certs })
-one-more choice names c n r taken certs before moves = record {
+one-more options c n r taken certs before moves = record {
   frames = frame n r.circuit taken.cleaned.circuit r.kept_free taken.cleaned.kept_free r.frames taken.report before.frames moves.moves;
   read_latches = before.read_latches;
-  streams = same_streams-transitive c r.circuit taken.cleaned.circuit r.kept_free taken.cleaned.kept_free before.streams moves.streams;
-  held = moves.held ∙ before.held;
-  tidy = moves.tidy;
+  keeps = record {
+    streams = same_streams-transitive c r.circuit taken.cleaned.circuit r.kept_free taken.cleaned.kept_free before.keeps.streams moves.keeps.streams;
+    held = moves.keeps.held ∙ before.keeps.held;
+    tidy = moves.keeps.tidy;
+  };
 }
 
 -- a run ends at the limit of frames, or where none counts less; it has the certificates that were collected
-pub ended : (choice : Choice) (names : List (List ℕ)) (c : Netlist) (max_frames : ℕ) (certify : Bool) (records : Records) (r : Retimed) → IsRun choice names c max_frames certify records r
-    → IsRetimed choice c names max_frames certify
+pub ended : (options : Options) (c : Netlist) (records : Records) (r : Retimed) → IsRun options c records r
+    → IsRetimedBy options c
     (record { circuit = r.circuit; kept_free = r.kept_free; read_latches = r.read_latches; frames = r.frames; certificates = records.certificates.items })
-ended choice names c max_frames certify records r run =
+ended options c records r run =
     let s : Retimed = record { circuit = r.circuit; kept_free = r.kept_free; read_latches = r.read_latches; frames = r.frames; certificates = records.certificates.items } in
+    let choice = options.choice in
+    let names = names_in options in
     let taken : AfterFrames choice names c run.taken r.circuit r.kept_free r.frames = run.underway.frames in
     let long : length r.frames ≡ run.taken = after-length choice names c run.taken r.circuit r.kept_free r.frames taken in
     record {
@@ -97,8 +136,8 @@ ended choice names c max_frames certify records r run =
       within = omega (arith, long, run.within);
       last = λ less. run.last (omega (arith, long, less));
       read_latches = run.underway.read_latches;
-      streams = run.underway.streams;
-      certified = certified choice names c certify run.looked max_frames s records run.collected refl run.taken taken
+      streams = run.underway.keeps.streams;
+      certified = certified options c run.looked s records run.collected refl run.taken taken
           (λ limit. run.limited (sym long ∙ limit) ∙ sym long) (λ less. run.ended (omega (arith, long, less)) ∙ ap suc (sym long));
-      held = run.underway.held;
+      held = run.underway.keeps.held;
     }

@@ -2,8 +2,3 @@ pub mod CertificateLaws
 pub mod FrameLaws
 pub mod AnswerLaws
 pub mod StopLaws
-pub mod NameListLaws
-pub mod StayLaws
-pub mod LineLaws
-pub mod PropsLaws
-pub mod ReadLaws

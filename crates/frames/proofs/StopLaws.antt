@@ -1,10 +1,9 @@
 -- Why a circuit that was read isn't retimed and written.
-use Rattle.std.proofs.Common.{ℕ, ◌≡◌, Some, Result, Ok, Err, refl, sym, subst}
+use Rattle.std.proofs.Common.{ℕ, ◌≡◌, Result, Ok, Err, refl, sym, subst}
 use Rattle.std.specs.Result.{IfErr, IfOk, IsErrAnd, OnOk}
 use Rattle.counted_io.specs.Input.{Input}
 use Rattle.counted_io.specs.Output.{Output}
 use Rattle.retimed_circuits.specs.declared.report.Retimed.{Retimed}
-use Rattle.aig_graph.specs.Keep.{first_missing}
 use Rattle.aig_binary.specs.declared.reading.SpeltCircuit.{SpeltCircuit}
 use Rattle.aig_binary.specs.Ending.{ReadsToEnd, Spells}
 use Rattle.frames.specs.declared.errors.BytesError.{BytesError}
@@ -13,7 +12,7 @@ use Rattle.frames.specs.declared.errors.RetimeError.{RetimeError}
 use Rattle.frames.specs.declared.errors.RetimeError.TheVariants.{NoMemory, NoSuchName}
 use Rattle.frames.specs.declared.options.Options.{Options}
 use Rattle.frames.specs.Answering.{AfterReading, AreOfCircuit, BeforeWriting, IsAnswered, IsBytesError, IsStop, RetimesBytes}
-use Rattle.frames.specs.Named.{names_in}
+use Rattle.frames.specs.Named.{IsFirstMissingBy}
 
 -- what is so of an error is so of the result that has it
 pub at-error : {T E : Type 0} (r : Result T E) (e : E) (P : E → Type 0) → IsErrAnd r (λ x. x ≡ e) → P e → IfErr r P
@@ -22,7 +21,7 @@ at-error (Err x) e P h p = subst P (sym h) p
 
 -- nothing is written where the circuit isn't retimed
 pub stops-retiming : (options : Options) (spelt : SpeltCircuit) (out : Output) (e : RetimeError)
-    → ((place : ℕ) → e ≡ NoSuchName place → first_missing spelt.circuit.symbols.latches (names_in options) ≡ Some place) → IsStop options spelt out out (Retime e)
+    → ((place : ℕ) → e ≡ NoSuchName place → IsFirstMissingBy options spelt.circuit place) → IsStop options spelt out out (Retime e)
 stops-retiming options spelt out NoMemory missing = refl
 stops-retiming options spelt out (NoSuchName place) missing = (refl, missing place refl)
 

@@ -3,20 +3,19 @@ use Rattle.std.specs.Prelude.{ℕ, ◌≡◌, ⊤, Bool, List, Some, Result, Ok,
 use Rattle.counted_io.specs.Input.{Input}
 use Rattle.counted_io.specs.Output.{Output, WritesAll, WritesPart}
 use Rattle.counted_io.specs.declared.writing.WriteError.{WriteError}
-use Rattle.aig_graph.specs.Keep.{first_missing}
 use Rattle.file_words.specs.declared.fault.ReadError.{ReadError}
 use Rattle.ascii_file.specs.Laws.{IsWithinLimits}
-use Rattle.spellings.specs.Spellings.{read_any, text_in}
+use Rattle.aig_binary.specs.Spellings.{read_any, text_in}
 use Rattle.aig_binary.specs.declared.reading.SpeltCircuit.{SpeltCircuit}
 use Rattle.aig_binary.specs.Ending.{ReadsToEnd, Spells, IsReadError}
 use Rattle.retimed_circuits.specs.declared.report.Retimed.{Retimed}
 use Rattle.retimed_circuits.specs.Certified.{IsSameRetiming}
-use Rattle.retimed_circuits.specs.Retiming.{IsRetimed}
 use Rattle.frames.specs.declared.errors.BytesError.{BytesError}
 use Rattle.frames.specs.declared.errors.BytesError.TheVariants.{Read, Retime, Write}
 use Rattle.frames.specs.declared.errors.RetimeError.TheVariants.{NoMemory, NoSuchName}
 use Rattle.frames.specs.declared.options.Options.{Options}
-use Rattle.frames.specs.Named.{NoneMissing, names_in}
+use Rattle.frames.specs.Named.{IsFirstMissingBy, NoneMissingBy}
+use Rattle.frames.specs.Retiming.{IsRetimedBy}
 
 -- the text of a retimed circuit in the chosen spelling, else in that of the circuit that was read
 abbrev pub text_for : Options → SpeltCircuit → Retimed → List ℕ
@@ -24,8 +23,8 @@ text_for options spelt r = text_in (unwrap_or options.spelling spelt.spelling) r
 
 -- the circuit that was read has latches of all names, and this is it retimed
 pub record IsAnswer (options : Options) (spelt : SpeltCircuit) (r : Retimed) : Type 0 where
-  pub names : NoneMissing options spelt.circuit
-  pub retimed : IsRetimed options.choice spelt.circuit (names_in options) options.max_frames options.certify r
+  pub names : NoneMissingBy options spelt.circuit
+  pub retimed : IsRetimedBy options spelt.circuit r
 
 -- the text of a retimed circuit is read as that circuit
 abbrev pub ReadsBack : Options → SpeltCircuit → Retimed → Type 0
@@ -47,7 +46,7 @@ pub record StopsWriting (options : Options) (spelt : SpeltCircuit) (old new : Ou
 abbrev pub IsStop : Options → SpeltCircuit → Output → Output → BytesError → Type 0
 IsStop options spelt old new (Read e) = ⊥
 IsStop options spelt old new (Retime NoMemory) = new ≡ old
-IsStop options spelt old new (Retime (NoSuchName place)) = (new ≡ old) × (first_missing spelt.circuit.symbols.latches (names_in options) ≡ Some place)
+IsStop options spelt old new (Retime (NoSuchName place)) = (new ≡ old) × IsFirstMissingBy options spelt.circuit place
 IsStop options spelt old new (Write e) = StopsWriting options spelt old new
 
 -- the bytes that were left are those of a circuit in a spelling, its answer was written, and what was written is read as that answer
@@ -103,7 +102,7 @@ pub record AreOfCircuit (input : Input) : Type 0 where
 pub record IsMissingIn (options : Options) (input : Input) (place : ℕ) : Type 0 where
   pub spelt : SpeltCircuit
   pub spells : Spells input spelt
-  pub missing : first_missing spelt.circuit.symbols.latches (names_in options) ≡ Some place
+  pub missing : IsFirstMissingBy options spelt.circuit place
 
 -- the bytes are those of a circuit, and a beginning of the text of its answer was written
 pub record IsCutOff (options : Options) (input : Input) (old new : Output) : Type 0 where

@@ -1,7 +1,7 @@
 pub mod Codes
 pub mod Named
+pub mod Retiming
 pub mod Found
 pub mod Certified
 pub mod Underway
 pub mod Answering
-pub mod Limits

@@ -4,7 +4,7 @@ ghost use Rattle.aig_binary.specs.Ending.{IsReadError, ReadsToEnd, Spells};
 ghost use Rattle.counted_io.specs.Output.{Writes};
 ghost use Rattle.aig_graph.specs.Circuits.{IsNetlist};
 ghost use Rattle.aig_graph.specs.Graph.{IsGraph};
-ghost use Rattle.spellings.specs.Spellings.{text_in};
+ghost use Rattle.aig_binary.specs.Spellings.{text_in};
 ghost use Rattle.frames.specs.Answering.{AfterReading, AreOfCircuit, BeforeWriting, IsAnswered, IsCutOff, IsMissingIn, IsStop, IsWritten, RetimesBytes};
 ghost use Rattle.frames.specs.declared.errors.RetimeError.TheVariants.{NoSuchName};
 
@@ -12,13 +12,12 @@ use crate::errors::BytesError;
 use crate::options::Options;
 use crate::retiming::retime_over;
 use crate::watcher::{FrameWatcher, NoWatcher, Stage};
-use aig_binary::{AnyReader, CircuitReader, SpeltCircuit, read_circuit};
+use aig_binary::{AnyReader, CircuitReader, Spelling, SpeltCircuit, read_circuit, write};
 use aig_graph::Circuit;
 use counted_io::{CountedRead, CountedWrite, WriteError};
 use file_words::ReadError;
 use pulse::{Crew, PhaseGate};
 use retimed_circuits::Retimed;
-use spellings::{Spelling, write};
 use std::alloc::Global;
 use std::thread::Threads;
 
@@ -41,7 +40,7 @@ fn in_range(circuit: &Circuit)
     ensures graph { IsGraph circuit.now.aig }
     ensures netlist { IsNetlist circuit.now }
 {
-    let _aig = circuit.aig();
+    circuit.known();
 }
 
 /// Retimes the circuit that was read, and writes it. Over the frames only its spelling is kept.

@@ -2,21 +2,17 @@
 ghost use Rattle.std.specs.Prelude.{◌≡◌, IfOk, OnOk, MatchOption};
 ghost use Rattle.aig_graph.specs.Graph.{IsGraph};
 ghost use Rattle.aig_graph.specs.Move.{move_of};
-ghost use Rattle.aig_graph.specs.Streams.{SameStreams};
 ghost use Rattle.rebuild.specs.Marked.{AreMarksOf};
-ghost use Rattle.retimed_circuits.specs.Frames.{CleansIn, IsHelpingSet, NoneSmaller, moved_in};
-ghost use Rattle.retimed_circuits.specs.Names.{held_in, held_latches};
 ghost use Rattle.frames.specs.Certified.{AddsChosen};
 ghost use Rattle.frames.specs.Found.{Moves};
-ghost use Rattle.frames.specs.Named.{NoneMissing, names_in};
-ghost use Rattle.tidy.specs.Tidy.{IsTidyIn};
+ghost use Rattle.frames.specs.Named.{NoneMissingBy, kept_by};
+ghost use Rattle.frames.specs.Retiming.{IsHelpingSetBy, IsMovedBy, IsTidyBy, NoneSmallerBy};
 
 use crate::helping::helping_set;
-use crate::holding::held;
 use crate::options::Options;
 use crate::settling::settled;
 use crate::watcher::{FrameWatcher, Stage};
-use aig_graph::{Circuit, ClosedSet, Keep, NoMemory};
+use aig_graph::{Circuit, ClosedSet, Keep, NoMemory, keep_by_names};
 use chosen_cuts::Records;
 use clean::Cleaned;
 use gate_flows::{GateFlow, after_cleaning, after_move};
@@ -42,20 +38,15 @@ fn moved_over(
     marks: MoveMarks,
     options: &Options,
 ) -> Result<Cleaned, NoMemory>
-    requires keep { keep.now ≡ held_in (names_in options.now) circuit.now }
-    requires names { NoneMissing options.now circuit.now }
+    requires keep { keep.now ≡ kept_by options.now circuit.now }
+    requires names { NoneMissingBy options.now circuit.now }
     requires graph { IsGraph circuit.now.aig }
-    requires tidy { IsTidyIn (names_in options.now) circuit.now }
-    requires helps { IsHelpingSet options.now.choice (names_in options.now) circuit.now set.now }
+    requires tidy { IsTidyBy options.now circuit.now }
+    requires helps { IsHelpingSetBy options.now circuit.now set.now }
     requires marked { AreMarksOf (move_of circuit.now keep.now set.now) marks }
-    ensures cleaned { IfOk result (λ d. CleansIn (names_in options.now)
-        (moved_in (names_in options.now) circuit.now set.now) d.circuit d.kept_free) }
-    ensures streams { IfOk result (λ d. SameStreams circuit.now d.circuit d.kept_free) }
-    ensures held { IfOk result (λ d. held_latches (names_in options.now) d.circuit
-        ≡ held_latches (names_in options.now) circuit.now) }
-    ensures tidy { IfOk result (λ d. IsTidyIn (names_in options.now) d.circuit) }
+    ensures { IfOk result (IsMovedBy options.now circuit.now set.now) }
 {
-    let _aig = circuit.aig();
+    circuit.known();
     let copies = set.vars().len();
     let after = moved_by(alloc, circuit, set, keep, marks)?;
     settled(alloc, after, copies, options)
@@ -101,16 +92,15 @@ pub(crate) fn next_frame<G: PhaseGate, V: FrameWatcher>(
     records: &mut Records,
     watcher: &mut V,
 ) -> Result<Option<Frame>, NoMemory>
-    requires names { NoneMissing options.now circuit.now }
-    requires tidy { IsTidyIn (names_in options.now) circuit.now }
+    requires names { NoneMissingBy options.now circuit.now }
+    requires tidy { IsTidyBy options.now circuit.now }
     ensures found { IfOk result (λ found. MatchOption found
-        (NoneSmaller (names_in options.now) circuit.now)
-        (Moves options.now.choice (names_in options.now) circuit.now)) }
-    ensures certificate { OnOk result (AddsChosen options.now.choice
-        (names_in options.now) circuit.now records.old records.new) }
+        (NoneSmallerBy options.now circuit.now) (Moves options.now circuit.now)) }
+    ensures certificate { OnOk result
+        (AddsChosen options.now circuit.now records.old records.new) }
 {
-    let _aig = circuit.aig();
-    let keep = held(alloc, circuit, options)?;
+    circuit.known();
+    let keep = keep_by_names(alloc, circuit, options.keep.as_slice())?;
     match helping_set(rt, alloc, circuit, &keep, options, crew, records)? {
         Some(found) => {
             watcher.enter(Stage::Moving);

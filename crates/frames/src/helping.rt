@@ -1,10 +1,9 @@
 //! The chosen least set of a circuit, where it needs fewer latches.
 ghost use Rattle.std.specs.Prelude.{◌≡◌, IfOk, OnOk, MatchOption};
-ghost use Rattle.retimed_circuits.specs.Frames.{NoneSmaller};
-ghost use Rattle.retimed_circuits.specs.Names.{held_in};
 ghost use Rattle.frames.specs.Certified.{AddsChosen};
 ghost use Rattle.frames.specs.Found.{Helps};
-ghost use Rattle.frames.specs.Named.{names_in};
+ghost use Rattle.frames.specs.Named.{kept_by};
+ghost use Rattle.frames.specs.Retiming.{NoneSmallerBy};
 
 use crate::options::Options;
 use aig_graph::{Circuit, ClosedSet, Keep, NoMemory};
@@ -34,15 +33,14 @@ pub(crate) fn helping_set<G: PhaseGate>(
     crew: &Crew<G>,
     records: &mut Records,
 ) -> Result<Option<Helping>, NoMemory>
-    requires { keep.now ≡ held_in (names_in options.now) circuit.now }
+    requires { keep.now ≡ kept_by options.now circuit.now }
     ensures found { IfOk result (λ found. MatchOption found
-        (NoneSmaller (names_in options.now) circuit.now)
-        (Helps options.now.choice (names_in options.now) circuit.now)) }
-    ensures certificate { OnOk result (AddsChosen options.now.choice
-        (names_in options.now) circuit.now records.old records.new) }
+        (NoneSmallerBy options.now circuit.now) (Helps options.now circuit.now)) }
+    ensures certificate { OnOk result
+        (AddsChosen options.now circuit.now records.old records.new) }
 {
     let set = chosen_least_along(rt, alloc, circuit, keep, options.choice, crew, records)?;
-    let _aig = circuit.aig();
+    circuit.known();
     let marks = MoveMarks::new(alloc, circuit, &set, keep)?;
     let report = FrameReport {
         before: circuit.aig().known_latches(),

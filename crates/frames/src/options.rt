@@ -1,5 +1,5 @@
+use file_words::Spelling;
 use least_sets::Choice;
-use spellings::Spelling;
 
 /// How a circuit is retimed.
 #[derive(Drop)]

@@ -1,52 +1,44 @@
 //! Frame after frame.
-ghost use Rattle.std.specs.Prelude.{ℕ, ◌≡◌, suc, [], IfOk, OnOk, IsErrOf, None, Some};
+ghost use Rattle.std.specs.Prelude.{ℕ, ◌≡◌, suc, [], IfOk, OnOk, IsErrOf};
 ghost use Rattle.aig_graph.specs.Circuits.{Netlist};
-ghost use Rattle.aig_graph.specs.Keep.{first_missing};
-ghost use Rattle.retimed_circuits.specs.Names.{held_in};
-ghost use Rattle.retimed_circuits.specs.Retiming.{IsRetimed};
 ghost use Rattle.frames.specs.Found.{Moves};
-ghost use Rattle.frames.specs.Named.{NoneMissing, names_in};
+ghost use Rattle.frames.specs.Named.{IsFirstMissingBy, NoneMissingBy};
+ghost use Rattle.frames.specs.Retiming.{IsRetimedBy};
 ghost use Rattle.frames.specs.Underway.{IsBegun, IsRun, IsUnderway};
 ghost use Rattle.frames.specs.declared.errors.RetimeError.TheVariants.{NoSuchName};
 
 use crate::errors::RetimeError;
 use crate::frame::{Frame, next_frame};
 use crate::history::{history_of, with_frame};
-use crate::holding::cleaned;
 use crate::options::Options;
 use crate::watcher::{FrameWatcher, NoWatcher, Stage};
-use aig_graph::{Circuit, Keep, NoMemory, Sequence, keep_of};
+use aig_graph::{Circuit, NoMemory, Sequence, keep_of};
 use chosen_cuts::Records;
-use clean::Cleaned;
+use clean::{Cleaned, clean};
 use pulse::{Crew, PhaseGate};
 use retimed_circuits::Retimed;
 use std::alloc::Global;
 use std::thread::Threads;
 
-/// The circuit before any frame: cleaned.
-fn begun(
-    alloc: Global,
-    circuit: &Circuit,
-    keep: &Keep,
-    options: &Options,
-) -> Result<Retimed, NoMemory>
-    requires { keep.now ≡ held_in (names_in options.now) circuit.now }
-    ensures { IfOk result (IsUnderway options.now.choice (names_in options.now) circuit.now 0) }
+/// A cleaned circuit before any frame.
+fn begun(alloc: Global, start: Cleaned, read_latches: u32) -> Retimed
+    ensures circuit { result.circuit ≡ start.circuit }
+    ensures kept_free { result.kept_free ≡ start.kept_free }
+    ensures read_latches { result.read_latches ≡ read_latches }
+    ensures frames { result.frames ≡ [] }
 {
-    let read_latches = circuit.aig().latches().len() as u32;
-    let start = cleaned(alloc, circuit, keep, options)?;
     let Cleaned {
-        circuit: left,
+        circuit,
         kept_free,
         ..
     } = start;
-    Ok(Retimed {
-        circuit: left,
+    Retimed {
+        circuit,
         kept_free,
         read_latches,
         frames: Sequence::empty(alloc),
         certificates: Sequence::empty(alloc),
-    })
+    }
 }
 
 /// The circuit before any frame, where a latch has each of the names.
@@ -55,24 +47,23 @@ fn begun_by_names(
     circuit: &Circuit,
     options: &Options,
 ) -> Result<Retimed, RetimeError>
-    ensures underway { IfOk result (IsUnderway options.now.choice (names_in options.now)
-        circuit.now 0) }
-    ensures none_missing { OnOk result (NoneMissing options.now circuit.now) }
+    ensures underway { IfOk result (IsUnderway options.now circuit.now 0) }
+    ensures none_missing { OnOk result (NoneMissingBy options.now circuit.now) }
     ensures missing { (place : ℕ) → IsErrOf result (NoSuchName place)
-        → first_missing circuit.now.symbols.latches (names_in options.now) ≡ Some place }
+        → IsFirstMissingBy options.now circuit.now place }
 {
     let keep = keep_of(alloc, circuit, options.keep.as_slice())?;
-    let start = begun(alloc, circuit, &keep, options)?;
-    Ok(start)
+    let read_latches = circuit.aig().latches().len() as u32;
+    let start = clean(alloc, circuit, &keep)?;
+    Ok(begun(alloc, start, read_latches))
 }
 
 /// The circuit before any frame, where a latch has each of the names; the one that was read is dropped.
 fn begun_over(alloc: Global, circuit: Circuit, options: &Options) -> Result<Retimed, RetimeError>
-    ensures underway { IfOk result (IsUnderway options.now.choice (names_in options.now)
-        circuit 0) }
-    ensures none_missing { OnOk result (NoneMissing options.now circuit) }
+    ensures underway { IfOk result (IsUnderway options.now circuit 0) }
+    ensures none_missing { OnOk result (NoneMissingBy options.now circuit) }
     ensures missing { (place : ℕ) → IsErrOf result (NoSuchName place)
-        → first_missing circuit.symbols.latches (names_in options.now) ≡ Some place }
+        → IsFirstMissingBy options.now circuit place }
 {
     let start = begun_by_names(alloc, &circuit, options);
     drop(circuit);
@@ -86,12 +77,11 @@ fn after_frame(
     frame: Frame,
     options: &Options,
 ) -> Result<Retimed, NoMemory>
-    requires underway { (c : Netlist) × (n : ℕ) × IsUnderway options.now.choice
-        (names_in options.now) c n retimed }
-    requires moves { Moves options.now.choice (names_in options.now) retimed.circuit frame }
+    requires underway { (c : Netlist) × (n : ℕ) × IsUnderway options.now c n retimed }
+    requires moves { Moves options.now retimed.circuit frame }
     ensures { IfOk result (λ after. (c : Netlist) (n : ℕ)
-        → IsUnderway options.now.choice (names_in options.now) c n retimed
-        → IsUnderway options.now.choice (names_in options.now) c (suc n) after) }
+        → IsUnderway options.now c n retimed
+        → IsUnderway options.now c (suc n) after) }
 {
     let Frame { cleaned, report } = frame;
     let places = cleaned.kept_free.as_slice();
@@ -133,9 +123,8 @@ fn all_frames<G: PhaseGate, V: FrameWatcher>(
     requires wanted { records.old.certify ≡ options.now.certify }
     requires none_yet { records.old.certificates.items ≡ [] }
     ensures { IfOk result (λ r. (c : Netlist)
-        → IsUnderway options.now.choice (names_in options.now) c 0 start
-        → IsRun options.now.choice (names_in options.now) c options.now.max_frames
-        options.now.certify records.new r) }
+        → IsUnderway options.now c 0 start
+        → IsRun options.now c records.new r) }
 {
     let mut retimed = start;
     for _ in 0..options.max_frames {
@@ -189,9 +178,8 @@ fn retimed_from<G: PhaseGate, V: FrameWatcher>(
 ) -> Result<Retimed, NoMemory>
     requires { IsBegun options.now start }
     ensures { IfOk result (λ r. (c : Netlist)
-        → IsUnderway options.now.choice (names_in options.now) c 0 start
-        → IsRetimed options.now.choice c (names_in options.now) options.now.max_frames
-        options.now.certify r) }
+        → IsUnderway options.now c 0 start
+        → IsRetimedBy options.now c r) }
 {
     let mut records = Records::new(alloc, options.certify);
     match all_frames(rt, alloc, start, options, crew, &mut records, watcher) {
@@ -221,11 +209,10 @@ pub fn retime<G: PhaseGate>(
     options: &Options,
     crew: &Crew<G>,
 ) -> Result<Retimed, RetimeError>
-    ensures retimed { IfOk result (IsRetimed options.now.choice circuit.now
-        (names_in options.now) options.now.max_frames options.now.certify) }
-    ensures none_missing { OnOk result (NoneMissing options.now circuit.now) }
+    ensures retimed { IfOk result (IsRetimedBy options.now circuit.now) }
+    ensures none_missing { OnOk result (NoneMissingBy options.now circuit.now) }
     ensures missing { (place : ℕ) → IsErrOf result (NoSuchName place)
-        → first_missing circuit.now.symbols.latches (names_in options.now) ≡ Some place }
+        → IsFirstMissingBy options.now circuit.now place }
 {
     retime_watched(rt, alloc, circuit, options, crew, &mut NoWatcher)
 }
@@ -243,11 +230,10 @@ pub fn retime_watched<G: PhaseGate, V: FrameWatcher>(
     crew: &Crew<G>,
     watcher: &mut V,
 ) -> Result<Retimed, RetimeError>
-    ensures retimed { IfOk result (IsRetimed options.now.choice circuit.now
-        (names_in options.now) options.now.max_frames options.now.certify) }
-    ensures none_missing { OnOk result (NoneMissing options.now circuit.now) }
+    ensures retimed { IfOk result (IsRetimedBy options.now circuit.now) }
+    ensures none_missing { OnOk result (NoneMissingBy options.now circuit.now) }
     ensures missing { (place : ℕ) → IsErrOf result (NoSuchName place)
-        → first_missing circuit.now.symbols.latches (names_in options.now) ≡ Some place }
+        → IsFirstMissingBy options.now circuit.now place }
 {
     watcher.enter(Stage::Cleaning);
     let start = begun_by_names(alloc, circuit, options)?;
@@ -268,11 +254,10 @@ pub(crate) fn retime_over<G: PhaseGate, V: FrameWatcher>(
     crew: &Crew<G>,
     watcher: &mut V,
 ) -> Result<Retimed, RetimeError>
-    ensures retimed { IfOk result (IsRetimed options.now.choice circuit
-        (names_in options.now) options.now.max_frames options.now.certify) }
-    ensures none_missing { OnOk result (NoneMissing options.now circuit) }
+    ensures retimed { IfOk result (IsRetimedBy options.now circuit) }
+    ensures none_missing { OnOk result (NoneMissingBy options.now circuit) }
     ensures missing { (place : ℕ) → IsErrOf result (NoSuchName place)
-        → first_missing circuit.symbols.latches (names_in options.now) ≡ Some place }
+        → IsFirstMissingBy options.now circuit place }
 {
     watcher.enter(Stage::Cleaning);
     let start = begun_over(alloc, circuit, options)?;

@@ -4,16 +4,13 @@ ghost use Rattle.std.specs.Prelude.{◌≡◌, ◌≤◌, ◌-◌, IfOk, length,
 ghost use Rattle.aig_graph.specs.Circuits.{IsNetlist};
 ghost use Rattle.aig_graph.specs.Graph.{IsGraph};
 ghost use Rattle.aig_graph.specs.Laws.{all_free};
-ghost use Rattle.aig_graph.specs.Streams.{SameStreams};
-ghost use Rattle.retimed_circuits.specs.Frames.{CleansIn};
-ghost use Rattle.retimed_circuits.specs.Names.{held_latches};
-ghost use Rattle.frames.specs.Named.{NoneMissing, names_in};
-ghost use Rattle.tidy.specs.Tidy.{AreLowTidy, IsTidyIn};
+ghost use Rattle.frames.specs.Named.{NoneMissingBy};
+ghost use Rattle.frames.specs.Retiming.{IsCleanedBy, IsTidyBy};
+ghost use Rattle.tidy.specs.Tidy.{AreLowTidy};
 
-use crate::holding::cleaned_by_names;
 use crate::options::Options;
 use aig_graph::{Circuit, NoMemory};
-use clean::Cleaned;
+use clean::{Cleaned, clean_by_names};
 use std::alloc::Global;
 use tidy::{all_places, are_low_tidy};
 
@@ -37,15 +34,12 @@ fn as_cleaned(alloc: Global, circuit: Circuit) -> Result<Cleaned, NoMemory>
 
 /// A circuit cleaned, and dropped.
 fn cleaned_over(alloc: Global, circuit: Circuit, options: &Options) -> Result<Cleaned, NoMemory>
-    requires { NoneMissing options.now circuit }
-    ensures cleaned { IfOk result (λ d. CleansIn (names_in options.now) circuit d.circuit
-        d.kept_free) }
-    ensures streams { IfOk result (λ d. SameStreams circuit d.circuit d.kept_free) }
-    ensures held { IfOk result (λ d. held_latches (names_in options.now) d.circuit
-        ≡ held_latches (names_in options.now) circuit) }
-    ensures tidy { IfOk result (λ d. IsTidyIn (names_in options.now) d.circuit) }
+    requires { NoneMissingBy options.now circuit }
+    ensures { IfOk result (IsCleanedBy options.now circuit) }
 {
-    let cleaned = cleaned_by_names(alloc, &circuit, options);
+    // That it is a circuit is what its readers ensure.
+    circuit.known();
+    let cleaned = clean_by_names(alloc, &circuit, options.keep.as_slice());
     drop(circuit);
     cleaned
 }
@@ -69,15 +63,10 @@ pub(crate) fn settled(
     options: &Options,
 ) -> Result<Cleaned, NoMemory>
     requires copies { copies ≤ length circuit.aig.gates }
-    requires names { NoneMissing options.now circuit }
+    requires names { NoneMissingBy options.now circuit }
     requires tidy { AreLowTidy circuit.aig (length circuit.aig.gates - copies)
-        → IsTidyIn (names_in options.now) circuit }
-    ensures cleaned { IfOk result (λ d. CleansIn (names_in options.now) circuit d.circuit
-        d.kept_free) }
-    ensures streams { IfOk result (λ d. SameStreams circuit d.circuit d.kept_free) }
-    ensures held { IfOk result (λ d. held_latches (names_in options.now) d.circuit
-        ≡ held_latches (names_in options.now) circuit) }
-    ensures tidy { IfOk result (λ d. IsTidyIn (names_in options.now) d.circuit) }
+        → IsTidyBy options.now circuit }
+    ensures { IfOk result (IsCleanedBy options.now circuit) }
 {
     match is_settled(alloc, &circuit, copies) {
         Ok(true) => as_cleaned(alloc, circuit),

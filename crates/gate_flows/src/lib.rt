@@ -4,11 +4,14 @@
 #![tactic(auto)]
 
 mod carrying;
+mod first_start;
 mod gate_flow;
 mod noting;
+mod start;
 mod wishing;
 
 pub use carrying::{after_cleaning, after_move};
+pub use first_start::first_wishes;
 pub use gate_flow::GateFlow;
 pub use noting::gate_flows;
 pub use wishing::wishes;

@@ -15,8 +15,8 @@ fn flow_at(net: &Net, first: u32, preflow: &MaxPreflow, v: u32) -> GateFlow
     requires preflow { IsMaxPreflow net.now preflow.now }
     requires v { v < node_count net.now }
 {
-    let _nodes = net.nodes();
-    let _arcs = net.arcs();
+    net.known();
+    net.known_capacities();
     let mut flow = GateFlow::none();
     let heads = net.heads(v);
     let start = net.start(v);

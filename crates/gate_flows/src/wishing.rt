@@ -7,15 +7,15 @@ use aig_graph::{Aig, NoMemory};
 use frame_net::Net;
 
 /// Wishes so many units over an arc.
-fn wish(wishes: &mut [u32], arc: usize, units: u32) {
+pub(crate) fn wish(wishes: &mut [u32], arc: usize, units: u32) {
     if let Some(wish) = wishes.get_mut(arc) {
         *wish = units;
     }
 }
 
 /// Wishes a unit over each arc into the sink.
-fn wish_into_sink(net: &Net, wishes: &mut [u32]) {
-    let _nodes = net.nodes();
+pub(crate) fn wish_into_sink(net: &Net, wishes: &mut [u32]) {
+    net.known();
     for mate in net.mates(1) {
         wish(wishes, *mate as usize, 1);
     }
@@ -26,7 +26,7 @@ fn wish_into_sink(net: &Net, wishes: &mut [u32]) {
 fn wish_at(net: &Net, first: u32, flow: &GateFlow, wishes: &mut [u32], v: u32)
     requires { v < node_count net.now }
 {
-    let _nodes = net.nodes();
+    net.known();
     let heads = net.heads(v);
     let mates = net.mates(v);
     let start = net.start(v);
@@ -56,7 +56,7 @@ fn flow_of<'a>(net: &Net, aig: &Aig, flows: &'a [GateFlow], v: u32) -> Option<&'
 }
 
 /// No wish for any of so many arcs, in the memory of a table whose values don't matter.
-fn no_wishes(memory: Vec<u32>, arcs: usize) -> Result<Vec<u32>, NoMemory> {
+pub(crate) fn no_wishes(memory: Vec<u32>, arcs: usize) -> Result<Vec<u32>, NoMemory> {
     let mut wishes = memory;
     wishes.clear();
     wishes.resize(arcs, 0)?;

@@ -1,2 +1,7 @@
 pub mod RisingLaws
 pub mod SharingLaws
+pub mod WeightLaws
+pub mod StepLaws
+pub mod GatheringLaws
+pub mod PlaceLaws
+mod CounterLaws

@@ -6,10 +6,10 @@ use Rattle.std.proofs.lemmas.Result.{IfOk-weaker}
 use mathlib.Core.Logic.{dite}
 use mathlib.Core.List.{map-append}
 use native.Mathlib.Decide.{ℕ_discrete, dec_le}
-use Rattle.draws.specs.declared.draws.Drawer.{Drawer}
-use Rattle.draws.specs.Drawing.{drawn, times_drawn}
-use Rattle.draws.specs.Rule.{times, is_it}
-use Rattle.draws.proofs.WeightLaws.{weigh_snoc, total_snoc, is_it_else}
+use Rattle.job_pool.specs.declared.draws.Drawer.{Drawer}
+use Rattle.job_pool.specs.Drawing.{drawn, times_drawn}
+use Rattle.job_pool.specs.Rule.{times, is_it}
+use Rattle.job_pool.proofs.WeightLaws.{weigh_snoc, total_snoc, is_it_else}
 use Rattle.job_pool.specs.declared.share.Numbered.{Numbered}
 use Rattle.job_pool.specs.Sharing.{numbers, filled, IsFilled, IsOutcome, AreSlots}
 

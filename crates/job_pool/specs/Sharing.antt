@@ -1,8 +1,8 @@
 -- What a worker gives back, and what stands in the slots of the jobs.
 use Rattle.std.specs.Prelude.{◌≡◌, ℕ, ◌<◌, cond, List, map, slice_index_or, All, Option, None, Some, is_some}
-use Rattle.draws.specs.Rule.{times}
-use Rattle.draws.specs.Drawing.{drawn, IsDrawerOf, IsDone, jobs_of}
-use Rattle.draws.specs.declared.draws.Draws.{Draws}
+use Rattle.job_pool.specs.Rule.{times}
+use Rattle.job_pool.specs.Drawing.{drawn, IsDrawerOf, IsDone, jobs_of}
+use Rattle.job_pool.specs.declared.draws.Draws.{Draws}
 use Rattle.job_pool.specs.declared.share.Numbered.{Numbered}
 use Rattle.job_pool.specs.declared.share.Share.{Share}
 

@@ -1,10 +1,10 @@
 ghost use Rattle.std.specs.Prelude.{◌≡◌, ℕ, ◌^◌, ◌<◌, ◌≤◌, All, IfOk, [], length, slice_index_or};
-ghost use Rattle.draws.specs.Drawing.{IsDrawerOf, drawn, jobs_of};
+ghost use Rattle.job_pool.specs.Drawing.{IsDrawerOf, drawn, jobs_of};
 ghost use Rattle.job_pool.specs.Sharing.{IsShare};
 
+use crate::draws::{Drawer, Draws};
 use crate::share::{Share, worked};
 use crate::slots::in_order;
-use draws::{Drawer, Draws};
 use pulse::{Crew, PhaseGate};
 use std::alloc::Global;
 use std::thread;

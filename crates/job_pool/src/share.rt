@@ -1,9 +1,9 @@
 //! What one worker does.
 ghost use Rattle.std.specs.Prelude.{◌≡◌, ℕ, ◌+◌, ◌<◌, ◌%◌, ◌^◌, IfOk, []};
-ghost use Rattle.draws.specs.Drawing.{IsDrawerOf, drawn, jobs_of};
+ghost use Rattle.job_pool.specs.Drawing.{IsDrawerOf, drawn, jobs_of};
 ghost use Rattle.job_pool.specs.Sharing.{IsShare};
 
-use draws::{Drawer, Draws};
+use crate::draws::{Drawer, Draws};
 use pulse::PhaseGate;
 use std::alloc::Global;
 use variable_tables::NoMemory;

@@ -1,11 +1,11 @@
 //! Outcomes in the order of their jobs.
 ghost use Rattle.std.specs.Prelude.{◌≡◌, ℕ, ◌+◌, ◌<◌, All, IfOk, OnOk, length, None, Some, slice_index_or, slice_set, map};
-ghost use Rattle.draws.specs.Rule.{times};
-ghost use Rattle.draws.specs.Drawing.{drawers_of, jobs_of};
+ghost use Rattle.job_pool.specs.Rule.{times};
+ghost use Rattle.job_pool.specs.Drawing.{drawers_of, jobs_of};
 ghost use Rattle.job_pool.specs.Sharing.{AreSlots, IsFilled, IsOutcome, IsShare, filled, numbers};
 
+use crate::draws::Draws;
 use crate::share::{Numbered, Share};
-use draws::Draws;
 use std::alloc::Global;
 use std::mem;
 use variable_tables::NoMemory;

@@ -15,7 +15,7 @@ pub(crate) fn is_active(net: &Net, flow: &Flow) -> bool
     requires unspent { flow.now.spent ≡ false }
     ensures { result ≡ any_active (node_count net.now) (state_of net.now flow.now) }
 {
-    let _nodes = net.nodes();
+    net.known();
     any_active_node(
         net,
         flow.labels.as_slice(),
@@ -41,6 +41,7 @@ pub(crate) fn active_nodes(net: &Net, flow: &Flow) -> usize
     requires unspent { flow.now.spent ≡ false }
     ensures { result ≡ active_count net.now flow.now }
 {
+    net.known();
     let nodes = net.nodes();
     let mut count: usize = 0;
     for v in 0..nodes {

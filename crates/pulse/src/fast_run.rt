@@ -45,7 +45,7 @@ pub fn run_with_global_relabeling<G: PhaseGate>(
     ensures greatest { IfOk result (λ m. IsMaxPreflow net.now m) }
     ensures bounded { IfOk result (λ m. m.pulses ≤ 2 * (node_count net.now * node_count net.now)) }
 {
-    let _nodes = net.nodes();
+    net.known();
     // At the start no nodes are active but those that the source has an arc to, and of these the ones from which the sink is reached.
     let first = Share::among(1).next(net, net.start(1), false, crew.workers());
     let mut flow = Flow::start_for(alloc, net, first.parts, Vec::new(alloc))?;
@@ -67,7 +67,7 @@ fn start_along(
 ) -> Result<Flow, NoMemory>
     ensures { IfOk result (IsBetween net.now) }
 {
-    let _nodes = net.nodes();
+    net.known();
     let mut flow = Flow::start_for(alloc, net, 1, memory)?;
     send_along(net, &mut flow, wishes);
     Ok(flow)
@@ -101,7 +101,7 @@ pub fn run_along_wishes<G: PhaseGate>(
     ensures greatest { IfOk result (λ m. IsMaxPreflow net.now m) }
     ensures bounded { IfOk result (λ m. m.pulses ≤ 2 * (node_count net.now * node_count net.now)) }
 {
-    let _nodes = net.nodes();
+    net.known();
     let first = Share::among(1);
     let memory = tables.take_residuals(alloc);
     let mut flow = start_along(alloc, net, wishes.as_mut_slice(), memory)?;
@@ -123,7 +123,7 @@ fn part_ahead(alloc: Global, net: &Net, flow: &mut Flow, parts: u32) -> Result<(
     ensures agree { OnOk result (Agree (node_count net.now) (state_of net.now flow.old)
         (state_of net.now flow.new)) }
 {
-    let _nodes = net.nodes();
+    net.known();
     let labels = flow.labels.as_slice();
     part_flow(alloc, net, labels, &mut flow.parts, parts)?;
     Ok(())
@@ -215,7 +215,7 @@ fn run<R: Threads + Sync, G: PhaseGate>(
     ensures bounded { IfOk result (λ e. e.pulses ≤ 2 * (node_count net.now * node_count net.now)) }
     ensures exact { IfOk result (λ e. e.exact ≡ true → HasExactLabels net.now flow.new) }
 {
-    let _nodes = net.nodes();
+    net.known();
     let mut room = queue_for(alloc, net)?;
     let queue = room.as_mut_slice();
     relabel(net, flow, queue);

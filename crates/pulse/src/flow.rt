@@ -62,8 +62,9 @@ impl Flow {
         ensures start { IfOk result (λ f. IsStart net.now f) }
         ensures shares { IfOk result (λ f. AreFlowRangesOf (node_count net.now) workers f.ranges) }
     {
+        net.known();
         let nodes = net.nodes();
-        let _arcs = net.arcs();
+        net.known_capacities();
         let labels = start_labels(alloc, net)?;
         let caps = net.capacities().share()?;
         let delivered = no_marks(alloc, nodes)?;

@@ -89,7 +89,7 @@ pub(crate) fn read_by<R: Threads + Sync, G: PhaseGate>(
         pushes.spent = true;
         return Err(PulseError::NoMemory);
     }
-    let _nodes = net.nodes();
+    net.known();
     let labels = flow.labels.as_slice();
     let parts = flow.parts.as_slice();
     let phase = Phase {
@@ -130,7 +130,7 @@ pub(crate) fn deliver_by<R: Threads + Sync, G: PhaseGate>(
         flow.spent = true;
         return Err(PulseError::NoMemory);
     }
-    let _nodes = net.nodes();
+    net.known();
     let rows = pushes.parts.as_slice();
     let number = u64::from(flow.phase) + 1;
     let listed = flow.listed;

@@ -58,7 +58,7 @@ impl Pushes {
         ensures unspent { IfOk result (λ p. p.spent ≡ false) }
         ensures shares { IfOk result (λ p. ArePushRangesOf (node_count net.now) workers p.ranges) }
     {
-        let _nodes = net.nodes();
+        net.known();
         let parts = push_parts(alloc, net, workers, memory)?;
         Ok(Pushes {
             parts,
@@ -111,7 +111,7 @@ impl Pushes {
 fn arcs_over(net: &Net, parts: &[PushPart]) -> usize
     requires { ArePushParts net.now 0 parts.now }
 {
-    let _nodes = net.nodes();
+    net.known();
     let mut arcs: usize = 0;
     for i in 0..parts.len() {
         let part = &parts[i];
@@ -127,7 +127,7 @@ fn arcs_over(net: &Net, parts: &[PushPart]) -> usize
 fn arcs_of(net: &Net, list: &[u32]) -> usize
     requires { AreWithin 0 (node_count net.now) list.now }
 {
-    let _nodes = net.nodes();
+    net.known();
     let mut arcs: usize = 0;
     for i in 0..list.len() {
         let v = list[i];

@@ -22,7 +22,7 @@ pub fn read_range(net: &Net, flow: &Flow, pushes: &mut Pushes, first: u32, end: 
     requires within { end ≤ node_count net.now }
     ensures { RangeRead net.now flow.now first end pushes.old pushes.new }
 {
-    let _nodes = net.nodes();
+    net.known();
     read_each(
         net,
         flow.labels.as_slice(),
@@ -47,7 +47,7 @@ pub fn deliver_range(net: &Net, flow: &mut Flow, pushes: &Pushes, first: u32, en
         (is_marked flow.old) flow.old.cells }
     ensures { RangeDelivered net.now pushes.now first end flow.old flow.new }
 {
-    let _nodes = net.nodes();
+    net.known();
     flow.listed = false;
     deliver_each(
         net,

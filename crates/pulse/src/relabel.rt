@@ -29,7 +29,7 @@ pub(crate) fn relabel(net: &Net, flow: &mut Flow, queue: &mut [u32])
     ensures exact { Agree (node_count net.now)
         (exact (node_count net.now) (state_of net.now flow.old)) (state_of net.now flow.new) }
 {
-    let _nodes = net.nodes();
+    net.known();
     exact_labels(
         net,
         flow.parts.as_slice(),
@@ -50,6 +50,7 @@ pub(crate) fn relabel_when_due(net: &Net, flow: &mut Flow, queue: &mut [u32], co
         (after_pulse (node_count net.now) count (state_of net.now flow.old))
         (state_of net.now flow.new) }
 {
+    net.known();
     let nodes = u64::from(net.nodes());
     if count % nodes == 0 && is_active(net, flow) {
         relabel(net, flow, queue);

@@ -67,7 +67,7 @@ fn run<R: Threads + Sync, G: PhaseGate>(
     ensures run { IfOk result (λ k. IsRun net.now k (state_of net.now flow.old)
         (state_of net.now flow.new)) }
 {
-    let _nodes = net.nodes();
+    net.known();
     let mut count = 0;
     'pulses: while is_active(net, flow) {
         read_phase(rt, alloc, net, flow, pushes, crew)?;

@@ -10,7 +10,7 @@ pub(crate) fn send_along(net: &Net, flow: &mut Flow, wishes: &mut [u32])
     requires flow { IsBetween net.now flow.old }
     ensures flow { IsBetween net.now flow.new }
 {
-    let _nodes = net.nodes();
+    net.known();
     flow.listed = false;
     let labels = flow.labels.as_slice();
     let parts = flow.parts.as_mut_slice();

@@ -59,7 +59,7 @@ pub(crate) fn part_flow(
     ensures lists { ListActive (node_count net.now) labels.now parts.old.items
         → ListActive (node_count net.now) labels.now parts.new.items }
 {
-    let _nodes = net.nodes();
+    net.known();
     if parts.len() != workers as usize {
         *parts = parted_anew(alloc, net, labels, parts.as_slice(), workers)?;
     }
@@ -163,7 +163,7 @@ pub(crate) fn read_all<R: Threads + Sync, G: PhaseGate>(
     ensures numbered { OnOk result (PushesNumbered parts.old.items
         → PushesNumbered parts.new.items) }
 {
-    let _nodes = net.nodes();
+    net.known();
     part_pushes(alloc, net, parts, phase.share.parts)?;
     if !phase.share.handed {
         phase.gate.pass(phase.number, 0);
@@ -196,7 +196,7 @@ fn deliver_parts<R: Threads + Sync, G: PhaseGate>(
     ensures each { OnOk result (WholesDelivered net.now labels.now
         (values_of pushes.now) flow.old.items flow.new.items) }
 {
-    let _nodes = net.nodes();
+    net.known();
     if !phase.share.handed {
         phase.gate.pass(phase.number, 0);
         deliver_every(net, labels, pushes, flow.as_mut_slice(), phase.listed);
@@ -232,7 +232,7 @@ pub(crate) fn deliver_all<R: Threads + Sync, G: PhaseGate>(
     ensures numbered { OnOk result (FlowNumbered flow.old.items → FlowNumbered flow.new.items) }
     ensures err { OnErr result (labels.new ≡ labels.old) }
 {
-    let _nodes = net.nodes();
+    net.known();
     part_flow(alloc, net, labels, flow, phase.share.parts)?;
     deliver_parts(rt, alloc, net, labels, pushes, flow, phase)?;
     turn(labels, flow.as_slice(), true);

@@ -214,6 +214,11 @@ module _ (m : Move) (valid : IsGraph m.circuit.aig) (set : IsClosedSet m.circuit
       ∙ map-map (after t) (moved_literal m) (property_literals m.circuit.props)
       ∙ map-same (λ lit. IsReadable m lit) (λ lit. after t (moved_literal m lit)) (before t) (λ lit readable. moved_literal-value t (same_latches t) lit readable) (property_literals m.circuit.props) (all-readable m netlist)
 
+-- what has a latch after the move has its value at step 0
+pub latched-start : (m : Move) → IsGraph m.circuit.aig → IsClosedSet m.circuit.aig m.held m.set → IsGraph (moved_graph m) → (x : Inputs) (f : Choice) (v : ℕ) → v < variables_end m.circuit.aig → is_latched m v ≡ true
+    → value (moved_graph m) x (chosen (range_with_len 0 (free_latches m.circuit.aig)) f) 0 (2 * new_variable m v) ≡ value m.circuit.aig x f 0 (2 * v)
+latched-start m valid set moved x f v within kept = same_latches-start m valid set moved x f v within kept
+
 range-rising : (n : ℕ) → IsStrictlyIncreasing (range_with_len 0 n)
 range-rising n k h =
     omega (arith, length-range_with_len 0 n, get_or-range_with_len 0 n k 0 (omega (arith, length-range_with_len 0 n)), get_or-range_with_len 0 n (k + 1) 0 (omega (arith, length-range_with_len 0 n)))

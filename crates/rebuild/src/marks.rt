@@ -46,7 +46,7 @@ impl<'a> MarkedSet<'a> {
         requires marked { AreMarksOf (move_of circuit.now keep.now set.now) marks }
         ensures { marked result ≡ move_of circuit.now keep.now set.now }
     {
-        let _aig = circuit.aig();
+        circuit.known();
         MarkedSet {
             circuit,
             keep,

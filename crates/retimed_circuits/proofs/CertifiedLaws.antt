@@ -11,7 +11,7 @@ use Rattle.least_sets.specs.declared.choice.Choice.{Choice}
 use Rattle.least_sets.proofs.ChosenLaws.{chosen-one}
 use Rattle.retimed_circuits.specs.declared.report.FrameReport.{FrameReport}
 use Rattle.retimed_circuits.specs.declared.report.Retimed.{Retimed}
-use Rattle.retimed_circuits.specs.Names.{held_in}
+use Rattle.aig_graph.specs.Keep.{held_in}
 use Rattle.retimed_circuits.specs.Frames.{AfterFrames, cleaned, frame}
 use Rattle.retimed_circuits.specs.Certified.{IsCertificate, AreCertified, SameButRoutes}
 

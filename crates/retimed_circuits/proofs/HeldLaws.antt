@@ -9,7 +9,7 @@ use Rattle.aig_graph.specs.declared.properties.Symbol.{Symbol}
 use Rattle.aig_graph.specs.Graph.{Graph, first_latch, latch_at, is_free, is_known, is_free_latch}
 use Rattle.aig_graph.specs.Circuits.{Netlist, IsNetlist}
 use Rattle.aig_graph.specs.Closed.{is_held}
-use Rattle.aig_graph.specs.Keep.{is_named, held_by}
+use Rattle.aig_graph.specs.Keep.{is_named, held_by, held_in}
 use Rattle.aig_graph.specs.Move.{Move}
 use Rattle.aig_graph.specs.Border.{in_border, is_gate_in, is_read}
 use Rattle.aig_graph.proofs.KindLaws.{latch_at-first_latch}
@@ -25,7 +25,7 @@ use Rattle.cleaned_circuits.proofs.PassLaws.{IsCircuit, IsCircuit-pass}
 use Rattle.cleaned_circuits.proofs.TrimmedLaws.{latch_in as trimmed-latch, new-from}
 use Rattle.rebuild.specs.Moved.{is_latched, latch_from, latch_for, moved_graph, moved_name, moved_symbols, stays}
 use Rattle.rebuild.proofs.MovedLaws.{latch_in}
-use Rattle.retimed_circuits.specs.Names.{held_in, reset_of, held_latch, held_latches}
+use Rattle.retimed_circuits.specs.Names.{reset_of, held_latch, held_latches}
 use Rattle.retimed_circuits.specs.Frames.{move_in, moved_in, CleansIn}
 
 abbrev position_of : Symbol → ℕ

@@ -3,3 +3,4 @@ pub mod ReportLaws
 pub mod RunLaws
 pub mod HeldLaws
 pub mod NameLaws
+pub mod LimitLaws

@@ -10,7 +10,7 @@ use Rattle.least_sets.specs.declared.choice.Choice.{Choice}
 use Rattle.least_sets.specs.Chosen.{IsChosen}
 use Rattle.least_sets.proofs.ChosenLaws.{chosen-one}
 use Rattle.retimed_circuits.specs.declared.report.FrameReport.{FrameReport}
-use Rattle.retimed_circuits.specs.Names.{held_in}
+use Rattle.aig_graph.specs.Keep.{held_in}
 use Rattle.retimed_circuits.specs.Frames.{AfterFrames, cleaned, frame, count_in, report_in}
 use Rattle.retimed_circuits.specs.Certified.{IsCertificate, AreOfFrames, IsReported, AreReported}
 use Rattle.retimed_circuits.proofs.RunLaws.{after-length}

@@ -10,7 +10,7 @@ use Rattle.least_sets.proofs.ChosenLaws.{chosen-least, chosen-one}
 use Rattle.cleaned_circuits.proofs.CleanedLaws.{cleans-one}
 use Rattle.retimed_circuits.specs.declared.report.FrameReport.{FrameReport}
 use Rattle.retimed_circuits.specs.declared.report.Retimed.{Retimed}
-use Rattle.retimed_circuits.specs.Names.{held_in}
+use Rattle.aig_graph.specs.Keep.{held_in}
 use Rattle.retimed_circuits.specs.Frames.{CleansIn, moved_in, count_in, report_in, IsHelpingSet, IsFrame, AfterFrames, cleaned, frame}
 use Rattle.retimed_circuits.specs.Certified.{AreCertified, IsSameRetiming}
 use Rattle.retimed_circuits.specs.Retiming.{IsRetimed}

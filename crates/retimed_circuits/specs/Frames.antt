@@ -11,7 +11,7 @@ use Rattle.least_sets.specs.Chosen.{IsChosen}
 use Rattle.rebuild.specs.Moved.{moved_of}
 use Rattle.cleaned_circuits.specs.Cleaned.{Cleans}
 use Rattle.retimed_circuits.specs.declared.report.FrameReport.{FrameReport}
-use Rattle.retimed_circuits.specs.Names.{held_in}
+use Rattle.aig_graph.specs.Keep.{held_in}
 
 -- c's latches move over the set, but for those that the names hold
 abbrev pub move_in : List (List ℕ) → Netlist → List ℕ → Move

@@ -1,8 +1,9 @@
 -- Laws of frames.
-use Rattle.std.specs.Prelude.{ℕ, Bool, ◌≡◌, List, None}
+use Rattle.std.specs.Prelude.{ℕ, Bool, ◌≡◌, List}
 use Rattle.aig_graph.specs.Graph.{IsGraph}
 use Rattle.aig_graph.specs.Circuits.{Netlist, IsNetlist}
-use Rattle.aig_graph.specs.Keep.{first_missing}
+use Rattle.aig_graph.specs.Keep.{NoneMissing}
+use Rattle.ascii_file.specs.Laws.{IsWithinLimits}
 use Rattle.least_sets.specs.declared.choice.Choice.{Choice}
 use Rattle.retimed_circuits.specs.declared.report.Retimed.{Retimed}
 use Rattle.retimed_circuits.specs.Names.{held_latches}
@@ -25,4 +26,8 @@ MovingKeepsHeld names c = (s : List ℕ) → IsNetlist c → held_latches names 
 
 -- a name that a held latch has isn't missing where the same latches are held
 abbrev pub NamesStay : List (List ℕ) → Netlist → Netlist → Type 0
-NamesStay names c d = held_latches names d ≡ held_latches names c → first_missing c.symbols.latches names ≡ None → first_missing d.symbols.latches names ≡ None
+NamesStay names c d = held_latches names d ≡ held_latches names c → NoneMissing names c → NoneMissing names d
+
+-- what a circuit within the limits of a header is retimed to is within them
+abbrev pub StaysWithin : Choice → Netlist → List (List ℕ) → ℕ → Bool → Type 0
+StaysWithin choice c names max_frames certify = (r : Retimed) → IsRetimed choice c names max_frames certify r → IsWithinLimits c → IsWithinLimits r.circuit

@@ -5,11 +5,7 @@ use Rattle.aig_graph.specs.declared.graph.Reset.{Reset}
 use Rattle.aig_graph.specs.declared.properties.Symbol.{Symbol}
 use Rattle.aig_graph.specs.Graph.{Graph}
 use Rattle.aig_graph.specs.Circuits.{Netlist}
-use Rattle.aig_graph.specs.Keep.{is_named, held_by}
-
--- the positions of the latches that the names hold
-abbrev pub held_in : List (List ℕ) → Netlist → List ℕ
-held_in names c = held_by names c.symbols.latches
+use Rattle.aig_graph.specs.Keep.{is_named}
 
 abbrev pub reset_of : Option Latch → Option Reset
 reset_of None = None

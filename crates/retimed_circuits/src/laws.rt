@@ -1,4 +1,4 @@
-ghost use Rattle.std.specs.Prelude.{ℕ, List};
+ghost use Rattle.std.specs.Prelude.{ℕ, Bool, List};
 ghost use Rattle.aig_graph.specs.Circuits.{Netlist};
 ghost use Rattle.least_sets.specs.declared.choice.Choice.{Choice};
 ghost use Rattle.retimed_circuits.specs.Laws.{
@@ -6,6 +6,7 @@ ghost use Rattle.retimed_circuits.specs.Laws.{
   IsDetermined,
   MovingKeepsHeld,
   NamesStay,
+  StaysWithin,
 };
 
 /// What a circuit is retimed to, with its reports, rests on the circuit, the choice of least sets, the names and the limit of frames
@@ -21,4 +22,11 @@ pub fn held_laws()
     ensures cleaning { (names : List (List ℕ)) (c : Netlist) → CleaningKeepsHeld names c }
     ensures moving { (names : List (List ℕ)) (c : Netlist) → MovingKeepsHeld names c }
     ensures names { (names : List (List ℕ)) (c d : Netlist) → NamesStay names c d }
+{}
+
+/// A circuit that is retimed keeps the number of its properties and gets no new name: so it stays within the limits of a
+/// header.
+pub fn retimed_limits_law()
+    ensures { (choice : Choice) (c : Netlist) (names : List (List ℕ)) (max_frames : ℕ)
+        (certify : Bool) → StaysWithin choice c names max_frames certify }
 {}

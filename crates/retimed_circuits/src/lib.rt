@@ -4,5 +4,5 @@
 mod laws;
 mod report;
 
-pub use laws::{held_laws, retiming_law};
+pub use laws::{held_laws, retimed_limits_law, retiming_law};
 pub use report::{FrameReport, Retimed};

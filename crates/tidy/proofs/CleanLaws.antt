@@ -33,7 +33,7 @@ same_reset-refl One = refl
 same_reset-refl Free = refl
 
 -- a gate that comes down to no literal is plain
-plain-none : (kept : List (Gate × ℕ)) (gate : Gate) → gate.rhs1 ≤ gate.rhs0 → known_stand kept gate ≡ None → IsPlain gate
+pub plain-none : (kept : List (Gate × ℕ)) (gate : Gate) → gate.rhs1 ≤ gate.rhs0 → known_stand kept gate ≡ None → IsPlain gate
 plain-none kept gate ordered none = elim (cases_eq gate.rhs1 0) [
   | inl zero_in ↦ absurd (none-some 0 (sym none ∙ cond-true (nat_eq gate.rhs1 0) (Some 0) b (eq-eqb gate.rhs1 0 zero_in)))
   | inr more ↦ (
@@ -81,6 +81,33 @@ lookup-none test (e0 ∷ es) gate v e = elim (cases_Bool (test e0.0)) [
 
 pub is_gate-self : (gate : Gate) → is_gate gate gate ≡ true
 is_gate-self gate = and_from (nat_eq gate.rhs0 gate.rhs0) (nat_eq gate.rhs1 gate.rhs1) (eq-eqb gate.rhs0 gate.rhs0 refl) (eq-eqb gate.rhs1 gate.rhs1 refl)
+
+-- where each latch stands for itself, none that isn't held is stuck or like an earlier one
+module _ (g : Graph) (held : List ℕ) (own : (j : ℕ) (latch : Latch) → slice_get g.latches j ≡ Some latch → latch_stand g held j (Some latch) ≡ 2 * (first_latch g + j)) where
+  pub latches-moving : (j : ℕ) (latch : Latch) → slice_get g.latches j ≡ Some latch → is_stuck g held j latch ≡ false
+  latches-moving j latch e = elim (stands_for g held j latch) [
+    | by_constant stuck there ↦ absurd (omega (arith, own j latch e, there, constant-even latch.reset))
+    | by_itself moves there ↦ moves
+    | by_earlier i less first like known apart there ↦ absurd (omega (arith, own j latch e, there, less))
+  ]
+
+  pub latches-single : (i j : ℕ) (latch : Latch) → i < j → slice_get g.latches i ≡ Some latch → slice_get g.latches j ≡ Some latch → is_free latch ≡ false → has held j ≡ true
+  latches-single i j latch less e f known = elim (cases_Bool (has held j)) [
+    | inl held_is ↦ held_is
+    | inr apart ↦ (
+        let mine : ℕ = 2 * (first_latch g + j) in
+        let like : ℕ = 2 * (first_latch g + first_like g held j latch) in
+        let rest : ℕ = cond (is_free latch || has held j) mine like in
+        let here : latch_stand g held j (Some latch) ≡ like =
+        cond-false (is_stuck g held j latch) (constant_of latch.reset) rest (latches-moving j latch f)
+        ∙ cond-false (is_free latch || has held j) mine like (or_from (is_free latch) (has held j) known apart) in
+        let least : first_like g held j latch ≡ j = omega (arith, here, own j latch f) in
+        let none : is_like g held latch i (slice_get g.latches i) ≡ false = first_where-least (λ h. is_like g held latch h (slice_get g.latches h)) j i (omega (arith, least, less)) in
+        let some : is_like g held latch i (slice_get g.latches i) ≡ true =
+        ap (is_like g held latch i) e ∙ and_from (not (is_stuck g held i latch)) (is_latch latch latch) (ap not (latches-moving i latch e))
+        (and_from (nat_eq latch.next latch.next) (same_reset latch.reset latch.reset) (eq-eqb latch.next latch.next refl) (same_reset-refl latch.reset)) in
+        absurd (both_ways (is_like g held latch i (slice_get g.latches i)) none some))
+  ]
 
 module _ (g : Graph) (held : List ℕ) (valid : IsGraph g) where
   -- the gates so far are plain, each with a pair of its own, and are found among the kept ones
@@ -188,35 +215,10 @@ module _ (g : Graph) (held : List ℕ) (valid : IsGraph g) where
       ]
     ]
 
-    stand-own : (j : ℕ) (latch : Latch) → slice_get g.latches j ≡ Some latch → latch_stand g held j (Some latch) ≡ 2 * (first_latch g + j)
+    pub stand-own : (j : ℕ) (latch : Latch) → slice_get g.latches j ≡ Some latch → latch_stand g held j (Some latch) ≡ 2 * (first_latch g + j)
     stand-own j latch e =
         let low : j < length g.latches = slice_get_within g.latches j latch e in
         sym (leaf-latch g held j latch e) ∙ sym (stands-leaf g held (first_latch g + j) (omega (arith, low))) ∙ own (first_latch g + j) (omega (arith, low))
-
-    pub own-moving : (j : ℕ) (latch : Latch) → slice_get g.latches j ≡ Some latch → is_stuck g held j latch ≡ false
-    own-moving j latch e = elim (stands_for g held j latch) [
-      | by_constant stuck there ↦ absurd (omega (arith, stand-own j latch e, there, constant-even latch.reset))
-      | by_itself moves there ↦ moves
-      | by_earlier i less first like known apart there ↦ absurd (omega (arith, stand-own j latch e, there, less))
-    ]
-
-    pub own-single : (i j : ℕ) (latch : Latch) → i < j → slice_get g.latches i ≡ Some latch → slice_get g.latches j ≡ Some latch → is_free latch ≡ false → has held j ≡ true
-    own-single i j latch less e f known = elim (cases_Bool (has held j)) [
-      | inl held_is ↦ held_is
-      | inr apart ↦ (
-          let mine : ℕ = 2 * (first_latch g + j) in
-          let like : ℕ = 2 * (first_latch g + first_like g held j latch) in
-          let rest : ℕ = cond (is_free latch || has held j) mine like in
-          let here : latch_stand g held j (Some latch) ≡ like =
-          cond-false (is_stuck g held j latch) (constant_of latch.reset) rest (own-moving j latch f)
-          ∙ cond-false (is_free latch || has held j) mine like (or_from (is_free latch) (has held j) known apart) in
-          let least : first_like g held j latch ≡ j = omega (arith, here, stand-own j latch f) in
-          let none : is_like g held latch i (slice_get g.latches i) ≡ false = first_where-least (λ h. is_like g held latch h (slice_get g.latches h)) j i (omega (arith, least, less)) in
-          let some : is_like g held latch i (slice_get g.latches i) ≡ true =
-          ap (is_like g held latch i) e ∙ and_from (not (is_stuck g held i latch)) (is_latch latch latch) (ap not (own-moving i latch e))
-          (and_from (nat_eq latch.next latch.next) (same_reset latch.reset latch.reset) (eq-eqb latch.next latch.next refl) (same_reset-refl latch.reset)) in
-          absurd (both_ways (is_like g held latch i (slice_get g.latches i)) none some))
-    ]
 
 pub clean-tidy : (held : List ℕ) (c : Netlist) (kept : List ℕ) → IsCircuit c → All (λ j. j < length c.aig.latches) held → IsPass held c c kept held → IsTidy held c
 clean-tidy held c kept valid in_range pass = record {
@@ -224,8 +226,8 @@ clean-tidy held c kept valid in_range pass = record {
       let P : Netlist → Type 0 = λ x. AreReached x.aig x.props held pass.reached in
       let here : AreReached c.aig c.props held pass.reached = subst P merged pass.are_reached in
       here.least r holds v (sym (stays-past m.aig pass.reached v (omega (arith, past, replaced-first_latch stands c.aig))) ∙ full v (omega (arith, less, replaced-end stands c.aig)));
-  moving = own-moving c.aig held valid.graph owns;
-  single = own-single c.aig held valid.graph owns;
+  moving = latches-moving c.aig held (stand-own c.aig held valid.graph owns);
+  single = latches-single c.aig held (stand-own c.aig held valid.graph owns);
   plain = own-plain c.aig held valid.graph owns;
   pairs = own-pairs c.aig held valid.graph owns;
 }

@@ -1,15 +1,13 @@
 -- Nothing is to clean after the move of a frame whose low copies are tidy.
-use Rattle.std.proofs.Common.{ℕ, ◌+◌, ◌<◌, ◌≤◌, ◌≡◌, List, length, map, filter, refl, arith, sym, subst, length-append}
-use Rattle.std.specs.List.{All}
+use Rattle.std.proofs.Common.{ℕ, ◌+◌, ◌<◌, ◌≤◌, ◌≡◌, List, length, map, refl, arith, sym, subst, length-append}
 use Rattle.std.proofs.lemmas.List.{length-map}
-use Rattle.std.proofs.lemmas.List.Elements.{All-filter, All-map}
-use Rattle.aig_graph.specs.declared.properties.Symbol.{Symbol}
 use Rattle.aig_graph.specs.Circuits.{Netlist, IsNetlist}
 use Rattle.aig_graph.specs.Closed.{IsClosedSet}
 use Rattle.aig_graph.specs.Laws.{all_free}
 use Rattle.aig_graph.specs.Graph.{variables_end}
-use Rattle.aig_graph.specs.Keep.{held_by, is_named}
+use Rattle.aig_graph.specs.Keep.{held_in}
 use Rattle.aig_graph.specs.Move.{Move}
+use Rattle.aig_graph.proofs.HoldingLaws.{held-below}
 use Rattle.variable_tables.specs.Counting.{count_below, places}
 use Rattle.variable_tables.proofs.PlacesLaws.{length-places}
 use Rattle.cleaned_circuits.specs.Cleaned.{IsPass, Cleans, unchanged, after_pass}
@@ -17,7 +15,6 @@ use Rattle.cleaned_circuits.proofs.PassLaws.{IsCircuit, IsCircuit-cleans, IsCirc
 use Rattle.rebuild.specs.Moved.{copy_for, gates_below, gate_for, is_outside, moved_graph, moved_of}
 use Rattle.rebuild.proofs.MovedLaws.{IsGraph-moved}
 use Rattle.rebuild.proofs.NameLaws.{IsNetlist-moved}
-use Rattle.retimed_circuits.specs.Names.{held_in}
 use Rattle.retimed_circuits.specs.Frames.{CleansIn, move_in, moved_in}
 use Rattle.retimed_circuits.proofs.HeldLaws.{moved-positions, pass-keeps}
 use Rattle.tidy.specs.Tidy.{IsTidy, IsTidyIn, AreLowTidy, moved_held}
@@ -26,19 +23,12 @@ use Rattle.tidy.proofs.CleanLaws.{clean-tidy}
 use Rattle.tidy.proofs.MovedLaws.{moved_tidy}
 use Rattle.tidy.proofs.PassLaws.{tidy-cleans}
 
--- names hold latches
-pub held-range : (names : List (List ℕ)) (c : Netlist) → IsNetlist c → All (λ j. j < length c.aig.latches) (held_in names c)
-unfolding held_by
-held-range names c netlist =
-    All-map (λ j. j < length c.aig.latches) (λ (s : Symbol). s.position) (filter (is_named names) c.symbols.latches)
-    (All-filter (is_named names) (λ (s : Symbol). s.position < length c.aig.latches) c.symbols.latches netlist.symbols.latches.below)
-
 -- what a circuit is cleaned to is tidy
 pub cleans-tidy : (names : List (List ℕ)) (d : Netlist) (held : List ℕ) (c : Netlist) (kept : List ℕ) → Cleans d held c kept → held ≡ held_in names c → IsCircuit c → IsTidyIn names d
 cleans-tidy names d _ _ _ (unchanged held c kept pass same) start valid =
     let P : List ℕ → Type 0 = λ positions. IsPass positions c c kept positions in
     let Q : Netlist → Type 0 = λ x. IsTidyIn names x in
-    subst Q (sym same) (clean-tidy (held_in names c) c kept valid (held-range names c valid.netlist) (subst P start pass))
+    subst Q (sym same) (clean-tidy (held_in names c) c kept valid (held-below names c valid.netlist) (subst P start pass))
 cleans-tidy names d _ _ _ (after_pass held c e first second still_held pass differs rest) start valid =
     let P : List ℕ → Type 0 = λ positions. IsPass positions c e first still_held in
     let one = pass-keeps names c e first still_held valid (subst P start pass) in
@@ -78,11 +68,11 @@ tidy-moved names d s first valid tidy set copies lows =
     let m : Move = move_in names d s in
     let P : ℕ → Type 0 = λ n. AreLowTidy (moved_graph m) n in
     let Q : List ℕ → Type 0 = λ held. IsTidy held (moved_of m) in
-    subst Q (held-same names d s valid.netlist) (moved_tidy m valid.graph valid.netlist (held-range names d valid.netlist) set tidy (subst P (first-copy m first copies) lows))
+    subst Q (held-same names d s valid.netlist) (moved_tidy m valid.graph valid.netlist (held-below names d valid.netlist) set tidy (subst P (first-copy m first copies) lows))
 
 -- a tidy circuit is what it is cleaned to
 pub tidy-cleaned : (names : List (List ℕ)) (c : Netlist) → IsCircuit c → IsTidyIn names c → CleansIn names c c (all_free c.aig)
-tidy-cleaned names c valid tidy = tidy-cleans (held_in names c) c valid (held-range names c valid.netlist) tidy
+tidy-cleaned names c valid tidy = tidy-cleans (held_in names c) c valid (held-below names c valid.netlist) tidy
 
 pub nothing_to_clean : (names : List (List ℕ)) (c d : Netlist) (kept s : List ℕ) (first : ℕ) → NothingToClean names c d kept s first
 nothing_to_clean names c d kept s first graph netlist cleans set room copies lows =

@@ -8,7 +8,7 @@ use Rattle.variable_tables.specs.Counting.{count_below}
 use Rattle.rebuild.specs.Moved.{is_outside, moved_graph, moved_of}
 use Rattle.aig_graph.specs.Laws.{all_free}
 use Rattle.cleaned_circuits.specs.Cleaned.{IsPass, Cleans}
-use Rattle.retimed_circuits.specs.Names.{held_in}
+use Rattle.aig_graph.specs.Keep.{held_in}
 use Rattle.retimed_circuits.specs.Frames.{CleansIn, moved_in}
 use Rattle.aig_graph.specs.declared.literal.TheConstants.{MAX_VARIABLES}
 use Rattle.tidy.specs.Tidy.{IsTidy, AreLowTidy, moved_held}

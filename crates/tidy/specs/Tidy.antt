@@ -10,7 +10,7 @@ use Rattle.variable_tables.specs.Marking.{has}
 use Rattle.cleaned_circuits.specs.Latches.{is_stuck}
 use Rattle.cleaned_circuits.specs.Reached.{HoldsReads}
 use Rattle.rebuild.specs.Moved.{is_latched}
-use Rattle.retimed_circuits.specs.Names.{held_in}
+use Rattle.aig_graph.specs.Keep.{held_in}
 
 -- two variables, neither the constant; the larger literal is first
 pub record IsPlain (gate : Gate) : Type 0 where

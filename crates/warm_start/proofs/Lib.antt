@@ -1,2 +1,3 @@
 pub mod UnitLaws
 pub mod SendLaws
+pub mod OnePartLaws

@@ -27,7 +27,7 @@ fn send_from(
     ensures wishes { length wishes.new ≡ length wishes.old }
 {
     let nodes = net.nodes();
-    let _arcs = net.arcs();
+    net.known_capacities();
     let mut at = v;
     for _ in 0..nodes {
         match next_place(net, labels, residuals, wishes, at) {
@@ -52,7 +52,7 @@ fn send_from_heads(
     requires wishes { length wishes.old ≡ length net.now.heads }
     ensures held { IsHeld net.now labels.now residuals.new excess.new }
 {
-    let _nodes = net.nodes();
+    net.known();
     let heads = net.heads(0);
     for k in 0..heads.len() {
         let v = heads[k];
@@ -72,7 +72,7 @@ fn send_in_part(net: &Net, labels: &[u32], part: &mut FlowPart, wishes: &mut [u3
     ensures sound { IsSound net.now (pairs net.now (part_cells part.new) labels.now) }
     ensures worker { part.new.worker ≡ part.old.worker }
 {
-    let _nodes = net.nodes();
+    net.known();
     let residuals = part.residuals.as_mut_slice();
     let excess = part.excess.as_mut_slice();
     send_from_heads(net, labels, residuals, excess, wishes);

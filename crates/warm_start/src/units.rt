@@ -22,7 +22,7 @@ pub(crate) fn send_unit(
     ensures head { result ≡ head net.now v k }
     ensures unit { 0 < slice_index excess.new result }
 {
-    let _nodes = net.nodes();
+    net.known();
     let _count = labels.len();
     let heads = net.heads(v);
     let mates = net.mates(v);
@@ -46,7 +46,7 @@ fn is_wished(net: &Net, labels: &[u32], residuals: &[u32], wishes: &[u32], v: u3
     ensures can { result ≡ true → CanSend net.now labels.now residuals.now v k }
     ensures wished { result ≡ true → 0 < slice_index wishes.now (start net.now v + k) }
 {
-    let _nodes = net.nodes();
+    net.known();
     let arc = net.start(v) + k;
     if wishes[arc] > 0 && residuals[arc] > 0 {
         let head = net.heads(v)[k];
@@ -71,7 +71,7 @@ fn wished_place(
     ensures can { IfSome result (λ k. CanSend net.now labels.now residuals.now v k) }
     ensures wished { IfSome result (λ k. 0 < slice_index wishes.now (start net.now v + k)) }
 {
-    let _nodes = net.nodes();
+    net.known();
     for k in 0..net.heads(v).len() {
         if is_wished(net, labels, residuals, wishes, v, k) {
             return Some(k);

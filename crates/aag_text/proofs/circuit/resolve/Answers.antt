@@ -1,5 +1,5 @@
-use Rattle.ascii_sections.proofs.CountLaws.{counted}
-use Rattle.ascii_sections.specs.Taking.{raw_of}
+use Rattle.aag_text.proofs.CountLaws.{counted}
+use Rattle.aag_text.specs.Taking.{raw_of}
 use Rattle.aag_text.proofs.circuit.resolve.Goals as goal
 
 pub returns : goal.returns

@@ -1,5 +1,5 @@
 use Rattle.std.proofs.Common.{ℕ, List, ◌<◌, ◌≤◌, ◌++◌, ◌∙◌, length, ap, sym, subst, arith}
-use Rattle.spellings.specs.Spellings.{spelling_of}
+use Rattle.aig_binary.specs.Spellings.{spelling_of}
 use Rattle.aig_binary.proofs.LetterLaws.{short_whole, three_many, by_letters}
 use Rattle.aig_binary.proofs.AnswerLaws.{fed_short, fed_neither}
 use Rattle.aig_binary.proofs.begin.begin.Goals as goal

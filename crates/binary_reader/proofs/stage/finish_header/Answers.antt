@@ -1,6 +1,6 @@
 use Rattle.std.proofs.Common.{ℕ, ap, ◌∙◌}
 use Rattle.ascii_file.specs.Raw.{nothing_yet}
-use Rattle.binary_sections.specs.Taking.{circuit_at_end}
+use Rattle.binary_reader.specs.Taking.{circuit_at_end}
 use Rattle.binary_reader.proofs.FinishLaws.{gives_same}
 use Rattle.binary_reader.proofs.HoldLaws.{row_is, header_alone, header_alone_failed}
 use Rattle.binary_reader.proofs.stage.finish_header.Goals as goal

@@ -5,7 +5,7 @@ use Rattle.certificate_audits.specs.declared.judging.Finding.{Finding}
 use Rattle.certificate_audits.specs.declared.outcome.End.TheVariants.{Open, Certified}
 use Rattle.certificate_audits.specs.Audits.{Audits, objected, open_end, certified_end, past_end}
 use Rattle.certificate_audits.specs.Findings.{IsFinding}
-use Rattle.certificate_audits.specs.Named.{names_of}
+use Rattle.aig_graph.specs.Keep.{names_of}
 use Rattle.certificate_audits.proofs.AuditLaws.{not-empty}
 use Rattle.certificate_audits.proofs.judging.end_at.Goals as goal
 

@@ -6,7 +6,7 @@ use Rattle.certificates.specs.declared.certificate.Certificate.{Certificate}
 use Rattle.certificate_audits.specs.declared.outcome.Audit.{Audit}
 use Rattle.certificate_audits.specs.Audits.{Audits}
 use Rattle.certificate_audits.specs.Findings.{GoesOn}
-use Rattle.certificate_audits.specs.Named.{names_of}
+use Rattle.aig_graph.specs.Keep.{names_of}
 use Rattle.certificate_audits.proofs.AuditLaws.{audits-within, leads-next, none-left}
 use Rattle.certificate_audits.proofs.run.audit_from.Goals as goal
 

@@ -1,4 +1,4 @@
-use Rattle.certificate_audits.specs.Named.{names_of}
+use Rattle.aig_graph.specs.Keep.{names_of}
 use Rattle.certificate_audits.proofs.AuditLaws.{LeadsTo}
 use Rattle.certificate_audits.proofs.run.audit_from.Given as goal
 

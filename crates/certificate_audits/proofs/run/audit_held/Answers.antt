@@ -1,10 +1,43 @@
-use Rattle.std.proofs.Common.{◌∙◌, ap}
+use Rattle.std.proofs.Common.{ℕ, List, ◌<◌, ◌∙◌, ap, length, sym, subst}
+use Rattle.std.specs.List.{All}
+use Rattle.std.proofs.lemmas.Result.{IfOk-weaker}
+use Rattle.aig_graph.specs.Circuits.{Netlist}
+use Rattle.aig_graph.specs.Keep.{held_in, names_of}
+use Rattle.aig_graph.proofs.HoldingLaws.{held-below}
+use Rattle.cleaned_circuits.specs.Cleaned.{Cleans}
 use Rattle.retimed_circuits.specs.Names.{held_latches}
+use Rattle.retimed_circuits.proofs.HeldLaws.{cleaning-keeps}
 use Rattle.retimed_circuits.proofs.NameLaws.{names-stay}
-use Rattle.certificate_audits.specs.Named.{names_of}
+use Rattle.certificate_audits.specs.Audits.{Audits, IsAudit}
 use Rattle.certificate_audits.proofs.run.audit_held.Goals as goal
+
+pub clean-requires : goal.clean-requires
+clean-requires c =
+    let P : List ℕ → Type 0 = λ js. All (λ (j : ℕ). j < length c.args.circuit.now.aig.latches) js in
+    record { in_range = subst P (sym c.requires.keep) (held-below (names_of c.args.names.now) c.args.circuit.now c.known.ensures.netlist) }
 
 pub audit_from-requires : goal.audit_from-requires
 audit_from-requires c =
     let names = names_of c.args.names.now in
-    names-stay names c.args.circuit.now c.circuit_of.result (ap (held_latches names) c.circuit_of.ensures ∙ c.in_ok-first.ensures.held) c.requires.names
+    let before = c.args.circuit.now in
+    let first = c.in_ok-first.first in
+    let P : List ℕ → Type 0 = λ held. Cleans first.circuit held before first.kept_free in
+    let stay = cleaning-keeps names before first.circuit first.kept_free (record { graph = c.known.ensures.graph; netlist = c.known.ensures.netlist }) (subst P c.requires.keep c.in_ok-first.ensures.cleaned) in
+    names-stay names before c.circuit_of.result (ap (held_latches names) c.circuit_of.ensures ∙ stay) c.requires.names
+
+pub returns : goal.returns
+returns c =
+    let names = names_of c.args.names.now in
+    let before = c.args.circuit.now in
+    let blocks = c.args.blocks.now in
+    let first = c.in_ok-first.first in
+    let P : List ℕ → Type 0 = λ held. Cleans first.circuit held before first.kept_free in
+    let Q : Netlist → Type 0 = λ d. Cleans d (held_in names before) before first.kept_free in
+    IfOk-weaker c.audit_from.result (λ audit. Audits names c.circuit_of.result blocks audit.confirmed audit.end) (IsAudit names before blocks)
+    (λ audit audits. record {
+      first = c.circuit_of.result;
+      kept = first.kept_free;
+      cleaned = subst Q (sym c.circuit_of.ensures) (subst P c.requires.keep c.in_ok-first.ensures.cleaned);
+      audits = audits;
+    })
+    c.audit_from.ensures

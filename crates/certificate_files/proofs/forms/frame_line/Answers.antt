@@ -1,5 +1,5 @@
 use Rattle.std.proofs.Common.{List, ℕ, Option, [], ◌++◌, sym, ap, ◌∙◌, append-nil}
-use Rattle.file_lines.specs.Rows.{row_of}
+use Rattle.reader_parts.specs.Rows.{row_of}
 use Rattle.certificate_files.specs.Forms.{framed}
 use Rattle.certificate_files.specs.Files.{frame_of}
 use Rattle.certificate_files.proofs.FormLaws.{framed_other, framed-row}

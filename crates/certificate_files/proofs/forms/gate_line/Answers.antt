@@ -1,5 +1,5 @@
 use Rattle.std.proofs.Common.{List, ℕ, Option, [], ◌++◌, sym, ap, ◌∙◌, append-nil}
-use Rattle.file_lines.specs.Rows.{row_of}
+use Rattle.reader_parts.specs.Rows.{row_of}
 use Rattle.certificate_files.specs.Forms.{gated}
 use Rattle.certificate_files.specs.Files.{gate_of}
 use Rattle.certificate_files.proofs.FormLaws.{gated_other, gated-row}

@@ -2,7 +2,7 @@ use Rattle.std.proofs.Common.{◌≡◌, true, take}
 use Rattle.std.specs.Char.{is_ascii_digit}
 use Rattle.std.specs.List.{list_all}
 use Rattle.file_words.specs.Lines.{digits_value}
-use Rattle.file_lines.specs.Rows.{clamped}
+use Rattle.reader_parts.specs.Rows.{clamped}
 use Rattle.certificate_files.proofs.words.number.Given as goal
 
 abbrev pub invariant-loop-digit : goal.invariant-loop-digit

@@ -3,7 +3,7 @@ use Rattle.aig_graph.specs.Graph.{Graph, latches_and_gates}
 use Rattle.aig_graph.specs.Streams.{SameStreams}
 use Rattle.cleaned_circuits.specs.Cleaned.{IsPass, Cleans}
 use Rattle.cleaned_circuits.proofs.PassLaws.{IsCircuit, cleans-streams}
-use Rattle.clean.proofs.CleaningLaws.{Passed, passed-start, passed-in_range, passed-more, passed-end, kept-long}
+use Rattle.clean.proofs.CleaningLaws.{Passed, passed-start, passed-in_range, passed-more, passed-done, kept-long}
 use Rattle.clean.proofs.cleaning.clean.Goals as goal
 
 pub loop-before-init : goal.loop-before-init
@@ -13,6 +13,11 @@ loop-before-init c =
     let valid : IsCircuit c.args.circuit.now = record { graph = c.aig.ensures.graph; netlist = c.aig.ensures.netlist } in
     passed-start c.args.keep.now c.args.circuit.now last.circuit c.latches_and_gates-before.result last.kept_free.items last.held.items valid c.requires.in_range (subst P c.positions.ensures.value c.in_ok-last.ensures.pass)
     (c.latches_and_gates-before.ensures.value ∙ ap (λ (g : Graph). latches_and_gates g) c.aig.ensures.value)
+
+pub has_more-requires : goal.has_more-requires
+has_more-requires c =
+    let last = c.loop-before.last in
+    passed-in_range c.args.keep.now c.args.circuit.now c.loop-before.before last.circuit last.kept_free.items last.held.items c.loop-before.invariant
 
 pub next_pass-requires-clause-in_range : goal.next_pass-requires-clause-in_range
 next_pass-requires-clause-in_range c =
@@ -28,10 +33,9 @@ pub loop-before-preserved : goal.loop-before-preserved
 loop-before-preserved c =
     let last = c.loop-before.last in
     let next = c.in_ok-last-2.last in
-    let less : latches_and_gates last.circuit.aig < c.loop-before.before =
-    omega (arith, c.loop-before-test.true, c.latches_and_gates.ensures.value, ap (λ (g : Graph). latches_and_gates g) c.aig-in-loop-before.ensures.value) in
+    let less : latches_and_gates last.circuit.aig < c.loop-before.before = c.has_more.ensures.fewer c.loop-before-test.true in
     let size : c.latches_and_gates-before-in-loop-before.result ≡ latches_and_gates last.circuit.aig =
-    c.latches_and_gates-before-in-loop-before.ensures.value ∙ ap (λ (g : Graph). latches_and_gates g) c.aig-in-loop-before-2.ensures.value in
+    c.latches_and_gates-before-in-loop-before.ensures.value ∙ ap (λ (g : Graph). latches_and_gates g) c.aig-in-loop-before.ensures.value in
     subst (λ (n : ℕ). Passed c.args.keep.now c.args.circuit.now n next.circuit next.kept_free.items next.held.items) (sym size)
     (passed-more c.args.keep.now c.args.circuit.now c.loop-before.before last.circuit last.kept_free.items last.held.items c.loop-before.invariant next.circuit c.in_ok-last-2.ensures.second next.kept_free.items next.held.items less
     c.in_ok-last-2.ensures.pass c.in_ok-last-2.ensures.places)
@@ -39,20 +43,16 @@ loop-before-preserved c =
 pub returns-clause-cleaned : goal.returns-clause-cleaned
 returns-clause-cleaned c =
     let last = c.loop-before.last in
-    let many : c.loop-before.before ≤ latches_and_gates last.circuit.aig =
-    omega (arith, c.loop-before-test.false, c.latches_and_gates.ensures.value, ap (λ (g : Graph). latches_and_gates g) c.aig-in-loop-before.ensures.value) in
     let cleaned : Cleans last.circuit c.args.keep.now c.args.circuit.now last.kept_free.items =
-    passed-end c.args.keep.now c.args.circuit.now c.loop-before.before last.circuit last.kept_free.items last.held.items c.loop-before.invariant many in
+    passed-done c.args.keep.now c.args.circuit.now c.loop-before.before last.circuit last.kept_free.items last.held.items c.loop-before.invariant (c.has_more.ensures.done c.loop-before-test.false) in
     subst (λ (xs : List ℕ). Cleans c.cleaned_by.result.circuit c.args.keep.now c.args.circuit.now xs) (sym c.cleaned_by.ensures.kept_free)
     (subst (λ d. Cleans d c.args.keep.now c.args.circuit.now last.kept_free.items) (sym c.cleaned_by.ensures.circuit) cleaned)
 
 pub returns-clause-streams : goal.returns-clause-streams
 returns-clause-streams c =
     let last = c.loop-before.last in
-    let many : c.loop-before.before ≤ latches_and_gates last.circuit.aig =
-    omega (arith, c.loop-before-test.false, c.latches_and_gates.ensures.value, ap (λ (g : Graph). latches_and_gates g) c.aig-in-loop-before.ensures.value) in
     let cleaned : Cleans last.circuit c.args.keep.now c.args.circuit.now last.kept_free.items =
-    passed-end c.args.keep.now c.args.circuit.now c.loop-before.before last.circuit last.kept_free.items last.held.items c.loop-before.invariant many in
+    passed-done c.args.keep.now c.args.circuit.now c.loop-before.before last.circuit last.kept_free.items last.held.items c.loop-before.invariant (c.has_more.ensures.done c.loop-before-test.false) in
     let valid : IsCircuit c.args.circuit.now = record { graph = c.aig.ensures.graph; netlist = c.aig.ensures.netlist } in
     subst (λ (xs : List ℕ). SameStreams c.args.circuit.now c.cleaned_by.result.circuit xs) (sym c.cleaned_by.ensures.kept_free)
     (subst (λ d. SameStreams c.args.circuit.now d last.kept_free.items) (sym c.cleaned_by.ensures.circuit)

@@ -11,10 +11,10 @@ use Rattle.cut_cert.proofs.gathering.routes.Goals as goal
 pub loop-end-init : goal.loop-end-init
 loop-end-init c = record {
   gathering = subst (λ (rs : List (List Point)). Gathering c.args.net.now c.args.preflow.now c.in_ok-carried.carried.items rs 0) (sym c.new-routes.ensures.items)
-      (no-routes c.args.net.now c.nodes-nodes.ensures.network c.args.preflow.now c.requires c.in_ok-carried.carried.items c.in_ok-carried.ensures);
+      (no-routes c.args.net.now c.known.ensures.network c.args.preflow.now c.requires c.in_ok-carried.carried.items c.in_ok-carried.ensures);
   searched = subst (AreSearched c.args.net.now c.in_ok-carried.carried.items) (sym c.in_ok-places.ensures)
-      (searched-first c.args.net.now c.nodes-nodes.ensures.network c.in_ok-carried.carried.items _ c.nodes-nodes.ensures.count);
-  clear = subst (λ (marks : List Bool). AreOn (node_count c.args.net.now) marks []) (sym c.in_ok-marks.ensures) (subst (λ (n : ℕ). AreOn (node_count c.args.net.now) (replicate n false) []) (sym c.nodes-nodes.ensures.count) (none-on (node_count c.args.net.now)));
+      (searched-first c.args.net.now c.known.ensures.network c.in_ok-carried.carried.items _ c.nodes-nodes.ensures);
+  clear = subst (λ (marks : List Bool). AreOn (node_count c.args.net.now) marks []) (sym c.in_ok-marks.ensures) (subst (λ (n : ℕ). AreOn (node_count c.args.net.now) (replicate n false) []) (sym c.nodes-nodes.ensures) (none-on (node_count c.args.net.now)));
 }
 
 pub next_route-requires-clause-sized : goal.next_route-requires-clause-sized
@@ -55,7 +55,7 @@ loop-end-preserved c =
     let lent : length c.as_mut_slice-in-Some-2.result.now ≡ node_count net = ap (λ (marks : List Bool). length marks) c.as_mut_slice-in-Some-2.ensures.value ∙ c.loop-end.invariant.clear.long in
     record {
       gathering = subst (λ (zs : List ℕ). Gathering net m zs c.push.new.self.items c.in-Some.end) (sym (left c)) (subst (λ (rs : List (List Point)). Gathering net m c.next_route.new.carried rs c.in-Some.end) (sym pushed)
-          (more-routes net c.nodes-nodes.ensures.network m xs c.next_route.new.carried c.loop-end.routes.items c.in_ok-route.route.items c.loop-end.place c.in-Some.end c.loop-end.invariant.gathering none (walked c)));
+          (more-routes net c.known.ensures.network m xs c.next_route.new.carried c.loop-end.routes.items c.in_ok-route.route.items c.loop-end.place c.in-Some.end c.loop-end.invariant.gathering none (walked c)));
       searched = subst (λ (zs : List ℕ). AreSearched net zs (take c.loop-end.places.len (c.next_route.new.places ++ drop (length c.next_route.new.places) c.loop-end.places.items))) (sym (left c)) (subst (AreSearched net c.next_route.new.carried) (sym (left-places c)) c.in_ok-route.ensures.searched);
       clear = subst (λ (marks : List Bool). AreOn (node_count net) marks []) (sym (left-marks c)) (subst (λ (n : ℕ). AreOn n c.next_route.new.marks []) lent c.in_ok-route.ensures.clear);
     }
@@ -69,4 +69,4 @@ returns c =
     let xs : List ℕ = c.loop-end.carried.items in
     let none : NoneComes net xs 1 c.loop-end.place (row_len net 1) = subst (λ (zs : List ℕ). NoneComes net zs 1 c.loop-end.place (row_len net 1)) c.as_slice.ensures.value c.in_default.ensures in
     λ n held is. subst (AreLeastRoutes n held) (sym c.from_vec-2.ensures)
-    (all-routes net c.nodes-nodes.ensures.network c.args.preflow.now c.requires xs c.loop-end.routes.items c.loop-end.place c.loop-end.invariant.gathering none n held is)
+    (all-routes net c.known.ensures.network c.args.preflow.now c.requires xs c.loop-end.routes.items c.loop-end.place c.loop-end.invariant.gathering none n held is)

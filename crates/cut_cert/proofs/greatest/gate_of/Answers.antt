@@ -10,16 +10,16 @@ returns-then-marks-node c = sym (gate-out c.args.net.now (λ u. not (slice_index
 pub returns-in-Some : goal.returns-in-Some
 returns-in-Some c =
     sym (gate-in c.args.net.now (λ u. not (slice_index_or c.args.marks.now u false)) c.args.node (ap not c.if-marks-node.false)
-    ∙ ap gate_after (sym c.point.ensures.value ∙ c.in-Some.is)
+    ∙ ap gate_after (sym c.point.ensures ∙ c.in-Some.is)
     ∙ ap (λ (b : Bool). gate_after (Some (record { var = c.in-Some.point.var; behind = b }))) (not-true c.in-Some.point.behind c.if-not-point.true))
 
 pub returns-in_default : goal.returns-in_default
 returns-in_default c =
     sym (gate-in c.args.net.now (λ u. not (slice_index_or c.args.marks.now u false)) c.args.node (ap not c.if-marks-node.false)
-    ∙ ap gate_after (sym c.point.ensures.value ∙ c.in-Some.is)
+    ∙ ap gate_after (sym c.point.ensures ∙ c.in-Some.is)
     ∙ ap (λ (b : Bool). gate_after (Some (record { var = c.in-Some.point.var; behind = b }))) (not-false c.in-Some.point.behind c.if-not-point.false))
 
 pub returns-in_default-2 : goal.returns-in_default-2
 returns-in_default-2 c =
     sym (gate-in c.args.net.now (λ u. not (slice_index_or c.args.marks.now u false)) c.args.node (ap not c.if-marks-node.false)
-    ∙ ap gate_after (sym c.point.ensures.value ∙ c.in_default.is))
+    ∙ ap gate_after (sym c.point.ensures ∙ c.in_default.is))

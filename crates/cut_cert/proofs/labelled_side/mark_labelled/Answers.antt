@@ -10,10 +10,10 @@ loop-v-init c = record { long = c.requires.long; each = λ u h. absurd (omega (a
 pub loop-v-preserved : goal.loop-v-preserved
 loop-v-preserved c = record {
   long = length-set c.loop-v.marks c.loop-v.v _ ∙ c.loop-v.invariant.long;
-  each = mark_more (node_count c.args.net.now) (slice_index c.args.preflow.now.flow.labels) c.loop-v.marks c.loop-v.v _ (omega (arith, c.loop-v.invariant.long, c.loop-v-test.true, c.nodes-nodes.ensures.count))
-      (ap (λ (x : ℕ). nat_lt x c.nodes-nodes.result) c.label.ensures ∙ ap (λ (x : ℕ). nat_lt (slice_index c.args.preflow.now.flow.labels c.loop-v.v) x) c.nodes-nodes.ensures.count)
+  each = mark_more (node_count c.args.net.now) (slice_index c.args.preflow.now.flow.labels) c.loop-v.marks c.loop-v.v _ (omega (arith, c.loop-v.invariant.long, c.loop-v-test.true, c.nodes-nodes.ensures))
+      (ap (λ (x : ℕ). nat_lt x c.nodes-nodes.result) c.label.ensures ∙ ap (λ (x : ℕ). nat_lt (slice_index c.args.preflow.now.flow.labels c.loop-v.v) x) c.nodes-nodes.ensures)
       c.loop-v.invariant.each;
 }
 
 pub returns-clause-each : goal.returns-clause-each
-returns-clause-each c = λ v h. c.loop-v.invariant.each v (omega (arith, h, c.loop-v-test.false, c.nodes-nodes.ensures.count))
+returns-clause-each c = λ v h. c.loop-v.invariant.each v (omega (arith, h, c.loop-v-test.false, c.nodes-nodes.ensures))

@@ -8,7 +8,7 @@ pub comes_before-requires : goal.comes_before-requires
 comes_before-requires c =
     let m : ℕ = c.loop-low.low + (c.loop-low.high - c.loop-low.low) / 2 in
     let inside : m < row_len c.args.net.now c.args.node = omega (arith, c.loop-low-test.true, c.loop-low.invariant.within) in
-    omega (arith, c.heads-heads.ensures.value m inside, c.nodes-nodes.ensures.network.heads_in c.args.node m c.requires inside)
+    omega (arith, c.heads-heads.ensures.value m inside, c.known.ensures.network.heads_in c.args.node m c.requires inside)
 
 pub loop-low-preserved-then-comes_before : goal.loop-low-preserved-then-comes_before
 loop-low-preserved-then-comes_before c =
@@ -20,7 +20,7 @@ loop-low-preserved-then-comes_before c =
     record {
       ordered = omega (arith, c.loop-low-test.true);
       within = c.loop-low.invariant.within;
-      around = λ rise k l at. (before-target net c.nodes-nodes.ensures.network rise c.args.node c.requires c.args.point k l at m inside is, (c.loop-low.invariant.around rise k l at).1);
+      around = λ rise k l at. (before-target net c.known.ensures.network rise c.args.node c.requires c.args.point k l at m inside is, (c.loop-low.invariant.around rise k l at).1);
     }
 
 pub loop-low-preserved : goal.loop-low-preserved
@@ -33,7 +33,7 @@ loop-low-preserved c =
     record {
       ordered = omega (arith, c.loop-low-test.true);
       within = omega (arith, inside);
-      around = λ rise k l at. ((c.loop-low.invariant.around rise k l at).0, not-before-target net c.nodes-nodes.ensures.network rise c.args.node c.requires c.args.point k l at m inside is);
+      around = λ rise k l at. ((c.loop-low.invariant.around rise k l at).0, not-before-target net c.known.ensures.network rise c.args.node c.requires c.args.point k l at m inside is);
     }
 
 pub loop-low-init : goal.loop-low-init

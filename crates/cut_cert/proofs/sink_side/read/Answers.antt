@@ -16,7 +16,7 @@ has-requires c =
     let less : k < row_len net c.args.w = omega (arith, c.loop-k-test.true, c.heads-heads.ensures.len) in
     let at : slice_index c.heads-heads.result.now k ≡ head net c.args.w k = c.heads-heads.ensures.value k less in
     let long : length c.loop-k.side.marks ≡ node_count net = ap (λ (s : Front). length s.marks) c.loop-k.invariant ∙ arcs-long net c.args.preflow.now.flow.cells.residuals c.args.swept c.args.w k c.args.side.now ∙ c.requires.long in
-    let within : head net c.args.w k < node_count net = c.nodes-nodes.ensures.network.heads_in c.args.w k c.requires.node less in
+    let within : head net c.args.w k < node_count net = c.known.ensures.network.heads_in c.args.w k c.requires.node less in
     omega (arith, at, long, within)
 
 pub reach_in_sweep-requires : goal.reach_in_sweep-requires
@@ -26,7 +26,7 @@ reach_in_sweep-requires c =
     let less : k < row_len net c.args.w = omega (arith, c.loop-k-test.true, c.heads-heads.ensures.len) in
     let at : slice_index c.heads-heads.result.now k ≡ head net c.args.w k = c.heads-heads.ensures.value k less in
     let long : length c.loop-k.side.marks ≡ node_count net = ap (λ (s : Front). length s.marks) c.loop-k.invariant ∙ arcs-long net c.args.preflow.now.flow.cells.residuals c.args.swept c.args.w k c.args.side.now ∙ c.requires.long in
-    let within : head net c.args.w k < node_count net = c.nodes-nodes.ensures.network.heads_in c.args.w k c.requires.node less in
+    let within : head net c.args.w k < node_count net = c.known.ensures.network.heads_in c.args.w k c.requires.node less in
     omega (arith, at, long, within)
 
 pub loop-k-preserved : goal.loop-k-preserved

@@ -8,22 +8,22 @@ use Rattle.cut_cert.proofs.source_side.is_open.Goals as goal
 
 pub bounds-used-mate : goal.bounds-used-mate
 bounds-used-mate c =
-    let arc : start c.args.net.now c.args.node + c.args.place < length c.args.net.now.heads = arc-in c.args.net.now c.nodes-nodes.ensures.network c.args.node c.args.place c.requires.node c.requires.place in
-    omega (arith, c.mates.ensures.value c.args.place c.requires.place, c.arcs-arcs.ensures.startable.mates_in (start c.args.net.now c.args.node + c.args.place) arc, c.requires.long)
+    let arc : start c.args.net.now c.args.node + c.args.place < length c.args.net.now.heads = arc-in c.args.net.now c.known.ensures.network c.args.node c.args.place c.requires.node c.requires.place in
+    omega (arith, c.mates.ensures.value c.args.place c.requires.place, c.known_capacities.ensures.startable.mates_in (start c.args.net.now c.args.node + c.args.place) arc, c.requires.long)
 
 pub overflow_cast-arc : goal.overflow_cast-arc
 overflow_cast-arc c =
-    omega (arith, c.start.ensures, c.arcs-arcs.ensures.startable.few_arcs, arc-in c.args.net.now c.nodes-nodes.ensures.network c.args.node c.args.place c.requires.node c.requires.place)
+    omega (arith, c.start.ensures, c.known_capacities.ensures.startable.few_arcs, arc-in c.args.net.now c.known.ensures.network c.args.node c.args.place c.requires.node c.requires.place)
 
 pub cap-requires : goal.cap-requires
-cap-requires c = omega (arith, c.start.ensures, arc-in c.args.net.now c.nodes-nodes.ensures.network c.args.node c.args.place c.requires.node c.requires.place)
+cap-requires c = omega (arith, c.start.ensures, arc-in c.args.net.now c.known.ensures.network c.args.node c.args.place c.requires.node c.requires.place)
 
 pub is_taken-requires-clause-arc : goal.is_taken-requires-clause-arc
-is_taken-requires-clause-arc c = omega (arith, c.start.ensures, c.requires.long, arc-in c.args.net.now c.nodes-nodes.ensures.network c.args.node c.args.place c.requires.node c.requires.place)
+is_taken-requires-clause-arc c = omega (arith, c.start.ensures, c.requires.long, arc-in c.args.net.now c.known.ensures.network c.args.node c.args.place c.requires.node c.requires.place)
 
 pub is_taken-requires-clause-head : goal.is_taken-requires-clause-head
 is_taken-requires-clause-head c =
-    omega (arith, c.heads.ensures.value c.args.place c.requires.place, c.nodes-nodes.ensures.network.heads_in c.args.node c.args.place c.requires.node c.requires.place)
+    omega (arith, c.heads.ensures.value c.args.place c.requires.place, c.known.ensures.network.heads_in c.args.node c.args.place c.requires.node c.requires.place)
 
 pub returns-then-used-mate : goal.returns-then-used-mate
 returns-then-used-mate c =

@@ -15,7 +15,7 @@ reach-requires c =
     let less : k < row_len net c.args.node = omega (arith, c.loop-place-test.true, c.heads-heads.ensures.len) in
     let at : slice_index c.heads-heads.result.now k ≡ head net c.args.node k = c.heads-heads.ensures.value k less in
     let long : length c.loop-place.side.marks ≡ node_count net = ap (λ (s : Front). length s.marks) c.loop-place.invariant ∙ open-long net c.args.used.now c.args.node k c.args.side.now ∙ c.requires.marks in
-    omega (arith, at, long, c.nodes-nodes.ensures.network.heads_in c.args.node k c.requires.node less)
+    omega (arith, at, long, c.known.ensures.network.heads_in c.args.node k c.requires.node less)
 
 pub loop-place-preserved : goal.loop-place-preserved
 loop-place-preserved c =

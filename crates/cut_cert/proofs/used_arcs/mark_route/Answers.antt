@@ -8,7 +8,7 @@ use Rattle.cut_cert.proofs.used_arcs.mark_route.Goals as goal
 pub loop-point-init : goal.loop-point-init
 loop-point-init c = record {
   long = refl;
-  node = omega (arith, c.nodes-nodes.ensures.network.two);
+  node = omega (arith, c.known.ensures.network.two);
   way = λ rise nodes way. way;
   marks = λ rise nodes way x k h l. refl;
 }
@@ -37,7 +37,7 @@ loop-point-preserved c =
           let same : c.in-Some.next ≡ step.node = same_Some _ _ done.0 ∙ step.leads.1.1 in
           let long : length c.loop-point.used ≡ length net.heads = c.loop-point.invariant.long ∙ c.requires in
           ap (λ (v : ℕ). is_used net c.mark_step.new.used x k || nat_lt 0 (steps_of v (drop (i + 1) nodes) x (head net x k))) same
-          ∙ mark-more net c.nodes-nodes.ensures.network c.loop-point.used c.mark_step.new.used long c.loop-point.node step.leads.0 step.node c.loop-point.invariant.node step.leads.1.0 step.leads.1.1 done.1 (drop (i + 1) nodes) x k h l
+          ∙ mark-more net c.known.ensures.network c.loop-point.used c.mark_step.new.used long c.loop-point.node step.leads.0 step.node c.loop-point.invariant.node step.leads.1.0 step.leads.1.1 done.1 (drop (i + 1) nodes) x k h l
           ∙ ap (λ (ns : List ℕ). is_used net c.loop-point.used x k || nat_lt 0 (steps_of c.loop-point.node ns x (head net x k))) (sym step.is)
           ∙ c.loop-point.invariant.marks rise nodes way x k h l;
     }

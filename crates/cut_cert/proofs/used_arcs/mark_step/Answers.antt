@@ -6,14 +6,14 @@ use Rattle.cut_cert.proofs.used_arcs.mark_step.Goals as goal
 
 pub bounds-used-start : goal.bounds-used-start
 bounds-used-start c =
-    omega (arith, c.start.ensures, c.requires.long, arc-in c.args.net.now c.nodes-nodes.ensures.network c.args.node c.in_ok-place.place c.requires.node c.in_ok-place.ensures.within)
+    omega (arith, c.start.ensures, c.requires.long, arc-in c.args.net.now c.known.ensures.network c.args.node c.in_ok-place.place c.requires.node c.in_ok-place.ensures.within)
 
 pub returns-in_err-place-clause-there : goal.returns-in_err-place-clause-there
 returns-in_err-place-clause-there c = λ rise k l at. absurd (none-some k (c.in_err-place.ensures.there rise k l at))
 
 pub returns-clause-head : goal.returns-clause-head
 returns-clause-head c =
-    omega (arith, c.heads.ensures.value c.in_ok-place.place c.in_ok-place.ensures.within, c.nodes-nodes.ensures.network.heads_in c.args.node c.in_ok-place.place c.requires.node c.in_ok-place.ensures.within)
+    omega (arith, c.heads.ensures.value c.in_ok-place.place c.in_ok-place.ensures.within, c.known.ensures.network.heads_in c.args.node c.in_ok-place.place c.requires.node c.in_ok-place.ensures.within)
 
 pub returns-clause-there : goal.returns-clause-there
 returns-clause-there c = λ rise k l at.

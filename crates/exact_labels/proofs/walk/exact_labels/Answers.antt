@@ -8,10 +8,10 @@ use Rattle.exact_labels.proofs.walk.exact_labels.Goals as goal
 
 pub nodes-init : goal.nodes-init
 nodes-init c =
-    let two : 1 < node_count c.args.net.now = omega (arith, c.nodes-nodes.ensures.network.two) in
+    let two : 1 < node_count c.args.net.now = omega (arith, c.known.ensures.network.two) in
     sweeps_start (node_count c.args.net.now) (pairs c.args.net.now (cells_of c.args.parts.now) []) (slice_index (slice_set c.unlabel.new.labels 1 0)) (slice_index (slice_set c.args.queue.now 0 1)) two
     (get_or-set_same c.unlabel.new.labels 1 0 0 (omega (arith, two, c.requires.labels)))
-    (λ v h other. get_or-set_other c.unlabel.new.labels 1 v 0 0 other ∙ c.unlabel.ensures v (omega (arith, h, c.requires.labels)) ∙ c.nodes-nodes.ensures.count)
+    (λ v h other. get_or-set_other c.unlabel.new.labels 1 v 0 0 other ∙ c.unlabel.ensures v (omega (arith, h, c.requires.labels)) ∙ c.nodes-nodes.ensures)
     (get_or-set_same c.args.queue.now 0 1 0 (omega (arith, two, c.requires.queue)))
 
 pub read_node-queued-requires-clause-few : goal.read_node-queued-requires-clause-few

@@ -9,5 +9,5 @@ returns-then-part c =
 
 pub returns-else-part : goal.returns-else-part
 returns-else-part c =
-    all_cleared c.args.net.now c.args.part.now c.len-size.result c.as_mut_slice-else-part.result.now c.clear.new.values c.nodes-nodes.ensures.network c.requires.part c.as_mut_slice-else-part.ensures.value
+    all_cleared c.args.net.now c.args.part.now c.len-size.result c.as_mut_slice-else-part.result.now c.clear.new.values c.known.ensures.network c.requires.part c.as_mut_slice-else-part.ensures.value
     (omega arith) (omega arith) c.clear.ensures

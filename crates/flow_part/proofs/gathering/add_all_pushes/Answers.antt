@@ -17,5 +17,5 @@ loop-i-preserved c =
 pub returns-clause-listed : goal.returns-clause-listed
 returns-clause-listed c =
     let all : c.loop-i.i ≡ length c.args.pushes.now = omega arith in
-    all_listed c.args.net.now c.args.pushes.now c.args.first c.args.end c.args.list.now c.loop-i.list c.nodes-nodes.ensures.network c.requires.pushes (pushing_lists c.args.net.now c.args.pushes.now c.requires.pushes)
+    all_listed c.args.net.now c.args.pushes.now c.args.first c.args.end c.args.list.now c.loop-i.list c.known.ensures.network c.requires.pushes (pushing_lists c.args.net.now c.args.pushes.now c.requires.pushes)
     (subst (λ (m : ℕ). GathersParts c.args.net.now c.args.pushes.now c.args.first c.args.end m c.args.list.now c.loop-i.list) all c.loop-i.invariant)

@@ -8,12 +8,12 @@ use Rattle.flow_part.proofs.RowSliceLaws.{mate_lies}
 
 pub push_at-push-requires-clause-from : goal.push_at-push-requires-clause-from
 push_at-push-requires-clause-from c =
-    let m = mate_lies c.args.net.now c.args.v c.loop-k.k _ _ c.nodes-nodes.ensures.network c.requires.v (omega arith) (c.heads-heads.ensures.value c.loop-k.k (omega arith)) (c.mates-mates.ensures.value c.loop-k.k (omega arith)) in
+    let m = mate_lies c.args.net.now c.args.v c.loop-k.k _ _ c.known.ensures.network c.requires.v (omega arith) (c.heads-heads.ensures.value c.loop-k.k (omega arith)) (c.mates-mates.ensures.value c.loop-k.k (omega arith)) in
     m.after
 
 pub push_at-push-requires-clause-to : goal.push_at-push-requires-clause-to
 push_at-push-requires-clause-to c =
-    let m = mate_lies c.args.net.now c.args.v c.loop-k.k _ _ c.nodes-nodes.ensures.network c.requires.v (omega arith) (c.heads-heads.ensures.value c.loop-k.k (omega arith)) (c.mates-mates.ensures.value c.loop-k.k (omega arith)) in
+    let m = mate_lies c.args.net.now c.args.v c.loop-k.k _ _ c.known.ensures.network c.requires.v (omega arith) (c.heads-heads.ensures.value c.loop-k.k (omega arith)) (c.mates-mates.ensures.value c.loop-k.k (omega arith)) in
     m.before
 
 pub overflow_add-inflow : goal.overflow_add-inflow

@@ -6,8 +6,8 @@ use Rattle.flow_part.proofs.SenderLaws.{before, before_all, pusher_next, pusher_
 
 pub loop-i-init : goal.loop-i-init
 loop-i-init c =
-    adds_none c.args.net.now (values_of c.args.parts.now) (pushers c.args.parts.now) c.args.v c.args.row.now c.nodes-nodes.ensures.network c.requires.v
-    (pushers_listed c.args.net.now c.args.parts.now c.nodes-nodes.ensures.network c.requires.parts c.requires.listed)
+    adds_none c.args.net.now (values_of c.args.parts.now) (pushers c.args.parts.now) c.args.v c.args.row.now c.known.ensures.network c.requires.v
+    (pushers_listed c.args.net.now c.args.parts.now c.known.ensures.network c.requires.parts c.requires.listed)
 
 pub receive-inflow-requires-clause-u : goal.receive-inflow-requires-clause-u
 receive-inflow-requires-clause-u c =
@@ -25,7 +25,7 @@ overflow_add-inflow c =
       arith,
       c.requires.sum,
       adds_part c.args.net.now (values_of c.args.parts.now) (pushers c.args.parts.now) c.args.v (before c.args.parts.now c.loop-i.i + c.loop-j.j + 1) c.args.row.now c.receive-inflow.new.row (c.loop-j.inflow + c.receive-inflow.result)
-          (adds_more c.args.net.now (values_of c.args.parts.now) (pushers c.args.parts.now) c.args.v (before c.args.parts.now c.loop-i.i + c.loop-j.j) _ c.args.row.now c.loop-j.row c.receive-inflow.new.row c.loop-j.inflow c.receive-inflow.result c.nodes-nodes.ensures.network c.requires.v
+          (adds_more c.args.net.now (values_of c.args.parts.now) (pushers c.args.parts.now) c.args.v (before c.args.parts.now c.loop-i.i + c.loop-j.j) _ c.args.row.now c.loop-j.row c.receive-inflow.new.row c.loop-j.inflow c.receive-inflow.result c.known.ensures.network c.requires.v
           (pushers_rise c.args.net.now c.args.parts.now c.requires.parts c.requires.listed) at.0 at.1 c.receive-inflow.ensures c.loop-j.invariant),
     )
 
@@ -34,7 +34,7 @@ loop-j-preserved c =
     let at = pusher_next c.args.parts.now c.loop-i.i c.loop-j.j _ c.index-parts-i.result c.as_slice-list.result.now (omega arith) c.index-parts-i.is c.as_slice-list.ensures.value (omega arith) refl in
     subst (λ (m : ℕ). Adds c.args.net.now (values_of c.args.parts.now) (pushers c.args.parts.now) c.args.v m c.args.row.now c.receive-inflow.new.row (c.loop-j.inflow + c.receive-inflow.result))
     (let e : before c.args.parts.now c.loop-i.i + c.loop-j.j + 1 ≡ before c.args.parts.now c.loop-i.i + (c.loop-j.j + 1) = omega arith in e)
-    (adds_more c.args.net.now (values_of c.args.parts.now) (pushers c.args.parts.now) c.args.v (before c.args.parts.now c.loop-i.i + c.loop-j.j) _ c.args.row.now c.loop-j.row c.receive-inflow.new.row c.loop-j.inflow c.receive-inflow.result c.nodes-nodes.ensures.network c.requires.v
+    (adds_more c.args.net.now (values_of c.args.parts.now) (pushers c.args.parts.now) c.args.v (before c.args.parts.now c.loop-i.i + c.loop-j.j) _ c.args.row.now c.loop-j.row c.receive-inflow.new.row c.loop-j.inflow c.receive-inflow.result c.known.ensures.network c.requires.v
     (pushers_rise c.args.net.now c.args.parts.now c.requires.parts c.requires.listed) at.0 at.1 c.receive-inflow.ensures c.loop-j.invariant)
 
 pub loop-i-preserved : goal.loop-i-preserved

@@ -10,4 +10,4 @@ loop-part-preserved c = flow_more c.args.net.now c.args.v c.args.parts.now c.loo
 
 pub returns-then-v-part : goal.returns-then-v-part
 returns-then-v-part c =
-    flow_here c.args.net.now c.args.v c.args.parts.now c.loop-part.part-index c.part-item.result c.nodes-nodes.ensures.network c.requires.parts (omega arith) c.part-item.is c.if-v-part.true c.loop-part.invariant
+    flow_here c.args.net.now c.args.v c.args.parts.now c.loop-part.part-index c.part-item.result c.known.ensures.network c.requires.parts (omega arith) c.part-item.is c.if-v-part.true c.loop-part.invariant

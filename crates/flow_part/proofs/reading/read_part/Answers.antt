@@ -9,7 +9,7 @@ loop-v-init c = reads_none c.args.net.now c.args.labels.now c.max-low.result (ce
 
 pub read_at-requires-clause-from : goal.read_at-requires-clause-from
 read_at-requires-clause-from c =
-    (has_row c.args.net.now c.loop-v.v c.args.part.now c.loop-v.part c.nodes-nodes.ensures.network c.requires.part c.loop-v.invariant.same c.loop-v.invariant.rows.same
+    (has_row c.args.net.now c.loop-v.v c.args.part.now c.loop-v.part c.known.ensures.network c.requires.part c.loop-v.invariant.same c.loop-v.invariant.rows.same
     (omega (arith, c.max-low.ensures)) (omega (arith, c.min-high.ensures))).from
 
 pub read_at-requires-clause-to : goal.read_at-requires-clause-to
@@ -17,19 +17,19 @@ read_at-requires-clause-to c =
     omega (
       arith,
       ap length c.as_mut_slice-values.ensures.value,
-      (has_row c.args.net.now c.loop-v.v c.args.part.now c.loop-v.part c.nodes-nodes.ensures.network c.requires.part c.loop-v.invariant.same c.loop-v.invariant.rows.same
+      (has_row c.args.net.now c.loop-v.v c.args.part.now c.loop-v.part c.known.ensures.network c.requires.part c.loop-v.invariant.same c.loop-v.invariant.rows.same
           (omega (arith, c.max-low.ensures)) (omega (arith, c.min-high.ensures))).to,
     )
 
 pub loop-v-preserved : goal.loop-v-preserved
 loop-v-preserved c =
     reads_more c.args.net.now c.args.labels.now c.max-low.result c.loop-v.v (cells_of c.args.flow.now) c.args.part.now c.loop-v.part c.as_mut_slice-values.result.now c.read_at.new.values c.read_at.new.walked
-    c.nodes-nodes.ensures.network c.requires.part (omega (arith, c.max-low.ensures)) (omega arith) (omega (arith, c.min-high.ensures)) c.loop-v.invariant c.as_mut_slice-values.ensures.value (omega arith) c.read_at.ensures.row c.read_at.ensures.counted
+    c.known.ensures.network c.requires.part (omega (arith, c.max-low.ensures)) (omega arith) (omega (arith, c.min-high.ensures)) c.loop-v.invariant c.as_mut_slice-values.ensures.value (omega arith) c.read_at.ensures.row c.read_at.ensures.counted
 
 pub returns-after-loop-v : goal.returns-after-loop-v
 returns-after-loop-v c =
     let all : c.loop-v.v ≡ c.min-high.result = omega arith in
-    part_read c.args.net.now c.args.labels.now c.args.first c.args.end c.max-low.result c.min-high.result (cells_of c.args.flow.now) c.args.part.now c.loop-v.part c.nodes-nodes.ensures.network c.requires.part
+    part_read c.args.net.now c.args.labels.now c.args.first c.args.end c.max-low.result c.min-high.result (cells_of c.args.flow.now) c.args.part.now c.loop-v.part c.known.ensures.network c.requires.part
     c.max-low.ensures c.min-high.ensures (omega arith)
     (subst (λ (x : ℕ). PartReads c.args.net.now c.args.labels.now c.max-low.result x (cells_of c.args.flow.now) c.args.part.now c.loop-v.part) all c.loop-v.invariant)
 

@@ -9,11 +9,11 @@ loop-v-init c = walked_none c.args.net.now c.args.labels.now (cells_of c.args.fl
 
 pub visit-requires-clause-row : goal.visit-requires-clause-row
 visit-requires-clause-row c =
-    has_row c.args.net.now c.loop-v.v c.args.part.now c.loop-v.part c.nodes-nodes.ensures.network c.requires.part c.loop-v.invariant.same c.loop-v.invariant.active.rows.same (omega arith) (omega arith)
+    has_row c.args.net.now c.loop-v.v c.args.part.now c.loop-v.part c.known.ensures.network c.requires.part c.loop-v.invariant.same c.loop-v.invariant.active.rows.same (omega arith) (omega arith)
 
 pub loop-v-preserved : goal.loop-v-preserved
 loop-v-preserved c =
-    walked_more c.args.net.now c.args.labels.now (cells_of c.args.flow.now) c.loop-v.v c.args.part.now c.loop-v.part c.visit.new.part c.nodes-nodes.ensures.network c.requires.part c.requires.zero (omega arith) (omega arith)
+    walked_more c.args.net.now c.args.labels.now (cells_of c.args.flow.now) c.loop-v.v c.args.part.now c.loop-v.part c.visit.new.part c.known.ensures.network c.requires.part c.requires.zero (omega arith) (omega arith)
     c.loop-v.invariant c.visit.ensures.same c.visit.ensures.active c.visit.ensures.idle
 
 pub returns : goal.returns

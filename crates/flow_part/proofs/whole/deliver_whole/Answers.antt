@@ -12,7 +12,7 @@ deliver_listed-requires-clause-safe c =
 
 pub deliver_part-requires-clause-safe : goal.deliver_part-requires-clause-safe
 deliver_part-requires-clause-safe c =
-    spare_safe c.args.net.now (values_of c.args.pushes.now) c.nodes-nodes.result c.args.part.now c.gather.new.part c.nodes-nodes.ensures.count c.gather.ensures.same c.requires.safe
+    spare_safe c.args.net.now (values_of c.args.pushes.now) c.nodes-nodes.result c.args.part.now c.gather.new.part c.nodes-nodes.ensures c.gather.ensures.same c.requires.safe
 
 pub returns-then-part-clause-turning : goal.returns-then-part-clause-turning
 returns-then-part-clause-turning c h =

@@ -29,12 +29,12 @@ pub deliver_range-requires-clause-opening : goal.deliver_range-requires-clause-o
 deliver_range-requires-clause-opening c = record {
   opening = c.args.flow.now.cells;
   sound = c.requires.flow.sound;
-  is_read = whole_read c.args.net.now c.args.flow.now c.nodes-nodes.result c.args.pushes.now c.read_range.new.pushes c.nodes-nodes.ensures.network c.nodes-nodes.ensures.count c.read_range.ensures;
+  is_read = whole_read c.args.net.now c.args.flow.now c.nodes-nodes.result c.args.pushes.now c.read_range.new.pushes c.known.ensures.network c.nodes-nodes.ensures c.read_range.ensures;
   so_far = none_so_far c.args.net.now c.args.flow.now c.read_range.new.pushes.values c.requires.flow;
 }
 
 pub returns-clause-flow : goal.returns-clause-flow
 returns-clause-flow c =
-    turned c.args.net.now c.args.flow.now c.deliver_range.new.flow c.turn.new.self c.read_range.new.pushes c.nodes-nodes.result c.nodes-nodes.ensures.network c.requires.flow c.nodes-nodes.ensures.count
-    (whole_read c.args.net.now c.args.flow.now c.nodes-nodes.result c.args.pushes.now c.read_range.new.pushes c.nodes-nodes.ensures.network c.nodes-nodes.ensures.count c.read_range.ensures)
+    turned c.args.net.now c.args.flow.now c.deliver_range.new.flow c.turn.new.self c.read_range.new.pushes c.nodes-nodes.result c.known.ensures.network c.requires.flow c.nodes-nodes.ensures
+    (whole_read c.args.net.now c.args.flow.now c.nodes-nodes.result c.args.pushes.now c.read_range.new.pushes c.known.ensures.network c.nodes-nodes.ensures c.read_range.ensures)
     c.deliver_range.ensures c.turn.ensures

@@ -18,16 +18,16 @@ part_active-requires-clause-excess c =
 
 pub part_active-requires-clause-lists : goal.part_active-requires-clause-lists
 part_active-requires-clause-lists c on =
-    lists_next c.args.net.now c.args.labels.now c.args.parts.now c.loop-part.part-index c.part-item.result c.nodes-nodes.result c.nodes-nodes.ensures.count (omega arith) c.part-item.is (c.requires.lists on)
+    lists_next c.args.net.now c.args.labels.now c.args.parts.now c.loop-part.part-index c.part-item.result c.nodes-nodes.result c.nodes-nodes.ensures (omega arith) c.part-item.is (c.requires.lists on)
 
 pub loop-part-preserved : goal.loop-part-preserved
 loop-part-preserved c =
-    quiet_more c.args.net.now c.args.labels.now c.args.parts.now c.loop-part.part-index c.part-item.result c.nodes-nodes.result c.nodes-nodes.ensures.count (omega arith) c.part-item.is c.loop-part.invariant
+    quiet_more c.args.net.now c.args.labels.now c.args.parts.now c.loop-part.part-index c.part-item.result c.nodes-nodes.result c.nodes-nodes.ensures (omega arith) c.part-item.is c.loop-part.invariant
     (c.part_active.ensures.none c.if-part_active.false)
 
 pub returns-then-part_active : goal.returns-then-part_active
 returns-then-part_active c =
-    sym (loud c.args.net.now c.args.labels.now c.args.parts.now c.loop-part.part-index c.part-item.result c.nodes-nodes.result c.nodes-nodes.ensures.count (omega arith) c.part-item.is c.loop-part.invariant
+    sym (loud c.args.net.now c.args.labels.now c.args.parts.now c.loop-part.part-index c.part-item.result c.nodes-nodes.result c.nodes-nodes.ensures (omega arith) c.part-item.is c.loop-part.invariant
     (c.part_active.ensures.some c.if-part_active.true))
 
 pub returns : goal.returns

@@ -22,8 +22,8 @@ pub returns-clause-holds : goal.returns-clause-holds
 returns-clause-holds c =
     let all : c.loop-worker.worker ≡ c.args.workers = omega arith in
     let last : c.loop-worker.first ≡ node_count c.args.net.now =
-    c.loop-worker.invariant.reached ∙ (ap (λ (k : ℕ). border_of c.nodes-nodes.result c.args.workers k) all ∙ (border_last c.nodes-nodes.result c.args.workers c.requires.some ∙ c.nodes-nodes.ensures.count)) in
+    c.loop-worker.invariant.reached ∙ (ap (λ (k : ℕ). border_of c.nodes-nodes.result c.args.workers k) all ∙ (border_last c.nodes-nodes.result c.args.workers c.requires.some ∙ c.nodes-nodes.ensures)) in
     subst (λ (m : ℕ). PartsHold c.args.net.now (slice_index (cells_of c.args.flow.now).residuals) (slice_index (cells_of c.args.flow.now).excess) m c.loop-worker.parts.items) last c.loop-worker.invariant.starts
 
 pub returns-clause-shares : goal.returns-clause-shares
-returns-clause-shares c = subst (λ (n : ℕ). AreFlowShares n c.args.workers c.loop-worker.parts.items) c.nodes-nodes.ensures.count c.loop-worker.invariant.shares
+returns-clause-shares c = subst (λ (n : ℕ). AreFlowShares n c.args.workers c.loop-worker.parts.items) c.nodes-nodes.ensures c.loop-worker.invariant.shares

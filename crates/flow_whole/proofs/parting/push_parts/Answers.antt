@@ -20,8 +20,8 @@ pub returns-clause-parts : goal.returns-clause-parts
 returns-clause-parts c =
     let all : c.loop-worker.worker ≡ c.args.workers = omega arith in
     let last : c.loop-worker.first ≡ node_count c.args.net.now =
-    c.loop-worker.invariant.reached ∙ (ap (λ (k : ℕ). border_of c.nodes-nodes.result c.args.workers k) all ∙ (border_last c.nodes-nodes.result c.args.workers c.requires ∙ c.nodes-nodes.ensures.count)) in
+    c.loop-worker.invariant.reached ∙ (ap (λ (k : ℕ). border_of c.nodes-nodes.result c.args.workers k) all ∙ (border_last c.nodes-nodes.result c.args.workers c.requires ∙ c.nodes-nodes.ensures)) in
     subst (λ (m : ℕ). IsParted (PushPartFits c.args.net.now) (λ q. q.first) (λ q. q.end) m 0 c.loop-worker.parts.items) last c.loop-worker.invariant.starts
 
 pub returns-clause-shares : goal.returns-clause-shares
-returns-clause-shares c = subst (λ (n : ℕ). ArePushShares n c.args.workers c.loop-worker.parts.items) c.nodes-nodes.ensures.count c.loop-worker.invariant.shares
+returns-clause-shares c = subst (λ (n : ℕ). ArePushShares n c.args.workers c.loop-worker.parts.items) c.nodes-nodes.ensures c.loop-worker.invariant.shares

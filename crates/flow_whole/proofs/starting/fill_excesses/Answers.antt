@@ -13,7 +13,7 @@ loop-arc-preserved c = record {
   long = c.put.ensures.len ∙ c.loop-arc.invariant.long;
   each = λ i h.
       filled-next c.args.net.now (slice_index c.loop-arc.excess i) (slice_index c.put.new.values i) (c.args.first + i) c.loop-arc.arc
-      c.nodes-nodes.ensures.network c.arcs-arcs.ensures.startable (omega (arith, c.loop-arc-test.true, c.row-row.ensures.end))
+      c.known.ensures.network c.known_capacities.ensures.startable (omega (arith, c.loop-arc-test.true, c.row-row.ensures.end))
       (c.loop-arc.invariant.each i (omega (arith, h, c.put.ensures.len)))
       (λ e. c.put.ensures.there i (omega (arith, h, c.put.ensures.len)) (e ∙ sym c.head-head.ensures) ∙ c.cap-cap.ensures)
       (λ ne. c.put.ensures.others i (λ q. ne (q ∙ c.head-head.ensures)));
@@ -21,6 +21,6 @@ loop-arc-preserved c = record {
 
 pub returns-clause-each : goal.returns-clause-each
 returns-clause-each c = λ i h.
-    filled-all c.args.net.now (slice_index c.loop-arc.excess i) (c.args.first + i) c.nodes-nodes.ensures.network
+    filled-all c.args.net.now (slice_index c.loop-arc.excess i) (c.args.first + i) c.known.ensures.network
     (omega (arith, h, c.loop-arc.invariant.long, c.requires.within))
     (subst (λ (n : ℕ). Filled c.args.net.now (slice_index c.loop-arc.excess i) (c.args.first + i) n) (omega (arith, c.loop-arc-test.false, c.loop-arc.auto.arc-end, c.row-row.ensures.end)) (c.loop-arc.invariant.each i h))

@@ -15,7 +15,7 @@ loop-arc-preserved c = record {
   each = λ i h.
       let long : length c.put-in-loop-arc.new.values ≡ length c.loop-arc.residuals = c.put-in-loop-arc.ensures.len ∙ c.put.ensures.len in
       holds-next c.args.net.now (slice_index c.loop-arc.residuals i) (slice_index c.put.new.values i) (slice_index c.put-in-loop-arc.new.values i) (c.args.base + i) c.loop-arc.arc
-      c.nodes-nodes.ensures.network c.arcs-arcs.ensures.startable (omega (arith, c.loop-arc-test.true, c.row-row.ensures.end)) (c.loop-arc.invariant.each i (omega (arith, h, long)))
+      c.known.ensures.network c.known_capacities.ensures.startable (omega (arith, c.loop-arc-test.true, c.row-row.ensures.end)) (c.loop-arc.invariant.each i (omega (arith, h, long)))
       (λ e. c.put.ensures.there i (omega (arith, h, long)) e)
       (λ ne. c.put.ensures.others i ne)
       (λ e. c.put-in-loop-arc.ensures.there i (omega (arith, h, c.put-in-loop-arc.ensures.len)) (e ∙ sym c.mate-mate.ensures)
@@ -25,6 +25,6 @@ loop-arc-preserved c = record {
 
 pub returns-clause-each : goal.returns-clause-each
 returns-clause-each c = λ i h.
-    holds-all c.args.net.now (slice_index c.loop-arc.residuals i) (c.args.base + i) c.nodes-nodes.ensures.network
+    holds-all c.args.net.now (slice_index c.loop-arc.residuals i) (c.args.base + i) c.known.ensures.network
     (omega (arith, h, c.loop-arc.invariant.long, c.requires.within))
     (subst (λ (n : ℕ). Holds c.args.net.now (slice_index c.loop-arc.residuals i) (c.args.base + i) n) (omega (arith, c.loop-arc-test.false, c.loop-arc.auto.arc-end, c.row-row.ensures.end)) (c.loop-arc.invariant.each i h))

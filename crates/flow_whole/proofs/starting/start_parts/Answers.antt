@@ -19,8 +19,8 @@ pub returns-clause-starts : goal.returns-clause-starts
 returns-clause-starts c =
     let all : c.loop-worker.worker ≡ c.args.workers = omega arith in
     let last : c.loop-worker.first ≡ node_count c.args.net.now =
-    c.loop-worker.invariant.reached ∙ (ap (λ (k : ℕ). border_of c.nodes-nodes.result c.args.workers k) all ∙ (border_last c.nodes-nodes.result c.args.workers c.requires ∙ c.nodes-nodes.ensures.count)) in
+    c.loop-worker.invariant.reached ∙ (ap (λ (k : ℕ). border_of c.nodes-nodes.result c.args.workers k) all ∙ (border_last c.nodes-nodes.result c.args.workers c.requires ∙ c.nodes-nodes.ensures)) in
     subst (λ (m : ℕ). PartsHold c.args.net.now (start_res c.args.net.now) (start_excess c.args.net.now) m c.loop-worker.parts.items) last c.loop-worker.invariant.starts
 
 pub returns-clause-shares : goal.returns-clause-shares
-returns-clause-shares c = subst (λ (n : ℕ). AreFlowShares n c.args.workers c.loop-worker.parts.items) c.nodes-nodes.ensures.count c.loop-worker.invariant.shares
+returns-clause-shares c = subst (λ (n : ℕ). AreFlowShares n c.args.workers c.loop-worker.parts.items) c.nodes-nodes.ensures c.loop-worker.invariant.shares

@@ -1,5 +1,5 @@
 use Rattle.std.proofs.Common.{refl}
-use Rattle.frames.proofs.ReadLaws.{reads-within}
+use Rattle.aig_binary.proofs.LimitLaws.{reads-within}
 use Rattle.std.proofs.lemmas.Result.{IfErr-weaker, IfOk-from_err, IfOk-weaker}
 use Rattle.aig_binary.specs.Ending.{ReadsToEnd}
 use Rattle.frames.specs.declared.errors.BytesError.TheVariants.{Read}

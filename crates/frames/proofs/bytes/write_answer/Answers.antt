@@ -1,7 +1,7 @@
 use Rattle.std.proofs.Common.{subst}
 use Rattle.counted_io.specs.Output.{Writes}
-use Rattle.spellings.specs.declared.form.Spelling.{Spelling}
-use Rattle.spellings.specs.Spellings.{text_in}
+use Rattle.file_words.specs.declared.spelling.Spelling.{Spelling}
+use Rattle.aig_binary.specs.Spellings.{text_in}
 use Rattle.frames.proofs.bytes.write_answer.Goals as goal
 
 pub returns : goal.returns

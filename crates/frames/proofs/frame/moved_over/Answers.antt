@@ -1,22 +1,19 @@
-use Rattle.std.proofs.Common.{ℕ, List, ◌+◌, ◌-◌, ◌≤◌, ◌≡◌, ◌∙◌, None, arith, ap, length, sym, subst}
-use Rattle.std.specs.Result.{IfOk}
+use Rattle.std.proofs.Common.{ℕ, List, ◌+◌, ◌-◌, ◌≤◌, ◌≡◌, ◌∙◌, arith, ap, length, sym, subst}
+use Rattle.std.proofs.lemmas.Result.{IfOk-from_err}
 use Rattle.aig_graph.specs.declared.literal.TheConstants.{MAX_VARIABLES}
 use Rattle.aig_graph.specs.Circuits.{Netlist}
-use Rattle.aig_graph.specs.Keep.{first_missing}
+use Rattle.aig_graph.specs.Closed.{IsClosedSet}
 use Rattle.aig_graph.specs.Move.{move_of}
-use Rattle.aig_graph.specs.Streams.{SameStreams}
 use Rattle.aig_graph.proofs.GraphLaws.{room}
 use Rattle.rebuild.specs.Moved.{moved_of, moved_size}
-use Rattle.retimed_circuits.specs.Names.{held_latches}
-use Rattle.retimed_circuits.specs.Frames.{CleansIn, count_in, move_in, moved_in}
+use Rattle.retimed_circuits.specs.Frames.{count_in, move_in, moved_in}
 use Rattle.retimed_circuits.proofs.HeldLaws.{moving-keeps}
 use Rattle.retimed_circuits.proofs.NameLaws.{names-stay}
-use Rattle.tidy.specs.Tidy.{AreLowTidy, IsTidyIn}
+use Rattle.tidy.specs.Tidy.{AreLowTidy}
 use Rattle.tidy.proofs.FrameLaws.{copies-within, tidy-moved}
-use Rattle.frames.specs.Named.{names_in}
-use Rattle.frames.proofs.FrameLaws.{helping-closed, streams-through}
-use Rattle.std.proofs.lemmas.Result.{IfOk-from_err, IfOk-weaker}
-use Rattle.aig_graph.specs.Closed.{IsClosedSet}
+use Rattle.frames.specs.Named.{NoneMissingBy, names_in}
+use Rattle.frames.specs.Retiming.{IsTidyBy}
+use Rattle.frames.proofs.FrameLaws.{helping-closed, moved-by}
 use Rattle.frames.proofs.frame.moved_over.Goals as goal
 
 pub moved_by-requires-clause-room : goal.moved_by-requires-clause-room
@@ -28,12 +25,12 @@ moved_by-requires-clause-room c =
 
 pub settled-requires-clause-names : goal.settled-requires-clause-names
 settled-requires-clause-names c =
-    let names = names_in c.args.options.now in
+    let options = c.args.options.now in
+    let names = names_in options in
     let before = c.args.circuit.now in
     let set = c.args.set.now in
-    let P : Netlist → Type 0 = λ d. first_missing d.symbols.latches names ≡ None in
     let same : c.in_ok-after.after ≡ moved_in names before set = c.in_ok-after.ensures.value ∙ ap (λ (held : List ℕ). moved_of (move_of before held set)) c.requires.keep in
-    subst P (sym same) (names-stay names before (moved_in names before set) (moving-keeps names before set c.aig-aig.ensures.netlist) c.requires.names)
+    subst (NoneMissingBy options) (sym same) (names-stay names before (moved_in names before set) (moving-keeps names before set c.known.ensures.netlist) c.requires.names)
 
 pub settled-requires-clause-copies : goal.settled-requires-clause-copies
 settled-requires-clause-copies c =
@@ -43,7 +40,8 @@ settled-requires-clause-copies c =
 
 pub settled-requires-clause-tidy : goal.settled-requires-clause-tidy
 settled-requires-clause-tidy c =
-    let names = names_in c.args.options.now in
+    let options = c.args.options.now in
+    let names = names_in options in
     let before = c.args.circuit.now in
     let set = c.args.set.now in
     let m = move_in names before set in
@@ -51,55 +49,24 @@ settled-requires-clause-tidy c =
     let long : length c.vars-copies.result.now ≡ length set = ap (λ (xs : List ℕ). length xs) c.vars-copies.ensures.value in
     let first : ℕ = length (moved_of m).aig.gates - length c.vars-copies.result.now in
     let ends : first + length set ≡ length (moved_of m).aig.gates = omega (arith, copies-within m, long) in
-    let P : Netlist → Type 0 = λ d. AreLowTidy d.aig (length d.aig.gates - length c.vars-copies.result.now) → IsTidyIn names d in
-    subst P (sym same) (λ lows. tidy-moved names before set first (record { graph = c.aig-aig.ensures.graph; netlist = c.aig-aig.ensures.netlist })
-    c.requires.tidy (helping-closed c.args.options.now.choice names before set c.requires.helps) ends lows)
+    let P : Netlist → Type 0 = λ d. AreLowTidy d.aig (length d.aig.gates - length c.vars-copies.result.now) → IsTidyBy options d in
+    subst P (sym same) (λ lows. tidy-moved names before set first (record { graph = c.known.ensures.graph; netlist = c.known.ensures.netlist })
+    c.requires.tidy (helping-closed options before set c.requires.helps) ends lows)
 
 pub moved_by-requires-clause-closed : goal.moved_by-requires-clause-closed
 moved_by-requires-clause-closed c =
     subst (λ (held : List ℕ). IsClosedSet c.args.circuit.now.aig held c.args.set.now) (sym c.requires.keep)
-    (helping-closed c.args.options.now.choice (names_in c.args.options.now) c.args.circuit.now c.args.set.now c.requires.helps)
-
-pub returns-in_err-after-clause-cleaned : goal.returns-in_err-after-clause-cleaned
-returns-in_err-after-clause-cleaned c = IfOk-from_err c.from_residual.result _ c.from_residual.ensures.0
-
-pub returns-in_err-after-clause-streams : goal.returns-in_err-after-clause-streams
-returns-in_err-after-clause-streams c = IfOk-from_err c.from_residual.result _ c.from_residual.ensures.0
-
-pub returns-in_err-after-clause-held : goal.returns-in_err-after-clause-held
-returns-in_err-after-clause-held c = IfOk-from_err c.from_residual.result _ c.from_residual.ensures.0
-
-pub returns-in_err-after-clause-tidy : goal.returns-in_err-after-clause-tidy
-returns-in_err-after-clause-tidy c = IfOk-from_err c.from_residual.result _ c.from_residual.ensures.0
-
-pub returns-clause-tidy : goal.returns-clause-tidy
-returns-clause-tidy c = c.settled.ensures.tidy
-
-pub returns-clause-cleaned : goal.returns-clause-cleaned
-returns-clause-cleaned c =
-    let names = names_in c.args.options.now in
-    let before = c.args.circuit.now in
-    let set = c.args.set.now in
-    let same : c.in_ok-after.after ≡ moved_in names before set = c.in_ok-after.ensures.value ∙ ap (λ (held : List ℕ). moved_of (move_of before held set)) c.requires.keep in
-    let P : Netlist → Type 0 = λ e. IfOk c.settled.result (λ d. CleansIn names e d.circuit d.kept_free) in
-    subst P same c.settled.ensures.cleaned
-
-pub returns-clause-streams : goal.returns-clause-streams
-returns-clause-streams c =
-    let before = c.args.circuit.now in
-    let after = c.in_ok-after.after in
-    IfOk-weaker c.settled.result (λ d. SameStreams after d.circuit d.kept_free) (λ d. SameStreams before d.circuit d.kept_free)
-    (λ d streams. streams-through before after d.circuit d.kept_free c.in_ok-after.ensures.streams streams) c.settled.ensures.streams
-
-pub returns-clause-held : goal.returns-clause-held
-returns-clause-held c =
-    let names = names_in c.args.options.now in
-    let before = c.args.circuit.now in
-    let set = c.args.set.now in
-    let after = c.in_ok-after.after in
-    let same : after ≡ moved_in names before set = c.in_ok-after.ensures.value ∙ ap (λ (held : List ℕ). moved_of (move_of before held set)) c.requires.keep in
-    IfOk-weaker c.settled.result (λ d. held_latches names d.circuit ≡ held_latches names after) (λ d. held_latches names d.circuit ≡ held_latches names before)
-    (λ d stays. stays ∙ ap (held_latches names) same ∙ moving-keeps names before set c.aig-aig.ensures.netlist) c.settled.ensures.held
+    (helping-closed c.args.options.now c.args.circuit.now c.args.set.now c.requires.helps)
 
 pub moved_by-requires-clause-marked : goal.moved_by-requires-clause-marked
 moved_by-requires-clause-marked c = c.requires.marked
+
+pub returns-in_err-after : goal.returns-in_err-after
+returns-in_err-after c = IfOk-from_err c.from_residual.result _ c.from_residual.ensures.0
+
+pub returns : goal.returns
+returns c =
+    let before = c.args.circuit.now in
+    let set = c.args.set.now in
+    let same = c.in_ok-after.ensures.value ∙ ap (λ (held : List ℕ). moved_of (move_of before held set)) c.requires.keep in
+    moved-by c.args.options.now before c.in_ok-after.after set c.settled.result c.known.ensures.netlist same c.in_ok-after.ensures.streams c.settled.ensures

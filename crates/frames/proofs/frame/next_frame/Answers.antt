@@ -1,22 +1,22 @@
-use Rattle.std.proofs.Common.{List, Option, subst, sym, ℕ}
+use Rattle.std.proofs.Common.{List, Option, ◌∙◌, ap, subst, sym, ℕ}
 use Rattle.std.specs.Option.{MatchOption}
 use Rattle.std.proofs.lemmas.Result.{IfOk-from_err}
+use Rattle.aig_graph.specs.Keep.{NoneMissing, held_in, names_of}
 use Rattle.aig_graph.specs.Move.{move_of}
 use Rattle.rebuild.specs.Marked.{AreMarksOf}
-use Rattle.retimed_circuits.specs.Frames.{NoneSmaller}
 use Rattle.frames.specs.declared.helping.Helping.{Helping}
 use Rattle.frames.specs.Found.{Helps}
-use Rattle.frames.specs.Named.{names_in}
+use Rattle.frames.specs.Retiming.{NoneSmallerBy}
 use Rattle.frames.proofs.frame.next_frame.Goals as goal
 
-pub held-requires : goal.held-requires
-held-requires g c = c.requires.names
+pub keep_by_names-requires : goal.keep_by_names-requires
+keep_by_names-requires g c = subst (λ names. NoneMissing (names_of names) c.args.circuit.now) (sym c.as_slice.ensures.value) c.requires.names
 
 pub helping_set-requires-after_bounds : goal.helping_set-requires-after_bounds
-helping_set-requires-after_bounds g c κs within = c.in_ok-keep.ensures
+helping_set-requires-after_bounds g c κs within = c.in_ok-keep.ensures ∙ ap (λ names. held_in (names_of names) c.args.circuit.now) c.as_slice.ensures.value
 
 pub moved_over-requires-clause-keep : goal.moved_over-requires-clause-keep
-moved_over-requires-clause-keep g c = c.in_ok-keep.ensures
+moved_over-requires-clause-keep g c = c.in_ok-keep.ensures ∙ ap (λ names. held_in (names_of names) c.args.circuit.now) c.as_slice.ensures.value
 
 pub moved_over-requires-clause-names : goal.moved_over-requires-clause-names
 moved_over-requires-clause-names g c = c.requires.names
@@ -25,35 +25,33 @@ pub moved_over-requires-clause-tidy : goal.moved_over-requires-clause-tidy
 moved_over-requires-clause-tidy g c = c.requires.tidy
 
 pub moved_over-requires-clause-graph : goal.moved_over-requires-clause-graph
-moved_over-requires-clause-graph g c = c.aig-aig.ensures.graph
+moved_over-requires-clause-graph g c = c.known.ensures.graph
 
 pub moved_over-requires-clause-helps : goal.moved_over-requires-clause-helps
 moved_over-requires-clause-helps g c =
-    let names = names_in c.args.options.now in
+    let options = c.args.options.now in
     let before = c.args.circuit.now in
-    let P : Option Helping → Type 0 = λ found. MatchOption found (NoneSmaller names before) (Helps c.args.options.now.choice names before) in
-    let helps : Helps c.args.options.now.choice names before c.in-Some.found = subst P c.in-Some.is c.in_ok-found.ensures.found in
+    let P : Option Helping → Type 0 = λ found. MatchOption found (NoneSmallerBy options before) (Helps options before) in
+    let helps : Helps options before c.in-Some.found = subst P c.in-Some.is c.in_ok-found.ensures.found in
     helps.set
 
 pub returns-in-Some-clause-found : goal.returns-in-Some-clause-found
 returns-in-Some-clause-found g c =
-    let names = names_in c.args.options.now in
+    let options = c.args.options.now in
     let before = c.args.circuit.now in
-    let P : Option Helping → Type 0 = λ found. MatchOption found (NoneSmaller names before) (Helps c.args.options.now.choice names before) in
-    let helps : Helps c.args.options.now.choice names before c.in-Some.found = subst P c.in-Some.is c.in_ok-found.ensures.found in
+    let P : Option Helping → Type 0 = λ found. MatchOption found (NoneSmallerBy options before) (Helps options before) in
+    let helps : Helps options before c.in-Some.found = subst P c.in-Some.is c.in_ok-found.ensures.found in
     let d = c.in_ok-cleaned-in-Some.ensures in
     record {
       moves = record { set = c.in-Some.found.set; helps = helps.set; cleaned = d.cleaned; reported = helps.report };
-      streams = d.streams;
-      held = d.held;
-      tidy = d.tidy;
+      keeps = d.keeps;
     }
 
 pub returns-clause-found : goal.returns-clause-found
 returns-clause-found g c =
-    let names = names_in c.args.options.now in
+    let options = c.args.options.now in
     let before = c.args.circuit.now in
-    let P : Option Helping → Type 0 = λ found. MatchOption found (NoneSmaller names before) (Helps c.args.options.now.choice names before) in
+    let P : Option Helping → Type 0 = λ found. MatchOption found (NoneSmallerBy options before) (Helps options before) in
     subst P c.in-None.is c.in_ok-found.ensures.found
 
 pub returns-in_err-keep-clause-found : goal.returns-in_err-keep-clause-found
@@ -89,8 +87,9 @@ returns-in-Some-clause-certificate g c =
 
 pub moved_over-requires-clause-marked : goal.moved_over-requires-clause-marked
 moved_over-requires-clause-marked g c =
-    let names = names_in c.args.options.now in
+    let options = c.args.options.now in
     let before = c.args.circuit.now in
-    let P : Option Helping → Type 0 = λ found. MatchOption found (NoneSmaller names before) (Helps c.args.options.now.choice names before) in
-    let helps : Helps c.args.options.now.choice names before c.in-Some.found = subst P c.in-Some.is c.in_ok-found.ensures.found in
-    subst (λ (held : List ℕ). AreMarksOf (move_of before held c.in-Some.found.set) c.in-Some.found.marks) (sym c.in_ok-keep.ensures) helps.marks
+    let P : Option Helping → Type 0 = λ found. MatchOption found (NoneSmallerBy options before) (Helps options before) in
+    let helps : Helps options before c.in-Some.found = subst P c.in-Some.is c.in_ok-found.ensures.found in
+    let kept = c.in_ok-keep.ensures ∙ ap (λ names. held_in (names_of names) before) c.as_slice.ensures.value in
+    subst (λ (held : List ℕ). AreMarksOf (move_of before held c.in-Some.found.set) c.in-Some.found.marks) (sym kept) helps.marks

@@ -1,11 +1,9 @@
 use Rattle.aig_graph.specs.Circuits.{Netlist}
 use Rattle.frames.specs.Certified.{AreCollected}
-use Rattle.frames.specs.Named.{names_in}
 use Rattle.frames.specs.Underway.{IsUnderway}
 use Rattle.frames.proofs.retiming.all_frames.Given as goal
 
 -- whatever circuit the first one is the cleaning of
 abbrev pub invariant-loop : goal.invariant-loop
 invariant-loop g l =
-    (c : Netlist) → IsUnderway l.options.choice (names_in l.options) c 0 l.fn.start
-    → IsUnderway l.options.choice (names_in l.options) c l.counter l.retimed × AreCollected l.options.choice (names_in l.options) c l.options.certify l.counter l.records
+    (c : Netlist) → IsUnderway l.options c 0 l.fn.start → IsUnderway l.options c l.counter l.retimed × AreCollected l.options c l.counter l.records

@@ -1,7 +1,6 @@
 use Rattle.std.proofs.Common.{◌≡◌, sym, subst}
 use Rattle.retimed_circuits.specs.declared.report.Retimed.{Retimed}
-use Rattle.retimed_circuits.specs.Retiming.{IsRetimed}
-use Rattle.frames.specs.Named.{names_in}
+use Rattle.frames.specs.Retiming.{IsRetimedBy}
 use Rattle.frames.proofs.FrameLaws.{ended}
 use Rattle.frames.proofs.retiming.retimed_from.Goals as goal
 
@@ -28,5 +27,4 @@ returns-in-Ok g c = λ d start.
       frames = whole.frames i;
       certificates = whole.certificates i;
     } in
-    subst (IsRetimed options.choice d (names_in options) options.max_frames options.certify) (sym same)
-    (ended options.choice (names_in options) d options.max_frames options.certify records r (c.in-Ok.ensures d start))
+    subst (IsRetimedBy options d) (sym same) (ended options d records r (c.in-Ok.ensures d start))

@@ -1,5 +1,5 @@
 use Rattle.std.proofs.Common.{List, [], ◌∷◌, ◌++◌, All, arith, refl, sym, ap, ◌∙◌, subst}
-use Rattle.draws.specs.Drawing.{jobs_of}
+use Rattle.job_pool.specs.Drawing.{jobs_of}
 use Rattle.job_pool.specs.declared.share.Numbered.{Numbered}
 use Rattle.job_pool.specs.Sharing.{IsOutcome}
 use Rattle.job_pool.proofs.RisingLaws.{after_last, after_last_snoc, after_last_le}

@@ -1,5 +1,5 @@
 use Rattle.std.proofs.Common.{◌≡◌, ◌-◌, All}
-use Rattle.draws.specs.Drawing.{IsDrawerOf, IsGoing, drawn, jobs_of}
+use Rattle.job_pool.specs.Drawing.{IsDrawerOf, IsGoing, drawn, jobs_of}
 use Rattle.job_pool.proofs.RisingLaws.{after_last}
 use Rattle.job_pool.specs.Sharing.{IsOutcome, numbers}
 use Rattle.job_pool.proofs.share.drawn_out.Given as goal

@@ -1,5 +1,5 @@
 use Rattle.std.proofs.Common.{ℕ, List, All, Some, length, length-set, sym, ap, ◌∙◌, subst}
-use Rattle.draws.proofs.GatheringLaws.{last_of_all, front_of_all}
+use Rattle.job_pool.proofs.GatheringLaws.{last_of_all, front_of_all}
 use Rattle.job_pool.specs.declared.share.Numbered.{Numbered}
 use Rattle.job_pool.specs.Sharing.{IsOutcome}
 use Rattle.job_pool.proofs.SharingLaws.{put_covers, put_slots}

@@ -1,5 +1,5 @@
 use Rattle.std.proofs.Common.{◌≡◌, ℕ, ◌+◌, ◌<◌, All, length}
-use Rattle.draws.specs.Rule.{times}
+use Rattle.job_pool.specs.Rule.{times}
 use Rattle.job_pool.specs.Sharing.{AreSlots, IsOutcome, filled, numbers}
 use Rattle.job_pool.proofs.slots.put_outcomes.Given as goal
 

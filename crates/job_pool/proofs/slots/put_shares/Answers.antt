@@ -1,8 +1,8 @@
 use Rattle.std.proofs.Common.{ℕ, ◌<◌, List, All, IfOk, Result, arith, sym, subst, ◌∙◌}
 use Rattle.variable_tables.specs.declared.memory.NoMemory.{NoMemory}
-use Rattle.draws.specs.declared.draws.Drawer.{Drawer}
-use Rattle.draws.specs.Drawing.{IsDrawerOf, IsDone, jobs_of}
-use Rattle.draws.proofs.GatheringLaws.{last_of_all, front_of_all}
+use Rattle.job_pool.specs.declared.draws.Drawer.{Drawer}
+use Rattle.job_pool.specs.Drawing.{IsDrawerOf, IsDone, jobs_of}
+use Rattle.job_pool.proofs.GatheringLaws.{last_of_all, front_of_all}
 use Rattle.job_pool.specs.declared.share.Share.{Share}
 use Rattle.job_pool.specs.Sharing.{IsOutcome, IsShare}
 use Rattle.job_pool.proofs.SharingLaws.{all_filled, all_snoc, share_covers}

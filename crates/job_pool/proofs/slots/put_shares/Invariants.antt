@@ -1,5 +1,5 @@
 use Rattle.std.proofs.Common.{◌≡◌, ℕ, ◌+◌, ◌<◌, ◌≤◌, All, IfOk, length, vec_capacity}
-use Rattle.draws.specs.Drawing.{IsDrawerOf, IsDone, drawers_of, jobs_of, times_drawn}
+use Rattle.job_pool.specs.Drawing.{IsDrawerOf, IsDone, drawers_of, jobs_of, times_drawn}
 use Rattle.job_pool.specs.Sharing.{AreSlots, IsShare, filled}
 use Rattle.job_pool.proofs.slots.put_shares.Given as goal
 

@@ -1,5 +1,5 @@
 use Rattle.std.proofs.Common.{◌<◌, List, All, Option, arith, subst}
-use Rattle.draws.proofs.GatheringLaws.{last_of_all, front_of_all}
+use Rattle.job_pool.proofs.GatheringLaws.{last_of_all, front_of_all}
 use Rattle.job_pool.specs.Sharing.{IsFilled}
 use Rattle.job_pool.proofs.SharingLaws.{unwrapped_one}
 use Rattle.job_pool.proofs.slots.unwrapped.Goals as goal

@@ -13,8 +13,8 @@ overflow_add-count c =
       c.loop-v.invariant,
       active_few c.args.net.now c.args.flow.now.labels c.args.flow.now.cells c.loop-v.v,
       c.loop-v-test.true,
-      c.nodes-nodes.ensures.count,
-      c.nodes-nodes.ensures.network.short,
+      c.nodes-nodes.ensures,
+      c.known.ensures.network.short,
     )
 
 pub loop-v-preserved : goal.loop-v-preserved
@@ -32,5 +32,5 @@ loop-v-preserved c =
 
 pub returns : goal.returns
 returns c =
-    let all : c.loop-v.v ≡ node_count c.args.net.now = omega (arith, c.nodes-nodes.ensures.count) in
+    let all : c.loop-v.v ≡ node_count c.args.net.now = omega (arith, c.nodes-nodes.ensures) in
     c.loop-v.invariant ∙ ap (λ (n : ℕ). active_below c.args.net.now c.args.flow.now.labels c.args.flow.now.cells n) all

@@ -15,6 +15,6 @@ returns c =
     let net : FlowNet = c.args.net.now in
     let f : FlowState = c.args.flow.now in
     c.is_active.ensures
-    ∙ ap (λ (n : ℕ). active_by n c.args.v c.excess.result c.label.result) c.nodes-nodes.ensures.count
+    ∙ ap (λ (n : ℕ). active_by n c.args.v c.excess.result c.label.result) c.nodes-nodes.ensures
     ∙ ap (λ (e : ℕ). active_by (node_count net) c.args.v e c.label.result) c.excess.ensures
     ∙ ap (λ (l : ℕ). active_by (node_count net) c.args.v (slice_index f.cells.excess c.args.v) l) c.label.ensures

@@ -26,9 +26,9 @@ invariant_of-flow-2 c = record {
 pub returns-clause-flow : goal.returns-clause-flow
 returns-clause-flow c =
     (parted_state c.args.net.now c.args.flow.now c.flow.inside.parts.items c.part_flow.new.parts.items c.flow.inside.labels.items c.as_slice-labels.result.now c.flow.inside.delivered.items c.flow.inside.caps c.flow.inside.spent
-    c.nodes-nodes.ensures.network c.flow.view_is c.as_slice-labels.ensures.value c.requires.flow c.in_ok-part_flow.ensures.parts c.in_ok-part_flow.ensures.agree).between
+    c.known.ensures.network c.flow.view_is c.as_slice-labels.ensures.value c.requires.flow c.in_ok-part_flow.ensures.parts c.in_ok-part_flow.ensures.agree).between
 
 pub returns-clause-agree : goal.returns-clause-agree
 returns-clause-agree c =
     (parted_state c.args.net.now c.args.flow.now c.flow.inside.parts.items c.part_flow.new.parts.items c.flow.inside.labels.items c.as_slice-labels.result.now c.flow.inside.delivered.items c.flow.inside.caps c.flow.inside.spent
-    c.nodes-nodes.ensures.network c.flow.view_is c.as_slice-labels.ensures.value c.requires.flow c.in_ok-part_flow.ensures.parts c.in_ok-part_flow.ensures.agree).agree
+    c.known.ensures.network c.flow.view_is c.as_slice-labels.ensures.value c.requires.flow c.in_ok-part_flow.ensures.parts c.in_ok-part_flow.ensures.agree).agree

@@ -16,15 +16,15 @@ pulses-init g c = record {
   pushes = c.requires.pushes;
   usable = c.requires.usable;
   exact = λ on. labels_exact (node_count c.args.net.now) (state_of c.args.net.now c.args.flow.now) (state_of c.args.net.now c.relabel.new.flow) c.relabel.ensures.exact;
-  paid = paid_none c.args.net.now (state_of c.args.net.now c.relabel.new.flow) c.nodes-nodes.ensures.network c.relabel.ensures.flow.sound;
+  paid = paid_none c.args.net.now (state_of c.args.net.now c.relabel.new.flow) c.known.ensures.network c.relabel.ensures.flow.sound;
 }
 
 pub overflow_add-count : goal.overflow_add-count
-overflow_add-count g c = omega (arith, pulses_fit c.args.net.now c.pulses.count c.nodes-nodes.ensures.network (omega (arith, c.pulses.invariant.paid.bounded)))
+overflow_add-count g c = omega (arith, pulses_fit c.args.net.now c.pulses.count c.known.ensures.network (omega (arith, c.pulses.invariant.paid.bounded)))
 
 pub pulses-smaller : goal.pulses-smaller
 pulses-smaller g c =
-    pulse_left c.args.net.now c.pulses.flow c.part_ahead.new.flow c.relabel_after_walks-exact.new.flow c.nodes-nodes.ensures.network c.pulses.invariant.between.sound (sym c.is_active.ensures ∙ c.pulses-test.true)
+    pulse_left c.args.net.now c.pulses.flow c.part_ahead.new.flow c.relabel_after_walks-exact.new.flow c.known.ensures.network c.pulses.invariant.between.sound (sym c.is_active.ensures ∙ c.pulses-test.true)
     (pulse_parted c.args.net.now c.pulses.flow c.pulse_by.new.flow c.part_ahead.new.flow c.in_ok-pulse_by.ensures.flow c.in_ok-part_ahead.ensures.flow c.in_ok-part_ahead.ensures.agree) c.relabel_after_walks-exact.ensures.labels
 
 pub pulses-preserved : goal.pulses-preserved
@@ -34,8 +34,8 @@ pulses-preserved g c = record {
   pushes = c.in_ok-pulse_by.ensures.pushes;
   usable = c.in_ok-pulse_by.ensures.unspent;
   exact = c.relabel_after_walks-exact.ensures.exact;
-  paid = paid_labels c.args.net.now (c.pulses.count + 1) c.part_ahead.new.flow c.relabel_after_walks-exact.new.flow c.nodes-nodes.ensures.network
-      (paid_pulse c.args.net.now c.pulses.count (state_of c.args.net.now c.pulses.flow) (state_of c.args.net.now c.part_ahead.new.flow) c.nodes-nodes.ensures.network c.pulses.invariant.paid
+  paid = paid_labels c.args.net.now (c.pulses.count + 1) c.part_ahead.new.flow c.relabel_after_walks-exact.new.flow c.known.ensures.network
+      (paid_pulse c.args.net.now c.pulses.count (state_of c.args.net.now c.pulses.flow) (state_of c.args.net.now c.part_ahead.new.flow) c.known.ensures.network c.pulses.invariant.paid
       (sym c.is_active.ensures ∙ c.pulses-test.true)
       (pulse_parted c.args.net.now c.pulses.flow c.pulse_by.new.flow c.part_ahead.new.flow c.in_ok-pulse_by.ensures.flow c.in_ok-part_ahead.ensures.flow c.in_ok-part_ahead.ensures.agree).agree)
       c.relabel_after_walks-exact.ensures.labels;

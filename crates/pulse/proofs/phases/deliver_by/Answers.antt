@@ -26,14 +26,14 @@ deliver_all-requires-clause-lists g c κs within on =
 pub returns-in-Ok-clause-fits : goal.returns-in-Ok-clause-fits
 returns-in-Ok-clause-fits g c =
     (phase_delivered c.args.net.now c.args.flow.now c.args.pushes.now c.flow.inside.parts.items c.deliver_all.new.flow.items c.flow.inside.labels.items c.as_mut_slice-labels.result.now c.deliver_all.new.labels (with_items c.flow.inside.labels c.deliver_all.new.labels).items
-    c.flow.inside.delivered.items c.flow.inside.caps c.flow.inside.spent c.pushes.inside.parts.items c.pushes.inside.spent c.nodes-nodes.ensures.network c.flow.view_is c.pushes.view_is c.if-flow.false c.if-pushes.false
+    c.flow.inside.delivered.items c.flow.inside.caps c.flow.inside.spent c.pushes.inside.parts.items c.pushes.inside.spent c.known.ensures.network c.flow.view_is c.pushes.view_is c.if-flow.false c.if-pushes.false
     (c.requires.read (sym (ap (λ (f : FlowState). f.spent) c.flow.view_is) ∙ c.if-flow.false) (sym (ap (λ (p : PushState). p.spent) c.pushes.view_is) ∙ c.if-pushes.false))
     c.as_mut_slice-labels.ensures.value (with_items_is c.flow.inside.labels c.deliver_all.new.labels (omega arith)) c.in-Ok.ensures.ok).pulse.between.fits
 
 pub returns-in-Ok-clause-ok : goal.returns-in-Ok-clause-ok
 returns-in-Ok-clause-ok g c =
     phase_delivered c.args.net.now c.args.flow.now c.args.pushes.now c.flow.inside.parts.items c.deliver_all.new.flow.items c.flow.inside.labels.items c.as_mut_slice-labels.result.now c.deliver_all.new.labels (with_items c.flow.inside.labels c.deliver_all.new.labels).items
-    c.flow.inside.delivered.items c.flow.inside.caps c.flow.inside.spent c.pushes.inside.parts.items c.pushes.inside.spent c.nodes-nodes.ensures.network c.flow.view_is c.pushes.view_is c.if-flow.false c.if-pushes.false
+    c.flow.inside.delivered.items c.flow.inside.caps c.flow.inside.spent c.pushes.inside.parts.items c.pushes.inside.spent c.known.ensures.network c.flow.view_is c.pushes.view_is c.if-flow.false c.if-pushes.false
     (c.requires.read (sym (ap (λ (f : FlowState). f.spent) c.flow.view_is) ∙ c.if-flow.false) (sym (ap (λ (p : PushState). p.spent) c.pushes.view_is) ∙ c.if-pushes.false))
     c.as_mut_slice-labels.ensures.value (with_items_is c.flow.inside.labels c.deliver_all.new.labels (omega arith)) c.in-Ok.ensures.ok
 

@@ -19,12 +19,12 @@ read_all-requires-clause-listed g c κs within =
 
 pub returns-in-Ok-clause-fits : goal.returns-in-Ok-clause-fits
 returns-in-Ok-clause-fits g c =
-    read_fits c.args.net.now c.as_slice-labels.result.now c.as_slice-parts.result.now c.read_all.new.parts.items c.pushes.inside.spent c.nodes-nodes.ensures.network c.if-pushes.false c.in-Ok.ensures.read
+    read_fits c.args.net.now c.as_slice-labels.result.now c.as_slice-parts.result.now c.read_all.new.parts.items c.pushes.inside.spent c.known.ensures.network c.if-pushes.false c.in-Ok.ensures.read
 
 pub returns-in-Ok-clause-walked : goal.returns-in-Ok-clause-walked
 returns-in-Ok-clause-walked g c =
     read_walked c.args.net.now c.args.flow.now c.flow.inside.parts.items c.as_slice-parts.result.now c.flow.inside.labels.items c.as_slice-labels.result.now c.flow.inside.delivered.items c.flow.inside.caps c.flow.inside.spent
-    c.read_all.new.parts.items c.nodes-nodes.ensures.network c.flow.view_is c.as_slice-parts.ensures.value c.as_slice-labels.ensures.value c.in-Ok.ensures.walked
+    c.read_all.new.parts.items c.known.ensures.network c.flow.view_is c.as_slice-parts.ensures.value c.as_slice-labels.ensures.value c.in-Ok.ensures.walked
 
 pub invariant_of-pushes : goal.invariant_of-pushes
 invariant_of-pushes g c free = absurd (false≢true (sym free))

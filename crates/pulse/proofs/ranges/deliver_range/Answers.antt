@@ -26,7 +26,7 @@ deliver_each-requires-clause-parts c =
 pub deliver_each-requires-clause-safe : goal.deliver_each-requires-clause-safe
 deliver_each-requires-clause-safe c =
     range_safe c.args.net.now c.args.first c.args.end c.flow.inside.parts.items c.as_mut_slice.result.now c.flow.inside.labels.items c.flow.inside.delivered.items c.flow.inside.caps c.flow.inside.spent
-    c.pushes.inside.parts.items c.as_slice-2.result.now c.pushes.inside.spent c.nodes-nodes.ensures.network c.as_mut_slice.ensures.value c.as_slice-2.ensures.value
+    c.pushes.inside.parts.items c.as_slice-2.result.now c.pushes.inside.spent c.known.ensures.network c.as_mut_slice.ensures.value c.as_slice-2.ensures.value
     (parts_of c.args.net.now c.args.flow.now c.flow.inside.parts.items c.flow.inside.labels.items c.flow.inside.delivered.items c.flow.inside.caps c.flow.inside.spent c.flow.view_is (flow_unspent c.args.flow.now c.flow.inside.parts.items c.flow.inside.labels.items c.flow.inside.delivered.items c.flow.inside.caps c.flow.inside.spent c.flow.view_is c.requires.unspent) c.requires.flow)
     (subst (λ (f : FlowState). NoneMarked (is_marked f) c.args.first c.args.end) (sym c.flow.view_is) c.requires.none)
     (subst (λ (f : FlowState). IsPartlyDelivered c.args.net.now f.labels (push_state c.pushes.inside.parts.items c.pushes.inside.spent).values (is_marked f) f.cells) (sym c.flow.view_is)
@@ -38,7 +38,7 @@ returns c =
     (subst (λ (p : PushState). RangeDelivered c.args.net.now p c.args.first c.args.end (flow_state c.flow.inside.parts.items c.flow.inside.labels.items c.flow.inside.delivered.items c.flow.inside.caps c.flow.inside.spent) (flow_state (with_items c.flow.inside.parts c.deliver_each.new.parts).items c.flow.inside.labels.items (with_items c.flow.inside.delivered c.mark.new.delivered).items c.flow.inside.caps c.flow.inside.spent)) c.pushes.view_is
     (range_delivered c.args.net.now c.args.first c.args.end c.flow.inside.parts.items c.as_mut_slice.result.now c.deliver_each.new.parts (with_items c.flow.inside.parts c.deliver_each.new.parts).items
     c.flow.inside.labels.items c.as_slice.result.now c.flow.inside.delivered.items c.as_mut_slice-2.result.now c.mark.new.delivered (with_items c.flow.inside.delivered c.mark.new.delivered).items c.flow.inside.caps c.flow.inside.spent
-    c.pushes.inside.parts.items c.as_slice-2.result.now c.pushes.inside.spent c.nodes-nodes.ensures.network c.as_mut_slice.ensures.value c.as_slice.ensures.value c.as_slice-2.ensures.value
+    c.pushes.inside.parts.items c.as_slice-2.result.now c.pushes.inside.spent c.known.ensures.network c.as_mut_slice.ensures.value c.as_slice.ensures.value c.as_slice-2.ensures.value
     (with_items_is c.flow.inside.parts c.deliver_each.new.parts (omega arith)) c.as_mut_slice-2.ensures.value (with_items_is c.flow.inside.delivered c.mark.new.delivered (omega arith)) (flow_unspent c.args.flow.now c.flow.inside.parts.items c.flow.inside.labels.items c.flow.inside.delivered.items c.flow.inside.caps c.flow.inside.spent c.flow.view_is c.requires.unspent)
     (subst (λ (f : FlowState). IsFlowOf c.args.net.now f) (sym c.flow.view_is) c.requires.flow)
     (subst (λ (f : FlowState). NoneMarked (is_marked f) c.args.first c.args.end) (sym c.flow.view_is) c.requires.none)

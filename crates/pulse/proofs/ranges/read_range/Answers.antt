@@ -27,7 +27,7 @@ returns c =
     (subst (λ (p : PushState). RangeRead c.args.net.now (flow_state c.flow.inside.parts.items c.flow.inside.labels.items c.flow.inside.delivered.items c.flow.inside.caps c.flow.inside.spent) c.args.first c.args.end p
     (push_state (with_items c.pushes.inside.parts c.read_each.new.parts).items c.pushes.inside.spent)) c.pushes.view_is
     (range_read c.args.net.now c.args.first c.args.end c.flow.inside.parts.items c.as_slice-2.result.now c.flow.inside.labels.items c.as_slice.result.now c.flow.inside.delivered.items c.flow.inside.caps c.flow.inside.spent
-    c.pushes.inside.parts.items c.as_mut_slice.result.now c.read_each.new.parts (with_items c.pushes.inside.parts c.read_each.new.parts).items c.pushes.inside.spent c.nodes-nodes.ensures.network
+    c.pushes.inside.parts.items c.as_mut_slice.result.now c.read_each.new.parts (with_items c.pushes.inside.parts c.read_each.new.parts).items c.pushes.inside.spent c.known.ensures.network
     c.as_slice-2.ensures.value c.as_slice.ensures.value c.as_mut_slice.ensures.value (with_items_is c.pushes.inside.parts c.read_each.new.parts (omega arith)) (pushes_unspent c.args.pushes.now c.pushes.inside.parts.items c.pushes.inside.spent c.pushes.view_is c.requires.usable)
     (rows_of c.args.net.now c.args.pushes.now c.pushes.inside.parts.items c.pushes.inside.spent c.pushes.view_is (pushes_unspent c.args.pushes.now c.pushes.inside.parts.items c.pushes.inside.spent c.pushes.view_is c.requires.usable) c.requires.pushes) c.read_each.ensures.len c.requires.ordered (omega (arith, c.requires.within)) c.read_each.ensures.each))
 

@@ -24,19 +24,19 @@ hold_labels-requires c =
 pub returns-clause-flow : goal.returns-clause-flow
 returns-clause-flow c =
     (held_flow c.args.net.now c.args.flow.now (with_items c.flow.inside.labels c.exact_labels.new.labels).items (with_items c.flow.inside.labels c.exact_labels.new.labels).items c.flow.inside.parts.items (with_items c.flow.inside.parts c.hold_labels.new.parts).items c.flow.inside.delivered.items c.flow.inside.caps c.flow.inside.spent
-    c.nodes-nodes.ensures.network (ap length (with_items_is c.flow.inside.parts c.hold_labels.new.parts (omega arith)) ∙ (c.hold_labels.ensures.len ∙ ap length c.as_mut_slice-parts.ensures.value))
+    c.known.ensures.network (ap length (with_items_is c.flow.inside.parts c.hold_labels.new.parts (omega arith)) ∙ (c.hold_labels.ensures.len ∙ ap length c.as_mut_slice-parts.ensures.value))
     (holds_seen (with_items c.flow.inside.labels c.exact_labels.new.labels).items c.as_slice-labels.result.now c.flow.inside.parts.items c.as_mut_slice-parts.result.now (with_items c.flow.inside.parts c.hold_labels.new.parts).items c.hold_labels.new.parts c.as_slice-labels.ensures.value c.as_mut_slice-parts.ensures.value (with_items_is c.flow.inside.parts c.hold_labels.new.parts (omega arith)) c.hold_labels.ensures.each)
     (relabelled c.args.net.now c.args.flow.now c.flow.inside.parts.items c.as_slice.result.now c.flow.inside.labels.items c.as_mut_slice.result.now c.exact_labels.new.labels (with_items c.flow.inside.labels c.exact_labels.new.labels).items
-    c.flow.inside.delivered.items c.flow.inside.caps c.flow.inside.spent c.nodes-nodes.ensures.network c.flow.view_is c.as_slice.ensures.value c.as_mut_slice.ensures.value
+    c.flow.inside.delivered.items c.flow.inside.caps c.flow.inside.spent c.known.ensures.network c.flow.view_is c.as_slice.ensures.value c.as_mut_slice.ensures.value
     (with_items_is c.flow.inside.labels c.exact_labels.new.labels (omega arith)) (omega arith) c.requires.flow c.exact_labels.ensures)).between
 
 pub returns-clause-exact : goal.returns-clause-exact
 returns-clause-exact c =
     (held_flow c.args.net.now c.args.flow.now (with_items c.flow.inside.labels c.exact_labels.new.labels).items (with_items c.flow.inside.labels c.exact_labels.new.labels).items c.flow.inside.parts.items (with_items c.flow.inside.parts c.hold_labels.new.parts).items c.flow.inside.delivered.items c.flow.inside.caps c.flow.inside.spent
-    c.nodes-nodes.ensures.network (ap length (with_items_is c.flow.inside.parts c.hold_labels.new.parts (omega arith)) ∙ (c.hold_labels.ensures.len ∙ ap length c.as_mut_slice-parts.ensures.value))
+    c.known.ensures.network (ap length (with_items_is c.flow.inside.parts c.hold_labels.new.parts (omega arith)) ∙ (c.hold_labels.ensures.len ∙ ap length c.as_mut_slice-parts.ensures.value))
     (holds_seen (with_items c.flow.inside.labels c.exact_labels.new.labels).items c.as_slice-labels.result.now c.flow.inside.parts.items c.as_mut_slice-parts.result.now (with_items c.flow.inside.parts c.hold_labels.new.parts).items c.hold_labels.new.parts c.as_slice-labels.ensures.value c.as_mut_slice-parts.ensures.value (with_items_is c.flow.inside.parts c.hold_labels.new.parts (omega arith)) c.hold_labels.ensures.each)
     (relabelled c.args.net.now c.args.flow.now c.flow.inside.parts.items c.as_slice.result.now c.flow.inside.labels.items c.as_mut_slice.result.now c.exact_labels.new.labels (with_items c.flow.inside.labels c.exact_labels.new.labels).items
-    c.flow.inside.delivered.items c.flow.inside.caps c.flow.inside.spent c.nodes-nodes.ensures.network c.flow.view_is c.as_slice.ensures.value c.as_mut_slice.ensures.value
+    c.flow.inside.delivered.items c.flow.inside.caps c.flow.inside.spent c.known.ensures.network c.flow.view_is c.as_slice.ensures.value c.as_mut_slice.ensures.value
     (with_items_is c.flow.inside.labels c.exact_labels.new.labels (omega arith)) (omega arith) c.requires.flow c.exact_labels.ensures)).agree
 
 pub invariant_of-flow : goal.invariant_of-flow

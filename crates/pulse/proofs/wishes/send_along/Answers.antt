@@ -27,7 +27,7 @@ returns c =
     record {
       flow =
           sent_state c.args.net.now c.args.flow.now c.flow.inside.parts.items (with_items c.flow.inside.parts c.send_wished.new.parts).items c.send_wished.new.parts c.flow.inside.labels.items c.as_slice-labels.result.now
-          c.flow.inside.delivered.items c.flow.inside.caps c.flow.inside.spent c.nodes-nodes.ensures.network c.flow.view_is c.as_slice-labels.ensures.value
+          c.flow.inside.delivered.items c.flow.inside.caps c.flow.inside.spent c.known.ensures.network c.flow.view_is c.as_slice-labels.ensures.value
           (with_items_is c.flow.inside.parts c.send_wished.new.parts (omega arith)) c.requires.flow c.send_wished.ensures.parts c.send_wished.ensures.sound;
     }
 

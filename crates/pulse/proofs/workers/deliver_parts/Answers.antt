@@ -9,7 +9,7 @@ use Rattle.pulse.proofs.CrewLaws.{all_safe, all_delivered}
 
 pub deliver_every-requires-clause-safe : goal.deliver_every-requires-clause-safe
 deliver_every-requires-clause-safe g c =
-    all_safe c.args.net.now (node_count c.args.net.now) c.args.labels.now c.args.flow.now.items c.as_mut_slice.result.now c.args.pushes.now c.nodes-nodes.ensures.network refl c.as_mut_slice.ensures.value
+    all_safe c.args.net.now (node_count c.args.net.now) c.args.labels.now c.args.flow.now.items c.as_mut_slice.result.now c.args.pushes.now c.known.ensures.network refl c.as_mut_slice.ensures.value
     c.requires.flow c.requires.sound c.requires.read
 
 pub deliver_every-requires-clause-lists : goal.deliver_every-requires-clause-lists
@@ -23,7 +23,7 @@ returns-then-not-phase-clause-each g c =
 
 pub deliver_by_crew-requires-clause-safe : goal.deliver_by_crew-requires-clause-safe
 deliver_by_crew-requires-clause-safe g c κs within =
-    all_safe c.args.net.now (node_count c.args.net.now) c.args.labels.now c.args.flow.now.items c.replace-parts.result.items c.args.pushes.now c.nodes-nodes.ensures.network refl (ap (λ v. v.items) c.replace-parts.ensures.value)
+    all_safe c.args.net.now (node_count c.args.net.now) c.args.labels.now c.args.flow.now.items c.replace-parts.result.items c.args.pushes.now c.known.ensures.network refl (ap (λ v. v.items) c.replace-parts.ensures.value)
     c.requires.flow c.requires.sound c.requires.read
 
 pub deliver_by_crew-requires-clause-lists : goal.deliver_by_crew-requires-clause-lists

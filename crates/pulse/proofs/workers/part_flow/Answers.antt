@@ -15,7 +15,7 @@ returns-in_ok-parts-clause-shares c = inr c.in_ok-parts.ensures.shares
 pub returns-in_ok-parts-clause-agree : goal.returns-in_ok-parts-clause-agree
 returns-in_ok-parts-clause-agree c =
     subst (λ (x : List FlowPart). Agree (node_count c.args.net.now) (pairs c.args.net.now (cells_of x) c.args.labels.now) (pairs c.args.net.now (cells_of c.in_ok-parts.field-0.items) c.args.labels.now)) c.as_slice.ensures.value
-    (parted_agrees c.args.net.now c.args.labels.now (cells_of c.as_slice.result.now) c.in_ok-parts.field-0.items c.nodes-nodes.ensures.network c.in_ok-parts.ensures.holds)
+    (parted_agrees c.args.net.now c.args.labels.now (cells_of c.as_slice.result.now) c.in_ok-parts.field-0.items c.known.ensures.network c.in_ok-parts.ensures.holds)
 
 pub returns-in_ok-parts-clause-lists : goal.returns-in_ok-parts-clause-lists
 returns-in_ok-parts-clause-lists c was =

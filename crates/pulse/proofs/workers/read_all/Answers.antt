@@ -8,7 +8,7 @@ use Rattle.pulse.proofs.CrewLaws.{all_numbered, all_read, all_walked}
 pub returns-then-not-phase-clause-read : goal.returns-then-not-phase-clause-read
 returns-then-not-phase-clause-read g c =
     all_read c.args.net.now c.args.labels.now c.args.flow.now c.part_pushes.new.parts.items c.as_mut_slice.result.now c.read_every.new.parts _
-    c.nodes-nodes.ensures.network c.as_mut_slice.ensures.value (with_items_is c.part_pushes.new.parts c.read_every.new.parts (omega arith))
+    c.known.ensures.network c.as_mut_slice.ensures.value (with_items_is c.part_pushes.new.parts c.read_every.new.parts (omega arith))
     c.in_ok-part_pushes.ensures.parts c.read_every.ensures.len c.read_every.ensures.each
 
 pub returns-then-not-phase-clause-walked : goal.returns-then-not-phase-clause-walked
@@ -20,7 +20,7 @@ returns-then-not-phase-clause-walked g c =
 pub returns-clause-read : goal.returns-clause-read
 returns-clause-read g c =
     all_read c.args.net.now c.args.labels.now c.args.flow.now c.part_pushes.new.parts.items c.replace-taken.result.items c.in_ok-parts.field-0.items c.in_ok-parts.field-0.items
-    c.nodes-nodes.ensures.network (ap (λ v. v.items) c.replace-taken.ensures.value) refl c.in_ok-part_pushes.ensures.parts c.in_ok-parts.ensures.len c.in_ok-parts.ensures.each
+    c.known.ensures.network (ap (λ v. v.items) c.replace-taken.ensures.value) refl c.in_ok-part_pushes.ensures.parts c.in_ok-parts.ensures.len c.in_ok-parts.ensures.each
 
 pub returns-clause-walked : goal.returns-clause-walked
 returns-clause-walked g c =

@@ -6,7 +6,7 @@ use Rattle.warm_start.proofs.units.send_unit.Goals as goal
 sent-begun : (c : goal.After-slice_known-4-1-unread) → IsSent c.args.net.now c.args.labels.now c.args.residuals.now c.args.excess.now c.args.v (c.start.result + c.args.k) (slice_index c.mates-mates.result.now c.args.k) (slice_index c.heads-heads.result.now c.args.k)
 sent-begun c =
     is-sent c.args.net.now c.args.labels.now c.args.residuals.now c.args.excess.now c.args.v c.args.k
-    record { ok = c.nodes-nodes.ensures.network; held = c.requires.held; node = c.requires.v; some = c.requires.excess; can = c.requires.can }
+    record { ok = c.known.ensures.network; held = c.requires.held; node = c.requires.v; some = c.requires.excess; can = c.requires.can }
     (c.start.result + c.args.k) (slice_index c.mates-mates.result.now c.args.k) (slice_index c.heads-heads.result.now c.args.k)
     (omega (arith, c.start.ensures)) (c.mates-mates.ensures.value c.args.k c.requires.can.inside) (c.heads-heads.ensures.value c.args.k c.requires.can.inside)
 
@@ -16,7 +16,7 @@ bounds-residuals-mate c = omega (arith, (sent-begun c).mate_in, length-set c.arg
 sent-read : (c : goal.After-slice_known-4-1) → IsSent c.args.net.now c.args.labels.now c.args.residuals.now c.args.excess.now c.args.v (c.start.result + c.args.k) (slice_index c.mates-mates.result.now c.args.k) (slice_index c.heads-heads.result.now c.args.k)
 sent-read c =
     is-sent c.args.net.now c.args.labels.now c.args.residuals.now c.args.excess.now c.args.v c.args.k
-    record { ok = c.nodes-nodes.ensures.network; held = c.requires.held; node = c.requires.v; some = c.requires.excess; can = c.requires.can }
+    record { ok = c.known.ensures.network; held = c.requires.held; node = c.requires.v; some = c.requires.excess; can = c.requires.can }
     (c.start.result + c.args.k) (slice_index c.mates-mates.result.now c.args.k) (slice_index c.heads-heads.result.now c.args.k)
     (omega (arith, c.start.ensures)) (c.mates-mates.ensures.value c.args.k c.requires.can.inside) (c.heads-heads.ensures.value c.args.k c.requires.can.inside)
 
@@ -29,7 +29,7 @@ bounds-residuals-mate-2 c = omega (arith, (sent-read c).mate_in, length-set c.ar
 sent-all : (c : goal.After-slice_known-6-1) → IsSent c.args.net.now c.args.labels.now c.args.residuals.now c.args.excess.now c.args.v (c.start.result + c.args.k) (slice_index c.mates-mates.result.now c.args.k) (slice_index c.heads-heads.result.now c.args.k)
 sent-all c =
     is-sent c.args.net.now c.args.labels.now c.args.residuals.now c.args.excess.now c.args.v c.args.k
-    record { ok = c.nodes-nodes.ensures.network; held = c.requires.held; node = c.requires.v; some = c.requires.excess; can = c.requires.can }
+    record { ok = c.known.ensures.network; held = c.requires.held; node = c.requires.v; some = c.requires.excess; can = c.requires.can }
     (c.start.result + c.args.k) (slice_index c.mates-mates.result.now c.args.k) (slice_index c.heads-heads.result.now c.args.k)
     (omega (arith, c.start.ensures)) (c.mates-mates.ensures.value c.args.k c.requires.can.inside) (c.heads-heads.ensures.value c.args.k c.requires.can.inside)
 

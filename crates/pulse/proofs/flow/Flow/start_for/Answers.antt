@@ -9,9 +9,9 @@ use Rattle.pulse.proofs.TurnLaws.{started_flow}
 pub returns-clause-start : goal.returns-clause-start
 returns-clause-start c =
     let same : c.in_ok-caps.caps ≡ c.args.net.now.caps = c.in_ok-caps.ensures ∙ c.capacities.ensures in
-    started_flow c.args.net.now c.in_ok-parts.parts.items c.in_ok-labels.labels.items c.in_ok-delivered.delivered.items c.in_ok-caps.caps c.nodes-nodes.ensures.network c.arcs-arcs.ensures.startable c.in_ok-parts.ensures.starts
-    c.in_ok-labels.ensures.len c.in_ok-labels.ensures.each (omega (arith, c.in_ok-delivered.ensures.len, c.nodes-nodes.ensures.count))
-    (λ v h. c.in_ok-delivered.ensures.none v (omega (arith, h, c.in_ok-delivered.ensures.len, c.nodes-nodes.ensures.count))) (ap length same ∙ c.nodes-nodes.ensures.network.same_caps)
+    started_flow c.args.net.now c.in_ok-parts.parts.items c.in_ok-labels.labels.items c.in_ok-delivered.delivered.items c.in_ok-caps.caps c.known.ensures.network c.known_capacities.ensures.startable c.in_ok-parts.ensures.starts
+    c.in_ok-labels.ensures.len c.in_ok-labels.ensures.each (omega (arith, c.in_ok-delivered.ensures.len, c.nodes-nodes.ensures))
+    (λ v h. c.in_ok-delivered.ensures.none v (omega (arith, h, c.in_ok-delivered.ensures.len, c.nodes-nodes.ensures))) (ap length same ∙ c.known.ensures.network.same_caps)
     (λ arc h. ap (λ (xs : List ℕ). slice_index xs arc) same)
 
 pub returns-clause-shares : goal.returns-clause-shares

@@ -5,8 +5,8 @@ use Rattle.rebuild.proofs.marks.MarkedSet.new.Goals as goal
 
 pub invariant_of-result : goal.invariant_of-result
 invariant_of-result c = record {
-  graph = c.aig-aig.ensures.graph;
-  netlist = c.aig-aig.ensures.netlist;
+  graph = c.known.ensures.graph;
+  netlist = c.known.ensures.netlist;
   passable = closed-passable (move_of c.args.circuit.now c.args.keep.now c.args.set.now) c.requires.closed.closed;
   fan_ins = closed-fan_ins c.args.circuit.now.aig c.args.keep.now c.args.set.now c.requires.closed.closed;
   members_are = c.requires.marked.members;

@@ -1,0 +1,187 @@
+"""What bench/RESULTS.md and README.md show of the stored results: the table, the aims, and what program and machine it was."""
+import os
+import re
+import textwrap
+
+import measure
+
+RESULTS, README = (os.path.join(measure.TOP, *words) for words in (('bench', 'RESULTS.md'), ('README.md',)))
+RECORD = os.path.join(measure.TOP, 'release', 'record')
+OF_README = ['multiplier 64', 'adder_tree 4096 32', 'delay_lines 16384 32', 'gates 1000000 50000']
+OF_FAST = ['Circuit', 'Gates', 'Latches', 'Left', 's', 'MB', 'ABC left', 'ABC s']
+TEN_MILLION = 'copies 34 two_stages 256 16'
+MOST_A_NODE_FRAME = {'multiplier': 1500, 'divider': 1500, 'delay_lines': 1500, 'cordic': 2500}
+CHARTS = {'time_beside_abc.svg': 'Seconds of the whole process, beside ABC',
+          'latches_by_frame.svg': 'Known latches of multiplier 64, frame by frame',
+          'cost_by_size.svg': 'Instructions by size', 'cost_by_node_frames.svg': 'Instructions by node-frames'}
+
+
+def row(fields):
+    return '| ' + ' | '.join(map(str, fields)) + ' |'
+
+
+def table(names, rows):
+    return [row(names), '|' + '---|' * len(names), *map(row, rows)]
+
+
+def seconds_of(run):
+    """A run's seconds, or why there are none."""
+    return f'{run["seconds"]:.2f}' if 'seconds' in run else run.get('failed', '')
+
+
+def megabytes_of(run):
+    return f'{run["megabytes"]:.0f}' if run.get('megabytes') else ''
+
+
+def millions_of(number):
+    return f'{number / 1e6:.0f}' if number else ''
+
+
+def a_node_frame(entry):
+    """Instructions a node-frame, where both were counted."""
+    both = entry.get('instructions') and entry.get('node_frames')
+    return round(entry['instructions'] / entry['node_frames']) if both else None
+
+
+def cells(entry):
+    """A circuit's row of the table."""
+    one, four = entry['workers'].get('1', {}), entry['workers'].get('4', {})
+    abc, plain = entry.get('abc', {}), entry.get('plain', {})
+    pulses, blocking = plain.get('pulses', {}), plain.get('blocking', {})
+    return [entry['circuit'], entry['gates'], entry['latches'], len(entry['frames']), entry['left'], seconds_of(one),
+            seconds_of(four), megabytes_of(one), millions_of(entry.get('instructions')), a_node_frame(entry) or '',
+            abc.get('left', ''), seconds_of(abc), megabytes_of(abc), seconds_of(pulses), megabytes_of(pulses),
+            millions_of(pulses.get('instructions')), seconds_of(blocking), megabytes_of(blocking)]
+
+
+HEAD = ['Circuit', 'Gates', 'Latches', 'Frames', 'Left', 's', 's, 4 workers', 'MB', 'M instr.', 'a node-frame', 'ABC left',
+        'ABC s', 'ABC MB', 'Plain s', 'Plain MB', 'Plain M instr.', 'Blocking s', 'Blocking MB']
+
+
+def circuits(stored):
+    return table(HEAD, map(cells, stored['circuits']))
+
+
+def is_of_release(stored):
+    """Whether the program that was measured is the one of release/."""
+    with open(RECORD, encoding='utf-8') as file:
+        return f'program {stored["program"]}\n' in file.read()
+
+
+def span(values):
+    """The least and the greatest value, as text."""
+    values = sorted(set(values)) or ['no day']
+    return str(values[0]) if values[0] == values[-1] else f'{values[0]} to {values[-1]}'
+
+
+def loads(stored):
+    return [run['load'] for entry in stored['circuits'] for run in entry['workers'].values() if 'load' in run]
+
+
+def measured(stored):
+    """Which program was measured, when and where, in a sentence."""
+    dates = span([entry['date'] for entry in stored['circuits']])
+    load = f', under a load of {span(loads(stored))} running processes' if loads(stored) else ''
+    if is_of_release(stored):
+        which = f'Of the program of `release/`, whose SHA-256 begins with {stored["program"][:12]}'
+    else:
+        which = ('**Not of the program of `release/`**, which wasn\'t measured yet, but of an earlier one, whose SHA-256 begins with '
+                 f'{stored["program"][:12]}')
+    return f'{which}: measured on {dates}, on a machine of the kind {stored["machine"]}{load}.'
+
+
+def found(stored, name):
+    return next((entry for entry in stored['circuits'] if entry['circuit'] == name), None)
+
+
+def verdict(values, limit):
+    """Whether an aim of at most so much is met by what was measured, and by which of it."""
+    known = [value for value in values if value is not None]
+    if not known:
+        return 'not measured'
+    missed = sum(value > limit for value in known)
+    return 'met' if not missed else 'missed' if missed == len(known) else f'missed by {missed} of {len(known)}'
+
+
+def of_node_frames(stored):
+    for family, limit in MOST_A_NODE_FRAME.items():
+        entries = [entry for entry in stored['circuits'] if entry['circuit'].split()[0] == family and a_node_frame(entry)]
+        shown = ', '.join(f'`{entry["circuit"]}` {a_node_frame(entry)}' for entry in entries)
+        yield [f'{limit} instructions a node-frame at most, `{family}`', shown, verdict(map(a_node_frame, entries), limit)]
+
+
+def of_time(stored, name, what, most_seconds, most_megabytes):
+    run = (found(stored, name) or {'workers': {}})['workers'].get('1', {})
+    shown = f'{seconds_of(run)} s, {megabytes_of(run)} MB' if 'seconds' in run else seconds_of(run)
+    memory = ' and 1.2 GB' if most_megabytes else ''
+    shares = [run['seconds'] / most_seconds] if 'seconds' in run else []
+    shares += [run['megabytes'] / most_megabytes] if most_megabytes and run.get('megabytes') else []
+    return [f'{what} in {most_seconds} s{memory}', shown, verdict([max(shares)] if shares else [], 1)]
+
+
+def of_abc(stored):
+    both = [(entry['workers']['1']['seconds'], entry['abc']['seconds']) for entry in stored['circuits']
+            if 'seconds' in entry['workers'].get('1', {}) and 'seconds' in entry.get('abc', {})]
+    times = span([round(abc / ours, 1) for ours, abc in both]) if both else ''
+    shown = f'ABC took {times} times as long on the {len(both)} circuits that it finished' if both else ''
+    return ["never slower than ABC's `fretime -f`", shown, verdict([ours / abc for ours, abc in both], 1)]
+
+
+def of_certificates(stored):
+    rows = stored['tables'].get('certificates', {'rows': []})['rows']
+    for what, column, limit in (('`--cert` adds a third at most', 5, 1.34), ('`verify` takes no longer than `retime --cert`', 6, 1)):
+        values = [float(cells[column]) for cells in rows if cells[column]]
+        yield [what, f'{span(values)} times as long' if values else '', verdict(values, limit)]
+
+
+def aims(stored):
+    rows = [*of_node_frames(stored), of_time(stored, 'multiplier 64', '`multiplier 64`', 1, None),
+            of_time(stored, TEN_MILLION, '10^7 gates with two frames', 20, 1200), of_abc(stored), *of_certificates(stored)]
+    return table(['Aim', 'Measured', ''], rows)
+
+
+def stored_table(stored, name):
+    """A script's table, or that there is none of this program."""
+    it = stored['tables'].get(name)
+    if not it:
+        return [f'Not measured of this program: `bench/remake --measure` runs `bench/{name}`.']
+    return [f'On {it["date"]}, load {it["load"]}.', '', *table(it['head'], it['rows'])]
+
+
+def pictures(drawn):
+    """The charts that there are."""
+    return '\n\n'.join(f'![{text}](../docs/pictures/{name})' for name, text in CHARTS.items() if name in drawn).split('\n')
+
+
+def blocks(stored, drawn):
+    """The texts between the marks of bench/RESULTS.md, by name."""
+    return {'program': [measured(stored)], 'circuits': circuits(stored), 'charts': pictures(drawn), 'aims': aims(stored),
+            'batch': stored_table(stored, 'batch'), 'certificates': stored_table(stored, 'certificates')}
+
+
+def results_text(text, stored, drawn):
+    """bench/RESULTS.md with what stands between its marks made anew."""
+    for name, lines in blocks(stored, drawn).items():
+        begin, end = f'<!-- {name} -->\n', f'<!-- end of {name} -->'
+        text = re.sub(f'{re.escape(begin)}.*?{re.escape(end)}', lambda _: begin + '\n'.join(lines) + '\n' + end, text, flags=re.S)
+    return text
+
+
+def fast(stored):
+    """The section of README.md about time: rows of the table."""
+    wanted = [HEAD.index(name) for name in OF_FAST]
+    rows = [cells(found(stored, name)) for name in OF_README if found(stored, name)]
+    large = (found(stored, TEN_MILLION) or {'workers': {}})['workers'].get('1', {})
+    took = f'{seconds_of(large)} s and {megabytes_of(large)} MB'
+    more = f'A circuit of 10^7 gates with two frames took {took}. ' if 'seconds' in large else ''
+    paragraph = ('Seconds and megabytes of the whole process by one worker, beside `fretime -f` of ABC 1.01; `bench/RESULTS.md` has the '
+                 f'rest. {measured(stored).replace("**", "")} {more}`GLIBC_TUNABLES=glibc.malloc.hugetlb=1` in the environment, which '
+                 'asks for pages of 2 MB, makes a run over millions of gates quicker. `--workers` helps little in `retime`, and much in '
+                 '`batch`, where it is how many circuits are retimed at once.')
+    return [*textwrap.wrap(paragraph, 128), '', *table([HEAD[k] for k in wanted], [[cells[k] for k in wanted] for cells in rows])]
+
+
+def readme_text(text, stored):
+    """README.md with its section about time made anew."""
+    lines = '\n'.join(fast(stored))
+    return re.sub(r'(?s)(\n## How fast\n\n).*?(\n\n## )', lambda it: it[1] + lines + it[2], text)

@@ -1,0 +1,24 @@
+-- A line before the symbols, where its numbers are known.
+use Rattle.std.proofs.Common.{ℕ, ◌≡◌, List, Option, Some, None, Err, false, sym, ap, ◌∙◌}
+use Rattle.std.specs.Option.{option_and_then}
+use Rattle.file_words.specs.declared.fault.ReadError.TheVariants.{BadLine}
+use Rattle.ascii_file.specs.declared.header.Header.{Header}
+use Rattle.ascii_file.specs.declared.raw.Section.{Section}
+use Rattle.ascii_file.specs.Raw.{Raw}
+use Rattle.ascii_file.specs.Reading.{take_item, next_section, read_line, is_complete}
+use Rattle.reader_parts.specs.Rows.{row_of}
+use Rattle.aag_text.specs.Items.{item_in}
+use Rattle.aag_text.specs.Filling.{IsRead}
+use Rattle.aag_text.proofs.ClampLaws.{line_by_numbers}
+
+module _ (h : Header) (raw : Raw) (at : ℕ) (line : List ℕ) (read : IsRead h raw) (left : is_complete h raw ≡ false) where
+  pub unspelt : row_of line ≡ None → read_line h raw at line ≡ Err (BadLine at)
+  unspelt row =
+      line_by_numbers h raw at read.within.greatest read.sizes left line
+      ∙ ap (λ (o : Option (List ℕ)). take_item h raw at (BadLine at) (option_and_then (item_in (next_section h raw)) o)) row
+
+  pub spelt : (ns : List ℕ) (section : Section) → row_of line ≡ Some ns → next_section h raw ≡ section → take_item h raw at (BadLine at) (item_in section ns) ≡ read_line h raw at line
+  spelt ns section row next =
+      sym (line_by_numbers h raw at read.within.greatest read.sizes left line
+      ∙ ap (λ (o : Option (List ℕ)). take_item h raw at (BadLine at) (option_and_then (item_in (next_section h raw)) o)) row
+      ∙ ap (λ (s : Section). take_item h raw at (BadLine at) (item_in s ns)) next)

@@ -1,0 +1,6 @@
+use Rattle.aag_text.specs.Numbering.{is_placed, placed}
+use Rattle.aag_text.proofs.CollectingLaws.{IsMadeOf}
+use Rattle.aag_text.proofs.circuit.numbering.literals.Given as goal
+
+abbrev pub invariant-loop-lit : goal.invariant-loop-lit
+invariant-loop-lit l = IsMadeOf (is_placed l.places l.count) (placed l.places) l.lits l.lit-index l.found.items

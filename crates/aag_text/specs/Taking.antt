@@ -1,0 +1,44 @@
+-- The sections as they are taken, item after item.
+use Rattle.std.specs.Prelude.{ℕ, ◌≡◌, ◌==◌, List, Result, Ok, Err, position}
+use Rattle.file_words.specs.declared.fault.ReadError.{ReadError}
+use Rattle.ascii_file.specs.Raw.{Raw, RawSymbol, defined}
+use Rattle.ascii_file.specs.Answering.{Fails}
+use Rattle.reader_parts.specs.declared.places.Places.{Places}
+use Rattle.reader_parts.specs.Places.{place_of}
+use Rattle.reader_parts.specs.Names.{AreNamesOf}
+use Rattle.aag_text.specs.declared.sections.Sections.{Sections}
+use Rattle.aag_text.specs.Filling.{IsRead}
+
+-- what has been taken, with these symbols
+abbrev pub raw_of : Sections → List RawSymbol → Raw
+raw_of m symbols = record {
+  inputs = m.inputs.items;
+  latches = m.latches.items;
+  safety = m.properties.safety;
+  sizes = m.properties.sizes;
+  liveness = m.properties.liveness;
+  gates = m.gates.items;
+  symbols = symbols;
+}
+
+-- the places are those of these variables, in this order
+abbrev pub ArePlacesOf : Places → List ℕ → Type 0
+ArePlacesOf places variables = (v : ℕ) → place_of places v ≡ position (λ w. w == v) variables
+
+-- The items with these symbols have been read: they meet the conditions on a file so far, the places are those of the variables that they define, and the names are those of the symbols.
+pub record IsAt (m : Sections) (symbols : List RawSymbol) : Type 0 where
+  pub read : IsRead m.header (raw_of m symbols)
+  pub places : ArePlacesOf m.places (defined (raw_of m symbols))
+  pub names : AreNamesOf m.names symbols
+
+-- new has what reading gives, with some symbols, under the same header
+pub record GoesOn (old new : Sections) (read : Result Raw ReadError) : Type 0 where
+  pub symbols : List RawSymbol
+  pub header : new.header ≡ old.header
+  pub gives : read ≡ Ok (raw_of new symbols)
+  pub stands : IsAt new symbols
+
+-- What taking an item returned is what reading gives, unless memory ran out.
+abbrev pub Takes : Sections → Sections → Result (Unit {0}) ReadError → Result Raw ReadError → Type 0
+Takes old new (Ok _) read = GoesOn old new read
+Takes old new (Err error) read = Fails error read

@@ -1,0 +1,66 @@
+//! The order of the gates.
+ghost use Rattle.std.specs.Prelude.{◌≡◌, ◌<◌, ◌≤◌, ◌^◌, length, map, All, IfOk};
+ghost use Rattle.gate_order.specs.Order.{ordered, IsOrder, AreReadsInFile};
+ghost use Rattle.ascii_file.specs.Answering.{Gives};
+ghost use Rattle.aag_text.specs.Arranging as arranging;
+ghost use Rattle.aag_text.specs.Arranging.{gate_read, order_or_cycle, AreRanks, AreDistinct, IsGateBelow};
+
+use aig_graph::{Gate, Lit, NoMemory};
+use file_words::ReadError;
+use gate_order::{Reads, gate_order};
+use std::alloc::Global;
+
+/// The place in the file of the gate that the literal reads.
+fn gate_place(first: u32, lit: Lit) -> Option<u32>
+    ensures { result ≡ gate_read first lit }
+{
+    if lit.var() >= first {
+        Some(lit.var() - first)
+    } else {
+        None
+    }
+}
+
+/// What each gate reads of the others, where their variables begin with `first`.
+fn reads_of(alloc: Global, first: u32, gates: &[Gate]) -> Result<Vec<Reads>, NoMemory>
+    ensures { IfOk result (λ reads. reads.items ≡ map (arranging.reads_of first) gates.now) }
+{
+    let mut reads = Vec::with_capacity(alloc, gates.len())?;
+    for gate in gates {
+        reads.push(Reads {
+            first: gate_place(first, gate.rhs0),
+            second: gate_place(first, gate.rhs1),
+        })?;
+    }
+    Ok(reads)
+}
+
+/// The file places of the gates in the order that they take in the circuit, or `Cycle`.
+pub(crate) fn order(alloc: Global, first: u32, gates: &[Gate]) -> Result<Vec<u32>, ReadError>
+    requires few { length gates.now < 2 ^ 28 }
+    requires in_file { AreReadsInFile (map (arranging.reads_of first) gates.now) }
+    ensures { Gives (λ order. order.items) result (order_or_cycle
+        (ordered (map (arranging.reads_of first) gates.now))) }
+{
+    let Ok(reads) = reads_of(alloc, first, gates) else {
+        return Err(ReadError::NoMemory);
+    };
+    match gate_order(alloc, reads.as_slice()) {
+        Ok(Some(order)) => Ok(order),
+        Ok(None) => Err(ReadError::Cycle),
+        Err(_) => Err(ReadError::NoMemory),
+    }
+}
+
+/// The place of each number in the order.
+pub(crate) fn ranks(alloc: Global, order: &[u32]) -> Result<Vec<u32>, NoMemory>
+    requires few { length order.now < 2 ^ 28 }
+    requires distinct { AreDistinct order.now }
+    ensures { IfOk result (λ ranks. AreRanks order.now ranks.items) }
+{
+    let mut ranks = vec![in alloc; 0; order.len()]?;
+    for (rank, place) in order.iter().enumerate() {
+        ranks[*place as usize] = rank as u32;
+    }
+    Ok(ranks)
+}

@@ -1,6 +1,0 @@
-use Rattle.std.proofs.Common.{◌≡◌, take, map}
-use Rattle.ascii_circuit.specs.Arranging.{moved_latch}
-use Rattle.ascii_circuit.proofs.arranging.latches.Given as goal
-
-abbrev pub invariant-loop-latch : goal.invariant-loop-latch
-invariant-loop-latch l = l.found.items ≡ map (moved_latch l.first l.ranks) (take l.latch-index l.latches)

@@ -1,6 +1,0 @@
-use Rattle.ascii_circuit.specs.Numbering.{is_gate_placed, placed_gate}
-use Rattle.ascii_circuit.proofs.CollectingLaws.{IsMadeOf}
-use Rattle.ascii_circuit.proofs.numbering.gates.Given as goal
-
-abbrev pub invariant-loop-raw : goal.invariant-loop-raw
-invariant-loop-raw l = IsMadeOf (is_gate_placed l.places l.count) (placed_gate l.places) l.raws l.raw-index l.found.items

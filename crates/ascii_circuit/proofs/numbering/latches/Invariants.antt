@@ -1,7 +1,0 @@
-use Rattle.ascii_file.specs.declared.raw.RawLatch.{RawLatch}
-use Rattle.ascii_circuit.specs.Numbering.{is_placed, placed_latch}
-use Rattle.ascii_circuit.proofs.CollectingLaws.{IsMadeOf}
-use Rattle.ascii_circuit.proofs.numbering.latches.Given as goal
-
-abbrev pub invariant-loop-latch : goal.invariant-loop-latch
-invariant-loop-latch l = IsMadeOf (λ (latch : RawLatch). is_placed l.places l.count latch.next) (placed_latch l.places) l.raws l.latch-index l.found.items

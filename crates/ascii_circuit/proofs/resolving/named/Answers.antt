@@ -1,4 +1,0 @@
-use Rattle.ascii_circuit.proofs.resolving.named.Goals as goal
-
-pub new-requires : goal.new-requires
-new-requires c = rw (c.in_ok-symbols.ensures) c.requires

@@ -1,6 +1,0 @@
-pub mod CountLaws
-pub mod KeepLaws
-pub mod ClampLaws
-pub mod LineLaws
-pub mod PlaceLaws
-pub mod TakeLaws

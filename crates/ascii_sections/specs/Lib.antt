@@ -1,3 +1,0 @@
-pub mod Items
-pub mod Standing
-pub mod Taking

@@ -1,0 +1,84 @@
+-- The next item by the contents.
+use Rattle.std.proofs.Common.{ℕ, ◌+◌, ◌*◌, ◌<◌, ◌≤◌, ◌≡◌, length, Bool, true, false, cond, nat_lt, refl, sym, ap, ap₂, ◌∙◌, arith}
+use Rattle.std.specs.List.{sum}
+use Rattle.std.proofs.lemmas.Bool.{cond-false, le-ltb, ltb-true, ltb-false}
+use Rattle.std.proofs.lemmas.List.{length-map}
+use Rattle.ascii_file.specs.declared.header.Header.{Header}
+use Rattle.ascii_file.specs.declared.raw.Section.{Section}
+use Rattle.ascii_file.specs.declared.raw.Section.TheVariants.{Inputs, Latches, Safety, Sizes, Liveness, Gates, Symbols}
+use Rattle.ascii_file.specs.Raw.{Raw, safety_count, liveness_count}
+use Rattle.ascii_file.specs.Reading as ascii
+use Rattle.binary_file.specs.Items.{next_section, next_latch, next_gate}
+use Rattle.binary_reader.specs.Contents.{Contents, latch_of, gate_of, IsAt, section_of, latch_literal, gate_literal}
+
+-- the section of the next item
+pub section_is : (c : Contents) (h : Header) (raw : Raw) → IsAt c h raw → section_of c ≡ next_section h raw
+unfolding next_section ascii.next_section
+section_is c h raw is =
+    ap section_of is
+    ∙ ap₂ (λ (m n : ℕ). cond (nat_lt m h.latches) Latches (cond (nat_lt (length raw.safety) (safety_count h)) Safety (cond (nat_lt (length raw.sizes) h.justice) Sizes
+    (cond (nat_lt (length raw.liveness) (liveness_count h raw)) Liveness (cond (nat_lt n h.gates) Gates Symbols)))))
+    (length-map raw.latches latch_of) (length-map raw.gates gate_of)
+    ∙ sym (cond-false (nat_lt (length raw.inputs) 0) Inputs _ (le-ltb (length raw.inputs) 0 (omega arith)))
+
+-- the literals of the next latch and of the next gate
+pub latch_literal_is : (c : Contents) (h : Header) (raw : Raw) → IsAt c h raw → latch_literal c ≡ next_latch h raw
+latch_literal_is c h raw is = ap latch_literal is ∙ ap (λ (n : ℕ). 2 * (h.inputs + 1 + n)) (length-map raw.latches latch_of)
+
+pub gate_literal_is : (c : Contents) (h : Header) (raw : Raw) → IsAt c h raw → gate_literal c ≡ next_gate h raw
+gate_literal_is c h raw is = ap gate_literal is ∙ ap (λ (n : ℕ). 2 * (h.inputs + h.latches + 1 + n)) (length-map raw.gates gate_of)
+
+-- the first section with room, by whether each has
+abbrev first_with_room : Bool → Bool → Bool → Bool → Bool → Section
+first_with_room a b c d e = cond a Latches (cond b Safety (cond c Sizes (cond d Liveness (cond e Gates Symbols))))
+
+latches_have_room : (a b c d e : Bool) → first_with_room a b c d e ≡ Latches → a ≡ true
+latches_have_room true b c d e is = refl
+latches_have_room false true c d e is = absurd cc
+latches_have_room false false true d e is = absurd cc
+latches_have_room false false false true e is = absurd cc
+latches_have_room false false false false true is = absurd cc
+latches_have_room false false false false false is = absurd cc
+
+-- of latches there are fewer than the header says where they come next
+pub latch_room : (c : Contents) → section_of c ≡ Latches → length c.latches < c.header.latches
+latch_room c is = ltb-true _ _ (latches_have_room _ _ _ _ _ is)
+
+gates_have_room : (a b c d e : Bool) → first_with_room a b c d e ≡ Gates → e ≡ true
+gates_have_room true b c d e is = absurd cc
+gates_have_room false true c d e is = absurd cc
+gates_have_room false false true d e is = absurd cc
+gates_have_room false false false true e is = absurd cc
+gates_have_room false false false false true is = refl
+gates_have_room false false false false false is = absurd cc
+
+-- and so of gates
+pub gate_room : (c : Contents) → section_of c ≡ Gates → length c.gates < c.header.gates
+gate_room c is = ltb-true _ _ (gates_have_room _ _ _ _ _ is)
+
+none_has_room : (a b c d e : Bool) → first_with_room a b c d e ≡ Symbols → (a ≡ false) × (b ≡ false) × (c ≡ false) × (d ≡ false) × (e ≡ false)
+none_has_room true b c d e is = absurd cc
+none_has_room false true c d e is = absurd cc
+none_has_room false false true d e is = absurd cc
+none_has_room false false false true e is = absurd cc
+none_has_room false false false false true is = absurd cc
+none_has_room false false false false false is = (refl, refl, refl, refl, refl)
+
+-- no section is short where symbols come next
+pub record AreFull (c : Contents) : Type 0 where
+  pub latches : c.header.latches ≤ length c.latches
+  pub safety : safety_count c.header ≤ length c.properties.safety
+  pub sizes : c.header.justice ≤ length c.properties.sizes
+  pub liveness : sum c.properties.sizes + c.header.fairness ≤ length c.properties.liveness
+  pub gates : c.header.gates ≤ length c.gates
+
+pub are_full : (c : Contents) → section_of c ≡ Symbols → AreFull c
+are_full c is =
+    let full = none_has_room _ _ _ _ _ is in
+    record {
+      latches = ltb-false _ _ full.0;
+      safety = ltb-false _ _ full.1;
+      sizes = ltb-false _ _ full.2;
+      liveness = ltb-false _ _ full.3;
+      gates = ltb-false _ _ full.4;
+    }

@@ -1,4 +1,0 @@
-pub mod Contents
-pub mod Kept
-pub mod Taking
-pub mod Items

@@ -1,5 +1,0 @@
-use Rattle.binary_writer.proofs.RoundTripLaws.{the_round_trip_law}
-use Rattle.binary_writer.proofs.laws.round_trip_law.Goals as goal
-
-pub returns : goal.returns
-returns c = the_round_trip_law

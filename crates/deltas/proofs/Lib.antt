@@ -1,2 +1,0 @@
-pub mod DeltaLaws
-mod Examples

@@ -1,5 +1,0 @@
-use Rattle.std.proofs.Common.{length}
-use Rattle.deltas.proofs.decode.+value.Given as goal
-
-abbrev pub decreases-value : goal.decreases-value
-decreases-value l = length l.before.now

@@ -1,8 +1,0 @@
-use Rattle.deltas.proofs.DeltaLaws.{delta_laws, ends_once}
-use Rattle.deltas.proofs.laws.delta_laws.Goals as goal
-
-pub returns-clause-spelled : goal.returns-clause-spelled
-returns-clause-spelled c = delta_laws
-
-pub returns-clause-once : goal.returns-clause-once
-returns-clause-once c = ends_once

@@ -1,2 +1,0 @@
-pub mod Deltas
-pub mod Laws

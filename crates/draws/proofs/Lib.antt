@@ -1,5 +1,0 @@
-pub mod WeightLaws
-pub mod StepLaws
-pub mod GatheringLaws
-pub mod PlaceLaws
-mod CounterLaws

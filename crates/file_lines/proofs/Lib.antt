@@ -1,4 +1,0 @@
-pub mod RowLaws
-pub mod HeaderLaws
-pub mod SymbolLaws
-pub mod WithinLaws

@@ -1,6 +1,0 @@
-pub mod Rows
-pub mod Open
-pub mod Limits
-pub mod Header
-pub mod Named
-pub mod Symbols

@@ -1,3 +1,0 @@
-pub mod NameLaws
-pub mod PartLaws
-pub mod SplitLaws

@@ -1,3 +1,0 @@
-pub mod Names
-pub mod Lists
-pub mod Parts

@@ -1,0 +1,45 @@
+-- What options make of a circuit.
+use Rattle.std.specs.Prelude.{ℕ, ◌≡◌, List}
+use Rattle.aig_graph.specs.Circuits.{Netlist}
+use Rattle.aig_graph.specs.Streams.{SameStreams}
+use Rattle.clean.specs.declared.cleaning.Cleaned.{Cleaned}
+use Rattle.retimed_circuits.specs.declared.report.Retimed.{Retimed}
+use Rattle.retimed_circuits.specs.Frames.{CleansIn, IsHelpingSet, NoneSmaller, moved_in}
+use Rattle.retimed_circuits.specs.Names.{held_latches}
+use Rattle.retimed_circuits.specs.Retiming.{IsRetimed}
+use Rattle.tidy.specs.Tidy.{IsTidyIn}
+use Rattle.frames.specs.declared.options.Options.{Options}
+use Rattle.frames.specs.Named.{names_in}
+
+-- r is c retimed by the options
+abbrev pub IsRetimedBy : Options → Netlist → Retimed → Type 0
+IsRetimedBy options c r = IsRetimed options.choice c (names_in options) options.max_frames options.certify r
+
+-- no closed set counts less than c has known latches
+abbrev pub NoneSmallerBy : Options → Netlist → Type 0
+NoneSmallerBy options c = NoneSmaller (names_in options) c
+
+-- s is c's chosen least set, and counts less than c has known latches
+abbrev pub IsHelpingSetBy : Options → Netlist → List ℕ → Type 0
+IsHelpingSetBy options c s = IsHelpingSet options.choice (names_in options) c s
+
+-- nothing is left to clean
+abbrev pub IsTidyBy : Options → Netlist → Type 0
+IsTidyBy options c = IsTidyIn (names_in options) c
+
+-- d has c's streams and the latches that the options hold in c, and nothing is left to clean in it; kept has the places of the
+-- free latches that stay
+pub record Keeps (options : Options) (c d : Netlist) (kept : List ℕ) : Type 0 where
+  pub streams : SameStreams c d kept
+  pub held : held_latches (names_in options) d ≡ held_latches (names_in options) c
+  pub tidy : IsTidyBy options d
+
+-- d is c cleaned, where the latches stay that the options hold
+pub record IsCleanedBy (options : Options) (c : Netlist) (d : Cleaned) : Type 0 where
+  pub cleaned : CleansIn (names_in options) c d.circuit d.kept_free
+  pub keeps : Keeps options c d.circuit d.kept_free
+
+-- d is c with its latches moved over the set, and cleaned
+pub record IsMovedBy (options : Options) (c : Netlist) (set : List ℕ) (d : Cleaned) : Type 0 where
+  pub cleaned : CleansIn (names_in options) (moved_in (names_in options) c set) d.circuit d.kept_free
+  pub keeps : Keeps options c d.circuit d.kept_free

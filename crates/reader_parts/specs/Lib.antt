@@ -1,0 +1,10 @@
+pub mod Rows
+pub mod Open
+pub mod Limits
+pub mod Header
+pub mod Named
+pub mod Symbols
+pub mod Names
+pub mod Lists
+pub mod Parts
+pub mod Places

@@ -1,2 +1,0 @@
-pub mod Spellings
-pub mod Laws

@@ -1,0 +1,100 @@
+-- What the value of a literal within a step is, by what it is of: in any state, reachable or not.
+use Rattle.std.proofs.Common.{ℕ, ◌+◌, ◌-◌, ◌*◌, ◌%◌, ◌<◌, ◌≡◌, length, Some, arith, Bool, false, not, ◌&&◌, slice_get, ap, sym, ◌∙◌, ne_eqb}
+use Rattle.std.proofs.lemmas.Bool.{cond-true, cond-false, lt-ltb, le-ltb}
+use Rattle.std.proofs.lemmas.Option.{slice_get_within}
+use Rattle.aig_graph.specs.declared.graph.Gate.{Gate}
+use Rattle.aig_graph.specs.declared.graph.Latch.{Latch}
+use Rattle.aig_graph.specs.Graph.{Graph, IsGraph, variable, first_latch, first_gate, latch_at, gate_at}
+use Rattle.aig_graph.specs.Folding.{fold_gates}
+use Rattle.aig_graph.specs.Value.{value_within, leaf_value, signed, conjunction, next_value}
+use Rattle.aig_graph.proofs.FoldingLaws.{gate_at-before, gate_at-first_gate, fold_gates-leaf, fold_gates-gate}
+use Rattle.aig_graph.proofs.KindLaws.{GatePlace, LatchPlace, gate_place, latch_place}
+use Rattle.state_maps.specs.States.{State, Digits, after_step}
+
+variable-even : (v : ℕ) → variable (2 * v) ≡ v
+variable-even v = omega arith
+
+variable-odd : (v : ℕ) → variable (2 * v + 1) ≡ v
+variable-odd v = omega arith
+
+signed-even : (v : ℕ) (b : Bool) → signed (2 * v) b ≡ b
+signed-even v b = let even : (2 * v) % 2 ≡ 0 = omega arith in rw even
+
+signed-odd : (v : ℕ) (b : Bool) → signed (2 * v + 1) b ≡ not b
+signed-odd v b = let odd : (2 * v + 1) % 2 ≡ 1 = omega arith in rw odd
+
+module _ (g : Graph) (inputs latches : ℕ → Bool) where
+  leaf-input : (i : ℕ) → i < g.inputs → leaf_value g inputs latches (1 + i) ≡ inputs i
+  leaf-input i h =
+      let place : 1 + i - 1 ≡ i = omega arith in
+      cond-false _ _ _ (ne_eqb (1 + i) 0 (omega arith)) ∙ cond-true _ _ _ (lt-ltb (1 + i) (first_latch g) (omega arith)) ∙ ap inputs place
+
+  leaf-latch : (j : ℕ) → leaf_value g inputs latches (first_latch g + j) ≡ latches j
+  leaf-latch j =
+      let place : first_latch g + j - first_latch g ≡ j = omega arith in
+      cond-false _ _ _ (ne_eqb (first_latch g + j) 0 (omega arith)) ∙ cond-false _ _ _ (le-ltb (first_latch g + j) (first_latch g) (omega arith)) ∙ ap latches place
+
+  within-even : (v : ℕ) → value_within g inputs latches (2 * v) ≡ fold_gates g (leaf_value g inputs latches) conjunction v
+  within-even v = signed-even v (fold_gates g (leaf_value g inputs latches) conjunction (variable (2 * v))) ∙ ap (fold_gates g (leaf_value g inputs latches) conjunction) (variable-even v)
+
+  within-odd : (v : ℕ) → value_within g inputs latches (2 * v + 1) ≡ not (value_within g inputs latches (2 * v))
+  within-odd v =
+      signed-odd v (fold_gates g (leaf_value g inputs latches) conjunction (variable (2 * v + 1)))
+      ∙ ap (λ w. not (fold_gates g (leaf_value g inputs latches) conjunction w)) (variable-odd v)
+      ∙ ap not (sym (within-even v))
+
+  within-constant : value_within g inputs latches 0 ≡ false
+  within-constant = fold_gates-leaf g (leaf_value g inputs latches) conjunction 0 (gate_at-before g 0 (omega arith))
+
+  within-input : (i : ℕ) → i < g.inputs → value_within g inputs latches (2 * (1 + i)) ≡ inputs i
+  within-input i h =
+      within-even (1 + i) ∙ fold_gates-leaf g (leaf_value g inputs latches) conjunction (1 + i) (gate_at-before g (1 + i) (omega arith)) ∙ leaf-input i h
+
+  within-latch : (j : ℕ) → j < length g.latches → value_within g inputs latches (2 * (first_latch g + j)) ≡ latches j
+  within-latch j h =
+      within-even (first_latch g + j) ∙ fold_gates-leaf g (leaf_value g inputs latches) conjunction (first_latch g + j) (gate_at-before g (first_latch g + j) (omega arith)) ∙ leaf-latch j
+
+  within-gate : IsGraph g → (k : ℕ) (gate : Gate) → slice_get g.gates k ≡ Some gate
+      → value_within g inputs latches (2 * (first_gate g + k)) ≡ (value_within g inputs latches gate.rhs0 && value_within g inputs latches gate.rhs1)
+  within-gate valid k gate e =
+      within-even (first_gate g + k) ∙ fold_gates-gate g valid (leaf_value g inputs latches) conjunction (first_gate g + k) gate (gate_at-first_gate g k ∙ e)
+
+-- values of literals within a step
+pub record WithinLaws (g : Graph) (x : Digits) (s : State) (values : ℕ → Bool) : Type 0 where
+  pub constant : values 0 ≡ false
+  pub input : (i : ℕ) → i < g.inputs → values (2 * (1 + i)) ≡ x i
+  pub latch : (j : ℕ) (latch : Latch) → slice_get g.latches j ≡ Some latch → values (2 * (first_latch g + j)) ≡ s j
+  pub gate : (k : ℕ) (gate : Gate) → slice_get g.gates k ≡ Some gate → values (2 * (first_gate g + k)) ≡ (values gate.rhs0 && values gate.rhs1)
+  pub negation : (v : ℕ) → values (2 * v + 1) ≡ not (values (2 * v))
+
+-- the laws of the values in any state
+pub within_laws : (g : Graph) → IsGraph g → (x : Digits) (s : State) → WithinLaws g x s (value_within g x s)
+within_laws g valid x s = record {
+  constant = within-constant g x s;
+  input = λ i h. within-input g x s i h;
+  latch = λ j latch e. within-latch g x s j (slice_get_within g.latches j latch e);
+  gate = λ k gate e. within-gate g x s valid k gate e;
+  negation = λ v. within-odd g x s v;
+}
+
+-- the value of a latch, a step later, and of a gate, by its variable
+pub within-latch_at : (g : Graph) → IsGraph g → (x : Digits) (s : State) (v : ℕ) (latch : Latch) → latch_at g v ≡ Some latch → value_within g x s (2 * v) ≡ s (v - first_latch g)
+within-latch_at g valid x s v latch e =
+    let place : LatchPlace g v latch = latch_place g v latch e in
+    let here : 2 * v ≡ 2 * (first_latch g + (v - first_latch g)) = omega arith in
+    ap (value_within g x s) here ∙ (within_laws g valid x s).latch (v - first_latch g) latch place.there
+
+-- what a latch holds a step later is its next literal's value
+pub later-latch_at : (g : Graph) → IsGraph g → (x y : Digits) (s : State) (v : ℕ) (latch : Latch) → latch_at g v ≡ Some latch
+    → value_within g y (after_step g x s) (2 * v) ≡ value_within g x s latch.next
+later-latch_at g valid x y s v latch e =
+    let place : LatchPlace g v latch = latch_place g v latch e in
+    within-latch_at g valid y (after_step g x s) v latch e ∙ ap (next_value (value_within g x s)) place.there
+
+-- the value of a gate, by its variable
+pub within-gate_at : (g : Graph) → IsGraph g → (x : Digits) (s : State) (v : ℕ) (gate : Gate) → gate_at g v ≡ Some gate
+    → value_within g x s (2 * v) ≡ (value_within g x s gate.rhs0 && value_within g x s gate.rhs1)
+within-gate_at g valid x s v gate e =
+    let place : GatePlace g v gate = gate_place g v gate e in
+    let here : 2 * v ≡ 2 * (first_gate g + (v - first_gate g)) = omega arith in
+    ap (value_within g x s) here ∙ (within_laws g valid x s).gate (v - first_gate g) gate place.there

@@ -1,0 +1,91 @@
+"""Retimes AIGER circuits by the program `fretime`, which was proved to meet its contracts.
+
+    import fretime
+    answer = fretime.retime(circuit)       # bytes of an .aig or .aag file
+    answer.circuit, answer.frames, answer.report
+
+The program is the one beside this module, where there is one, else the one on the path; `FRETIME` in the environment names another.
+Each call runs it once, on pipes and files of its own, so calls may be made from several threads.
+"""
+import dataclasses
+import json
+import os
+import pathlib
+import shutil
+import subprocess
+import tempfile
+
+BESIDE = pathlib.Path(__file__).resolve().parent / 'fretime_program'
+
+
+class RetimeError(Exception):
+    """A circuit or a name was refused, or the run failed: `name` as `docs/FORMAT.md` has it ('DefinedTwice', 'NoSuchName',
+    'NoMemory', 'Device', 'Usage'), `offset` in bytes from the start of the circuit or None, `latch` the name that is that of no
+    latch or None, and the exit status."""
+
+    def __init__(self, name, offset=None, latch=None, status=None):
+        super().__init__(name if offset is None else f'{name} at {offset}', *([latch] if latch else []))
+        self.name, self.offset, self.latch, self.status = name, offset, latch, status
+
+
+@dataclasses.dataclass(frozen=True)
+class Frame:
+    """A move of latches forward: the known latches before and right after it, and the gates that they moved over."""
+    before: int
+    after: int
+    gates: int
+
+
+@dataclasses.dataclass(frozen=True)
+class Retimed:
+    """The circuit that was written, its frames, the text of the certificates where they were asked for, and the report of
+    `retime --json` as a dictionary (`docs/reports.schema.json`)."""
+    circuit: bytes
+    frames: tuple
+    certificates: bytes | None
+    report: dict
+
+
+def program():
+    """The path of the program."""
+    found = os.environ.get('FRETIME') or (str(BESIDE) if BESIDE.exists() else shutil.which('fretime'))
+    if not found:
+        raise FileNotFoundError('there is no program fretime on the path')
+    return found
+
+
+def refused(run, report):
+    """The error of a run that failed. Where no memory was left for an object, the status alone tells."""
+    if report is None:
+        return RetimeError({1: 'Refused', 2: 'Usage', 3: 'Device', 4: 'NoMemory'}.get(run.returncode, 'Ended'), status=run.returncode)
+    fault = report['fault']
+    return RetimeError(fault['name'], fault['offset'], report['latch'], report['status'])
+
+
+def report_of(text):
+    """The object among the lines of standard error, if it is there."""
+    lines = [line for line in text.splitlines() if line.startswith(b'{')]
+    return json.loads(lines[-1]) if lines else None
+
+
+def retime(circuit, *, near=False, keep=(), frames=None, workers=1, ascii=None, certificates=False, seconds=None):
+    """The circuit with its latches moved forward, frame by frame, until no move leaves fewer.
+
+    `near` takes the smallest of a frame's least sets, `keep` holds the latches with these names, `frames` is the most that are taken,
+    `ascii` chooses the spelling (that of the circuit where it is None). A run of over `seconds` raises subprocess.TimeoutExpired.
+    A circuit that is refused, a name of no latch, or want of memory raises RetimeError.
+    """
+    words = [program(), 'retime', '-', '-', '--json', '--quiet', '--workers', str(workers)]
+    words += ['--near'] * near + [f'--keep={name}' for name in keep]
+    words += [] if frames is None else ['--frames', str(frames)]
+    words += [] if ascii is None else ['--ascii' if ascii else '--binary']
+    with tempfile.TemporaryDirectory(prefix='fretime-') as folder:
+        written = pathlib.Path(folder, 'certificates')
+        words += ['--cert', str(written)] * certificates
+        run = subprocess.run(words, input=circuit, capture_output=True, timeout=seconds, check=False)
+        report = report_of(run.stderr)
+        if run.returncode != 0 or report is None:
+            raise refused(run, report)
+        text = written.read_bytes() if certificates else None
+    taken = tuple(Frame(**frame) for frame in report['frames'])
+    return Retimed(run.stdout, taken, text, report)
