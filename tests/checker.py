@@ -149,8 +149,10 @@ def moved(c, members):
 
 def objection(c, block):
     """Why a block doesn't show that its gates are a least set with its count, or None."""
-    members, passable, outside = set(block.gates), c.passable(), c.read_outside(c.passable())
+    members, known, passable = set(block.gates), c.known(), c.passable()
+    within = members | c.latches.keys()
     fan_ins = {v: {lit // 2 for lit in lits} for v, lits in c.gates.items()}
+    outside = c.read_outside(passable)
 
     def is_step(here, there):
         """A point is a variable and its side: '-' is before a gate, '+' after a gate or a latch."""
@@ -161,11 +163,11 @@ def objection(c, block):
 
     def is_route(points):
         (first, side), (last, last_side) = points[0], points[-1]
-        ends = side == last_side == '+' and first in c.known() and last in outside
+        ends = side == last_side == '+' and first in known and last in outside
         return ends and all(map(is_step, points, points[1:]))
 
     after = [v for points in block.routes for v, side in points if side == '+']
-    if block.gates != sorted(members) or not all(v in passable and fan_ins[v] <= members | c.latches.keys() for v in members):
+    if block.gates != sorted(members) or not all(v in passable and fan_ins[v] <= within for v in members):
         return 'NotClosed'
     if not all(map(is_route, block.routes)):
         return 'BadRoute'
