@@ -66,6 +66,18 @@ def outputs(count):
     return header(1, 0, count, 0) + '2\n' + '2\n' * count
 
 
+def properties(outputs, bad):
+    """Outputs and bad states that read the constant, but for the first output, which reads the one input."""
+    return f'aag 1 1 0 {outputs} 0 {bad}\n2\n2\n' + '0\n' * (outputs - 1 + bad)
+
+
+def drawn_properties(outputs, bad):
+    """The picture of that: a note for each property, with an edge from what it reads."""
+    names = [f'o{k}' for k in range(outputs)] + [f'b{k}' for k in range(bad)]
+    notes = [f'{name} [shape=note];\n{0 if k else 2} -> {name};\n' for k, name in enumerate(names)]
+    return 'digraph circuit {\nrankdir=LR;\nnode [shape=plaintext];\n2 [shape=cds,label=i0];\n' + ''.join(notes) + '}\n'
+
+
 def delta(number):
     """Groups of seven bits, the lowest first; all but the last have the eighth bit."""
     groups = []
@@ -146,6 +158,6 @@ def bare_sequences(count):
 
 
 GENERATORS = {it.__name__: it for it in (
-    chain, chain_in_binary, pair_then_chain, pair_then_chain_moved, backward, refused_early, outputs, zeros, empty, long_literal,
-    alternating_stimulus, alternating_trace, sequences, bare_sequences, entries, entries_and_a_bad_one,
+    chain, chain_in_binary, pair_then_chain, pair_then_chain_moved, backward, refused_early, outputs, properties, drawn_properties,
+    zeros, empty, long_literal, alternating_stimulus, alternating_trace, sequences, bare_sequences, entries, entries_and_a_bad_one,
 )}
