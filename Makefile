@@ -1,6 +1,6 @@
 # make            the program: the release, or where that is of other sources it is proved and built (./fretime --build)
 # make test       the program from outside; make prove: every proof from nothing first
-# make install    program, man page, completions and documents below PREFIX; make uninstall takes them away
+# make install    programs, man pages, completions and documents below PREFIX; make uninstall takes them away
 # make deb        a Debian package of the same, out/fretime_VERSION_amd64.deb
 # make version    the version, which stands in the program's command line alone
 
@@ -10,11 +10,16 @@ ZSHDIR = $(PREFIX)/share/zsh/site-functions
 FISHDIR = $(PREFIX)/share/fish/vendor_completions.d
 MANDIR = $(PREFIX)/share/man/man1
 DOCDIR = $(PREFIX)/share/doc/fretime
+DATADIR = $(PREFIX)/share/fretime
 # of this version
 DATE = 2026-11-23
 
 VERSION := $(shell sed -n 's/.*\.version("\([^"]*\)").*/\1/p' crates/*/src/*.rt)
-INSTALLED = $(PREFIX)/bin/fretime $(MANDIR)/fretime.1 $(BASHDIR)/fretime $(ZSHDIR)/_fretime $(FISHDIR)/fretime.fish $(DOCDIR)
+INSTALLED = $(addprefix $(PREFIX)/bin/,$(COMMANDS)) $(addprefix $(MANDIR)/,$(COMMANDS:=.1)) $(BASHDIR)/fretime $(ZSHDIR)/_fretime \
+	$(FISHDIR)/fretime.fish $(DATADIR) $(DOCDIR)
+COMMANDS = fretime fretime_verilog
+# the script from Verilog to Verilog, and its modules, which the examples lead to
+SCRIPTS = fretime_verilog circuits.py netlists.py writing.py
 STAGE = out/deb
 PACKAGE = out/fretime_$(VERSION)_amd64.deb
 FILLED = sed -e 's/@VERSION@/$(VERSION)/' -e 's/@DATE@/$(DATE)/' -e "s/@TIME@/$$(LC_ALL=C date -u -R -d $(DATE))/"
@@ -32,11 +37,12 @@ version:
 	@echo $(VERSION)
 
 install: all
-	install -d $(DESTDIR)$(PREFIX)/bin $(DESTDIR)$(MANDIR) $(DESTDIR)$(BASHDIR) $(DESTDIR)$(ZSHDIR) $(DESTDIR)$(FISHDIR)
+	install -d $(DESTDIR)$(PREFIX)/bin $(DESTDIR)$(MANDIR) $(DESTDIR)$(BASHDIR) $(DESTDIR)$(ZSHDIR) $(DESTDIR)$(FISHDIR) \
+		$(DESTDIR)$(DATADIR)
 	install -d $(addprefix $(DESTDIR)$(DOCDIR)/,docs/pictures tests $(addprefix examples/,cluster match verilog))
 	install -m 755 "$$(release/make --program)" $(DESTDIR)$(PREFIX)/bin/fretime
-	$(FILLED) install/fretime.1 > $(DESTDIR)$(MANDIR)/fretime.1
-	chmod 644 $(DESTDIR)$(MANDIR)/fretime.1
+	for name in $(COMMANDS); do $(FILLED) install/$$name.1 > $(DESTDIR)$(MANDIR)/$$name.1; done
+	chmod 644 $(addprefix $(DESTDIR)$(MANDIR)/,$(COMMANDS:=.1))
 	install -m 644 install/fretime.bash $(DESTDIR)$(BASHDIR)/fretime
 	install -m 644 install/_fretime $(DESTDIR)$(ZSHDIR)/_fretime
 	install -m 644 install/fretime.fish $(DESTDIR)$(FISHDIR)/fretime.fish
@@ -46,8 +52,11 @@ install: all
 	install -m 644 examples/*.aag examples/*.py $(DESTDIR)$(DOCDIR)/examples
 	install -m 755 examples/cluster/* $(DESTDIR)$(DOCDIR)/examples/cluster
 	install -m 644 examples/match/*.v examples/match/*.ys examples/match/*.stim $(DESTDIR)$(DOCDIR)/examples/match
-	install -m 644 examples/verilog/*.* $(DESTDIR)$(DOCDIR)/examples/verilog
-	install -m 755 examples/verilog/fretime_verilog $(DESTDIR)$(DOCDIR)/examples/verilog
+	install -m 644 examples/verilog/README.md examples/verilog/*.v $(DESTDIR)$(DOCDIR)/examples/verilog
+	install -m 644 examples/verilog/*.py $(DESTDIR)$(DATADIR)
+	install -m 755 examples/verilog/fretime_verilog $(DESTDIR)$(DATADIR)
+	ln -sfr $(addprefix $(DESTDIR)$(DATADIR)/,$(SCRIPTS)) $(DESTDIR)$(DOCDIR)/examples/verilog
+	ln -sfr $(DESTDIR)$(DATADIR)/fretime_verilog $(DESTDIR)$(PREFIX)/bin
 	install -m 755 tests/checker.py $(DESTDIR)$(DOCDIR)/tests
 
 uninstall:
@@ -62,7 +71,7 @@ deb:
 	rm $(STAGE)/usr/share/doc/fretime/LICENSE-*
 	install -m 644 install/debian/copyright $(STAGE)/usr/share/doc/fretime/copyright
 	$(FILLED) install/debian/changelog | gzip -9n > $(STAGE)/usr/share/doc/fretime/changelog.gz
-	gzip -9n $(STAGE)/usr/share/man/man1/fretime.1
+	gzip -9n $(STAGE)/usr/share/man/man1/*.1
 	install -d $(STAGE)/usr/share/lintian/overrides $(STAGE)/DEBIAN
 	install -m 644 install/debian/overrides $(STAGE)/usr/share/lintian/overrides/fretime
 	cd $(STAGE) && find usr -type f | LC_ALL=C sort | xargs md5sum > DEBIAN/md5sums
