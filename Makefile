@@ -2,6 +2,8 @@
 # make test       the program from outside; make prove: every proof from nothing first
 # make install    programs, man pages, completions and documents below PREFIX; make uninstall takes them away
 # make deb        a Debian package of the same, out/fretime_VERSION_amd64.deb
+# make wheel      a wheel for Python, out/fretime-VERSION-py3-none-manylinux_2_34_x86_64.whl
+# make dist       what is installed, as a plain tar, out/fretime-VERSION-x86_64-linux.tar.gz
 # make version    the version, which stands in the program's command line alone
 
 PREFIX = /usr/local
@@ -22,6 +24,8 @@ COMMANDS = fretime fretime_verilog
 SCRIPTS = fretime_verilog circuits.py netlists.py writing.py
 STAGE = out/deb
 PACKAGE = out/fretime_$(VERSION)_amd64.deb
+TARBALL = out/fretime-$(VERSION)-x86_64-linux.tar.gz
+WHEELS = out
 FILLED = sed -e 's/@VERSION@/$(VERSION)/' -e 's/@DATE@/$(DATE)/' -e "s/@TIME@/$$(LC_ALL=C date -u -R -d $(DATE))/"
 
 all:
@@ -64,7 +68,7 @@ uninstall:
 
 # The licences stand in the file that Debian wants, and the man page and the list of changes are compressed. No file is younger than
 # DATE, so that the same tree gives the same bytes.
-deb: export SOURCE_DATE_EPOCH = $(shell date -u -d $(DATE) +%s)
+deb wheel dist: export SOURCE_DATE_EPOCH = $(shell date -u -d $(DATE) +%s)
 deb:
 	rm -rf $(STAGE)
 	$(MAKE) install DESTDIR=$(STAGE) PREFIX=/usr ZSHDIR=/usr/share/zsh/vendor-completions
@@ -80,4 +84,16 @@ deb:
 	dpkg-deb --root-owner-group --build $(STAGE) $(PACKAGE)
 	rm -rf $(STAGE)
 
-.PHONY: all test prove version install uninstall deb
+wheel:
+	install/python/wheel "$$(release/make --program)" $(VERSION) $(WHEELS)
+
+# Below one folder, with the owner root and the same time for each file.
+dist:
+	rm -rf $(STAGE)
+	$(MAKE) install DESTDIR=$(STAGE) PREFIX=/fretime-$(VERSION)
+	chmod -R u=rwX,go=rX $(STAGE)
+	tar --sort=name --owner=0 --group=0 --numeric-owner --format=ustar --mtime=@$$SOURCE_DATE_EPOCH -C $(STAGE) \
+		-c fretime-$(VERSION) | gzip -9n > $(TARBALL)
+	rm -rf $(STAGE)
+
+.PHONY: all test prove version install uninstall deb wheel dist
