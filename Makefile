@@ -1,7 +1,9 @@
 # make            the program: the release, or where that is of other sources it is proved and built (./fretime --build)
 # make test       the program from outside; make prove: every proof from nothing first
-# make install    program, man page, completions and documents below PREFIX; make uninstall takes them away
+# make install    programs, man pages, completions and documents below PREFIX; make uninstall takes them away
 # make deb        a Debian package of the same, out/fretime_VERSION_amd64.deb
+# make wheel      a wheel for Python, out/fretime-VERSION-py3-none-manylinux_2_34_x86_64.whl
+# make dist       what is installed, as a plain tar, out/fretime-VERSION-x86_64-linux.tar.gz
 # make version    the version, which stands in the program's command line alone
 
 PREFIX = /usr/local
@@ -10,13 +12,20 @@ ZSHDIR = $(PREFIX)/share/zsh/site-functions
 FISHDIR = $(PREFIX)/share/fish/vendor_completions.d
 MANDIR = $(PREFIX)/share/man/man1
 DOCDIR = $(PREFIX)/share/doc/fretime
+DATADIR = $(PREFIX)/share/fretime
 # of this version
 DATE = 2026-11-23
 
 VERSION := $(shell sed -n 's/.*\.version("\([^"]*\)").*/\1/p' crates/*/src/*.rt)
-INSTALLED = $(PREFIX)/bin/fretime $(MANDIR)/fretime.1 $(BASHDIR)/fretime $(ZSHDIR)/_fretime $(FISHDIR)/fretime.fish $(DOCDIR)
+INSTALLED = $(addprefix $(PREFIX)/bin/,$(COMMANDS)) $(addprefix $(MANDIR)/,$(COMMANDS:=.1)) $(BASHDIR)/fretime $(ZSHDIR)/_fretime \
+	$(FISHDIR)/fretime.fish $(DATADIR) $(DOCDIR)
+COMMANDS = fretime fretime_verilog
+# the script from Verilog to Verilog, and its modules, which the examples lead to
+SCRIPTS = fretime_verilog circuits.py netlists.py writing.py
 STAGE = out/deb
 PACKAGE = out/fretime_$(VERSION)_amd64.deb
+TARBALL = out/fretime-$(VERSION)-x86_64-linux.tar.gz
+WHEELS = out
 FILLED = sed -e 's/@VERSION@/$(VERSION)/' -e 's/@DATE@/$(DATE)/' -e "s/@TIME@/$$(LC_ALL=C date -u -R -d $(DATE))/"
 
 all:
@@ -32,11 +41,12 @@ version:
 	@echo $(VERSION)
 
 install: all
-	install -d $(DESTDIR)$(PREFIX)/bin $(DESTDIR)$(MANDIR) $(DESTDIR)$(BASHDIR) $(DESTDIR)$(ZSHDIR) $(DESTDIR)$(FISHDIR)
+	install -d $(DESTDIR)$(PREFIX)/bin $(DESTDIR)$(MANDIR) $(DESTDIR)$(BASHDIR) $(DESTDIR)$(ZSHDIR) $(DESTDIR)$(FISHDIR) \
+		$(DESTDIR)$(DATADIR)
 	install -d $(addprefix $(DESTDIR)$(DOCDIR)/,docs/pictures tests $(addprefix examples/,cluster match verilog))
 	install -m 755 "$$(release/make --program)" $(DESTDIR)$(PREFIX)/bin/fretime
-	$(FILLED) install/fretime.1 > $(DESTDIR)$(MANDIR)/fretime.1
-	chmod 644 $(DESTDIR)$(MANDIR)/fretime.1
+	for name in $(COMMANDS); do $(FILLED) install/$$name.1 > $(DESTDIR)$(MANDIR)/$$name.1; done
+	chmod 644 $(addprefix $(DESTDIR)$(MANDIR)/,$(COMMANDS:=.1))
 	install -m 644 install/fretime.bash $(DESTDIR)$(BASHDIR)/fretime
 	install -m 644 install/_fretime $(DESTDIR)$(ZSHDIR)/_fretime
 	install -m 644 install/fretime.fish $(DESTDIR)$(FISHDIR)/fretime.fish
@@ -46,8 +56,11 @@ install: all
 	install -m 644 examples/*.aag examples/*.py $(DESTDIR)$(DOCDIR)/examples
 	install -m 755 examples/cluster/* $(DESTDIR)$(DOCDIR)/examples/cluster
 	install -m 644 examples/match/*.v examples/match/*.ys examples/match/*.stim $(DESTDIR)$(DOCDIR)/examples/match
-	install -m 644 examples/verilog/*.* $(DESTDIR)$(DOCDIR)/examples/verilog
-	install -m 755 examples/verilog/fretime_verilog $(DESTDIR)$(DOCDIR)/examples/verilog
+	install -m 644 examples/verilog/README.md examples/verilog/*.v $(DESTDIR)$(DOCDIR)/examples/verilog
+	install -m 644 examples/verilog/*.py $(DESTDIR)$(DATADIR)
+	install -m 755 examples/verilog/fretime_verilog $(DESTDIR)$(DATADIR)
+	ln -sfr $(addprefix $(DESTDIR)$(DATADIR)/,$(SCRIPTS)) $(DESTDIR)$(DOCDIR)/examples/verilog
+	ln -sfr $(DESTDIR)$(DATADIR)/fretime_verilog $(DESTDIR)$(PREFIX)/bin
 	install -m 755 tests/checker.py $(DESTDIR)$(DOCDIR)/tests
 
 uninstall:
@@ -55,14 +68,14 @@ uninstall:
 
 # The licences stand in the file that Debian wants, and the man page and the list of changes are compressed. No file is younger than
 # DATE, so that the same tree gives the same bytes.
-deb: export SOURCE_DATE_EPOCH = $(shell date -u -d $(DATE) +%s)
+deb wheel dist: export SOURCE_DATE_EPOCH = $(shell date -u -d $(DATE) +%s)
 deb:
 	rm -rf $(STAGE)
 	$(MAKE) install DESTDIR=$(STAGE) PREFIX=/usr ZSHDIR=/usr/share/zsh/vendor-completions
 	rm $(STAGE)/usr/share/doc/fretime/LICENSE-*
 	install -m 644 install/debian/copyright $(STAGE)/usr/share/doc/fretime/copyright
 	$(FILLED) install/debian/changelog | gzip -9n > $(STAGE)/usr/share/doc/fretime/changelog.gz
-	gzip -9n $(STAGE)/usr/share/man/man1/fretime.1
+	gzip -9n $(STAGE)/usr/share/man/man1/*.1
 	install -d $(STAGE)/usr/share/lintian/overrides $(STAGE)/DEBIAN
 	install -m 644 install/debian/overrides $(STAGE)/usr/share/lintian/overrides/fretime
 	cd $(STAGE) && find usr -type f | LC_ALL=C sort | xargs md5sum > DEBIAN/md5sums
@@ -71,4 +84,16 @@ deb:
 	dpkg-deb --root-owner-group --build $(STAGE) $(PACKAGE)
 	rm -rf $(STAGE)
 
-.PHONY: all test prove version install uninstall deb
+wheel:
+	install/python/wheel "$$(release/make --program)" $(VERSION) $(WHEELS)
+
+# Below one folder, with the owner root and the same time for each file.
+dist:
+	rm -rf $(STAGE)
+	$(MAKE) install DESTDIR=$(STAGE) PREFIX=/fretime-$(VERSION)
+	chmod -R u=rwX,go=rX $(STAGE)
+	tar --sort=name --owner=0 --group=0 --numeric-owner --format=ustar --mtime=@$$SOURCE_DATE_EPOCH -C $(STAGE) \
+		-c fretime-$(VERSION) | gzip -9n > $(TARBALL)
+	rm -rf $(STAGE)
+
+.PHONY: all test prove version install uninstall deb wheel dist

@@ -6,8 +6,10 @@ usage: bench/families.py [copies COUNT] FAMILY SIZE .. > FILE
 
 The same words give the same bytes. `copies COUNT` gives so many copies of the circuit side by side, each with its own inputs.
 """
+import inspect
 import math
 import random
+import re
 import sys
 
 
@@ -272,12 +274,15 @@ def main(words):
         for name, family in FAMILIES.items():
             print(f'{name}: {family.__doc__}')
         return 0
-    count = int(words[1]) if words[:1] == ['copies'] and len(words) > 2 else 1
-    family = words[2:] if words[:1] == ['copies'] else words
-    if not family or family[0] not in FAMILIES:
+    count, family = (words[1], words[2:]) if words[:1] == ['copies'] and len(words) > 1 else ('1', words)
+    if not count.isdigit() or not family or family[0] not in FAMILIES:
         print(__doc__, file=sys.stderr)
         return 2
-    for piece in FAMILIES[family[0]](*map(int, family[1:])).pieces(count):
+    sizes = [name for name in inspect.signature(FAMILIES[family[0]]).parameters]
+    if len(family) - 1 != len(sizes) or not all(re.fullmatch('[0-9]+', word) for word in family[1:]):
+        print(f'{family[0]} takes these numbers: {" ".join(sizes)}', file=sys.stderr)
+        return 2
+    for piece in FAMILIES[family[0]](*map(int, family[1:])).pieces(int(count)):
         sys.stdout.buffer.write(piece)
     return 0
 

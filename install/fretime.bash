@@ -1,11 +1,37 @@
 # Completions of fretime for bash.
 
-# The names of the latches of a file that begin with a word.
+# A word without the quotes that it was typed in. Nothing of it is run or expanded but a home folder.
+_fretime_plain() {
+    local word=$1
+    case $word in
+        \'* | \"*) word=${word:1} word=${word%[\'\"]} ;;
+        '~/'*) word=$HOME/${word:2} word=${word//\\/} ;;
+        *) word=${word//\\/} ;;
+    esac
+    printf '%s\n' "$word"
+}
+
+# The circuit that is read: the first word after the command that is no option, nor the value of one.
+_fretime_circuit() {
+    local word is_value=
+    for word in "${COMP_WORDS[@]:2:COMP_CWORD-2}"; do
+        case $is_value$word in
+            --workers | --frames | --keep | --cert | --around | --depth) is_value=yes ;;
+            --* | yes=) ;;
+            yes*) is_value= ;;
+            *) _fretime_plain "$word"; return ;;
+        esac
+    done
+}
+
+# The names of a kind in the circuit (l is that of latches) that begin with a word, quoted as the word needs it.
 _fretime_names() {
-    local name
+    local name start form=%q
+    start=$(_fretime_plain "$2")
+    case $2 in \'* | \"*) form=%s ;; esac
     while IFS= read -r name; do
-        if [[ $name == "$2"* ]]; then printf '%s\n' "$name"; fi
-    done < <(grep -a '^l[0-9]* ' -- "$1" 2> /dev/null | cut -d ' ' -f 2-)
+        if [[ $name == "$start"* ]]; then printf "$form\n" "$name"; fi
+    done < <(grep -a "^[$1][0-9]* " -- "$(_fretime_circuit)" 2> /dev/null | cut -d ' ' -f 2-)
 }
 
 _fretime() {
@@ -41,10 +67,14 @@ _fretime() {
     esac
     case $before in
         --keep)
-            mapfile -t COMPREPLY < <(_fretime_names "${COMP_WORDS[2]}" "$word")
+            mapfile -t COMPREPLY < <(_fretime_names l "$word")
             return
             ;;
-        --workers | --frames | --around | --depth) return ;;
+        --around)
+            mapfile -t COMPREPLY < <(_fretime_names ilobcjf "$word")
+            return
+            ;;
+        --workers | --frames | --depth) return ;;
     esac
     case $word in
         -*) mapfile -t COMPREPLY < <(compgen -W "$options" -- "$word") ;;

@@ -1,9 +1,19 @@
 # Completions of fretime for fish.
 
-# The names of the latches of IN, the word after the command.
+# The names of a kind in the circuit that is read, which is the first word after the command that is no option, nor the value of one.
 function __fretime_names
-    set -l words (commandline -opc)
-    grep -a '^l[0-9]* ' -- $words[3] 2> /dev/null | string replace -r '^l[0-9]* ' ''
+    set -l is_value no
+    for word in (commandline -opc)[3..-1]
+        if test $is_value = yes
+            set is_value no
+        else if string match -qr '^--(workers|frames|keep|cert|around|depth)$' -- $word
+            set is_value yes
+        else if not string match -q -- '--*' $word
+            set -l circuit (string replace -r '^~/' "$HOME/" -- $word)
+            grep -a "^[$argv[1]][0-9]* " -- $circuit 2> /dev/null | string replace -r '^[a-z][0-9]* ' ''
+            return
+        end
+    end
 end
 
 complete -c fretime -n __fish_use_subcommand -f -a retime -d 'Moves latches forward over gates, frame by frame, until none helps'
@@ -54,6 +64,9 @@ complete -c fretime -n '__fish_seen_subcommand_from dot' -x -l keep -d 'Hold eac
 complete -c fretime -n '__fish_seen_subcommand_from dot' -x -l around -d 'Draw the neighbourhood of the input, latch or property with this name alone'
 complete -c fretime -n '__fish_seen_subcommand_from dot' -x -l depth -d 'How many edges the neighbourhood reaches'
 
-complete -c fretime -n '__fish_seen_subcommand_from retime verify dot' -x -l keep -a '(__fretime_names)'
+complete -c fretime -n '__fish_seen_subcommand_from retime verify dot' -x -l keep -a '(__fretime_names l)' \
+    -d 'Hold each latch with this name in its place; may be given more than once'
+complete -c fretime -n '__fish_seen_subcommand_from dot' -x -l around -a '(__fretime_names ilobcjf)' \
+    -d 'Draw the neighbourhood of the input, latch or property with this name alone'
 
 complete -c fretime -n '__fish_seen_subcommand_from explain' -f -a 'BadHeader TooLarge MaxIndex BadLine BadLiteral DefinedTwice Undefined Cycle BadReset BadDelta Truncated BadSymbol Trailing Width TooMany NoSuchProperty NoSuchName TooManyNodes NotClosed BadRoute UsedTwice CountDiffers'

@@ -92,10 +92,14 @@ is_release_fit() {
         { file_states > "$states"; } 2> /dev/null || true
     fi
     why=
-    if ! is_of_these_sources; then
+    if ! [ -f "$release" ]; then
+        why="there is no ${release#"$top/"}"
+    elif ! is_of_these_sources; then
         why="the release is of other sources"
     elif ! is_as_recorded; then
         why="the release isn't the program that was recorded"
+    elif ! [ -x "$release" ]; then
+        why="${release#"$top/"} may not be run (its mode, or the mount's)"
     elif ! "$release" --version > /dev/null 2>&1; then
         why="the release doesn't run on this system (it needs glibc 2.34 or later)"
     elif [ -s "$states" ]; then

@@ -15,7 +15,7 @@ from copies import copy
 from tree import TOP
 
 OWN = ('./fretime', 'fretime')
-OTHERS = ('yosys', 'berkeley-abc', 'sed', 'python3')
+OTHERS = ('yosys', 'berkeley-abc', 'sed', 'python3', 'fretime_verilog')
 
 
 @dataclasses.dataclass
@@ -82,6 +82,7 @@ def on_the_path(program, folder):
     if not place.exists():
         place.mkdir()
         (place / 'fretime').symlink_to(program)
+        (place / 'fretime_verilog').symlink_to(TOP / 'examples' / 'verilog' / 'fretime_verilog')
     return place
 
 
@@ -155,7 +156,8 @@ def can_run(command, folder):
     if name in OWN:
         return all((folder / circuit).exists() for circuit in circuits[:1])
     files = circuits if name == 'berkeley-abc' else re.findall(r'(\S+) >', command) if name == 'sed' else []
-    return shutil.which(name) is not None and all((folder / file).exists() for file in files)
+    needed = ('yosys', 'berkeley-abc') if name == 'fretime_verilog' else (name,)
+    return all(shutil.which(it) for it in needed) and all((folder / file).exists() for file in files)
 
 
 def faults_of_block(program, path, folder, shown, number):

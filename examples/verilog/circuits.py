@@ -1,5 +1,5 @@
 """Circuits of ASCII AIGER as the script needs them: read, and written with other inputs in binary. They have inputs, latches,
-outputs and gates: Yosys writes no other properties of the netlists that are accepted."""
+outputs, gates, and for assertions bad states and constraints: Yosys writes no other properties of the netlists that are accepted."""
 import dataclasses
 
 
@@ -13,11 +13,13 @@ class Latch:
 
 @dataclasses.dataclass
 class Circuit:
-    """A circuit: variables of inputs, latches, literals of outputs, gates (variable and two literals), symbols of latches and of
-    outputs by their positions."""
+    """A circuit: variables of inputs, latches, literals of outputs, of bad states and of constraints, gates (variable and two
+    literals), symbols of latches and of outputs by their positions."""
     inputs: list
     latches: list
     outputs: list
+    bad: list
+    constraints: list
     gates: list
     symbols: dict
     output_symbols: dict
@@ -26,11 +28,12 @@ class Circuit:
 def read(path):
     """The circuit of an ASCII file."""
     lines = path.read_text().splitlines()
-    _, inputs, latches, outputs, gates = map(int, lines[0].split()[1:6])
+    _, inputs, latches, outputs, gates, bad, constraints = counts_of(lines)
     rows = iter(lines[1:])
     take = lambda count: [list(map(int, next(rows).split())) for _ in range(count)]
     circuit = Circuit([row[0] >> 1 for row in take(inputs)], [latch_of(*row) for row in take(latches)],
-                      [row[0] for row in take(outputs)], [(row[0] >> 1, *row[1:]) for row in take(gates)], {}, {})
+                      *([row[0] for row in take(count)] for count in (outputs, bad, constraints)),
+                      [(row[0] >> 1, *row[1:]) for row in take(gates)], {}, {})
     for row in rows:
         if row == 'c':
             break
@@ -40,6 +43,12 @@ def read(path):
     return circuit
 
 
+def counts_of(lines):
+    """The numbers of the header: the greatest variable, inputs, latches, outputs, gates, bad states and constraints."""
+    numbers = list(map(int, lines[0].split()[1:8]))
+    return numbers + [0] * (7 - len(numbers))
+
+
 def latch_of(literal, following, reset=0):
     return Latch(literal >> 1, following, None if reset == literal else reset)
 
@@ -47,8 +56,7 @@ def latch_of(literal, following, reset=0):
 def with_symbols(path, symbols):
     """The text of an ASCII file, with these symbols of latches alone."""
     lines = path.read_text().splitlines()
-    numbers = list(map(int, lines[0].split()[1:6]))
-    body = lines[:1 + sum(numbers[1:])]
+    body = lines[:1 + sum(counts_of(lines)[1:])]
     return '\n'.join(body + [f'l{place} {name}' for place, name in enumerate(symbols)]) + '\n'
 
 
@@ -71,15 +79,18 @@ def delta(number):
     return bytes(groups + bytes([number]))
 
 
-def binary(circuit, order, outputs):
+def binary(circuit, order, outputs, sequential):
     """The bytes of a binary file of the circuit, with its inputs in this order, and these literals as outputs. Every latch has a
-    reset of 0."""
+    reset of 0. ABC compares with `dsec` only circuits that both have latches: where a sequential one is asked for, a circuit without
+    a latch gets one that nothing reads."""
     literal = renumbered(circuit, order)
-    counts = len(order), len(circuit.latches), len(outputs), len(circuit.gates)
+    spare = int(sequential and not circuit.latches)
+    shift = lambda old: (literal(old) + 2 * spare if literal(old) >> 1 > len(order) else literal(old))
+    counts = len(order), len(circuit.latches) + spare, len(outputs), len(circuit.gates)
     lines = [f'aig {counts[0] + counts[1] + counts[3]} {" ".join(map(str, counts))}']
-    lines += [str(literal(latch.following)) for latch in circuit.latches] + [str(literal(output)) for output in outputs]
+    lines += ['0'] * spare + [str(shift(latch.following)) for latch in circuit.latches] + [str(shift(output)) for output in outputs]
     written = bytearray(('\n'.join(lines) + '\n').encode())
     for variable, *fanins in circuit.gates:
-        larger, smaller = sorted(map(literal, fanins), reverse=True)
-        written += delta(literal(variable * 2) - larger) + delta(larger - smaller)
+        larger, smaller = sorted(map(shift, fanins), reverse=True)
+        written += delta(shift(variable * 2) - larger) + delta(larger - smaller)
     return bytes(written)

@@ -1,13 +1,18 @@
 """Netlists of Yosys: what of a netlist can't be kept, and the names of its registers."""
 import dataclasses
+import re
 
 LATCHES = {'$dlatch', '$adlatch', '$dlatchsr', '$sr'}
 CLOCKED = {'$dff', '$dffe', '$sdff', '$sdffe', '$sdffce'}
 RESETS = {'$adff', '$adffe'}
 LOADS = {'$aldff', '$aldffe', '$dffsr', '$dffsre'}
 # Cells that are no logic: they can't be written as gates.
-REFUSED = {'$tribuf', '$assert', '$assume', '$cover', '$live', '$fair', '$ff', '$anyconst', '$anyseq', '$allconst', '$allseq',
+REFUSED = {'$tribuf', '$cover', '$live', '$fair', '$ff', '$anyconst', '$anyseq', '$allconst', '$allseq',
            '$initstate', '$specify2', '$specify3', '$specrule', '$print', '$equiv'}
+
+
+# Cells of assertions, which become bad states and constraints.
+ASSERTIONS = {'$assert': 'assert', '$assume': 'assume'}
 
 
 class Refused(Exception):
@@ -30,6 +35,20 @@ class Names:
     that of a wire, with the place of the bit in it, from 0."""
     all_names: list
     kept: list
+
+    def registers(self):
+        """For each latch the names of its registers."""
+        return [{name.removesuffix('$held') for name, _ in names} for names in self.all_names]
+
+
+@dataclasses.dataclass(frozen=True)
+class Assertion:
+    """An assertion or an assumption: 'assert' or 'assume', the name of its cell, the label that it gets, and once it is written the
+    wire that says whether it holds."""
+    kind: str
+    name: str
+    label: str
+    wire: str = ''
 
 
 class Netlist:
@@ -73,8 +92,8 @@ def refuse_cells(netlist):
     for name, port in netlist.ports.items():
         if port['direction'] == 'inout':
             raise Refused('Inout', f'{name}: a port is input or output')
-    if not any(port['direction'] == 'output' for port in netlist.ports.values()):
-        raise Refused('NoOutput', 'the top module has no output')
+    if not any(port['direction'] == 'output' for port in netlist.ports.values()) and not netlist.cells_of(ASSERTIONS):
+        raise Refused('NoOutput', 'the top module has no output, and no assertion')
     for _, cell in netlist.cells_of(LATCHES):
         raise Refused('Latch', f'{netlist.output_of(cell)}: a latch has no clock')
     for name, cell in netlist.cells.items():
@@ -179,3 +198,42 @@ def outputs_of(netlist, circuit):
     if len(shown) < len(bits) or sorted(found) != list(range(len(circuit.outputs))) or set(found.values()) != set(bits):
         raise Refused('Names', 'the bits of the outputs can\'t be told apart by their names')
     return found
+
+
+def is_set(attribute):
+    return '1' in str(attribute)
+
+
+def kept_names(netlist):
+    """The names of the wires, registers among them, with the attribute keep."""
+    return {name for name, wire in netlist.wires.items() if not wire['hide_name'] and is_set(wire['attributes'].get('keep', 0))}
+
+
+def registers_without_a_value(netlist):
+    """The names of registers of which a bit has no initial value, each once."""
+    known = set()
+    for wire in netlist.wires.values():
+        values = reversed(wire['attributes'].get('init', ''))
+        known.update(bit for bit, value in zip(wire['bits'], values) if value in '01')
+    clocked = [bit for _, cell in netlist.cells_of(CLOCKED | RESETS) for bit in cell['connections']['Q']]
+    names = [preferred(netlist, netlist.named[bit]) for bit in clocked if bit not in known and bit in netlist.named]
+    return list(dict.fromkeys(names))
+
+
+def assertions_of(netlist):
+    """The assertions and assumptions, with labels that no name of the design is."""
+    taken, found = set(netlist.wires) | set(netlist.cells), []
+    for number, (name, cell) in enumerate(netlist.cells_of(ASSERTIONS), 1):
+        kind = ASSERTIONS[cell['type']]
+        label = f'{kind}_{number}' if cell['hide_name'] else re.sub(r'\W', '_', name)
+        while label in taken and label != name:
+            label += '_'
+        taken.add(label)
+        found.append(Assertion(kind, name, label))
+    return found
+
+
+def labels_of(netlist):
+    """The labels of a netlist whose assertions are named, those of each kind in the order of the circuit that Yosys writes."""
+    return [name for _, cells in (('assert', netlist.cells_of({'$assert'})), ('assume', netlist.cells_of({'$assume'})))
+            for name, _ in cells]

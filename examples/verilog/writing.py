@@ -2,6 +2,8 @@
 import dataclasses
 import itertools
 
+import netlists
+
 
 @dataclasses.dataclass
 class Register:
@@ -71,7 +73,8 @@ class Registers:
 
 
 def identifier(name):
-    return '\\' + name
+    """A name as RTLIL has it. (Yosys itself leaves the backslash before names that begin with a digit, a backslash or $.)"""
+    return name if name.startswith('\\') else '\\' + name
 
 
 def declared(name, wire, *more):
@@ -149,7 +152,26 @@ def output_literals(circuit, outputs):
     return {name: [bits[bit] for bit in range(len(bits))] for name, bits in literals.items()}
 
 
-def rtlil(top, netlist, registers, circuit, found, clock):
+class Assertions:
+    """The assertions of the retimed circuit: a wire for each, and the literal that says that it holds."""
+
+    def __init__(self, netlist, registers, circuit, assertions):
+        by_label = {it.label: it for it in assertions}
+        named = [by_label[label] for label in netlists.labels_of(netlist)]
+        literals = [literal ^ 1 for literal in circuit.bad] + circuit.constraints
+        self.found, self.literals = [], literals
+        for it in named:
+            wire = registers.fresh(f'{it.label}_holds')
+            registers.taken.add(wire)
+            self.found.append(dataclasses.replace(it, wire=wire))
+
+    def write(self, module):
+        for it, literal in zip(self.found, self.literals, strict=True):
+            module.wires.append(f'  wire {identifier(it.wire)}')
+            module.cells.append(f'  connect {identifier(it.wire)} {module.signal(literal)}')
+
+
+def rtlil(top, netlist, registers, circuit, found, clock, assertions):
     """The text of the module."""
     module = Module(netlist, registers, circuit, found)
     module.add_gates()
@@ -165,4 +187,5 @@ def rtlil(top, netlist, registers, circuit, found, clock):
         if name not in own:
             signals = [module.signal(literal) for literal in literals]
             module.cells.append(f'  connect {identifier(name)} {joined(signals)}')
+    assertions.write(module)
     return '\n'.join([f'module {identifier(top)}', *module.wires, *module.cells, 'end', ''])

@@ -4,16 +4,21 @@
     answer = fretime.retime(circuit)       # bytes of an .aig or .aag file
     answer.circuit, answer.frames, answer.report
 
-The program is the one beside this module, where there is one, else the one on the path; `FRETIME` in the environment names another.
+The program is the one beside this module, as a wheel has it, else the one on the path; `FRETIME` in the environment names another.
 Each call runs it once, on pipes and files of its own, so calls may be made from several threads.
 """
+from __future__ import annotations
+
 import dataclasses
 import json
 import os
 import pathlib
 import shutil
 import subprocess
+import sys
 import tempfile
+from collections.abc import Iterable
+from typing import Any
 
 BESIDE = pathlib.Path(__file__).resolve().parent / 'fretime_program'
 
@@ -23,7 +28,7 @@ class RetimeError(Exception):
     'NoMemory', 'Device', 'Usage'), `offset` in bytes from the start of the circuit or None, `latch` the name that is that of no
     latch or None, and the exit status."""
 
-    def __init__(self, name, offset=None, latch=None, status=None):
+    def __init__(self, name: str, offset: int | None = None, latch: str | None = None, status: int | None = None) -> None:
         super().__init__(name if offset is None else f'{name} at {offset}', *([latch] if latch else []))
         self.name, self.offset, self.latch, self.status = name, offset, latch, status
 
@@ -41,12 +46,12 @@ class Retimed:
     """The circuit that was written, its frames, the text of the certificates where they were asked for, and the report of
     `retime --json` as a dictionary (`docs/reports.schema.json`)."""
     circuit: bytes
-    frames: tuple
+    frames: tuple[Frame, ...]
     certificates: bytes | None
-    report: dict
+    report: dict[str, Any]
 
 
-def program():
+def program() -> str:
     """The path of the program."""
     found = os.environ.get('FRETIME') or (str(BESIDE) if BESIDE.exists() else shutil.which('fretime'))
     if not found:
@@ -54,7 +59,7 @@ def program():
     return found
 
 
-def refused(run, report):
+def refused(run: subprocess.CompletedProcess[bytes], report: dict[str, Any] | None) -> RetimeError:
     """The error of a run that failed. Where no memory was left for an object, the status alone tells."""
     if report is None:
         return RetimeError({1: 'Refused', 2: 'Usage', 3: 'Device', 4: 'NoMemory'}.get(run.returncode, 'Ended'), status=run.returncode)
@@ -62,13 +67,14 @@ def refused(run, report):
     return RetimeError(fault['name'], fault['offset'], report['latch'], report['status'])
 
 
-def report_of(text):
+def report_of(text: bytes) -> dict[str, Any] | None:
     """The object among the lines of standard error, if it is there."""
     lines = [line for line in text.splitlines() if line.startswith(b'{')]
     return json.loads(lines[-1]) if lines else None
 
 
-def retime(circuit, *, near=False, keep=(), frames=None, workers=1, ascii=None, certificates=False, seconds=None):
+def retime(circuit: bytes, *, near: bool = False, keep: Iterable[str] = (), frames: int | None = None, workers: int = 1,
+           ascii: bool | None = None, certificates: bool = False, seconds: float | None = None) -> Retimed:
     """The circuit with its latches moved forward, frame by frame, until no move leaves fewer.
 
     `near` takes the smallest of a frame's least sets, `keep` holds the latches with these names, `frames` is the most that are taken,
@@ -89,3 +95,8 @@ def retime(circuit, *, near=False, keep=(), frames=None, workers=1, ascii=None, 
         text = written.read_bytes() if certificates else None
     taken = tuple(Frame(**frame) for frame in report['frames'])
     return Retimed(run.stdout, taken, text, report)
+
+
+def main() -> None:
+    """The command `fretime` of a wheel: becomes the program, with the same arguments."""
+    os.execv(program(), ['fretime', *sys.argv[1:]])

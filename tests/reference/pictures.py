@@ -63,13 +63,19 @@ def neighbourhood(c, name, depth):
 
 
 def edge_lines(lits, to, drawn):
-    return [f'{lit // 2 * 2} -> {to}{" [arrowhead=odot]" if lit & 1 else ""};' for lit in lits if lit // 2 in drawn]
+    return [f'{lit // 2 * 2} -> {to}{" [arrowhead=odot]" * (lit & 1)}{" [style=dashed]" * (lit // 2 not in drawn)};' for lit in lits]
+
+
+LEGEND = ['labeljust=l;', 'fontsize=10;', 'label="' + ''.join(line + r'\l' for line in (
+    "dot: negated; dashed arrow: from a literal that isn't drawn", 'box: latch and its reset; dashed box: without one; double box: held',
+    'circle: gate, by its literal; gray: no latch can move over it', 'blue: latches move over it next; bold: holds a latch afterwards',
+)) + '";']
 
 
 def picture(c, held, members, drawn):
     """The lines of a picture; `members` is the set that is shown, or None."""
     bold = set() if members is None else set(border(c, members, held))
-    passing, lines = set(passable(c, held)), ['digraph circuit {', 'rankdir=LR;', 'node [shape=plaintext];']
+    passing, lines = set(passable(c, held)), ['digraph circuit {', 'rankdir=LR;', 'node [shape=plaintext];', *LEGEND]
     lines += [f'{2 * v} [shape=cds,label=i{v - 1}];' for v in range(1, 1 + c.inputs) if v in drawn]
     for v, lits in edges(c):
         if v not in drawn:

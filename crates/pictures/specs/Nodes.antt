@@ -1,5 +1,5 @@
 -- The lines of nodes and edges.
-use Rattle.std.specs.Prelude.{ℕ, ◌-◌, ◌*◌, ◌%◌, ◌==◌, Bool, List, [], ◌∷◌, ◌++◌, decimal, codes, if◌then◌else◌}
+use Rattle.std.specs.Prelude.{ℕ, ◌-◌, ◌*◌, ◌%◌, ◌==◌, Bool, not, List, [], ◌∷◌, ◌++◌, decimal, codes, if◌then◌else◌}
 use Rattle.std.specs.List.{flat_map}
 use Rattle.aig_graph.specs.Graph.{variable}
 use Rattle.aig_graph.specs.declared.graph.Latch.{Latch}
@@ -18,16 +18,15 @@ unfoldable pub node_name : Node → List ℕ
 node_name (Variable v) = decimal (2 * v)
 node_name (Property letter position) = letter ∷ decimal position
 
--- the edge from a literal's variable to a node, with a dot at its end where the literal is a negation
-unfoldable pub edge_line : Node → ℕ → List ℕ
-edge_line to lit = node_name (Variable (variable lit)) ++ (codes " -> " ++ (node_name to ++ (only_if (lit % 2 == 1) (codes " [arrowhead=odot]") ++ codes ";\n")))
-
--- the edge, where its literal's variable is drawn
-unfoldable pub drawn_edge : (ℕ → Bool) → Node → ℕ → List ℕ
-drawn_edge drawn to lit = only_if (drawn (variable lit)) (edge_line to lit)
+-- the edge from a literal's variable to a node: with a dot at its end where the literal is a negation, dashed where the variable isn't
+-- drawn, whose literal alone stands there then
+unfoldable pub edge_line : (ℕ → Bool) → Node → ℕ → List ℕ
+edge_line drawn to lit =
+    node_name (Variable (variable lit)) ++ (codes " -> " ++ (node_name to ++ (only_if (lit % 2 == 1) (codes " [arrowhead=odot]")
+    ++ (only_if (not (drawn (variable lit))) (codes " [style=dashed]") ++ codes ";\n"))))
 
 abbrev pub edges : (ℕ → Bool) → Node → List ℕ → List ℕ
-edges drawn to lits = flat_map (drawn_edge drawn to) lits
+edges drawn to lits = flat_map (edge_line drawn to) lits
 
 -- an input is called by its position
 unfoldable pub input_line : ℕ → List ℕ

@@ -17,6 +17,14 @@ use Rattle.pictures.specs.Labels.{label}
 use Rattle.pictures.specs.Looks.{look_of}
 use Rattle.pictures.specs.Nodes.{only_if, node_name, edges, input_line, latch_line, gate_line, property_line}
 
+-- what the forms mean, as the caption
+unfoldable pub legend : List ℕ
+legend =
+    codes "labeljust=l;\nfontsize=10;\nlabel=\"dot: negated; dashed arrow: from a literal that isn't drawn\\l"
+    ++ (codes "box: latch and its reset; dashed box: without one; double box: held\\l"
+    ++ (codes "circle: gate, by its literal; gray: no latch can move over it\\l"
+    ++ (codes "blue: latches move over it next; bold: holds a latch afterwards\\l\";\n")))
+
 -- a name in place of a node's position
 unfoldable pub name_line : Node → List ℕ → List ℕ
 name_line node name = node_name node ++ (codes " [label=\"" ++ (label name ++ codes "\"];\n"))
@@ -86,10 +94,11 @@ module _ (look : ℕ → Look) (drawn : ℕ → Bool) where
       flat_map (variable_name 1) c.symbols.inputs ++ (flat_map (variable_name (first_latch c.aig)) c.symbols.latches
       ++ property_names c.props c.symbols)
 
-  -- the picture: nodes with the edges to them, and then the names
+  -- the picture: its caption, nodes with the edges to them, and then the names
   unfoldable pub dot_text : Netlist → List ℕ
   dot_text c =
-      codes "digraph circuit {\nrankdir=LR;\nnode [shape=plaintext];\n" ++ (graph_lines c.aig ++ (all_properties c.props ++ (all_names c ++ codes "}\n")))
+      codes "digraph circuit {\nrankdir=LR;\nnode [shape=plaintext];\n"
+      ++ (legend ++ (graph_lines c.aig ++ (all_properties c.props ++ (all_names c ++ codes "}\n"))))
 
 -- the picture of a circuit with its held latches, a set or none, and the variables that are shown
 abbrev pub picture : Netlist → List ℕ → Option (List ℕ) → (ℕ → Bool) → List ℕ

@@ -2,7 +2,7 @@ ghost use Rattle.std.specs.Prelude.{ℕ, ◌≡◌, Bool, List, Option};
 ghost use Rattle.counted_io.specs.Buffered.{Puts};
 ghost use Rattle.counted_io.specs.Output.{Writes};
 ghost use Rattle.pictures.specs.Looks.{IsViewOf};
-ghost use Rattle.pictures.specs.Pictures.{dot_text, picture};
+ghost use Rattle.pictures.specs.Pictures.{dot_text, legend, picture};
 ghost use Rattle.pictures.specs.Views.{drawn_in, look_in};
 
 use crate::graph::put_graph;
@@ -14,11 +14,24 @@ use counted_io::{Buffered, CountedWrite, WriteError};
 
 const HEAD: &[u8] = b"digraph circuit {\nrankdir=LR;\nnode [shape=plaintext];\n";
 
+/// Puts what the forms mean, as the caption of the picture.
+fn put_legend<W: CountedWrite>(out: &mut Buffered<'_, W>)
+    ensures { Puts W.output out.old out.new legend }
+{
+    out.put(
+        b"labeljust=l;\nfontsize=10;\nlabel=\"dot: negated; dashed arrow: from a literal that isn't drawn\\l",
+    );
+    out.put(b"box: latch and its reset; dashed box: without one; double box: held\\l");
+    out.put(b"circle: gate, by its literal; gray: no latch can move over it\\l");
+    out.put(b"blue: latches move over it next; bold: holds a latch afterwards\\l\";\n");
+}
+
 fn put_dot<W: CountedWrite>(out: &mut Buffered<'_, W>, circuit: &Circuit, view: &View)
     ensures { Puts W.output out.old out.new (dot_text (look_in view.now)
         (drawn_in view.now) circuit.now) }
 {
     out.put(HEAD);
+    put_legend(out);
     put_graph(out, view, circuit.aig());
     put_properties(out, view, circuit.props());
     put_names(out, view, circuit);

@@ -1,6 +1,6 @@
 ghost use Rattle.std.specs.Prelude.{◌≡◌, ◌==◌, ◌%◌, codes};
 ghost use Rattle.counted_io.specs.Buffered.{Puts};
-ghost use Rattle.pictures.specs.Nodes.{drawn_edge, edge_line, edges, node_name, only_if};
+ghost use Rattle.pictures.specs.Nodes.{edge_line, edges, node_name, only_if};
 ghost use Rattle.pictures.specs.Views.{drawn_in};
 
 use crate::look::View;
@@ -45,26 +45,20 @@ fn put_dot<W: CountedWrite>(out: &mut Buffered<'_, W>, lit: Lit)
     put_if(out, lit.is_negated(), b" [arrowhead=odot]");
 }
 
-fn put_edge<W: CountedWrite>(out: &mut Buffered<'_, W>, to: Node, lit: Lit)
-    ensures { Puts W.output out.old out.new (edge_line to lit) }
+/// Puts an edge, also from a variable that isn't drawn: it shows that something is read there.
+fn put_edge<W: CountedWrite>(out: &mut Buffered<'_, W>, view: &View, to: Node, lit: Lit)
+    ensures { Puts W.output out.old out.new (edge_line (drawn_in view.now) to lit) }
 {
-    put_node(out, Node::Variable(lit.var()));
+    let from = lit.var();
+    put_node(out, Node::Variable(from));
     out.put(b" -> ");
     put_node(out, to);
     put_dot(out, lit);
+    put_if(out, !view.draws(from), b" [style=dashed]");
     out.put(b";\n");
 }
 
-/// Puts an edge where its literal's variable is drawn.
-fn put_drawn_edge<W: CountedWrite>(out: &mut Buffered<'_, W>, view: &View, to: Node, lit: Lit)
-    ensures { Puts W.output out.old out.new (drawn_edge (drawn_in view.now) to lit) }
-{
-    if view.draws(lit.var()) {
-        put_edge(out, to, lit);
-    }
-}
-
-/// Puts the edges to a node from those of the literals whose variables are drawn.
+/// Puts the edges to a node from all of the literals.
 pub(crate) fn put_edges<W: CountedWrite>(
     out: &mut Buffered<'_, W>,
     view: &View,
@@ -74,6 +68,6 @@ pub(crate) fn put_edges<W: CountedWrite>(
     ensures { Puts W.output out.old out.new (edges (drawn_in view.now) to lits.now) }
 {
     for lit in lits {
-        put_drawn_edge(out, view, to, *lit);
+        put_edge(out, view, to, *lit);
     }
 }

@@ -6,5 +6,6 @@ use Rattle.pictures.proofs.node.put_edge.Goals as goal
 pub returns : goal.returns
 unfolding edge_line
 returns g c =
-    rw c.var.ensures.variable at
-    (puts-then c.put_node.ensures (puts-then {xs = codes " -> "} c.put.ensures (puts-then c.put_node-2.ensures (puts-then c.put_dot.ensures c.put-2.ensures))))
+    rw c.var-from.ensures.variable at
+    (puts-then c.put_node.ensures (puts-then {xs = codes " -> "} c.put.ensures (puts-then c.put_node-2.ensures (puts-then c.put_dot.ensures
+    (puts-then (rw c.draws.ensures at c.put_if.ensures) c.put-2.ensures)))))
