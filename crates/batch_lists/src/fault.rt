@@ -18,7 +18,7 @@ pub enum ListError {
 }
 
 impl ListError {
-    ghost use Rattle.batch_lists.specs.Codes.{code_of};
+    ghost use Rattle.batch_lists.specs.Codes.{code_of, name_of, offset_of};
 
     /// The number of the kind of fault.
     pub fn code(self) -> u8
@@ -28,6 +28,27 @@ impl ListError {
             ListError::BadLine(_) => 1,
             ListError::TooLarge(_) => 2,
             ListError::NoMemory => 3,
+        }
+    }
+
+    /// The name, as messages and reports have it.
+    pub fn name(self) -> &'static str
+        ensures { result.now ≡ name_of self }
+    {
+        match self {
+            ListError::BadLine(_) => "BadLine",
+            ListError::TooLarge(_) => "TooLarge",
+            ListError::NoMemory => "NoMemory",
+        }
+    }
+
+    /// The offset of the first byte of the line at fault, where it has one.
+    pub fn offset(self) -> Option<u64>
+        ensures { result ≡ offset_of self }
+    {
+        match self {
+            ListError::BadLine(at) | ListError::TooLarge(at) => Some(at),
+            ListError::NoMemory => None,
         }
     }
 }

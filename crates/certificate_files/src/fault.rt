@@ -24,7 +24,7 @@ pub enum CertError {
 }
 
 impl CertError {
-    ghost use Rattle.certificate_files.specs.Codes.{code_of};
+    ghost use Rattle.certificate_files.specs.Codes.{code_of, name_of, offset_of};
 
     /// The number of the kind of fault, from 1 on.
     pub fn code(self) -> u8
@@ -36,6 +36,32 @@ impl CertError {
             CertError::TooLarge(_) => 3,
             CertError::Truncated(_) => 4,
             CertError::NoMemory => 5,
+        }
+    }
+
+    /// The name, as messages and reports have it.
+    pub fn name(self) -> &'static str
+        ensures { result.now ≡ name_of self }
+    {
+        match self {
+            CertError::BadHeader(_) => "BadHeader",
+            CertError::BadLine(_) => "BadLine",
+            CertError::TooLarge(_) => "TooLarge",
+            CertError::Truncated(_) => "Truncated",
+            CertError::NoMemory => "NoMemory",
+        }
+    }
+
+    /// The offset of the first byte of the line at fault, where it has one.
+    pub fn offset(self) -> Option<u64>
+        ensures { result ≡ offset_of self }
+    {
+        match self {
+            CertError::BadHeader(at)
+            | CertError::BadLine(at)
+            | CertError::TooLarge(at)
+            | CertError::Truncated(at) => Some(at),
+            CertError::NoMemory => None,
         }
     }
 }

@@ -15,26 +15,6 @@ use std::rt::Files;
 use std::{fs, io};
 use stream_paths::Source;
 
-/// The fault of a circuit that an error of reading is, and the offset of its line, if it has one.
-fn fault_of(error: ReadError) -> Option<(Fault, Option<u64>)> {
-    match error {
-        ReadError::BadHeader(at) => Some((Fault::BadHeader, Some(at))),
-        ReadError::TooLarge(at) => Some((Fault::TooLarge, Some(at))),
-        ReadError::MaxIndex(at) => Some((Fault::MaxIndex, Some(at))),
-        ReadError::BadLine(at) => Some((Fault::BadLine, Some(at))),
-        ReadError::BadLiteral(at) => Some((Fault::BadLiteral, Some(at))),
-        ReadError::DefinedTwice(at) => Some((Fault::DefinedTwice, Some(at))),
-        ReadError::Undefined => Some((Fault::Undefined, None)),
-        ReadError::Cycle => Some((Fault::Cycle, None)),
-        ReadError::BadReset(at) => Some((Fault::BadReset, Some(at))),
-        ReadError::BadDelta(at) => Some((Fault::BadDelta, Some(at))),
-        ReadError::Truncated(at) => Some((Fault::Truncated, Some(at))),
-        ReadError::BadSymbol(at) => Some((Fault::BadSymbol, Some(at))),
-        ReadError::Trailing(at) => Some((Fault::Trailing, Some(at))),
-        ReadError::NoMemory | ReadError::Device => None,
-    }
-}
-
 /// Whether what a failure names is a file that can be read again: not standard input, whose name is `stdin`, and no pipe, since
 /// opening one again would wait for a writer.
 fn can_be_read_again<R: Files>(rt: &R, name: &str) -> bool {
@@ -55,10 +35,10 @@ fn put_fault<R: Files, W: CountedWrite>(
     error: ReadError,
     out: &mut Buffered<'_, W>,
 ) {
-    let Some((fault, offset)) = fault_of(error) else {
+    let Some(fault) = Fault::named(error.name()) else {
         return;
     };
-    if let Some(offset) = offset {
+    if let Some(offset) = error.offset() {
         if can_be_read_again(rt, path) {
             put_line(rt, alloc, path, offset, out);
         }

@@ -1,5 +1,5 @@
--- The faults: their numbers, whose they are, and those of a reader that was not read to its end.
-use Rattle.std.specs.Prelude.{ℕ, Bool, true, false}
+-- The faults: their numbers, names and offsets, whose they are, and those of a reader that was not read to its end.
+use Rattle.std.specs.Prelude.{ℕ, Bool, true, false, List, Option, Some, None, codes}
 use Rattle.counted_io.specs.declared.reading.ReadAllError.{ReadAllError}
 use Rattle.counted_io.specs.declared.reading.ReadAllError.TheVariants as reading
 use Rattle.file_words.specs.declared.fault.ReadError.{ReadError}
@@ -21,6 +21,42 @@ code_of (BadSymbol at) = 12
 code_of (Trailing at) = 13
 code_of NoMemory = 14
 code_of Device = 15
+
+-- the name of a fault
+abbrev pub name_of : ReadError → List ℕ
+name_of (BadHeader at) = codes "BadHeader"
+name_of (TooLarge at) = codes "TooLarge"
+name_of (MaxIndex at) = codes "MaxIndex"
+name_of (BadLine at) = codes "BadLine"
+name_of (BadLiteral at) = codes "BadLiteral"
+name_of (DefinedTwice at) = codes "DefinedTwice"
+name_of Undefined = codes "Undefined"
+name_of Cycle = codes "Cycle"
+name_of (BadReset at) = codes "BadReset"
+name_of (BadDelta at) = codes "BadDelta"
+name_of (Truncated at) = codes "Truncated"
+name_of (BadSymbol at) = codes "BadSymbol"
+name_of (Trailing at) = codes "Trailing"
+name_of NoMemory = codes "NoMemory"
+name_of Device = codes "Device"
+
+-- the offset of what is at fault, where it has one
+abbrev pub offset_of : ReadError → Option ℕ
+offset_of (BadHeader at) = Some at
+offset_of (TooLarge at) = Some at
+offset_of (MaxIndex at) = Some at
+offset_of (BadLine at) = Some at
+offset_of (BadLiteral at) = Some at
+offset_of (DefinedTwice at) = Some at
+offset_of Undefined = None
+offset_of Cycle = None
+offset_of (BadReset at) = Some at
+offset_of (BadDelta at) = Some at
+offset_of (Truncated at) = Some at
+offset_of (BadSymbol at) = Some at
+offset_of (Trailing at) = Some at
+offset_of NoMemory = None
+offset_of Device = None
 
 -- whether the bytes have the fault: neither memory nor the reader has it
 abbrev pub is_fault_of_bytes : ReadError → Bool

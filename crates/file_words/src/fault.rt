@@ -59,7 +59,7 @@ pub enum ReadError {
 }
 
 impl ReadError {
-    ghost use Rattle.file_words.specs.Codes.{code_of};
+    ghost use Rattle.file_words.specs.Codes.{code_of, name_of, offset_of};
 
     /// The number of the kind of fault, from 1 on.
     pub fn code(self) -> u8
@@ -81,6 +81,50 @@ impl ReadError {
             ReadError::Trailing(_) => 13,
             ReadError::NoMemory => 14,
             ReadError::Device => 15,
+        }
+    }
+
+    /// The name, as messages and reports have it.
+    pub fn name(self) -> &'static str
+        ensures { result.now ≡ name_of self }
+    {
+        match self {
+            ReadError::BadHeader(_) => "BadHeader",
+            ReadError::TooLarge(_) => "TooLarge",
+            ReadError::MaxIndex(_) => "MaxIndex",
+            ReadError::BadLine(_) => "BadLine",
+            ReadError::BadLiteral(_) => "BadLiteral",
+            ReadError::DefinedTwice(_) => "DefinedTwice",
+            ReadError::Undefined => "Undefined",
+            ReadError::Cycle => "Cycle",
+            ReadError::BadReset(_) => "BadReset",
+            ReadError::BadDelta(_) => "BadDelta",
+            ReadError::Truncated(_) => "Truncated",
+            ReadError::BadSymbol(_) => "BadSymbol",
+            ReadError::Trailing(_) => "Trailing",
+            ReadError::NoMemory => "NoMemory",
+            ReadError::Device => "Device",
+        }
+    }
+
+    /// The offset of the first byte of the line or delta at fault, where it has one.
+    pub fn offset(self) -> Option<u64>
+        ensures { result ≡ offset_of self }
+    {
+        match self {
+            ReadError::BadHeader(at)
+            | ReadError::TooLarge(at)
+            | ReadError::MaxIndex(at)
+            | ReadError::BadLine(at)
+            | ReadError::BadLiteral(at)
+            | ReadError::DefinedTwice(at)
+            | ReadError::BadReset(at)
+            | ReadError::BadDelta(at)
+            | ReadError::Truncated(at)
+            | ReadError::BadSymbol(at)
+            | ReadError::Trailing(at) => Some(at),
+            ReadError::Undefined | ReadError::Cycle | ReadError::NoMemory | ReadError::Device =>
+                None,
         }
     }
 }

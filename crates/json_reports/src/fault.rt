@@ -1,8 +1,7 @@
-//! The names of faults, and their offsets.
+//! Why a command failed, over the faults of all kinds of files: each has its name and offset where it is declared.
 ghost use Rattle.std.specs.Prelude.{◌≡◌, IfOk};
-ghost use Rattle.reports.specs.Batches as texts;
 ghost use Rattle.serde_json.specs.View.{view};
-ghost use Rattle.json_reports.specs.Faults.{certificate_name, certificate_offset, fault_data, list_name, list_offset, stimulus_name, stimulus_offset, witness_name, witness_offset};
+ghost use Rattle.json_reports.specs.Faults.{fault_data};
 ghost use Rattle.json_reports.specs.Members.{count, or_null};
 
 use batch_lists::ListError;
@@ -34,138 +33,6 @@ pub enum Fault {
     Device,
 }
 
-fn circuit_name(fault: ReadError) -> &'static str
-    ensures { result.now ≡ texts.fault_name fault }
-{
-    match fault {
-        ReadError::BadHeader(_) => "BadHeader",
-        ReadError::TooLarge(_) => "TooLarge",
-        ReadError::MaxIndex(_) => "MaxIndex",
-        ReadError::BadLine(_) => "BadLine",
-        ReadError::BadLiteral(_) => "BadLiteral",
-        ReadError::DefinedTwice(_) => "DefinedTwice",
-        ReadError::Undefined => "Undefined",
-        ReadError::Cycle => "Cycle",
-        ReadError::BadReset(_) => "BadReset",
-        ReadError::BadDelta(_) => "BadDelta",
-        ReadError::Truncated(_) => "Truncated",
-        ReadError::BadSymbol(_) => "BadSymbol",
-        ReadError::Trailing(_) => "Trailing",
-        ReadError::NoMemory => "NoMemory",
-        ReadError::Device => "Device",
-    }
-}
-
-fn circuit_offset(fault: ReadError) -> Option<u64>
-    ensures { result ≡ texts.fault_offset fault }
-{
-    match fault {
-        ReadError::BadHeader(at)
-        | ReadError::TooLarge(at)
-        | ReadError::MaxIndex(at)
-        | ReadError::BadLine(at)
-        | ReadError::BadLiteral(at)
-        | ReadError::DefinedTwice(at)
-        | ReadError::BadReset(at)
-        | ReadError::BadDelta(at)
-        | ReadError::Truncated(at)
-        | ReadError::BadSymbol(at)
-        | ReadError::Trailing(at) => Some(at),
-        ReadError::Undefined | ReadError::Cycle | ReadError::NoMemory | ReadError::Device => None,
-    }
-}
-
-fn stimulus_name(fault: StimError) -> &'static str
-    ensures { result.now ≡ stimulus_name fault }
-{
-    match fault {
-        StimError::BadLine(_) => "BadLine",
-        StimError::Width(_) => "Width",
-        StimError::TooMany(_) => "TooMany",
-        StimError::NoMemory => "NoMemory",
-    }
-}
-
-fn stimulus_offset(fault: StimError) -> Option<u64>
-    ensures { result ≡ stimulus_offset fault }
-{
-    match fault {
-        StimError::BadLine(at) | StimError::Width(at) | StimError::TooMany(at) => Some(at),
-        StimError::NoMemory => None,
-    }
-}
-
-fn list_name(fault: ListError) -> &'static str
-    ensures { result.now ≡ list_name fault }
-{
-    match fault {
-        ListError::BadLine(_) => "BadLine",
-        ListError::TooLarge(_) => "TooLarge",
-        ListError::NoMemory => "NoMemory",
-    }
-}
-
-fn list_offset(fault: ListError) -> Option<u64>
-    ensures { result ≡ list_offset fault }
-{
-    match fault {
-        ListError::BadLine(at) | ListError::TooLarge(at) => Some(at),
-        ListError::NoMemory => None,
-    }
-}
-
-fn certificate_name(fault: CertError) -> &'static str
-    ensures { result.now ≡ certificate_name fault }
-{
-    match fault {
-        CertError::BadHeader(_) => "BadHeader",
-        CertError::BadLine(_) => "BadLine",
-        CertError::TooLarge(_) => "TooLarge",
-        CertError::Truncated(_) => "Truncated",
-        CertError::NoMemory => "NoMemory",
-    }
-}
-
-fn certificate_offset(fault: CertError) -> Option<u64>
-    ensures { result ≡ certificate_offset fault }
-{
-    match fault {
-        CertError::BadHeader(at)
-        | CertError::BadLine(at)
-        | CertError::TooLarge(at)
-        | CertError::Truncated(at) => Some(at),
-        CertError::NoMemory => None,
-    }
-}
-
-fn witness_name(fault: WitnessError) -> &'static str
-    ensures { result.now ≡ witness_name fault }
-{
-    match fault {
-        WitnessError::BadHeader(_) => "BadHeader",
-        WitnessError::BadLine(_) => "BadLine",
-        WitnessError::Width(_) => "Width",
-        WitnessError::NoSuchProperty(_) => "NoSuchProperty",
-        WitnessError::Truncated(_) => "Truncated",
-        WitnessError::Trailing(_) => "Trailing",
-        WitnessError::NoMemory => "NoMemory",
-    }
-}
-
-fn witness_offset(fault: WitnessError) -> Option<u64>
-    ensures { result ≡ witness_offset fault }
-{
-    match fault {
-        WitnessError::BadHeader(at)
-        | WitnessError::BadLine(at)
-        | WitnessError::Width(at)
-        | WitnessError::NoSuchProperty(at)
-        | WitnessError::Truncated(at)
-        | WitnessError::Trailing(at) => Some(at),
-        WitnessError::NoMemory => None,
-    }
-}
-
 impl Fault {
     ghost use Rattle.json_reports.specs.Faults.{fault_name, fault_offset};
 
@@ -174,11 +41,11 @@ impl Fault {
         ensures { result.now ≡ fault_name self }
     {
         match self {
-            Fault::Circuit(fault) => circuit_name(fault),
-            Fault::Stimulus(fault) => stimulus_name(fault),
-            Fault::FileList(fault) => list_name(fault),
-            Fault::Certificates(fault) => certificate_name(fault),
-            Fault::Witness(fault) => witness_name(fault),
+            Fault::Circuit(fault) => fault.name(),
+            Fault::Stimulus(fault) => fault.name(),
+            Fault::FileList(fault) => fault.name(),
+            Fault::Certificates(fault) => fault.name(),
+            Fault::Witness(fault) => fault.name(),
             Fault::NoSuchName => "NoSuchName",
             Fault::TooManyNodes => "TooManyNodes",
             Fault::Device => "Device",
@@ -190,11 +57,11 @@ impl Fault {
         ensures { result ≡ fault_offset self }
     {
         match self {
-            Fault::Circuit(fault) => circuit_offset(fault),
-            Fault::Stimulus(fault) => stimulus_offset(fault),
-            Fault::FileList(fault) => list_offset(fault),
-            Fault::Certificates(fault) => certificate_offset(fault),
-            Fault::Witness(fault) => witness_offset(fault),
+            Fault::Circuit(fault) => fault.offset(),
+            Fault::Stimulus(fault) => fault.offset(),
+            Fault::FileList(fault) => fault.offset(),
+            Fault::Certificates(fault) => fault.offset(),
+            Fault::Witness(fault) => fault.offset(),
             Fault::NoSuchName | Fault::TooManyNodes | Fault::Device => None,
         }
     }

@@ -1,4 +1,4 @@
-//! Faults.
+//! Why a stimulus isn't read, and why circuits aren't compared. What a report says of a fault, its name and offset, stands here.
 ghost use Rattle.std.specs.Prelude.{◌≡◌};
 
 use aig_graph::NoMemory;
@@ -23,7 +23,7 @@ pub enum StimError {
 }
 
 impl StimError {
-    ghost use Rattle.lane_sim.specs.Codes.{stim_error_code};
+    ghost use Rattle.lane_sim.specs.Codes.{stim_error_code, name_of, offset_of};
 
     /// The number of the kind of fault.
     pub fn code(self) -> u8
@@ -34,6 +34,28 @@ impl StimError {
             StimError::Width(_) => 2,
             StimError::TooMany(_) => 3,
             StimError::NoMemory => 4,
+        }
+    }
+
+    /// The name, as messages and reports have it.
+    pub fn name(self) -> &'static str
+        ensures { result.now ≡ name_of self }
+    {
+        match self {
+            StimError::BadLine(_) => "BadLine",
+            StimError::Width(_) => "Width",
+            StimError::TooMany(_) => "TooMany",
+            StimError::NoMemory => "NoMemory",
+        }
+    }
+
+    /// The offset of the first byte of the line at fault, where it has one.
+    pub fn offset(self) -> Option<u64>
+        ensures { result ≡ offset_of self }
+    {
+        match self {
+            StimError::BadLine(at) | StimError::Width(at) | StimError::TooMany(at) => Some(at),
+            StimError::NoMemory => None,
         }
     }
 }

@@ -1,6 +1,6 @@
-//! The line of a file of a batch. Names of faults stand here letter by letter, so that the clauses have the line as it is
-//! printed; `Display` gives the same names, but is only tested.
-ghost use Rattle.std.specs.Prelude.{◌≡◌, ◌++◌, decimal};
+//! The line of a file of a batch. A fault is put by its name and offset, whose clauses say each letter; what `Display` writes
+//! is only tested.
+ghost use Rattle.std.specs.Prelude.{◌++◌, decimal};
 ghost use Rattle.counted_io.specs.Buffered.{Puts};
 ghost use Rattle.counted_io.specs.Output.{Writes};
 ghost use Rattle.reports.specs.Batches.{job_line, offset_text, refusal_text, report_text};
@@ -23,47 +23,6 @@ pub enum JobReport {
     NoSuchName,
 }
 
-fn fault_name(fault: ReadError) -> &'static [u8]
-    ensures { result.now ≡ texts.fault_name fault }
-{
-    match fault {
-        ReadError::BadHeader(_) => b"BadHeader",
-        ReadError::TooLarge(_) => b"TooLarge",
-        ReadError::MaxIndex(_) => b"MaxIndex",
-        ReadError::BadLine(_) => b"BadLine",
-        ReadError::BadLiteral(_) => b"BadLiteral",
-        ReadError::DefinedTwice(_) => b"DefinedTwice",
-        ReadError::Undefined => b"Undefined",
-        ReadError::Cycle => b"Cycle",
-        ReadError::BadReset(_) => b"BadReset",
-        ReadError::BadDelta(_) => b"BadDelta",
-        ReadError::Truncated(_) => b"Truncated",
-        ReadError::BadSymbol(_) => b"BadSymbol",
-        ReadError::Trailing(_) => b"Trailing",
-        ReadError::NoMemory => b"NoMemory",
-        ReadError::Device => b"Device",
-    }
-}
-
-fn fault_offset(fault: ReadError) -> Option<u64>
-    ensures { result ≡ texts.fault_offset fault }
-{
-    match fault {
-        ReadError::BadHeader(at)
-        | ReadError::TooLarge(at)
-        | ReadError::MaxIndex(at)
-        | ReadError::BadLine(at)
-        | ReadError::BadLiteral(at)
-        | ReadError::DefinedTwice(at)
-        | ReadError::BadReset(at)
-        | ReadError::BadDelta(at)
-        | ReadError::Truncated(at)
-        | ReadError::BadSymbol(at)
-        | ReadError::Trailing(at) => Some(at),
-        ReadError::Undefined | ReadError::Cycle | ReadError::NoMemory | ReadError::Device => None,
-    }
-}
-
 fn put_offset<W: CountedWrite>(out: &mut Buffered<'_, W>, offset: Option<u64>)
     ensures { Puts W.output out.old out.new (offset_text offset) }
 {
@@ -80,8 +39,8 @@ fn put_refusal<W: CountedWrite>(out: &mut Buffered<'_, W>, fault: ReadError)
     ensures { Puts W.output out.old out.new (refusal_text fault) }
 {
     out.put(b" refused ");
-    out.put(fault_name(fault));
-    put_offset(out, fault_offset(fault));
+    out.put(fault.name().as_bytes());
+    put_offset(out, fault.offset());
     out.put_byte(b'\n');
 }
 

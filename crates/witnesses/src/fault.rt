@@ -1,3 +1,4 @@
+//! Why a witness isn't read. What a report says of a fault, its name and offset, stands here, beside the fault.
 ghost use Rattle.std.specs.Prelude.{◌≡◌};
 
 use std::alloc::{AllocError, AllocFailed};
@@ -31,7 +32,7 @@ pub enum WitnessError {
 }
 
 impl WitnessError {
-    ghost use Rattle.witnesses.specs.Codes.{code_of};
+    ghost use Rattle.witnesses.specs.Codes.{code_of, name_of, offset_of};
 
     /// The number of the kind of fault, from 1 on.
     pub fn code(self) -> u8
@@ -45,6 +46,36 @@ impl WitnessError {
             WitnessError::Truncated(_) => 5,
             WitnessError::Trailing(_) => 6,
             WitnessError::NoMemory => 7,
+        }
+    }
+
+    /// The name, as messages and reports have it.
+    pub fn name(self) -> &'static str
+        ensures { result.now ≡ name_of self }
+    {
+        match self {
+            WitnessError::BadHeader(_) => "BadHeader",
+            WitnessError::BadLine(_) => "BadLine",
+            WitnessError::Width(_) => "Width",
+            WitnessError::NoSuchProperty(_) => "NoSuchProperty",
+            WitnessError::Truncated(_) => "Truncated",
+            WitnessError::Trailing(_) => "Trailing",
+            WitnessError::NoMemory => "NoMemory",
+        }
+    }
+
+    /// The offset of the first byte of the line at fault, where it has one.
+    pub fn offset(self) -> Option<u64>
+        ensures { result ≡ offset_of self }
+    {
+        match self {
+            WitnessError::BadHeader(at)
+            | WitnessError::BadLine(at)
+            | WitnessError::Width(at)
+            | WitnessError::NoSuchProperty(at)
+            | WitnessError::Truncated(at)
+            | WitnessError::Trailing(at) => Some(at),
+            WitnessError::NoMemory => None,
         }
     }
 }
