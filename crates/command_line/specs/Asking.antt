@@ -132,3 +132,21 @@ AsksFor matches (Verify verification) = IsVerification matches verification
 AsksFor matches (Dot drawing) = IsDrawing matches drawing
 AsksFor matches (Witness input retimed witness) = IsSource matches (codes "IN") input × IsSource matches (codes "OUT") retimed × IsSource matches (codes "WITNESS") witness
 AsksFor matches (Explain name) = IsGiven matches (codes "FAULT") name
+
+-- the name of the command that does the task
+abbrev pub command_of : Task → List ℕ
+command_of (Retime retiming) = codes "retime"
+command_of (Batch batch) = codes "batch"
+command_of (Stat input json) = codes "stat"
+command_of (Convert input output spelling) = codes "convert"
+command_of (Sim input stimulus) = codes "sim"
+command_of (Same comparison) = codes "same"
+command_of (Verify verification) = codes "verify"
+command_of (Dot drawing) = codes "dot"
+command_of (Witness input retimed witness) = codes "witness"
+command_of (Explain name) = codes "explain"
+
+-- the task is that of the command with this name, by the arguments of the command
+pub record Asks (name : List ℕ) (matches : ArgMatches) (task : Task) : Type 0 where
+  pub command : command_of task ≡ name
+  pub arguments : AsksFor matches task

@@ -1,7 +1,7 @@
 //! From the matches of the command-line library to a task. Each field of a task has a function of its own, whose clause says
 //! which argument it comes from; that the library matched the words as it should is only tested.
 ghost use Rattle.std.specs.Prelude.{◌≡◌, ◌^◌, IfOk, IfSome, codes, map};
-ghost use Rattle.command_line.specs.Asking.{AsksFor, IsChoice, IsFlag, IsNumber, IsShown, IsSomeTarget, IsSource, IsSpelling, values_of};
+ghost use Rattle.command_line.specs.Asking.{Asks, AsksFor, IsChoice, IsFlag, IsNumber, IsShown, IsSomeTarget, IsSource, IsSpelling, values_of};
 ghost use Rattle.command_line.specs.StreamUses.{UsesStreamsOnce};
 ghost use Rattle.command_line.specs.declared.task.Task.TheVariants.{Dot, Retime, Verify};
 
@@ -125,7 +125,7 @@ fn retiming_task<'a>(
     alloc: Global,
     matches: &ArgMatches<'a>,
 ) -> Result<Option<Task<'a>>, AllocError>
-    ensures { IfOk result (λ found. IfSome found (AsksFor matches.now)) }
+    ensures { IfOk result (λ found. IfSome found (Asks (codes "retime") matches.now)) }
 {
     match retiming(alloc, matches)? {
         Some(retiming) => Ok(Some(Task::Retime(retiming))),
@@ -155,7 +155,7 @@ fn verification_task<'a>(
     alloc: Global,
     matches: &ArgMatches<'a>,
 ) -> Result<Option<Task<'a>>, AllocError>
-    ensures { IfOk result (λ found. IfSome found (AsksFor matches.now)) }
+    ensures { IfOk result (λ found. IfSome found (Asks (codes "verify") matches.now)) }
 {
     match verification(alloc, matches)? {
         Some(verification) => Ok(Some(Task::Verify(verification))),
@@ -186,7 +186,7 @@ fn drawing<'a>(alloc: Global, matches: &ArgMatches<'a>) -> Result<Option<Drawing
 }
 
 fn drawing_task<'a>(alloc: Global, matches: &ArgMatches<'a>) -> Result<Option<Task<'a>>, AllocError>
-    ensures { IfOk result (λ found. IfSome found (AsksFor matches.now)) }
+    ensures { IfOk result (λ found. IfSome found (Asks (codes "dot") matches.now)) }
 {
     match drawing(alloc, matches)? {
         Some(drawing) => Ok(Some(Task::Dot(drawing))),
@@ -195,7 +195,7 @@ fn drawing_task<'a>(alloc: Global, matches: &ArgMatches<'a>) -> Result<Option<Ta
 }
 
 fn batch<'a>(matches: &ArgMatches<'a>) -> Option<Task<'a>>
-    ensures { IfSome result (AsksFor matches.now) }
+    ensures { IfSome result (Asks (codes "batch") matches.now) }
 {
     Some(Task::Batch(Batch {
         list: source(matches, "LIST")?,
@@ -208,13 +208,13 @@ fn batch<'a>(matches: &ArgMatches<'a>) -> Option<Task<'a>>
 }
 
 fn statistics<'a>(matches: &ArgMatches<'a>) -> Option<Task<'a>>
-    ensures { IfSome result (AsksFor matches.now) }
+    ensures { IfSome result (Asks (codes "stat") matches.now) }
 {
     Some(Task::Stat(source(matches, "IN")?, json(matches)))
 }
 
 fn conversion<'a>(matches: &ArgMatches<'a>) -> Option<Task<'a>>
-    ensures { IfSome result (AsksFor matches.now) }
+    ensures { IfSome result (Asks (codes "convert") matches.now) }
 {
     let input = source(matches, "IN")?;
     let output = target(matches, "OUT")?;
@@ -222,13 +222,13 @@ fn conversion<'a>(matches: &ArgMatches<'a>) -> Option<Task<'a>>
 }
 
 fn simulation<'a>(matches: &ArgMatches<'a>) -> Option<Task<'a>>
-    ensures { IfSome result (AsksFor matches.now) }
+    ensures { IfSome result (Asks (codes "sim") matches.now) }
 {
     Some(Task::Sim(source(matches, "IN")?, source(matches, "STIM")?))
 }
 
 fn comparison<'a>(matches: &ArgMatches<'a>) -> Option<Task<'a>>
-    ensures { IfSome result (AsksFor matches.now) }
+    ensures { IfSome result (Asks (codes "same") matches.now) }
 {
     Some(Task::Same(Comparison {
         first: source(matches, "A")?,
@@ -239,7 +239,7 @@ fn comparison<'a>(matches: &ArgMatches<'a>) -> Option<Task<'a>>
 }
 
 fn witness<'a>(matches: &ArgMatches<'a>) -> Option<Task<'a>>
-    ensures { IfSome result (AsksFor matches.now) }
+    ensures { IfSome result (Asks (codes "witness") matches.now) }
 {
     let input = source(matches, "IN")?;
     let retimed = source(matches, "OUT")?;
@@ -247,13 +247,15 @@ fn witness<'a>(matches: &ArgMatches<'a>) -> Option<Task<'a>>
 }
 
 fn explanation<'a>(matches: &ArgMatches<'a>) -> Option<Task<'a>>
-    ensures { IfSome result (AsksFor matches.now) }
+    ensures { IfSome result (Asks (codes "explain") matches.now) }
 {
     Some(Task::Explain(matches.get_str("FAULT")?))
 }
 
 /// What the matches of a subcommand ask for, where it holds no latches by their names.
-fn task_without_names<'a>(name: &str, matches: &ArgMatches<'a>) -> Option<Task<'a>> {
+fn task_without_names<'a>(name: &str, matches: &ArgMatches<'a>) -> Option<Task<'a>>
+    ensures { IfSome result (Asks name.now matches.now) }
+{
     match name {
         "batch" => batch(matches),
         "stat" => statistics(matches),
@@ -271,7 +273,9 @@ fn task<'a>(
     alloc: Global,
     name: &str,
     matches: &ArgMatches<'a>,
-) -> Result<Option<Task<'a>>, AllocError> {
+) -> Result<Option<Task<'a>>, AllocError>
+    ensures { IfOk result (λ found. IfSome found (Asks name.now matches.now)) }
+{
     match name {
         "retime" => retiming_task(alloc, matches),
         "verify" => verification_task(alloc, matches),
