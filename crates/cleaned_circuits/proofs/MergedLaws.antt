@@ -1,5 +1,5 @@
 -- A circuit that reads what stands for what it read has the same values.
-use Rattle.std.proofs.Common.{ℕ, ◌+◌, ◌*◌, ◌<◌, ◌≡◌, suc, zero, List, length, map, Bool, ◌&&◌, Some, slice_get, refl, arith, ap, sym, ◌∙◌, subst, add-one}
+use Rattle.std.proofs.Common.{ℕ, ◌+◌, ◌*◌, ◌<◌, ◌≤◌, ◌≡◌, suc, zero, List, length, map, Bool, ◌&&◌, Some, slice_get, refl, arith, ap, sym, ◌∙◌, subst, add-one}
 use Rattle.std.proofs.lemmas.List.{length-map}
 use Rattle.std.proofs.lemmas.Option.{slice_get_within}
 use Rattle.aig_graph.specs.declared.properties.Symbol.{Symbol}
@@ -14,7 +14,7 @@ use Rattle.aig_graph.proofs.ValueLaws.{value_laws}
 use Rattle.aig_graph.proofs.SignLaws.{value_signed, value-gate_of, gate_of-ordered, gate_of-below}
 use Rattle.aig_graph.proofs.KindLaws.{kind_of, is_constant, is_input, is_latch, is_gate}
 use Rattle.aig_graph.specs.Mapped.{mapped_props}
-use Rattle.cleaned_circuits.specs.Merged.{replaced, replaced_gate, replaced_latch, replaced_graph, stands_of, merged_of}
+use Rattle.cleaned_circuits.specs.Merged.{replaced, replaced_gate, replaced_latch, replaced_graph, replaced_circuit, stands_of, merged_of}
 use Rattle.variable_tables.proofs.ListLaws.{slice_get-map_some, from_map, map-map, map-same, count_by-take_map}
 use Rattle.aig_graph.proofs.PropsLaws.{mapped-literals, mapped-props, literals_within}
 use Rattle.cleaned_circuits.proofs.StandLaws.{replaced-within, replaced_literal-value}
@@ -61,18 +61,23 @@ module _ (stands : List ℕ) (g : Graph) where
   unfolding replaced_graph
   replaced-free_before j = count_by-take_map is_free is_free (replaced_latch stands) (λ latch. refl) j g.latches
 
-module _ (g : Graph) (held : List ℕ) (valid : IsGraph g) where
-  abbrev stands : List ℕ
-  stands = stands_of g held
+-- for each literal there stands one of no later variable
+abbrev pub StandsWithin : Graph → List ℕ → Type 0
+StandsWithin g stands = (lit : ℕ) → variable lit < variables_end g → variable (replaced stands lit) ≤ variable lit
 
-  pub IsGraph-merged : IsGraph (replaced_graph (stands_of g held) g)
-  IsGraph-merged = record {
+-- for each literal there stands one of its value
+abbrev pub StandsRight : Graph → List ℕ → Type 0
+StandsRight g stands = (x : Inputs) (f : Choice) (t lit : ℕ) → variable lit < variables_end g → value g x f t (replaced stands lit) ≡ value g x f t lit
+
+module _ (g : Graph) (stands : List ℕ) (valid : IsGraph g) (within_each : StandsWithin g stands) where
+  pub IsGraph-replaced : IsGraph (replaced_graph stands g)
+  IsGraph-replaced = record {
     small = omega (arith, replaced-end stands g, valid.small);
     latches = λ j latch e.
         let from = from_latch stands g j latch e in
         let within : variable from.0.next < variables_end g = valid.latches j from.0 from.1 in
         let P : Latch → Type 0 = λ l. variable l.next < variables_end (replaced_graph stands g) in
-        subst P (sym from.2) (omega (arith, replaced-within g held valid from.0.next within, replaced-end stands g));
+        subst P (sym from.2) (omega (arith, within_each from.0.next within, replaced-end stands g));
     gates = λ k gate e.
         let from = from_gate stands g k gate e in
         let old : Gate = from.0 in
@@ -80,25 +85,25 @@ module _ (g : Graph) (held : List ℕ) (valid : IsGraph g) where
         let within : first_gate g + k < variables_end g = omega (arith, slice_get_within g.gates k old from.1) in
         let below : variable (replaced_gate stands old).rhs0 < first_gate g + k =
         gate_of-below (first_gate g + k) (replaced stands old.rhs0) (replaced stands old.rhs1)
-        (omega (arith, replaced-within g held valid old.rhs0 (omega arith))) (omega (arith, replaced-within g held valid old.rhs1 (omega arith))) in
+        (omega (arith, within_each old.rhs0 (omega arith))) (omega (arith, within_each old.rhs1 (omega arith))) in
         let P : Gate → Type 0 = λ x. IsGateAt (first_gate (replaced_graph stands g) + k) x in
         let Q : ℕ → Type 0 = λ n. IsGateAt n (replaced_gate stands old) in
         let place : first_gate g + k ≡ first_gate (replaced_graph stands g) + k = omega (arith, replaced-first_gate stands g) in
         subst P (sym from.2) (subst Q place (record { ordered = gate_of-ordered (replaced stands old.rhs0) (replaced stands old.rhs1); below = below }));
   }
 
-  module _ (x : Inputs) (f : Choice) where
+  module _ (right : StandsRight g stands) (x : Inputs) (f : Choice) where
     abbrev before : ℕ → ℕ → Bool
     before t lit = value g x f t lit
 
     abbrev after : ℕ → ℕ → Bool
-    after t lit = value (replaced_graph (stands_of g held) g) x f t lit
+    after t lit = value (replaced_graph stands g) x f t lit
 
     before-laws : ValueLaws g x f
     before-laws = value_laws g valid x f
 
-    after-laws : ValueLaws (replaced_graph (stands_of g held) g) x f
-    after-laws = value_laws (replaced_graph (stands_of g held) g) IsGraph-merged x f
+    after-laws : ValueLaws (replaced_graph stands g) x f
+    after-laws = value_laws (replaced_graph stands g) IsGraph-replaced x f
 
     -- each latch has its value
     abbrev Holds : ℕ → Type 0
@@ -109,7 +114,7 @@ module _ (g : Graph) (held : List ℕ) (valid : IsGraph g) where
 
     -- a replaced literal has the value of the literal, where the variable that it reads has its value
     replaced-same : (t lit : ℕ) → variable lit < variables_end g → after t (2 * variable (replaced stands lit)) ≡ before t (2 * variable (replaced stands lit)) → after t (replaced stands lit) ≡ before t lit
-    replaced-same t lit within same = signed-same t (replaced stands lit) same ∙ replaced_literal-value g held valid x f t lit within
+    replaced-same t lit within same = signed-same t (replaced stands lit) same ∙ right x f t lit within
 
     variable-value : (t : ℕ) → Holds t → (n v : ℕ) → v < n → v < variables_end g → after t (2 * v) ≡ before t (2 * v)
     variable-value t holds zero v h within = absurd (omega arith)
@@ -127,10 +132,10 @@ module _ (g : Graph) (held : List ℕ) (valid : IsGraph g) where
           let new_place : 2 * v ≡ 2 * (first_gate (replaced_graph stands g) + k) = omega (arith, replaced-first_gate stands g) in
           let one : after t (replaced stands gate.rhs0) ≡ before t gate.rhs0 =
           replaced-same t gate.rhs0 (omega arith) (variable-value t holds n (variable (replaced stands gate.rhs0))
-          (omega (arith, replaced-within g held valid gate.rhs0 (omega arith))) (omega (arith, replaced-within g held valid gate.rhs0 (omega arith)))) in
+          (omega (arith, within_each gate.rhs0 (omega arith))) (omega (arith, within_each gate.rhs0 (omega arith)))) in
           let two : after t (replaced stands gate.rhs1) ≡ before t gate.rhs1 =
           replaced-same t gate.rhs1 (omega arith) (variable-value t holds n (variable (replaced stands gate.rhs1))
-          (omega (arith, replaced-within g held valid gate.rhs1 (omega arith))) (omega (arith, replaced-within g held valid gate.rhs1 (omega arith)))) in
+          (omega (arith, within_each gate.rhs1 (omega arith))) (omega (arith, within_each gate.rhs1 (omega arith)))) in
           ap (after t) new_place ∙ after-laws.gate t k (replaced_gate stands gate) (replaced-gate stands g k gate there)
           ∙ value-gate_of (after t) (replaced stands gate.rhs0) (replaced stands gate.rhs1)
           ∙ ap (λ (b : Bool). b && after t (replaced stands gate.rhs1)) one ∙ ap (λ (b : Bool). before t gate.rhs0 && b) two
@@ -139,7 +144,7 @@ module _ (g : Graph) (held : List ℕ) (valid : IsGraph g) where
 
     literal-value : (t : ℕ) → Holds t → (lit : ℕ) → variable lit < variables_end g → after t (replaced stands lit) ≡ before t lit
     literal-value t holds lit within =
-        replaced-same t lit within (variable-value t holds (suc (variable (replaced stands lit))) (variable (replaced stands lit)) (omega arith) (omega (arith, replaced-within g held valid lit within)))
+        replaced-same t lit within (variable-value t holds (suc (variable (replaced stands lit))) (variable (replaced stands lit)) (omega arith) (omega (arith, within_each lit within)))
 
     holds-start : Holds 0
     holds-start j latch there =
@@ -159,37 +164,36 @@ module _ (g : Graph) (held : List ℕ) (valid : IsGraph g) where
     holds-always zero = holds-start
     holds-always (suc t) = let P : ℕ → Type 0 = λ n. Holds n in subst P (add-one t) (holds-later t (holds-always t))
 
-    -- in the merged graph a replaced literal has the value of the literal before
-    pub merged-value : (t lit : ℕ) → variable lit < variables_end g → value (replaced_graph (stands_of g held) g) x f t (replaced (stands_of g held) lit) ≡ value g x f t lit
-    merged-value t lit within = literal-value t (holds-always t) lit within
+    -- in the replaced graph a replaced literal has the value of the literal before
+    pub replaced-graph_value : (t lit : ℕ) → variable lit < variables_end g → value (replaced_graph stands g) x f t (replaced stands lit) ≡ value g x f t lit
+    replaced-graph_value t lit within = literal-value t (holds-always t) lit within
 
-module _ (held : List ℕ) (c : Netlist) (valid : IsGraph c.aig) (netlist : IsNetlist c) where
+module _ (stands : List ℕ) (c : Netlist) (valid : IsGraph c.aig) (netlist : IsNetlist c) (within_each : StandsWithin c.aig stands) where
   -- the properties keep their values
-  pub merged-properties : (x : Inputs) (f : Choice) (t : ℕ) → map (value (merged_of held c).aig x f t) (property_literals (merged_of held c).props) ≡ map (value c.aig x f t) (property_literals c.props)
-  merged-properties x f t =
-      let stands : List ℕ = stands_of c.aig held in
-      ap (map (value (merged_of held c).aig x f t)) (mapped-literals (replaced stands) c.props)
-      ∙ map-map (value (merged_of held c).aig x f t) (replaced stands) (property_literals c.props)
-      ∙ map-same (λ lit. IsLiteralOf c.aig lit) (λ lit. value (merged_of held c).aig x f t (replaced stands lit)) (value c.aig x f t)
-      (λ lit within. merged-value c.aig held valid x f t lit within) (property_literals c.props) (literals_within c.aig c.props netlist.props)
+  pub replaced-properties : StandsRight c.aig stands → (x : Inputs) (f : Choice) (t : ℕ)
+      → map (value (replaced_circuit stands c).aig x f t) (property_literals (replaced_circuit stands c).props) ≡ map (value c.aig x f t) (property_literals c.props)
+  replaced-properties right x f t =
+      ap (map (value (replaced_circuit stands c).aig x f t)) (mapped-literals (replaced stands) c.props)
+      ∙ map-map (value (replaced_circuit stands c).aig x f t) (replaced stands) (property_literals c.props)
+      ∙ map-same (λ lit. IsLiteralOf c.aig lit) (λ lit. value (replaced_circuit stands c).aig x f t (replaced stands lit)) (value c.aig x f t)
+      (λ lit within. replaced-graph_value c.aig stands valid within_each right x f t lit within) (property_literals c.props) (literals_within c.aig c.props netlist.props)
 
   names_as_many : (n m : ℕ) (names : List Symbol) → m ≡ n → AreNamesBelow n names → AreNamesBelow m names
   names_as_many n m names same below = let P : ℕ → Type 0 = λ k. AreNamesBelow k names in subst P (sym same) below
 
-  pub IsNetlist-merged : IsNetlist (merged_of held c)
+  pub IsNetlist-replaced : IsNetlist (replaced_circuit stands c)
   unfolding mapped_props
-  IsNetlist-merged =
-      let stands : List ℕ = stands_of c.aig held in
+  IsNetlist-replaced =
       let s = netlist.symbols in
       let p = c.props in
       let f = replaced stands in
       let names = c.symbols in
       record {
-        props = mapped-props f (λ lit. IsLiteralOf c.aig lit) (merged_of held c).aig p (literals_within c.aig p netlist.props)
-            (λ lit within. omega (arith, replaced-within c.aig held valid lit within, replaced-end stands c.aig));
+        props = mapped-props f (λ lit. IsLiteralOf c.aig lit) (replaced_circuit stands c).aig p (literals_within c.aig p netlist.props)
+            (λ lit within. omega (arith, within_each lit within, replaced-end stands c.aig));
         symbols = record {
-          inputs = names_as_many c.aig.inputs (merged_of held c).aig.inputs names.inputs (replaced-inputs stands c.aig) s.inputs;
-          latches = names_as_many (length c.aig.latches) (length (merged_of held c).aig.latches) names.latches (length-replaced_latches stands c.aig) s.latches;
+          inputs = names_as_many c.aig.inputs (replaced_circuit stands c).aig.inputs names.inputs (replaced-inputs stands c.aig) s.inputs;
+          latches = names_as_many (length c.aig.latches) (length (replaced_circuit stands c).aig.latches) names.latches (length-replaced_latches stands c.aig) s.latches;
           outputs = names_as_many (length p.outputs) (length (map f p.outputs)) names.outputs (length-map p.outputs f) s.outputs;
           bad = names_as_many (length p.bad) (length (map f p.bad)) names.bad (length-map p.bad f) s.bad;
           constraints = names_as_many (length p.constraints) (length (map f p.constraints)) names.constraints (length-map p.constraints f) s.constraints;
@@ -197,3 +201,14 @@ module _ (held : List ℕ) (c : Netlist) (valid : IsGraph c.aig) (netlist : IsNe
           fairness = names_as_many (length p.fairness) (length (map f p.fairness)) names.fairness (length-map p.fairness f) s.fairness;
         };
       }
+
+-- in a pass of cleaning
+pub IsGraph-merged : (g : Graph) (held : List ℕ) → IsGraph g → IsGraph (replaced_graph (stands_of g held) g)
+IsGraph-merged g held valid = IsGraph-replaced g (stands_of g held) valid (replaced-within g held valid)
+
+module _ (held : List ℕ) (c : Netlist) (valid : IsGraph c.aig) (netlist : IsNetlist c) where
+  pub merged-properties : (x : Inputs) (f : Choice) (t : ℕ) → map (value (merged_of held c).aig x f t) (property_literals (merged_of held c).props) ≡ map (value c.aig x f t) (property_literals c.props)
+  merged-properties = replaced-properties (stands_of c.aig held) c valid netlist (replaced-within c.aig held valid) (replaced_literal-value c.aig held valid)
+
+  pub IsNetlist-merged : IsNetlist (merged_of held c)
+  IsNetlist-merged = IsNetlist-replaced (stands_of c.aig held) c valid netlist (replaced-within c.aig held valid)

@@ -10,10 +10,11 @@ use Rattle.aig_graph.specs.Graph.{Graph, IsGraph, IsGateAt, variable, first_gate
 use Rattle.aig_graph.specs.Value.{Inputs, Choice, value, signed}
 use Rattle.aig_graph.specs.Laws.{ValueLaws}
 use Rattle.aig_graph.proofs.ValueLaws.{value_laws}
+use Rattle.variable_tables.specs.Tables.{table}
 use Rattle.variable_tables.proofs.TableLaws.{length-table, table-at}
 use Rattle.aig_graph.proofs.SignLaws.{value_signed, value_signed_as, variable-signed_as, value-gate_of, gate_of-below}
 use Rattle.cleaned_circuits.specs.Latches.{leaf_stand}
-use Rattle.cleaned_circuits.specs.Merged.{Merging, replaced, replaced_gate, is_gate, known_stand, with_stand, merge_gate, merge_gates, merging_start, stands_of}
+use Rattle.cleaned_circuits.specs.Merged.{Merging, replaced, replaced_gate, is_gate, known_stand, with_stand, merge_gate, merge_gates, merging_from, merging_start, stands_after, stands_of}
 use Rattle.cleaned_circuits.proofs.LatchLaws.{leaf_stand-value, leaf_stand-below}
 
 -- an entry after others is found where it passes and none before it does
@@ -226,10 +227,83 @@ unfolding merge_gates
 length-merge_gates [] m = omega arith
 length-merge_gates (gate ∷ gates) m = omega (arith, length-merge_gates gates (merge_gate m gate), length-merge_gate m gate)
 
+-- a gate of the graph, at its variable
+pub record GateOf (g : Graph) (v : ℕ) (gate : Gate) : Type 0 where
+  pub at : IsGateAt v gate
+  pub place : ℕ
+  pub variable_is : v ≡ first_gate g + place
+  pub there : slice_get g.gates place ≡ Some gate
+
+-- literals for the variables before the gates, none of a later variable
+pub record AreLeaves (g : Graph) (leaves : List ℕ) : Type 0 where
+  pub long : length leaves ≡ first_gate g
+  pub below : (v : ℕ) → v < first_gate g → variable (get_or leaves v 0) ≤ v
+
+-- whatever stands for the variables before the gates
+module _ (g : Graph) (leaves : List ℕ) (begun : AreLeaves g leaves) where
+  pub length-stands_after : length (stands_after g leaves) ≡ variables_end g
+  unfolding stands_after
+  length-stands_after = omega (arith, length-merge_gates g.gates (merging_from leaves), begun.long)
+
+  pub leaves-below : IsBelow (merging_from leaves)
+  leaves-below = record {
+    each = λ v h. begun.below v (omega (arith, begun.long));
+    kept = λ gate w e. absurd (none-some w e);
+  }
+
+  module _ (valid : IsGraph g) where
+    pub gates-of : (i : ℕ) (gate : Gate) → slice_get g.gates i ≡ Some gate → GateOf g (length leaves + i) gate
+    gates-of i gate e =
+        let place : first_gate g + i ≡ length leaves + i = omega (arith, begun.long) in
+        record { at = let P : ℕ → Type 0 = λ n. IsGateAt n gate in subst P place (valid.gates i gate e); place = i; variable_is = sym place; there = e }
+
+    below-after : IsBelow (merge_gates g.gates (merging_from leaves))
+    below-after = merge-all (λ m. IsBelow m) (λ v gate. GateOf g v gate) step g.gates (merging_from leaves) gates-of leaves-below
+      where
+        step : (m : Merging) (gate : Gate) → IsBelow m → GateOf g (length m.stands) gate → IsBelow (merge_gate m gate)
+        step m gate below place =
+            let at : IsGateAt (length m.stands) gate = place.at in
+            below-merge_gate m below gate (omega arith) (omega arith)
+
+    -- no later variable stands for a variable
+    pub after-below : (v : ℕ) → v < variables_end g → variable (get_or (stands_after g leaves) v 0) ≤ v
+    unfolding stands_after
+    after-below v h = below-after.each v (omega (arith, length-stands_after))
+
+    pub after-within : (lit : ℕ) → variable lit < variables_end g → variable (replaced (stands_after g leaves) lit) ≤ variable lit
+    after-within lit h = omega (arith, replaced-variable (stands_after g leaves) lit, after-below (variable lit) h)
+
+    -- where what stands for each variable before the gates has its value in a step, what stands for any has
+    module _ (x : Inputs) (f : Choice) (t : ℕ) (right : (v : ℕ) → v < first_gate g → value g x f t (get_or leaves v 0) ≡ value g x f t (2 * v)) where
+      laws : ValueLaws g x f
+      laws = value_laws g valid x f
+
+      right-after : IsRight (value g x f t) (λ v. laws.negation t v) (laws.constant t) (merge_gates g.gates (merging_from leaves))
+      right-after = merge-all (λ m. IsRight (value g x f t) (λ v. laws.negation t v) (laws.constant t) m) (λ v gate. GateOf g v gate) step g.gates (merging_from leaves) gates-of (record {
+        each = λ v h. right v (omega (arith, begun.long));
+        kept = λ gate w e. absurd (none-some w e);
+      })
+        where
+          step : (m : Merging) (gate : Gate) → IsRight (value g x f t) (λ v. laws.negation t v) (laws.constant t) m → GateOf g (length m.stands) gate
+              → IsRight (value g x f t) (λ v. laws.negation t v) (laws.constant t) (merge_gate m gate)
+          step m gate so_far place =
+              let at : IsGateAt (length m.stands) gate = place.at in
+              let here : value g x f t (2 * length m.stands) ≡ (value g x f t gate.rhs0 && value g x f t gate.rhs1) =
+              ap (λ (n : ℕ). value g x f t (2 * n)) place.variable_is ∙ laws.gate t place.place gate place.there in
+              right-merge_gate (value g x f t) (λ v. laws.negation t v) (laws.constant t) m so_far gate (omega arith) (omega arith) here
+
+      pub after-value : (v : ℕ) → v < variables_end g → value g x f t (get_or (stands_after g leaves) v 0) ≡ value g x f t (2 * v)
+      unfolding stands_after
+      after-value v h = right-after.each v (omega (arith, length-stands_after))
+
+      pub replaced_after-value : (lit : ℕ) → variable lit < variables_end g → value g x f t (replaced (stands_after g leaves) lit) ≡ value g x f t lit
+      replaced_after-value lit h =
+          replaced-value (value g x f t) (λ v. laws.negation t v) (laws.constant t) (stands_after g leaves) lit (after-value (variable lit) h)
+
+-- in a pass of cleaning
 module _ (g : Graph) (held : List ℕ) where
-  pub length-stands_of : length (stands_of g held) ≡ variables_end g
-  unfolding stands_of
-  length-stands_of = omega (arith, length-merge_gates g.gates (merging_start g held), length-table 0 (first_gate g) (leaf_stand g held))
+  abbrev cleaned_leaves : List ℕ
+  cleaned_leaves = table 0 (first_gate g) (leaf_stand g held)
 
   pub start-length : length (merging_start g held).stands ≡ first_gate g
   start-length = length-table 0 (first_gate g) (leaf_stand g held)
@@ -237,64 +311,37 @@ module _ (g : Graph) (held : List ℕ) where
   pub start-entry : (v : ℕ) → v < length (merging_start g held).stands → get_or (merging_start g held).stands v 0 ≡ leaf_stand g held v
   start-entry v h = table-at 0 (first_gate g) (leaf_stand g held) v 0 (omega (arith, start-length)) ∙ ap (leaf_stand g held) (zero-add v)
 
-  pub start-below : IsBelow (merging_start g held)
-  start-below = record {
-    each = λ v h. omega (arith, start-entry v h, leaf_stand-below g held v (omega (arith, start-length)));
-    kept = λ gate w e. absurd (none-some w e);
+  are-leaves : AreLeaves g cleaned_leaves
+  are-leaves = record {
+    long = start-length;
+    below = λ v h. omega (arith, start-entry v (omega (arith, start-length)), leaf_stand-below g held v h);
   }
 
+  pub start-below : IsBelow (merging_start g held)
+  start-below = leaves-below g cleaned_leaves are-leaves
+
+  -- a pass is a run that begins with what stands for latches in it
+  pub stands-after : stands_of g held ≡ stands_after g cleaned_leaves
+  unfolding stands_of stands_after
+  stands-after = refl
+
+  pub length-stands_of : length (stands_of g held) ≡ variables_end g
+  length-stands_of = ap (λ (xs : List ℕ). length xs) stands-after ∙ length-stands_after g cleaned_leaves are-leaves
+
   module _ (valid : IsGraph g) where
-    -- a gate of the graph, at its variable
-    pub record GateIn (v : ℕ) (gate : Gate) : Type 0 where
-      pub at : IsGateAt v gate
-      pub place : ℕ
-      pub variable_is : v ≡ first_gate g + place
-      pub there : slice_get g.gates place ≡ Some gate
+    abbrev pub GateIn : ℕ → Gate → Type 0
+    GateIn v gate = GateOf g v gate
 
     pub gates-in : (i : ℕ) (gate : Gate) → slice_get g.gates i ≡ Some gate → GateIn (length (merging_start g held).stands + i) gate
-    gates-in i gate e =
-        let place : first_gate g + i ≡ length (merging_start g held).stands + i = omega (arith, start-length) in
-        record { at = let P : ℕ → Type 0 = λ n. IsGateAt n gate in subst P place (valid.gates i gate e); place = i; variable_is = sym place; there = e }
-
-    below-all : IsBelow (merge_gates g.gates (merging_start g held))
-    below-all = merge-all (λ m. IsBelow m) (λ v gate. GateIn v gate) step g.gates (merging_start g held) gates-in start-below
-      where
-        step : (m : Merging) (gate : Gate) → IsBelow m → GateIn (length m.stands) gate → IsBelow (merge_gate m gate)
-        step m gate below place =
-            let at : IsGateAt (length m.stands) gate = place.at in
-            below-merge_gate m below gate (omega arith) (omega arith)
+    gates-in i gate e = gates-of g cleaned_leaves are-leaves valid i gate e
 
     -- no later variable stands for a variable
-    pub stands-below : (v : ℕ) → v < variables_end g → variable (get_or (stands_of g held) v 0) ≤ v
-    unfolding stands_of
-    stands-below v h = below-all.each v (omega (arith, length-stands_of))
-
     pub replaced-within : (lit : ℕ) → variable lit < variables_end g → variable (replaced (stands_of g held) lit) ≤ variable lit
-    replaced-within lit h = omega (arith, replaced-variable (stands_of g held) lit, stands-below (variable lit) h)
+    replaced-within lit h = omega (arith, ap (λ (xs : List ℕ). variable (replaced xs lit)) stands-after, after-within g cleaned_leaves are-leaves valid lit h)
 
-    module _ (x : Inputs) (f : Choice) (t : ℕ) where
-      laws : ValueLaws g x f
-      laws = value_laws g valid x f
-
-      right-all : IsRight (value g x f t) (λ v. laws.negation t v) (laws.constant t) (merge_gates g.gates (merging_start g held))
-      right-all = merge-all (λ m. IsRight (value g x f t) (λ v. laws.negation t v) (laws.constant t) m) (λ v gate. GateIn v gate) step g.gates (merging_start g held) gates-in (record {
-        each = λ v h. ap (value g x f t) (start-entry v h) ∙ leaf_stand-value g valid held x f t v (omega (arith, start-length));
-        kept = λ gate w e. absurd (none-some w e);
-      })
-        where
-          step : (m : Merging) (gate : Gate) → IsRight (value g x f t) (λ v. laws.negation t v) (laws.constant t) m → GateIn (length m.stands) gate
-              → IsRight (value g x f t) (λ v. laws.negation t v) (laws.constant t) (merge_gate m gate)
-          step m gate right place =
-              let at : IsGateAt (length m.stands) gate = place.at in
-              let here : value g x f t (2 * length m.stands) ≡ (value g x f t gate.rhs0 && value g x f t gate.rhs1) =
-              ap (λ (n : ℕ). value g x f t (2 * n)) place.variable_is ∙ laws.gate t place.place gate place.there in
-              right-merge_gate (value g x f t) (λ v. laws.negation t v) (laws.constant t) m right gate (omega arith) (omega arith) here
-
-      -- what stands for a variable has its value
-      pub stands-value : (v : ℕ) → v < variables_end g → value g x f t (get_or (stands_of g held) v 0) ≡ value g x f t (2 * v)
-      unfolding stands_of
-      stands-value v h = right-all.each v (omega (arith, length-stands_of))
-
-      pub replaced_literal-value : (lit : ℕ) → variable lit < variables_end g → value g x f t (replaced (stands_of g held) lit) ≡ value g x f t lit
-      replaced_literal-value lit h =
-          replaced-value (value g x f t) (λ v. laws.negation t v) (laws.constant t) (stands_of g held) lit (stands-value (variable lit) h)
+    -- what stands for a literal has its value
+    pub replaced_literal-value : (x : Inputs) (f : Choice) (t lit : ℕ) → variable lit < variables_end g → value g x f t (replaced (stands_of g held) lit) ≡ value g x f t lit
+    replaced_literal-value x f t lit h =
+        ap (λ (xs : List ℕ). value g x f t (replaced xs lit)) stands-after
+        ∙ replaced_after-value g cleaned_leaves are-leaves valid x f t
+        (λ v low. ap (value g x f t) (start-entry v (omega (arith, start-length))) ∙ leaf_stand-value g valid held x f t v low) lit h

@@ -61,10 +61,18 @@ unfoldable pub merge_gates : List Gate → Merging → Merging
 merge_gates [] m = m
 merge_gates (gate ∷ gates) m = merge_gates gates (merge_gate m gate)
 
-abbrev pub merging_start : Graph → List ℕ → Merging
-merging_start g held = record { stands = table 0 (first_gate g) (leaf_stand g held); kept = [] }
+-- before any gate, where these literals stand for the variables before the gates
+abbrev pub merging_from : List ℕ → Merging
+merging_from leaves = record { stands = leaves; kept = [] }
 
--- by variable the literal that stands for it
+-- by variable the literal that stands for it, where these stand for the variables before the gates
+unfoldable pub stands_after : Graph → List ℕ → List ℕ
+stands_after g leaves = (merge_gates g.gates (merging_from leaves)).stands
+
+abbrev pub merging_start : Graph → List ℕ → Merging
+merging_start g held = merging_from (table 0 (first_gate g) (leaf_stand g held))
+
+-- by variable the literal that stands for it in a pass of cleaning
 unfoldable pub stands_of : Graph → List ℕ → List ℕ
 stands_of g held = (merge_gates g.gates (merging_start g held)).stands
 
