@@ -53,10 +53,17 @@ def reached(c, held, next_lits, kept, properties):
     return found
 
 
-def cleaned_once(c, held):
+def left_after(c, held):
+    """What one pass makes: the replacements, the next literals of all latches, the fan-ins of the gates that are kept, and the
+    variables that are left."""
     replacements, kept = replacements_of(c, held)
     next_lits = {c.first_latch() + k: replaced(next_lit, replacements) for k, (next_lit, _) in enumerate(c.latches)}
     left = sorted(reached(c, held, next_lits, kept, [replaced(lit, replacements) for lit in c.properties()]))
+    return replacements, next_lits, kept, left
+
+
+def cleaned_once(c, held):
+    replacements, next_lits, kept, left = left_after(c, held)
     numbers = {var: c.first_latch() + k for k, var in enumerate(left)}
 
     def renumbered(lit):

@@ -157,13 +157,19 @@ def values_at_start(c):
     return values
 
 
+def latched_after(c, members, held):
+    """The latches that stay where latches move over a closed set, and the gates of it that get one, in order."""
+    needed = set(border(c, members, held))
+    staying = [v for v in range(c.first_latch(), c.first_gate()) if v in needed or c.latch(v)[1] is FREE]
+    return staying, [v for v in sorted(members) if v in needed]
+
+
 def moved(c, members, held=frozenset()):
     """The circuit with its latches moved over a closed set, and the positions of its held latches. Its latches are those that
     stay, then a new one for each gate of the border; its gates those outside the set, then the members, whose fan-ins are now
     those before the latches."""
-    needed, values = set(border(c, members, held)), values_at_start(c)
-    staying = [v for v in range(c.first_latch(), c.first_gate()) if v in needed or c.latch(v)[1] is FREE]
-    new = [v for v in sorted(members) if v in needed]
+    staying, new = latched_after(c, members, held)
+    values = values_at_start(c)
     outside = [v for v in range(c.first_gate(), c.end()) if v not in members]
     start = c.first_latch()
     variables = {v: start + k for k, v in enumerate(staying + new + outside)}

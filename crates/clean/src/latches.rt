@@ -45,7 +45,7 @@ fn own_literal(aig: &Aig, place: usize) -> Lit
 }
 
 /// What stands for the latch at a place, where the first latches before it are these.
-fn stand_for_latch(
+pub(crate) fn stand_for_latch(
     firsts: &mut FirstLatches,
     aig: &Aig,
     held: &Held<'_>,

@@ -14,7 +14,9 @@ mod pass;
 mod reached;
 mod stands;
 mod substitution;
+mod tracing;
 mod trim;
 
 pub use cleaning::{Cleaned, clean, composed};
 pub use named::clean_by_names;
+pub use tracing::{TracedPass, traced_pass};

@@ -6,6 +6,7 @@ ghost use Rattle.aig_graph.specs.Streams.{SameStreams};
 ghost use Rattle.cleaned_circuits.specs.Merged.{merged_of};
 ghost use Rattle.cleaned_circuits.specs.Reached.{AreReached};
 ghost use Rattle.cleaned_circuits.specs.Cleaned.{IsPass};
+ghost use Rattle.clean.specs.Passes.{IsPassOf};
 ghost use Rattle.clean.specs.Sweep.{is_marked};
 
 use crate::held::Held;
@@ -28,7 +29,7 @@ pub(crate) struct Pass {
 }
 
 /// The merged circuit, without what isn't reached.
-fn trimmed(
+pub(crate) fn trimmed(
     alloc: Global,
     circuit: &Circuit,
     held: &[u32],
@@ -40,8 +41,8 @@ fn trimmed(
     requires aig { merged.now.aig ≡ (merged_of held.now circuit.now).aig }
     requires props { merged.now.props ≡ (merged_of held.now circuit.now).props }
     requires reached { AreReached merged.now.aig merged.now.props held.now (is_marked reached.now) }
-    ensures { IfOk result (λ pass. IsPass held.now circuit.now pass.circuit pass.kept_free.items
-        pass.held.items) }
+    ensures { IfOk result (λ pass. IsPassOf held.now circuit.now pass.circuit pass.kept_free.items
+        pass.held.items (is_marked reached.now)) }
 {
     let symbols = circuit.symbols();
     let trim = Trim::new(alloc, &merged.aig, reached)?;

@@ -1,4 +1,4 @@
-use Rattle.std.proofs.Common.{◌≡◌, ◌<◌, ◌∙◌, ap, sym, subst, ℕ, List, Bool, length, map}
+use Rattle.std.proofs.Common.{refl, ◌≡◌, ◌<◌, ◌∙◌, ap, sym, subst, ℕ, List, Bool, length, map}
 use Rattle.std.specs.List.{All}
 use Rattle.aig_graph.specs.declared.properties.Symbol.{Symbol}
 use Rattle.aig_graph.specs.declared.properties.Symbols.{Symbols}
@@ -48,14 +48,17 @@ returns c =
     let s : ℕ → Bool = is_marked c.args.reached.now in
     let at : c.in_ok-trim.trim.aig.now ≡ m.aig = c.in_ok-trim.ensures.aig ∙ c.requires.aig in
     record {
-      reached = s;
-      are_reached = pass-reached c.args.circuit.now held c.requires.graph c.symbols-symbols.ensures.netlist c.args.merged.now.aig c.args.merged.now.props c.requires.aig c.requires.props s c.requires.reached;
-      circuit = c.in_ok-circuit.ensures
-          ∙ same-trimmed c.in_ok-trim.trim.aig.now c.args.merged.now.aig c.args.merged.now.props c.symbols-symbols.result.now c.args.circuit.now.symbols c.in_ok-trim.trim.reached.now c.args.reached.now
-          c.in_ok-trim.ensures.aig c.symbols-symbols.ensures.value c.in_ok-trim.ensures.reached
-          ∙ ap (λ (d : Netlist). trimmed_of d s)
-          (whole c.args.circuit.now held c.requires.graph c.symbols-symbols.ensures.netlist c.args.merged.now.aig c.args.merged.now.props c.requires.aig c.requires.props);
-      free = c.in_ok-kept_free.ensures ∙ ap (λ (g : Graph). kept_free g (is_marked c.in_ok-trim.trim.reached.now)) at ∙ ap (λ (f : Front). kept_free m.aig (is_marked f)) c.in_ok-trim.ensures.reached;
-      positions = c.in_ok-held.ensures ∙ ap (λ (g : Graph). map (new_position g (is_marked c.in_ok-trim.trim.reached.now)) held) at
-          ∙ ap (λ (f : Front). map (new_position m.aig (is_marked f)) held) c.in_ok-trim.ensures.reached;
+      pass = record {
+        reached = s;
+        are_reached = pass-reached c.args.circuit.now held c.requires.graph c.symbols-symbols.ensures.netlist c.args.merged.now.aig c.args.merged.now.props c.requires.aig c.requires.props s c.requires.reached;
+        circuit = c.in_ok-circuit.ensures
+            ∙ same-trimmed c.in_ok-trim.trim.aig.now c.args.merged.now.aig c.args.merged.now.props c.symbols-symbols.result.now c.args.circuit.now.symbols c.in_ok-trim.trim.reached.now c.args.reached.now
+            c.in_ok-trim.ensures.aig c.symbols-symbols.ensures.value c.in_ok-trim.ensures.reached
+            ∙ ap (λ (d : Netlist). trimmed_of d s)
+            (whole c.args.circuit.now held c.requires.graph c.symbols-symbols.ensures.netlist c.args.merged.now.aig c.args.merged.now.props c.requires.aig c.requires.props);
+        free = c.in_ok-kept_free.ensures ∙ ap (λ (g : Graph). kept_free g (is_marked c.in_ok-trim.trim.reached.now)) at ∙ ap (λ (f : Front). kept_free m.aig (is_marked f)) c.in_ok-trim.ensures.reached;
+        positions = c.in_ok-held.ensures ∙ ap (λ (g : Graph). map (new_position g (is_marked c.in_ok-trim.trim.reached.now)) held) at
+            ∙ ap (λ (f : Front). map (new_position m.aig (is_marked f)) held) c.in_ok-trim.ensures.reached;
+      };
+      leaves = refl;
     }
