@@ -14,6 +14,8 @@ use Rattle.cleaned_circuits.specs.Latches.{constant_of, same_reset, is_latch, is
 use Rattle.cleaned_circuits.specs.Merged.{stand_or_own}
 use Rattle.cleaned_circuits.proofs.LatchLaws.{first_where-cases, first_where-least, same_reset-is}
 use Rattle.clean.specs.Substitutions.{own_literals}
+use Rattle.clean.specs.Kept.{or_else}
+use Rattle.clean.proofs.KeptLaws.{or_else-none, lookup-push}
 use Rattle.clean.specs.Firsts.{first_literal, AreFirsts, entries_after}
 
 first-is : (p : ℕ → Bool) (n h : ℕ) → h < n → p h ≡ true → ((v : ℕ) → v < h → p v ≡ false) → first_where p n ≡ h
@@ -36,15 +38,6 @@ first-none p n none = elim (first_where-cases p n) [
   | inl last ↦ last
   | inr there ↦ (let clash : true ≡ false = sym there.1 ∙ none (first_where p n) there.0 in absurd (cc))
 ]
-
--- the first of two answers that there is
-abbrev or_else : Option ℕ → Option ℕ → Option ℕ
-or_else None second = second
-or_else (Some n) second = Some n
-
-or_else-none : (o : Option ℕ) → or_else o None ≡ o
-or_else-none None = refl
-or_else-none (Some n) = refl
 
 module _ (g : Graph) (held : List ℕ) where
   abbrev alike : Latch → ℕ → Bool
@@ -121,17 +114,6 @@ module _ (g : Graph) (held : List ℕ) where
       ∙ ap (λ (b : Bool). not (is_stuck g held n own) && (nat_eq latch.next own.next && b)) (free-apart latch.reset own.reset latch.next own.next known free)
       ∙ ap (λ (b : Bool). not (is_stuck g held n own) && b) (and-false (nat_eq latch.next own.next)) ∙ and-false (not (is_stuck g held n own)))
       firsts
-
-  lookup-push : (test : Latch → Bool) (entries : List (Latch × ℕ)) (key : Latch) (value : ℕ) → lookup test (entries ++ (key, value) ∷ []) ≡ or_else (lookup test entries) (cond (test key) (Some value) None)
-  lookup-push test [] key value = refl
-  lookup-push test ((k, v) ∷ entries) key value = elim (cases_Bool (test k)) [
-    | inl here ↦
-        cond-true (test k) (Some v) (lookup test (entries ++ (key, value) ∷ [])) here
-        ∙ sym (ap (λ (o : Option ℕ). or_else o (cond (test key) (Some value) None)) (cond-true (test k) (Some v) (lookup test entries) here))
-    | inr other ↦
-        cond-false (test k) (Some v) (lookup test (entries ++ (key, value) ∷ [])) other ∙ lookup-push test entries key value
-        ∙ sym (ap (λ (o : Option ℕ). or_else o (cond (test key) (Some value) None)) (cond-false (test k) (Some v) (lookup test entries) other))
-  ]
 
   latch-is : (latch other : Latch) → is_latch latch other ≡ true → latch ≡ other
   latch-is latch other e =

@@ -1,5 +1,6 @@
 pub mod MergeStepLaws
 pub mod SubstitutionLaws
+pub mod KeptLaws
 pub mod FirstsLaws
 pub mod FrontLaws
 pub mod ReadsLaws

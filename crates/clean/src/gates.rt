@@ -4,6 +4,7 @@ ghost use Rattle.std.specs.Prelude.{◌≡◌, ◌+◌, ◌*◌, ◌++◌, ◌�
 ghost use Rattle.std.specs.Map.{lookup};
 ghost use Rattle.aig_graph.specs.Graph.{variable, first_gate};
 ghost use Rattle.cleaned_circuits.specs.Merged.{is_gate, known_stand, stand_or_own, kept_after, merge_gate, merge_gates};
+ghost use Rattle.clean.specs.Kept.{pairs};
 
 use crate::kept::KeptGates;
 use crate::substitution::Substitution;
@@ -12,7 +13,7 @@ use std::alloc::Global;
 
 /// The literal that a gate comes down to, where the kept gates are these.
 fn known_stand(kept: &KeptGates, gate: &Gate) -> Option<Lit>
-    ensures { result ≡ known_stand kept.now gate.now }
+    ensures { result ≡ known_stand (pairs kept.now) gate.now }
 {
     if gate.rhs1 == Lit::FALSE {
         Some(Lit::FALSE)
@@ -29,10 +30,10 @@ fn known_stand(kept: &KeptGates, gate: &Gate) -> Option<Lit>
 
 /// Keeps the gate at a variable, and returns its literal.
 fn keep(kept: &mut KeptGates, gate: Gate, var: u32) -> Result<Lit, NoMemory>
-    requires new { lookup (is_gate gate) kept.old ≡ None }
+    requires new { lookup (is_gate gate) (pairs kept.old) ≡ None }
     requires few { var < 2 ^ 28 }
     ensures literal { IfOk result (λ lit. lit ≡ 2 * var) }
-    ensures kept { OnOk result (kept.new ≡ kept.old ++ (gate, 2 * var) ∷ []) }
+    ensures kept { OnOk result (pairs kept.new ≡ pairs kept.old ++ (gate, 2 * var) ∷ []) }
 {
     let own = Lit::new(var, false);
     kept.add(gate, own)?;
@@ -43,9 +44,9 @@ fn keep(kept: &mut KeptGates, gate: Gate, var: u32) -> Result<Lit, NoMemory>
 fn stand_for_gate(kept: &mut KeptGates, gate: Gate, var: u32) -> Result<Lit, NoMemory>
     requires { var < 2 ^ 28 }
     ensures literal { IfOk result (λ lit. lit ≡ stand_or_own (2 * var)
-        (known_stand kept.old gate)) }
-    ensures kept { OnOk result (kept.new ≡ kept_after kept.old (2 * var) gate
-        (known_stand kept.old gate)) }
+        (known_stand (pairs kept.old) gate)) }
+    ensures kept { OnOk result (pairs kept.new ≡ kept_after (pairs kept.old) (2 * var) gate
+        (known_stand (pairs kept.old) gate)) }
 {
     match known_stand(kept, &gate) {
         Some(stand) => Ok(stand),
@@ -58,8 +59,8 @@ fn merge_gate(kept: &mut KeptGates, stands: &mut Substitution, gate: Gate) -> Re
     requires first { variable gate.rhs0 < length stands.old }
     requires second { variable gate.rhs1 < length stands.old }
     requires few { length stands.old < 2 ^ 28 }
-    ensures { OnOk result (record { stands = stands.new; kept = kept.new } ≡
-        merge_gate (record { stands = stands.old; kept = kept.old }) gate) }
+    ensures { OnOk result (record { stands = stands.new; kept = pairs kept.new } ≡
+        merge_gate (record { stands = stands.old; kept = pairs kept.old }) gate) }
 {
     let pair = stands.gate(gate);
     let stand = stand_for_gate(kept, pair, stands.len())?;
@@ -77,7 +78,7 @@ pub(crate) fn merge_gates(
     ensures { OnOk result (stands.new ≡
         (merge_gates aig.now.gates (record { stands = stands.old; kept = [] })).stands) }
 {
-    let mut kept = KeptGates::with_room(alloc, aig.gates().len())?;
+    let mut kept = KeptGates::of(alloc, aig)?;
     for gate in aig.gates() {
         merge_gate(&mut kept, stands, *gate)?;
     }

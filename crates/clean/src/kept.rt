@@ -1,49 +1,176 @@
-ghost use Rattle.std.specs.Prelude.{◌≡◌, ◌++◌, ◌∷◌, [], None, IfOk, OnOk};
+//! The gates that are kept so far, by linked lists of the gates that have one larger fan-in: in circuits these are few, so a look at one
+//! or two gates takes the place of a hash. A list takes `LONGEST` gates at most; what would make it longer, and gates that read inputs
+//! alone, stand in a hash table. Which of the two a gate stands in is for speed alone: a gate is looked for in both.
+ghost use Rattle.std.specs.Prelude.{◌≡◌, ◌++◌, ◌∷◌, [], None, IfOk, IfSome, OnErr, OnOk};
 ghost use Rattle.std.specs.Map.{lookup};
 ghost use Rattle.cleaned_circuits.specs.Merged.{is_gate};
+ghost use Rattle.aig_graph.specs.Graph.{variable};
+ghost use Rattle.clean.specs.Kept.{pairs, last_of, listed, IsListOf};
 
-use aig_graph::{Gate, Lit, NoMemory};
+use aig_graph::{Aig, Gate, Lit, NoMemory};
 use indexmap::IndexMap;
 use std::alloc::Global;
 use std::marker::Model;
 
+/// How many gates a list takes.
+const LONGEST: u8 = 32;
+
+/// The list of a variable that the table doesn't have.
+const NO_LIST: GateList = GateList { last: 0, length: 0 };
+
+/// A kept gate with its literal, and the link to the one before it in its list: one more than a place among the kept gates, and 0 where
+/// the list ends.
+#[derive(Clone, Copy)]
+pub(crate) struct KeptGate {
+    pub(crate) gate: Gate,
+    pub(crate) lit: Lit,
+    pub(crate) before: u32,
+}
+
+/// The list of a larger fan-in: the link to its last gate, and how many it has, or `LONGEST` where it has more.
+#[derive(Clone, Copy)]
+pub(crate) struct GateList {
+    pub(crate) last: u32,
+    pub(crate) length: u8,
+}
+
 /// The gates that are kept so far, each with the literal of its variable.
 #[derive(Drop)]
 pub(crate) struct KeptGates {
-    literals: IndexMap<Gate, Lit>,
+    first: u32,
+    gates: Vec<KeptGate>,
+    lists: Vec<GateList>,
+    rest: IndexMap<Gate, Lit>,
 }
 
 impl Model for KeptGates {
-    ghost use Rattle.std.specs.Prelude.{List, ℕ};
-    ghost use Rattle.aig_graph.specs.declared.graph.Gate.{Gate};
+    ghost use Rattle.clean.specs.Kept.{Kept, AreKept};
 
-    ghost Value = { List (Gate × ℕ) };
+    ghost Value = { Kept };
 
-    ghost view = { λ k. k.literals.entries };
+    ghost view = { λ k. record { first = k.first; gates = k.gates.items;
+        lists = k.lists.items; rest = k.rest.entries } };
+
+    ghost invariant = { λ k. AreKept (record { first = k.first; gates = k.gates.items;
+        lists = k.lists.items; rest = k.rest.entries }) };
+}
+
+/// Puts a gate into a table that hasn't got it.
+fn insert_new(rest: &mut IndexMap<Gate, Lit>, gate: Gate, lit: Lit) -> Result<(), NoMemory>
+    requires { lookup (is_gate gate) rest.old.entries ≡ None }
+    ensures ok { OnOk result (rest.new.entries ≡ rest.old.entries ++ (gate, lit) ∷ []) }
+    ensures err { OnErr result (rest.new.entries ≡ rest.old.entries) }
+{
+    rest.insert(gate, lit)?;
+    Ok(())
 }
 
 impl KeptGates {
-    /// No gates, with room for so many: a table that grows puts each gate in its place several times.
-    pub(crate) fn with_room(alloc: Global, room: usize) -> Result<KeptGates, NoMemory>
-        ensures { IfOk result (λ kept. kept ≡ []) }
+    /// No gates yet of such a circuit, with room for all that it has.
+    pub(crate) fn of(alloc: Global, aig: &Aig) -> Result<KeptGates, NoMemory>
+        ensures { IfOk result (λ kept. pairs kept ≡ []) }
     {
-        let literals = IndexMap::with_capacity(alloc, room)?;
-        Ok(KeptGates { literals })
+        let variables = aig.latches_and_gates();
+        let gates = Vec::with_capacity(alloc, aig.gates().len())?;
+        let lists = vec![in alloc; NO_LIST; variables]?;
+        Ok(KeptGates {
+            first: aig.first_latch(),
+            gates,
+            lists,
+            rest: IndexMap::new(alloc),
+        })
+    }
+
+    /// The link to the last gate of a variable's list.
+    #[tactic(auto, unfolding(crate::specs::Kept::last_of))]
+    fn last_of(&self, var: u32) -> u32
+        ensures { result ≡ last_of self.now var }
+    {
+        if var < self.first {
+            0
+        } else {
+            let place = (var - self.first) as usize;
+            self.lists.get(place).copied().unwrap_or(NO_LIST).last
+        }
+    }
+
+    /// The literal of the gate of these literals on the list of its larger fan-in.
+    fn listed(&self, gate: Gate) -> Option<Lit>
+        ensures { result ≡ listed self.now gate }
+    {
+        let mut link = self.last_of(gate.rhs0.var());
+        while link > 0 {
+            let kept = self.gates[(link - 1) as usize];
+            if gate == kept.gate {
+                return Some(kept.lit);
+            }
+            link = kept.before;
+        }
+        None
     }
 
     /// The literal of the kept gate of these literals.
     pub(crate) fn find(&self, gate: Gate) -> Option<Lit>
-        ensures { result ≡ lookup (is_gate gate) self.now }
+        ensures { result ≡ lookup (is_gate gate) (pairs self.now) }
     {
-        self.literals.get(&gate).copied()
+        match self.listed(gate) {
+            Some(lit) => Some(lit),
+            None => self.rest.get(&gate).copied(),
+        }
+    }
+
+    /// The place of a variable among the lists, where its list takes one more gate.
+    fn room_of(&self, var: u32) -> Option<usize>
+        ensures { IfSome result (λ place. IsListOf self.now var place) }
+    {
+        let place = var.checked_sub(self.first)? as usize;
+        let list = self.lists.get(place)?;
+        if list.length < LONGEST && self.gates.len() < u32::MAX as usize {
+            Some(place)
+        } else {
+            None
+        }
+    }
+
+    /// Adds a gate to the list at a place, which is that of its larger fan-in.
+    fn add_to_list(&mut self, place: usize, gate: Gate, lit: Lit) -> Result<(), NoMemory>
+        requires new { lookup (is_gate gate) (pairs self.old) ≡ None }
+        requires list { IsListOf self.old (variable gate.rhs0) place }
+        ensures { OnOk result (pairs self.new ≡ pairs self.old ++ (gate, lit) ∷ []) }
+    {
+        let list = self.lists[place];
+        let before = list.last;
+        self.gates.push(KeptGate { gate, lit, before })?;
+        self.lists[place] = GateList {
+            last: self.gates.len() as u32,
+            length: list.length.saturating_add(1),
+        };
+        Ok(())
+    }
+
+    /// Adds a gate to the hash table.
+    fn add_to_rest(&mut self, gate: &Gate, lit: Lit) -> Result<(), NoMemory>
+        requires { lookup (is_gate gate.now) (pairs self.old) ≡ None }
+        ensures { OnOk result (pairs self.new ≡ pairs self.old ++ (gate.now, lit) ∷ []) }
+    {
+        self.gates.reserve(1)?;
+        insert_new(&mut self.rest, *gate, lit)?;
+        self.gates.push_reserved(KeptGate {
+            gate: *gate,
+            lit,
+            before: 0,
+        });
+        Ok(())
     }
 
     /// Adds a gate of other literals than those of each kept one.
     pub(crate) fn add(&mut self, gate: Gate, lit: Lit) -> Result<(), NoMemory>
-        requires { lookup (is_gate gate) self.old ≡ None }
-        ensures { OnOk result (self.new ≡ self.old ++ (gate, lit) ∷ []) }
+        requires { lookup (is_gate gate) (pairs self.old) ≡ None }
+        ensures { OnOk result (pairs self.new ≡ pairs self.old ++ (gate, lit) ∷ []) }
     {
-        self.literals.insert(gate, lit)?;
-        Ok(())
+        match self.room_of(gate.rhs0.var()) {
+            Some(place) => self.add_to_list(place, gate, lit),
+            None => self.add_to_rest(&gate, lit),
+        }
     }
 }

@@ -5,6 +5,7 @@ use Rattle.clean.proofs.MappingLaws.{gate-there}
 use Rattle.cleaned_circuits.specs.Merged.{Merging, merge_gate, merge_gates}
 use Rattle.clean.proofs.MergeStepLaws.{merge-more, merge-end}
 use Rattle.cleaned_circuits.proofs.StandLaws.{length-merge_gate}
+use Rattle.clean.specs.Kept.{pairs}
 use Rattle.clean.proofs.gates.merge_gates.Goals as goal
 
 pub merge_gate-requires-clause-first : goal.merge_gate-requires-clause-first
@@ -26,8 +27,8 @@ merge_gate-requires-clause-second c =
 pub loop-gate-preserved : goal.loop-gate-preserved
 loop-gate-preserved c =
     let g : Graph = c.args.aig.now in
-    let before : Merging = record { stands = c.loop-gate.stands; kept = c.loop-gate.kept } in
-    let after : Merging = record { stands = c.merge_gate.new.stands; kept = c.merge_gate.new.kept } in
+    let before : Merging = record { stands = c.loop-gate.stands; kept = pairs c.loop-gate.kept } in
+    let after : Merging = record { stands = c.merge_gate.new.stands; kept = pairs c.merge_gate.new.kept } in
     let whole : Merging = merge_gates g.gates (record { stands = c.args.stands.now; kept = [] }) in
     let step : after ≡ merge_gate before c.gate-item.result = c.in_ok-merge_gate.ensures in
     let same : c.gates-gate-items.result.now ≡ g.gates = c.gates-gate-items.ensures.value in
@@ -40,7 +41,7 @@ loop-gate-preserved c =
 pub returns : goal.returns
 returns c =
     let g : Graph = c.args.aig.now in
-    let before : Merging = record { stands = c.loop-gate.stands; kept = c.loop-gate.kept } in
+    let before : Merging = record { stands = c.loop-gate.stands; kept = pairs c.loop-gate.kept } in
     let whole : Merging = merge_gates g.gates (record { stands = c.args.stands.now; kept = [] }) in
     let same : c.gates-gate-items.result.now ≡ g.gates = c.gates-gate-items.ensures.value in
     ap (λ (m : Merging). m.stands) (merge-end g.gates c.loop-gate.gate-index before whole (omega (arith, ap (λ (xs : List Gate). length xs) same, c.loop-gate-test.false)) c.loop-gate.invariant.rest)

@@ -1,11 +1,12 @@
 use Rattle.std.proofs.Common.{◌≡◌, ◌+◌, length, drop, []}
 use Rattle.aig_graph.specs.Graph.{first_gate}
 use Rattle.cleaned_circuits.specs.Merged.{merge_gates}
+use Rattle.clean.specs.Kept.{pairs}
 use Rattle.clean.proofs.gates.merge_gates.Given as goal
 
 -- the gates that are left make of what is known now what all of them make of the start
 abbrev pub invariant-loop-gate : goal.invariant-loop-gate
 invariant-loop-gate l = record {
-  rest : merge_gates (drop l.gate-index l.aig.gates) (record { stands = l.stands; kept = l.kept }) ≡ merge_gates l.aig.gates (record { stands = l.fn.stands; kept = [] });
+  rest : merge_gates (drop l.gate-index l.aig.gates) (record { stands = l.stands; kept = pairs l.kept }) ≡ merge_gates l.aig.gates (record { stands = l.fn.stands; kept = [] });
   long : length l.stands ≡ first_gate l.aig + l.gate-index;
 }
