@@ -71,11 +71,20 @@ def properties(outputs, bad):
     return f'aag 1 1 0 {outputs} 0 {bad}\n2\n2\n' + '0\n' * (outputs - 1 + bad)
 
 
+CAPTION = 'labeljust=l;\nfontsize=10;\nlabel="' + ''.join(line + '\\l' for line in (
+    "dot: negated; dashed arrow: from a literal that isn't drawn",
+    'box: latch and its reset; dashed box: without one; double box: held',
+    'circle: gate, by its literal; gray: no latch can move over it',
+    'blue: latches move over it next; bold: holds a latch afterwards',
+)) + '";\n'
+
+
 def drawn_properties(outputs, bad):
     """The picture of that: a note for each property, with an edge from what it reads."""
     names = [f'o{k}' for k in range(outputs)] + [f'b{k}' for k in range(bad)]
     notes = [f'{name} [shape=note];\n{0 if k else 2} -> {name};\n' for k, name in enumerate(names)]
-    return 'digraph circuit {\nrankdir=LR;\nnode [shape=plaintext];\n2 [shape=cds,label=i0];\n' + ''.join(notes) + '}\n'
+    head = 'digraph circuit {\nrankdir=LR;\nnode [shape=plaintext];\n' + CAPTION
+    return head + '2 [shape=cds,label=i0];\n' + ''.join(notes) + '}\n'
 
 
 def delta(number):
