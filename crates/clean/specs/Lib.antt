@@ -3,3 +3,4 @@ pub mod Firsts
 pub mod Sweep
 pub mod Passes
 pub mod Settled
+pub mod Rounds
