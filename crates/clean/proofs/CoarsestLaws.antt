@@ -115,6 +115,7 @@ module _ (g : Graph) (held : List ℕ) where
   first-may : (j : ℕ) (latch : Latch) → slice_get g.latches j ≡ Some latch → may_merge held j latch ≡ true → read (first_round g held) j ≡ constant_of latch.reset
   first-may j latch there may = first-at j latch there ∙ cond-true (may_merge held j latch) (constant_of latch.reset) (own_literal g j) may
 
+  -- it is a reading
   pub first-reading : IsReading g held (first_round g held)
   first-reading = record {
     long = length-first;
@@ -124,6 +125,7 @@ module _ (g : Graph) (held : List ℕ) where
     ];
   }
 
+  -- each reading is finer
   pub first-coarser : (other : List ℕ) → IsReading g held other → IsFiner g other (first_round g held)
   first-coarser other reading j h = go (element g.latches j h).0 (element g.latches j h).1
     where
@@ -265,6 +267,7 @@ module _ (g : Graph) (held : List ℕ) where
           ∙ ap (from_reset latch.reset) (from_reset-twice first.reset b.leader)
           ∙ ap (from_reset latch.reset) (sym (leader-same g held reads j i latch first a b key)) ∙ sym a.reads_as
 
+      -- what a round makes is coarser than it
       pub round-finer : IsFiner g other (next_round g held reads)
       round-finer j h = let there = element g.latches j h in finer-by j there.0 there.1 (kept.reading.each j there.0 there.1)
 
@@ -274,6 +277,7 @@ module _ (g : Graph) (held : List ℕ) where
     pub next_is : next ≡ next_round g held reads
     pub coarser : (other : List ℕ) → IsKept g held other → IsFiner g other reads
 
+  -- the first round
   pub round-first : (reads next : List ℕ) → reads ≡ first_round g held → next ≡ next_round g held reads → IsRound reads next
   round-first reads next is is_next = record {
     reading = subst (λ (xs : List ℕ). IsReading g held xs) (sym is) first-reading;
@@ -281,9 +285,11 @@ module _ (g : Graph) (held : List ℕ) where
     coarser = λ other kept. subst (λ (xs : List ℕ). IsFiner g other xs) (sym is) (first-coarser other kept.reading);
   }
 
+  -- a round has a literal for each latch
   pub round-long : (reads next : List ℕ) → IsRound reads next → length next ≡ length g.latches
   round-long reads next round = ap (λ (xs : List ℕ). length xs) round.next_is ∙ length-round g held reads
 
+  -- one more round
   pub round-after : IsGraph g → (reads next last more : List ℕ) → IsRound reads next → last ≡ next → more ≡ next_round g held last → IsRound last more
   round-after valid reads next last more round is is_more = record {
     reading = subst (λ (xs : List ℕ). IsReading g held xs) (sym (is ∙ round.next_is)) (next-reading reads round.reading);
@@ -292,6 +298,7 @@ module _ (g : Graph) (held : List ℕ) where
         subst (λ (xs : List ℕ). IsFiner g other xs) (sym (is ∙ round.next_is)) (round-finer reads round.reading valid other kept (round.coarser other kept));
   }
 
+  -- a round that parts no class is the last
   pub round-last : (reads next : List ℕ) → IsRound reads next → merged_latches g reads ≤ merged_latches g next → IsCoarsest g held reads
   round-last reads next round few = record {
     kept = round-kept reads round.reading (omega (arith, few, ap (λ (xs : List ℕ). merged_latches g xs) round.next_is));

@@ -17,6 +17,7 @@ or_else-none : (o : Option ℕ) → or_else o None ≡ o
 or_else-none None = refl
 or_else-none (Some n) = refl
 
+-- equal classes and equal literals are one key
 pub is_told-is : (key other : Told) → is_told key other ≡ true → key ≡ other
 is_told-is key other e =
     let parts = and_parts (nat_eq key.class other.class) (nat_eq key.literal other.literal) e in
@@ -24,6 +25,7 @@ is_told-is key other e =
     let two : ℕ → Told = λ n. record { class = other.class; literal = n } in
     ap one (eqb-true key.class other.class parts.0) ∙ ap two (eqb-true key.literal other.literal parts.1)
 
+-- a key is its own
 pub is_told-self : (key : Told) → is_told key key ≡ true
 is_told-self key = and_from (nat_eq key.class key.class) (nat_eq key.literal key.literal) (eq-eqb key.class key.class refl) (eq-eqb key.literal key.literal refl)
 
@@ -112,6 +114,7 @@ module _ (g : Graph) (held reads : List ℕ) where
       found own None = refl
       found own (Some l) = refl
 
+  -- a round has a literal for each latch
   pub length-round : length (next_round g held reads) ≡ length g.latches
   unfolding next_round
   length-round = length-table 0 (length g.latches) (λ j. next_read g held reads j (slice_get g.latches j))
@@ -122,6 +125,7 @@ module _ (g : Graph) (held reads : List ℕ) where
       table-at 0 (length g.latches) (λ k. next_read g held reads k (slice_get g.latches k)) j 0 (slice_get_within g.latches j latch there)
       ∙ ap (λ (k : ℕ). next_read g held reads k (slice_get g.latches k)) (zero-add j) ∙ ap (next_read g held reads j) there
 
+  -- a latch that may not be merged reads as itself
   pub round-alone : (j : ℕ) (latch : Latch) → slice_get g.latches j ≡ Some latch → may_merge held j latch ≡ false → read (next_round g held reads) j ≡ own_literal g j
   round-alone j latch there fails = round-at j latch there ∙ cond-false (may_merge held j latch) _ _ fails
 
@@ -131,6 +135,7 @@ module _ (g : Graph) (held reads : List ℕ) where
     pub reads_as : read (next_round g held reads) j ≡ from_reset latch.reset leader
     pub first_one : first (told_of g reads j latch) (suc j) ≡ Some leader
 
+  -- each latch that may be merged has a leader
   pub led : (j : ℕ) (latch : Latch) → slice_get g.latches j ≡ Some latch → may_merge held j latch ≡ true → Led j latch
   led j latch there may = record {
     leader = stand_or_own (from_reset latch.reset (own_literal g j)) (first (told_of g reads j latch) j);
@@ -163,6 +168,7 @@ module _ (g : Graph) (held reads : List ℕ) where
         → told_of g reads j latch ≡ told_of g reads i other → read (next_round g held reads) j ≡ from_reset latch.reset (from_reset other.reset (own_literal g i))
         → read (next_round g held reads) i ≡ own_literal g i → After j latch
 
+  -- one of these holds of each latch
   pub after : (j : ℕ) (latch : Latch) → slice_get g.latches j ≡ Some latch → After j latch
   after j latch there = elim (cases_Bool (may_merge held j latch)) [
     | inr fails ↦ alone fails (round-alone j latch there fails)
@@ -222,6 +228,7 @@ module _ (g : Graph) (held reads : List ℕ) where
         go None none = fresh-more may
         go (Some l) some = found-more l some
 
+    -- the entries after one more latch
     pub firsts-more : (new : List (Told × ℕ)) → new ≡ entries_told g held entries key_n n latch → AreFirstTold g held reads (n + 1) new
     firsts-more new is =
         let P : List (Told × ℕ) → Type 0 = λ xs. AreFirstTold g held reads (n + 1) xs in
@@ -231,5 +238,6 @@ module _ (g : Graph) (held reads : List ℕ) where
               (firsts-skip n entries firsts (λ key. none-here key (and_left (may_merge held n latch) (is_told key key_n) fails)))
         ])
 
+    -- and what it reads as
     pub read-more : read_told g held entries key_n n latch ≡ next_read g held reads n (slice_get g.latches n)
     read-more = ap (read_first g held n latch) (firsts.each key_n) ∙ sym (ap (next_read g held reads n) there)

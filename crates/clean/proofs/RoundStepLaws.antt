@@ -14,14 +14,17 @@ use Rattle.clean.specs.Rounds.{first_read, first_round, is_merged, next_read, ne
 use Rattle.clean.specs.Substitutions.{from_first, own_literals}
 use Rattle.variable_tables.proofs.TableLaws.{entry, table-end}
 
+-- for each variable there stands a literal
 pub stands_by-long : (g : Graph) (reads : List ℕ) → length reads ≡ length g.latches → length (stands_by g reads) ≡ variables_end g
 unfolding stands_after
 stands_by-long g reads long = omega (arith, length-merge_gates g.gates (merging_from (leaves g reads)), length-leaves g [] reads, long)
 
+-- what is known before the gates, as the substitution has it
 pub leaves-is : (g : Graph) (reads : List ℕ) → from_first (first_latch g) reads ≡ leaves g reads
 unfolding from_first own_literals leaves
 leaves-is g reads = refl
 
+-- one more element at the end
 pub take-more : (xs : List ℕ) (k x : ℕ) → k < length xs → x ≡ get_or xs k x → take (k + 1) xs ≡ take k xs ++ x ∷ []
 take-more xs k x h e = ap (λ (n : ℕ). take n xs) (add-one k) ∙ take-suc xs k x h ∙ ap (λ (z : ℕ). take k xs ++ z ∷ []) (sym e)
 
@@ -33,6 +36,7 @@ first-more g held k latch old new lit there before is pushed =
     entry 0 k (λ j. first_read g held j (slice_get g.latches j)) old new lit before pushed
     (is ∙ ap (first_read g held k) (sym there) ∙ ap (λ (j : ℕ). first_read g held j (slice_get g.latches j)) (sym (zero-add k)))
 
+-- at the end of the loop
 pub first-end : (g : Graph) (held : List ℕ) (k : ℕ) (xs : List ℕ) → k ≤ length g.latches → length g.latches ≤ k
     → xs ≡ table 0 k (λ j. first_read g held j (slice_get g.latches j)) → xs ≡ first_round g held
 unfolding first_round
@@ -45,6 +49,7 @@ next-more g held reads k old new lit before is pushed =
     entry 0 k (λ j. next_read g held reads j (slice_get g.latches j)) old new lit before pushed
     (is ∙ ap (λ (j : ℕ). next_read g held reads j (slice_get g.latches j)) (sym (zero-add k)))
 
+-- at the end of the loop
 pub next-end : (g : Graph) (held reads : List ℕ) (k : ℕ) (xs : List ℕ) → k ≤ length g.latches → length g.latches ≤ k
     → xs ≡ table 0 k (λ j. next_read g held reads j (slice_get g.latches j)) → xs ≡ next_round g held reads
 unfolding next_round
@@ -58,6 +63,7 @@ told-is g reads stands k latch lit key by at class literal =
     let two : ℕ → Told = λ n. record { class = from_reset latch.reset (read reads k); literal = n } in
     ap one (class ∙ ap (from_reset latch.reset) at) ∙ ap two (literal ∙ ap (λ (xs : List ℕ). told xs latch) by)
 
+-- what the loop reads
 pub item-read : (reads : List ℕ) (k lit : ℕ) → k < length reads → lit ≡ get_or reads k lit → lit ≡ read reads k
 item-read reads k lit h e = e ∙ get_or_default reads k lit 0 h
 

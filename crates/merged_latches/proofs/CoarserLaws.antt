@@ -226,6 +226,7 @@ module _ (g : Graph) (held finer coarser : List ℕ) (valid : IsGraph g) (one : 
         kept = λ gate w e. absurd (none-some w e);
       }
 
+  -- what the coarser one makes of what the finer one made
   pub coarser-stands : (lit : ℕ) → variable lit < variables_end g → replaced (stands_by g coarser) (replaced (stands_by g finer) lit) ≡ replaced (stands_by g coarser) lit
   unfolding stands_after
   coarser-stands lit h =
