@@ -1,11 +1,11 @@
 -- A gate that stands for itself after merging is plain, and has a pair of its own.
-use Rattle.std.proofs.Common.{ℕ, ◌+◌, ◌*◌, ◌<◌, ◌≤◌, ◌≡◌, inl, inr, List, [], ◌∷◌, ◌++◌, length, Option, Some, None, slice_get, get_or, refl, arith, ap, sym, ◌∙◌, subst}
+use Rattle.std.proofs.Common.{ℕ, ◌+◌, ◌*◌, ◌<◌, ◌≡◌, inl, inr, List, [], ◌∷◌, ◌++◌, length, Option, Some, None, slice_get, get_or, refl, arith, ap, sym, ◌∙◌, subst}
 use Rattle.std.specs.Map.{lookup}
 use Rattle.std.proofs.lemmas.Bool.{cases_eq, both_ways}
 use Rattle.std.proofs.lemmas.Option.{same_Some, slice_get_within}
 use Rattle.std.proofs.lemmas.List.{length_push, get_or_append_left, get_or_push}
 use Rattle.aig_graph.specs.declared.graph.Gate.{Gate}
-use Rattle.aig_graph.specs.Graph.{Graph, IsGraph, IsGateAt, variable, first_gate, variables_end}
+use Rattle.aig_graph.specs.Graph.{Graph, IsGraph, IsGateAt, variable, first_gate}
 use Rattle.aig_graph.specs.Building.{gate_of}
 use Rattle.aig_graph.specs.Value.{signed_as}
 use Rattle.aig_graph.proofs.SignLaws.{gate_of-ordered}

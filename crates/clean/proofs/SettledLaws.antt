@@ -1,15 +1,12 @@
 -- What a pass leaves is tidy, where each latch stands for itself.
-use Rattle.std.proofs.Common.{ℕ, ◌+◌, ◌-◌, ◌*◌, ◌<◌, ◌≤◌, ◌≡◌, inl, inr, List, length, map, Bool, true, false, ◌&&◌, ◌||◌, not, Some, slice_get, get_or, cond, nat_eq, refl, arith, ap, sym, ◌∙◌, subst}
+use Rattle.std.proofs.Common.{ℕ, ◌+◌, ◌-◌, ◌*◌, ◌<◌, ◌≤◌, ◌≡◌, inl, inr, List, length, map, Bool, true, ◌&&◌, Some, slice_get, get_or, arith, ap, sym, ◌∙◌, subst}
 use Rattle.std.specs.List.{All}
-use Rattle.std.proofs.lemmas.Bool.{cases_Bool, cases_lt, and_from, and_parts, both_ways, cond-false, or_from, eq-eqb}
-use Rattle.std.proofs.lemmas.Option.{slice_get_within}
+use Rattle.std.proofs.lemmas.Bool.{cases_lt, and_from, and_parts}
 use Rattle.std.proofs.lemmas.List.{get_or-map, length-map}
 use Rattle.aig_graph.specs.declared.graph.Gate.{Gate}
-use Rattle.aig_graph.specs.declared.graph.Latch.{Latch}
 use Rattle.aig_graph.specs.Building.{gate_of}
 use Rattle.aig_graph.specs.Circuits.{Netlist}
 use Rattle.aig_graph.specs.Graph.{Graph, IsGraph, IsGateAt, variable, first_latch, first_gate, variables_end, gate_at, latch_at}
-use Rattle.aig_graph.specs.Laws.{all_free}
 use Rattle.aig_graph.specs.Streams.{property_literals}
 use Rattle.aig_graph.proofs.FoldingLaws.{gate_at-first_gate}
 use Rattle.aig_graph.proofs.KindLaws.{GatePlace, LatchPlace, element, gate_place, latch_at-first_latch, latch_place}
@@ -18,9 +15,9 @@ use Rattle.cleaned_circuits.specs.Cleaned.{IsPass}
 use Rattle.cleaned_circuits.specs.Merged.{merged_of, replaced_gate, stands_of}
 use Rattle.cleaned_circuits.specs.Reached.{AreReached, HoldsReads, stays}
 use Rattle.cleaned_circuits.specs.Trimmed.{new_position, new_variable, renumbered, renumbered_gate, renumbered_latch, trimmed_graph, trimmed_of}
-use Rattle.cleaned_circuits.proofs.MergedLaws.{from_gate, replaced-first_gate, replaced-first_latch}
+use Rattle.cleaned_circuits.proofs.MergedLaws.{from_gate, replaced-first_gate}
 use Rattle.cleaned_circuits.proofs.PassLaws.{IsCircuit, IsCircuit-merged}
-use Rattle.cleaned_circuits.proofs.TrimmedLaws.{GateFrom, LatchFrom, fan_ins-reached, gate_from, gate_in, latch_from, latch_in, new-from, new-less, new-low, new-rises, next-reached, renumbered-variable, stays-low, stays-past, stays-reached, trimmed-end, trimmed-first_gate, trimmed-first_latch}
+use Rattle.cleaned_circuits.proofs.TrimmedLaws.{GateFrom, LatchFrom, fan_ins-reached, gate_from, gate_in, latch_from, latch_in, new-from, new-less, new-rises, renumbered-variable, stays-low, stays-past, stays-reached, trimmed-first_gate, trimmed-first_latch}
 use Rattle.cleaned_circuits.proofs.UnchangedLaws.{reached-own}
 use Rattle.tidy.specs.Tidy.{IsPlain, IsTidy}
 use Rattle.tidy.proofs.CleanLaws.{latches-moving, latches-single}

@@ -5,3 +5,4 @@ pub mod Sweep
 pub mod Passes
 pub mod Settled
 pub mod Tracing
+pub mod Rounds

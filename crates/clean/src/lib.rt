@@ -1,4 +1,5 @@
-//! Structural cleaning of circuits: stuck and twin latches, gates that say nothing new, and what no property rests on.
+//! Structural cleaning of circuits: stuck and twin latches, gates that say nothing new, and what no property rests on. And latches that
+//! always agree, merged.
 #![tactic(auto)]
 
 mod cleaning;
@@ -8,15 +9,19 @@ mod held;
 mod kept;
 mod latches;
 mod merged;
+mod merging;
 mod named;
 mod names;
 mod pass;
 mod reached;
+mod rounds;
 mod stands;
 mod substitution;
+mod told;
 mod tracing;
 mod trim;
 
 pub use cleaning::{Cleaned, clean, composed};
+pub use merging::merge_latches;
 pub use named::clean_by_names;
 pub use tracing::{TracedPass, traced_pass};

@@ -1,8 +1,8 @@
 //! The first half of a pass: each literal reads what stands for it. Nothing goes and nothing is renumbered yet, so the streams
 //! are kept by this half alone.
 ghost use Rattle.std.specs.Prelude.{◌≡◌, ◌<◌, IfOk, length, map};
-ghost use Rattle.aig_graph.specs.Graph.{variable, variables_end};
-ghost use Rattle.cleaned_circuits.specs.Merged.{stands_of, replaced_latch, replaced_gate, replaced_graph, merged_of};
+ghost use Rattle.aig_graph.specs.Graph.{IsGraph, variable, variables_end};
+ghost use Rattle.cleaned_circuits.specs.Merged.{replaced_latch, replaced_gate, replaced_graph, merged_of};
 
 use crate::held::Held;
 use crate::stands::stands_of;
@@ -41,13 +41,9 @@ fn replaced_gates(alloc: Global, stands: &Substitution, aig: &Aig) -> Result<Vec
 }
 
 /// The graph, reading what stands for what it reads.
-fn merged_aig(
-    alloc: Global,
-    aig: &Aig,
-    held: &Held<'_>,
-    stands: &Substitution,
-) -> Result<Aig, NoMemory>
-    requires { stands.now ≡ stands_of aig.now held.now.positions.now }
+pub(crate) fn replaced_aig(alloc: Global, aig: &Aig, stands: &Substitution) -> Result<Aig, NoMemory>
+    requires long { length stands.now ≡ variables_end aig.now }
+    requires graph { IsGraph (replaced_graph stands.now aig.now) }
     ensures { IfOk result (λ after. after ≡ replaced_graph stands.now aig.now) }
 {
     let latches = replaced_latches(alloc, stands, aig)?;
@@ -68,7 +64,7 @@ pub(crate) fn merged_of(
         ≡ (merged_of held.now.positions.now circuit.now).props) }
 {
     let stands = stands_of(alloc, circuit.aig(), held)?;
-    let aig = merged_aig(alloc, circuit.aig(), held, &stands)?;
+    let aig = replaced_aig(alloc, circuit.aig(), &stands)?;
     let props = circuit.props().mapped(alloc, &stands)?;
     Ok(Merged { aig, props })
 }

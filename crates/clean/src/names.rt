@@ -41,3 +41,14 @@ pub(crate) fn trimmed_symbols(
     let latches = latch_names(alloc, trim, &symbols.latches)?;
     symbols.with_latches(alloc, latches)
 }
+
+/// A copy of the names.
+pub(crate) fn copied_symbols(alloc: Global, symbols: &Symbols) -> Result<Symbols, NoMemory>
+    ensures { IfOk result (λ copy. copy ≡ symbols.now) }
+{
+    let mut latches = Vec::with_capacity(alloc, symbols.latches.len())?;
+    for name in symbols.latches.as_slice() {
+        latches.push(name.at(alloc, name.position)?)?;
+    }
+    symbols.with_latches(alloc, Sequence::from_vec(latches))
+}

@@ -226,6 +226,7 @@ module _ (g : Graph) (held finer coarser : List ℕ) (valid : IsGraph g) (one : 
         kept = λ gate w e. absurd (none-some w e);
       }
 
+  -- what the coarser one makes of what the finer one made
   pub coarser-stands : (lit : ℕ) → variable lit < variables_end g → replaced (stands_by g coarser) (replaced (stands_by g finer) lit) ≡ replaced (stands_by g coarser) lit
   unfolding stands_after
   coarser-stands lit h =
@@ -234,3 +235,19 @@ module _ (g : Graph) (held finer coarser : List ℕ) (valid : IsGraph g) (one : 
       merge-both g.gates (merging_from (leaves g finer)) (merging_from (leaves g coarser)) start
       (λ i gate e. let place : first_gate g + i ≡ length (leaves g finer) + i = omega (arith, p.long) in subst (λ (n : ℕ). IsGateAt n gate) place (valid.gates i gate e)) in
       runs-literal (merge_gates g.gates (merging_from (leaves g finer))) (merge_gates g.gates (merging_from (leaves g coarser))) all lit (omega (arith, length-stands_after g (leaves g finer) p))
+
+-- gates add entries, and change none
+stands-stay : (gates : List Gate) (m : Merging) (v : ℕ) → v < length m.stands → get_or (merge_gates gates m).stands v 0 ≡ get_or m.stands v 0
+unfolding merge_gates
+stands-stay [] m v h = refl
+stands-stay (gate ∷ gates) m v h =
+    let pair : Gate = replaced_gate m.stands gate in
+    stands-stay gates (merge_gate m gate) v (omega (arith, h, length-merge_gate m gate))
+    ∙ get_or_append_left m.stands (stand_or_own (2 * length m.stands) (known_stand m.kept pair) ∷ []) 0 v h
+
+-- 0 stands for 0
+pub stands_by-constant : (g : Graph) (held reads : List ℕ) → IsReading g held reads → replaced (stands_by g reads) 0 ≡ 0
+unfolding stands_after
+stands_by-constant g held reads reading =
+    let begun : AreLeaves g (leaves g reads) = are-leaves g held reads reading in
+    ap (signed_as 0) (stands-stay g.gates (merging_from (leaves g reads)) 0 (omega (arith, begun.long)) ∙ leaf-low g held reads 0 (omega arith))

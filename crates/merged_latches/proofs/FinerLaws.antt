@@ -45,9 +45,11 @@ module _ (g : Graph) (held : List ℕ) where
       form-one g j there.0 (read reads j) (read other j) same (form g held reads j there.0 (read reads j) there.1 (one.each j there.0 there.1))
       (form g held other j there.0 (read other j) there.1 (two.each j there.0 there.1)))
 
+  -- two coarsest readings are finer than each other
   pub coarsest-one : (reads other : List ℕ) → IsCoarsest g held reads → IsCoarsest g held other → reads ≡ other
   coarsest-one reads other one two = finer-one reads other one.kept.reading two.kept.reading (two.coarser reads one.kept) (one.coarser other two.kept)
 
+-- so a circuit is merged to one circuit
 pub merged-one : (held : List ℕ) (c d e : Netlist) → IsMerged held c d → IsMerged held c e → d ≡ e
 merged-one held c d e one two =
     one.circuit ∙ ap (λ (reads : List ℕ). replaced_circuit (stands_by c.aig reads) c) (coarsest-one c.aig held one.reads two.reads one.coarsest two.coarsest) ∙ sym two.circuit

@@ -18,18 +18,22 @@ module _ (held reads : List ℕ) (c : Netlist) (valid : IsGraph c.aig) (kept : I
   abbrev stands : List ℕ
   stands = stands_by c.aig reads
 
+  -- no literal of a later variable stands for one
   pub kept-within : StandsWithin c.aig (stands_by c.aig reads)
   kept-within = after-within c.aig (leaves c.aig reads) (are-leaves c.aig held reads kept.reading) valid
 
   kept-right : StandsRight c.aig (stands_by c.aig reads)
   kept-right x f t lit h = stands_by-value c.aig held reads valid kept x f t lit h
 
+  -- what is made of a graph is one
   pub IsGraph-kept : IsGraph (replaced_circuit (stands_by c.aig reads) c).aig
   IsGraph-kept = IsGraph-replaced c.aig stands valid kept-within
 
+  -- and of a circuit
   pub IsNetlist-kept : IsNetlist c → IsNetlist (replaced_circuit (stands_by c.aig reads) c)
   IsNetlist-kept netlist = IsNetlist-replaced stands c valid netlist kept-within
 
+  -- with its streams
   pub kept-streams : IsNetlist c → SameStreams c (replaced_circuit (stands_by c.aig reads) c) (all_free c.aig)
   kept-streams netlist =
       let d : Netlist = replaced_circuit stands c in
@@ -48,11 +52,13 @@ merged-streams held c d valid netlist merged =
     let P : Netlist → Type 0 = λ e. SameStreams c e (all_free c.aig) in
     subst P (sym merged.circuit) (kept-streams held merged.reads c valid merged.coarsest.kept netlist)
 
+-- a merged circuit has a graph
 pub IsGraph-merged_latches : (held : List ℕ) (c d : Netlist) → IsGraph c.aig → IsMerged held c d → IsGraph d.aig
 IsGraph-merged_latches held c d valid merged =
     let P : Netlist → Type 0 = λ e. IsGraph e.aig in
     subst P (sym merged.circuit) (IsGraph-kept held merged.reads c valid merged.coarsest.kept)
 
+-- and is in order
 pub IsNetlist-merged_latches : (held : List ℕ) (c d : Netlist) → IsGraph c.aig → IsNetlist c → IsMerged held c d → IsNetlist d
 IsNetlist-merged_latches held c d valid netlist merged =
     let P : Netlist → Type 0 = λ e. IsNetlist e in

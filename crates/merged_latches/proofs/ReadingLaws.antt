@@ -19,9 +19,11 @@ use Rattle.merged_latches.specs.Readings.{own_literal, read, from_reset, ReadsAs
 pub signed_as-twice : (lit base : ℕ) → signed_as lit (signed_as lit base) ≡ base
 signed_as-twice lit base = omega arith
 
+-- by the same reset twice
 pub from_reset-twice : (reset : Reset) (lit : ℕ) → from_reset reset (from_reset reset lit) ≡ lit
 from_reset-twice reset lit = signed_as-twice (constant_of reset) lit
 
+-- the variable stays
 pub variable-from_reset : (reset : Reset) (lit : ℕ) → variable (from_reset reset lit) ≡ variable lit
 variable-from_reset reset lit = omega arith
 
@@ -29,6 +31,7 @@ variable-from_reset reset lit = omega arith
 pub from_reset-zero : (reset : Reset) → from_reset reset 0 ≡ constant_of reset
 from_reset-zero reset = omega (arith, constant-even reset)
 
+-- and the other way round
 pub from_reset-constant : (reset : Reset) → from_reset reset (constant_of reset) ≡ 0
 from_reset-constant reset = omega (arith, constant-even reset)
 
@@ -38,11 +41,13 @@ pub data Form (g : Graph) (j : ℕ) (latch : Latch) (lit : ℕ) : Type 0 where
   latch_of : (i : ℕ) (first : Latch) → i ≤ j → slice_get g.latches i ≡ Some first → lit ≡ from_reset latch.reset (from_reset first.reset (own_literal g i)) → Form g j latch lit
 
 module _ (g : Graph) (held reads : List ℕ) where
+  -- a reading has one of these forms
   pub form : (j : ℕ) (latch : Latch) (lit : ℕ) → slice_get g.latches j ≡ Some latch → ReadsAs g held reads j latch lit → Form g j latch lit
   form j latch lit there (as_itself e) = latch_of j latch (omega arith) there (e ∙ sym (from_reset-twice latch.reset (own_literal g j)))
   form j latch lit there (as_constant may e) = constant e
   form j latch lit there (as_first i first less first_there may may_first own e) = latch_of i first (omega arith) first_there e
 
+  -- of no later variable than the latch
   pub form-variable : (j : ℕ) (latch : Latch) (lit : ℕ) → Form g j latch lit → variable lit ≤ first_latch g + j
   form-variable j latch lit (constant e) = omega (arith, e, constant-even latch.reset)
   form-variable j latch lit (latch_of i first less there e) = omega (arith, e)
@@ -50,16 +55,19 @@ module _ (g : Graph) (held reads : List ℕ) where
   length-own : length (table 0 (first_latch g) (λ v. 2 * v)) ≡ first_latch g
   length-own = length-table 0 (first_latch g) (λ v. 2 * v)
 
+  -- one for each variable before the gates
   pub length-leaves : length (leaves g reads) ≡ first_latch g + length reads
   unfolding leaves
   length-leaves = omega (arith, length-append (table 0 (first_latch g) (λ v. 2 * v)) reads, length-own)
 
+  -- the constant and the inputs stand for themselves
   pub leaf-low : (v : ℕ) → v < first_latch g → get_or (leaves g reads) v 0 ≡ 2 * v
   unfolding leaves
   leaf-low v h =
       get_or_append_left (table 0 (first_latch g) (λ w. 2 * w)) reads 0 v (omega (arith, length-own))
       ∙ table-at 0 (first_latch g) (λ w. 2 * w) v 0 h ∙ ap (λ (w : ℕ). 2 * w) (zero-add v)
 
+  -- for a latch there stands what it reads as
   pub leaf-latch : (j : ℕ) → get_or (leaves g reads) (first_latch g + j) 0 ≡ read reads j
   unfolding leaves
   leaf-latch j =
@@ -72,9 +80,11 @@ module _ (g : Graph) (held reads : List ℕ) where
       let low : get_or (leaves g reads) (variable lit) 0 ≡ 2 * variable lit = leaf-low (variable lit) (omega arith) in
       ap (signed_as lit) low ∙ omega (arith, e)
 
+  -- the same of a literal of a latch
   pub replaced-latch_literal : (lit i : ℕ) → variable lit ≡ first_latch g + i → replaced (leaves g reads) lit ≡ signed_as lit (read reads i)
   replaced-latch_literal lit i e = ap (λ (v : ℕ). signed_as lit (get_or (leaves g reads) v 0)) e ∙ ap (signed_as lit) (leaf-latch i)
 
+  -- a reading may begin a run over the gates
   pub are-leaves : IsReading g held reads → AreLeaves g (leaves g reads)
   are-leaves reading = record {
     long = omega (arith, length-leaves, reading.long);

@@ -71,6 +71,7 @@ comes gate =
           ])
     ]
 
+-- a 0 gives 0
 pub comes-zero : (kept : List (Gate × ℕ)) (gate : Gate) → gate.rhs1 ≡ 0 → known_stand kept gate ≡ Some 0
 comes-zero kept gate e = cond-true (nat_eq gate.rhs1 0) (Some 0) _ (eq-eqb gate.rhs1 0 e)
 
@@ -87,6 +88,7 @@ comes-more kept gate o more e = elim (cases_Bool (nat_eq gate.rhs1 0)) [
 pub comes-one : (kept : List (Gate × ℕ)) (gate : Gate) → gate.rhs1 ≡ 1 → known_stand kept gate ≡ Some gate.rhs0
 comes-one kept gate e = comes-more kept gate (Some gate.rhs0) (λ is. absurd (omega (arith, is, e))) (cond-true (nat_eq gate.rhs1 1) (Some gate.rhs0) _ (eq-eqb gate.rhs1 1 e))
 
+-- so does an equal one
 pub comes-equal : (kept : List (Gate × ℕ)) (gate : Gate) → gate.rhs0 ≡ gate.rhs1 → known_stand kept gate ≡ Some gate.rhs0
 comes-equal kept gate e = elim (cases_eq gate.rhs1 0) [
   | inl is ↦ comes-zero kept gate is ∙ ap (λ (n : ℕ). Some n) (sym (e ∙ is))
@@ -118,6 +120,7 @@ known-more kept own pair None gate y e = elim (comes gate) [
   | as_found is ↦ is (lookup (is_gate gate) (kept ++ (pair, own) ∷ [])) ∙ lookup-more (is_gate gate) kept pair own y (sym (is (lookup (is_gate gate) kept)) ∙ e)
 ]
 
+-- a kept gate comes down to its own literal
 pub known-own : (kept : List (Gate × ℕ)) (own : ℕ) (pair : Gate) (o : Option ℕ) → known_stand kept pair ≡ o → known_stand (kept_after kept own pair o) pair ≡ Some (stand_or_own own o)
 known-own kept own pair (Some s) e = e
 known-own kept own pair None e = elim (comes pair) [
@@ -132,6 +135,7 @@ gate_is a b c d one two =
     let second : ℕ → Gate = λ n. record { rhs0 = c; rhs1 = n } in
     ap first one ∙ ap second two
 
+-- a gate of two literals in either order
 pub gate_of-either : (a b : ℕ) → gate_of a b ≡ gate_of b a
 gate_of-either a b = gate_is (gate_of a b).rhs0 (gate_of a b).rhs1 (gate_of b a).rhs0 (gate_of b a).rhs1 (omega arith) (omega arith)
 
@@ -144,9 +148,11 @@ replaced-signed stands lit base =
     let same : variable (signed_as lit base) ≡ variable base = omega arith in
     ap (λ (v : ℕ). signed_as (signed_as lit base) (get_or stands v 0)) same ∙ signed_as-joined lit base (get_or stands (variable base) 0)
 
+-- one more entry changes no earlier one
 pub replaced-push : (stands : List ℕ) (y lit : ℕ) → variable lit < length stands → replaced (stands ++ y ∷ []) lit ≡ replaced stands lit
 replaced-push stands y lit h = ap (signed_as lit) (get_or_append_left stands (y ∷ []) 0 (variable lit) h)
 
+-- and stands for its own variable
 pub replaced-last : (stands : List ℕ) (y : ℕ) → replaced (stands ++ y ∷ []) (2 * length stands) ≡ y
 replaced-last stands y =
     let place : variable (2 * length stands) ≡ length stands = omega arith in

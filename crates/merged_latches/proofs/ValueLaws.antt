@@ -35,6 +35,7 @@ opening-known Zero next b known = refl
 opening-known One next b known = refl
 opening-known Free next b known = absurd (cc)
 
+-- a latch that may be merged is known
 pub may-known : (held : List ℕ) (j : ℕ) (latch : Latch) → may_merge held j latch ≡ true → is_free latch ≡ false
 may-known held j latch may = not-true (is_free latch) (and_parts (not (is_free latch)) (not (has held j)) may).0
 
@@ -108,6 +109,7 @@ module _ (g : Graph) (held reads : List ℕ) (valid : IsGraph g) (kept : IsKept 
       ∙ ap (λ (b : Bool). flipped latch.reset (flipped first.reset b)) (later t i first first_there)
       ∙ ap (flipped latch.reset) both ∙ flipped-twice latch.reset (vals t latch.next) ∙ sym (later t j latch there)
 
+  -- by induction on the steps
   pub agree-always : (t : ℕ) → Agree t
   agree-always zero = λ j latch there. at-start j latch (read reads j) there (kept.reading.each j latch there)
   agree-always (suc t) = λ j latch there. at-later t (agree-always t) j latch (read reads j) there refl (kept.reading.each j latch there)

@@ -1,4 +1,4 @@
-use Rattle.std.proofs.Common.{◌≡◌, ◌∙◌, ◌+◌, ◌*◌, ◌<◌, inl, inr, sym, ap, arith, length, List, ℕ, nat_eq, slice_get, Some, true, refl, subst}
+use Rattle.std.proofs.Common.{◌≡◌, ◌∙◌, ◌+◌, ◌*◌, inl, inr, sym, ap, arith, length, List, ℕ, nat_eq, slice_get, Some, true, refl, subst}
 use Rattle.std.proofs.lemmas.Bool.{cases_eq, eqb-true}
 use Rattle.std.proofs.lemmas.Option.{same_Some, slice_get_read, slice_get_within}
 use Rattle.aig_graph.specs.declared.graph.Latch.{Latch}

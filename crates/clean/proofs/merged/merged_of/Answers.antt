@@ -1,8 +1,9 @@
 use Rattle.std.proofs.Common.{◌≡◌, ◌<◌, ◌∙◌, ap, sym, subst, length, List, ℕ}
-use Rattle.aig_graph.specs.Graph.{Graph, variable, variables_end}
+use Rattle.aig_graph.specs.Graph.{Graph, IsGraph, variable, variables_end}
 use Rattle.aig_graph.specs.declared.properties.Props.{Props}
 use Rattle.aig_graph.specs.Mapped.{OfProps}
-use Rattle.cleaned_circuits.specs.Merged.{stands_of}
+use Rattle.cleaned_circuits.specs.Merged.{replaced_graph, stands_of}
+use Rattle.cleaned_circuits.proofs.MergedLaws.{IsGraph-merged}
 use Rattle.clean.proofs.MappingLaws.{stands-long, props-within}
 use Rattle.clean.proofs.merged.merged_of.Goals as goal
 
@@ -14,3 +15,17 @@ mapped-requires c =
     let long : length stands ≡ variables_end g = stands-long g held stands (c.in_ok-stands.ensures ∙ ap (λ (h : Graph). stands_of h held) c.aig.ensures.value) in
     let P : Props → Type 0 = λ p. OfProps (λ lit. variable lit < length stands) p in
     subst P (sym c.props.ensures.value) (props-within g c.args.circuit.now.props (length stands) c.props.ensures.netlist.props long)
+
+pub replaced_aig-requires-clause-long : goal.replaced_aig-requires-clause-long
+replaced_aig-requires-clause-long c =
+    let same : c.aig.result.now ≡ c.aig-2.result.now = c.aig.ensures.value ∙ sym c.aig-2.ensures.value in
+    stands-long c.aig-2.result.now c.args.held.now.positions.now c.in_ok-stands.stands (c.in_ok-stands.ensures ∙ ap (λ (h : Graph). stands_of h c.args.held.now.positions.now) same)
+
+pub replaced_aig-requires-clause-graph : goal.replaced_aig-requires-clause-graph
+replaced_aig-requires-clause-graph c =
+    let g : Graph = c.aig-2.result.now in
+    let held : List ℕ = c.args.held.now.positions.now in
+    let same : c.aig.result.now ≡ g = c.aig.ensures.value ∙ sym c.aig-2.ensures.value in
+    let stands : c.in_ok-stands.stands ≡ stands_of g held = c.in_ok-stands.ensures ∙ ap (λ (h : Graph). stands_of h held) same in
+    let valid : IsGraph g = subst (λ (h : Graph). IsGraph h) (sym c.aig-2.ensures.value) c.aig-2.ensures.graph in
+    subst (λ (xs : List ℕ). IsGraph (replaced_graph xs g)) (sym stands) (IsGraph-merged g held valid)
