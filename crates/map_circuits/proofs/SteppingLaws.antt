@@ -1,8 +1,8 @@
 -- What latches hold after a move and after a pass, by the functions of those before.
-use Rattle.std.proofs.Common.{inl, inr, ℕ, ◌-◌, ◌*◌, ◌<◌, ◌≤◌, ◌≡◌, suc, zero, Bool, true, false, Some, slice_get, List, [], ◌∷◌, length, map, get_or, refl, arith, ap, sym, ◌∙◌, subst}
+use Rattle.std.proofs.Common.{inl, inr, ℕ, ◌+◌, ◌-◌, ◌*◌, ◌<◌, ◌≤◌, ◌≡◌, suc, zero, Bool, true, false, Some, slice_get, List, [], ◌∷◌, length, map, get_or, refl, arith, ap, sym, ◌∙◌, subst}
 use Rattle.std.specs.List.{All}
 use Rattle.std.proofs.Math.ListN.{get_or-eq_default}
-use Rattle.std.proofs.lemmas.List.{length-map}
+use Rattle.std.proofs.lemmas.List.{get_or-map, length-map}
 use Rattle.std.proofs.lemmas.List.Elements.{All-map}
 use Rattle.aig_graph.specs.Closed.{IsClosedSet, IsLatchOrIn}
 use Rattle.aig_graph.specs.Graph.{Graph, IsLiteralOf, first_latch, variables_end}
@@ -15,10 +15,11 @@ use Rattle.rebuild.proofs.BorderLaws.{latched-cases}
 use Rattle.variable_tables.specs.Counting.{places}
 use Rattle.variable_tables.proofs.PlacesLaws.{Ranks, rank_at}
 use Rattle.state_maps.specs.States.{State}
+use Rattle.state_maps.specs.Cleaning.{held_by}
 use Rattle.state_maps.specs.Moving.{held_value}
 use Rattle.state_maps.proofs.MapLaws.{funext}
 use Rattle.map_circuits.specs.Following.{Follows, IsCovered, entry_of, state_of}
-use Rattle.map_circuits.specs.Stepping.{AreMoved}
+use Rattle.map_circuits.specs.Stepping.{AreMoved, ArePassed}
 use Rattle.map_circuits.proofs.FollowingLaws.{source-from}
 
 -- what the entries of some variables are
@@ -72,4 +73,32 @@ module _ (g : Graph) (functions : List ℕ) (m : Move) (h : Graph) (literals : L
             (λ k v e.
             let r : Ranks (is_latched m) end k v = rank_at (is_latched m) end k v e in
             follows.values s v r.below (latched-source v r.passes)) j);
+      })
+
+-- what the entries of some places are
+places-hold : (values : ℕ → Bool) (entry : ℕ → ℕ) (s : State) (vars : List ℕ) → ((k v : ℕ) → slice_get vars k ≡ Some v → values (entry v) ≡ s v) → (j : ℕ)
+    → get_or (map values (map entry vars)) j false ≡ held_by s (slice_get vars j)
+places-hold values entry s [] each j = get_or-eq_default [] false {n = j} (omega arith)
+places-hold values entry s (v ∷ vars) each zero = each 0 v refl
+places-hold values entry s (v ∷ vars) each (suc j) = places-hold values entry s vars (λ k w e. each (suc k) w e) j
+
+module _ (g : Graph) (functions : List ℕ) (c : Graph) (reached : ℕ → Bool) (many : length functions ≡ length c.latches) where
+  abbrev remaining : ℕ → Bool
+  remaining j = reached (first_latch c + j)
+
+  pub are-passed : (latches new : List ℕ) → All (λ lit. IsLiteralOf g lit) functions → latches ≡ places remaining (length c.latches) → new ≡ map (entry_of 0 functions) latches
+      → ArePassed g functions c reached new
+  are-passed latches new all are picked =
+      let vars : List ℕ = places remaining (length c.latches) in
+      let whole : new ≡ map (entry_of 0 functions) vars = picked ∙ ap (λ (vs : List ℕ). map (entry_of 0 functions) vs) are in
+      let P : List ℕ → Type 0 = λ lits. ArePassed g functions c reached lits in
+      subst P (sym whole) (record {
+        within = All-map (λ lit. IsLiteralOf g lit) (entry_of 0 functions) vars (all_from_slice_get (λ v. IsLiteralOf g (entry_of 0 functions v)) vars
+            (λ k v e. let r : Ranks remaining (length c.latches) k v = rank_at remaining (length c.latches) k v e in all (v - 0) 0 (omega (arith, r.below, many))));
+        states = λ s. funext _ _ (λ j. places-hold (value_within g s (λ j. false)) (entry_of 0 functions) (state_of g functions s) vars
+            (λ k v e.
+            let r : Ranks remaining (length c.latches) k v = rank_at remaining (length c.latches) k v e in
+            let here : v - 0 ≡ v = omega arith in
+            ap (λ (w : ℕ). value_within g s (λ j. false) (get_or functions w 0)) here
+            ∙ sym (get_or-map (value_within g s (λ j. false)) functions v 0 false (omega (arith, r.below, many)))) j);
       })

@@ -5,7 +5,9 @@ mod entries;
 mod errors;
 mod gates;
 mod moving;
+mod passing;
 
 pub use errors::MapError;
 pub use gates::add_equality;
 pub use moving::moved_functions;
+pub use passing::passed_functions;
