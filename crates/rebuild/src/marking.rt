@@ -62,6 +62,7 @@ fn latched_marks(
 
 impl MoveMarks {
     ghost use Rattle.rebuild.specs.Marked.{AreMarksOf};
+    ghost use Rattle.rebuild.specs.Moved.{is_latched};
 
     /// The marks of a closed set's move. Linear in the circuit; inputs cost nothing.
     pub fn new(
@@ -86,6 +87,14 @@ impl MoveMarks {
             latched,
             border,
         })
+    }
+
+    /// By variable, from the first latch on, whether it has a latch after the move.
+    pub fn latched(&self) -> &[bool]
+        ensures { (m : Move) → AreMarksOf m self.now
+            → result.now ≡ by_variable m.circuit.aig (is_latched m) }
+    {
+        self.latched.as_slice()
     }
 
     /// The size of the set's border, which is how many known latches there are after the move.

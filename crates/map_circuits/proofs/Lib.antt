@@ -1,0 +1,3 @@
+pub mod GrowingLaws
+pub mod FollowingLaws
+pub mod SteppingLaws

@@ -1,0 +1,20 @@
+-- What the latches of a circuit hold, after a move or a pass, by what those before hold.
+use Rattle.std.specs.Prelude.{ℕ, ◌≡◌, Bool, List, length, All}
+use Rattle.aig_graph.specs.Graph.{Graph, IsLiteralOf}
+use Rattle.aig_graph.specs.Move.{Move}
+use Rattle.rebuild.specs.Moved.{moved_graph}
+use Rattle.state_maps.specs.States.{State}
+use Rattle.state_maps.specs.Cleaning.{trimmed_state}
+use Rattle.state_maps.specs.Moving.{moved_state}
+use Rattle.map_circuits.specs.Following.{state_of}
+
+-- the functions of the latches after a move
+pub record AreMoved (g : Graph) (functions : List ℕ) (m : Move) (h : Graph) (new : List ℕ) : Type 0 where
+  pub within : All (λ lit. IsLiteralOf h lit) new
+  pub many : length new ≡ length (moved_graph m).latches
+  pub states : (s : State) → state_of h new s ≡ moved_state m (state_of g functions s)
+
+-- the functions of the latches of c that stay after a pass that leaves what is reached
+pub record ArePassed (g : Graph) (functions : List ℕ) (c : Graph) (reached : ℕ → Bool) (new : List ℕ) : Type 0 where
+  pub within : All (λ lit. IsLiteralOf g lit) new
+  pub states : (s : State) → state_of g new s ≡ trimmed_state c reached (state_of g functions s)

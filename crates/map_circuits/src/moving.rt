@@ -1,0 +1,120 @@
+//! What the latches hold after a move: those that stay what they held, and a new one the value of its gate. A gate of the set has
+//! its function before any that reads it is met.
+ghost use Rattle.std.specs.Prelude.{◌≡◌, ◌<◌, ◌≤◌, ◌+◌, ◌-◌, All, IfOk, OnOk, Some, length, map, true};
+ghost use Rattle.std.specs.List.{slice_index_or};
+ghost use Rattle.aig_graph.specs.Closed.{IsClosedSet};
+ghost use Rattle.aig_graph.specs.Graph.{Graph, IsGraph, IsLiteralOf, gate_at, variable, first_latch, variables_end};
+ghost use Rattle.variable_tables.specs.Marking.{has};
+ghost use Rattle.map_circuits.specs.Growing.{Extends, IsConjunction};
+ghost use Rattle.aig_graph.specs.Move.{move_of};
+ghost use Rattle.map_circuits.specs.Following.{Follows, literal_at};
+ghost use Rattle.map_circuits.specs.Stepping.{AreMoved};
+
+use crate::entries::entries_of;
+use crate::errors::MapError;
+use crate::gates::add_conjunction;
+use aig_graph::{Aig, AigBuilder, BuildError, Circuit, ClosedSet, Gate, Keep, Lit};
+use rebuild::MoveMarks;
+use std::alloc::Global;
+use variable_tables::marked_variables;
+
+/// What stands for a literal of a variable that has an entry.
+fn standing(literals: &[Lit], first: u32, lit: Lit) -> Lit
+    requires from { first ≤ variable lit }
+    requires below { variable lit - first < length literals.now }
+    ensures { result ≡ literal_at first literals.now lit }
+{
+    literals[(lit.var() - first) as usize].signed_as(lit)
+}
+
+/// Adds the function of a gate, where it is one of the set; the constant stands for others, which no member reads.
+fn add_function(
+    gates: &mut AigBuilder,
+    literals: &[Lit],
+    aig: &Aig,
+    set: &ClosedSet,
+    keep: &Keep,
+    var: u32,
+    gate: Gate,
+) -> Result<Lit, BuildError>
+    requires graph { IsGraph gates.old }
+    requires closed { IsClosedSet aig.now keep.now set.now }
+    requires there { gate_at aig.now var ≡ Some gate }
+    requires long { first_latch aig.now + length literals.now ≡ var }
+    requires within { All (λ lit. IsLiteralOf gates.old lit) literals.now }
+    ensures extends { OnOk result (Extends gates.old gates.new) }
+    ensures within { IfOk result (IsLiteralOf gates.new) }
+    ensures member { IfOk result (λ lit. has set.now var ≡ true → IsConjunction gates.new
+        (literal_at (first_latch aig.now) literals.now gate.rhs0)
+        (literal_at (first_latch aig.now) literals.now gate.rhs1) lit) }
+{
+    let _keep = keep;
+    if set.has(var) {
+        let first = aig.first_latch();
+        let a = standing(literals, first, gate.rhs0);
+        let b = standing(literals, first, gate.rhs1);
+        add_conjunction(gates, a, b)
+    } else {
+        Ok(Lit::FALSE)
+    }
+}
+
+/// The functions of the latches and of the gates of the set, by variable from the first latch on.
+pub(crate) fn add_functions(
+    alloc: Global,
+    gates: &mut AigBuilder,
+    functions: &[Lit],
+    aig: &Aig,
+    set: &ClosedSet,
+    keep: &Keep,
+) -> Result<Vec<Lit>, MapError>
+    requires graph { IsGraph gates.old }
+    requires closed { IsClosedSet aig.now keep.now set.now }
+    requires long { length functions.now ≡ length aig.now.latches }
+    requires within { All (λ lit. IsLiteralOf gates.old lit) functions.now }
+    ensures extends { OnOk result (Extends gates.old gates.new) }
+    ensures follows { IfOk result (λ literals. Follows gates.old functions.now aig.now set.now
+        (variables_end aig.now) gates.new literals.items) }
+{
+    let first = aig.first_gate();
+    let mut literals = Vec::with_capacity(alloc, aig.latches_and_gates())?;
+    literals.extend_from_slice(functions)?;
+    for (place, gate) in aig.gates().iter().enumerate() {
+        let var = first + place as u32;
+        let lit = add_function(gates, literals.as_slice(), aig, set, keep, var, *gate)?;
+        literals.push(lit)?;
+    }
+    Ok(literals)
+}
+
+/// The functions of the latches after a move, by those of the latches before it: their literals. A gate is added for each gate of the
+/// set. One pass over the circuit, with a binary search for each gate.
+///
+/// # Errors
+///
+/// `NoMemory` where memory is refused, `TooLarge` where there would be more gates than a graph may have; some gates may have been
+/// added then.
+pub fn moved_functions(
+    alloc: Global,
+    gates: &mut AigBuilder,
+    functions: &[Lit],
+    circuit: &Circuit,
+    set: &ClosedSet,
+    keep: &Keep,
+) -> Result<Vec<Lit>, MapError>
+    requires graph { IsGraph gates.old }
+    requires closed { IsClosedSet circuit.now.aig keep.now set.now }
+    requires long { length functions.now ≡ length circuit.now.aig.latches }
+    requires within { All (λ lit. IsLiteralOf gates.old lit) functions.now }
+    ensures extends { OnOk result (Extends gates.old gates.new) }
+    ensures moved { IfOk result (λ new. AreMoved gates.old functions.now
+        (move_of circuit.now keep.now set.now) gates.new new.items) }
+{
+    let aig = circuit.aig();
+    let first = aig.first_latch();
+    let marks = MoveMarks::new(alloc, circuit, set, keep)?;
+    let latched = marked_variables(alloc, first, marks.latched())?;
+    let literals = add_functions(alloc, gates, functions, aig, set, keep)?;
+    let moved = entries_of(alloc, literals.as_slice(), first, latched.as_slice())?;
+    Ok(moved)
+}
