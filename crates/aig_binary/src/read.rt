@@ -1,4 +1,5 @@
-ghost use Rattle.std.specs.Prelude.{ℕ, List, ◌++◌};
+ghost use Rattle.std.specs.Prelude.{ℕ, List, ◌≡◌, ◌⊎◌, ◌++◌, Ok, Err, IfOk, IfErr};
+ghost use Rattle.file_words.specs.declared.fault.ReadError.TheVariants.{NoMemory};
 ghost use Rattle.ascii_file.specs.Answering.{Gives};
 ghost use Rattle.aig_binary.specs.Spellings.{read_any};
 ghost use Rattle.aig_binary.specs.Readers.{Holds};
@@ -15,6 +16,13 @@ use std::alloc::Global;
 /// `BadHeader` at 0 where the first three bytes are neither spelling's; else the first fault of the bytes, or `NoMemory`,
 /// which may come before it. Never `Device`.
 pub fn read_any(alloc: Global, bytes: &[u8]) -> Result<Circuit, ReadError>
+    ensures ok { IfOk result (λ circuit. read_any bytes.now ≡ Ok circuit) }
+    ensures err { IfErr result (λ error. (error ≡ NoMemory) ⊎ (read_any bytes.now ≡ Err error)) }
+{
+    read(alloc, bytes)
+}
+
+fn read(alloc: Global, bytes: &[u8]) -> Result<Circuit, ReadError>
     ensures { Gives (λ circuit. circuit) result (read_any bytes.now) }
 {
     let mut reader = AnyReader::new(alloc);

@@ -1,4 +1,3 @@
 pub mod Codes
 pub mod Lists
 pub mod Entries
-pub mod Cutting

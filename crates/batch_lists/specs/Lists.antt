@@ -3,6 +3,7 @@ use Rattle.std.specs.Prelude.{ℕ, ◌+◌, ◌^◌, ◌==◌, ◌&&◌, not, �
 use Rattle.std.specs.List.{list_any}
 use Rattle.std.specs.Str.{is_utf8}
 use Rattle.file_words.specs.Lines.{lines}
+use Rattle.file_words.specs.Reading.{read_lines}
 use Rattle.batch_lists.specs.declared.fault.ListError.{ListError}
 use Rattle.batch_lists.specs.declared.fault.ListError.TheVariants.{BadLine, TooLarge}
 
@@ -34,15 +35,6 @@ with_line at files (Some paths) = if length files == 2 ^ 20 then Err (TooLarge a
 abbrev pub read_line : ℕ → List Paths → List ℕ → Result (List Paths) ListError
 read_line at files line = with_line at files (paths_of line)
 
-abbrev pub and_then : Result (List Paths) ListError → (List Paths → Result (List Paths) ListError) → Result (List Paths) ListError
-and_then (Ok files) rest = rest files
-and_then (Err fault) rest = Err fault
-
--- the files after the lines from an offset on, or the first fault
-unfoldable pub read_lines : ℕ → List Paths → List (List ℕ) → Result (List Paths) ListError
-read_lines at files [] = Ok files
-read_lines at files (line ∷ rest) = and_then (read_line at files line) (λ more. read_lines (at + length line + 1) more rest)
-
 -- the files of a list, or its first fault
 abbrev pub read_list : List ℕ → Result (List Paths) ListError
-read_list bytes = read_lines 0 [] (lines bytes)
+read_list bytes = read_lines read_line 0 [] (lines bytes)

@@ -3,7 +3,6 @@
 
 mod entry;
 mod fault;
-mod lines;
 mod read;
 
 pub use entry::Entry;

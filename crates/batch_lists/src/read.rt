@@ -1,10 +1,12 @@
 ghost use Rattle.std.specs.Prelude.{◌≡◌, map};
-ghost use Rattle.batch_lists.specs.Entries.{Gives, paths};
+ghost use Rattle.file_words.specs.Answering.{Gives};
+ghost use Rattle.batch_lists.specs.declared.fault.ListError.TheVariants.{NoMemory};
+ghost use Rattle.batch_lists.specs.Entries.{paths};
 ghost use Rattle.batch_lists.specs.Lists as lists;
 
 use crate::entry::{Entry, entry_of};
 use crate::fault::ListError;
-use crate::lines::next_line;
+use file_words::{Line, Lines};
 use std::alloc::Global;
 
 /// The lines that a list may have.
@@ -17,28 +19,26 @@ const MAX_LINES: usize = 1 << 20;
 /// That of the first line with a fault: `BadLine` for another number of tabs than one, as an empty line has, or for bytes that are
 /// no UTF-8; else `TooLarge` for line number 2^20, from 0. `NoMemory` may come before it. The time is linear in the bytes.
 pub fn read_list(alloc: Global, bytes: &[u8]) -> Result<Vec<Entry<'_>>, ListError>
-    ensures { Gives (λ entries. map paths entries.items) result (lists.read_list bytes.now) }
+    ensures { Gives NoMemory (λ entries. map paths entries.items) result (lists.read_list bytes.now) }
 {
     let mut entries = Vec::new(alloc);
-    let mut left = bytes;
-    while let Some((line, after)) = next_line(left) {
-        let offset = (bytes.len() - left.len()) as u64;
-        read_line(&mut entries, line, offset)?;
-        left = after;
+    let mut lines = Lines::new(bytes);
+    while let Some(line) = lines.next_line() {
+        read_line(&mut entries, &line)?;
     }
     Ok(entries)
 }
 
 /// Takes a line.
-fn read_line<'a>(entries: &mut Vec<Entry<'a>>, line: &'a [u8], offset: u64) -> Result<(), ListError>
-    ensures { Gives (λ _. map paths entries.new.items) result
-        (lists.read_line offset (map paths entries.old.items) line.now) }
+fn read_line<'a>(entries: &mut Vec<Entry<'a>>, line: &Line<'a>) -> Result<(), ListError>
+    ensures { Gives NoMemory (λ _. map paths entries.new.items) result
+        (lists.read_line line.now.at (map paths entries.old.items) line.now.text.now) }
 {
-    let Some(entry) = entry_of(line) else {
-        return Err(ListError::BadLine(offset));
+    let Some(entry) = entry_of(line.text) else {
+        return Err(ListError::BadLine(line.at));
     };
     if entries.len() == MAX_LINES {
-        return Err(ListError::TooLarge(offset));
+        return Err(ListError::TooLarge(line.at));
     }
     entries.push(entry)?;
     Ok(())

@@ -1,5 +1,4 @@
 pub mod FormLaws
-pub mod AnsweringLaws
 pub mod WordLaws
 pub mod StepLaws
 pub mod FileLaws

@@ -4,6 +4,7 @@ use Rattle.std.proofs.Math.Seq.{take-append_seam}
 use Rattle.std.proofs.lemmas.Bool.{and_parts, and_from, cond-true, leb-true}
 use Rattle.std.specs.List.{list_all, flat_map}
 use Rattle.counted_io.specs.Line.{line}
+use Rattle.file_words.specs.Answering.{◌>>=◌}
 use Rattle.file_words.specs.Lines.{lines, pieces, is_number, digits_value}
 use Rattle.file_words.specs.Cuts.{lacks}
 use Rattle.file_words.proofs.DecimalLaws.{decimal-is_number, decimal-value, decimal-lacks, lacks-append, row_line, row-is_line, row_line-lacks_newline, numbers_of-row_line, lines-at_newline, pieces-at_space, pieces-at_end}
@@ -15,7 +16,7 @@ use Rattle.least_sets.specs.declared.choice.Choice.{Choice}
 use Rattle.least_sets.specs.declared.choice.Choice.TheVariants.{Greatest, Smallest}
 use Rattle.certificate_files.specs.declared.file.CertFile.{CertFile}
 use Rattle.certificate_files.specs.declared.forms.FrameLine.{FrameLine}
-use Rattle.certificate_files.specs.Files.{sign_of, is_point, point_of, is_small, Route, frame_of, gate_of, route_of, saying_of, Progress, settled, taken, and_then, read_blocks, nothing_read, with_choice, read_file, read_text}
+use Rattle.certificate_files.specs.Files.{sign_of, is_point, point_of, is_small, Route, frame_of, gate_of, route_of, saying_of, Progress, settled, taken, read_blocks, nothing_read, with_choice, read_file, read_text}
 use Rattle.certificate_files.specs.Forms.{framed, gated, routed, are_small}
 use Rattle.certificate_files.specs.Laws.{is_writable_route, is_writable_block, RoundTripLaw}
 use Rattle.certificate_files.specs.Steps.{block_of, with_gate, with_route, closed}
@@ -185,7 +186,7 @@ reads-line : (end : ℕ) (p next : Progress) (line : List ℕ) (rest : List (Lis
     → ((at : ℕ) → taken at p (saying_of line) ≡ Ok next) → Reads end next rest result → Reads end p (line ∷ rest) result
 unfolding read_blocks
 reads-line end p next line rest result taken_as later at =
-    ap (λ (t : Result Progress CertError). and_then t (λ q. read_blocks (at + length line + 1) end q rest)) (taken_as at) ∙ later (at + length line + 1)
+    ap (λ (t : Result Progress CertError). t >>= λ q. read_blocks (at + length line + 1) end q rest) (taken_as at) ∙ later (at + length line + 1)
 
 reads-gates : (end : ℕ) (done : List Certificate) (count routes : ℕ) (before gates : List ℕ) (rest : List (List ℕ)) (result : Result (List Certificate) CertError)
     → list_all is_small gates ≡ true → Reads end (settled done (block_of count (before ++ gates) []) 0 routes) rest result
@@ -196,7 +197,7 @@ reads-gates end done count routes before (v ∷ vs) rest result small later at =
     let parts = and_parts (is_small v) (list_all is_small vs) small in
     reads-line end (settled done (block_of count before []) (suc (length vs)) routes) (settled done (block_of count (before ++ v ∷ []) []) (length vs) routes) (gate_line v) (map gate_line vs ++ rest) result
     (λ a. gate_next a done (block_of count before []) (length vs) routes (saying_of (gate_line v))
-    ∙ ap (λ (t : Result ℕ CertError). and_then t (λ w. Ok (settled done (with_gate (block_of count before []) w) (length vs) routes))) (gate-said a v parts.0))
+    ∙ ap (λ (t : Result ℕ CertError). t >>= λ w. Ok (settled done (with_gate (block_of count before []) w) (length vs) routes)) (gate-said a v parts.0))
     (reads-gates end done count routes (before ++ v ∷ []) vs rest result parts.1
     (λ a. ap (λ (gs : List ℕ). read_blocks a end (settled done (block_of count gs []) 0 routes) rest) (append_assoc before (v ∷ []) vs) ∙ later a)) at
 
@@ -209,7 +210,7 @@ reads-routes end done count gates before (r ∷ rs) rest result small later at =
     let parts = and_parts (is_writable_route r) (list_all is_writable_route rs) small in
     reads-line end (settled done (block_of count gates before) 0 (suc (length rs))) (settled done (block_of count gates (before ++ r ∷ [])) 0 (length rs)) (route_line r) (map route_line rs ++ rest) result
     (λ a. route_next a done (block_of count gates before) (length rs) (saying_of (route_line r))
-    ∙ ap (λ (t : Result (List Point) CertError). and_then t (λ ps. Ok (settled done (with_route (block_of count gates before) ps) 0 (length rs)))) (route-said a r parts.0))
+    ∙ ap (λ (t : Result (List Point) CertError). t >>= λ ps. Ok (settled done (with_route (block_of count gates before) ps) 0 (length rs))) (route-said a r parts.0))
     (reads-routes end done count gates (before ++ r ∷ []) rs rest result parts.1
     (λ a. ap (λ (xs : List (List Point)). read_blocks a end (closed (done ++ block_of count gates xs ∷ [])) rest) (append_assoc before (r ∷ []) rs) ∙ later a)) at
 
@@ -223,7 +224,7 @@ reads-block end done b rest result writable later =
     let parts = and_parts (list_all is_small b.gates) (list_all is_writable_route b.routes) routes.1 in
     reads-line end (closed done) (settled done (block_of b.count [] []) (length b.gates) (length b.routes)) (line_of_frame b) (map gate_line b.gates ++ (map route_line b.routes ++ rest)) result
     (λ at. frame_next at done (saying_of (line_of_frame b))
-    ∙ ap (λ (t : Result FrameLine CertError). and_then t (λ f. Ok (settled done (block_of f.count [] []) f.gates f.routes)))
+    ∙ ap (λ (t : Result FrameLine CertError). t >>= λ f. Ok (settled done (block_of f.count [] []) f.gates f.routes))
     (frame-said at b.count (length b.gates) (length b.routes) count.0 gates.0 routes.0))
     (reads-gates end done b.count (length b.routes) [] b.gates (map route_line b.routes ++ rest) result parts.0
     (reads-routes end done b.count b.gates [] b.routes rest result parts.1 later))

@@ -1,31 +1,31 @@
 -- A text, line after line.
 use Rattle.std.proofs.Common.{ℕ, suc, ◌+◌, ◌-◌, ◌≤◌, ◌≡◌, ◌⊎◌, inl, inr, length, List, [], ◌∷◌, Option, Some, None, Result, Ok, Err, refl, arith, Bool, true, false, ◌&&◌, ◌==◌, cond, ap, ◌∙◌}
 use Rattle.std.proofs.lemmas.Bool.{eqb-true}
+use Rattle.file_words.specs.Answering.{◌>>=◌, Gives, Leads}
 use Rattle.file_words.specs.Lines.{lines}
 use Rattle.file_words.specs.Cuts.{IsFirst}
+use Rattle.file_words.proofs.AnsweringLaws.{Fails-where}
 use Rattle.frame_net.specs.declared.net.Point.{Point}
 use Rattle.certificates.specs.declared.certificate.Certificate.{Certificate}
 use Rattle.certificate_files.specs.declared.fault.CertError.{CertError}
-use Rattle.certificate_files.specs.declared.fault.CertError.TheVariants.{TooLarge, Truncated}
+use Rattle.certificate_files.specs.declared.fault.CertError.TheVariants.{TooLarge, Truncated, NoMemory}
 use Rattle.certificate_files.specs.declared.forms.FrameLine.{FrameLine}
-use Rattle.certificate_files.specs.Answering.{Gives, Leads}
-use Rattle.certificate_files.specs.Files.{is_small, Saying, Frame, Gate, Route, saying_of, Progress, settled, taken, and_then, ended, read_blocks}
+use Rattle.certificate_files.specs.Files.{is_small, Saying, Frame, Gate, Route, saying_of, Progress, settled, taken, ended, read_blocks}
 use Rattle.certificate_files.specs.Forms.{framed, gated, routed, are_small}
 use Rattle.certificate_files.specs.Steps.{read_rest, block_of, with_gate, with_route, closed}
-use Rattle.certificate_files.proofs.AnsweringLaws.{Fails-where}
 
 -- ---- one line
 
-and_then_same : {A B : Type 0} (r : Result A CertError) (f g : A → Result B CertError) → ((x : A) → f x ≡ g x) → and_then r f ≡ and_then r g
-and_then_same (Ok x) f g same = same x
-and_then_same (Err e) f g same = refl
+then_same : {A B : Type 0} (r : Result A CertError) (f g : A → Result B CertError) → ((x : A) → f x ≡ g x) → (r >>= f) ≡ (r >>= g)
+then_same (Ok x) f g same = same x
+then_same (Err e) f g same = refl
 
 no_more : (a b end : ℕ) (p : Progress) → read_blocks a end p (lines []) ≡ read_blocks b end p (lines [])
 unfolding read_blocks lines
 no_more a b end p = refl
 
 one_line : (at end : ℕ) (p : Progress) (line : List ℕ) (rest : List (List ℕ))
-    → read_blocks at end p (line ∷ rest) ≡ and_then (taken at p (saying_of line)) (λ next. read_blocks (at + length line + 1) end next rest)
+    → read_blocks at end p (line ∷ rest) ≡ (taken at p (saying_of line) >>= λ next. read_blocks (at + length line + 1) end next rest)
 unfolding read_blocks
 one_line at end p line rest = refl
 
@@ -42,11 +42,11 @@ starts_at end text line more first within = by_case first.starts
     by_case (inr long) = inr (omega (arith, long, within))
 
 pub read_line : (end : ℕ) (text line more : List ℕ) (p : Progress) → IsFirst text line more → length text ≤ end
-    → read_rest end text p ≡ and_then (taken (end - length text) p (saying_of line)) (read_rest end more)
+    → read_rest end text p ≡ (taken (end - length text) p (saying_of line) >>= read_rest end more)
 read_line end text line more p first within =
     ap (read_blocks (end - length text) end p) first.whole
     ∙ one_line (end - length text) end p line (lines more)
-    ∙ and_then_same (taken (end - length text) p (saying_of line)) _ (read_rest end more)
+    ∙ then_same (taken (end - length text) p (saying_of line)) _ (read_rest end more)
     (λ next. same_start (end - length text + length line + 1) end more next (starts_at end text line more first within))
 
 -- ---- the end of the text
@@ -71,7 +71,7 @@ ends_in_routes end rest blocks block routes none =
 -- ---- what comes next
 
 abbrev next_by : {A : Type 0} → (A → Progress) → Result A CertError → Result Progress CertError
-next_by next r = and_then r (λ x. Ok (next x))
+next_by next r = r >>= λ x. Ok (next x)
 
 sized_next : {A : Type 0} (small : Bool) (x : A) (next : A → Progress) (fault : CertError)
     → cond {A = Result Progress CertError} small (Ok (next x)) (Err fault) ≡ next_by next (cond small (Ok x) (Err fault))
@@ -105,32 +105,32 @@ frame_next at blocks (Some (Route points)) = refl
 
 -- a reading that goes on as a line says
 leads_given : {A B : Type 0} (next : A → Progress) (go : Progress → Result B CertError) (r s : Result A CertError) (read : Result B CertError)
-    → read ≡ and_then (next_by next s) go → Gives (λ x. x) r s → Leads (λ x. go (next x)) r read
-leads_given next go (Ok x) s read is given = is ∙ ap (λ (t : Result _ CertError). and_then (next_by next t) go) given
-leads_given next go (Err e) s read is given = Fails-where e s read (λ fault. is ∙ ap (λ (t : Result _ CertError). and_then (next_by next t) go) fault) given
+    → read ≡ (next_by next s >>= go) → Gives NoMemory (λ x. x) r s → Leads NoMemory (λ x. go (next x)) r read
+leads_given next go (Ok x) s read is given = is ∙ ap (λ (t : Result _ CertError). next_by next t >>= go) given
+leads_given next go (Err e) s read is given = Fails-where e s read (λ fault. is ∙ ap (λ (t : Result _ CertError). next_by next t >>= go) fault) given
 
 pub gate_leads : (end : ℕ) (text line more : List ℕ) (blocks : List Certificate) (block : Certificate) (gates routes : ℕ) (r : Result ℕ CertError)
-    → IsFirst text line more → length text ≤ end → Gives (λ v. v) r (gated (end - length text) (saying_of line))
-    → Leads (λ v. read_rest end more (settled blocks (with_gate block v) gates routes)) r (read_rest end text (settled blocks block (suc gates) routes))
+    → IsFirst text line more → length text ≤ end → Gives NoMemory (λ v. v) r (gated (end - length text) (saying_of line))
+    → Leads NoMemory (λ v. read_rest end more (settled blocks (with_gate block v) gates routes)) r (read_rest end text (settled blocks block (suc gates) routes))
 gate_leads end text line more blocks block gates routes r first within given =
     leads_given (λ v. settled blocks (with_gate block v) gates routes) (read_rest end more) r (gated (end - length text) (saying_of line)) _
-    (read_line end text line more (settled blocks block (suc gates) routes) first within ∙ ap (λ (t : Result Progress CertError). and_then t (read_rest end more)) (gate_next (end - length text) blocks block gates routes (saying_of line)))
+    (read_line end text line more (settled blocks block (suc gates) routes) first within ∙ ap (λ (t : Result Progress CertError). t >>= read_rest end more) (gate_next (end - length text) blocks block gates routes (saying_of line)))
     given
 
 pub route_leads : (end : ℕ) (text line more : List ℕ) (blocks : List Certificate) (block : Certificate) (routes : ℕ) (r : Result (List Point) CertError)
-    → IsFirst text line more → length text ≤ end → Gives (λ ps. ps) r (routed (end - length text) (saying_of line))
-    → Leads (λ ps. read_rest end more (settled blocks (with_route block ps) 0 routes)) r (read_rest end text (settled blocks block 0 (suc routes)))
+    → IsFirst text line more → length text ≤ end → Gives NoMemory (λ ps. ps) r (routed (end - length text) (saying_of line))
+    → Leads NoMemory (λ ps. read_rest end more (settled blocks (with_route block ps) 0 routes)) r (read_rest end text (settled blocks block 0 (suc routes)))
 route_leads end text line more blocks block routes r first within given =
     leads_given (λ ps. settled blocks (with_route block ps) 0 routes) (read_rest end more) r (routed (end - length text) (saying_of line)) _
-    (read_line end text line more (settled blocks block 0 (suc routes)) first within ∙ ap (λ (t : Result Progress CertError). and_then t (read_rest end more)) (route_next (end - length text) blocks block routes (saying_of line)))
+    (read_line end text line more (settled blocks block 0 (suc routes)) first within ∙ ap (λ (t : Result Progress CertError). t >>= read_rest end more) (route_next (end - length text) blocks block routes (saying_of line)))
     given
 
 pub frame_leads : (end : ℕ) (text line more : List ℕ) (blocks : List Certificate) (r : Result FrameLine CertError)
-    → IsFirst text line more → length text ≤ end → Gives (λ f. f) r (framed (end - length text) (saying_of line))
-    → Leads (λ (f : FrameLine). read_rest end more (settled blocks (block_of f.count [] []) f.gates f.routes)) r (read_rest end text (closed blocks))
+    → IsFirst text line more → length text ≤ end → Gives NoMemory (λ f. f) r (framed (end - length text) (saying_of line))
+    → Leads NoMemory (λ (f : FrameLine). read_rest end more (settled blocks (block_of f.count [] []) f.gates f.routes)) r (read_rest end text (closed blocks))
 frame_leads end text line more blocks r first within given =
     leads_given (λ (f : FrameLine). settled blocks (block_of f.count [] []) f.gates f.routes) (read_rest end more) r (framed (end - length text) (saying_of line)) _
-    (read_line end text line more (closed blocks) first within ∙ ap (λ (t : Result Progress CertError). and_then t (read_rest end more)) (frame_next (end - length text) blocks (saying_of line)))
+    (read_line end text line more (closed blocks) first within ∙ ap (λ (t : Result Progress CertError). t >>= read_rest end more) (frame_next (end - length text) blocks (saying_of line)))
     given
 
 pub nothing_left : (rest : List ℕ) → (length rest == 0) ≡ true → rest ≡ []

@@ -1,9 +1,7 @@
 -- The points of a route, word by word.
-use Rattle.std.proofs.Common.{ℕ, ◌+◌, ◌-◌, ◌*◌, ◌<◌, ◌≡◌, length, List, [], ◌∷◌, ◌++◌, take, Option, Some, None, Result, Ok, Err, refl, arith, Bool, true, false, ◌&&◌, ◌||◌, ◌==◌, cond, ap, ap₂, sym, ◌∙◌, map, get_or, length-append, append_assoc}
+use Rattle.std.proofs.Common.{ℕ, ◌-◌, ◌≡◌, length, List, [], ◌∷◌, ◌++◌, take, Option, Some, None, Result, Ok, Err, refl, arith, Bool, true, false, ◌&&◌, ◌||◌, ◌==◌, cond, ap, ap₂, sym, ◌∙◌, map, get_or, length-append, append_assoc}
 use Rattle.std.proofs.Math.Seq.{take-append_seam}
 use Rattle.std.proofs.lemmas.Bool.{and_parts}
-use Rattle.std.proofs.lemmas.List.{take_more}
-use Rattle.std.proofs.lemmas.List.Sums.{fold-append}
 use Rattle.std.specs.List.{list_all}
 use Rattle.file_words.specs.Lines.{pieces, is_number, digits_value}
 use Rattle.file_words.specs.Cuts.{Cuts}
@@ -20,21 +18,6 @@ use Rattle.certificate_files.proofs.FormLaws.{small_same, small_is}
 
 pub pieces_cut : (text word rest : List ℕ) → Cuts 32 text word rest → pieces text ≡ word ∷ pieces rest
 pieces_cut text word rest cuts = ap pieces cuts.whole ∙ pieces-at_space word rest cuts.clean
-
--- ---- numbers
-
-abbrev step : ℕ → ℕ → ℕ
-step value digit = 10 * value + (digit - 48)
-
--- one more digit
-pub value_more : (digits : List ℕ) (i digit number : ℕ) → i < length digits → digit ≡ get_or digits i 0
-    → number ≡ clamped (digits_value (take i digits)) → clamped (10 * number + (digit - 48)) ≡ clamped (digits_value (take (i + 1) digits))
-value_more digits i digit number within here is =
-    let value = digits_value (take i digits) in
-    let cut : clamped (10 * number + (digit - 48)) ≡ clamped (step value digit) = omega (arith, is) in
-    let next : digits_value (take (i + 1) digits) ≡ step value digit =
-    ap digits_value (take_more digits i 0 within) ∙ fold-append step 0 (take i digits) (get_or digits i 0 ∷ []) ∙ ap (step value) (sym here) in
-    cut ∙ ap clamped (sym next)
 
 -- ---- points
 

@@ -1,6 +1,7 @@
 -- The text of certificates.
 use Rattle.std.specs.Prelude.{ℕ, ◌+◌, ◌-◌, ◌^◌, ◌==◌, ◌&&◌, ◌||◌, Bool, nat_le, List, [], ◌∷◌, ◌++◌, length, map, take, drop, slice_index_or, Option, Some, None, Result, Ok, Err, codes, if◌then◌else◌, zero, suc}
 use Rattle.std.specs.List.{list_all, starts_with}
+use Rattle.file_words.specs.Answering.{◌>>=◌}
 use Rattle.file_words.specs.Lines.{lines, pieces, is_number, digits_value, numbers_of}
 use Rattle.frame_net.specs.declared.net.Point.{Point}
 use Rattle.certificates.specs.declared.certificate.Certificate.{Certificate}
@@ -90,10 +91,6 @@ abbrev pub taken : ℕ → Progress → Option Saying → Result Progress CertEr
 taken at p None = Err (BadLine at)
 taken at p (Some saying) = sized at saying (after p p.begun p.gates saying)
 
-abbrev pub and_then : {A B : Type 0} → Result A CertError → (A → Result B CertError) → Result B CertError
-and_then (Ok x) f = f x
-and_then (Err fault) f = Err fault
-
 -- the blocks, where none is left open at the end
 abbrev pub ended : ℕ → Progress → Result (List Certificate) CertError
 ended end p = ended_by p.begun
@@ -104,7 +101,7 @@ ended end p = ended_by p.begun
 
 unfoldable pub read_blocks : ℕ → ℕ → Progress → List (List ℕ) → Result (List Certificate) CertError
 read_blocks at end p [] = ended end p
-read_blocks at end p (line ∷ rest) = and_then (taken at p (saying_of line)) (λ next. read_blocks (at + length line + 1) end next rest)
+read_blocks at end p (line ∷ rest) = taken at p (saying_of line) >>= λ next. read_blocks (at + length line + 1) end next rest
 
 -- ---- the file
 

@@ -1,6 +1,5 @@
 pub mod Files
 pub mod Texts
-pub mod Answering
 pub mod Steps
 pub mod Forms
 pub mod Laws

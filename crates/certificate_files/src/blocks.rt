@@ -2,17 +2,19 @@
 //! come.
 ghost use Rattle.std.specs.Prelude.{ℕ, List, [], ◌≡◌, ◌<◌, ◌≤◌, suc, length, OnOk};
 ghost use Rattle.certificates.specs.declared.certificate.Certificate.{Certificate as Block};
-ghost use Rattle.certificate_files.specs.Answering.{Gives, Leads};
+ghost use Rattle.certificate_files.specs.declared.fault.CertError.TheVariants.{NoMemory};
+ghost use Rattle.file_words.specs.Answering.{Gives, Leads};
 ghost use Rattle.certificate_files.specs.Files.{settled, nothing_read};
 ghost use Rattle.certificate_files.specs.Steps.{read_rest, block_of, with_gate, with_route, closed};
 ghost use Rattle.std.specs.Prelude.{◌++◌, ◌∷◌};
 
 use crate::fault::CertError;
 use crate::forms::{FrameLine, frame_line, gate_line};
-use crate::lines::Lines;
+use crate::lines::next_line;
 use crate::words::route_line;
 use aig_graph::Sequence;
 use certificates::Certificate;
+use file_words::Lines;
 use frame_net::Point;
 use std::alloc::Global;
 
@@ -21,11 +23,11 @@ fn next_gate(lines: &mut Lines<'_>) -> Result<u32, CertError>
     ensures end { lines.new.end ≡ lines.old.end }
     ensures shorter { length lines.new.rest.now ≤ length lines.old.rest.now }
     ensures reads { (blocks : List Block) (block : Block) (gates routes : ℕ)
-        → Leads (λ v. read_rest lines.new.end lines.new.rest.now
+        → Leads NoMemory (λ v. read_rest lines.new.end lines.new.rest.now
         (settled blocks (with_gate block v) gates routes)) result
         (read_rest lines.old.end lines.old.rest.now (settled blocks block (suc gates) routes)) }
 {
-    let line = lines.next_line()?;
+    let line = next_line(lines)?;
     gate_line(&line)
 }
 
@@ -34,11 +36,11 @@ fn next_route(alloc: Global, lines: &mut Lines<'_>) -> Result<Sequence<Point>, C
     ensures end { lines.new.end ≡ lines.old.end }
     ensures shorter { length lines.new.rest.now ≤ length lines.old.rest.now }
     ensures reads { (blocks : List Block) (block : Block) (routes : ℕ)
-        → Leads (λ points. read_rest lines.new.end lines.new.rest.now
+        → Leads NoMemory (λ points. read_rest lines.new.end lines.new.rest.now
         (settled blocks (with_route block points) 0 routes)) result
         (read_rest lines.old.end lines.old.rest.now (settled blocks block 0 (suc routes))) }
 {
-    let line = lines.next_line()?;
+    let line = next_line(lines)?;
     route_line(alloc, &line)
 }
 
@@ -47,11 +49,11 @@ fn next_frame(lines: &mut Lines<'_>) -> Result<FrameLine, CertError>
     ensures end { lines.new.end ≡ lines.old.end }
     ensures shorter { OnOk result (length lines.new.rest.now < length lines.old.rest.now) }
     ensures reads { (blocks : List Block) → 0 < length lines.old.rest.now
-        → Leads (λ frame. read_rest lines.new.end lines.new.rest.now
+        → Leads NoMemory (λ frame. read_rest lines.new.end lines.new.rest.now
         (settled blocks (block_of frame.count [] []) frame.gates frame.routes)) result
         (read_rest lines.old.end lines.old.rest.now (closed blocks)) }
 {
-    let line = lines.next_line()?;
+    let line = next_line(lines)?;
     frame_line(&line)
 }
 
@@ -60,7 +62,7 @@ fn read_gates(alloc: Global, lines: &mut Lines<'_>, count: u32) -> Result<Sequen
     ensures end { lines.new.end ≡ lines.old.end }
     ensures shorter { length lines.new.rest.now ≤ length lines.old.rest.now }
     ensures reads { (blocks : List Block) (stated routes : ℕ)
-        → Leads (λ gates. read_rest lines.new.end lines.new.rest.now
+        → Leads NoMemory (λ gates. read_rest lines.new.end lines.new.rest.now
         (settled blocks (block_of stated gates []) 0 routes)) result
         (read_rest lines.old.end lines.old.rest.now
         (settled blocks (block_of stated [] []) count routes)) }
@@ -83,7 +85,7 @@ fn add_routes(
     ensures end { lines.new.end ≡ lines.old.end }
     ensures shorter { length lines.new.rest.now ≤ length lines.old.rest.now }
     ensures reads { (blocks : List Block) (stated : ℕ) (gates : List ℕ)
-        → Leads (λ _. read_rest lines.new.end lines.new.rest.now
+        → Leads NoMemory (λ _. read_rest lines.new.end lines.new.rest.now
         (closed (blocks ++ block_of stated gates routes.new.items ∷ []))) result
         (read_rest lines.old.end lines.old.rest.now
         (settled blocks (block_of stated gates routes.old.items) 0 count)) }
@@ -104,7 +106,7 @@ fn read_routes(
     ensures end { lines.new.end ≡ lines.old.end }
     ensures shorter { length lines.new.rest.now ≤ length lines.old.rest.now }
     ensures reads { (blocks : List Block) (stated : ℕ) (gates : List ℕ)
-        → Leads (λ routes. read_rest lines.new.end lines.new.rest.now
+        → Leads NoMemory (λ routes. read_rest lines.new.end lines.new.rest.now
         (closed (blocks ++ block_of stated gates routes ∷ []))) result
         (read_rest lines.old.end lines.old.rest.now
         (settled blocks (block_of stated gates []) 0 count)) }
@@ -124,7 +126,7 @@ fn next_block(alloc: Global, lines: &mut Lines<'_>) -> Result<Certificate, CertE
     ensures end { lines.new.end ≡ lines.old.end }
     ensures shorter { OnOk result (length lines.new.rest.now < length lines.old.rest.now) }
     ensures reads { (blocks : List Block) → 0 < length lines.old.rest.now
-        → Leads (λ block. read_rest lines.new.end lines.new.rest.now
+        → Leads NoMemory (λ block. read_rest lines.new.end lines.new.rest.now
         (closed (blocks ++ block ∷ []))) result
         (read_rest lines.old.end lines.old.rest.now (closed blocks)) }
 {
@@ -143,7 +145,7 @@ pub(crate) fn read_blocks(
     alloc: Global,
     lines: &mut Lines<'_>,
 ) -> Result<Sequence<Certificate>, CertError>
-    ensures { Gives (λ blocks. blocks) result (read_rest lines.old.end lines.old.rest.now
+    ensures { Gives NoMemory (λ blocks. blocks) result (read_rest lines.old.end lines.old.rest.now
         nothing_read) }
 {
     let mut blocks = Vec::new(alloc);

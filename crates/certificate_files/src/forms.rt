@@ -5,7 +5,7 @@ ghost use Rattle.certificate_files.specs.Files.{frame_of, gate_of, is_small, say
 ghost use Rattle.certificate_files.specs.Forms.{framed, gated};
 
 use crate::fault::CertError;
-use crate::lines::Line;
+use file_words::Line;
 use reader_parts::NumberLine;
 
 /// The greatest number in a file.

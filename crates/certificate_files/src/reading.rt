@@ -3,14 +3,15 @@
 ghost use Rattle.std.specs.Prelude.{ℕ, [], ◌≡◌, ◌⊎◌, ◌-◌, length, IfOk, IfErr, Ok, Err};
 ghost use Rattle.file_words.specs.Lines as format;
 ghost use Rattle.certificate_files.specs.declared.fault.CertError.TheVariants.{NoMemory};
-ghost use Rattle.certificate_files.specs.Answering.{Gives, Leads};
+ghost use Rattle.file_words.specs.Answering.{Gives, Leads};
 ghost use Rattle.certificate_files.specs.Files.{is_word, choice_of, nothing_read, read_file, read_second, read_text, with_choice};
 ghost use Rattle.certificate_files.specs.Steps.{read_rest};
 
 use crate::blocks::read_blocks;
 use crate::fault::CertError;
 use crate::file::CertFile;
-use crate::lines::Lines;
+use crate::lines::next_line;
+use file_words::Lines;
 use least_sets::Choice;
 use std::alloc::Global;
 
@@ -36,11 +37,11 @@ fn choice(text: &[u8]) -> Option<Choice>
 fn second_line(lines: &mut Lines<'_>) -> Result<Choice, CertError>
     ensures { (at : ℕ) → (lines.old.rest.now ≡ []) ⊎
         (at ≡ lines.old.end - length lines.old.rest.now)
-        → Leads (λ choice. with_choice choice
+        → Leads NoMemory (λ choice. with_choice choice
         (read_rest lines.new.end lines.new.rest.now nothing_read)) result
         (read_second at lines.old.end (format.lines lines.old.rest.now)) }
 {
-    let line = lines.next_line()?;
+    let line = next_line(lines)?;
     match choice(line.text) {
         Some(choice) => Ok(choice),
         None => Err(CertError::BadLine(line.at)),
@@ -50,11 +51,11 @@ fn second_line(lines: &mut Lines<'_>) -> Result<Choice, CertError>
 /// Takes the lines before the blocks.
 fn first_lines(lines: &mut Lines<'_>) -> Result<Choice, CertError>
     ensures { length lines.old.rest.now ≡ lines.old.end
-        → Leads (λ choice. with_choice choice
+        → Leads NoMemory (λ choice. with_choice choice
         (read_rest lines.new.end lines.new.rest.now nothing_read)) result
         (read_file lines.old.end (format.lines lines.old.rest.now)) }
 {
-    let Ok(first) = lines.next_line() else {
+    let Ok(first) = next_line(lines) else {
         return Err(CertError::BadHeader(0));
     };
     if is_word(first.text, b"fretime-cert 1") {
@@ -67,7 +68,7 @@ fn first_lines(lines: &mut Lines<'_>) -> Result<Choice, CertError>
 }
 
 fn read(alloc: Global, bytes: &[u8]) -> Result<CertFile, CertError>
-    ensures { Gives (λ file. file) result (read_text bytes.now) }
+    ensures { Gives NoMemory (λ file. file) result (read_text bytes.now) }
 {
     let mut lines = Lines::new(bytes);
     let choice = first_lines(&mut lines)?;

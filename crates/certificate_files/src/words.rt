@@ -1,42 +1,27 @@
 //! The points of a route. A number that is too great is read as `u32::MAX` at first, since the form of the whole line is looked
 //! at before the size of any number.
-ghost use Rattle.std.specs.Prelude.{◌≡◌, ◌∷◌, ◌+◌, ◌*◌, List, ℕ};
+ghost use Rattle.std.specs.Prelude.{◌≡◌, ◌∷◌, List, ℕ};
 ghost use Rattle.file_words.specs.Lines.{pieces};
-ghost use Rattle.reader_parts.specs.Rows.{clamped};
-ghost use Rattle.certificate_files.specs.Answering.{Gives, Leads};
+ghost use Rattle.certificate_files.specs.declared.fault.CertError.TheVariants.{NoMemory};
+ghost use Rattle.file_words.specs.Answering.{Gives, Leads};
 ghost use Rattle.certificate_files.specs.Files.{saying_of};
 ghost use Rattle.certificate_files.specs.Forms.{are_small, number_of, onto, routed, side_of, sized_points, spelt_at, spelt_point};
 
 use crate::fault::CertError;
 use crate::forms::{after_letters, is_small};
-use crate::lines::Line;
 use aig_graph::Sequence;
-use file_words::cut;
+use file_words::{Line, cut, number};
 use frame_net::Point;
 use std::alloc::Global;
 
-/// The number with one more digit after it.
-fn with_digit(number: u32, digit: u8) -> u32
-    ensures { result ≡ clamped (10 * number + digit) }
-{
-    number.saturating_mul(10).saturating_add(u32::from(digit))
-}
-
 /// The number that decimal digits spell, where `u32::MAX` stands for each greater one.
-fn number(digits: &[u8]) -> Option<u32>
+fn small_number(digits: &[u8]) -> Option<u32>
     ensures { result ≡ number_of digits.now }
 {
-    if digits.is_empty() {
-        return None;
+    match number(digits) {
+        Some(number) => Some(number.min(u64::from(u32::MAX)) as u32),
+        None => None,
     }
-    let mut number = 0;
-    for digit in digits {
-        if !digit.is_ascii_digit() {
-            return None;
-        }
-        number = with_digit(number, *digit - b'0');
-    }
-    Some(number)
 }
 
 /// Whether the sign stands for the point after the variable.
@@ -54,13 +39,13 @@ fn point(word: &[u8]) -> Option<Point>
     ensures { result ≡ spelt_point word.now }
 {
     let (sign, digits) = word.split_last()?;
-    let var = number(digits)?;
+    let var = small_number(digits)?;
     let behind = side(*sign)?;
     Some(Point { var, behind })
 }
 
 fn push_point(points: &mut Vec<Point>, at: u64, word: &[u8]) -> Result<(), CertError>
-    ensures { (words : List (List ℕ)) → Leads (λ done. onto points.new.items
+    ensures { (words : List (List ℕ)) → Leads NoMemory (λ done. onto points.new.items
         (spelt_at at words)) result (onto points.old.items (spelt_at at (word.now ∷ words))) }
 {
     let Some(point) = point(word) else {
@@ -72,7 +57,7 @@ fn push_point(points: &mut Vec<Point>, at: u64, word: &[u8]) -> Result<(), CertE
 
 /// The points that are spelt with one space between, where `u32::MAX` stands for each greater number.
 fn spelt_points(alloc: Global, at: u64, words: &[u8]) -> Result<Vec<Point>, CertError>
-    ensures { Gives (λ points. points.items) result (spelt_at at (pieces words.now)) }
+    ensures { Gives NoMemory (λ points. points.items) result (spelt_at at (pieces words.now)) }
 {
     let mut points = Vec::new(alloc);
     let mut rest = words;
@@ -102,7 +87,7 @@ fn sized(at: u64, points: Vec<Point>) -> Result<Sequence<Point>, CertError>
 
 /// The line as one of a route.
 pub(crate) fn route_line(alloc: Global, line: &Line<'_>) -> Result<Sequence<Point>, CertError>
-    ensures { Gives (λ points. points) result (routed line.now.at (saying_of line.now.text.now)) }
+    ensures { Gives NoMemory (λ points. points) result (routed line.now.at (saying_of line.now.text.now)) }
 {
     let Some(words) = after_letters(line.text, b"r ") else {
         return Err(CertError::BadLine(line.at));

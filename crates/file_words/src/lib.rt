@@ -4,8 +4,12 @@
 
 mod cutting;
 mod fault;
+mod lines;
+mod numbers;
 mod spelling;
 
 pub use cutting::{cut, first_line};
 pub use fault::ReadError;
+pub use lines::{Line, Lines};
+pub use numbers::number;
 pub use spelling::Spelling;

@@ -1,10 +1,11 @@
 -- The text of a stimulus.
-use Rattle.std.specs.Prelude.{ℕ, ◌≡◌, ◌+◌, ◌^◌, ◌==◌, ◌||◌, Bool, ◌++◌, List, [], ◌∷◌, length, map, Result, Ok, Err, if◌then◌else◌}
+use Rattle.std.specs.Prelude.{ℕ, ◌^◌, ◌==◌, ◌||◌, Bool, ◌++◌, List, [], ◌∷◌, length, map, Result, Ok, Err, if◌then◌else◌}
 use Rattle.std.specs.List.{list_all}
 use Rattle.file_words.specs.Lines.{lines}
+use Rattle.file_words.specs.Reading.{read_lines}
 use Rattle.lane_sim.specs.declared.stimulus.InputSequence.{InputSequence}
 use Rattle.lane_sim.specs.declared.fault.StimError.{StimError}
-use Rattle.lane_sim.specs.declared.fault.StimError.TheVariants.{BadLine, Width, TooMany, NoMemory}
+use Rattle.lane_sim.specs.declared.fault.StimError.TheVariants.{BadLine, Width, TooMany}
 
 abbrev pub is_digit : ℕ → Bool
 is_digit b = b == 48 || b == 49
@@ -41,22 +42,6 @@ read_line inputs free at sequences (kind ∷ digits) =
     then (if kind == 61 then begin free at sequences digits else (if kind == 58 then step inputs at sequences digits else Err (BadLine at)))
     else Err (BadLine at)
 
-abbrev pub and_then : Result (List InputSequence) StimError → (List InputSequence → Result (List InputSequence) StimError) → Result (List InputSequence) StimError
-and_then (Ok sequences) rest = rest sequences
-and_then (Err fault) rest = Err fault
-
--- the sequences after the lines from an offset on, or the first fault
-unfoldable pub read_lines : ℕ → ℕ → ℕ → List InputSequence → List (List ℕ) → Result (List InputSequence) StimError
-read_lines inputs free at sequences [] = Ok sequences
-read_lines inputs free at sequences (line ∷ rest) =
-    and_then (read_line inputs free at sequences line) (λ more. read_lines inputs free (at + length line + 1) more rest)
-
 -- the sequences of a text, or its first fault
 abbrev pub read_text : ℕ → ℕ → List ℕ → Result (List InputSequence) StimError
-read_text inputs free bytes = read_lines inputs free 0 [] (lines bytes)
-
--- What was returned is, seen by view, what the text gives, unless memory ran out.
-abbrev pub Gives : {X : Type 0} → (X → List InputSequence) → Result X StimError → Result (List InputSequence) StimError → Type 0
-Gives view (Ok x) read = read ≡ Ok (view x)
-Gives view (Err NoMemory) read = Unit {0}
-Gives view (Err fault) read = read ≡ Err fault
+read_text inputs free bytes = read_lines (read_line inputs free) 0 [] (lines bytes)

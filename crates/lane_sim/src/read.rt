@@ -1,14 +1,15 @@
 //! Reading a stimulus.
-ghost use Rattle.std.specs.Prelude.{◌≡◌, ◌==◌, ◌++◌, ◌∷◌, [], IfOk, MatchOption, length};
+ghost use Rattle.std.specs.Prelude.{◌≡◌, ◌==◌, ◌++◌, ◌∷◌, [], IfOk, length};
 ghost use Rattle.std.specs.List.{list_all};
-ghost use Rattle.file_words.specs.Cuts.{IsFirst};
-ghost use Rattle.lane_sim.specs.Stimuli.{Gives, is_digit, values_of, begin, step};
+ghost use Rattle.file_words.specs.Answering.{Gives};
+ghost use Rattle.lane_sim.specs.declared.fault.StimError.TheVariants.{NoMemory};
+ghost use Rattle.lane_sim.specs.Stimuli.{is_digit, values_of, begin, step};
 ghost use Rattle.lane_sim.specs.Stimuli as stimuli;
 
 use crate::fault::StimError;
 use crate::stimulus::{InputSequence, Stimulus};
 use aig_graph::Sequence;
-use file_words::first_line;
+use file_words::{Line, Lines};
 use std::alloc::{AllocError, Global};
 
 /// The sequences that a stimulus may have.
@@ -27,14 +28,12 @@ pub fn read_stimulus(
     inputs: usize,
     free: usize,
 ) -> Result<Stimulus, StimError>
-    ensures { Gives (λ stimulus. stimulus) result (stimuli.read_text inputs free bytes.now) }
+    ensures { Gives NoMemory (λ stimulus. stimulus) result (stimuli.read_text inputs free bytes.now) }
 {
     let mut sequences = Vec::new(alloc);
-    let mut left = bytes;
-    while let Some((line, after)) = next_line(left) {
-        let offset = (bytes.len() - left.len()) as u64;
-        read_line(alloc, &mut sequences, line, inputs, free, offset)?;
-        left = after;
+    let mut lines = Lines::new(bytes);
+    while let Some(line) = lines.next_line() {
+        read_line(alloc, &mut sequences, &line, inputs, free)?;
     }
     Ok(Stimulus::new(sequences))
 }
@@ -43,24 +42,23 @@ pub fn read_stimulus(
 fn read_line(
     alloc: Global,
     sequences: &mut Vec<InputSequence>,
-    line: &[u8],
+    line: &Line<'_>,
     inputs: usize,
     free: usize,
-    offset: u64,
 ) -> Result<(), StimError>
-    ensures { Gives (λ _. sequences.new.items) result
-        (stimuli.read_line inputs free offset sequences.old.items line.now) }
+    ensures { Gives NoMemory (λ _. sequences.new.items) result
+        (stimuli.read_line inputs free line.now.at sequences.old.items line.now.text.now) }
 {
-    let Some((kind, digits)) = line.split_first() else {
-        return Err(StimError::BadLine(offset));
+    let Some((kind, digits)) = line.text.split_first() else {
+        return Err(StimError::BadLine(line.at));
     };
     if !are_digits(digits) {
-        return Err(StimError::BadLine(offset));
+        return Err(StimError::BadLine(line.at));
     }
     match *kind {
-        b'=' => begin_sequence(alloc, sequences, digits, free, offset),
-        b':' => add_step(alloc, sequences, digits, inputs, offset),
-        _ => Err(StimError::BadLine(offset)),
+        b'=' => begin_sequence(alloc, sequences, digits, free, line.at),
+        b':' => add_step(alloc, sequences, digits, inputs, line.at),
+        _ => Err(StimError::BadLine(line.at)),
     }
 }
 
@@ -72,7 +70,7 @@ fn begin_sequence(
     free: usize,
     offset: u64,
 ) -> Result<(), StimError>
-    ensures { Gives (λ _. sequences.new.items) result
+    ensures { Gives NoMemory (λ _. sequences.new.items) result
         (begin free offset sequences.old.items digits.now) }
 {
     if digits.len() != free {
@@ -97,7 +95,7 @@ fn add_step(
     inputs: usize,
     offset: u64,
 ) -> Result<(), StimError>
-    ensures { Gives (λ _. sequences.new.items) result
+    ensures { Gives NoMemory (λ _. sequences.new.items) result
         (step inputs offset sequences.old.items digits.now) }
 {
     let Some(last) = sequences.pop() else {
@@ -144,15 +142,4 @@ fn values(alloc: Global, digits: &[u8]) -> Result<Sequence<bool>, AllocError>
         values.push(*digit == b'1')?;
     }
     Ok(Sequence::from_vec(values))
-}
-
-/// The first line of the bytes and what follows its newline, or `None` where no byte is left.
-fn next_line(bytes: &[u8]) -> Option<(&[u8], &[u8])>
-    ensures { MatchOption result (bytes.now ≡ []) (λ parts.
-        IsFirst bytes.now parts.0.now parts.1.now) }
-{
-    if bytes.is_empty() {
-        return None;
-    }
-    Some(first_line(bytes))
 }

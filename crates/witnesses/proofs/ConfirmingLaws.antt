@@ -1,5 +1,5 @@
 -- The properties of a witness, one after another.
-use Rattle.std.proofs.Common.{ℕ, Bool, true, false, suc, zero, ◌+◌, ◌<◌, ◌≡◌, ◌⊎◌, ◌++◌, ◌∷◌, [], inl, inr, List, length, Some, Option, None, slice_get, refl, arith, sym, ap, ◌∙◌, subst, Ok}
+use Rattle.std.proofs.Common.{ℕ, true, false, suc, zero, ◌≡◌, ◌⊎◌, ◌++◌, ◌∷◌, [], inl, inr, List, length, Some, Option, None, slice_get, refl, arith, sym, ap, ◌∙◌, subst, Ok}
 use Rattle.std.proofs.lemmas.Bool.{cases_lt, eqb-true, eqb-false, false≢true}
 use Rattle.std.specs.Option.{MatchOption}
 use Rattle.std.proofs.lemmas.Option.{same_Some, none-some}

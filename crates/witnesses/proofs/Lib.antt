@@ -1,4 +1,3 @@
-pub mod AnsweringLaws
 pub mod LineLaws
 pub mod WordLaws
 pub mod ReadingLaws

@@ -1,14 +1,10 @@
 -- The lines that are left of a text.
-use Rattle.std.proofs.Common.{ℕ, ◌+◌, ◌-◌, ◌<◌, ◌≤◌, ◌≡◌, ◌∷◌, [], List, true, false, length, refl, arith, ap, ◌∙◌}
+use Rattle.std.proofs.Common.{ℕ, ◌+◌, ◌-◌, ◌<◌, ◌≤◌, ◌≡◌, ◌∷◌, [], List, true, false, length, refl, arith, sym, ap, ◌∙◌}
 use Rattle.std.proofs.lemmas.Bool.{cond-true, cond-false}
 use Rattle.file_words.specs.Cuts.{IsFirst}
 use Rattle.file_words.specs.Lines.{lines}
 use Rattle.file_words.proofs.FirstLaws.{apart}
 use Rattle.witnesses.specs.Statements.{Statement, is_comment, with_line, statements, lines_left}
-
-pub no_bytes : (rest : List ℕ) → length rest ≡ 0 → rest ≡ []
-no_bytes [] e = refl
-no_bytes (byte ∷ rest) e = absurd (omega (arith, e))
 
 -- after the last line
 pub none_left : (end : ℕ) (rest : List ℕ) → rest ≡ [] → lines_left end rest ≡ []
@@ -21,12 +17,13 @@ any_offset a b [] same = refl
 any_offset a b (byte ∷ rest) same = ap (λ (at : ℕ). statements at (lines (byte ∷ rest))) (same (omega arith))
 
 -- the first line
-pub first_left : (end : ℕ) (text line more : List ℕ) → length text ≤ end → IsFirst text line more
-    → lines_left end text ≡ with_line (end - length text) line (lines_left end more)
+pub first_left : (at end now : ℕ) (text line more : List ℕ) → length text ≤ end → (at ≡ end - length text) × IsFirst text line more → now ≡ end
+    → lines_left end text ≡ with_line at line (lines_left now more)
 unfolding statements
-first_left end text line more within first =
-    ap (statements (end - length text)) first.whole
-    ∙ ap (with_line (end - length text) line) (any_offset (end - length text + length line + 1) (end - length more) more (λ some. omega (arith, apart text line more first some)))
+first_left at end now text line more within (here, first) same =
+    ap (λ (n : ℕ). statements n (lines text)) (sym here)
+    ∙ ap (statements at) first.whole
+    ∙ ap (with_line at line) (any_offset (at + length line + 1) (now - length more) more (λ some. omega (arith, within, here, same, apart text line more first some)))
 
 -- a line that is a comment, and one that isn't
 pub comment_left : (at : ℕ) (text : List ℕ) (rest : List Statement) → is_comment text ≡ true → with_line at text rest ≡ rest

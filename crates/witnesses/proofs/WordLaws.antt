@@ -1,29 +1,15 @@
 -- The properties of a line, word by word.
-use Rattle.std.proofs.Common.{ℕ, true, ◌+◌, ◌-◌, ◌*◌, ◌<◌, ◌≡◌, length, List, [], ◌∷◌, take, Result, Ok, arith, ap, sym, ◌∙◌, get_or}
-use Rattle.std.proofs.lemmas.List.{take_more}
-use Rattle.std.proofs.lemmas.List.Sums.{fold-append}
-use Rattle.file_words.specs.Lines.{pieces, digits_value}
+use Rattle.std.proofs.Common.{ℕ, true, ◌≡◌, List, [], Result, Ok, ap, ◌∙◌}
+use Rattle.file_words.specs.Answering.{◌>>=◌, Fails}
+use Rattle.file_words.specs.Lines.{pieces}
 use Rattle.file_words.specs.Cuts.{Cuts, lacks}
 use Rattle.file_words.proofs.DecimalLaws.{pieces-at_space, pieces-at_end}
 use Rattle.witnesses.specs.declared.witness.Property.{Property}
 use Rattle.witnesses.specs.declared.widths.Widths.{Widths}
 use Rattle.witnesses.specs.declared.fault.WitnessError.{WitnessError}
-use Rattle.witnesses.specs.Answering.{Fails, and_then}
-use Rattle.witnesses.specs.Properties.{clamped, with_property, properties_of}
-use Rattle.witnesses.proofs.AnsweringLaws.{Fails-where}
-
-abbrev step : ℕ → ℕ → ℕ
-step value digit = 10 * value + (digit - 48)
-
--- one more digit
-pub value_more : (digits : List ℕ) (i digit number : ℕ) → i < length digits → digit ≡ get_or digits i 0
-    → number ≡ clamped (digits_value (take i digits)) → clamped (10 * number + (digit - 48)) ≡ clamped (digits_value (take (i + 1) digits))
-value_more digits i digit number within here is =
-    let value = digits_value (take i digits) in
-    let cut : clamped (10 * number + (digit - 48)) ≡ clamped (step value digit) = omega (arith, is) in
-    let next : digits_value (take (i + 1) digits) ≡ step value digit =
-    ap digits_value (take_more digits i 0 within) ∙ fold-append step 0 (take i digits) (get_or digits i 0 ∷ []) ∙ ap (step value) (sym here) in
-    cut ∙ ap clamped (sym next)
+use Rattle.witnesses.specs.declared.fault.WitnessError.TheVariants.{NoMemory}
+use Rattle.witnesses.specs.Properties.{with_property, properties_of}
+use Rattle.file_words.proofs.AnsweringLaws.{Fails-where}
 
 -- ---- words with a space after them, and the last one
 
@@ -32,26 +18,26 @@ module _ (w : Widths) (at : ℕ) (whole : Result (List Property) WitnessError) (
   LeadsOn rest = whole ≡ properties_of w at properties (pieces rest)
 
   at_space : (rest word more : List ℕ) → Cuts 32 rest word more → LeadsOn rest
-      → whole ≡ and_then (with_property w at properties word) (λ next. properties_of w at next (pieces more))
+      → whole ≡ (with_property w at properties word >>= λ next. properties_of w at next (pieces more))
   unfolding properties_of
   at_space rest word more cuts leads = leads ∙ ap (properties_of w at properties) (ap pieces cuts.whole ∙ pieces-at_space word more cuts.clean)
 
   at_end : (rest : List ℕ) → lacks 32 rest ≡ true → LeadsOn rest
-      → whole ≡ and_then (with_property w at properties rest) (λ next. properties_of w at next [])
+      → whole ≡ (with_property w at properties rest >>= λ next. properties_of w at next [])
   unfolding properties_of
   at_end rest clean leads = leads ∙ ap (properties_of w at properties) (pieces-at_end rest clean)
 
   pub word_taken : (rest word more : List ℕ) (next : List Property) → Cuts 32 rest word more → LeadsOn rest → with_property w at properties word ≡ Ok next
       → whole ≡ properties_of w at next (pieces more)
-  word_taken rest word more next cuts leads taken = at_space rest word more cuts leads ∙ ap (λ r. and_then r (λ n. properties_of w at n (pieces more))) taken
+  word_taken rest word more next cuts leads taken = at_space rest word more cuts leads ∙ ap (λ r. r >>= λ n. properties_of w at n (pieces more)) taken
 
-  pub word_fails : (rest word more : List ℕ) (e : WitnessError) → Cuts 32 rest word more → LeadsOn rest → Fails e (with_property w at properties word) → Fails e whole
+  pub word_fails : (rest word more : List ℕ) (e : WitnessError) → Cuts 32 rest word more → LeadsOn rest → Fails NoMemory e (with_property w at properties word) → Fails NoMemory e whole
   word_fails rest word more e cuts leads fails = Fails-where e _ _
-      (λ f. at_space rest word more cuts leads ∙ ap (λ r. and_then r (λ n. properties_of w at n (pieces more))) f) fails
+      (λ f. at_space rest word more cuts leads ∙ ap (λ r. r >>= λ n. properties_of w at n (pieces more)) f) fails
 
   pub last_taken : (rest : List ℕ) (next : List Property) → lacks 32 rest ≡ true → LeadsOn rest → with_property w at properties rest ≡ Ok next → whole ≡ Ok next
   unfolding properties_of
-  last_taken rest next clean leads taken = at_end rest clean leads ∙ ap (λ r. and_then r (λ n. properties_of w at n [])) taken
+  last_taken rest next clean leads taken = at_end rest clean leads ∙ ap (λ r. r >>= λ n. properties_of w at n []) taken
 
-  pub last_fails : (rest : List ℕ) (e : WitnessError) → lacks 32 rest ≡ true → LeadsOn rest → Fails e (with_property w at properties rest) → Fails e whole
-  last_fails rest e clean leads fails = Fails-where e _ _ (λ f. at_end rest clean leads ∙ ap (λ r. and_then r (λ n. properties_of w at n [])) f) fails
+  pub last_fails : (rest : List ℕ) (e : WitnessError) → lacks 32 rest ≡ true → LeadsOn rest → Fails NoMemory e (with_property w at properties rest) → Fails NoMemory e whole
+  last_fails rest e clean leads fails = Fails-where e _ _ (λ f. at_end rest clean leads ∙ ap (λ r. r >>= λ n. properties_of w at n []) f) fails

@@ -1,7 +1,6 @@
 pub mod Codes
 pub mod Circuits
 pub mod Statements
-pub mod Answering
 pub mod Rows
 pub mod Properties
 pub mod Reading

@@ -1,20 +1,13 @@
 -- The line of the properties that fail.
-use Rattle.std.specs.Prelude.{ℕ, ◌-◌, ◌^◌, ◌==◌, ◌++◌, Bool, nat_lt, min, List, [], ◌∷◌, Option, Some, None, Result, Ok, Err, if◌then◌else◌}
+use Rattle.std.specs.Prelude.{ℕ, ◌==◌, ◌++◌, Bool, nat_lt, List, [], ◌∷◌, Option, Some, None, Result, Ok, Err, if◌then◌else◌}
 use Rattle.std.specs.Option.{option_and_then}
-use Rattle.file_words.specs.Lines.{is_number, digits_value}
+use Rattle.file_words.specs.Answering.{◌>>=◌}
+use Rattle.file_words.specs.Numbers.{number_of}
 use Rattle.witnesses.specs.declared.witness.Property.{Property}
 use Rattle.witnesses.specs.declared.witness.Property.TheVariants.{Bad, Justice}
 use Rattle.witnesses.specs.declared.widths.Widths.{Widths}
 use Rattle.witnesses.specs.declared.fault.WitnessError.{WitnessError}
 use Rattle.witnesses.specs.declared.fault.WitnessError.TheVariants.{BadLine, NoSuchProperty}
-use Rattle.witnesses.specs.Answering.{and_then}
-
--- the number, or the greatest of 64 bits where it is greater: no circuit has so many properties
-abbrev pub clamped : ℕ → ℕ
-clamped n = min n (2 ^ 64 - 1)
-
-abbrev pub number_of : List ℕ → Option ℕ
-number_of digits = if is_number digits then Some (clamped (digits_value digits)) else None
 
 -- b is a bad state, j a justice property
 abbrev pub lettered : ℕ → ℕ → Option Property
@@ -36,9 +29,9 @@ checked w at (Some property) = if has w property then Ok property else Err (NoSu
 
 -- the properties after one more word
 abbrev pub with_property : Widths → ℕ → List Property → List ℕ → Result (List Property) WitnessError
-with_property w at properties word = and_then (checked w at (property_of word)) (λ property. Ok (properties ++ property ∷ []))
+with_property w at properties word = checked w at (property_of word) >>= λ property. Ok (properties ++ property ∷ [])
 
 -- the properties after these words, or the first fault
 unfoldable pub properties_of : Widths → ℕ → List Property → List (List ℕ) → Result (List Property) WitnessError
 properties_of w at properties [] = Ok properties
-properties_of w at properties (word ∷ words) = and_then (with_property w at properties word) (λ more. properties_of w at more words)
+properties_of w at properties (word ∷ words) = with_property w at properties word >>= λ more. properties_of w at more words

@@ -1,5 +1,6 @@
 -- The text of a witness.
 use Rattle.std.specs.Prelude.{ℕ, ◌++◌, List, [], ◌∷◌, length, codes, Result, Ok, Err, if◌then◌else◌}
+use Rattle.file_words.specs.Answering.{◌>>=◌}
 use Rattle.file_words.specs.Lines.{pieces}
 use Rattle.witnesses.specs.declared.witness.Digit.{Digit}
 use Rattle.witnesses.specs.declared.witness.Property.{Property}
@@ -7,7 +8,6 @@ use Rattle.witnesses.specs.declared.witness.Witness.{Witness}
 use Rattle.witnesses.specs.declared.widths.Widths.{Widths}
 use Rattle.witnesses.specs.declared.fault.WitnessError.{WitnessError}
 use Rattle.witnesses.specs.declared.fault.WitnessError.TheVariants.{BadHeader, Truncated, Trailing}
-use Rattle.witnesses.specs.Answering.{and_then}
 use Rattle.witnesses.specs.Statements.{Statement, is_word, lines_left}
 use Rattle.witnesses.specs.Rows.{row_of}
 use Rattle.witnesses.specs.Properties.{properties_of}
@@ -34,13 +34,13 @@ latches_from width end (line ∷ rest) = followed rest (row_of width line.at lin
 
 -- the steps after one more line
 abbrev pub with_step : ℕ → ℕ → List ℕ → List (List Digit) → Result (List (List Digit)) WitnessError
-with_step width at text steps = and_then (row_of width at text) (λ row. Ok (steps ++ row ∷ []))
+with_step width at text steps = row_of width at text >>= λ row. Ok (steps ++ row ∷ [])
 
 -- then a value for each input, step by step, up to a line that is a full stop
 unfoldable pub steps_from : ℕ → ℕ → List (List Digit) → List Statement → Result (List (List Digit) × List Statement) WitnessError
 steps_from width end steps [] = Err (Truncated end)
 steps_from width end steps (line ∷ rest) =
-    if is_word line.text (codes ".") then Ok (steps, rest) else and_then (with_step width line.at line.text steps) (λ more. steps_from width end more rest)
+    if is_word line.text (codes ".") then Ok (steps, rest) else (with_step width line.at line.text steps >>= λ more. steps_from width end more rest)
 
 -- and nothing more
 abbrev pub closed : Witness → List Statement → Result Witness WitnessError
@@ -50,14 +50,14 @@ closed w (line ∷ rest) = Err (Trailing line.at)
 -- the parts of a witness, one after another
 abbrev pub inputs_then : Widths → ℕ → List Property → List Digit → List Statement → Result Witness WitnessError
 inputs_then w end properties latches rest =
-    and_then (steps_from w.inputs end [] rest) (λ inputs. closed (record { properties = properties; latches = latches; inputs = inputs.0 }) inputs.1)
+    steps_from w.inputs end [] rest >>= λ inputs. closed (record { properties = properties; latches = latches; inputs = inputs.0 }) inputs.1
 
 abbrev pub latches_then : Widths → ℕ → List Property → List Statement → Result Witness WitnessError
-latches_then w end properties rest = and_then (latches_from w.latches end rest) (λ latches. inputs_then w end properties latches.0 latches.1)
+latches_then w end properties rest = latches_from w.latches end rest >>= λ latches. inputs_then w end properties latches.0 latches.1
 
 abbrev pub properties_then : Widths → ℕ → List Statement → Result Witness WitnessError
-properties_then w end rest = and_then (properties_from w end rest) (λ properties. latches_then w end properties.0 properties.1)
+properties_then w end rest = properties_from w end rest >>= λ properties. latches_then w end properties.0 properties.1
 
 -- the witness of a text, or its first fault
 abbrev pub read_text : Widths → List ℕ → Result Witness WitnessError
-read_text w bytes = and_then (status_from (length bytes) (lines_left (length bytes) bytes)) (properties_then w (length bytes))
+read_text w bytes = status_from (length bytes) (lines_left (length bytes) bytes) >>= properties_then w (length bytes)

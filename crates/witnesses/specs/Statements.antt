@@ -2,7 +2,7 @@
 use Rattle.std.specs.Prelude.{ℕ, ◌+◌, ◌-◌, ◌==◌, ◌&&◌, Bool, false, List, [], ◌∷◌, length, if◌then◌else◌}
 use Rattle.std.specs.List.{starts_with}
 use Rattle.file_words.specs.Lines.{lines}
-use Rattle.witnesses.specs.declared.lines.Lines.{Lines}
+use Rattle.file_words.specs.declared.lines.Lines.{Lines}
 
 pub record Statement : Type 0 where
   pub at : ℕ

@@ -2,27 +2,28 @@
 //! is met first is the first of the text.
 ghost use Rattle.std.specs.Prelude.{ℕ, ◌≡◌, ◌⊎◌, [], IfOk, IfErr, Ok, Err};
 ghost use Rattle.witnesses.specs.declared.fault.WitnessError.TheVariants.{NoMemory};
-ghost use Rattle.witnesses.specs.Answering.{Gives};
+ghost use Rattle.file_words.specs.Answering.{Gives};
 ghost use Rattle.witnesses.specs.Reading.{closed, latches_from, properties_from, read_text, status_from, steps_from, with_step};
 ghost use Rattle.witnesses.specs.Statements.{left};
 
 use crate::fault::WitnessError;
-use crate::lines::{Line, Lines};
+use crate::lines::{following, next_line, truncated};
 use crate::marks::is_word;
 use crate::rows::row;
 use crate::widths::Widths;
 use crate::witness::{Digit, Property, Witness};
 use crate::words::properties;
 use aig_graph::Sequence;
+use file_words::{Line, Lines};
 use std::alloc::Global;
 
 /// Takes the line that says that there is a witness.
 fn status_line(lines: &mut Lines<'_>) -> Result<(), WitnessError>
     ensures end { lines.new.end ≡ lines.old.end }
-    ensures reads { Gives (λ _. left lines.new) result
+    ensures reads { Gives NoMemory (λ _. left lines.new) result
         (status_from lines.old.end (left lines.old)) }
 {
-    let line = lines.next_line()?;
+    let line = next_line(lines)?;
     if is_word(line.text, b"1") {
         Ok(())
     } else {
@@ -37,10 +38,10 @@ fn properties_line(
     widths: &Widths,
 ) -> Result<Sequence<Property>, WitnessError>
     ensures end { lines.new.end ≡ lines.old.end }
-    ensures reads { Gives (λ properties. (properties, left lines.new)) result
+    ensures reads { Gives NoMemory (λ properties. (properties, left lines.new)) result
         (properties_from widths.now lines.old.end (left lines.old)) }
 {
-    let line = lines.next_line()?;
+    let line = next_line(lines)?;
     properties(alloc, &line, widths)
 }
 
@@ -51,10 +52,10 @@ fn latches_line(
     width: usize,
 ) -> Result<Sequence<Digit>, WitnessError>
     ensures end { lines.new.end ≡ lines.old.end }
-    ensures reads { Gives (λ latches. (latches, left lines.new)) result
+    ensures reads { Gives NoMemory (λ latches. (latches, left lines.new)) result
         (latches_from width lines.old.end (left lines.old)) }
 {
-    let line = lines.next_line()?;
+    let line = next_line(lines)?;
     row(alloc, &line, width)
 }
 
@@ -64,7 +65,7 @@ fn push_step(
     line: &Line<'_>,
     width: usize,
 ) -> Result<(), WitnessError>
-    ensures { Gives (λ _. steps.new.items) result (with_step width line.now.at line.now.text.now
+    ensures { Gives NoMemory (λ _. steps.new.items) result (with_step width line.now.at line.now.text.now
         steps.old.items) }
 {
     let step = row(alloc, line, width)?;
@@ -79,31 +80,31 @@ fn step_lines(
     width: usize,
 ) -> Result<Sequence<Sequence<Digit>>, WitnessError>
     ensures end { lines.new.end ≡ lines.old.end }
-    ensures reads { Gives (λ steps. (steps, left lines.new)) result
+    ensures reads { Gives NoMemory (λ steps. (steps, left lines.new)) result
         (steps_from width lines.old.end [] (left lines.old)) }
 {
     let mut steps = Vec::new(alloc);
-    while let Some(line) = lines.following() {
+    while let Some(line) = following(lines) {
         if is_word(line.text, b".") {
             return Ok(Sequence::from_vec(steps));
         }
         push_step(alloc, &mut steps, &line, width)?;
     }
-    Err(lines.truncated())
+    Err(truncated(lines))
 }
 
 /// The witness, where nothing but comments follows.
 fn closed(lines: &mut Lines<'_>, witness: Witness) -> Result<Witness, WitnessError>
     ensures { result ≡ closed witness (left lines.old) }
 {
-    match lines.following() {
+    match following(lines) {
         Some(line) => Err(WitnessError::Trailing(line.at)),
         None => Ok(witness),
     }
 }
 
 fn read(alloc: Global, bytes: &[u8], widths: &Widths) -> Result<Witness, WitnessError>
-    ensures { Gives (λ witness. witness) result (read_text widths.now bytes.now) }
+    ensures { Gives NoMemory (λ witness. witness) result (read_text widths.now bytes.now) }
 {
     let mut lines = Lines::new(bytes);
     status_line(&mut lines)?;

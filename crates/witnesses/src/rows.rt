@@ -1,12 +1,13 @@
 ghost use Rattle.std.specs.Prelude.{◌≡◌, IfOk, map};
 ghost use Rattle.std.specs.List.{list_all};
-ghost use Rattle.witnesses.specs.Answering.{Gives};
+ghost use Rattle.witnesses.specs.declared.fault.WitnessError.TheVariants.{NoMemory};
+ghost use Rattle.file_words.specs.Answering.{Gives};
 ghost use Rattle.witnesses.specs.Rows.{digit_of, is_digit, row_of};
 
 use crate::fault::WitnessError;
-use crate::lines::Line;
 use crate::witness::Digit;
 use aig_graph::Sequence;
+use file_words::Line;
 use std::alloc::{AllocError, Global};
 
 fn digit(byte: u8) -> Digit
@@ -44,7 +45,7 @@ pub(crate) fn row(
     line: &Line<'_>,
     width: usize,
 ) -> Result<Sequence<Digit>, WitnessError>
-    ensures { Gives (λ row. row) result (row_of width line.now.at line.now.text.now) }
+    ensures { Gives NoMemory (λ row. row) result (row_of width line.now.at line.now.text.now) }
 {
     if !are_digits(line.text) {
         return Err(WitnessError::BadLine(line.at));

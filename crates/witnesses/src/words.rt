@@ -1,41 +1,16 @@
-//! The words of the line of properties. A number may have any number of digits: it is read up to 2^64 - 1, which is past every
-//! circuit's properties, and stays there.
-ghost use Rattle.std.specs.Prelude.{◌≡◌, ◌+◌, ◌*◌, []};
+//! The words of the line of properties. A number is read up to 2^64 - 1, which is past every circuit's properties, and stays there.
+ghost use Rattle.std.specs.Prelude.{◌≡◌, []};
 ghost use Rattle.file_words.specs.Lines.{pieces};
-ghost use Rattle.witnesses.specs.Answering.{Gives};
-ghost use Rattle.witnesses.specs.Properties.{clamped, has, number_of, properties_of, property_of, with_property};
+ghost use Rattle.witnesses.specs.declared.fault.WitnessError.TheVariants.{NoMemory};
+ghost use Rattle.file_words.specs.Answering.{Gives};
+ghost use Rattle.witnesses.specs.Properties.{has, properties_of, property_of, with_property};
 
 use crate::fault::WitnessError;
-use crate::lines::Line;
 use crate::widths::Widths;
 use crate::witness::Property;
 use aig_graph::Sequence;
-use file_words::cut;
+use file_words::{Line, cut, number};
 use std::alloc::Global;
-
-/// The number with one more digit after it.
-fn with_digit(number: u64, digit: u8) -> u64
-    ensures { result ≡ clamped (10 * number + digit) }
-{
-    number.saturating_mul(10).saturating_add(u64::from(digit))
-}
-
-/// The number that decimal digits spell, where `u64::MAX` stands for each greater one.
-fn number(digits: &[u8]) -> Option<u64>
-    ensures { result ≡ number_of digits.now }
-{
-    if digits.is_empty() {
-        return None;
-    }
-    let mut number = 0;
-    for digit in digits {
-        if !digit.is_ascii_digit() {
-            return None;
-        }
-        number = with_digit(number, *digit - b'0');
-    }
-    Some(number)
-}
 
 /// The property that a word names: `b` or `j`, and its number.
 fn property(word: &[u8]) -> Option<Property>
@@ -67,7 +42,7 @@ fn push_property(
     at: u64,
     word: &[u8],
 ) -> Result<(), WitnessError>
-    ensures { Gives (λ _. properties.new.items) result
+    ensures { Gives NoMemory (λ _. properties.new.items) result
         (with_property widths.now at properties.old.items word.now) }
 {
     let Some(property) = property(word) else {
@@ -86,7 +61,7 @@ pub(crate) fn properties(
     line: &Line<'_>,
     widths: &Widths,
 ) -> Result<Sequence<Property>, WitnessError>
-    ensures { Gives (λ properties. properties) result
+    ensures { Gives NoMemory (λ properties. properties) result
         (properties_of widths.now line.now.at [] (pieces line.now.text.now)) }
 {
     let mut properties = Vec::new(alloc);

@@ -1,9 +1,9 @@
-use Rattle.std.proofs.Common.{sym, ◌∙◌}
+use Rattle.std.proofs.Common.{inr, sym, ◌∙◌}
 use Rattle.certificate_files.proofs.FileLaws.{first_missing, first_version}
 use Rattle.certificate_files.proofs.reading.first_lines.Goals as goal
 
 pub returns-in_default : goal.returns-in_default
-returns-in_default c whole = first_missing c.args.lines.now.end c.args.lines.now.rest.now c.in_default.ensures.err.1
+returns-in_default c whole = inr (first_missing c.args.lines.now.end c.args.lines.now.rest.now c.in_default.ensures.err.1)
 
 pub returns-then-is_word : goal.returns-then-is_word
 returns-then-is_word c whole =

@@ -1,14 +1,14 @@
-use Rattle.std.proofs.Common.{sym, ap, ◌∙◌}
+use Rattle.std.proofs.Common.{inr, sym, ap, ◌∙◌}
 use Rattle.std.proofs.lemmas.Result.{err_from_is_err_and}
 use Rattle.file_words.specs.Lines.{pieces}
 use Rattle.certificate_files.specs.Forms.{routed}
-use Rattle.certificate_files.proofs.AnsweringLaws.{Fails-where, Gives-exact}
+use Rattle.file_words.proofs.AnsweringLaws.{Fails-where, Gives-exact}
 use Rattle.certificate_files.proofs.FormLaws.{routed_other, saying-route}
 use Rattle.certificate_files.proofs.WordLaws.{routed_points, routed_fault}
 use Rattle.certificate_files.proofs.words.route_line.Goals as goal
 
 pub returns-in_default : goal.returns-in_default
-returns-in_default c = routed_other _ _ c.in_default.ensures
+returns-in_default c = inr (routed_other _ _ c.in_default.ensures)
 
 pub returns-in_err-points : goal.returns-in_err-points
 returns-in_err-points c =
@@ -19,4 +19,4 @@ returns-in_err-points c =
 pub returns : goal.returns
 returns c =
     let at = c.args.line.now.at in
-    Gives-exact _ _ (ap (routed at) (saying-route _ _ c.in-Some.ensures) ∙ routed_points at (pieces c.in-Some.words.now) _ c.in_ok-points.ensures ∙ sym c.sized.ensures)
+    Gives-exact _ _ _ (ap (routed at) (saying-route _ _ c.in-Some.ensures) ∙ routed_points at (pieces c.in-Some.words.now) _ c.in_ok-points.ensures ∙ sym c.sized.ensures)

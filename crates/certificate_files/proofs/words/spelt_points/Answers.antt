@@ -3,7 +3,7 @@ use Rattle.std.proofs.lemmas.Result.{err_from_is_err_and}
 use Rattle.file_words.specs.Lines.{pieces}
 use Rattle.frame_net.specs.declared.net.Point.{Point}
 use Rattle.certificate_files.specs.Forms.{onto, spelt_at}
-use Rattle.certificate_files.proofs.AnsweringLaws.{Fails-same}
+use Rattle.file_words.proofs.AnsweringLaws.{Fails-same}
 use Rattle.file_words.proofs.DecimalLaws.{pieces-at_end}
 use Rattle.certificate_files.proofs.WordLaws.{pieces_cut}
 use Rattle.certificate_files.proofs.words.spelt_points.Goals as goal

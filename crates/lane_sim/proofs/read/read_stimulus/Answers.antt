@@ -1,19 +1,19 @@
-use Rattle.std.proofs.Common.{◌∙◌, ◌-◌, sym, ap, arith, length, Ok}
+use Rattle.std.proofs.Common.{Ok, ◌∙◌, sym, ap}
 use Rattle.std.proofs.lemmas.Result.{err_from_is_err_and}
-use Rattle.lane_sim.proofs.StimulusLaws.{line_fails, line_taken, no_lines}
+use Rattle.file_words.proofs.ReadingLaws.{line_fails, line_taken, no_lines}
+use Rattle.lane_sim.specs.Stimuli.{read_line}
 use Rattle.lane_sim.proofs.read.read_stimulus.Goals as goal
 
 pub returns-in_err-read_line : goal.returns-in_err-read_line
 returns-in_err-read_line c =
     let p = err_from_is_err_and c.from_residual.result c.from_residual.ensures.1 in
-    rw (p.1, p.2) (line_fails c.args.inputs c.args.free (length c.args.bytes.now - length c.loop-line.left.now) c.loop-line.sequences.items c.loop-line.left.now c.in-Some.line.now c.in-Some.after.now _ _ c.in-Some.ensures c.loop-line.invariant.goes_on c.in_err-read_line.ensures)
+    let line = c.in-Some.ensures.line in
+    rw (p.1, p.2) (line_fails (read_line c.args.inputs c.args.free) _ _ _ _ _ _ _ _ line.1 line.0 c.loop-line.invariant c.in_err-read_line.ensures)
 
 pub loop-line-preserved : goal.loop-line-preserved
-loop-line-preserved c = record {
-  within = omega (arith, c.in-Some.ensures.shorter, c.loop-line.invariant.within);
-  goes_on = c.loop-line.invariant.goes_on ∙ line_taken c.args.inputs c.args.free (length c.args.bytes.now) c.loop-line.sequences.items c.loop-line.left.now c.in-Some.line.now c.in-Some.after.now c.read_line.new.sequences.items
-      c.loop-line.invariant.within c.in-Some.ensures c.in_ok-read_line.ensures;
-}
+loop-line-preserved c =
+    let line = c.in-Some.ensures.line in
+    c.loop-line.invariant ∙ line_taken (read_line c.args.inputs c.args.free) _ _ _ _ _ _ _ _ c.in-Some.ensures.within line.1 line.0 c.in-Some.ensures.end c.in_ok-read_line.ensures
 
 pub returns : goal.returns
-returns c = c.loop-line.invariant.goes_on ∙ no_lines c.args.inputs c.args.free (length c.args.bytes.now - length c.loop-line.left.now) c.loop-line.sequences.items c.loop-line.left.now c.in_default.ensures ∙ ap Ok (sym c.new.ensures)
+returns c = c.loop-line.invariant ∙ no_lines (read_line c.args.inputs c.args.free) _ _ _ c.in_default.ensures.line ∙ ap Ok (sym c.new.ensures)

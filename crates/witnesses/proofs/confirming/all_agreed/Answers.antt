@@ -1,4 +1,4 @@
-use Rattle.std.proofs.Common.{ℕ, ◌+◌, ap, sym, subst, ◌∙◌, arith, Ok, Err, Result, length, get_or, slice_get, Some}
+use Rattle.std.proofs.Common.{ℕ, ◌+◌, ap, subst, ◌∙◌, Result, length, get_or, slice_get}
 use Rattle.std.proofs.lemmas.List.{length_push}
 use Rattle.std.proofs.lemmas.Option.{slice_get-get_or}
 use Rattle.witnesses.specs.declared.witness.Property.{Property}

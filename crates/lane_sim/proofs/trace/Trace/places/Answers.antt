@@ -1,4 +1,4 @@
-use Rattle.std.proofs.Common.{◌∙◌, ap, sym, refl, ◌/◌, ◌%◌, ◌≡◌, ◌<◌, ℕ, List, Bool, [], arith, length, get_or, subst}
+use Rattle.std.proofs.Common.{◌∙◌, ap, sym, ◌/◌, ◌%◌, ◌≡◌, ◌<◌, ℕ, List, Bool, [], arith, length, get_or, subst}
 use Rattle.std.proofs.lemmas.List.{length-map, get_or_default}
 use Rattle.lane_sim.specs.Lanes.{lane}
 use Rattle.lane_sim.specs.Blocks.{recorded}

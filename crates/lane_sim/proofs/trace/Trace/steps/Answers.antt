@@ -1,4 +1,4 @@
-use Rattle.std.proofs.Common.{◌∙◌, ap, sym, refl, ◌/◌, [], arith, length, min, get_or}
+use Rattle.std.proofs.Common.{◌∙◌, ap, sym, refl, ◌/◌, [], arith, length, get_or}
 use Rattle.std.proofs.lemmas.Option.{slice_get_read}
 use Rattle.lane_sim.proofs.TraceLaws.{recorded-steps, recorded-past, steps_in-length}
 use Rattle.lane_sim.proofs.trace.Trace.steps.Goals as goal

@@ -1,5 +1,5 @@
 use Rattle.std.proofs.Common.{[]}
-use Rattle.aig_binary.proofs.read.read_any.Goals as goal
+use Rattle.aig_binary.proofs.read.read.Goals as goal
 
 pub returns : goal.returns
 returns c = c.read_rest-circuit.ensures [] c.new-reader.ensures.holds
