@@ -1,4 +1,4 @@
-//! A circuit with something for each rule of cleaning, and one with free latches.
+//! A circuit with something for each rule of cleaning, one with free latches, and one whose latches have names.
 use aag_text::read_aag;
 use aig_graph::{Circuit, Keep, Latch, Lit, NoMemory, Reset};
 use clean::{Cleaned, clean};
@@ -65,5 +65,15 @@ fn cleans_to_two_free_latches(alloc: Global, circuit: &Circuit) -> Result<bool, 
 fn tells_which_free_latches_stay(rt: HostRuntime) -> Result<(), Fail> {
     let circuit = read_aag(rt.alloc(), FREE_LATCHES)?;
     assert!(rt; cleans_to_two_free_latches(rt.alloc(), &circuit)?);
+    Ok(())
+}
+
+/// An input, two latches that read it, and one that reads itself; the second is the output, and it and the third have names.
+const HELD_LATCHES: &[u8] = b"aag 4 1 3 1 0\n2\n4 2\n6 2\n8 8\n6\nl1 twin\nl2 stuck\n";
+
+#[test]
+fn cleans_a_twin_and_a_stuck_latch_that_are_not_held(rt: HostRuntime) -> Result<(), Fail> {
+    let circuit = read_aag(rt.alloc(), HELD_LATCHES)?;
+    assert!(rt; cleans_to_a_latch(rt.alloc(), &circuit)?);
     Ok(())
 }
