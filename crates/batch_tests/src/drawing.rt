@@ -1,92 +1,79 @@
-//! That the workers draw the files one at a time: while one file is held, the other worker runs all others.
+//! That the workers of a batch are at work at once, and draw the files one at a time: one of two workers is held as the batch begins for it,
+//! until the other has left the batch, with files and with none; and one of five files is held until the other worker has run all others.
 use crate::files::{defaults, five_files};
+use crate::gates::{Held, PoolGate};
 use crate::outcomes::are_answers;
-use batch_pool::{Job, run_batch};
-use pulse::{Crew, PhaseGate};
-use std::alloc::Global;
-use std::sync::atomic::{AtomicU64, Ordering};
+use batch_pool::{Job, Outcome, run_batch};
+use pulse::Crew;
+use std::alloc::{AllocError, Global};
 use std::test::Fail;
 use std::thread::Threads;
 
-/// How often a held worker looks for the others' files at most.
-const TURNS: u64 = 1 << 28;
-
-/// One of the phases of five files, which are 1 to 5, is held until the other four were left.
-#[derive(Drop)]
-struct HeldFile {
-    held: u64,
-    passed: AtomicU64,
-    left: AtomicU64,
-    in_vain: AtomicU64,
-}
-
-impl HeldFile {
-    fn new(held: u64) -> HeldFile {
-        HeldFile {
-            held,
-            passed: AtomicU64::new(0),
-            left: AtomicU64::new(0),
-            in_vain: AtomicU64::new(0),
-        }
-    }
-
-    /// Waits until the other four files were left, so many turns at most.
-    fn hold(&self) {
-        for _ in 0..TURNS {
-            if self.left.load(Ordering::SeqCst) >= 4 {
-                return;
-            }
-        }
-        self.in_vain.fetch_add(1, Ordering::SeqCst);
-    }
-
-    /// Whether each file was passed and left, and none was held in vain.
-    fn saw_all(&self) -> bool {
-        self.passed.load(Ordering::SeqCst) == 5
-            && self.left.load(Ordering::SeqCst) == 5
-            && self.in_vain.load(Ordering::SeqCst) == 0
+/// Whether these are the outcomes of the five files, or of none.
+fn are_outcomes(jobs: &[Job], outcomes: &[Outcome]) -> bool {
+    if jobs.is_empty() {
+        outcomes.is_empty()
+    } else {
+        are_answers(outcomes)
     }
 }
 
-impl PhaseGate for HeldFile {
-    fn pass(&self, phase: u64, _worker: u32) {
-        if phase != 0 {
-            if phase == self.held {
-                self.hold();
-            }
-            self.passed.fetch_add(1, Ordering::SeqCst);
-        }
-    }
-
-    fn leave(&self, phase: u64, _worker: u32) {
-        if phase != 0 {
-            self.left.fetch_add(1, Ordering::SeqCst);
-        }
-    }
-}
-
-/// Whether two workers run all files, one of them all but the one that is held.
-fn draws_past<R: Threads + Sync>(rt: &R, alloc: Global, jobs: &[Job], held: u64) -> bool {
+/// Whether two workers run all files past this one that is held.
+fn runs_past<R: Threads + Sync>(
+    rt: &R,
+    alloc: Global,
+    jobs: &[Job],
+    held: Held,
+) -> Result<bool, AllocError> {
+    let gate = PoolGate::of(alloc, 2, jobs.len() as u64, held)?;
+    let crew = Crew::new(2, gate);
     let options = defaults(alloc);
-    let crew = Crew::new(2, HeldFile::new(held));
-    match run_batch(rt, alloc, jobs, &options, &crew) {
-        Ok(outcomes) => are_answers(outcomes.as_slice()) && crew.gate().saw_all(),
+    Ok(match run_batch(rt, alloc, jobs, &options, &crew) {
+        Ok(outcomes) => are_outcomes(jobs, outcomes.as_slice()) && crew.gate().saw_all(),
         Err(_) => false,
-    }
+    })
 }
 
-/// Whether that is so of each of five files.
-fn draws_past_each<R: Threads + Sync>(rt: &R, alloc: Global, jobs: &[Job]) -> bool {
+/// Whether either worker can be held.
+fn runs_past_workers<R: Threads + Sync>(
+    rt: &R,
+    alloc: Global,
+    jobs: &[Job],
+) -> Result<bool, AllocError> {
+    let first = runs_past(rt, alloc, jobs, Held::Worker(0))?;
+    let second = runs_past(rt, alloc, jobs, Held::Worker(1))?;
+    Ok(first && second)
+}
+
+/// Whether each of five files can be held.
+fn runs_past_files<R: Threads + Sync>(
+    rt: &R,
+    alloc: Global,
+    jobs: &[Job],
+) -> Result<bool, AllocError> {
     let mut all = true;
-    for held in 1..6u64 {
-        all = draws_past(rt, alloc, jobs, held) && all;
+    for number in 0..5u64 {
+        all = runs_past(rt, alloc, jobs, Held::Job(number))? && all;
     }
-    all
+    Ok(all)
 }
 
 #[test]
-fn draws_past_a_held_file(rt: HostRuntime) -> Result<(), Fail> {
+fn runs_past_either_worker(rt: HostRuntime) -> Result<(), Fail> {
     let jobs = five_files(rt.alloc())?;
-    assert!(rt; draws_past_each(&rt, rt.alloc(), jobs.as_slice()));
+    assert!(rt; runs_past_workers(&rt, rt.alloc(), jobs.as_slice())?);
+    Ok(())
+}
+
+#[test]
+fn runs_past_either_worker_without_files(rt: HostRuntime) -> Result<(), Fail> {
+    assert!(rt; runs_past_workers(&rt, rt.alloc(), &[])?);
+    Ok(())
+}
+
+#[test]
+fn runs_past_each_file(rt: HostRuntime) -> Result<(), Fail> {
+    let jobs = five_files(rt.alloc())?;
+    assert!(rt; runs_past_files(&rt, rt.alloc(), jobs.as_slice())?);
     Ok(())
 }

@@ -10,6 +10,6 @@ mod errors;
 #[cfg(test)]
 mod files;
 #[cfg(test)]
-mod outcomes;
+mod gates;
 #[cfg(test)]
-mod workers;
+mod outcomes;

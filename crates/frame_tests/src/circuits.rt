@@ -3,6 +3,9 @@
 /// Two inputs, a latch at each, and the gate of the latches, which is variable 5 and the output.
 pub(crate) const TWO_LATCHES: &[u8] = b"aag 5 2 2 1 1\n2\n4\n6 2\n8 4\n10\n10 8 6\n";
 
+/// The same with a first latch that is free.
+pub(crate) const FREE_LATCH: &[u8] = b"aag 5 2 2 1 1\n2\n4\n6 2 6\n8 4\n10\n10 8 6\n";
+
 /// The same with the gate of the latches' negations.
 pub(crate) const NEGATED_LATCHES: &[u8] = b"aag 5 2 2 1 1\n2\n4\n6 2\n8 4\n10\n10 9 7\n";
 

@@ -1,6 +1,6 @@
-//! A circuit with something for each rule of cleaning, and one with free latches.
+//! A circuit with something for each rule of cleaning, one with free latches, and one whose latches have names, by which they are held.
 use aag_text::read_aag;
-use aig_graph::{Circuit, Keep, Latch, Lit, NoMemory, Reset};
+use aig_graph::{Circuit, Keep, KeepError, Latch, Lit, NoMemory, Reset, keep_of};
 use clean::{Cleaned, clean};
 use std::alloc::Global;
 use std::test::Fail;
@@ -65,5 +65,55 @@ fn cleans_to_two_free_latches(alloc: Global, circuit: &Circuit) -> Result<bool, 
 fn tells_which_free_latches_stay(rt: HostRuntime) -> Result<(), Fail> {
     let circuit = read_aag(rt.alloc(), FREE_LATCHES)?;
     assert!(rt; cleans_to_two_free_latches(rt.alloc(), &circuit)?);
+    Ok(())
+}
+
+/// An input, two latches that read it, and one that reads itself; the second is the output, and it and the third have names.
+const HELD_LATCHES: &[u8] = b"aag 4 1 3 1 0\n2\n4 2\n6 2\n8 8\n6\nl1 twin\nl2 stuck\n";
+
+/// Whether the twin and the stuck latch are left, and the twin is the output.
+fn are_twin_and_stuck(cleaned: &Cleaned) -> bool {
+    let twin = Latch {
+        next: Lit::new(1, false),
+        reset: Reset::Zero,
+    };
+    let stuck = Latch {
+        next: Lit::new(3, false),
+        reset: Reset::Zero,
+    };
+    cleaned.circuit.aig().latches() == [twin, stuck].as_slice()
+        && cleaned.circuit.props().outputs.as_slice() == [Lit::new(2, false)].as_slice()
+        && cleaned.circuit.symbols().latches.len() == 2
+}
+
+/// The circuit cleaned, the latches of these names held.
+fn cleaned_past(alloc: Global, circuit: &Circuit, names: &[Vec<u8>]) -> Result<Cleaned, KeepError> {
+    circuit.known();
+    let keep = keep_of(alloc, circuit, names)?;
+    match clean(alloc, circuit, &keep) {
+        Ok(cleaned) => Ok(cleaned),
+        Err(NoMemory) => Err(KeepError::NoMemory),
+    }
+}
+
+/// Whether these are left where both are held.
+fn cleans_past_held_latches(alloc: Global, circuit: &Circuit) -> Result<bool, KeepError> {
+    let twin = Vec::from_slice(alloc, b"twin")?;
+    let stuck = Vec::from_slice(alloc, b"stuck")?;
+    let cleaned = cleaned_past(alloc, circuit, &[twin, stuck])?;
+    Ok(are_twin_and_stuck(&cleaned))
+}
+
+#[test]
+fn cleans_neither_a_held_twin_nor_a_held_stuck_latch(rt: HostRuntime) -> Result<(), Fail> {
+    let circuit = read_aag(rt.alloc(), HELD_LATCHES)?;
+    assert!(rt; cleans_past_held_latches(rt.alloc(), &circuit)?);
+    Ok(())
+}
+
+#[test]
+fn cleans_a_twin_and_a_stuck_latch_that_are_not_held(rt: HostRuntime) -> Result<(), Fail> {
+    let circuit = read_aag(rt.alloc(), HELD_LATCHES)?;
+    assert!(rt; cleans_to_a_latch(rt.alloc(), &circuit)?);
     Ok(())
 }

@@ -45,7 +45,7 @@ fn example(alloc: Global) -> Result<Circuit, BuildError> {
 }
 
 /// The size of the border of a closed set, no latch held.
-fn counted(alloc: Global, circuit: &Circuit, vars: Vec<u32>) -> Option<u32> {
+pub(crate) fn counted(alloc: Global, circuit: &Circuit, vars: Vec<u32>) -> Option<u32> {
     let set = ClosedSet::new(vars)?;
     let keep = Keep::none();
     if !is_closed(circuit.aig(), &set, &keep) {

@@ -5,6 +5,8 @@
 #[cfg(test)]
 mod audited;
 #[cfg(test)]
+mod borders;
+#[cfg(test)]
 mod certified;
 #[cfg(test)]
 mod circuits;

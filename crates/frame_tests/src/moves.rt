@@ -1,9 +1,9 @@
-//! The gate of two latches' negations: the circuit moved over it, and its reset.
+//! The gate of two latches' negations: the circuit moved over it, and its reset; and the reset of a gate on a free latch.
 ghost use Rattle.std.specs.Prelude.{◌+◌, ◌≤◌, IsTrue, length};
 ghost use Rattle.aig_graph.specs.declared.literal.TheConstants.{MAX_VARIABLES};
 ghost use Rattle.aig_graph.specs.Graph.{first_latch, free_latches};
 
-use crate::circuits::NEGATED_LATCHES;
+use crate::circuits::{FREE_LATCH, NEGATED_LATCHES};
 use aag_text::read_aag;
 use aig_graph::{
     Aig, Circuit, ClosedSet, Gate, Keep, Latch, Lit, MAX_VARIABLES, NoMemory, Reset, count,
@@ -75,15 +75,22 @@ fn moves_over_a_gate(rt: HostRuntime) -> Result<(), Fail> {
     Ok(())
 }
 
-/// Whether the one gate starts at 1, no latch held.
-fn starts_at_one(alloc: Global, aig: &Aig) -> Result<bool, NoMemory> {
+/// Whether the one gate starts so, no latch held.
+fn starts_at(alloc: Global, aig: &Aig, reset: Reset) -> Result<bool, NoMemory> {
     let resets = resets(alloc, aig, &Keep::none())?;
-    Ok(resets.as_slice() == [Reset::One].as_slice())
+    Ok(resets.as_slice() == [reset].as_slice())
 }
 
 #[test]
 fn resets_a_passable_gate(rt: HostRuntime) -> Result<(), Fail> {
     let circuit = read_aag(rt.alloc(), NEGATED_LATCHES)?;
-    assert!(rt; starts_at_one(rt.alloc(), circuit.aig())?);
+    assert!(rt; starts_at(rt.alloc(), circuit.aig(), Reset::One)?);
+    Ok(())
+}
+
+#[test]
+fn resets_no_gate_on_a_free_latch(rt: HostRuntime) -> Result<(), Fail> {
+    let circuit = read_aag(rt.alloc(), FREE_LATCH)?;
+    assert!(rt; starts_at(rt.alloc(), circuit.aig(), Reset::Free)?);
     Ok(())
 }

@@ -1,5 +1,5 @@
-//! What a watcher is told of a run.
-use crate::circuits::TWO_LATCHES;
+//! What a watcher is told of a run, in order.
+use crate::circuits::{CHAINS, TWO_LATCHES};
 use aag_text::Counted;
 use frames::{Choice, FrameWatcher, Options, Stage, retime_bytes_watched};
 use pulse::{Crew, OpenGate};
@@ -7,39 +7,45 @@ use std::alloc::Global;
 use std::test::Fail;
 use std::thread::Threads;
 
-/// How often each stage began, and what the last look for a set was told.
+/// A stage, and of a look for a set how many frames were taken, and how many known latches and gates there are.
 #[derive(Clone, Copy, PartialEq, Eq)]
-struct Seen {
-    cleaning: u32,
-    looking: u32,
-    moving: u32,
-    writing: u32,
-    taken: usize,
-    latches: u32,
-    gates: usize,
+enum Told {
+    Cleaning,
+    Looking(usize, u32, usize),
+    Moving,
+    Writing,
 }
 
-impl FrameWatcher for Seen {
-    fn enter(&mut self, stage: Stage<'_>) {
+impl Told {
+    fn of(stage: Stage<'_>) -> Told {
         match stage {
-            Stage::Cleaning => self.cleaning = self.cleaning.saturating_add(1),
+            Stage::Cleaning => Told::Cleaning,
             Stage::Looking { taken, aig } => {
-                self.looking = self.looking.saturating_add(1);
-                self.taken = taken;
-                self.latches = aig.known_latches();
-                self.gates = aig.gates().len();
+                Told::Looking(taken, aig.known_latches(), aig.gates().len())
             }
-            Stage::Moving => self.moving = self.moving.saturating_add(1),
-            Stage::Writing => self.writing = self.writing.saturating_add(1),
+            Stage::Moving => Told::Moving,
+            Stage::Writing => Told::Writing,
         }
     }
 }
 
-/// What a watcher sees of the bytes' retiming by one worker.
-fn stages_of<R: Threads + Sync>(rt: &R, alloc: Global, bytes: &[u8]) -> Seen {
+/// The stages of a run so far. Where there was no room for one, they lack it.
+#[derive(Drop)]
+struct Stages {
+    told: Vec<Told>,
+}
+
+impl FrameWatcher for Stages {
+    fn enter(&mut self, stage: Stage<'_>) {
+        let _ = self.told.push(Told::of(stage));
+    }
+}
+
+/// The stages of the bytes' retiming by one worker, in so many frames at most.
+fn stages_of<R: Threads + Sync>(rt: &R, alloc: Global, bytes: &[u8], max_frames: u32) -> Vec<Told> {
     let options = Options {
         spelling: None,
-        max_frames: 8,
+        max_frames,
         choice: Choice::Greatest,
         certify: false,
         keep: Vec::new(alloc),
@@ -47,14 +53,8 @@ fn stages_of<R: Threads + Sync>(rt: &R, alloc: Global, bytes: &[u8]) -> Seen {
     let crew = Crew::new(1, OpenGate);
     let mut reader = Counted::new(bytes);
     let mut writer = Counted::new(Vec::new(alloc));
-    let mut seen = Seen {
-        cleaning: 0,
-        looking: 0,
-        moving: 0,
-        writing: 0,
-        taken: 0,
-        latches: 0,
-        gates: 0,
+    let mut stages = Stages {
+        told: Vec::new(alloc),
     };
     let ended = retime_bytes_watched(
         rt,
@@ -63,23 +63,51 @@ fn stages_of<R: Threads + Sync>(rt: &R, alloc: Global, bytes: &[u8]) -> Seen {
         &mut writer,
         &options,
         &crew,
-        &mut seen,
+        &mut stages,
     );
     drop(ended);
-    seen
+    stages.told
+}
+
+#[test]
+fn a_watcher_is_told_of_each_stage(rt: HostRuntime) -> Result<(), Fail> {
+    let told = stages_of(&rt, rt.alloc(), TWO_LATCHES, 8);
+    let wanted = [
+        Told::Cleaning,
+        Told::Looking(0, 2, 1),
+        Told::Moving,
+        Told::Looking(1, 1, 1),
+        Told::Writing,
+    ];
+    assert!(rt; told.as_slice() == wanted.as_slice());
+    Ok(())
 }
 
 #[test]
 fn a_watcher_is_told_of_each_frame(rt: HostRuntime) -> Result<(), Fail> {
-    let wanted = Seen {
-        cleaning: 1,
-        looking: 2,
-        moving: 1,
-        writing: 1,
-        taken: 1,
-        latches: 1,
-        gates: 1,
-    };
-    assert!(rt; stages_of(&rt, rt.alloc(), TWO_LATCHES) == wanted);
+    let told = stages_of(&rt, rt.alloc(), CHAINS, 8);
+    let wanted = [
+        Told::Cleaning,
+        Told::Looking(0, 4, 1),
+        Told::Moving,
+        Told::Looking(1, 3, 1),
+        Told::Moving,
+        Told::Looking(2, 2, 1),
+        Told::Writing,
+    ];
+    assert!(rt; told.as_slice() == wanted.as_slice());
+    Ok(())
+}
+
+#[test]
+fn a_watcher_is_told_of_no_look_past_the_limit(rt: HostRuntime) -> Result<(), Fail> {
+    let told = stages_of(&rt, rt.alloc(), CHAINS, 1);
+    let wanted = [
+        Told::Cleaning,
+        Told::Looking(0, 4, 1),
+        Told::Moving,
+        Told::Writing,
+    ];
+    assert!(rt; told.as_slice() == wanted.as_slice());
     Ok(())
 }
