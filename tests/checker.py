@@ -13,7 +13,8 @@ import heapq
 import os
 import re
 import sys
-from dataclasses import dataclass, replace
+from dataclasses import dataclass
+from typing import NamedTuple
 
 GREATEST = 2**28 - 1
 
@@ -24,8 +25,7 @@ class Refused(Exception):
 
 # Circuits. A literal is twice its variable, one more where it is negated.
 
-@dataclass(frozen=True)
-class Latch:
+class Latch(NamedTuple):
     """Its next literal, its reset (None where it is free), and whether it is held."""
     next_lit: int
     reset: int
@@ -71,7 +71,7 @@ class Circuit:
             return 2 * numbers[lit // 2] | lit & 1
 
         latches = {numbers[v]: self.latches[v] for v in order if v in self.latches}
-        latches = {v: replace(latch, next_lit=new(latch.next_lit)) for v, latch in latches.items()}
+        latches = {v: latch._replace(next_lit=new(latch.next_lit)) for v, latch in latches.items()}
         gates = {numbers[v]: tuple(map(new, self.gates[v])) for v in order if v in self.gates}
         return Circuit(self.inputs, latches, gates, [new(lit) for lit in self.properties])
 
@@ -109,7 +109,7 @@ def cleaned_once(c):
             stand_in[v] = large
         else:
             stand_in[v] = 2 * gates_alike.setdefault((small, large), v)
-    latches = {v: replace(latch, next_lit=now(latch.next_lit)) for v, latch in c.latches.items()}
+    latches = {v: latch._replace(next_lit=now(latch.next_lit)) for v, latch in c.latches.items()}
     gates = {v: fan_ins for fan_ins, v in gates_alike.items()}
     return reached(Circuit(c.inputs, latches, gates, [now(lit) for lit in c.properties]))
 
@@ -149,7 +149,8 @@ def moved(c, members):
 
 def objection(c, block):
     """Why a block doesn't show that its gates are a least set with its count, or None."""
-    members, passable, outside = set(block.gates), c.passable(), c.read_outside(c.passable())
+    members, passable, known = set(block.gates), c.passable(), c.known()
+    outside, may_be_read = c.read_outside(passable), members | c.latches.keys()
     fan_ins = {v: {lit // 2 for lit in lits} for v, lits in c.gates.items()}
 
     def is_step(here, there):
@@ -161,11 +162,11 @@ def objection(c, block):
 
     def is_route(points):
         (first, side), (last, last_side) = points[0], points[-1]
-        ends = side == last_side == '+' and first in c.known() and last in outside
+        ends = side == last_side == '+' and first in known and last in outside
         return ends and all(map(is_step, points, points[1:]))
 
     after = [v for points in block.routes for v, side in points if side == '+']
-    if block.gates != sorted(members) or not all(v in passable and fan_ins[v] <= members | c.latches.keys() for v in members):
+    if block.gates != sorted(members) or not all(v in passable and fan_ins[v] <= may_be_read for v in members):
         return 'NotClosed'
     if not all(map(is_route, block.routes)):
         return 'BadRoute'
@@ -302,7 +303,7 @@ def hold(path, c, name_of, names):
     for name in names:
         if name not in name_of.values():
             raise Refused(f'{path}: NoSuchName {os.fsdecode(name)}')
-    c.latches = {v: replace(latch, held=name_of.get(v) in names) for v, latch in c.latches.items()}
+    c.latches = {v: latch._replace(held=name_of.get(v) in names) for v, latch in c.latches.items()}
 
 
 @dataclass
