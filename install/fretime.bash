@@ -53,7 +53,7 @@ _fretime() {
             if [ "$COMP_CWORD" = 2 ]; then
                 mapfile -t COMPREPLY < <(compgen -W "--help BadHeader TooLarge MaxIndex BadLine BadLiteral DefinedTwice Undefined Cycle \
                     BadReset BadDelta Truncated BadSymbol Trailing Width TooMany NoSuchProperty \
-                    NoSuchName TooManyNodes NotClosed BadRoute UsedTwice CountDiffers" -- "$word")
+                    NoSuchName TooManyNodes NotClosed BadRoute UsedTwice CountDiffers NoMemory Device" -- "$word")
             fi
             return
             ;;

@@ -69,4 +69,4 @@ complete -c fretime -n '__fish_seen_subcommand_from retime verify dot' -x -l kee
 complete -c fretime -n '__fish_seen_subcommand_from dot' -x -l around -a '(__fretime_names ilobcjf)' \
     -d 'Draw the neighbourhood of the input, latch or property with this name alone'
 
-complete -c fretime -n '__fish_seen_subcommand_from explain' -f -a 'BadHeader TooLarge MaxIndex BadLine BadLiteral DefinedTwice Undefined Cycle BadReset BadDelta Truncated BadSymbol Trailing Width TooMany NoSuchProperty NoSuchName TooManyNodes NotClosed BadRoute UsedTwice CountDiffers'
+complete -c fretime -n '__fish_seen_subcommand_from explain' -f -a 'BadHeader TooLarge MaxIndex BadLine BadLiteral DefinedTwice Undefined Cycle BadReset BadDelta Truncated BadSymbol Trailing Width TooMany NoSuchProperty NoSuchName TooManyNodes NotClosed BadRoute UsedTwice CountDiffers NoMemory Device'

@@ -82,7 +82,10 @@ def on_the_path(program, folder):
     if not place.exists():
         place.mkdir()
         (place / 'fretime').symlink_to(program)
-        (place / 'fretime_verilog').symlink_to(TOP / 'examples' / 'verilog' / 'fretime_verilog')
+        script = place / 'fretime_verilog'
+        words = TOP / 'examples' / 'verilog' / 'fretime_verilog', '--program', program
+        script.write_text(f'#!/bin/sh\nexec {shlex.join(map(str, words))} "$@"\n')
+        script.chmod(0o755)
     return place
 
 

@@ -152,6 +152,7 @@ pub(crate) const EXPLAIN_EXAMPLE: &str = "Example:
 
 Faults of circuits, and some of them of other files too: BadHeader, TooLarge, MaxIndex, BadLine, BadLiteral, DefinedTwice, Undefined,
 Cycle, BadReset, BadDelta, Truncated, BadSymbol, Trailing. Of a stimulus or a witness: Width, TooMany, NoSuchProperty. Of names and
-pictures: NoSuchName, TooManyNodes. Of certificates: NotClosed, BadRoute, UsedTwice, CountDiffers.
+pictures: NoSuchName, TooManyNodes. Of certificates: NotClosed, BadRoute, UsedTwice, CountDiffers. Of a run: NoMemory,
+Device.
 
 Exit status: 0 done, 2 command line, or there is no such fault, 3 device, 4 out of memory.";

@@ -2,13 +2,13 @@
 use Rattle.std.specs.Prelude.{ℕ, ◌≡◌, ◌≢◌, ◌<◌, Bool, false, List, [], ◌∷◌, length, get_or, codes}
 use Rattle.std.specs.Str.{bytes_eq}
 use Rattle.fault_pages.specs.declared.fault.Fault.{Fault}
-use Rattle.fault_pages.specs.declared.fault.Fault.TheVariants.{BadHeader, TooLarge, MaxIndex, BadLine, BadLiteral, DefinedTwice, Undefined, Cycle, BadReset, BadDelta, Truncated, BadSymbol, Trailing, Width, TooMany, NoSuchName, NoSuchProperty, TooManyNodes, NotClosed, BadRoute, UsedTwice, CountDiffers}
+use Rattle.fault_pages.specs.declared.fault.Fault.TheVariants.{BadHeader, TooLarge, MaxIndex, BadLine, BadLiteral, DefinedTwice, Undefined, Cycle, BadReset, BadDelta, Truncated, BadSymbol, Trailing, Width, TooMany, NoSuchName, NoSuchProperty, TooManyNodes, NotClosed, BadRoute, UsedTwice, CountDiffers, NoMemory, Device}
 
 unfoldable pub all_faults : List Fault
 all_faults =
     BadHeader ∷ TooLarge ∷ MaxIndex ∷ BadLine ∷ BadLiteral ∷ DefinedTwice ∷ Undefined ∷ Cycle ∷ BadReset ∷ BadDelta ∷ Truncated
     ∷ BadSymbol ∷ Trailing ∷ Width ∷ TooMany ∷ NoSuchName ∷ NoSuchProperty ∷ TooManyNodes ∷ NotClosed ∷ BadRoute ∷ UsedTwice
-    ∷ CountDiffers ∷ []
+    ∷ CountDiffers ∷ NoMemory ∷ Device ∷ []
 
 abbrev pub name_of : Fault → List ℕ
 name_of BadHeader = codes "BadHeader"
@@ -33,6 +33,8 @@ name_of NotClosed = codes "NotClosed"
 name_of BadRoute = codes "BadRoute"
 name_of UsedTwice = codes "UsedTwice"
 name_of CountDiffers = codes "CountDiffers"
+name_of NoMemory = codes "NoMemory"
+name_of Device = codes "Device"
 
 abbrev pub has_name : List ℕ → Fault → Bool
 has_name name fault = bytes_eq (name_of fault) name

@@ -1,7 +1,7 @@
 -- The texts of the page of each fault.
 use Rattle.std.specs.Prelude.{ℕ, List, codes}
 use Rattle.fault_pages.specs.declared.fault.Fault.{Fault}
-use Rattle.fault_pages.specs.declared.fault.Fault.TheVariants.{BadHeader, TooLarge, MaxIndex, BadLine, BadLiteral, DefinedTwice, Undefined, Cycle, BadReset, BadDelta, Truncated, BadSymbol, Trailing, Width, TooMany, NoSuchName, NoSuchProperty, TooManyNodes, NotClosed, BadRoute, UsedTwice, CountDiffers}
+use Rattle.fault_pages.specs.declared.fault.Fault.TheVariants.{BadHeader, TooLarge, MaxIndex, BadLine, BadLiteral, DefinedTwice, Undefined, Cycle, BadReset, BadDelta, Truncated, BadSymbol, Trailing, Width, TooMany, NoSuchName, NoSuchProperty, TooManyNodes, NotClosed, BadRoute, UsedTwice, CountDiffers, NoMemory, Device}
 
 -- what the fault is
 abbrev pub meaning_of : Fault → List ℕ
@@ -27,6 +27,8 @@ meaning_of NotClosed = codes "The set of gates of a certificate isn't closed."
 meaning_of BadRoute = codes "A list of points of a certificate is no route."
 meaning_of UsedTwice = codes "Two routes of a certificate pass one variable."
 meaning_of CountDiffers = codes "The numbers of a certificate differ."
+meaning_of NoMemory = codes "Memory was refused."
+meaning_of Device = codes "A file or a standard stream can't be opened, created, read or written."
 
 -- the rule that is broken
 abbrev pub rule_of : Fault → List ℕ
@@ -52,10 +54,12 @@ rule_of NotClosed = codes "Its gates rise strictly. Each is a gate that latches 
 rule_of BadRoute = codes "A route goes from a known latch through gates that latches may pass to what no\nmove passes, by the steps of docs/CERTIFICATES.md."
 rule_of UsedTwice = codes "Over all routes no point v+ stands twice."
 rule_of CountDiffers = codes "The count that it states, the size of the border of its set and the number of\nits routes are one number."
+rule_of NoMemory = codes "A run asks for memory as its circuit grows, and for none by a number of the\nheader alone. A refused request ends it with status 4, 'out of memory'. Files\nare as they were, but that a batch has written those of its circuits that were\ndone."
+rule_of Device = codes "The message names the path, or 'stdin' or 'stdout'. There is no such file or\nfolder, it may not be read or written by this user, it is a folder, the disk is\nfull, or nobody reads the pipe any more."
 
 -- what to do
 abbrev pub advice_of : Fault → List ℕ
-advice_of BadHeader = codes "See that the file is an AIGER file, and not a packed one, BLIF or Verilog.\nOf a packed one pipe the text: 'zcat in.aig.gz | fretime retime - out.aig'.\nYosys and ABC write AIGER files by their command write_aiger."
+advice_of BadHeader = codes "See that the file is an AIGER file, and not a packed one, BLIF or Verilog.\nOf a packed one pipe the text: 'zcat in.aig.gz | fretime retime - out.aig'.\nYosys and ABC write AIGER files by their command write_aiger.\nWhere each line ends with a carriage return, drop them:\ntr -d '\\r' < in.aag > unix.aag"
 advice_of TooLarge = codes "A count of this size is mostly that of a damaged file. Else check some of the\nproperties at a time, each lot in a file of its own, or cut the list in two."
 advice_of MaxIndex = codes "Give the header the M that the lines need. If a program wrote the file, it was\ndamaged later, or that program is wrong."
 advice_of BadLine = codes "Look at the line that begins at the offset. Where each line ends with a\ncarriage return, drop them: tr -d '\\r' < in.aag > unix.aag"
@@ -77,3 +81,5 @@ advice_of NotClosed = codes "See that the certificates are of this IN, and give 
 advice_of BadRoute = codes "See that the certificates are of this IN, and give each --keep that 'retime'\ngot. Else they are wrong: 'fretime retime IN OUT --cert FILE' writes others."
 advice_of UsedTwice = codes "See that the certificates are of this IN, and give each --keep that 'retime'\ngot. Else they are wrong: 'fretime retime IN OUT --cert FILE' writes others."
 advice_of CountDiffers = codes "See that the certificates are of this IN, and give each --keep that 'retime'\ngot. Else they are wrong: 'fretime retime IN OUT --cert FILE' writes others."
+advice_of NoMemory = codes "See the limits of the shell: 'ulimit -v'. 'batch' with fewer --workers has fewer\ncircuits in memory at once."
+advice_of Device = codes "Look at the path: 'ls -l PATH', and at the room on its disk: 'df PATH'. An OUT\nthat was begun may have a part of the circuit: run again."

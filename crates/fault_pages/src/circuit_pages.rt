@@ -8,7 +8,9 @@ numbers, M I L O A B C J F, with one space between. A file of certificates
 begins with a line 'fretime-cert 1' or 'fretime-cert 2', a witness with '1'.",
     advice: "See that the file is an AIGER file, and not a packed one, BLIF or Verilog.
 Of a packed one pipe the text: 'zcat in.aig.gz | fretime retime - out.aig'.
-Yosys and ABC write AIGER files by their command write_aiger.",
+Yosys and ABC write AIGER files by their command write_aiger.
+Where each line ends with a carriage return, drop them:
+tr -d '\\r' < in.aag > unix.aag",
 };
 
 pub const TOO_LARGE: Page = Page {

@@ -28,9 +28,11 @@ pub enum Fault {
     BadRoute,
     UsedTwice,
     CountDiffers,
+    NoMemory,
+    Device,
 }
 
-const FAULTS: [Fault; 22] = [
+const FAULTS: [Fault; 24] = [
     Fault::BadHeader,
     Fault::TooLarge,
     Fault::MaxIndex,
@@ -53,6 +55,8 @@ const FAULTS: [Fault; 22] = [
     Fault::BadRoute,
     Fault::UsedTwice,
     Fault::CountDiffers,
+    Fault::NoMemory,
+    Fault::Device,
 ];
 
 impl Fault {
@@ -91,6 +95,8 @@ impl Fault {
             Fault::BadRoute => "BadRoute",
             Fault::UsedTwice => "UsedTwice",
             Fault::CountDiffers => "CountDiffers",
+            Fault::NoMemory => "NoMemory",
+            Fault::Device => "Device",
         }
     }
 

@@ -68,3 +68,22 @@ pub const COUNT_DIFFERS: Page = Page {
 its routes are one number.",
     advice: CHECK_AGAIN,
 };
+
+pub const NO_MEMORY: Page = Page {
+    meaning: "Memory was refused.",
+    rule: "A run asks for memory as its circuit grows, and for none by a number of the
+header alone. A refused request ends it with status 4, 'out of memory'. Files
+are as they were, but that a batch has written those of its circuits that were
+done.",
+    advice: "See the limits of the shell: 'ulimit -v'. 'batch' with fewer --workers has fewer
+circuits in memory at once.",
+};
+
+pub const DEVICE: Page = Page {
+    meaning: "A file or a standard stream can't be opened, created, read or written.",
+    rule: "The message names the path, or 'stdin' or 'stdout'. There is no such file or
+folder, it may not be read or written by this user, it is a folder, the disk is
+full, or nobody reads the pipe any more.",
+    advice: "Look at the path: 'ls -l PATH', and at the room on its disk: 'df PATH'. An OUT
+that was begun may have a part of the circuit: run again.",
+};

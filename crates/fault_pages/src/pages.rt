@@ -35,6 +35,8 @@ impl Fault {
             Fault::BadRoute => others::BAD_ROUTE,
             Fault::UsedTwice => others::USED_TWICE,
             Fault::CountDiffers => others::COUNT_DIFFERS,
+            Fault::NoMemory => others::NO_MEMORY,
+            Fault::Device => others::DEVICE,
         }
     }
 }

@@ -30,7 +30,9 @@ impl Fault {
             | Fault::NotClosed
             | Fault::BadRoute
             | Fault::UsedTwice
-            | Fault::CountDiffers => None,
+            | Fault::CountDiffers
+            | Fault::NoMemory
+            | Fault::Device => None,
         }
     }
 }
