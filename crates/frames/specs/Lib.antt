@@ -1,4 +1,5 @@
 pub mod Codes
+pub mod Defaults
 pub mod Named
 pub mod Retiming
 pub mod Found

@@ -1,5 +1,8 @@
+ghost use Rattle.frames.specs.Defaults.{AreDefaults};
+
 use file_words::Spelling;
 use least_sets::Choice;
+use std::alloc::Global;
 
 /// How a circuit is retimed.
 #[derive(Drop)]
@@ -15,4 +18,20 @@ pub struct Options {
     pub certify: bool,
     /// The latches whose symbol has one of these names are held: they stay, with their resets and names.
     pub keep: Vec<Vec<u8>>,
+}
+
+impl Options {
+    /// The options of whoever asks for nothing: a caller names what it asks for, and takes the rest from here. The limit of frames is
+    /// past every circuit's, since a frame leaves fewer latches. Takes no memory.
+    pub fn defaults(alloc: Global) -> Options
+        ensures { AreDefaults result }
+    {
+        Options {
+            spelling: None,
+            max_frames: 1 << 28,
+            choice: Choice::Greatest,
+            certify: false,
+            keep: Vec::new(alloc),
+        }
+    }
 }

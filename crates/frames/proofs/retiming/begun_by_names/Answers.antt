@@ -1,4 +1,4 @@
-use Rattle.std.proofs.Common.{ℕ, List, ◌<◌, ◌≡◌, ◌∙◌, ap, length, sym, subst}
+use Rattle.std.proofs.Common.{ℕ, List, ◌<◌, ◌∙◌, ap, length, sym, subst}
 use Rattle.std.specs.List.{All}
 use Rattle.std.proofs.lemmas.Result.{IfOk-from_err}
 use Rattle.aig_graph.specs.Graph.{Graph}
