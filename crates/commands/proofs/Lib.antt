@@ -1,5 +1,6 @@
 pub mod PrintingLaws
 pub mod FindingLaws
+pub mod FrameLaws
 pub mod StatisticsLaws
 pub mod FateLaws
 pub mod AuditLaws

@@ -1,12 +1,19 @@
 -- What a picture shows.
-use Rattle.std.specs.Prelude.{ℕ, ◌≡◌, Bool, true, false, List, map, Option, Some, None, IfSome}
+use Rattle.std.specs.Prelude.{ℕ, ◌≡◌, ◌<◌, ◌≤◌, ◌+◌, Bool, true, false, List, length, map, Option, Some, None}
+use Rattle.std.specs.Borrow.{Bor}
+use Rattle.aig_graph.specs.Graph.{known_latches, variables_end}
 use Rattle.aig_graph.specs.Circuits.{Netlist}
-use Rattle.aig_graph.specs.Border.{IsGreatestLeast}
+use Rattle.aig_graph.specs.Closed.{IsClosedSet}
+use Rattle.aig_graph.specs.Move.{move_of}
+use Rattle.aig_graph.specs.Border.{IsGreatestLeast, border_size}
 use Rattle.aig_graph.specs.Keep.{held_by}
 use Rattle.aig_binary.specs.declared.reading.SpeltCircuit.{SpeltCircuit}
 use Rattle.counted_io.specs.Input.{Input}
 use Rattle.counted_io.specs.Output.{Output, WritesAll}
 use Rattle.stream_paths.specs.Streams.{is_stdout}
+use Rattle.stream_paths.specs.declared.source.Source.{Source}
+use Rattle.circuit_files.specs.declared.outcome.Failure.{Failure}
+use Rattle.circuit_files.specs.declared.outcome.Failure.TheVariants as fails
 use Rattle.circuit_files.specs.declared.outcome.Outcome.{Outcome}
 use Rattle.circuit_files.specs.declared.outcome.Outcome.TheVariants.{Done}
 use Rattle.least_sets.specs.declared.choice.Choice.TheVariants.{Greatest}
@@ -15,18 +22,35 @@ use Rattle.retimed_circuits.specs.declared.report.Retimed.{Retimed}
 use Rattle.frames.specs.Named.{names_in}
 use Rattle.frames.specs.declared.options.Options.{Options}
 use Rattle.pictures.specs.Looks.{everything}
-use Rattle.pictures.specs.Near.{is_near}
+use Rattle.pictures.specs.Near.{is_name_of, is_near}
 use Rattle.pictures.specs.Pictures.{picture}
 use Rattle.command_line.specs.declared.task.Drawing.{Drawing}
+use Rattle.commands.specs.HeldNames.{OfSource}
 use Rattle.commands.specs.Sources.{IsCircuitAt}
 
 -- the neighbourhood of what the name names, or all variables
 abbrev pub shown : Netlist → Drawing → ℕ → Bool
 shown c task = elim task.around [ None ↦ everything | Some name ↦ is_near c name.now task.depth ]
 
--- the set that is shown: none, or where the next frame is asked for the greatest least set, if it is any
+-- the nodes of a picture of all of a circuit: its variables and its properties
+abbrev pub nodes : Netlist → ℕ
+nodes c = variables_end c.aig + length c.props.outputs + length c.props.bad + length c.props.constraints + length c.props.justice + length c.props.fairness
+
+-- a circuit can be drawn around what has this name, or where none is given as a whole, if that has no more than 2000 nodes
+abbrev pub CanBeDrawn : Option (Bor (List ℕ)) → Netlist → Type 0
+CanBeDrawn (Some name) c = is_name_of c.symbols name.now ≡ true
+CanBeDrawn None c = nodes c ≤ 2000
+
+-- why it can't
+abbrev pub IsRefusal : Option (Bor (List ℕ)) → Netlist → Source → Failure → Type 0
+IsRefusal (Some name) c input failure = (is_name_of c.symbols name.now ≡ false) × OfSource input (λ path. failure ≡ fails.NoSuchName path name)
+IsRefusal None c input failure = (2000 < nodes c) × OfSource input (λ path. failure ≡ fails.TooManyNodes path)
+
+-- the set that is shown: where the next frame is asked for the greatest least set, if it leaves fewer known latches than there are,
+-- and none only where no closed set does; else none
 abbrev pub IsSetFor : Bool → Netlist → List ℕ → Option (List ℕ) → Type 0
-IsSetFor true c held set = IfSome set (IsGreatestLeast c held)
+IsSetFor true c held (Some set) = IsGreatestLeast c held set × (border_size (move_of c held set) < known_latches c.aig)
+IsSetFor true c held None = (s : List ℕ) → IsClosedSet c.aig held s → known_latches c.aig ≤ border_size (move_of c held s)
 IsSetFor false c held set = set ≡ None
 
 -- the circuit that is drawn: that, or where the next frame is asked for it cleaned and retimed by the options
@@ -41,8 +65,9 @@ pub record AreOptionsFor (task : Drawing) (options : Options) : Type 0 where
   pub certify : options.certify ≡ false
   pub names : names_in options ≡ map (λ name. name.now) task.keep.items
 
--- the picture of a circuit with held latches was written, with a set where the next frame is asked for
+-- the picture of a circuit with held latches, which can be drawn, was written, with a set where the next frame is asked for
 pub record Draws (frame : Bool) (c : Netlist) (held : List ℕ) (task : Drawing) (old new : Output) : Type 0 where
+  pub can : CanBeDrawn task.around c
   pub set : Option (List ℕ)
   pub is : IsSetFor frame c held set
   pub writes : WritesAll old new (picture c held set (shown c task))

@@ -1,5 +1,6 @@
 pub mod Printing
 pub mod Sources
+pub mod HeldNames
 pub mod Comparing
 pub mod RetimingTasks
 pub mod OtherSpelling

@@ -1,16 +1,25 @@
--- What the task of a retiming makes of its options, and of an error.
-use Rattle.std.specs.Prelude.{ℕ, ◌≡◌, List, Some, is_some, map, slice_get}
+-- What the task of a retiming makes of its options, of an error, and of a retiming.
+use Rattle.std.specs.Prelude.{ℕ, ◌≡◌, Bool, true, false, List, Option, Some, Result, is_some, map, slice_get}
 use Rattle.std.specs.Borrow.{Bor}
-use Rattle.stream_paths.specs.Streams.{source_name, target_name}
-use Rattle.stream_paths.specs.declared.source.Source.{Source}
+use Rattle.stream_paths.specs.Streams.{target_name}
 use Rattle.command_line.specs.declared.task.Retiming.{Retiming}
 use Rattle.frames.specs.declared.options.Options.{Options}
 use Rattle.frames.specs.declared.errors.BytesError.{BytesError}
 use Rattle.frames.specs.declared.errors.BytesError.TheVariants.{Read, Retime, Write}
 use Rattle.frames.specs.declared.errors.RetimeError.TheVariants.{NoMemory, NoSuchName}
+use Rattle.counted_io.specs.Output.{Output}
+use Rattle.retimed_circuits.specs.declared.report.Retimed.{Retimed}
+use Rattle.reports.specs.Retimings.{retiming_text}
+use Rattle.json_reports.specs.Retimings.{retiming_data}
+use Rattle.json_reports.specs.declared.times.Times.{Times}
 use Rattle.circuit_files.specs.Outcomes.{failure_of_reading}
+use Rattle.circuit_files.specs.declared.outcome.Outcome.{Outcome}
+use Rattle.circuit_files.specs.declared.outcome.Outcome.TheVariants.{Done}
 use Rattle.circuit_files.specs.declared.outcome.Failure.{Failure}
 use Rattle.circuit_files.specs.declared.outcome.Failure.TheVariants as fails
+use Rattle.command_objects.specs.Objects.{EndsPrintingObject}
+use Rattle.commands.specs.HeldNames.{OfSource}
+use Rattle.commands.specs.Printing.{EndsPrinting}
 
 -- the options are the task's
 pub record AreOptionsOf (task : Retiming) (options : Options) : Type 0 where
@@ -20,13 +29,23 @@ pub record AreOptionsOf (task : Retiming) (options : Options) : Type 0 where
   pub certify : options.certify ≡ is_some task.certificates
   pub names : map (λ name. name.items) options.keep.items ≡ map (λ name. name.now) task.keep.items
 
--- the failure is one of these, by the name of what is read
-abbrev pub OfSource : Source → (Bor (List ℕ) → Type 0) → Type 0
-OfSource source IsFailure = (name : Bor (List ℕ)) × (name.now ≡ source_name source) × IsFailure name
-
 -- the failure that an error is: of what is read, of what is written, or of a name that no latch has
 abbrev pub IsFailureOf : Retiming → BytesError → Failure → Type 0
 IsFailureOf task (Read error) failure = OfSource task.input (λ path. failure ≡ failure_of_reading error path)
 IsFailureOf task (Retime NoMemory) failure = failure ≡ fails.Memory
 IsFailureOf task (Retime (NoSuchName place)) failure = (name : Bor (List ℕ)) → slice_get task.keep.items place ≡ Some name → OfSource task.input (λ path. failure ≡ fails.NoSuchName path name)
 IsFailureOf task (Write error) failure = (name : Bor (List ℕ)) × (name.now ≡ target_name task.output) × (failure ≡ fails.Device name)
+
+-- how printing a retiming ends, as an object of JSON where that is asked for, else in lines
+abbrev pub EndsPrintingFrames : Bool → Retimed → Option Times → Output → Output → Result Outcome Failure → Type 0
+EndsPrintingFrames true r times old new result = EndsPrintingObject Done (retiming_data r times) old new result
+EndsPrintingFrames false r times old new result = EndsPrinting Done (retiming_text r) old new result
+
+-- so it was printed where nobody asks how that ended
+pub record SaysFrames (json : Bool) (r : Retimed) (times : Option Times) (old new : Output) : Type 0 where
+  pub ended : Result Outcome Failure
+  pub prints : EndsPrintingFrames json r times old new ended
+
+-- what is printed of it is the same, certificates or none
+abbrev pub PrintsAlike : Retimed → Retimed → Type 0
+PrintsAlike r s = (retiming_text r ≡ retiming_text s) × ((times : Option Times) → retiming_data r times ≡ retiming_data s times)

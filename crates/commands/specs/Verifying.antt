@@ -1,11 +1,11 @@
 -- What is printed of an audit, and how the run ends by it.
-use Rattle.std.specs.Prelude.{ℕ, ◌≡◌, Bool, true, false, List, Some, map, slice_get}
-use Rattle.std.specs.Borrow.{Bor}
+use Rattle.std.specs.Prelude.{ℕ, ◌≡◌, Bool, true, false, List, map}
 use Rattle.aig_graph.specs.Circuits.{Netlist}
-use Rattle.aig_graph.specs.declared.holding.KeepError.{KeepError}
-use Rattle.aig_graph.specs.declared.holding.KeepError.TheVariants.{NoMemory, NoSuchName}
+use Rattle.aig_binary.specs.declared.reading.SpeltCircuit.{SpeltCircuit}
+use Rattle.counted_io.specs.Input.{Input}
 use Rattle.counted_io.specs.Output.{Output, WritesAll}
 use Rattle.certificates.specs.declared.certificate.Certificate.{Certificate}
+use Rattle.certificate_files.specs.declared.file.CertFile.{CertFile}
 use Rattle.certificate_audits.specs.Audits.{IsAudit}
 use Rattle.certificate_audits.specs.declared.outcome.Audit.{Audit}
 use Rattle.certificate_audits.specs.declared.outcome.End.{End}
@@ -17,9 +17,7 @@ use Rattle.command_line.specs.declared.task.Verification.{Verification}
 use Rattle.circuit_files.specs.Codes.{status_of}
 use Rattle.circuit_files.specs.declared.outcome.Outcome.{Outcome}
 use Rattle.circuit_files.specs.declared.outcome.Outcome.TheVariants.{Done, Unconfirmed}
-use Rattle.circuit_files.specs.declared.outcome.Failure.{Failure}
-use Rattle.circuit_files.specs.declared.outcome.Failure.TheVariants as fails
-use Rattle.commands.specs.RetimingTasks.{OfSource}
+use Rattle.commands.specs.Sources.{AreCertificatesAt, IsCircuitAt}
 
 abbrev pub outcome_of_end : End → Outcome
 outcome_of_end NoBlocks = Done
@@ -31,11 +29,6 @@ outcome_of_end (Objected objection) = Unconfirmed
 -- the names of the latches that the task holds
 abbrev pub held_names : Verification → List (List ℕ)
 held_names task = map (λ name. name.now) task.keep.items
-
--- the failure that an error of an audit is: a name that no latch has, or no memory
-abbrev pub IsFailureOfAudit : Verification → KeepError → Failure → Type 0
-IsFailureOfAudit task NoMemory failure = failure ≡ fails.Memory
-IsFailureOfAudit task (NoSuchName place) failure = (name : Bor (List ℕ)) → slice_get task.keep.items place ≡ Some name → OfSource task.input (λ path. failure ≡ fails.NoSuchName path name)
 
 -- what is printed of an audit: an object on a line where that is asked for, else lines
 abbrev pub printed_audit : Bool → List Certificate → Audit → List ℕ
@@ -53,12 +46,15 @@ pub record PrintsAudit (task : Verification) (c : Netlist) (blocks : List Certif
   pub audits : IsAudit (held_names task) c blocks audit
   pub printed : EndsWithAudit task.json blocks audit old new ended
 
--- that is so of some blocks
-pub record PrintsAuditFor (task : Verification) (c : Netlist) (ended : Outcome) (old new : Output) : Type 0 where
-  pub blocks : List Certificate
-  pub printed : PrintsAudit task c blocks ended old new
+-- that of the certificates that are read, for this circuit
+pub record PrintsAuditFor (task : Verification) (c : Netlist) (before after : Input) (old new : Output) (ended : Outcome) : Type 0 where
+  pub certificates : CertFile
+  pub read : AreCertificatesAt task.certificates before after certificates
+  pub printed : PrintsAudit task c certificates.blocks ended old new
 
--- that is so of some circuit
-pub record PrintsSomeAudit (task : Verification) (ended : Outcome) (old new : Output) : Type 0 where
-  pub circuit : Netlist
-  pub printed : PrintsAuditFor task circuit ended old new
+-- that of the certificates that are read, for the circuit that is read before them
+pub record PrintsAuditOf (task : Verification) (before after : Input) (old new : Output) (ended : Outcome) : Type 0 where
+  pub spelt : SpeltCircuit
+  pub between : Input
+  pub read : IsCircuitAt task.input before between spelt
+  pub printed : PrintsAuditFor task spelt.circuit between after old new ended

@@ -1,6 +1,5 @@
 //! The command `dot`.
-ghost use Rattle.std.specs.Prelude.{ℕ, ◌≡◌, Bool, true, false, List, Option, IfErr, IfOk, IfSome, OnOk, map, option_map};
-ghost use Rattle.aig_graph.specs.Border.{IsGreatestLeast};
+ghost use Rattle.std.specs.Prelude.{ℕ, ◌≡◌, ◌<◌, ◌↔◌, Bool, true, false, List, Option, None, Some, IfErr, IfOk, IsTrue, MatchOption, OnOk, map, option_map};
 ghost use Rattle.aig_graph.specs.Keep.{held_by};
 ghost use Rattle.counted_io.specs.Output.{WritesAll};
 ghost use Rattle.pictures.specs.Looks.{IsViewOf};
@@ -10,16 +9,17 @@ ghost use Rattle.frames.specs.Named.{names_in};
 ghost use Rattle.stream_paths.specs.Streams.{is_stdout};
 ghost use Rattle.circuit_files.specs.Outcomes.{outcome_of};
 ghost use Rattle.circuit_files.specs.declared.outcome.Outcome.TheVariants.{Device};
-ghost use Rattle.commands.specs.Drawings.{AreOptionsFor, Draws, DrawsBy, DrawsCircuit, DrawsInput, PrintsPicture, shown};
+ghost use Rattle.commands.specs.Drawings.{AreOptionsFor, CanBeDrawn, Draws, DrawsBy, DrawsCircuit, DrawsInput, IsRefusal, IsSetFor, PrintsPicture, shown};
+ghost use Rattle.commands.specs.Drawings as wanted;
 ghost use Rattle.commands.specs.Printing.{Prints, ending};
 
-use crate::names::{bytes_of_names, missing_name};
-use aig_graph::{Circuit, ClosedSet, Keep, KeepError, NoMemory, Props, count, keep_of};
+use crate::names::{bytes_of_names, failure_of_names, missing_name};
+use aig_graph::{Circuit, ClosedSet, Keep, NoMemory, count, keep_of};
 use circuit_files::{Failure, LazyFile, Outcome, circuit_at};
 use command_line::Drawing;
 use counted_io::{Counted, CountedRead, CountedWrite};
 use cut_cert::greatest_least;
-use frames::{Choice, Options, RetimeError, Retimed, retime};
+use frames::{Options, RetimeError, Retimed, retime};
 use pictures::{View, has_name, write_dot};
 use pulse::{Crew, OpenGate};
 use std::alloc::{AllocError, Global};
@@ -28,19 +28,26 @@ use std::thread::Threads;
 use stream_paths::Target;
 
 /// The most nodes that a picture of a whole circuit has.
-const MOST_NODES: usize = 2000;
+const MOST_NODES: u128 = 2000;
 
-fn properties(props: &Props) -> usize {
-    (props.outputs.len())
-        .saturating_add(props.bad.len())
-        .saturating_add(props.constraints.len())
-        .saturating_add(props.justice.len())
-        .saturating_add(props.fairness.len())
+/// How many nodes a picture of the whole circuit has; lists of any lengths have a sum.
+fn nodes(circuit: &Circuit) -> u128
+    ensures { result ≡ wanted.nodes circuit.now }
+{
+    let props = circuit.props();
+    circuit.aig().variables() as u128
+        + props.outputs.len() as u128
+        + props.bad.len() as u128
+        + props.constraints.len() as u128
+        + props.justice.len() as u128
+        + props.fairness.len() as u128
 }
 
 /// Whether a picture of the whole circuit would have too many nodes.
-fn is_too_large(circuit: &Circuit) -> bool {
-    properties(circuit.props()).saturating_add(circuit.aig().variables()) > MOST_NODES
+fn is_too_large(circuit: &Circuit) -> bool
+    ensures { IsTrue result ↔ 2000 < wanted.nodes circuit.now }
+{
+    nodes(circuit) > MOST_NODES
 }
 
 /// The view that is asked for: of a neighbourhood, or of the whole circuit.
@@ -104,7 +111,10 @@ fn draw<'a, W: CountedWrite>(
 }
 
 /// The failure that nothing in the circuit has the name, if it is one.
-fn unnamed<'a>(circuit: &Circuit, task: &Drawing<'a>, name: &'a str) -> Option<Failure<'a>> {
+fn unnamed<'a>(circuit: &Circuit, task: &Drawing<'a>, name: &'a str) -> Option<Failure<'a>>
+    ensures { MatchOption result (CanBeDrawn (Some name.entry) circuit.now)
+        (IsRefusal (Some name.entry) circuit.now task.now.input) }
+{
     if has_name(circuit, name.as_bytes()) {
         None
     } else {
@@ -113,7 +123,10 @@ fn unnamed<'a>(circuit: &Circuit, task: &Drawing<'a>, name: &'a str) -> Option<F
 }
 
 /// The failure that the circuit has too many nodes, if it is one.
-fn too_large<'a>(circuit: &Circuit, task: &Drawing<'a>) -> Option<Failure<'a>> {
+fn too_large<'a>(circuit: &Circuit, task: &Drawing<'a>) -> Option<Failure<'a>>
+    ensures { MatchOption result (CanBeDrawn None circuit.now)
+        (IsRefusal None circuit.now task.now.input) }
+{
     if is_too_large(circuit) {
         Some(Failure::TooManyNodes(task.input.name()))
     } else {
@@ -122,7 +135,10 @@ fn too_large<'a>(circuit: &Circuit, task: &Drawing<'a>) -> Option<Failure<'a>> {
 }
 
 /// Why the circuit can't be drawn as it is asked for.
-fn refusal<'a>(circuit: &Circuit, task: &Drawing<'a>) -> Option<Failure<'a>> {
+fn refusal<'a>(circuit: &Circuit, task: &Drawing<'a>) -> Option<Failure<'a>>
+    ensures { MatchOption result (CanBeDrawn task.now.around circuit.now)
+        (IsRefusal task.now.around circuit.now task.now.input) }
+{
     match task.around {
         Some(name) => unnamed(circuit, task, name),
         None => too_large(circuit, task),
@@ -138,6 +154,7 @@ fn draw_allowed<'a, W: CountedWrite>(
     task: &Drawing<'a>,
     writer: &mut W,
 ) -> Result<(), Failure<'a>>
+    ensures allowed { OnOk result (CanBeDrawn task.now.around circuit.now) }
     ensures picture { OnOk result (WritesAll (W.output writer.old) (W.output writer.new)
         (picture circuit.now keep.now (option_map (λ s. s.now) set.entry)
         (shown circuit.now task.now))) }
@@ -157,7 +174,7 @@ fn next_set<R: Threads + Sync>(
     circuit: &Circuit,
     keep: &Keep,
 ) -> Result<Option<ClosedSet>, NoMemory>
-    ensures { IfOk result (λ found. IfSome found (IsGreatestLeast circuit.now keep.now)) }
+    ensures { IfOk result (IsSetFor true circuit.now keep.now) }
 {
     let crew = Crew::new(1, OpenGate);
     let set = greatest_least(rt, alloc, circuit, keep, &crew)?;
@@ -190,17 +207,6 @@ fn draw_next<'a, R: Threads + Sync, W: CountedWrite>(
             drawn
         }
         Err(_) => Err(Failure::Memory),
-    }
-}
-
-fn failure_of<'a>(error: KeepError, task: &Drawing<'a>) -> Failure<'a> {
-    match error {
-        KeepError::NoMemory => Failure::Memory,
-        KeepError::NoSuchName(place) => missing_name(
-            task.input.name(),
-            task.keep.as_slice(),
-            place,
-        ),
     }
 }
 
@@ -246,7 +252,7 @@ fn draw_held<'a, R: Threads + Sync, W: CountedWrite>(
             drop(keep);
             drawn
         }
-        Err(error) => Err(failure_of(error, task)),
+        Err(error) => Err(failure_of_names(error, task.input, task.keep.as_slice())),
     }
 }
 
@@ -306,11 +312,9 @@ fn options(alloc: Global, task: &Drawing<'_>) -> Result<Options, AllocError>
     ensures { IfOk result (AreOptionsFor task.now) }
 {
     Ok(Options {
-        spelling: None,
         max_frames: 0,
-        choice: Choice::Greatest,
-        certify: false,
         keep: bytes_of_names(alloc, task.keep.as_slice())?,
+        ..Options::defaults(alloc)
     })
 }
 

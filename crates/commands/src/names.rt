@@ -2,9 +2,12 @@
 ghost use Rattle.std.specs.Prelude.{ℕ, ◌≡◌, List, Some, IfOk, map, slice_get};
 ghost use Rattle.std.specs.Borrow.{Bor};
 ghost use Rattle.circuit_files.specs.declared.outcome.Failure.TheVariants.{NoSuchName};
+ghost use Rattle.commands.specs.HeldNames.{IsFailureOfNames};
 
+use aig_graph::KeepError;
 use circuit_files::Failure;
 use std::alloc::{AllocError, Global};
+use stream_paths::Source;
 
 /// The names, each as its bytes.
 pub fn bytes_of_names(alloc: Global, keep: &[&str]) -> Result<Vec<Vec<u8>>, AllocError>
@@ -24,4 +27,14 @@ pub fn missing_name<'a>(path: &'a str, keep: &[&'a str], place: usize) -> Failur
         → result ≡ NoSuchName path.entry name }
 {
     Failure::NoSuchName(path, keep.get(place).copied().unwrap_or(""))
+}
+
+/// The failure that an error is, of the names of latches that are held in the circuit that is read.
+pub fn failure_of_names<'a>(error: KeepError, input: Source<'a>, keep: &[&'a str]) -> Failure<'a>
+    ensures { IsFailureOfNames input.entry keep.now error result }
+{
+    match error {
+        KeepError::NoMemory => Failure::Memory,
+        KeepError::NoSuchName(place) => missing_name(input.name(), keep, place),
+    }
 }

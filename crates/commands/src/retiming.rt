@@ -1,6 +1,6 @@
 //! The command `retime`.
-ghost use Rattle.std.specs.Prelude.{◌≡◌, ◌<◌, ◌≤◌, true, false, IfErr, IfOk};
-ghost use Rattle.counted_io.specs.Output.{Writes};
+ghost use Rattle.std.specs.Prelude.{◌≡◌, ◌<◌, ◌≤◌, true, false, IfErr, IfOk, OnOk};
+ghost use Rattle.counted_io.specs.Output.{Writes, WritesAll};
 ghost use Rattle.certificate_files.specs.Texts.{file_text};
 ghost use Rattle.frames.specs.Answering.{IsAnswered};
 ghost use Rattle.stream_paths.specs.Streams.{is_stdin, is_stdout};
@@ -9,7 +9,7 @@ ghost use Rattle.circuit_files.specs.Outcomes.{outcome_of};
 ghost use Rattle.circuit_files.specs.declared.outcome.Outcome.TheVariants.{Device, Done};
 ghost use Rattle.commands.specs.Pipes.{AnswersPipe, IsPipe, WritesPipe};
 ghost use Rattle.commands.specs.Printing.{EndsAside, Prints, ending};
-ghost use Rattle.commands.specs.RetimingTasks.{AreOptionsOf, IsFailureOf};
+ghost use Rattle.commands.specs.RetimingTasks.{AreOptionsOf, EndsPrintingFrames, IsFailureOf, PrintsAlike, SaysFrames};
 
 use crate::ended::ended;
 use crate::names::{bytes_of_names, missing_name};
@@ -205,8 +205,14 @@ fn certify<'a, R: Files, O: CountedWrite>(
     retimed: &mut Retimed,
     out: &mut O,
 ) -> Result<(), Failure<'a>>
+    ensures stdout { writes_stdout task.now.certificates ≡ true → OnOk result (WritesAll
+        (O.output out.old) (O.output out.new) (file_text (record {
+          choice = task.now.choice;
+          blocks = retimed.old.certificates;
+        }))) }
     ensures file { writes_stdout task.now.certificates ≡ false
         → O.output out.new ≡ O.output out.old }
+    ensures frames { PrintsAlike retimed.new retimed.old }
     ensures err { IfErr result (λ failure. outcome_of failure ≡ Device) }
 {
     let Some(target) = task.certificates else {
@@ -263,7 +269,9 @@ fn print_as<'a, W: CountedWrite>(
     json: bool,
     writer: &mut W,
 ) -> Result<Outcome, Failure<'a>>
-    ensures { Prints (ending result) (W.output writer.old) (W.output writer.new) }
+    ensures frames { EndsPrintingFrames json timed.now.retimed timed.now.times
+        (W.output writer.old) (W.output writer.new) result }
+    ensures prints { Prints (ending result) (W.output writer.old) (W.output writer.new) }
 {
     if json {
         command_objects::print_retiming(alloc, &timed.retimed, timed.times.as_ref(), writer)
@@ -283,6 +291,10 @@ fn print_frames<'a, O: CountedWrite, E: CountedWrite>(
 ) -> Result<Outcome, Failure<'a>>
     ensures aside { takes_stdout task.now ≡ true
         → EndsAside Done (O.output out.old) (O.output out.new) result }
+    ensures says { takes_stdout task.now ≡ true → SaysFrames task.now.json timed.now.retimed
+        timed.now.times (E.output err.old) (E.output err.new) }
+    ensures frames { takes_stdout task.now ≡ false → EndsPrintingFrames task.now.json
+        timed.now.retimed timed.now.times (O.output out.old) (O.output out.new) result }
     ensures prints { takes_stdout task.now ≡ false
         → Prints (ending result) (O.output out.old) (O.output out.new) }
 {

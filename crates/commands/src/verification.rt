@@ -4,11 +4,11 @@ ghost use Rattle.certificate_audits.specs.Audits.{IsAudit};
 ghost use Rattle.aig_graph.specs.Keep.{names_of};
 ghost use Rattle.reports.specs.Audits.{audit_text};
 ghost use Rattle.commands.specs.Printing.{EndsPrinting, Prints, ending};
-ghost use Rattle.commands.specs.Verifying.{EndsWithAudit, IsFailureOfAudit, PrintsAudit, PrintsAuditFor, PrintsSomeAudit, held_names, outcome_of_end};
+ghost use Rattle.commands.specs.Verifying.{EndsWithAudit, PrintsAudit, PrintsAuditFor, PrintsAuditOf, held_names, outcome_of_end};
 
 use crate::ended::ended;
-use crate::names::{bytes_of_names, missing_name};
-use aig_graph::{Circuit, KeepError};
+use crate::names::{bytes_of_names, failure_of_names};
+use aig_graph::Circuit;
 use certificate_audits::{Audit, End, audit_blocks};
 use certificates::Certificate;
 use circuit_files::{Failure, Outcome, certificates_at, circuit_at};
@@ -17,20 +17,6 @@ use counted_io::{CountedRead, CountedWrite};
 use reports::print_audit;
 use std::alloc::Global;
 use std::rt::Files;
-
-/// The failure that an error is, with the name that it is about.
-fn failure_of<'a>(error: KeepError, task: &Verification<'a>) -> Failure<'a>
-    ensures { IsFailureOfAudit task.now error result }
-{
-    match error {
-        KeepError::NoMemory => Failure::Memory,
-        KeepError::NoSuchName(place) => missing_name(
-            task.input.name(),
-            task.keep.as_slice(),
-            place,
-        ),
-    }
-}
 
 /// The audit of certificates, where the latches with these names are held.
 fn audited_by<'a>(
@@ -44,7 +30,7 @@ fn audited_by<'a>(
 {
     match audit_blocks(alloc, circuit, blocks, names) {
         Ok(audit) => Ok(audit),
-        Err(error) => Err(failure_of(error, task)),
+        Err(error) => Err(failure_of_names(error, task.input, task.keep.as_slice())),
     }
 }
 
@@ -128,8 +114,8 @@ fn print_file<'a, R: Files, I: CountedRead, O: CountedWrite>(
     stdin: &mut I,
     out: &mut O,
 ) -> Result<Outcome, Failure<'a>>
-    ensures audit { IfOk result (λ ended. PrintsAuditFor task.now circuit.now ended
-        (O.output out.old) (O.output out.new)) }
+    ensures audit { IfOk result (PrintsAuditFor task.now circuit.now (I.input stdin.old)
+        (I.input stdin.new) (O.output out.old) (O.output out.new)) }
     ensures prints { Prints (ending result) (O.output out.old) (O.output out.new) }
 {
     match certificates_at(rt, alloc, task.certificates, stdin) {
@@ -151,7 +137,7 @@ pub fn print_verification<'a, R: Files, I: CountedRead, O: CountedWrite>(
     stdin: &mut I,
     out: &mut O,
 ) -> Result<Outcome, Failure<'a>>
-    ensures audit { IfOk result (λ ended. PrintsSomeAudit task.now ended
+    ensures audit { IfOk result (PrintsAuditOf task.now (I.input stdin.old) (I.input stdin.new)
         (O.output out.old) (O.output out.new)) }
     ensures prints { Prints (ending result) (O.output out.old) (O.output out.new) }
 {

@@ -20,7 +20,7 @@ use Rattle.commands.specs.Pipes.{ConvertsPipe, IsPipe, WritesPipe}
 use Rattle.commands.specs.Printing.{Prints}
 use Rattle.commands.specs.Simulating.{PrintsTrace}
 use Rattle.commands.specs.Statistics.{PrintsStatistics}
-use Rattle.commands.specs.Verifying.{PrintsSomeAudit}
+use Rattle.commands.specs.Verifying.{PrintsAuditOf}
 use Rattle.fretime.specs.Batches.{PrintsFiles, PrintsList}
 use Rattle.fretime.specs.Explaining.{Explains}
 
@@ -40,7 +40,7 @@ Does (Stat input json) before after old new ended = PrintsStatistics input json 
 Does (Convert input output spelling) before after old new ended = is_stdin input ≡ true → is_stdout output ≡ true → ConvertsPipe spelling before old new
 Does (Sim input stimulus) before after old new ended = PrintsTrace input stimulus before after old new ended
 Does (Same comparison) before after old new ended = PrintsFinding comparison before after old new ended
-Does (Verify verification) before after old new ended = PrintsSomeAudit verification ended old new
+Does (Verify verification) before after old new ended = PrintsAuditOf verification before after old new ended
 Does (Dot drawing) before after old new ended = PrintsPicture drawing before after old new ended
 Does (Witness input retimed witness) before after old new ended = PrintsFate input retimed witness before after old new ended
 Does (Explain name) before after old new ended = Explains name.now old new ended
