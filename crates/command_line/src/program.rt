@@ -335,7 +335,7 @@ fn explain<'a>(alloc: Global) -> Result<Command<'a>, AllocError> {
 /// The program without its commands.
 fn bare_program<'a>(alloc: Global) -> Command<'a> {
     Command::new(alloc, "fretime")
-        .version("0.1.0")
+        .version("0.2.0")
         .about(texts::ABOUT)
         .long_about(texts::LONG_ABOUT)
         .after_help(texts::EXAMPLE)
