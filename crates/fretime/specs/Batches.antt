@@ -1,17 +1,35 @@
--- What is printed of a batch, by how it ends.
-use Rattle.std.specs.Prelude.{ℕ, ◌≡◌, ◌⊎◌, Bool, true, false, List, fold}
+-- How the circuits of a batch are retimed, and what is printed of it, by how it ends.
+use Rattle.std.specs.Prelude.{ℕ, ◌≡◌, ◌⊎◌, Bool, true, false, List, [], fold}
 use Rattle.counted_io.specs.Output.{Output, WritesAll}
+use Rattle.frames.specs.declared.options.Options.{Options}
+use Rattle.batch_pool.specs.Outcomes.{AreOutcomes}
+use Rattle.batch_pool.specs.declared.job.Job.{Job}
 use Rattle.batch_pool.specs.declared.job.Outcome.{Outcome as JobOutcome}
 use Rattle.batch_pool.specs.declared.job.Outcome.TheVariants as jobs
 use Rattle.reports.specs.Batches.{job_lines}
 use Rattle.reports.specs.declared.batch.JobReport.{JobReport}
 use Rattle.reports.specs.declared.batch.JobReport.TheVariants as reports
+use Rattle.command_line.specs.declared.task.Batch.{Batch}
 use Rattle.json_reports.specs.Batches.{batch_data}
 use Rattle.json_reports.specs.Lines.{json_line}
 use Rattle.circuit_files.specs.Codes.{status_of}
 use Rattle.circuit_files.specs.declared.outcome.Outcome.{Outcome}
 use Rattle.circuit_files.specs.declared.outcome.Outcome.TheVariants.{Done, Refused, ShapesDiffer, CommandLine, Device, Memory, Differ, Unconfirmed}
 use Rattle.fretime.specs.Reporting.{PrintsFailure}
+
+-- the options are the task's; no certificate is made, and no latch is held
+pub record AreBatchOptions (task : Batch) (options : Options) : Type 0 where
+  pub spelling : options.spelling ≡ task.spelling
+  pub frames : options.max_frames ≡ task.frames
+  pub choice : options.choice ≡ task.choice
+  pub certify : options.certify ≡ false
+  pub keep : options.keep.items ≡ []
+
+-- each outcome is that of its job, by the options of the task
+pub record AreOutcomesFor (task : Batch) (jobs : List Job) (outcomes : List JobOutcome) : Type 0 where
+  pub options : Options
+  pub are_options : AreBatchOptions task options
+  pub are : AreOutcomes options jobs outcomes
 
 -- what is printed of an outcome
 abbrev pub report_of : JobOutcome → JobReport

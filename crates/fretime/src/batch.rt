@@ -1,11 +1,11 @@
 //! The command `batch`.
-ghost use Rattle.std.specs.Prelude.{◌≡◌, ◌⊎◌, ◌+◌, false, IfErr, IfOk, MatchResult, OnOk, codes, length, map};
+ghost use Rattle.std.specs.Prelude.{◌≡◌, ◌<◌, ◌≤◌, ◌⊎◌, ◌+◌, false, IfErr, IfOk, MatchResult, OnOk, codes, length, map};
 ghost use Rattle.counted_io.specs.Output.{WritesAll};
 ghost use Rattle.reports.specs.Batches.{job_line};
 ghost use Rattle.circuit_files.specs.Outcomes.{outcome_of};
 ghost use Rattle.circuit_files.specs.declared.outcome.Outcome.TheVariants.{Device, Memory};
 ghost use Rattle.fretime.specs.Reporting.{PrintsFailure, SaysFailureBy};
-ghost use Rattle.fretime.specs.Batches.{Printed, PrintsList};
+ghost use Rattle.fretime.specs.Batches.{AreBatchOptions, AreOutcomesFor, Printed, PrintsList};
 ghost use Rattle.fretime.specs.Batches as wanted;
 
 use crate::batch_object::finish_as_object;
@@ -50,6 +50,26 @@ fn read_jobs<'a, R: Files>(
     Ok(jobs)
 }
 
+/// How the task wants each circuit to be retimed.
+fn options_of(alloc: Global, task: &Batch<'_>) -> Options
+    ensures { AreBatchOptions task.now result }
+{
+    Options {
+        spelling: task.spelling,
+        max_frames: task.frames,
+        choice: task.choice,
+        ..Options::defaults(alloc)
+    }
+}
+
+/// As many workers as are asked for.
+fn crew(task: &Batch<'_>) -> Crew<OpenGate>
+    ensures { 0 < task.now.workers → task.now.workers ≤ 64
+        → result.workers ≡ task.now.workers }
+{
+    Crew::new(task.workers.clamp(1, MOST_WORKERS), OpenGate)
+}
+
 /// What becomes of the jobs.
 fn run_jobs<'a, R: Threads + Sync>(
     rt: &R,
@@ -57,16 +77,10 @@ fn run_jobs<'a, R: Threads + Sync>(
     jobs: &[Job],
     task: &Batch<'_>,
 ) -> Result<Vec<batch_pool::Outcome>, Failure<'a>>
-    ensures { IfOk result (λ outcomes. length outcomes.items ≡ length jobs.now) }
+    ensures { IfOk result (λ outcomes. AreOutcomesFor task.now jobs.now outcomes.items) }
 {
-    let options = Options {
-        spelling: task.spelling,
-        max_frames: task.frames,
-        choice: task.choice,
-        certify: false,
-        keep: Vec::new(alloc),
-    };
-    let crew = Crew::new(task.workers.clamp(1, MOST_WORKERS), OpenGate);
+    let options = options_of(alloc, task);
+    let crew = crew(task);
     match run_batch(rt, alloc, jobs, &options, &crew) {
         Ok(outcomes) => Ok(outcomes),
         Err(_) => Err(Failure::Memory),
