@@ -89,7 +89,7 @@ before-more gates one before own n = elim (cases_lt n (length gates)) [
   | inr past ↦ elim (cases_eq n (length gates)) [
     | inl at ↦ (
         let same : (get_or (gates ++ one ∷ []) n no_gate).before ≡ one.before =
-            ap (λ (m : ℕ). (get_or (gates ++ one ∷ []) m no_gate).before) at ∙ ap (λ (k : KeptGate). k.before) (get_or-append_seam gates one [] no_gate) in
+        ap (λ (m : ℕ). (get_or (gates ++ one ∷ []) m no_gate).before) at ∙ ap (λ (k : KeptGate). k.before) (get_or-append_seam gates one [] no_gate) in
         omega (arith, same, own, at))
     | inr other ↦ (
         let long : length (gates ++ one ∷ []) ≤ n = omega (arith, length_push gates one, past, other) in
@@ -200,9 +200,9 @@ module _ (k : Kept) (kept : AreKept k) (one : KeptGate) (back : one.before ≤ l
         ∙ on_list-step more (before-more k.gates one kept.before back) gate n
         ∙ ap (λ (x : KeptGate). cond (is_gate gate x.gate) (Some x.lit) (on_list more gate x.before x.before)) own
         ∙ ap (cond (is_gate gate one.gate) (Some one.lit)) (
-            on_list-more k.gates one gate one.before one.before back
-            ∙ sym (on_list-down k.gates kept.before gate n one.before back)
-            ∙ ap (on_list k.gates gate n) (sym before-here ∙ ap (last_of k) (sym same)))
+        on_list-more k.gates one gate one.before one.before back
+        ∙ sym (on_list-down k.gates kept.before gate n one.before back)
+        ∙ ap (on_list k.gates gate n) (sym before-here ∙ ap (last_of k) (sym same)))
 
     found-here : (gate : Gate) → variable gate.rhs0 ≡ variable one.gate.rhs0 → lookup (is_gate gate) (pairs_of more) ≡ or_else (listed longer gate) (lookup (is_gate gate) k.rest)
     found-here gate same =
@@ -235,7 +235,7 @@ module _ (k : Kept) (kept : AreKept k) (one : KeptGate) (back : one.before ≤ l
               ∙ or_else-none (lookup (is_gate gate) (pairs k))
               ∙ kept.found gate
               ∙ sym (ap (λ (o : Option ℕ). or_else o (lookup (is_gate gate) k.rest)) (
-                  ap (on_list more gate (length more)) (last-there v apart) ∙ same-list gate (last_of k v) (last-few k kept v)))
+              ap (on_list more gate (length more)) (last-there v apart) ∙ same-list gate (last_of k v) (last-few k kept v)))
         ]
 
     -- one more on the list of its larger fan-in

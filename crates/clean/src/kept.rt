@@ -48,11 +48,19 @@ impl Model for KeptGates {
 
     ghost Value = { Kept };
 
-    ghost view = { λ k. record { first = k.first; gates = k.gates.items;
-        lists = k.lists.items; rest = k.rest.entries } };
+    ghost view = { λ k. record {
+      first = k.first;
+      gates = k.gates.items;
+      lists = k.lists.items;
+      rest = k.rest.entries;
+    } };
 
-    ghost invariant = { λ k. AreKept (record { first = k.first; gates = k.gates.items;
-        lists = k.lists.items; rest = k.rest.entries }) };
+    ghost invariant = { λ k. AreKept (record {
+      first = k.first;
+      gates = k.gates.items;
+      lists = k.lists.items;
+      rest = k.rest.entries;
+    }) };
 }
 
 /// Puts a gate into a table that hasn't got it.
