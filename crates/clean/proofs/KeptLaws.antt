@@ -1,5 +1,5 @@
 -- Kept gates on their lists: what a walk along a list finds, and what one more gate changes.
-use Rattle.std.proofs.Common.{add-one, ℕ, ◌+◌, ◌-◌, ◌<◌, ◌≤◌, ◌≡◌, inl, inr, zero, suc, List, [], ◌∷◌, ◌++◌, Bool, true, false, cond, nat_eq, nat_lt, Option, Some, None, length, get_or, map, slice_set, replicate, refl, ap, sym, ◌∙◌, arith, subst}
+use Rattle.std.proofs.Common.{add-one, ℕ, ◌+◌, ◌-◌, ◌<◌, ◌≤◌, ◌≡◌, inl, inr, zero, suc, List, [], ◌∷◌, ◌++◌, Bool, cond, nat_eq, nat_lt, Option, Some, None, length, get_or, slice_set, replicate, refl, ap, sym, ◌∙◌, arith}
 use Rattle.std.specs.Map.{lookup}
 use Rattle.std.proofs.Math.ListN.{get_or-eq_default}
 use Rattle.std.proofs.Math.Seq.{get_or-append_seam}

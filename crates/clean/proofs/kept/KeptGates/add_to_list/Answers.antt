@@ -1,13 +1,12 @@
-use Rattle.std.proofs.Common.{ℕ, ◌≡◌, ◌∙◌, ◌+◌, ◌≤◌, ◌++◌, ◌∷◌, [], List, arith, ap, sym, None, length, get_or, subst}
+use Rattle.std.proofs.Common.{◌≡◌, ◌∙◌, ◌+◌, ◌++◌, ◌∷◌, [], List, arith, ap, sym, None, length, get_or, subst}
 use Rattle.std.specs.Map.{lookup}
 use Rattle.std.proofs.lemmas.List.{get_or_default, length_push}
-use Rattle.aig_graph.specs.declared.graph.Gate.{Gate}
 use Rattle.aig_graph.specs.Graph.{variable}
 use Rattle.cleaned_circuits.specs.Merged.{is_gate}
 use Rattle.clean.specs.declared.kept.KeptGate.{KeptGate}
 use Rattle.clean.specs.declared.kept.GateList.{GateList}
-use Rattle.clean.specs.Kept.{Kept, AreKept, IsListOf, no_list, pairs}
-use Rattle.clean.proofs.KeptLaws.{AreKept-listed, pairs-push}
+use Rattle.clean.specs.Kept.{Kept, IsListOf, no_list, pairs}
+use Rattle.clean.proofs.KeptLaws.{AreKept-listed}
 use Rattle.clean.proofs.kept.KeptGates.add_to_list.Goals as goal
 
 pub invariant_of-self-2 : goal.invariant_of-self-2

@@ -1,9 +1,7 @@
-use Rattle.std.proofs.Common.{rules, ℕ, ◌≡◌, ◌∙◌, ◌+◌, ◌≤◌, ◌++◌, ◌∷◌, [], List, arith, ap, sym, None, length, subst}
-use Rattle.std.specs.Map.{lookup}
+use Rattle.std.proofs.Common.{rules, ℕ, ◌≡◌, ◌++◌, ◌∷◌, [], arith}
 use Rattle.aig_graph.specs.declared.graph.Gate.{Gate}
-use Rattle.cleaned_circuits.specs.Merged.{is_gate}
 use Rattle.clean.specs.declared.kept.KeptGate.{KeptGate}
-use Rattle.clean.specs.Kept.{Kept, AreKept, pairs}
+use Rattle.clean.specs.Kept.{Kept}
 use Rattle.clean.proofs.KeptLaws.{AreKept-rest}
 use Rattle.clean.proofs.kept.KeptGates.add_to_rest.Goals as goal
 

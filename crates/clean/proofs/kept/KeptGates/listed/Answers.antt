@@ -1,9 +1,9 @@
-use Rattle.std.proofs.Common.{ℕ, ◌≡◌, ◌∙◌, ◌-◌, ◌≤◌, ◌<◌, arith, ap, sym, cond, Option, Some, None, length, get_or, subst}
+use Rattle.std.proofs.Common.{ℕ, ◌≡◌, ◌∙◌, ◌-◌, arith, ap, sym, Option, Some, get_or, subst}
 use Rattle.std.proofs.lemmas.Bool.{cond-true, cond-false}
 use Rattle.aig_graph.specs.Graph.{variable}
 use Rattle.cleaned_circuits.specs.Merged.{is_gate}
 use Rattle.clean.specs.declared.kept.KeptGate.{KeptGate}
-use Rattle.clean.specs.Kept.{Kept, AreKept, last_of, listed, on_list}
+use Rattle.clean.specs.Kept.{Kept, AreKept, last_of, on_list}
 use Rattle.clean.proofs.KeptLaws.{last-few, list-start, link-back, list-next, on_list-none}
 use Rattle.clean.proofs.kept.KeptGates.listed.Goals as goal
 

@@ -1,4 +1,4 @@
-use Rattle.std.proofs.Common.{rules, ◌≡◌, [], replicate}
+use Rattle.std.proofs.Common.{rules, ◌≡◌, replicate}
 use Rattle.clean.specs.Kept.{no_list}
 use Rattle.clean.proofs.KeptLaws.{AreKept-none}
 use Rattle.clean.proofs.kept.KeptGates.of.Goals as goal
