@@ -1,0 +1,12 @@
+pub mod SharedLaws
+pub mod EqualLaws
+pub mod CopyLaws
+pub mod FactLaws
+pub mod ImageLaws
+pub mod StepLaws
+pub mod StartLaws
+pub mod AnswerLaws
+pub mod ShapeLaws
+pub mod SameLaws
+pub mod ResetLaws
+pub mod SideLaws

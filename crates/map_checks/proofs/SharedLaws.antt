@@ -1,0 +1,124 @@
+-- Shared gates, as one more is put among them.
+use Rattle.std.proofs.Common.{◌⊎◌, inl, inr, ℕ, ◌+◌, ◌*◌, ◌<◌, ◌≤◌, ◌≡◌, Bool, true, false, not, ◌&&◌, cond, nat_eq, List, [], ◌∷◌, ◌++◌, length, slice_get, Some, refl, arith, ap, sym, ◌∙◌, subst}
+use Rattle.std.proofs.Math.Bool.{and-true, and_self}
+use Rattle.std.proofs.lemmas.Bool.{and_parts, cases_Bool, cond-true, cond-false, eqb-true}
+use Rattle.std.proofs.lemmas.List.{length_push}
+use Rattle.aig_graph.specs.declared.literal.TheConstants.{MAX_VARIABLES}
+use Rattle.aig_graph.specs.declared.graph.Gate.{Gate}
+use Rattle.aig_graph.specs.Building.{gate_of}
+use Rattle.aig_graph.specs.Graph.{IsGateAt, variable}
+use Rattle.aig_graph.proofs.SignLaws.{gate_of-below, gate_of-ordered, value-gate_of}
+use Rattle.variable_tables.proofs.PlacesLaws.{slice_get_push, slice_get-append_left}
+use Rattle.map_checks.specs.Shared.{Shared, AreGates, Grows, IsBoth, IsFolded, IsNegated, IsShared, Respects, end_of}
+
+pub grows-itself : (k : Shared) → Grows k k
+grows-itself k = record { first = refl; long = omega arith; gates = λ j gate e. e }
+
+pub grows-transitive : (k l m : Shared) → Grows k l → Grows l m → Grows k m
+grows-transitive k l m p q = record {
+  first = q.first ∙ p.first;
+  long = omega (arith, p.long, q.long);
+  gates = λ j gate e. q.gates j gate (p.gates j gate e);
+}
+
+-- values that respect more gates respect fewer
+pub respects-fewer : (k l : Shared) → Grows k l → (values : ℕ → Bool) → Respects l values → Respects k values
+respects-fewer k l grows values p = record {
+  constant = p.constant;
+  negation = p.negation;
+  gates = λ j gate e. ap (λ (n : ℕ). values (2 * (n + j))) (sym grows.first) ∙ p.gates j gate (grows.gates j gate e);
+}
+
+pub shared-more : (k l : Shared) → Grows k l → (lit : ℕ) → IsShared k lit → IsShared l lit
+shared-more k l grows lit within = omega (arith, grows.first, grows.long, within)
+
+-- equal gates are one
+pub same-gate : (gate other : Gate) → (nat_eq gate.rhs0 other.rhs0 && nat_eq gate.rhs1 other.rhs1) ≡ true → gate ≡ other
+same-gate gate other e =
+    let parts = and_parts (nat_eq gate.rhs0 other.rhs0) (nat_eq gate.rhs1 other.rhs1) e in
+    let one : ℕ → Gate = λ n. record { rhs0 = n; rhs1 = gate.rhs1 } in
+    let two : ℕ → Gate = λ n. record { rhs0 = other.rhs0; rhs1 = n } in
+    ap one (eqb-true gate.rhs0 other.rhs0 parts.0) ∙ ap two (eqb-true gate.rhs1 other.rhs1 parts.1)
+
+pub one-or-other : (b : Bool) (xs ys : List Gate) → (cond b xs ys ≡ xs) ⊎ (cond b xs ys ≡ ys)
+one-or-other true xs ys = inl refl
+one-or-other false xs ys = inr refl
+
+-- what becomes of the gates: all as they were, or one more
+abbrev pub Takes : List Gate → List Gate → Gate → Type 0
+Takes gates new gate = (new ≡ gates) ⊎ (new ≡ gates ++ gate ∷ [])
+
+module _ (first : ℕ) (gates new : List Gate) (gate : Gate) (takes : Takes gates new gate) where
+  abbrev before : Shared
+  before = record { first = first; gates = gates }
+
+  abbrev after : Shared
+  after = record { first = first; gates = new }
+
+  pub gates-after : AreGates before → end_of before < MAX_VARIABLES → IsGateAt (end_of before) gate → AreGates after
+  gates-after are room at = elim takes [
+    | inl same ↦ (let P : List Gate → Type 0 = λ gs. AreGates (record { first = first; gates = gs }) in subst P (sym same) are)
+    | inr more ↦ (
+        let P : List Gate → Type 0 = λ gs. AreGates (record { first = first; gates = gs }) in
+        subst P (sym more) (record {
+          small = omega (arith, room, length_push gates gate);
+          gates = λ j other e. elim (slice_get_push gates gate j other e) [
+            | inl there ↦ are.gates j other there
+            | inr last ↦ (
+                let Q : ℕ → Gate → Type 0 = λ n g. IsGateAt (first + n) g in
+                let here : Q (length gates) gate = at in
+                subst (λ (n : ℕ). Q n other) (sym last.0) (subst (Q (length gates)) (sym last.1) here))
+          ];
+        }))
+  ]
+
+  pub grows-after : Grows before after
+  grows-after = elim takes [
+    | inl same ↦ (let P : List Gate → Type 0 = λ gs. Grows before (record { first = first; gates = gs }) in subst P (sym same) (grows-itself before))
+    | inr more ↦ (
+        let P : List Gate → Type 0 = λ gs. Grows before (record { first = first; gates = gs }) in
+        subst P (sym more) (record {
+          first = refl;
+          long = omega (arith, length_push gates gate);
+          gates = λ j other e. slice_get-append_left gates (gate ∷ []) j other e;
+        }))
+  ]
+
+-- a gate's literal
+pub both-at : (k : Shared) (gate : Gate) (place lit : ℕ) → slice_get k.gates place ≡ Some gate → place < length k.gates → lit ≡ 2 * (k.first + place) → IsBoth k gate.rhs0 gate.rhs1 lit
+both-at k gate place lit there within at = record {
+  within = omega (arith, within, at);
+  is = λ values respects. ap values at ∙ respects.gates place gate there;
+}
+
+pub folded-true : (gate : Gate) → gate.rhs1 ≡ 1 → IsFolded gate gate.rhs0
+folded-true gate one = record {
+  below = omega arith;
+  is = λ values constant negation. sym (ap (λ (n : ℕ). values gate.rhs0 && values n) one ∙ ap (λ (b : Bool). values gate.rhs0 && b) (negation 0 ∙ ap not constant) ∙ and-true (values gate.rhs0));
+}
+
+pub folded-equal : (gate : Gate) → gate.rhs0 ≡ gate.rhs1 → IsFolded gate gate.rhs0
+folded-equal gate same = record {
+  below = omega arith;
+  is = λ values constant negation. sym (ap (λ (n : ℕ). values gate.rhs0 && values n) (sym same) ∙ and_self (values gate.rhs0));
+}
+
+-- what stands for a gate of two literals stands for these in either order
+pub both-folded : (k : Shared) (a b lit : ℕ) → IsShared k a → IsShared k b → IsFolded (gate_of a b) lit → IsBoth k a b lit
+both-folded k a b lit first second folded = record {
+  within = omega (arith, folded.below, gate_of-below (end_of k) a b first second);
+  is = λ values respects. folded.is values respects.constant respects.negation ∙ value-gate_of values a b;
+}
+
+pub both-either : (k : Shared) (a b lit : ℕ) → IsBoth k (gate_of a b).rhs0 (gate_of a b).rhs1 lit → IsBoth k a b lit
+both-either k a b lit both = record {
+  within = both.within;
+  is = λ values respects. both.is values respects ∙ value-gate_of values a b;
+}
+
+pub gate-at : (k : Shared) (a b : ℕ) → IsShared k a → IsShared k b → IsGateAt (end_of k) (gate_of a b)
+gate-at k a b first second = record { ordered = gate_of-ordered a b; below = gate_of-below (end_of k) a b first second }
+
+-- what an insertion makes of the gates
+pub takes-of : (b : Bool) (gates new : List Gate) (gate : Gate) → new ≡ cond b gates (gates ++ gate ∷ []) → Takes gates new gate
+takes-of b gates new gate e = elim (one-or-other b gates (gates ++ gate ∷ [])) [ inl same ↦ inl (e ∙ same) | inr more ↦ inr (e ∙ more) ]

@@ -1,0 +1,10 @@
+use Rattle.std.proofs.Common.{◌≡◌, ◌≤◌, length}
+use Rattle.map_checks.specs.Equal.{StaysRight}
+use Rattle.map_checks.proofs.equalities.Equalities.cover.Given as goal
+
+abbrev pub invariant-loop-place : goal.invariant-loop-place
+invariant-loop-place l = record {
+  first : l.self-inside.first ≡ l.fn.self.first;
+  long : length l.self-inside.stands.items ≡ l.place;
+  right : StaysRight l.fn.self (record { first = l.self-inside.first; stands = l.self-inside.stands.items });
+}

@@ -1,0 +1,128 @@
+//! Literals that are known to be equal: of those that are, one stands for the others, found by a way of literals that leads down. Each
+//! search shortens the ways that it goes, so that all searches together take a little more than a step each.
+ghost use Rattle.std.specs.Prelude.{ℕ, ◌≡◌, ◌≤◌, Bool, [], OnOk};
+ghost use Rattle.aig_graph.specs.Graph.{variable};
+ghost use Rattle.map_checks.specs.Shared.{IsNegated};
+ghost use Rattle.map_checks.specs.Equal.{IsRight, StaysRight, standing};
+
+use aig_graph::{Lit, NoMemory};
+use std::alloc::Global;
+use std::marker::Model;
+
+/// By variable, from a first one on, a literal that stands for it. A variable past the end stands for itself.
+#[derive(Drop)]
+pub(crate) struct Equalities {
+    first: u32,
+    stands: Vec<Lit>,
+}
+
+impl Model for Equalities {
+    ghost use Rattle.map_checks.specs.Equal.{Equal};
+
+    ghost Value = { Equal };
+
+    ghost view = { λ e. record { first = e.first; stands = e.stands.items } };
+}
+
+impl Equalities {
+    /// Each literal stands for itself; for those before `first` none ever does.
+    pub(crate) fn none(alloc: Global, first: u32) -> Equalities
+        ensures { result ≡ record { first = first; stands = [] } }
+    {
+        Equalities {
+            first,
+            stands: Vec::new(alloc),
+        }
+    }
+
+    /// What stands for a literal.
+    #[tactic(auto, unfolding(crate::specs::Equal::standing))]
+    fn standing(&self, lit: Lit) -> Lit
+        ensures { result ≡ standing self.now lit }
+    {
+        let var = lit.var();
+        if var < self.first {
+            return lit;
+        }
+        match self.stands.get((var - self.first) as usize) {
+            Some(stand) => stand.signed_as(lit),
+            None => lit,
+        }
+    }
+
+    /// Puts another literal for one for which one may stand already.
+    fn redirect(&mut self, lit: Lit, to: Lit)
+        ensures { (values : ℕ → Bool) → IsNegated values → values to ≡ values lit
+            → IsRight self.old values → IsRight self.new values }
+    {
+        let var = lit.var();
+        if var < self.first {
+            return;
+        }
+        let place = (var - self.first) as usize;
+        if place < self.stands.len() {
+            self.stands[place] = to.signed_as(lit);
+        }
+    }
+
+    /// What stands for a literal, and for which none but itself does.
+    pub(crate) fn find(&mut self, lit: Lit) -> Lit
+        ensures below { variable result ≤ variable lit }
+        ensures right { StaysRight self.old self.new }
+        ensures value { (values : ℕ → Bool) → IsNegated values → IsRight self.old values
+            → values result ≡ values lit }
+    {
+        let mut root = lit;
+        let mut next = self.standing(root);
+        while next.var() < root.var() {
+            let after = self.standing(next);
+            self.redirect(root, after);
+            root = next;
+            next = after;
+        }
+        root
+    }
+
+    /// Lets each variable up to a literal's stand for itself, for which none does yet.
+    fn cover(&mut self, lit: Lit) -> Result<(), NoMemory>
+        ensures { OnOk result (StaysRight self.old self.new) }
+    {
+        let var = lit.var();
+        if var < self.first {
+            return Ok(());
+        }
+        let end = (var - self.first) as usize + 1;
+        for place in self.stands.len()..end {
+            self.stands
+                .push(Lit::new(self.first + place as u32, false))?;
+        }
+        Ok(())
+    }
+
+    /// Takes a literal for a larger one of the same value.
+    fn join(&mut self, small: Lit, large: Lit) -> Result<bool, NoMemory>
+        ensures { OnOk result ((values : ℕ → Bool) → IsNegated values → values small ≡ values large
+            → IsRight self.old values → IsRight self.new values) }
+    {
+        self.cover(large)?;
+        self.redirect(large, small);
+        Ok(true)
+    }
+
+    /// Takes one of two literals for the other, which have one value. Whether it wasn't taken for it before.
+    pub(crate) fn assume(&mut self, a: Lit, b: Lit) -> Result<bool, NoMemory>
+        ensures { OnOk result ((values : ℕ → Bool) → IsNegated values → values a ≡ values b
+            → IsRight self.old values → IsRight self.new values) }
+    {
+        let a = self.find(a);
+        let b = self.find(b);
+        if a.var() == b.var() {
+            return Ok(false);
+        }
+        if a < b {
+            self.join(a, b)
+        } else {
+            self.join(b, a)
+        }
+    }
+}

@@ -1,0 +1,58 @@
+ghost use Rattle.std.specs.Prelude.{◌≡◌};
+
+use std::alloc::{AllocError, AllocFailed};
+use thiserror::Error;
+
+/// Why a map isn't checked.
+#[derive(Clone, Copy, Debug, PartialEq, Eq, Error)]
+pub enum CheckError {
+    /// Memory was refused.
+    #[error("out of memory")]
+    NoMemory,
+    /// Together the circuits have more gates than a graph may have.
+    #[error("too many variables")]
+    TooLarge,
+    /// The map has a latch, a bad state, a justice property or a fairness constraint.
+    #[error("not a map")]
+    NotAMap,
+    /// The circuits differ in their inputs or properties, or the map in its inputs or outputs from their latches.
+    #[error("shapes differ")]
+    ShapesDiffer,
+}
+
+/// Why gates aren't shared.
+pub(crate) enum SharingError {
+    NoMemory,
+    TooLarge,
+}
+
+impl From<SharingError> for CheckError {
+    ghost use Rattle.map_checks.specs.Answers.{check_error};
+
+    ghost from_gives = { λ error given. given ≡ check_error error };
+
+    fn from(error: SharingError) -> CheckError {
+        match error {
+            SharingError::NoMemory => CheckError::NoMemory,
+            SharingError::TooLarge => CheckError::TooLarge,
+        }
+    }
+}
+
+impl From<AllocError> for SharingError {
+    fn from(_error: AllocError) -> SharingError {
+        SharingError::NoMemory
+    }
+}
+
+impl From<aig_graph::NoMemory> for SharingError {
+    fn from(_error: aig_graph::NoMemory) -> SharingError {
+        SharingError::NoMemory
+    }
+}
+
+impl<T: Drop> From<AllocFailed<T>> for SharingError {
+    fn from(_error: AllocFailed<T>) -> SharingError {
+        SharingError::NoMemory
+    }
+}

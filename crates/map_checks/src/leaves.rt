@@ -1,0 +1,58 @@
+//! What the inputs and latches of a circuit are among shared gates, before its gates are copied.
+ghost use Rattle.std.specs.Prelude.{◌≡◌, ◌≤◌, ◌<◌, All, IfOk, OnOk};
+ghost use Rattle.aig_graph.specs.declared.literal.TheConstants.{MAX_VARIABLES};
+ghost use Rattle.aig_graph.specs.Graph.{variable};
+ghost use Rattle.map_checks.specs.Equal.{StaysRight};
+ghost use Rattle.map_checks.specs.Copies.{copied_end};
+ghost use Rattle.map_checks.specs.Images.{AreLatches, nexts_of, picked};
+
+use crate::copied::Copied;
+use crate::equalities::Equalities;
+use aig_graph::{Aig, Lit, NoMemory};
+use std::alloc::Global;
+
+/// What stands for each latch, from a variable on.
+pub(crate) fn latch_leaves(
+    alloc: Global,
+    equal: &mut Equalities,
+    aig: &Aig,
+    first: u32,
+) -> Result<Copied, NoMemory>
+    ensures right { OnOk result (StaysRight equal.old equal.new) }
+    ensures leaves { IfOk result (AreLatches equal.old aig.now first) }
+{
+    let first_latch = aig.first_latch();
+    let mut literals = Vec::with_capacity(alloc, aig.latches().len())?;
+    for place in 0..aig.latches().len() as u32 {
+        literals.push(equal.find(Lit::new(first_latch + place, false)))?;
+    }
+    Ok(Copied::of(first, literals))
+}
+
+/// The next literals of all latches.
+pub(crate) fn nexts(alloc: Global, aig: &Aig) -> Result<Vec<Lit>, NoMemory>
+    ensures { IfOk result (λ lits. lits.items ≡ nexts_of aig.now.latches) }
+{
+    let mut lits = Vec::with_capacity(alloc, aig.latches().len())?;
+    for latch in aig.latches() {
+        lits.push(latch.next)?;
+    }
+    Ok(lits)
+}
+
+/// The shared literals of these, from a variable on.
+pub(crate) fn picked(
+    alloc: Global,
+    first: u32,
+    copied: &Copied,
+    lits: &[Lit],
+) -> Result<Copied, NoMemory>
+    requires { All (λ lit. variable lit < copied_end copied.now) lits.now }
+    ensures { IfOk result (λ leaves. leaves ≡ picked first copied.now lits.now) }
+{
+    let mut literals = Vec::with_capacity(alloc, lits.len())?;
+    for lit in lits {
+        literals.push(copied.literal(*lit))?;
+    }
+    Ok(Copied::of(first, literals))
+}
