@@ -1,15 +1,14 @@
 -- Copies of gates have their values.
-use Rattle.std.proofs.Common.{◌⊎◌, inl, inr, ℕ, ◌+◌, ◌-◌, ◌*◌, ◌<◌, ◌≤◌, ◌≡◌, Bool, ◌&&◌, nat_lt, List, [], ◌∷◌, ◌++◌, length, get_or, slice_get, Some, refl, arith, ap, sym, ◌∙◌, subst}
+use Rattle.std.proofs.Common.{inl, inr, ℕ, ◌+◌, ◌-◌, ◌*◌, ◌<◌, ◌≤◌, ◌≡◌, Bool, ◌&&◌, nat_lt, [], ◌∷◌, get_or, slice_get, Some, arith, ap, sym, ◌∙◌, subst}
 use Rattle.std.proofs.lemmas.Bool.{cases_lt, cond-true, cond-false, lt-ltb, le-ltb}
 use Rattle.std.proofs.lemmas.List.{length_push, get_or_append_left, get_or_push}
 use Rattle.aig_graph.specs.declared.graph.Gate.{Gate}
 use Rattle.aig_graph.specs.Graph.{Graph, IsGraph, IsGateAt, first_gate, variable}
 use Rattle.aig_graph.specs.Value.{signed, signed_as}
 use Rattle.aig_graph.proofs.SignLaws.{value_signed, value_signed_as, variable-signed_as}
-use Rattle.map_checks.specs.Shared.{Grows, IsBoth, IsNegated, IsShared, Respects, Shared, end_of, gates_of}
-use Rattle.map_checks.specs.Equal.{Equal, IsRight, StaysRight}
+use Rattle.map_checks.specs.Shared.{Grows, IsBoth, IsNegated, IsShared, Respects, Shared, gates_of}
 use Rattle.map_checks.specs.Copies.{AreShared, Copy, Follows, copied_end, copy_of, with_literal}
-use Rattle.map_checks.proofs.SharedLaws.{respects-fewer, shared-more}
+use Rattle.map_checks.proofs.SharedLaws.{shared-more}
 
 -- a literal before the first variable is its own
 pub copy-low : (c : Copy) (lit : ℕ) → variable lit < c.first → copy_of c lit ≡ lit

@@ -1,13 +1,11 @@
 -- What three gates say of two literals.
-use Rattle.std.proofs.Common.{◌⊎◌, inl, inr, ℕ, ◌+◌, ◌-◌, ◌*◌, ◌/◌, ◌%◌, ◌<◌, ◌≤◌, ◌≡◌, ◌≢◌, ◌↔◌, IsTrue, Bool, true, false, not, ◌&&◌, Some, slice_get, refl, arith, ap, sym, ◌∙◌}
+use Rattle.std.proofs.Common.{inl, inr, ℕ, ◌+◌, ◌-◌, ◌*◌, ◌/◌, ◌%◌, ◌≡◌, ◌≢◌, ◌↔◌, IsTrue, Bool, true, false, not, ◌&&◌, Some, refl, arith, ap, sym, ◌∙◌}
 use Rattle.std.proofs.Math.Bool.{not-not}
 use Rattle.std.proofs.lemmas.Bool.{cases_eq, false≢true}
 use Rattle.aig_graph.specs.declared.graph.Gate.{Gate}
-use Rattle.aig_graph.specs.Graph.{Graph, IsGraph, IsGateAt, IsLiteralOf, first_gate, gate_at, variable, variables_end}
-use Rattle.aig_graph.specs.Value.{signed}
+use Rattle.aig_graph.specs.Graph.{Graph, IsGraph, IsGateAt, IsLiteralOf, first_gate, gate_at, variable}
 use Rattle.aig_graph.proofs.FoldingLaws.{gate_at-is}
 use Rattle.aig_graph.proofs.KindLaws.{GatePlace, gate_place}
-use Rattle.aig_graph.proofs.SignLaws.{signed-even, signed-odd, value_signed}
 use Rattle.map_checks.specs.Shared.{IsNegated, Respects, gates_of}
 use Rattle.map_checks.specs.Facts.{IsFact}
 

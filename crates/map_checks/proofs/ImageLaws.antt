@@ -1,22 +1,20 @@
 -- Circuits and maps among shared gates have their values.
-use Rattle.std.proofs.Common.{◌⊎◌, inl, inr, ℕ, ◌+◌, ◌-◌, ◌*◌, ◌<◌, ◌≤◌, ◌≡◌, suc, zero, Bool, true, false, not, List, [], ◌∷◌, ◌++◌, length, map, get_or, slice_get, Some, refl, arith, ap, sym, ◌∙◌, subst}
+use Rattle.std.proofs.Common.{inl, inr, ℕ, ◌+◌, ◌-◌, ◌*◌, ◌<◌, ◌≤◌, ◌≡◌, suc, zero, Bool, true, false, not, List, [], ◌∷◌, ◌++◌, length, map, get_or, slice_get, Some, refl, arith, ap, sym, ◌∙◌, subst}
 use Rattle.std.specs.List.{All}
 use Rattle.std.proofs.lemmas.Bool.{cases_eq, cases_lt}
 use Rattle.std.proofs.lemmas.List.{get_or-map, get_or_append_left, get_or_push, length-map}
-use Rattle.aig_graph.specs.declared.graph.Gate.{Gate}
 use Rattle.aig_graph.specs.declared.graph.Latch.{Latch}
-use Rattle.aig_graph.specs.declared.literal.TheConstants.{MAX_VARIABLES}
 use Rattle.aig_graph.specs.Circuits.{Netlist, IsNetlist}
-use Rattle.aig_graph.specs.Graph.{Graph, IsGraph, IsGateAt, IsLiteralOf, first_gate, first_latch, variable, variables_end}
+use Rattle.aig_graph.specs.Graph.{Graph, IsGraph, first_gate, first_latch, variable, variables_end}
 use Rattle.aig_graph.specs.Value.{next_value, signed, signed_as, value_within}
 use Rattle.aig_graph.proofs.KindLaws.{element}
 use Rattle.aig_graph.proofs.SignLaws.{value_signed, value_signed_as}
 use Rattle.state_maps.specs.States.{Digits, State, after_step}
-use Rattle.state_maps.specs.MapCircuits.{image, is_kept, mapped}
-use Rattle.state_maps.proofs.WithinLaws.{WithinLaws, within_laws}
+use Rattle.state_maps.specs.MapCircuits.{mapped}
+use Rattle.state_maps.proofs.WithinLaws.{within_laws}
 use Rattle.std.proofs.lemmas.List.Elements.{All-map}
-use Rattle.variable_tables.proofs.ListLaws.{from_map, map-map, map-same}
-use Rattle.map_checks.specs.Shared.{AreGates, Grows, IsNegated, IsShared, Respects, Shared, end_of, gates_of}
+use Rattle.variable_tables.proofs.ListLaws.{map-map, map-same}
+use Rattle.map_checks.specs.Shared.{Grows, IsNegated, IsShared, Respects, Shared, end_of, gates_of}
 use Rattle.map_checks.specs.Equal.{Equal, IsRight, StaysRight}
 use Rattle.map_checks.specs.Copies.{AreShared, Copy, Follows, IsCopy, copied_end, copy_of}
 use Rattle.map_checks.specs.Images.{AreLatches, Assumes, IsView, Learns, Views, in_first, in_map, in_map_later, in_second, nexts_of, picked}

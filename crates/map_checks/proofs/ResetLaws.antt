@@ -1,16 +1,16 @@
 -- The map over the resets has the values of the map in each first state.
-use Rattle.std.proofs.Common.{ℕ, ◌+◌, ◌*◌, ◌<◌, ◌≤◌, ◌≡◌, Bool, true, false, not, List, [], length, get_or, slice_get, Some, refl, arith, ap, sym, ◌∙◌, subst}
+use Rattle.std.proofs.Common.{ℕ, ◌+◌, ◌*◌, ◌<◌, ◌≡◌, Bool, false, not, List, [], length, get_or, arith, ap, sym, ◌∙◌, subst}
 use Rattle.aig_graph.specs.declared.graph.Latch.{Latch}
 use Rattle.aig_graph.specs.declared.graph.Reset.{Reset}
 use Rattle.aig_graph.specs.declared.graph.Reset.TheVariants.{Zero, One, Free}
-use Rattle.aig_graph.specs.Graph.{Graph, IsGraph, first_gate, first_latch, free_before, variable, variables_end}
-use Rattle.aig_graph.specs.Value.{Choice, opening, opening_at, value_within}
+use Rattle.aig_graph.specs.Graph.{Graph, IsGraph, first_gate, first_latch, free_before, variable}
+use Rattle.aig_graph.specs.Value.{opening, opening_at, value_within}
 use Rattle.aig_graph.proofs.KindLaws.{element}
 use Rattle.state_maps.specs.States.{opening_state}
 use Rattle.state_maps.proofs.WithinLaws.{within_laws}
 use Rattle.map_checks.specs.Shared.{AreGates, IsNegated, IsShared, Shared, end_of}
 use Rattle.map_checks.specs.Equal.{Equal}
-use Rattle.map_checks.specs.Copies.{AreShared, Copy, IsCopy, copied_end}
+use Rattle.map_checks.specs.Copies.{AreShared, Copy, IsCopy}
 use Rattle.map_checks.specs.Images.{Views}
 use Rattle.map_checks.specs.Starts.{AreResets, IsResetImage, opening_literal}
 use Rattle.map_checks.proofs.ImageLaws.{constant-same, graph-respects, leaves-follow, leaves-shared}

@@ -1,5 +1,5 @@
 -- Properties that are the same, from those of each kind.
-use Rattle.std.proofs.Common.{◌≡◌, List, ℕ, map, ap, refl, ◌∙◌}
+use Rattle.std.proofs.Common.{◌≡◌, List, ℕ, map, ap, ◌∙◌}
 use Rattle.aig_graph.specs.Mapped.{mapped_props}
 use Rattle.aig_graph.specs.declared.properties.Props.{Props}
 

@@ -1,15 +1,15 @@
 -- Shared gates, as one more is put among them.
-use Rattle.std.proofs.Common.{◌⊎◌, inl, inr, ℕ, ◌+◌, ◌*◌, ◌<◌, ◌≤◌, ◌≡◌, Bool, true, false, not, ◌&&◌, cond, nat_eq, List, [], ◌∷◌, ◌++◌, length, slice_get, Some, refl, arith, ap, sym, ◌∙◌, subst}
+use Rattle.std.proofs.Common.{◌⊎◌, inl, inr, ℕ, ◌+◌, ◌*◌, ◌<◌, ◌≡◌, Bool, true, false, not, ◌&&◌, cond, nat_eq, List, [], ◌∷◌, ◌++◌, length, slice_get, Some, refl, arith, ap, sym, ◌∙◌, subst}
 use Rattle.std.proofs.Math.Bool.{and-true, and_self}
-use Rattle.std.proofs.lemmas.Bool.{and_parts, cases_Bool, cond-true, cond-false, eqb-true}
+use Rattle.std.proofs.lemmas.Bool.{and_parts, eqb-true}
 use Rattle.std.proofs.lemmas.List.{length_push}
 use Rattle.aig_graph.specs.declared.literal.TheConstants.{MAX_VARIABLES}
 use Rattle.aig_graph.specs.declared.graph.Gate.{Gate}
 use Rattle.aig_graph.specs.Building.{gate_of}
-use Rattle.aig_graph.specs.Graph.{IsGateAt, variable}
+use Rattle.aig_graph.specs.Graph.{IsGateAt}
 use Rattle.aig_graph.proofs.SignLaws.{gate_of-below, gate_of-ordered, value-gate_of}
 use Rattle.variable_tables.proofs.PlacesLaws.{slice_get_push, slice_get-append_left}
-use Rattle.map_checks.specs.Shared.{Shared, AreGates, Grows, IsBoth, IsFolded, IsNegated, IsShared, Respects, end_of}
+use Rattle.map_checks.specs.Shared.{Shared, AreGates, Grows, IsBoth, IsFolded, IsShared, Respects, end_of}
 
 pub grows-itself : (k : Shared) → Grows k k
 grows-itself k = record { first = refl; long = omega arith; gates = λ j gate e. e }

@@ -1,12 +1,8 @@
 -- The copies that are compared, one after another.
-use Rattle.std.proofs.Common.{ℕ, ◌≡◌, Bool, List, []}
 use Rattle.aig_graph.specs.Circuits.{Netlist}
-use Rattle.aig_graph.specs.Graph.{Graph, variables_end}
-use Rattle.state_maps.specs.States.{Digits, State}
-use Rattle.state_maps.specs.MapCircuits.{is_kept}
 use Rattle.map_checks.specs.Shared.{Grows, Shared}
 use Rattle.map_checks.specs.Equal.{Equal, StaysRight}
-use Rattle.map_checks.specs.Copies.{AreShared, Copy, Follows}
+use Rattle.map_checks.specs.Copies.{AreShared, Copy}
 use Rattle.map_checks.specs.Images.{AreSides, IsView, Learns, Views, in_first, in_map, in_map_later, in_second}
 use Rattle.map_checks.proofs.SharedLaws.{grows-transitive}
 use Rattle.map_checks.proofs.ImageLaws.{shared-later, view-later, views-fewer}

@@ -1,5 +1,5 @@
 -- The first states of the second circuit are those that the map gives.
-use Rattle.std.proofs.Common.{◌⊎◌, inl, inr, ℕ, ◌+◌, ◌*◌, ◌<◌, ◌≤◌, ◌≡◌, suc, zero, Bool, true, false, not, cond, List, [], ◌∷◌, ◌++◌, length, map, take, count_by, get_or, slice_get, Option, Some, None, refl, arith, ap, sym, ◌∙◌, subst}
+use Rattle.std.proofs.Common.{inl, inr, ℕ, ◌+◌, ◌<◌, ◌≤◌, ◌≡◌, suc, zero, Bool, true, false, not, cond, List, [], ◌∷◌, ◌++◌, length, map, get_or, slice_get, Option, Some, None, refl, arith, ap, sym, ◌∙◌, subst}
 use Rattle.std.specs.List.{All}
 use Rattle.std.specs.List.Sorted.{IsStrictlyIncreasing}
 use Rattle.std.proofs.Math.ListN.{get_or-eq_default}
@@ -12,15 +12,15 @@ use Rattle.aig_graph.specs.declared.graph.Latch.{Latch}
 use Rattle.aig_graph.specs.declared.graph.Reset.{Reset}
 use Rattle.aig_graph.specs.declared.graph.Reset.TheVariants.{Zero, One, Free}
 use Rattle.aig_graph.specs.Circuits.{Netlist, IsNetlist}
-use Rattle.aig_graph.specs.Graph.{Graph, first_latch, free_before, free_latches, is_free, is_free_latch, latch_at, variable, variables_end}
-use Rattle.aig_graph.specs.Streams.{AreKept, chosen}
+use Rattle.aig_graph.specs.Graph.{Graph, first_latch, free_before, free_latches, is_free, is_free_latch, variables_end}
+use Rattle.aig_graph.specs.Streams.{chosen}
 use Rattle.aig_graph.specs.Value.{Choice, opening, opening_at, value_within}
 use Rattle.aig_graph.proofs.FreeLaws.{is_free_at, free-count}
 use Rattle.aig_graph.proofs.KindLaws.{latch_at-first_latch}
 use Rattle.variable_tables.specs.Counting.{count_below}
 use Rattle.variable_tables.proofs.PlacesLaws.{count-lt}
 use Rattle.state_maps.specs.States.{opening_state}
-use Rattle.state_maps.specs.MapCircuits.{is_kept, mapped}
+use Rattle.state_maps.specs.MapCircuits.{mapped}
 use Rattle.state_maps.proofs.MapLaws.{funext}
 use Rattle.map_checks.specs.Copies.{Copy, copy_of}
 use Rattle.map_checks.specs.Starts.{AreRising, AreStarts, IsFreeLatch, IsOpening, IsResetImage, StartsAs, Takes}

@@ -1,13 +1,11 @@
 -- A step of the first circuit is one of the second, where the literals of the copies are one.
-use Rattle.std.proofs.Common.{ℕ, ◌+◌, ◌*◌, ◌<◌, ◌≤◌, ◌≡◌, suc, zero, Bool, true, false, List, [], ◌∷◌, length, map, get_or, slice_get, Some, None, refl, arith, ap, sym, ◌∙◌, subst}
-use Rattle.std.specs.List.{All}
+use Rattle.std.proofs.Common.{ℕ, ◌+◌, ◌*◌, ◌≡◌, suc, zero, Bool, false, List, [], ◌∷◌, length, map, get_or, slice_get, refl, arith, ap, sym, ◌∙◌, subst}
 use Rattle.std.proofs.lemmas.List.{length-map}
 use Rattle.std.proofs.lemmas.Option.{none-some}
-use Rattle.aig_graph.specs.declared.graph.Gate.{Gate}
 use Rattle.aig_graph.specs.declared.graph.Latch.{Latch}
 use Rattle.aig_graph.specs.declared.properties.Props.{Props}
 use Rattle.aig_graph.specs.Circuits.{Netlist, IsNetlist}
-use Rattle.aig_graph.specs.Graph.{Graph, IsGraph, IsGateAt, first_gate, first_latch, variable, variables_end}
+use Rattle.aig_graph.specs.Graph.{Graph, IsGraph, IsGateAt, first_gate, variables_end}
 use Rattle.aig_graph.specs.Mapped.{mapped_props}
 use Rattle.aig_graph.specs.Value.{next_value, value_within}
 use Rattle.state_maps.specs.States.{Digits, SameReads, State, after_step}
@@ -15,9 +13,9 @@ use Rattle.state_maps.specs.MapCircuits.{is_kept, mapped}
 use Rattle.state_maps.proofs.MapLaws.{funext}
 use Rattle.state_maps.proofs.WithinLaws.{within_laws}
 use Rattle.variable_tables.proofs.ListLaws.{from_map}
-use Rattle.map_checks.specs.Shared.{AreGates, Respects, Shared}
-use Rattle.map_checks.specs.Equal.{Equal, IsRight}
-use Rattle.map_checks.specs.Copies.{Copy, Follows, copy_of}
+use Rattle.map_checks.specs.Shared.{AreGates, Shared}
+use Rattle.map_checks.specs.Equal.{Equal}
+use Rattle.map_checks.specs.Copies.{Copy, Follows}
 use Rattle.map_checks.specs.Images.{AreSettled, AreSides, Views, in_first, in_map_later, in_second, nexts_of}
 use Rattle.map_checks.specs.Answers.{KeepsStates}
 use Rattle.map_checks.proofs.ImageLaws.{copied-list, copied-lists, copied-ones, latch-value, nexts-within}

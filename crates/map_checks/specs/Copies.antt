@@ -1,5 +1,5 @@
 -- Copies of a circuit's gates among shared ones.
-use Rattle.std.specs.Prelude.{ℕ, ◌+◌, ◌-◌, ◌*◌, ◌<◌, ◌≡◌, ◌++◌, nat_lt, Bool, List, [], ◌∷◌, length, if◌then◌else◌}
+use Rattle.std.specs.Prelude.{ℕ, ◌+◌, ◌-◌, ◌<◌, ◌≡◌, ◌++◌, nat_lt, Bool, List, [], ◌∷◌, length, if◌then◌else◌}
 use Rattle.std.specs.List.{slice_index_or}
 use Rattle.aig_graph.specs.Graph.{Graph, variable, first_gate, variables_end}
 use Rattle.aig_graph.specs.Value.{signed_as}

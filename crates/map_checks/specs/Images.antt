@@ -1,15 +1,15 @@
 -- Circuits and maps among shared gates.
-use Rattle.std.specs.Prelude.{ℕ, ◌+◌, ◌*◌, ◌<◌, ◌≤◌, ◌≡◌, Bool, true, false, List, [], length, map, slice_get, All}
+use Rattle.std.specs.Prelude.{ℕ, ◌+◌, ◌*◌, ◌<◌, ◌≤◌, ◌≡◌, Bool, true, false, List, length, map, All}
 use Rattle.std.specs.List.{slice_index_or}
 use Rattle.aig_graph.specs.declared.graph.Latch.{Latch}
 use Rattle.aig_graph.specs.Graph.{Graph, variable, first_latch, variables_end}
 use Rattle.aig_graph.specs.declared.properties.Props.{Props}
 use Rattle.aig_graph.specs.Circuits.{Netlist}
 use Rattle.aig_graph.specs.Mapped.{mapped_props}
-use Rattle.aig_graph.specs.Value.{value_within, next_value}
+use Rattle.aig_graph.specs.Value.{value_within}
 use Rattle.state_maps.specs.States.{Digits, State, after_step}
 use Rattle.state_maps.specs.MapCircuits.{is_kept, mapped}
-use Rattle.map_checks.specs.Shared.{Grows, IsNegated, Respects, Shared, gates_of}
+use Rattle.map_checks.specs.Shared.{IsNegated, Respects, Shared, gates_of}
 use Rattle.map_checks.specs.Equal.{Equal, IsRight}
 use Rattle.map_checks.specs.Copies.{AreShared, Copy, Follows, copied_end, copy_of}
 

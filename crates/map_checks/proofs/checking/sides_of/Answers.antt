@@ -1,4 +1,4 @@
-use Rattle.std.proofs.Common.{◌≡◌, subst}
+use Rattle.std.proofs.Common.{subst}
 use Rattle.aig_graph.specs.Graph.{Graph}
 use Rattle.map_checks.specs.Equal.{Equal, StaysRight}
 use Rattle.map_checks.specs.Images.{IsView, Learns, in_map, in_second}

@@ -1,4 +1,4 @@
-use Rattle.std.proofs.Common.{◌≡◌, ◌∙◌, ◌<◌, arith, ap}
+use Rattle.std.proofs.Common.{arith}
 use Rattle.map_checks.specs.Copies.{copy_of}
 use Rattle.map_checks.proofs.ShapeLaws.{maps-same}
 use Rattle.map_checks.proofs.comparing.first_unlike.Goals as goal

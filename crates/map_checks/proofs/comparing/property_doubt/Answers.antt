@@ -1,4 +1,4 @@
-use Rattle.std.proofs.Common.{◌≡◌, ◌∙◌, ap, sym, List, ℕ, map}
+use Rattle.std.proofs.Common.{◌∙◌, ap, sym, ℕ, map}
 use Rattle.map_checks.specs.Copies.{copy_of}
 use Rattle.map_checks.proofs.SameLaws.{same-props}
 use Rattle.map_checks.proofs.comparing.property_doubt.Goals as goal

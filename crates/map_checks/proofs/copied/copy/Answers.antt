@@ -1,7 +1,7 @@
-use Rattle.std.proofs.Common.{◌≡◌, ◌∙◌, ◌+◌, ◌<◌, ◌≤◌, Bool, List, Some, ℕ, arith, ap, sym, refl, subst, length, slice_get}
+use Rattle.std.proofs.Common.{◌≡◌, ◌∙◌, ◌+◌, List, Some, ℕ, arith, ap, sym, refl, subst, length, slice_get}
 use Rattle.std.proofs.lemmas.Option.{slice_get_read}
 use Rattle.aig_graph.specs.declared.graph.Gate.{Gate}
-use Rattle.aig_graph.specs.Graph.{Graph, first_gate, variable, variables_end}
+use Rattle.aig_graph.specs.Graph.{Graph, variable, variables_end}
 use Rattle.map_checks.specs.Shared.{Grows, IsShared, Shared}
 use Rattle.map_checks.specs.Copies.{AreShared, Copy, Follows, copied_end, copy_of, with_literal}
 use Rattle.map_checks.proofs.SharedLaws.{grows-itself, grows-transitive, respects-fewer}

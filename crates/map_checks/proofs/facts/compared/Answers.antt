@@ -1,5 +1,5 @@
-use Rattle.std.proofs.Common.{◌≡◌, ◌∙◌, ap, sym, arith, ℕ, Some, subst}
-use Rattle.aig_graph.specs.Graph.{gate_at, variable}
+use Rattle.std.proofs.Common.{◌∙◌, ap, sym, arith}
+use Rattle.aig_graph.specs.Graph.{gate_at}
 use Rattle.map_checks.proofs.FactLaws.{even-of, is-compared, odd-of}
 use Rattle.map_checks.proofs.facts.compared.Goals as goal
 

@@ -1,6 +1,3 @@
-use Rattle.std.proofs.Common.{ℕ, ◌≡◌, Bool, true}
-use Rattle.std.specs.List.{All}
-use Rattle.aig_graph.specs.Graph.{variables_end}
 use Rattle.map_checks.specs.Images.{Assumes}
 use Rattle.map_checks.proofs.learning.assume_constraints.Given as goal
 

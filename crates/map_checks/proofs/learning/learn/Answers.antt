@@ -1,4 +1,3 @@
-use Rattle.std.proofs.Common.{◌≡◌}
 use Rattle.map_checks.proofs.ImageLaws.{learns-of}
 use Rattle.map_checks.proofs.learning.learn.Goals as goal
 

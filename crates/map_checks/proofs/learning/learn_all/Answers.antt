@@ -1,4 +1,3 @@
-use Rattle.std.proofs.Common.{◌≡◌}
 use Rattle.map_checks.proofs.SharedLaws.{grows-transitive}
 use Rattle.map_checks.proofs.ImageLaws.{learns-then}
 use Rattle.map_checks.proofs.learning.learn_all.Goals as goal

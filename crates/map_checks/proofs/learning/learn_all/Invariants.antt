@@ -1,4 +1,3 @@
-use Rattle.std.proofs.Common.{◌≡◌}
 use Rattle.map_checks.specs.Shared.{Grows}
 use Rattle.map_checks.specs.Images.{Learns}
 use Rattle.map_checks.proofs.learning.learn_all.Given as goal

@@ -1,4 +1,4 @@
-use Rattle.std.proofs.Common.{◌≡◌, map, take}
+use Rattle.std.proofs.Common.{◌≡◌, take}
 use Rattle.map_checks.specs.Images.{nexts_of}
 use Rattle.map_checks.proofs.leaves.nexts.Given as goal
 

@@ -1,4 +1,4 @@
-use Rattle.std.proofs.Common.{ℕ, get_or}
+use Rattle.std.proofs.Common.{get_or}
 use Rattle.map_checks.specs.Copies.{copy_of}
 use Rattle.map_checks.specs.Starts.{AreStarts}
 use Rattle.map_checks.proofs.openings.start_of.Given as goal

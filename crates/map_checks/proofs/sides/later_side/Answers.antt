@@ -1,4 +1,4 @@
-use Rattle.std.proofs.Common.{◌≡◌, ◌∙◌, ◌<◌, ap, sym, subst, arith, ℕ, List, refl}
+use Rattle.std.proofs.Common.{◌≡◌, ◌∙◌, ◌<◌, ap, sym, subst, arith, ℕ, List}
 use Rattle.std.specs.List.{All}
 use Rattle.aig_graph.specs.Graph.{Graph, variable}
 use Rattle.map_checks.specs.Copies.{AreShared, Copy, IsCopy, copied_end}

@@ -1,8 +1,8 @@
-use Rattle.std.proofs.Common.{◌≡◌, ◌∙◌, ◌<◌, ap, sym, subst, arith, ℕ, List, length}
+use Rattle.std.proofs.Common.{◌≡◌, ◌∙◌, ◌<◌, ap, sym, subst, arith, ℕ, List}
 use Rattle.std.specs.List.{All}
 use Rattle.aig_graph.specs.declared.properties.Props.{Props}
-use Rattle.aig_graph.specs.Graph.{Graph, first_latch, variable, variables_end}
-use Rattle.map_checks.specs.Copies.{AreShared, Copy, IsCopy, copied_end}
+use Rattle.aig_graph.specs.Graph.{Graph, first_latch, variable}
+use Rattle.map_checks.specs.Copies.{AreShared, Copy, IsCopy}
 use Rattle.map_checks.specs.Images.{picked}
 use Rattle.map_checks.proofs.ImageLaws.{picked-shared, view-second}
 use Rattle.map_checks.proofs.sides.second_side.Goals as goal

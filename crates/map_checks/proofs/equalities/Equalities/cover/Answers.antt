@@ -1,4 +1,4 @@
-use Rattle.std.proofs.Common.{◌≡◌, ◌∙◌, ◌+◌, ◌*◌, ◌<◌, ap, sym, subst, arith, refl, ℕ, Bool, length}
+use Rattle.std.proofs.Common.{◌≡◌, ap, sym, subst, arith, ℕ}
 use Rattle.map_checks.specs.Equal.{Equal, IsRight}
 use Rattle.map_checks.proofs.EqualLaws.{right-push}
 use Rattle.map_checks.proofs.equalities.Equalities.cover.Goals as goal

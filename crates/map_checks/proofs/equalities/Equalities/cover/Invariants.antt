@@ -1,4 +1,4 @@
-use Rattle.std.proofs.Common.{◌≡◌, ◌≤◌, length}
+use Rattle.std.proofs.Common.{◌≡◌, length}
 use Rattle.map_checks.specs.Equal.{StaysRight}
 use Rattle.map_checks.proofs.equalities.Equalities.cover.Given as goal
 

@@ -1,4 +1,4 @@
-use Rattle.std.proofs.Common.{◌≡◌, ◌∙◌, ◌<◌, ◌≤◌, Bool, arith, ap, sym, refl, ℕ}
+use Rattle.std.proofs.Common.{◌∙◌, arith, ap, refl}
 use Rattle.map_checks.specs.Equal.{Equal}
 use Rattle.map_checks.proofs.EqualLaws.{standing-value}
 use Rattle.map_checks.proofs.equalities.Equalities.find.Goals as goal

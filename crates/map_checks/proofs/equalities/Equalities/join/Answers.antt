@@ -1,4 +1,3 @@
-use Rattle.std.proofs.Common.{◌≡◌, ℕ, Bool}
 use Rattle.map_checks.proofs.equalities.Equalities.join.Goals as goal
 
 pub returns : goal.returns

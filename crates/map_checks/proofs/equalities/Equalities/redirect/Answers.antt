@@ -1,4 +1,4 @@
-use Rattle.std.proofs.Common.{◌≡◌, ◌∙◌, ◌-◌, ◌≤◌, arith, ap, sym, subst, refl, ℕ}
+use Rattle.std.proofs.Common.{◌≡◌, ◌-◌, arith, ap, sym, subst, refl, ℕ}
 use Rattle.aig_graph.specs.Graph.{variable}
 use Rattle.map_checks.specs.Equal.{Equal, IsRight}
 use Rattle.map_checks.proofs.EqualLaws.{redirected}

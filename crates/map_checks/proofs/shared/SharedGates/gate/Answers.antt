@@ -1,4 +1,4 @@
-use Rattle.std.proofs.Common.{IfOk, subst}
+use Rattle.std.proofs.Common.{subst}
 use Rattle.std.proofs.lemmas.Result.{IfOk-weaker}
 use Rattle.aig_graph.specs.declared.graph.Gate.{Gate}
 use Rattle.map_checks.specs.Shared.{IsBoth, IsFolded}

@@ -1,4 +1,4 @@
-use Rattle.std.proofs.Common.{◌≡◌, ◌∙◌, ◌<◌, List, Some, arith, ap, sym, subst, slice_get}
+use Rattle.std.proofs.Common.{◌≡◌, ◌∙◌, List, Some, arith, ap, sym, subst, slice_get}
 use Rattle.aig_graph.specs.declared.graph.Gate.{Gate}
 use Rattle.aig_graph.specs.Graph.{IsGateAt}
 use Rattle.map_checks.specs.Shared.{Grows, Shared, end_of}
