@@ -8,9 +8,18 @@ use Rattle.circuit_files.specs.declared.outcome.Outcome.{Outcome}
 use Rattle.circuit_files.specs.declared.outcome.Outcome.TheVariants.{Done}
 use Rattle.circuit_files.specs.declared.outcome.Failure.{Failure}
 use Rattle.command_objects.specs.Objects.{EndsPrintingObject}
-use Rattle.commands.specs.RetimingTasks.{EndsPrintingFrames}
+use Rattle.circuit_counts.specs.declared.remaining.Remaining.{Remaining}
+use Rattle.command_line.specs.declared.task.Retiming.{Retiming}
+use Rattle.commands.specs.RetimingTasks.{EndsPrintingFrames, remaining_of}
 
 -- an object where it was asked for
-pub frames_as_object : (json : Bool) (r : Retimed) (times : Option Times) (old new : Output) (result : Result Outcome Failure)
-    → json ≡ true → EndsPrintingObject Done (retiming_data r times) old new result → EndsPrintingFrames json r times old new result
-frames_as_object json r times old new result asked p = subst (λ (j : Bool). EndsPrintingFrames j r times old new result) (sym asked) p
+pub frames_as_object : (json : Bool) (task : Retiming) (r : Retimed) (times : Option Times) (old new : Output) (result : Result Outcome Failure)
+    → json ≡ true → EndsPrintingFrames true task r times old new result → EndsPrintingFrames json task r times old new result
+frames_as_object json task r times old new result asked p = subst (λ (j : Bool). EndsPrintingFrames j task r times old new result) (sym asked) p
+
+-- by what is left of it, and by the times that were taken
+pub object_of_frames : (task : Retiming) (r : Retimed) (left : Remaining) (took times : Option Times) (old new : Output) (result : Result Outcome Failure)
+    → left ≡ remaining_of task r → took ≡ times → EndsPrintingObject Done (retiming_data r left took) old new result → EndsPrintingFrames true task r times old new result
+object_of_frames task r left took times old new result is same p =
+    subst (λ (t : Option Times). EndsPrintingObject Done (retiming_data r (remaining_of task r) t) old new result) same
+    (subst (λ (x : Remaining). EndsPrintingObject Done (retiming_data r x took) old new result) is p)
