@@ -21,6 +21,7 @@ class Builder:
         self.inputs, self.latches, self.gates, self.outputs = [], [], [], []
         self.nodes = 1
         self.following = {}
+        self.begun_with_1 = set()
         self.fan_ins = {}
 
     def node(self, kind):
@@ -31,11 +32,21 @@ class Builder:
     def input(self):
         return self.node(self.inputs)
 
-    def latch(self, following):
-        """A latch with reset 0."""
+    def latch(self, following, reset=0):
+        """A latch; what it takes may be told later, by `follow`."""
         lit = self.node(self.latches)
         self.following[lit // 2] = following
+        if reset:
+            self.begun_with_1.add(lit // 2)
         return lit
+
+    def register(self, bits):
+        """A word of latches that take what `follow` tells later."""
+        return [self.latch(0) for _ in range(bits)]
+
+    def follow(self, word, following):
+        """Tells what the latches of a word take."""
+        self.following.update({lit // 2: bit for lit, bit in zip(word, following)})
 
     def land(self, a, b):
         if a == 0 or b == 0 or a == b ^ 1:
@@ -78,6 +89,22 @@ class Builder:
             carry = self.lor(self.land(one, other), self.land(half, carry))
         return total + [carry]
 
+    def all_of(self, bits):
+        """Whether all of these bits are 1."""
+        while len(bits) > 1:
+            bits = [self.land(*bits[k : k + 2]) if k + 1 < len(bits) else bits[k] for k in range(0, len(bits), 2)]
+        return bits[0] if bits else 1
+
+    def is_number(self, word, number):
+        """Whether a word, from its lowest bit, is this number."""
+        return self.all_of([bit ^ 1 ^ (number >> place & 1) for place, bit in enumerate(word)])
+
+    def chosen(self, place, words):
+        """The word at a place, which is given from its lowest bit; there are as many words as it has values."""
+        for bit in place:
+            words = [self.choose(bit, two[1], two[0]) for two in zip(words[::2], words[1::2])]
+        return words[0]
+
     def choose(self, test, a, b):
         """The first word where the test holds, else the second."""
         return [self.lor(self.land(test, one), self.land(test ^ 1, other)) for one, other in zip(a, b)]
@@ -102,10 +129,11 @@ class Builder:
         new = lambda number, lit: 2 * number[lit // 2] + (lit & 1)
         sizes = [count * len(kind) for kind in (self.inputs, self.latches, self.outputs, self.gates)]
         yield f'aig {sum(sizes) - sizes[2]} {sizes[0]} {sizes[1]} {sizes[2]} {sizes[3]}\n'.encode()
-        for lits in ([self.following[node] for node in self.latches], self.outputs):
+        ends = [' 1\n' if node in self.begun_with_1 else '\n' for node in self.latches]
+        for lits, after in (([self.following[node] for node in self.latches], ends), (self.outputs, ['\n'] * len(self.outputs))):
             for which in range(count):
                 number = self.numbers(count, which)
-                yield ''.join(f'{new(number, lit)}\n' for lit in lits).encode()
+                yield ''.join(f'{new(number, lit)}{end}' for lit, end in zip(lits, after)).encode()
         for which in range(count):
             number, deltas = self.numbers(count, which), bytearray()
             for node in self.gates:
@@ -265,8 +293,79 @@ def gates(count, latches):
     return c
 
 
+def processor(c, order, data, bits):
+    """A small processor over 2^p registers, from the words of an order (operation, two places of p bits, whether it writes): what
+    it reads, and its counter. Registers hold their words but where they are written."""
+    operation, one, other, writes = order
+    registers = [c.register(bits) for _ in range(1 << len(one))]
+    counter = c.register(bits)
+    a, b = c.chosen(one, registers), c.chosen(other, registers)
+    both = [c.land(x, y) for x, y in zip(a, b)]
+    result = c.choose(operation[0], c.add(a, b)[:bits], both)
+    result = c.choose(operation[1], data, result)
+    for number, register in enumerate(registers):
+        c.follow(register, c.choose(c.land(writes, c.is_number(one, number)), result, register))
+    c.follow(counter, c.choose(c.land(operation[0], operation[1]), result, c.add(counter, [1])[:bits]))
+    return a + b + counter
+
+
+def order_of(c, places):
+    """The inputs of an order of `processor`."""
+    return c.word(2), c.word(places), c.word(places), c.input()
+
+
+def lockstep(places, bits):
+    """A small processor of 2^places registers twice, fed alike, and whether what both show differs."""
+    c = Builder()
+    order, data = order_of(c, places), c.word(bits)
+    first, second = (processor(c, order, data, bits) for _ in range(2))
+    c.outputs = [*first, c.all_of([c.xor(x, y) ^ 1 for x, y in zip(first, second)]) ^ 1]
+    return c
+
+
+def voted(states, copies):
+    """A controller with a latch a state, of which one is 1, in so many times three copies; a vote among three gives each output."""
+    c = Builder()
+    for _ in range(copies):
+        moves, back = c.input(), c.input()
+        three = []
+        for _ in range(3):
+            state = [c.latch(0, reset=k == 0) for k in range(states)]
+            on = c.land(moves, back ^ 1)
+            steps = [c.lor(c.land(on, state[k - 1]), c.land(on ^ 1, state[k])) for k in range(states)]
+            c.follow(state, [c.lor(steps[0], back), *(c.land(step, back ^ 1) for step in steps[1:])])
+            three.append(state)
+        c.outputs += [c.lor(c.land(x, y), c.land(z, c.lor(x, y))) for x, y, z in zip(*three)]
+    return c
+
+
+def serial_ports(count, bits):
+    """Ports that send a byte bit by bit at the beat of a counter of so many bits; each port has such a counter."""
+    c = Builder()
+    for _ in range(count):
+        send, byte = c.input(), c.word(8)
+        counter, line = c.register(bits), [c.latch(0, reset=1) for _ in range(10)]
+        c.follow(counter, c.add(counter, [1])[:bits])
+        moved = c.choose(c.is_number(counter, (1 << bits) - 1), line[1:] + [1], line)
+        c.follow(line, c.choose(send, [0, *byte, 1], moved))
+        c.outputs.append(line[0])
+    return c
+
+
+def tied_off(places, bits):
+    """A small processor whose second unit never runs: its enable is a latch that stays 0, and so do the latches behind it."""
+    c = Builder()
+    order, data = order_of(c, places), c.word(bits)
+    shown = processor(c, order, data, bits)
+    asks, runs, answer, ready = c.input(), c.latch(0), c.register(bits), c.latch(0)
+    c.follow([runs, ready], [c.land(asks, runs), c.land(runs, asks ^ 1)])
+    c.follow(answer, c.choose(runs, c.add(shown[:bits], data)[:bits], answer))
+    c.outputs = [*(c.lor(bit, c.land(runs, part)) for bit, part in zip(shown, answer)), *shown[bits:], ready]
+    return c
+
+
 FAMILIES = {it.__name__: it for it in (products, multiplier, divider, cordic, fir, two_stages, adder_tree, delay_lines, rounds,
-                                       gates)}
+                                       gates, lockstep, voted, serial_ports, tied_off)}
 
 
 def main(words):

@@ -41,7 +41,7 @@ def words_in_backquotes(text):
 def paths_in_backquotes(text):
     """The paths from the top of the repository that stand in backquotes, those of a form like crates/NAME aside."""
     for shown in in_backquotes(text):
-        if re.fullmatch(r'(?:docs|bench|tests|crates|examples)/[\w./{},*-]+', shown) and not re.search(r'\b(NAME|FILE)\b', shown):
+        if re.fullmatch(r'(?:docs|bench|tests|crates|examples|install)/[\w./{},*-]+', shown) and not re.search(r'\b(NAME|FILE)\b', shown):
             inner = re.search(r'\{([^}]*)\}', shown)
             for choice in inner[1].split(',') if inner else ['']:
                 yield shown.replace(inner[0], choice) if inner else shown

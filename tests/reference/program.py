@@ -48,6 +48,8 @@ def parsed(words):
         options.setdefault(name, []).append(value)
     if len(paths) != PATHS[command] or {'--ascii', '--binary'} <= set(options) or {'--progress', '--quiet'} <= set(options):
         raise Ends(2, 'error: wrong arguments')
+    if '--depth' in options and '--around' not in options:
+        raise Ends(2, 'error: a depth of no neighbourhood')
     outputs = paths[1:] if command in WRITING else []
     if paths[:len(paths) - len(outputs)].count('-') > 1:
         raise Ends(2, 'error: standard input is read once')

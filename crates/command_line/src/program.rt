@@ -32,7 +32,7 @@ fn near<'a>(alloc: Global) -> Arg<'a> {
     flag(
         alloc,
         "near",
-        "Move each latch as few gates forward as a least count allows",
+        "Move latches as few gates as a least count allows",
     )
 }
 
@@ -60,7 +60,7 @@ fn names<'a>(alloc: Global) -> Arg<'a> {
         .long("keep")
         .value_name("NAME")
         .action(ArgAction::Append)
-        .help("Hold each latch with this name in its place; may be given more than once")
+        .help("Hold each latch with this name; may be given more than once")
 }
 
 fn json<'a>(alloc: Global) -> Arg<'a> {
@@ -216,11 +216,7 @@ fn batch<'a>(alloc: Global) -> Result<Command<'a>, AllocError> {
     let list = "The list: a line for each circuit, IN, a tab, and OUT";
     let command = command.arg(path(alloc, "LIST", list));
     let command = with_spelling(alloc, command);
-    let command = with_limits(
-        alloc,
-        command,
-        "Threads, each of which retimes a circuit at a time",
-    );
+    let command = with_limits(alloc, command, "Threads, each with a circuit at a time");
     with(command, json(alloc))
 }
 
@@ -282,7 +278,17 @@ fn around<'a>(alloc: Global) -> Arg<'a> {
         .long("around")
         .value_name("NAME")
         .action(ArgAction::Set)
-        .help("Draw the neighbourhood of the input, latch or property with this name alone")
+        .help("Draw the neighbourhood of what has this name alone")
+}
+
+/// How far a neighbourhood reaches, which is asked of one alone.
+fn depth<'a>(alloc: Global) -> Result<Arg<'a>, AllocError> {
+    Arg::new(alloc, "depth")
+        .long("depth")
+        .value_name("n")
+        .value_parser(ValueParser::unsigned(1, 100))
+        .help("How many edges the neighbourhood reaches, else 2")
+        .requires_arg("around")
 }
 
 fn dot<'a>(alloc: Global) -> Result<Command<'a>, AllocError> {
@@ -301,8 +307,7 @@ fn dot<'a>(alloc: Global) -> Result<Command<'a>, AllocError> {
     );
     let command = with(command, names(alloc));
     let command = with(command, around(alloc));
-    let depth = "How many edges the neighbourhood reaches";
-    with(command, number(alloc, "depth", 100, "2", depth))
+    with_flag(command, depth(alloc))
 }
 
 fn witness<'a>(alloc: Global) -> Result<Command<'a>, AllocError> {
