@@ -6,7 +6,7 @@ function __fretime_names
     for word in (commandline -opc)[3..-1]
         if test $is_value = yes
             set is_value no
-        else if string match -qr '^--(workers|frames|keep|cert|around|depth)$' -- $word
+        else if string match -qr '^--(workers|frames|keep|keep-from|cert|around|depth)$' -- $word
             set is_value yes
         else if not string match -q -- '--*' $word
             set -l circuit (string replace -r '^~/' "$HOME/" -- $word)
@@ -37,6 +37,7 @@ complete -c fretime -n '__fish_seen_subcommand_from retime' -x -l workers -d 'Th
 complete -c fretime -n '__fish_seen_subcommand_from retime' -x -l frames -d 'The most frames to take'
 complete -c fretime -n '__fish_seen_subcommand_from retime' -l near -d 'Move latches as few gates as a least count allows'
 complete -c fretime -n '__fish_seen_subcommand_from retime' -x -l keep -d 'Hold each latch with this name; may be given more than once'
+complete -c fretime -n '__fish_seen_subcommand_from retime' -r -l keep-from -d 'Hold the latches that the lines of FILE name'
 complete -c fretime -n '__fish_seen_subcommand_from retime' -r -l cert -d 'Write a certificate of each frame to FILE, for \'verify\''
 complete -c fretime -n '__fish_seen_subcommand_from retime' -l json -d 'Print an object of JSON in place of the lines'
 complete -c fretime -n '__fish_seen_subcommand_from retime' -l progress -d 'Write a line to standard error as each frame begins'
@@ -57,10 +58,12 @@ complete -c fretime -n '__fish_seen_subcommand_from convert' -l binary -d 'Write
 complete -c fretime -n '__fish_seen_subcommand_from same' -l json -d 'Print an object of JSON in place of the lines'
 
 complete -c fretime -n '__fish_seen_subcommand_from verify' -x -l keep -d 'Hold each latch with this name; may be given more than once'
+complete -c fretime -n '__fish_seen_subcommand_from verify' -r -l keep-from -d 'Hold the latches that the lines of FILE name'
 complete -c fretime -n '__fish_seen_subcommand_from verify' -l json -d 'Print an object of JSON in place of the lines'
 
 complete -c fretime -n '__fish_seen_subcommand_from dot' -l frame -d 'Show over which gates latches move next'
 complete -c fretime -n '__fish_seen_subcommand_from dot' -x -l keep -d 'Hold each latch with this name; may be given more than once'
+complete -c fretime -n '__fish_seen_subcommand_from dot' -r -l keep-from -d 'Hold the latches that the lines of FILE name'
 complete -c fretime -n '__fish_seen_subcommand_from dot' -x -l around -d 'Draw the neighbourhood of what has this name alone'
 complete -c fretime -n '__fish_seen_subcommand_from dot' -x -l depth -d 'How many edges the neighbourhood reaches, else 2'
 

@@ -63,6 +63,24 @@ fn names<'a>(alloc: Global) -> Arg<'a> {
         .help("Hold each latch with this name; may be given more than once")
 }
 
+/// The file of names; the program puts in its names before the words are parsed.
+fn names_from<'a>(alloc: Global) -> Arg<'a> {
+    Arg::new(alloc, "keep-from")
+        .long("keep-from")
+        .value_name("FILE")
+        .action(ArgAction::Append)
+        .help("Hold the latches that the lines of FILE name")
+}
+
+/// A command that holds latches by their names.
+fn with_names<'a>(
+    alloc: Global,
+    command: Result<Command<'a>, AllocError>,
+) -> Result<Command<'a>, AllocError> {
+    let command = with(command, names(alloc));
+    with(command, names_from(alloc))
+}
+
 fn json<'a>(alloc: Global) -> Arg<'a> {
     let help = "Print an object of JSON in place of the lines";
     flag(alloc, "json", help)
@@ -201,7 +219,7 @@ fn retime<'a>(alloc: Global) -> Result<Command<'a>, AllocError> {
     let command = with_limits(alloc, command, "Threads that work on the flow");
     let command = with(command, certificates(alloc));
     let command = with_progress(alloc, command);
-    let command = with(command, names(alloc));
+    let command = with_names(alloc, command);
     with(command, json(alloc))
 }
 
@@ -269,7 +287,7 @@ fn verify<'a>(alloc: Global) -> Result<Command<'a>, AllocError> {
     );
     let command = command.arg(path(alloc, "IN", "The AIGER file that was retimed"));
     let command = with(command, path(alloc, "CERT", "The certificates"));
-    let command = with(command, names(alloc));
+    let command = with_names(alloc, command);
     with(command, json(alloc))
 }
 
@@ -305,7 +323,7 @@ fn dot<'a>(alloc: Global) -> Result<Command<'a>, AllocError> {
         command,
         flag(alloc, "frame", "Show over which gates latches move next"),
     );
-    let command = with(command, names(alloc));
+    let command = with_names(alloc, command);
     let command = with(command, around(alloc));
     with_flag(command, depth(alloc))
 }

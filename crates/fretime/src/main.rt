@@ -5,6 +5,7 @@
 mod batch;
 mod batch_object;
 mod explaining;
+mod name_files;
 mod reporting;
 mod run;
 
