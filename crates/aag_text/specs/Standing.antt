@@ -1,8 +1,8 @@
 -- Where the items stand that have been read.
-use Rattle.std.specs.Prelude.{ℕ, ◌≡◌, ◌+◌, Bool, true, false, List, ◌++◌, length, Result, Ok, Err}
+use Rattle.std.specs.Prelude.{ℕ, ◌≡◌, ◌+◌, Bool, true, false, List, [], ◌++◌, length, Result, Ok, Err}
 use Rattle.file_words.specs.declared.fault.ReadError.{ReadError}
 use Rattle.ascii_file.specs.Raw.{RawSymbol}
-use Rattle.ascii_file.specs.Reading.{State, InItems, InComment, is_complete}
+use Rattle.ascii_file.specs.Reading.{State, InItems, InComment, is_complete, take_line}
 use Rattle.ascii_file.specs.Pieces.{open_line, fed}
 use Rattle.ascii_file.specs.Answering.{Fails}
 use Rattle.aag_text.specs.declared.sections.Sections.{Sections}
@@ -45,3 +45,8 @@ Follows P (Err error) read = Fails error read
 abbrev pub Leads : {X Y : Type 0} → (Y → Type 0) → Result X ReadError → Result Y ReadError → Type 0
 Leads {Y} Stands (Ok x) read = (y : Y) × (read ≡ Ok y) × Stands y
 Leads Stands (Err error) read = Fails error read
+
+-- What taking the open line returned, whose bytes are these: the state after it, at which the new items stand with no byte of the next
+-- line; or its fault.
+abbrev pub TakesLine : {X : Type 0} → Items → Items → State → List ℕ → Result X ReadError → Type 0
+TakesLine old new state line result = Leads (λ next. StandAt new.sections new.line (old.at + length line + 1) next []) result (take_line state line)

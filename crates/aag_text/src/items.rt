@@ -42,7 +42,7 @@ impl Items {
     ghost use Rattle.reader_parts.specs.Open.{numbers_with};
     ghost use Rattle.reader_parts.specs.Symbols.{text_of, text_with};
     ghost use Rattle.aag_text.specs.Taking.{raw_of, IsAt};
-    ghost use Rattle.aag_text.specs.Standing.{StandAt, Leads, Follows, Hold};
+    ghost use Rattle.aag_text.specs.Standing.{StandAt, TakesLine, Follows, Hold};
 
     /// The items after a header, whose first line begins at the offset. Takes no memory.
     pub(crate) fn new(alloc: Global, header: Header, at: u64) -> Items
@@ -105,9 +105,7 @@ impl Items {
     fn take_line(&mut self) -> Result<(), ReadError>
         ensures { (state : reading.State) (line : List ℕ)
             → StandAt self.old.sections self.old.line self.old.at state line
-            → Leads (λ next. StandAt self.new.sections self.new.line
-            (self.old.at + length line + 1) next []) result
-            (reading.take_line state line) }
+            → TakesLine self.old self.new state line result }
     {
         match mem::replace(&mut self.line, OpenLine::Comment) {
             OpenLine::Numbers(line) => self.take_numbers(line),
@@ -120,10 +118,8 @@ impl Items {
         ensures { (symbols : List RawSymbol) (bytes : List ℕ) → IsAt self.old.sections symbols
             → reading.is_complete self.old.sections.header (raw_of self.old.sections symbols)
             ≡ false → numbers_with line [] ≡ row_of bytes
-            → Leads (λ next. StandAt self.new.sections self.new.line
-            (self.old.at + length bytes + 1) next []) result
-            (reading.take_line (reading.InItems self.old.sections.header
-            (raw_of self.old.sections symbols) self.old.at) bytes) }
+            → TakesLine self.old self.new (reading.InItems self.old.sections.header
+            (raw_of self.old.sections symbols) self.old.at) bytes result }
     {
         let mut line = line;
         self.sections.take_numbers(self.at, line.numbers())?;
@@ -135,10 +131,8 @@ impl Items {
         ensures { (symbols : List RawSymbol) (bytes : List ℕ) → IsAt self.old.sections symbols
             → reading.is_complete self.old.sections.header (raw_of self.old.sections symbols) ≡ true
             → text_with line [] ≡ text_of bytes
-            → Leads (λ next. StandAt self.new.sections self.new.line
-            (self.old.at + length bytes + 1) next []) result
-            (reading.take_line (reading.InItems self.old.sections.header
-            (raw_of self.old.sections symbols) self.old.at) bytes) }
+            → TakesLine self.old self.new (reading.InItems self.old.sections.header
+            (raw_of self.old.sections symbols) self.old.at) bytes result }
     {
         match line.text() {
             SymbolText::Comment => self.line = OpenLine::Comment,

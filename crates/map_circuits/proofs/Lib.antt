@@ -1,3 +1,4 @@
 pub mod GrowingLaws
 pub mod FollowingLaws
 pub mod SteppingLaws
+pub mod ConstrainingLaws

@@ -13,14 +13,23 @@ use Rattle.aig_graph.proofs.SearchLaws.{has_iff_contains}
 use Rattle.rebuild.specs.Moved.{is_latched, latch_for, moved_graph}
 use Rattle.rebuild.proofs.BorderLaws.{latched-cases}
 use Rattle.variable_tables.specs.Counting.{places}
+use Rattle.variable_tables.proofs.ListLaws.{map-same}
 use Rattle.variable_tables.proofs.PlacesLaws.{Ranks, rank_at}
 use Rattle.state_maps.specs.States.{State}
 use Rattle.state_maps.specs.Cleaning.{held_by}
 use Rattle.state_maps.specs.Moving.{held_value}
 use Rattle.state_maps.proofs.MapLaws.{funext}
+use Rattle.map_circuits.specs.Growing.{Extends}
 use Rattle.map_circuits.specs.Following.{Follows, IsCovered, entry_of, state_of}
 use Rattle.map_circuits.specs.Stepping.{AreMoved, ArePassed}
 use Rattle.map_circuits.proofs.FollowingLaws.{source-from}
+
+-- the state that functions say stays so as the graph grows
+pub state-kept : (g h : Graph) (functions : List ℕ) → Extends g h → All (λ lit. IsLiteralOf g lit) functions → (s : State) → state_of h functions s ≡ state_of g functions s
+state-kept g h functions more all s =
+    let same : map (value_within h s (λ j. false)) functions ≡ map (value_within g s (λ j. false)) functions =
+    map-same (λ lit. IsLiteralOf g lit) (value_within h s (λ j. false)) (value_within g s (λ j. false)) (more.values s (λ j. false)) functions all in
+    ap (λ (bs : List Bool). λ (j : ℕ). get_or bs j false) same
 
 -- what the entries of some variables are
 entries-hold : (values : ℕ → Bool) (entry : ℕ → ℕ) (g : Graph) (s : State) (vars : List ℕ)
@@ -95,6 +104,7 @@ module _ (g : Graph) (functions : List ℕ) (c : Graph) (reached : ℕ → Bool)
       subst P (sym whole) (record {
         within = All-map (λ lit. IsLiteralOf g lit) (entry_of 0 functions) vars (all_from_slice_get (λ v. IsLiteralOf g (entry_of 0 functions v)) vars
             (λ k v e. let r : Ranks remaining (length c.latches) k v = rank_at remaining (length c.latches) k v e in all (v - 0) 0 (omega (arith, r.below, many))));
+        many = length-map vars (entry_of 0 functions);
         states = λ s. funext _ _ (λ j. places-hold (value_within g s (λ j. false)) (entry_of 0 functions) (state_of g functions s) vars
             (λ k v e.
             let r : Ranks remaining (length c.latches) k v = rank_at remaining (length c.latches) k v e in

@@ -1,3 +1,4 @@
 pub mod Growing
 pub mod Following
 pub mod Stepping
+pub mod Constraining

@@ -1,6 +1,7 @@
 -- What the latches of a circuit hold, after a move or a pass, by what those before hold.
-use Rattle.std.specs.Prelude.{ℕ, ◌≡◌, Bool, List, length, All}
-use Rattle.aig_graph.specs.Graph.{Graph, IsLiteralOf}
+use Rattle.std.specs.Prelude.{ℕ, ◌+◌, ◌≡◌, Bool, List, length, All}
+use Rattle.variable_tables.specs.Counting.{places}
+use Rattle.aig_graph.specs.Graph.{Graph, IsLiteralOf, first_latch}
 use Rattle.aig_graph.specs.Move.{Move}
 use Rattle.rebuild.specs.Moved.{moved_graph}
 use Rattle.state_maps.specs.States.{State}
@@ -17,4 +18,5 @@ pub record AreMoved (g : Graph) (functions : List ℕ) (m : Move) (h : Graph) (n
 -- the functions of the latches of c that stay after a pass that leaves what is reached
 pub record ArePassed (g : Graph) (functions : List ℕ) (c : Graph) (reached : ℕ → Bool) (new : List ℕ) : Type 0 where
   pub within : All (λ lit. IsLiteralOf g lit) new
+  pub many : length new ≡ length (places (λ j. reached (first_latch c + j)) (length c.latches))
   pub states : (s : State) → state_of g new s ≡ trimmed_state c reached (state_of g functions s)

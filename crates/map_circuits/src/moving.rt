@@ -19,7 +19,7 @@ use std::alloc::Global;
 use variable_tables::marked_variables;
 
 /// What stands for a literal of a variable that has an entry.
-fn standing(literals: &[Lit], first: u32, lit: Lit) -> Lit
+pub(crate) fn standing(literals: &[Lit], first: u32, lit: Lit) -> Lit
     requires from { first ≤ variable lit }
     requires below { variable lit - first < length literals.now }
     ensures { result ≡ literal_at first literals.now lit }

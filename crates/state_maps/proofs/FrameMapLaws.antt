@@ -39,12 +39,12 @@ use Rattle.state_maps.proofs.MapLaws.{maps-compose, moving-maps}
 use Rattle.state_maps.proofs.PassStepLaws.{cleaning-maps, constant-within}
 use Rattle.state_maps.proofs.WithinLaws.{within_laws}
 
-agrees-is : (a b : Bool) → agrees a b ≡ true → a ≡ b
+pub agrees-is : (a b : Bool) → agrees a b ≡ true → a ≡ b
 agrees-is true b e = sym e
 agrees-is false true e = absurd (cc)
 agrees-is false false e = refl
 
-is-agrees : (a b : Bool) → a ≡ b → agrees a b ≡ true
+pub is-agrees : (a b : Bool) → a ≡ b → agrees a b ≡ true
 is-agrees true true e = refl
 is-agrees true false e = absurd (cc)
 is-agrees false true e = absurd (cc)
@@ -78,7 +78,7 @@ module _ (g : Graph) (held : List ℕ) (s : State) where
       (to-test (suc n) ls (λ k latch there. let place : n + suc k ≡ suc n + k = omega arith in subst (λ (j : ℕ). stand j latch ≡ s j) place (each (suc k) latch there)))
 
   -- a literal that stands for a latch has its value whatever comes in
-  stand-steady : IsGraph g → (x : Digits) (j : ℕ) (latch : Latch) → slice_get g.latches j ≡ Some latch → value_within g x s (latch_stand g held j (Some latch)) ≡ stand j latch
+  pub stand-steady : IsGraph g → (x : Digits) (j : ℕ) (latch : Latch) → slice_get g.latches j ≡ Some latch → value_within g x s (latch_stand g held j (Some latch)) ≡ stand j latch
   stand-steady valid x j latch there =
       let one = within_laws g valid x s in
       let two = within_laws g valid (λ i. false) s in
@@ -97,7 +97,7 @@ module _ (g : Graph) (held : List ℕ) (s : State) where
   holds-test holds = to-test 0 g.latches (λ k latch there. let place : k ≡ 0 + k = omega arith in subst (λ (j : ℕ). stand j latch ≡ s j) place (holds (λ i. false) k latch there))
 
 -- a map rests on any test that says the same
-restated : (c d : Netlist) (kept : List ℕ) (holds other : State → Type 0) (to : State → State) → ((s : State) → holds s → other s) → ((s : State) → other s → holds s)
+pub restated : (c d : Netlist) (kept : List ℕ) (holds other : State → Type 0) (to : State → State) → ((s : State) → holds s → other s) → ((s : State) → other s → holds s)
     → IsStateMap c d kept holds to → IsStateMap c d kept other to
 restated c d kept holds other to there back p = record {
   holds_first = λ f. there _ (p.holds_first f);
@@ -143,7 +143,7 @@ composed-same n left below =
     map-own (x ∷ xs) = ap (λ (ys : List ℕ). x ∷ ys) (map-own xs)
 
 module _ (choice : Choice) (names : List (List ℕ)) where
-  closed-in : (c : Netlist) (s : List ℕ) → IsHelpingSet choice names c s → IsClosedSet c.aig (held_in names c) s
+  pub closed-in : (c : Netlist) (s : List ℕ) → IsHelpingSet choice names c s → IsClosedSet c.aig (held_in names c) s
   closed-in c s helps = go choice helps.chosen
     where
       go : (choice : Choice) → IsChosen choice c (held_in names c) s → IsClosedSet c.aig (held_in names c) s

@@ -121,7 +121,7 @@ moving-maps m valid netlist set room =
     }
 
 -- what latches hold at step 0 rests on the choices for the free ones alone
-opening-same : (g : Graph) → IsGraph g → (f h : Choice) → ((j : ℕ) → j < free_latches g → f j ≡ h j) → opening_state g f ≡ opening_state g h
+pub opening-same : (g : Graph) → IsGraph g → (f h : Choice) → ((j : ℕ) → j < free_latches g → f j ≡ h j) → opening_state g f ≡ opening_state g h
 opening-same g valid f h same = funext _ _ at
   where
     x : Inputs

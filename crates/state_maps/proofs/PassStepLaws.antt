@@ -22,7 +22,7 @@ use Rattle.cleaned_circuits.proofs.StandLaws.{IsRight, right-merge_gate, replace
 use Rattle.cleaned_circuits.proofs.MergedLaws.{IsGraph-merged, IsNetlist-merged, replaced-inputs, replaced-first_latch, replaced-first_gate, replaced-latch, replaced-gate, replaced-free_before}
 use Rattle.cleaned_circuits.proofs.TrimmedLaws.{LatchFrom, latch_from, latch_in, gate_in, new-low, new-rises, stays-past, stays-reached, trimmed-inputs, trimmed-first_latch, trimmed-first_gate, next-reached, fan_ins-reached, IsGraph-trimmed}
 use Rattle.cleaned_circuits.proofs.KeptFreeLaws.{free-rank, kept_free-at}
-use Rattle.variable_tables.proofs.PlacesLaws.{Ranks, at_rank, rank_at, count-pass, count-fail, count-zero}
+use Rattle.variable_tables.proofs.PlacesLaws.{Ranks, at_rank, rank_at, count-pass, count-fail, count-zero, length-places}
 use Rattle.variable_tables.specs.Counting.{count_below, places}
 use Rattle.state_maps.specs.States.{Digits, IsStateMap, SameReads, State, after_step, opening_state}
 use Rattle.state_maps.specs.Cleaning.{StandsHold, held_by, trimmed_state}
@@ -225,6 +225,10 @@ module _ (c : Netlist) (held : List ℕ) (r : ℕ → Bool) (valid : IsGraph c.a
           let here : slice_get (places (remains c.aig r) long) (count_below (remains c.aig r) from.place) ≡ Some from.place =
           at_rank (remains c.aig r) long from.place (slice_get_within c.aig.latches from.place from.old from.there) from.reached in
           absurd (none-some from.place (sym none ∙ ap (slice_get (places (remains c.aig r) long)) (sym rank) ∙ here))
+
+  -- there are as many latches as stay
+  pub small-many : length small.latches ≡ length (places (remains c.aig r) long)
+  small-many = omega (arith, trimmed-first_gate c.aig r, trimmed-inputs c.aig r, new-rank c.aig r long, length-places (remains c.aig r) long)
 
   module _ (x : Digits) (s : State) where
     abbrev before : ℕ → Bool

@@ -1,0 +1,72 @@
+//! What a pass of cleaning rests on, as constraints: each latch is equal to what stands for it.
+ghost use Rattle.std.specs.Prelude.{◌≡◌, ◌≤◌, All, OnOk, length};
+ghost use Rattle.aig_graph.specs.Circuits.{AreLiteralsOf};
+ghost use Rattle.aig_graph.specs.Graph.{IsGraph, IsLiteralOf};
+ghost use Rattle.map_circuits.specs.Constraining.{AddsEquality, AddsStands, IsStand, stand_function};
+
+use crate::errors::MapError;
+use crate::gates::add_equality;
+use crate::moving::standing;
+use aig_graph::{AigBuilder, Lit};
+
+/// The function of what stands for a latch: a constant, or a literal of a latch.
+fn function_of(functions: &[Lit], first: u32, stand: Lit) -> Lit
+    requires { IsStand first functions.now stand }
+    ensures { result ≡ stand_function first functions.now stand }
+{
+    if stand.var() == 0 {
+        stand
+    } else {
+        standing(functions, first, stand)
+    }
+}
+
+/// Adds a constraint that two literals are equal, unless they are one.
+fn add_constraint(
+    gates: &mut AigBuilder,
+    constraints: &mut Vec<Lit>,
+    a: Lit,
+    b: Lit,
+) -> Result<(), MapError>
+    requires graph { IsGraph gates.old }
+    requires a { IsLiteralOf gates.old a }
+    requires b { IsLiteralOf gates.old b }
+    ensures { OnOk result (AddsEquality gates.old gates.new constraints.old.items
+        constraints.new.items a b) }
+{
+    if a == b {
+        return Ok(());
+    }
+    let equality = add_equality(gates, a, b)?;
+    constraints.push(equality)?;
+    Ok(())
+}
+
+/// Adds the constraints that each latch is equal to what stands for it, by the functions of the latches: none for a latch that stands for
+/// itself. The latches begin with the variable `first`.
+///
+/// # Errors
+///
+/// `NoMemory` where memory is refused, `TooLarge` where there would be more gates than a graph may have; some gates and constraints
+/// may have been added then.
+pub fn add_constraints(
+    gates: &mut AigBuilder,
+    constraints: &mut Vec<Lit>,
+    functions: &[Lit],
+    first: u32,
+    stands: &[Lit],
+) -> Result<(), MapError>
+    requires graph { IsGraph gates.old }
+    requires constraints { AreLiteralsOf gates.old constraints.old.items }
+    requires functions { AreLiteralsOf gates.old functions.now }
+    requires stands { All (λ stand. IsStand first functions.now stand) stands.now }
+    requires long { length stands.now ≤ length functions.now }
+    ensures { OnOk result (AddsStands gates.old first functions.now stands.now
+        (length stands.now) gates.new constraints.old.items constraints.new.items) }
+{
+    for (place, stand) in stands.iter().enumerate() {
+        let function = function_of(functions, first, *stand);
+        add_constraint(gates, constraints, functions[place], function)?;
+    }
+    Ok(())
+}
