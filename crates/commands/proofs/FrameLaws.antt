@@ -1,5 +1,9 @@
 -- How printing a retiming ends, by the form that is asked for.
-use Rattle.std.proofs.Common.{◌≡◌, Bool, true, Option, Result, sym, subst}
+use Rattle.std.proofs.Common.{◌≡◌, ◌∙◌, ℕ, Bool, true, List, Option, Result, length, map, nat_lt, sym, subst, ap}
+use Rattle.std.specs.Borrow.{Bor}
+use Rattle.std.specs.Global.{Vec}
+use Rattle.aig_graph.specs.Keep.{names_of}
+use Rattle.circuit_counts.specs.Remaining.{remaining}
 use Rattle.counted_io.specs.Output.{Output}
 use Rattle.retimed_circuits.specs.declared.report.Retimed.{Retimed}
 use Rattle.json_reports.specs.Retimings.{retiming_data}
@@ -23,3 +27,13 @@ pub object_of_frames : (task : Retiming) (r : Retimed) (left : Remaining) (took 
 object_of_frames task r left took times old new result is same p =
     subst (λ (t : Option Times). EndsPrintingObject Done (retiming_data r (remaining_of task r) t) old new result) same
     (subst (λ (x : Remaining). EndsPrintingObject Done (retiming_data r x took) old new result) is p)
+
+-- what is left, by the names as bytes and the number of frames
+pub remaining_is : (task : Retiming) (r : Retimed) (keep : List (Bor (List ℕ))) (names read : List (Vec ℕ)) (frames : ℕ) → keep ≡ task.keep.items → read ≡ names
+    → map (λ name. name.items) names ≡ map (λ name. name.now) keep → frames ≡ length r.frames
+    → remaining r.circuit (names_of read) (nat_lt frames task.frames) ≡ remaining_of task r
+remaining_is task r keep names read frames kept same alike many =
+    let texts : names_of read ≡ map (λ name. name.now) task.keep.items =
+    ap names_of same ∙ alike ∙ ap (λ (xs : List (Bor (List ℕ))). map (λ name. name.now) xs) kept in
+    ap (λ (xs : List (List ℕ)). remaining r.circuit xs (nat_lt frames task.frames)) texts
+    ∙ ap (λ (n : ℕ). remaining r.circuit (map (λ name. name.now) task.keep.items) (nat_lt n task.frames)) many
