@@ -16,7 +16,7 @@ _fretime_circuit() {
     local word is_value=
     for word in "${COMP_WORDS[@]:2:COMP_CWORD-2}"; do
         case $is_value$word in
-            --workers | --frames | --keep | --cert | --around | --depth) is_value=yes ;;
+            --workers | --frames | --keep | --keep-from | --cert | --around | --depth) is_value=yes ;;
             --* | yes=) ;;
             yes*) is_value= ;;
             *) _fretime_plain "$word"; return ;;
@@ -42,11 +42,11 @@ _fretime() {
         return
     fi
     case ${COMP_WORDS[1]} in
-        retime) options="--ascii --binary --workers --frames --near --keep --cert --progress --quiet --json --help" ;;
+        retime) options="--ascii --binary --workers --frames --near --keep --keep-from --cert --progress --quiet --json --help" ;;
         batch) options="--ascii --binary --workers --frames --near --json --help" ;;
         convert) options="--ascii --binary --help" ;;
-        verify) options="--keep --json --help" ;;
-        dot) options="--frame --keep --around --depth --help" ;;
+        verify) options="--keep --keep-from --json --help" ;;
+        dot) options="--frame --keep --keep-from --around --depth --help" ;;
         stat | same) options="--json --help" ;;
         sim | witness) options="--help" ;;
         explain)

@@ -6,7 +6,7 @@ function __fretime_names
     for word in (commandline -opc)[3..-1]
         if test $is_value = yes
             set is_value no
-        else if string match -qr '^--(workers|frames|keep|cert|around|depth)$' -- $word
+        else if string match -qr '^--(workers|frames|keep|keep-from|cert|around|depth)$' -- $word
             set is_value yes
         else if not string match -q -- '--*' $word
             set -l circuit (string replace -r '^~/' "$HOME/" -- $word)
@@ -24,7 +24,7 @@ complete -c fretime -n __fish_use_subcommand -f -a sim -d 'Prints the values of 
 complete -c fretime -n __fish_use_subcommand -f -a same -d 'Finds the first difference of two circuits under a stimulus'
 complete -c fretime -n __fish_use_subcommand -f -a verify -d 'Checks the certificates that \'retime --cert\' wrote'
 complete -c fretime -n __fish_use_subcommand -f -a dot -d 'Writes a picture of a circuit, for Graphviz'
-complete -c fretime -n __fish_use_subcommand -f -a witness -d 'Carries a witness of a retimed circuit back to the circuit it was made of'
+complete -c fretime -n __fish_use_subcommand -f -a witness -d 'Carries a witness of a retimed circuit back to what it was made of'
 complete -c fretime -n __fish_use_subcommand -f -a explain -d 'Says what a fault is, and what to do'
 complete -c fretime -n __fish_use_subcommand -f -a help -d 'Print this message or the help of the given subcommand(s)'
 complete -c fretime -n __fish_use_subcommand -s V -l version -d 'Print version'
@@ -35,8 +35,9 @@ complete -c fretime -n '__fish_seen_subcommand_from retime' -l ascii -d 'Write A
 complete -c fretime -n '__fish_seen_subcommand_from retime' -l binary -d 'Write binary'
 complete -c fretime -n '__fish_seen_subcommand_from retime' -x -l workers -d 'Threads that work on the flow'
 complete -c fretime -n '__fish_seen_subcommand_from retime' -x -l frames -d 'The most frames to take'
-complete -c fretime -n '__fish_seen_subcommand_from retime' -l near -d 'Move each latch as few gates forward as a least count allows'
-complete -c fretime -n '__fish_seen_subcommand_from retime' -x -l keep -d 'Hold each latch with this name in its place; may be given more than once'
+complete -c fretime -n '__fish_seen_subcommand_from retime' -l near -d 'Move latches as few gates as a least count allows'
+complete -c fretime -n '__fish_seen_subcommand_from retime' -x -l keep -d 'Hold each latch with this name; may be given more than once'
+complete -c fretime -n '__fish_seen_subcommand_from retime' -r -l keep-from -d 'Hold the latches that the lines of FILE name'
 complete -c fretime -n '__fish_seen_subcommand_from retime' -r -l cert -d 'Write a certificate of each frame to FILE, for \'verify\''
 complete -c fretime -n '__fish_seen_subcommand_from retime' -l json -d 'Print an object of JSON in place of the lines'
 complete -c fretime -n '__fish_seen_subcommand_from retime' -l progress -d 'Write a line to standard error as each frame begins'
@@ -44,9 +45,9 @@ complete -c fretime -n '__fish_seen_subcommand_from retime' -l quiet -d 'Show no
 
 complete -c fretime -n '__fish_seen_subcommand_from batch' -l ascii -d 'Write ASCII'
 complete -c fretime -n '__fish_seen_subcommand_from batch' -l binary -d 'Write binary'
-complete -c fretime -n '__fish_seen_subcommand_from batch' -x -l workers -d 'Threads, each of which retimes a circuit at a time'
+complete -c fretime -n '__fish_seen_subcommand_from batch' -x -l workers -d 'Threads, each with a circuit at a time'
 complete -c fretime -n '__fish_seen_subcommand_from batch' -x -l frames -d 'The most frames to take'
-complete -c fretime -n '__fish_seen_subcommand_from batch' -l near -d 'Move each latch as few gates forward as a least count allows'
+complete -c fretime -n '__fish_seen_subcommand_from batch' -l near -d 'Move latches as few gates as a least count allows'
 complete -c fretime -n '__fish_seen_subcommand_from batch' -l json -d 'Print an object of JSON in place of the lines'
 
 complete -c fretime -n '__fish_seen_subcommand_from stat' -l json -d 'Print an object of JSON in place of the lines'
@@ -56,17 +57,19 @@ complete -c fretime -n '__fish_seen_subcommand_from convert' -l binary -d 'Write
 
 complete -c fretime -n '__fish_seen_subcommand_from same' -l json -d 'Print an object of JSON in place of the lines'
 
-complete -c fretime -n '__fish_seen_subcommand_from verify' -x -l keep -d 'Hold each latch with this name in its place; may be given more than once'
+complete -c fretime -n '__fish_seen_subcommand_from verify' -x -l keep -d 'Hold each latch with this name; may be given more than once'
+complete -c fretime -n '__fish_seen_subcommand_from verify' -r -l keep-from -d 'Hold the latches that the lines of FILE name'
 complete -c fretime -n '__fish_seen_subcommand_from verify' -l json -d 'Print an object of JSON in place of the lines'
 
 complete -c fretime -n '__fish_seen_subcommand_from dot' -l frame -d 'Show over which gates latches move next'
-complete -c fretime -n '__fish_seen_subcommand_from dot' -x -l keep -d 'Hold each latch with this name in its place; may be given more than once'
-complete -c fretime -n '__fish_seen_subcommand_from dot' -x -l around -d 'Draw the neighbourhood of the input, latch or property with this name alone'
-complete -c fretime -n '__fish_seen_subcommand_from dot' -x -l depth -d 'How many edges the neighbourhood reaches'
+complete -c fretime -n '__fish_seen_subcommand_from dot' -x -l keep -d 'Hold each latch with this name; may be given more than once'
+complete -c fretime -n '__fish_seen_subcommand_from dot' -r -l keep-from -d 'Hold the latches that the lines of FILE name'
+complete -c fretime -n '__fish_seen_subcommand_from dot' -x -l around -d 'Draw the neighbourhood of what has this name alone'
+complete -c fretime -n '__fish_seen_subcommand_from dot' -x -l depth -d 'How many edges the neighbourhood reaches, else 2'
 
 complete -c fretime -n '__fish_seen_subcommand_from retime verify dot' -x -l keep -a '(__fretime_names l)' \
-    -d 'Hold each latch with this name in its place; may be given more than once'
+    -d 'Hold each latch with this name; may be given more than once'
 complete -c fretime -n '__fish_seen_subcommand_from dot' -x -l around -a '(__fretime_names ilobcjf)' \
-    -d 'Draw the neighbourhood of the input, latch or property with this name alone'
+    -d 'Draw the neighbourhood of what has this name alone'
 
 complete -c fretime -n '__fish_seen_subcommand_from explain' -f -a 'BadHeader TooLarge MaxIndex BadLine BadLiteral DefinedTwice Undefined Cycle BadReset BadDelta Truncated BadSymbol Trailing Width TooMany NoSuchProperty NoSuchName TooManyNodes NotClosed BadRoute UsedTwice CountDiffers NoMemory Device'

@@ -5,6 +5,7 @@ TYPES = {
     'array': lambda value: isinstance(value, list),
     'string': lambda value: isinstance(value, str),
     'integer': lambda value: isinstance(value, int) and not isinstance(value, bool),
+    'boolean': lambda value: isinstance(value, bool),
     'null': lambda value: value is None,
 }
 WORDS = {'$schema', '$defs', '$ref', 'title', 'type', 'const', 'enum', 'oneOf', 'minimum', 'items', 'properties', 'required',

@@ -24,8 +24,34 @@ class Ends(Exception):
     """A run that ends early: its status, and the line on standard error."""
 
 
+def names_in(path):
+    """The names in a file, a name a line; an empty line is none."""
+    offset, names = 0, []
+    for line in bytes_of_file(path).split(b'\n'):
+        try:
+            names.append(line.decode())
+        except UnicodeDecodeError as error:
+            raise Ends(1, f'{path}: BadLine at {offset}') from error
+        offset += len(line) + 1
+    return [name for name in names if name]
+
+
+def with_names(words):
+    """The words, each file of names replaced by the names in it."""
+    found, rest = [], iter(words)
+    for word in rest:
+        option, equals, path = word.partition('=')
+        path = path if equals else next(rest, None) if option == '--keep-from' else None
+        if option == '--keep-from' and path is not None:
+            found += [f'--keep={name}' for name in names_in(path)]
+        else:
+            found.append(word)
+    return found
+
+
 def parsed(words):
     """The command, its paths and its options; each option has the list of its values."""
+    words = with_names(words)
     command, paths, options = words[0] if words else None, [], {}
     if any(not os.fsencode(word).decode(errors='replace') == word for word in words):
         raise Ends(2, 'error: an argument is not UTF-8')
@@ -48,6 +74,8 @@ def parsed(words):
         options.setdefault(name, []).append(value)
     if len(paths) != PATHS[command] or {'--ascii', '--binary'} <= set(options) or {'--progress', '--quiet'} <= set(options):
         raise Ends(2, 'error: wrong arguments')
+    if '--depth' in options and '--around' not in options:
+        raise Ends(2, 'error: a depth of no neighbourhood')
     outputs = paths[1:] if command in WRITING else []
     if paths[:len(paths) - len(outputs)].count('-') > 1:
         raise Ends(2, 'error: standard input is read once')

@@ -32,7 +32,7 @@ fn near<'a>(alloc: Global) -> Arg<'a> {
     flag(
         alloc,
         "near",
-        "Move each latch as few gates forward as a least count allows",
+        "Move latches as few gates as a least count allows",
     )
 }
 
@@ -60,7 +60,25 @@ fn names<'a>(alloc: Global) -> Arg<'a> {
         .long("keep")
         .value_name("NAME")
         .action(ArgAction::Append)
-        .help("Hold each latch with this name in its place; may be given more than once")
+        .help("Hold each latch with this name; may be given more than once")
+}
+
+/// The file of names; the program puts in its names before the words are parsed.
+fn names_from<'a>(alloc: Global) -> Arg<'a> {
+    Arg::new(alloc, "keep-from")
+        .long("keep-from")
+        .value_name("FILE")
+        .action(ArgAction::Append)
+        .help("Hold the latches that the lines of FILE name")
+}
+
+/// A command that holds latches by their names.
+fn with_names<'a>(
+    alloc: Global,
+    command: Result<Command<'a>, AllocError>,
+) -> Result<Command<'a>, AllocError> {
+    let command = with(command, names(alloc));
+    with(command, names_from(alloc))
 }
 
 fn json<'a>(alloc: Global) -> Arg<'a> {
@@ -201,7 +219,7 @@ fn retime<'a>(alloc: Global) -> Result<Command<'a>, AllocError> {
     let command = with_limits(alloc, command, "Threads that work on the flow");
     let command = with(command, certificates(alloc));
     let command = with_progress(alloc, command);
-    let command = with(command, names(alloc));
+    let command = with_names(alloc, command);
     with(command, json(alloc))
 }
 
@@ -216,11 +234,7 @@ fn batch<'a>(alloc: Global) -> Result<Command<'a>, AllocError> {
     let list = "The list: a line for each circuit, IN, a tab, and OUT";
     let command = command.arg(path(alloc, "LIST", list));
     let command = with_spelling(alloc, command);
-    let command = with_limits(
-        alloc,
-        command,
-        "Threads, each of which retimes a circuit at a time",
-    );
+    let command = with_limits(alloc, command, "Threads, each with a circuit at a time");
     with(command, json(alloc))
 }
 
@@ -273,7 +287,7 @@ fn verify<'a>(alloc: Global) -> Result<Command<'a>, AllocError> {
     );
     let command = command.arg(path(alloc, "IN", "The AIGER file that was retimed"));
     let command = with(command, path(alloc, "CERT", "The certificates"));
-    let command = with(command, names(alloc));
+    let command = with_names(alloc, command);
     with(command, json(alloc))
 }
 
@@ -282,7 +296,17 @@ fn around<'a>(alloc: Global) -> Arg<'a> {
         .long("around")
         .value_name("NAME")
         .action(ArgAction::Set)
-        .help("Draw the neighbourhood of the input, latch or property with this name alone")
+        .help("Draw the neighbourhood of what has this name alone")
+}
+
+/// How far a neighbourhood reaches, which is asked of one alone.
+fn depth<'a>(alloc: Global) -> Result<Arg<'a>, AllocError> {
+    Arg::new(alloc, "depth")
+        .long("depth")
+        .value_name("n")
+        .value_parser(ValueParser::unsigned(1, 100))
+        .help("How many edges the neighbourhood reaches, else 2")
+        .requires_arg("around")
 }
 
 fn dot<'a>(alloc: Global) -> Result<Command<'a>, AllocError> {
@@ -299,10 +323,9 @@ fn dot<'a>(alloc: Global) -> Result<Command<'a>, AllocError> {
         command,
         flag(alloc, "frame", "Show over which gates latches move next"),
     );
-    let command = with(command, names(alloc));
+    let command = with_names(alloc, command);
     let command = with(command, around(alloc));
-    let depth = "How many edges the neighbourhood reaches";
-    with(command, number(alloc, "depth", 100, "2", depth))
+    with_flag(command, depth(alloc))
 }
 
 fn witness<'a>(alloc: Global) -> Result<Command<'a>, AllocError> {

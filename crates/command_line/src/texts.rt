@@ -8,7 +8,8 @@ pub(crate) const LONG_ABOUT: &str =
 
 Circuits are files in the formats of AIGER 1.9, ASCII (aag) or binary (aig).
 
-'-' is standard input where a file is read, and standard output where a file is written. A file of that name is './-'.";
+'-' is standard input where a file is read, and standard output where a file is
+written. A file of that name is './-'.";
 
 pub(crate) const EXAMPLE: &str = "Example:
   fretime retime counter.aag smaller.aag
@@ -19,140 +20,170 @@ pub(crate) const RETIME_ABOUT: &str =
     "Moves latches forward over gates, frame by frame, until none helps";
 
 pub(crate) const RETIME_LONG_ABOUT: &str =
-    "Reads a circuit, cleans it, moves latches forward over gates, frame by frame, as long as that leaves fewer, and writes it.
+    "Reads a circuit, cleans it, moves latches forward over gates, frame by frame, as
+long as that leaves fewer, and writes it.
 
-Only latches with a known reset (0 or 1) move. A netlist from RTL without initial values has none, and nothing moves then:
-give the registers initial values, or, where the reset sequence makes that right, set them to zero
+Only latches with a known reset (0 or 1) move. A netlist from RTL without
+initial values has none, and nothing moves then: give the registers initial
+values, or, where the reset sequence makes that right, set them to zero
 (`setundef -init -zero` in Yosys, before `write_aiger`).
 
-OUT is created once IN has been read and retimed: a circuit that is refused leaves OUT as it was.
+OUT is created once IN has been read and retimed: a circuit that is refused
+leaves OUT as it was.
 
-With --cert, FILE gets a certificate of each frame, once OUT is written: 'verify IN FILE' checks from it that no other set of gates
-would have left fewer latches.
+With --cert, FILE gets a certificate of each frame, once OUT is written: 'verify
+IN FILE' checks from it that no other set of gates would have left fewer
+latches.
 
-Where OUT or FILE is '-', standard output, the lines that are printed go to standard error.
+Where OUT or FILE is '-', standard output, the lines that are printed go to
+standard error.
 
-Where standard error is a terminal, one line of it shows how far a run of over a second is, and is gone at the end.";
+Where standard error is a terminal, one line of it shows how far a run of over a
+second is, and is gone at the end.";
 
 pub(crate) const RETIME_EXAMPLE: &str = "Example:
   fretime retime counter.aag smaller.aag
 
-It prints a line for each frame that was taken, and then the numbers of all latches:
+It prints a line for each frame that was taken, and then the numbers of all
+latches:
   frame 1: 2 to 1
   latches 2 to 1
 
 In a pipe:
   zcat counter.aig.gz | fretime retime - - | gzip > smaller.aig.gz
 
-Exit status: 0 done, 1 IN is no circuit or has no latch NAME, 2 command line, 3 device, 4 out of memory.";
+Exit status: 0 done, 1 IN is no circuit or has no latch NAME, 2 command line,
+3 device, 4 out of memory.";
 
 pub(crate) const BATCH_ABOUT: &str = "Retimes the circuits of a list, many at once";
 
 pub(crate) const BATCH_LONG_ABOUT: &str =
-    "Reads a list of circuits, retimes each as 'retime' does, and writes each to a file of its own.
+    "Reads a list of circuits, retimes each as 'retime' does, and writes each to a
+file of its own.
 
-A line of LIST is the path of a circuit, a tab, and the path of the file to write. All circuits are read before the first is
-retimed. The workers take them one at a time; what is written is the same for every number of workers. In a line '-' is a file of
-that name.";
+A line of LIST is the path of a circuit, a tab, and the path of the file to
+write. All circuits are read before the first is retimed. The workers take them
+one at a time; what is written is the same for every number of workers. In a
+line '-' is a file of that name.";
 
 pub(crate) const BATCH_EXAMPLE: &str =
-    "It prints a line for each circuit, in the order of the list, once its file is written:
+    "It prints a line for each circuit, in the order of the list, once its file is
+written:
   1 done 2 to 1
   2 refused BadLine at 18
   3 memory
 
-Exit status: 0 all are done, else 1 or 4 by the first that is refused or lacked memory; 1 LIST is no list, 2 command line,
-3 device, 4 out of memory.";
+Exit status: 0 all are done, else 1 or 4 by the first that is refused or lacked
+memory; 1 LIST is no list, 2 command line, 3 device, 4 out of memory.";
 
 pub(crate) const VERIFY_ABOUT: &str = "Checks the certificates that 'retime --cert' wrote";
 
 pub(crate) const VERIFY_LONG_ABOUT: &str =
-    "Reads a circuit, and the certificates of its frames, and checks each against the circuit of its frame, without any flow.
+    "Reads a circuit, and the certificates of its frames, and checks each against the
+circuit of its frame, without any flow.
 
-'yes' says that no set of gates leaves fewer latches than the certificate's. The circuit of the next frame is made from IN by
-the certificate's set. Name the latches that were held, as for 'retime'.";
+'yes' says that no set of gates leaves fewer latches than the certificate's. The
+circuit of the next frame is made from IN by the certificate's set. Name the
+latches that were held, as for 'retime'.";
 
 pub(crate) const VERIFY_EXAMPLE: &str = "Example:
   fretime retime counter.aag smaller.aag --cert counter.cert
   fretime verify counter.aag counter.cert
 
-It prints a line for each certificate, from 0, and whether the last circuit can be left with fewer latches ('open') or not:
+It prints a line for each certificate, from 0, and whether the last circuit can
+be left with fewer latches ('open') or not:
   block 0: yes, count 1
   block 1: yes, count 1
   end certified
 
-Exit status: 0 all are confirmed, 1 a file is refused or IN has no latch NAME, 2 command line, 3 device, 4 out of memory,
-5 a certificate is rejected.";
+Exit status: 0 all are confirmed, 1 a file is refused or IN has no latch NAME,
+2 command line, 3 device, 4 out of memory, 5 a certificate is rejected.";
 
 pub(crate) const STAT_EXAMPLE: &str =
     "Latches are free where they have no known reset; free latches never move.
 
-Exit status: 0 done, 1 IN is no circuit, 2 command line, 3 device, 4 out of memory.";
+Exit status: 0 done, 1 IN is no circuit, 2 command line, 3 device, 4 out of
+memory.";
 
 pub(crate) const SIM_EXAMPLE: &str =
-    "A stimulus is lines: '=' with a digit for each free latch begins a sequence, ':' with a digit for each input is its next step.
+    "A stimulus is lines: '=' with a digit for each free latch begins a sequence, ':'
+with a digit for each input is its next step.
 
-Exit status: 0 done, 1 a file is refused, 2 command line, 3 device, 4 out of memory.";
+Exit status: 0 done, 1 a file is refused, 2 command line, 3 device, 4 out of
+memory.";
 
 pub(crate) const SAME_EXAMPLE: &str =
-    "It prints 'same', or the first sequence, step and place, from 0, at which the circuits differ.
+    "It prints 'same', or the first sequence, step and place, from 0, at which the
+circuits differ.
 
-Exit status: 0 same, 1 a file is refused or shapes differ, 2 command line, 3 device, 4 out of memory, 5 they differ.";
+Exit status: 0 same, 1 a file is refused or shapes differ, 2 command line,
+3 device, 4 out of memory, 5 they differ.";
 
 pub(crate) const DOT_ABOUT: &str = "Writes a picture of a circuit, for Graphviz";
 
 pub(crate) const DOT_LONG_ABOUT: &str =
-    "Reads a circuit, and writes it as text in DOT, the language of Graphviz: `dot -Tsvg OUT` draws it.
+    "Reads a circuit, and writes it as text in DOT, the language of Graphviz: `dot
+-Tsvg OUT` draws it.
 
-Inputs are tags, latches boxes with their reset beside them, free latches dashed, held ones with a double line; gates are circles,
-gray where no latch can move over them; outputs and other properties are notes. An edge with a dot is a negation. Names are those
-of the file.
+Inputs are tags, latches boxes with their reset beside them, free latches
+dashed, held ones with a double line; gates are circles, gray where no latch can
+move over them; outputs and other properties are notes. An edge with a dot is a
+negation. Names are those of the file.
 
-With --frame the circuit is cleaned first, as 'retime' does; the gates over which 'retime' moves latches next are shaded, and what
-holds a latch afterwards has a bold line.
+With --frame the circuit is cleaned first, as 'retime' does; the gates over
+which 'retime' moves latches next are shaded, and what holds a latch afterwards
+has a bold line.
 
-A circuit of over 2,000 nodes is refused, but for a neighbourhood: --around NAME draws what is at most so many edges away from
-the input, latch or property with the name.";
+A circuit of over 2,000 nodes is refused, but for a neighbourhood: --around NAME
+draws what is at most so many edges away from the input, latch or property with
+the name. `dot` may take long from some 300 nodes on; `sfdp` draws those too.";
 
 pub(crate) const DOT_EXAMPLE: &str = "Example:
   fretime dot counter.aag counter.dot --frame
   dot -Tsvg counter.dot > counter.svg
 
-Exit status: 0 done, 1 IN is no circuit, has no latch NAME, nothing called NAME or too many nodes, 2 command line, 3 device,
-4 out of memory.";
+Exit status: 0 done, 1 IN is no circuit, has no latch NAME, nothing called NAME
+or too many nodes, 2 command line, 3 device, 4 out of memory.";
 
 pub(crate) const WITNESS_ABOUT: &str =
-    "Carries a witness of a retimed circuit back to the circuit it was made of";
+    "Carries a witness of a retimed circuit back to what it was made of";
 
 pub(crate) const WITNESS_LONG_ABOUT: &str =
-    "Reads a circuit, the circuit that 'retime' wrote of it, and a witness that a model checker found for that one, and prints the
-witness for the first.
+    "Reads a circuit, the circuit that 'retime' wrote of it, and a witness that a
+model checker found for that one, and prints the witness for the first.
 
-Both circuits are simulated, with 0 for each x: each property of the witness has to fail first at the same step in both. Latches with a
-known reset hold it, free latches that OUT has hold what they did there, and the others x. The inputs are the same.";
+Both circuits are simulated, with 0 for each x: each property of the witness has
+to fail first at the same step in both. Latches with a known reset hold it, free
+latches that OUT has hold what they did there, and the others x. The inputs are
+the same.";
 
 pub(crate) const WITNESS_EXAMPLE: &str = "Example:
   fretime retime counter.aag smaller.aag
   fretime witness counter.aag smaller.aag smaller.cex
 
-A witness is lines: '1', the properties ('b0'), a value 0, 1 or x for each latch, for each step a value for each input, and '.'.
-After the printed one a comment says at which step each property fails:
+A witness is lines: '1', the properties ('b0'), a value 0, 1 or x for each
+latch, for each step a value for each input, and '.'. After the printed one a
+comment says at which step each property fails:
   c b0 holds at step 3
 
-Exit status: 0 done, 1 a file is refused or shapes differ, 2 command line, 3 device, 4 out of memory, 5 a property doesn't fail.";
+Exit status: 0 done, 1 a file is refused or shapes differ, 2 command line,
+3 device, 4 out of memory, 5 a property doesn't fail.";
 
 pub(crate) const EXPLAIN_ABOUT: &str = "Says what a fault is, and what to do";
 
 pub(crate) const EXPLAIN_LONG_ABOUT: &str =
-    "Prints the page of a fault that a message names: what it is, the rule that is broken, a smallest file
-that has it, and what to do.";
+    "Prints the page of a fault that a message names: what it is, the rule that is
+broken, a smallest file that has it, and what to do.";
 
 pub(crate) const EXPLAIN_EXAMPLE: &str = "Example:
   fretime explain MaxIndex
 
-Faults of circuits, and some of them of other files too: BadHeader, TooLarge, MaxIndex, BadLine, BadLiteral, DefinedTwice, Undefined,
-Cycle, BadReset, BadDelta, Truncated, BadSymbol, Trailing. Of a stimulus or a witness: Width, TooMany, NoSuchProperty. Of names and
-pictures: NoSuchName, TooManyNodes. Of certificates: NotClosed, BadRoute, UsedTwice, CountDiffers. Of a run: NoMemory,
+Faults of circuits, and some of them of other files too: BadHeader, TooLarge,
+MaxIndex, BadLine, BadLiteral, DefinedTwice, Undefined, Cycle, BadReset,
+BadDelta, Truncated, BadSymbol, Trailing. Of a stimulus or a witness: Width,
+TooMany, NoSuchProperty. Of names and pictures: NoSuchName, TooManyNodes. Of
+certificates: NotClosed, BadRoute, UsedTwice, CountDiffers. Of a run: NoMemory,
 Device.
 
-Exit status: 0 done, 2 command line, or there is no such fault, 3 device, 4 out of memory.";
+Exit status: 0 done, 2 command line, or there is no such fault, 3 device, 4 out
+of memory.";

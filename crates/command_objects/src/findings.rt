@@ -10,9 +10,9 @@ ghost use Rattle.circuit_files.specs.declared.outcome.Outcome.TheVariants.{Done,
 ghost use Rattle.command_objects.specs.Objects.{EndsBy, EndsPrintingObject};
 ghost use Rattle.command_objects.specs.Objects as wanted;
 
-use aig_graph::Circuit;
 use certificate_audits::Audit;
 use certificates::Certificate;
+use circuit_counts::{Remaining, Statistics};
 use circuit_files::{Failure, Outcome};
 use counted_io::CountedWrite;
 use json_reports::{PrintError, Times};
@@ -32,33 +32,33 @@ fn ended<'a>(printed: Result<(), PrintError>, outcome: Outcome) -> Result<Outcom
     }
 }
 
-/// Prints the frames of a retiming, what the written circuit has, which free latches stayed, and how long the parts of the run
-/// took, where that was measured.
+/// Prints the frames of a retiming, what the written circuit has and why no more latches go, which free latches stayed, and how
+/// long the parts of the run took, where that was measured.
 pub fn print_retiming<'a, W: CountedWrite>(
     alloc: Global,
     retimed: &Retimed,
+    remaining: &Remaining,
     times: Option<&Times>,
     writer: &mut W,
 ) -> Result<Outcome, Failure<'a>>
     ensures { EndsPrintingObject Done
-        (retiming_data retimed.now (option_map (λ t. t.now) times.entry))
+        (retiming_data retimed.now remaining.now (option_map (λ t. t.now) times.entry))
         (W.output writer.old) (W.output writer.new) result }
 {
-    let printed = json_reports::print_retiming(alloc, retimed, times, writer);
+    let printed = json_reports::print_retiming(alloc, retimed, remaining, times, writer);
     ended(printed, Outcome::Done)
 }
 
-/// Prints what a circuit with so many passable gates has.
+/// Prints what `stat` tells of a circuit.
 pub fn print_statistics<'a, W: CountedWrite>(
     alloc: Global,
-    circuit: &Circuit,
-    passable: u32,
+    statistics: &Statistics,
     writer: &mut W,
 ) -> Result<Outcome, Failure<'a>>
-    ensures { EndsPrintingObject Done (statistics_data circuit.now passable) (W.output writer.old)
+    ensures { EndsPrintingObject Done (statistics_data statistics.now) (W.output writer.old)
         (W.output writer.new) result }
 {
-    let printed = json_reports::print_statistics(alloc, circuit, passable, writer);
+    let printed = json_reports::print_statistics(alloc, statistics, writer);
     ended(printed, Outcome::Done)
 }
 

@@ -1,5 +1,9 @@
 -- How printing a retiming ends, by the form that is asked for.
-use Rattle.std.proofs.Common.{◌≡◌, Bool, true, Option, Result, sym, subst}
+use Rattle.std.proofs.Common.{◌≡◌, ◌∙◌, ℕ, Bool, true, List, Option, Result, length, map, nat_lt, sym, subst, ap}
+use Rattle.std.specs.Borrow.{Bor}
+use Rattle.std.specs.Global.{Vec}
+use Rattle.aig_graph.specs.Keep.{names_of}
+use Rattle.circuit_counts.specs.Remaining.{remaining}
 use Rattle.counted_io.specs.Output.{Output}
 use Rattle.retimed_circuits.specs.declared.report.Retimed.{Retimed}
 use Rattle.json_reports.specs.Retimings.{retiming_data}
@@ -8,9 +12,28 @@ use Rattle.circuit_files.specs.declared.outcome.Outcome.{Outcome}
 use Rattle.circuit_files.specs.declared.outcome.Outcome.TheVariants.{Done}
 use Rattle.circuit_files.specs.declared.outcome.Failure.{Failure}
 use Rattle.command_objects.specs.Objects.{EndsPrintingObject}
-use Rattle.commands.specs.RetimingTasks.{EndsPrintingFrames}
+use Rattle.circuit_counts.specs.declared.remaining.Remaining.{Remaining}
+use Rattle.command_line.specs.declared.task.Retiming.{Retiming}
+use Rattle.commands.specs.RetimingTasks.{EndsPrintingFrames, remaining_of}
 
 -- an object where it was asked for
-pub frames_as_object : (json : Bool) (r : Retimed) (times : Option Times) (old new : Output) (result : Result Outcome Failure)
-    → json ≡ true → EndsPrintingObject Done (retiming_data r times) old new result → EndsPrintingFrames json r times old new result
-frames_as_object json r times old new result asked p = subst (λ (j : Bool). EndsPrintingFrames j r times old new result) (sym asked) p
+pub frames_as_object : (json : Bool) (task : Retiming) (r : Retimed) (times : Option Times) (old new : Output) (result : Result Outcome Failure)
+    → json ≡ true → EndsPrintingFrames true task r times old new result → EndsPrintingFrames json task r times old new result
+frames_as_object json task r times old new result asked p = subst (λ (j : Bool). EndsPrintingFrames j task r times old new result) (sym asked) p
+
+-- by what is left of it, and by the times that were taken
+pub object_of_frames : (task : Retiming) (r : Retimed) (left : Remaining) (took times : Option Times) (old new : Output) (result : Result Outcome Failure)
+    → left ≡ remaining_of task r → took ≡ times → EndsPrintingObject Done (retiming_data r left took) old new result → EndsPrintingFrames true task r times old new result
+object_of_frames task r left took times old new result is same p =
+    subst (λ (t : Option Times). EndsPrintingObject Done (retiming_data r (remaining_of task r) t) old new result) same
+    (subst (λ (x : Remaining). EndsPrintingObject Done (retiming_data r x took) old new result) is p)
+
+-- what is left, by the names as bytes and the number of frames
+pub remaining_is : (task : Retiming) (r : Retimed) (keep : List (Bor (List ℕ))) (names read : List (Vec ℕ)) (frames : ℕ) → keep ≡ task.keep.items → read ≡ names
+    → map (λ name. name.items) names ≡ map (λ name. name.now) keep → frames ≡ length r.frames
+    → remaining r.circuit (names_of read) (nat_lt frames task.frames) ≡ remaining_of task r
+remaining_is task r keep names read frames kept same alike many =
+    let texts : names_of read ≡ map (λ name. name.now) task.keep.items =
+    ap names_of same ∙ alike ∙ ap (λ (xs : List (Bor (List ℕ))). map (λ name. name.now) xs) kept in
+    ap (λ (xs : List (List ℕ)). remaining r.circuit xs (nat_lt frames task.frames)) texts
+    ∙ ap (λ (n : ℕ). remaining r.circuit (map (λ name. name.now) task.keep.items) (nat_lt n task.frames)) many

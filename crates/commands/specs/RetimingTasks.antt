@@ -1,5 +1,5 @@
 -- What the task of a retiming makes of its options, of an error, and of a retiming.
-use Rattle.std.specs.Prelude.{ℕ, ◌≡◌, Bool, true, false, List, Option, Some, Result, is_some, map, slice_get}
+use Rattle.std.specs.Prelude.{ℕ, ◌≡◌, Bool, true, false, List, Option, Some, Result, is_some, map, length, nat_lt, slice_get}
 use Rattle.std.specs.Borrow.{Bor}
 use Rattle.stream_paths.specs.Streams.{target_name}
 use Rattle.command_line.specs.declared.task.Retiming.{Retiming}
@@ -9,6 +9,8 @@ use Rattle.frames.specs.declared.errors.BytesError.TheVariants.{Read, Retime, Wr
 use Rattle.frames.specs.declared.errors.RetimeError.TheVariants.{NoMemory, NoSuchName}
 use Rattle.counted_io.specs.Output.{Output}
 use Rattle.retimed_circuits.specs.declared.report.Retimed.{Retimed}
+use Rattle.circuit_counts.specs.Remaining.{remaining}
+use Rattle.circuit_counts.specs.declared.remaining.Remaining.{Remaining}
 use Rattle.reports.specs.Retimings.{retiming_text}
 use Rattle.json_reports.specs.Retimings.{retiming_data}
 use Rattle.json_reports.specs.declared.times.Times.{Times}
@@ -36,16 +38,21 @@ IsFailureOf task (Retime NoMemory) failure = failure ≡ fails.Memory
 IsFailureOf task (Retime (NoSuchName place)) failure = (name : Bor (List ℕ)) → slice_get task.keep.items place ≡ Some name → OfSource task.input (λ path. failure ≡ fails.NoSuchName path name)
 IsFailureOf task (Write error) failure = (name : Bor (List ℕ)) × (name.now ≡ target_name task.output) × (failure ≡ fails.Device name)
 
+-- what the task's retiming leaves: the circuit, where its held latches stay; fewer frames than the limit end where no set leaves fewer
+abbrev pub remaining_of : Retiming → Retimed → Remaining
+remaining_of task r = remaining r.circuit (map (λ name. name.now) task.keep.items) (nat_lt (length r.frames) task.frames)
+
 -- how printing a retiming ends, as an object of JSON where that is asked for, else in lines
-abbrev pub EndsPrintingFrames : Bool → Retimed → Option Times → Output → Output → Result Outcome Failure → Type 0
-EndsPrintingFrames true r times old new result = EndsPrintingObject Done (retiming_data r times) old new result
-EndsPrintingFrames false r times old new result = EndsPrinting Done (retiming_text r) old new result
+abbrev pub EndsPrintingFrames : Bool → Retiming → Retimed → Option Times → Output → Output → Result Outcome Failure → Type 0
+EndsPrintingFrames true task r times old new result = EndsPrintingObject Done (retiming_data r (remaining_of task r) times) old new result
+EndsPrintingFrames false task r times old new result = EndsPrinting Done (retiming_text r) old new result
 
 -- so it was printed where nobody asks how that ended
-pub record SaysFrames (json : Bool) (r : Retimed) (times : Option Times) (old new : Output) : Type 0 where
+pub record SaysFrames (task : Retiming) (r : Retimed) (times : Option Times) (old new : Output) : Type 0 where
   pub ended : Result Outcome Failure
-  pub prints : EndsPrintingFrames json r times old new ended
+  pub prints : EndsPrintingFrames task.json task r times old new ended
 
 -- what is printed of it is the same, certificates or none
 abbrev pub PrintsAlike : Retimed → Retimed → Type 0
-PrintsAlike r s = (retiming_text r ≡ retiming_text s) × ((times : Option Times) → retiming_data r times ≡ retiming_data s times)
+PrintsAlike r s = (retiming_text r ≡ retiming_text s)
+    × ((task : Retiming) (times : Option Times) → retiming_data r (remaining_of task r) times ≡ retiming_data s (remaining_of task s) times)

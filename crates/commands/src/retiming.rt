@@ -9,21 +9,22 @@ ghost use Rattle.circuit_files.specs.Outcomes.{outcome_of};
 ghost use Rattle.circuit_files.specs.declared.outcome.Outcome.TheVariants.{Device, Done};
 ghost use Rattle.commands.specs.Pipes.{AnswersPipe, IsPipe, WritesPipe};
 ghost use Rattle.commands.specs.Printing.{EndsAside, Prints, ending};
-ghost use Rattle.commands.specs.RetimingTasks.{AreOptionsOf, EndsPrintingFrames, IsFailureOf, PrintsAlike, SaysFrames};
+ghost use Rattle.commands.specs.RetimingTasks.{AreOptionsOf, EndsPrintingFrames, IsFailureOf, PrintsAlike, SaysFrames, remaining_of};
 
 use crate::ended::ended;
 use crate::names::{bytes_of_names, missing_name};
-use aig_graph::Sequence;
+use aig_graph::{NoMemory, Sequence};
 use certificate_files::{CertFile, Choice, write_cert};
 use certificates::Certificate;
+use circuit_counts::Remaining;
 use circuit_files::{Failure, LazyFile, Outcome};
-use command_line::Retiming;
+use command_line::{Retiming, Shown};
 use counted_io::{Counted, CountedRead, CountedWrite, WriteError};
 use frames::{BytesError, FrameWatcher, Options, RetimeError, Retimed, retime_bytes_watched};
 use json_reports::Times;
 use progress::Progress;
 use pulse::{Crew, OpenGate};
-use reports::print_retiming;
+use reports::{print_remaining, print_retiming};
 use std::alloc::{AllocError, Global};
 use std::fs::File;
 use std::mem;
@@ -262,21 +263,68 @@ fn certified<
     Ok(Timed { retimed, times })
 }
 
+/// What the task's retiming leaves.
+fn remaining(
+    alloc: Global,
+    task: &Retiming<'_>,
+    retimed: &Retimed,
+) -> Result<Remaining, NoMemory>
+    ensures { IfOk result (λ left. left ≡ remaining_of task.now retimed.now) }
+{
+    let names = bytes_of_names(alloc, task.keep.as_slice())?;
+    let is_least = retimed.frames.len() < task.frames as usize;
+    Remaining::of(alloc, &retimed.circuit, names.as_slice(), is_least)
+}
+
+/// Prints the frames that were taken as an object of JSON.
+fn print_object<'a, W: CountedWrite>(
+    alloc: Global,
+    task: &Retiming<'_>,
+    timed: &Timed,
+    writer: &mut W,
+) -> Result<Outcome, Failure<'a>>
+    ensures { EndsPrintingFrames true task.now timed.now.retimed timed.now.times
+        (W.output writer.old) (W.output writer.new) result }
+{
+    match remaining(alloc, task, &timed.retimed) {
+        Ok(left) => {
+            let times = timed.times.as_ref();
+            command_objects::print_retiming(alloc, &timed.retimed, &left, times, writer)
+        }
+        Err(_) => Err(Failure::Memory),
+    }
+}
+
 /// Prints the frames that were taken, as an object of JSON or in lines.
 fn print_as<'a, W: CountedWrite>(
     alloc: Global,
+    task: &Retiming<'_>,
     timed: &Timed,
-    json: bool,
     writer: &mut W,
 ) -> Result<Outcome, Failure<'a>>
-    ensures frames { EndsPrintingFrames json timed.now.retimed timed.now.times
+    ensures frames { EndsPrintingFrames task.now.json task.now timed.now.retimed timed.now.times
         (W.output writer.old) (W.output writer.new) result }
     ensures prints { Prints (ending result) (W.output writer.old) (W.output writer.new) }
 {
-    if json {
-        command_objects::print_retiming(alloc, &timed.retimed, timed.times.as_ref(), writer)
+    if task.json {
+        print_object(alloc, task, timed, writer)
     } else {
         ended(print_retiming(&timed.retimed, writer), Outcome::Done)
+    }
+}
+
+/// Tells on a terminal why no more latches go, where nobody asks for an object or for quiet. What can't be told changes nothing.
+fn tell_remaining<E: CountedWrite>(
+    alloc: Global,
+    task: &Retiming<'_>,
+    retimed: &Retimed,
+    is_terminal: bool,
+    err: &mut E,
+) {
+    if is_terminal && !task.json && task.shown != Shown::Nothing {
+        if let Ok(left) = remaining(alloc, task, retimed) {
+            let _ = print_remaining(&left, err);
+        }
     }
 }
 
@@ -291,25 +339,26 @@ fn print_frames<'a, O: CountedWrite, E: CountedWrite>(
 ) -> Result<Outcome, Failure<'a>>
     ensures aside { takes_stdout task.now ≡ true
         → EndsAside Done (O.output out.old) (O.output out.new) result }
-    ensures says { takes_stdout task.now ≡ true → SaysFrames task.now.json timed.now.retimed
+    ensures says { takes_stdout task.now ≡ true → SaysFrames task.now timed.now.retimed
         timed.now.times (E.output err.old) (E.output err.new) }
-    ensures frames { takes_stdout task.now ≡ false → EndsPrintingFrames task.now.json
+    ensures frames { takes_stdout task.now ≡ false → EndsPrintingFrames task.now.json task.now
         timed.now.retimed timed.now.times (O.output out.old) (O.output out.new) result }
     ensures prints { takes_stdout task.now ≡ false
         → Prints (ending result) (O.output out.old) (O.output out.new) }
 {
     if task.takes_stdout() {
-        let _ = print_as(alloc, timed, task.json, err);
+        let _ = print_as(alloc, task, timed, err);
         Ok(Outcome::Done)
     } else {
-        print_as(alloc, timed, task.json, out)
+        print_as(alloc, task, timed, out)
     }
 }
 
 /// Reads a circuit, writes it, retimed, and the certificates where they are asked for, and then prints the frames that were taken,
 /// as an object of JSON or in lines.
 ///
-/// Shows how far the run is as the task asks; `is_terminal` is whether standard error is one.
+/// Shows how far the run is as the task asks, and on a terminal why no more latches go; `is_terminal` is whether standard error is
+/// one.
 pub fn print_retimed<
     'a,
     R: Files + Threads + Sync + Clock,
@@ -331,6 +380,7 @@ pub fn print_retimed<
 {
     let timed = certified(rt, alloc, task, is_terminal, stdin, out, err)?;
     let ended = print_frames(alloc, task, &timed, out, err);
+    tell_remaining(alloc, task, &timed.retimed, is_terminal, err);
     drop(timed);
     ended
 }

@@ -1,37 +1,28 @@
 //! The command `stat`.
-ghost use Rattle.std.specs.Prelude.{◌≡◌, IfOk};
+ghost use Rattle.std.specs.Prelude.{IfOk};
 ghost use Rattle.reports.specs.Counts.{counts_text};
 ghost use Rattle.circuit_files.specs.declared.outcome.Outcome.TheVariants.{Done};
 ghost use Rattle.commands.specs.Printing.{EndsPrinting, EndsWith, Prints, ending};
-ghost use Rattle.commands.specs.Statistics.{PrintsStatistics, passable_count, statistics_text};
+ghost use Rattle.commands.specs.Statistics.{PrintsStatistics, statistics_text};
 
 use crate::ended::ended;
-use aig_graph::{Circuit, Keep, NoMemory};
+use aig_graph::Circuit;
+use circuit_counts::Statistics;
 use circuit_files::{Failure, Outcome, circuit_at};
 use counted_io::{CountedRead, CountedWrite};
-use frame_net::passable;
 use reports::print_counts;
 use std::alloc::Global;
 use std::rt::Files;
 use stream_paths::Source;
 
-/// The number of passable gates, where no latch is held.
-fn passable_gates(alloc: Global, circuit: &Circuit) -> Result<u32, NoMemory>
-    ensures { IfOk result (λ count. count ≡ passable_count circuit.now) }
-{
-    let pass = passable(alloc, circuit.aig(), &Keep::none())?;
-    Ok(pass.count())
-}
-
 fn print_lines<'a, O: CountedWrite>(
-    circuit: &Circuit,
-    passable: u32,
+    statistics: &Statistics,
     out: &mut O,
 ) -> Result<Outcome, Failure<'a>>
-    ensures { EndsPrinting Done (counts_text circuit.now passable) (O.output out.old)
+    ensures { EndsPrinting Done (counts_text statistics.now) (O.output out.old)
         (O.output out.new) result }
 {
-    ended(print_counts(circuit, passable, out), Outcome::Done)
+    ended(print_counts(statistics, out), Outcome::Done)
 }
 
 /// Prints what a circuit has, as an object of JSON or in lines.
@@ -45,12 +36,12 @@ fn print_circuit<'a, O: CountedWrite>(
         (O.output out.old) (O.output out.new)) }
     ensures prints { Prints (ending result) (O.output out.old) (O.output out.new) }
 {
-    match passable_gates(alloc, circuit) {
-        Ok(passable) => {
+    match Statistics::of(alloc, circuit) {
+        Ok(statistics) => {
             if json {
-                command_objects::print_statistics(alloc, circuit, passable, out)
+                command_objects::print_statistics(alloc, &statistics, out)
             } else {
-                print_lines(circuit, passable, out)
+                print_lines(&statistics, out)
             }
         }
         Err(_) => Err(Failure::Memory),

@@ -4,7 +4,7 @@ ghost use Rattle.std.specs.List.{flat_map};
 ghost use Rattle.counted_io.specs.Buffered.{Puts};
 ghost use Rattle.failure_hints.specs.Lines.{nearest_line, shown_byte};
 
-use crate::line::line_of_file;
+use crate::line::{line_number, line_of_file};
 use aig_graph::Circuit;
 use circuit_files::{Failure, circuit_at};
 use counted_io::{Buffered, Counted, CountedWrite};
@@ -49,6 +49,7 @@ fn put_fault<R: Files, W: CountedWrite>(
     out.put(b"' says more.\n");
 }
 
+/// Puts the line at an offset after its number.
 fn put_line<R: Files, W: CountedWrite>(
     rt: &R,
     alloc: Global,
@@ -57,6 +58,11 @@ fn put_line<R: Files, W: CountedWrite>(
     out: &mut Buffered<'_, W>,
 ) {
     if let Some(line) = line_of_file(rt, alloc, path, offset) {
+        if let Some(number) = line_number(rt, path, offset) {
+            out.put(b"line ");
+            out.put_number(number);
+            out.put(b": ");
+        }
         out.put(line.as_slice());
         drop(line);
     }
@@ -79,7 +85,27 @@ fn put_found<W: CountedWrite>(name: &[u8], out: &mut Buffered<'_, W>)
     out.put_byte(b'\n');
 }
 
-/// Puts the name of a latch that is nearest to this one, if one is near.
+/// Whether a name is several words, of which this is one, as where a tool wrote all names of a latch as one.
+fn has_word(name: &[u8], word: &[u8]) -> bool {
+    for part in name.split(|byte| *byte == b' ') {
+        if part == word {
+            return true;
+        }
+    }
+    false
+}
+
+/// The place of the first name that has the word.
+fn with_word(names: &[&[u8]], word: &[u8]) -> Option<usize> {
+    for (place, name) in names.iter().enumerate() {
+        if has_word(*name, word) {
+            return Some(place);
+        }
+    }
+    None
+}
+
+/// Puts the name of a latch that has this one as a word, else the nearest one, if one is near.
 fn put_nearest<W: CountedWrite>(
     alloc: Global,
     circuit: &Circuit,
@@ -90,7 +116,11 @@ fn put_nearest<W: CountedWrite>(
     for symbol in circuit.symbols().latches.as_slice() {
         names.push(symbol.name.as_slice())?;
     }
-    if let Some(place) = nearest(alloc, name.as_bytes(), names.as_slice())? {
+    let near = match with_word(names.as_slice(), name.as_bytes()) {
+        Some(place) => Some(place),
+        None => nearest(alloc, name.as_bytes(), names.as_slice())?,
+    };
+    if let Some(place) = near {
         put_found(names.get(place).copied().unwrap_or(b""), out);
     }
     Ok(())

@@ -16,11 +16,11 @@ pub const TOO_MANY: Page = Page {
 };
 
 pub const NO_SUCH_NAME: Page = Page {
-    meaning: "The circuit has no latch of this name.",
-    rule: "The names of latches are those of the symbols 'l' of the file, compared byte by
-byte.",
-    advice: "List the names: grep -a '^l[0-9]' IN. A file without names gets them where it
-is written, as by Yosys' write_aiger -symbols.",
+    meaning: "The circuit has no latch, or for --around nothing, of this name.",
+    rule: "Names are those of the symbols of the file, compared byte by byte: --keep takes
+those of latches, 'l', and --around of 'dot' those of all kinds.",
+    advice: "List those of latches: grep -a '^l[0-9]' IN. A file without names gets them
+where it is written, as by Yosys' write_aiger -symbols.",
 };
 
 pub const NO_SUCH_PROPERTY: Page = Page {

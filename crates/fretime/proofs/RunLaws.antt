@@ -48,6 +48,21 @@ pub by_batch : (json : Bool) (o : Outcome) (old new : Output) → PrintsList jso
 by_batch true o old new p = inr (inr p)
 by_batch false o old new p = inr (inl p)
 
+-- a failure before any task
+nothing_printed : (f : Failure) (s : Output) → Prints (outcome_of f) s s
+nothing_printed (fails.Refused path fault) s = refl
+nothing_printed (fails.RefusedStimulus path fault) s = refl
+nothing_printed (fails.RefusedList path fault) s = refl
+nothing_printed (fails.RefusedCertificates path fault) s = refl
+nothing_printed (fails.RefusedWitness path fault) s = refl
+nothing_printed (fails.NoSuchName path name) s = refl
+nothing_printed (fails.TooManyNodes path) s = refl
+nothing_printed (fails.Device path) s = tt
+nothing_printed fails.Memory s = refl
+
+pub by_failure : (o : Outcome) (f : Failure) (s : Output) → o ≡ outcome_of f → MayPrint o s s
+by_failure o f s is = subst (λ (e : Outcome). MayPrint e s s) (sym is) (inl (nothing_printed f s))
+
 pub of_usage : (o : Outcome) (s : Output) → (o ≡ Done) ⊎ (o ≡ CommandLine) ⊎ (o ≡ Memory) → MayPrint o s s
 of_usage o s which =
     let P : Outcome → Type 0 = λ e. Prints e s s in

@@ -5,6 +5,7 @@
 mod batch;
 mod batch_object;
 mod explaining;
+mod name_files;
 mod reporting;
 mod run;
 
@@ -20,11 +21,19 @@ fn words<R: Env + AllocGlobal>(rt: &R) -> io::Result<Vec<String>> {
     Ok(env::args(rt)?.collect(rt.alloc())?)
 }
 
+/// Whether the terminal knows no sequence that steers it.
+fn is_dumb<R: Env + AllocGlobal>(rt: &R) -> bool {
+    match env::var(rt, "TERM") {
+        Ok(term) => term.as_str() == "dumb",
+        Err(_) => false,
+    }
+}
+
 fn main(rt: HostRuntime) -> ExitCode {
     let mut stdin = Counted::new(rt.stdin());
     let mut out = Counted::new(rt.stdout());
     let mut err = Counted::new(rt.stderr());
-    let is_terminal = rt.stderr().is_terminal();
+    let is_terminal = rt.stderr().is_terminal() && !is_dumb(&rt);
     let status = match words(&rt) {
         Ok(words) => run_words(
             &rt,

@@ -8,6 +8,7 @@ ghost use Rattle.fretime.specs.Runs.{Does, MayGive, MayPrint, PrintsFilesOrRefus
 
 use crate::batch::retime_list;
 use crate::explaining::explain;
+use crate::name_files::words_with_names;
 use crate::reporting::{report_failure, reported};
 use circuit_files::{Failure, Outcome};
 use clap::Error;
@@ -102,8 +103,8 @@ pub fn report_unreadable_arguments<E: CountedWrite>(error: &io::Error, err: &mut
     Outcome::CommandLine.status()
 }
 
-/// Does what the arguments ask for, and returns how the run ends.
-fn run_command<R: Files + Threads + Sync + Clock, I: CountedRead, O: CountedWrite, E: CountedWrite>(
+/// Does what the arguments ask for, which name no file of names, and returns how the run ends.
+fn run_named<R: Files + Threads + Sync + Clock, I: CountedRead, O: CountedWrite, E: CountedWrite>(
     rt: &R,
     alloc: Global,
     words: &[String],
@@ -120,6 +121,29 @@ fn run_command<R: Files + Threads + Sync + Clock, I: CountedRead, O: CountedWrit
             reported(rt, alloc, &task, ended, is_terminal, out, err)
         }
         Err(error) => report_usage(&error, err),
+    }
+}
+
+/// Does what the arguments ask for, and returns how the run ends.
+fn run_command<R: Files + Threads + Sync + Clock, I: CountedRead, O: CountedWrite, E: CountedWrite>(
+    rt: &R,
+    alloc: Global,
+    words: &[String],
+    is_terminal: bool,
+    stdin: &mut I,
+    out: &mut O,
+    err: &mut E,
+) -> Outcome
+    ensures { MayPrint result (O.output out.old) (O.output out.new) }
+{
+    match words_with_names(rt, alloc, words) {
+        Ok(None) => run_named(rt, alloc, words, is_terminal, stdin, out, err),
+        Ok(Some(all)) => {
+            let outcome = run_named(rt, alloc, all.as_slice(), is_terminal, stdin, out, err);
+            drop(all);
+            outcome
+        }
+        Err(failure) => report_failure(failure, err),
     }
 }
 

@@ -1,5 +1,5 @@
 -- The lines of worked reports, computed.
-use Rattle.std.proofs.Common.{◌≡◌, [], ◌∷◌, Some, None, refl}
+use Rattle.std.proofs.Common.{◌≡◌, [], ◌∷◌, Some, None, true, refl}
 use Rattle.std.specs.Prelude.{ℕ, List, codes}
 use Rattle.std.specs.Borrow.{Bor}
 use Rattle.std.specs.Fmt.{digits}
@@ -7,6 +7,8 @@ use Rattle.file_words.specs.declared.fault.ReadError.TheVariants.{BadHeader}
 use Rattle.reports.specs.declared.batch.JobReport.TheVariants.{Done, Refused}
 use Rattle.certificates.specs.declared.verdict.Objection.TheVariants.{BadRoute}
 use Rattle.certificate_audits.specs.declared.outcome.End.TheVariants.{Objected}
+use Rattle.circuit_counts.specs.declared.remaining.Remaining.{Remaining}
+use Rattle.circuit_counts.specs.declared.statistics.Counts.{Counts}
 use Rattle.aig_graph.specs.Circuits.{Netlist}
 use Rattle.aig_graph.specs.declared.graph.Reset.TheVariants.{Zero}
 use Rattle.serde_json.proofs.OnLiterals.{serde_json_on_literals}
@@ -20,16 +22,8 @@ use Rattle.json_reports.specs.Retimings.{retiming_data}
 use Rattle.json_reports.specs.declared.fault.Fault.TheVariants.{NoSuchName}
 
 -- two inputs, a latch after each, and a gate that reads both
-abbrev two_latches : Netlist
-two_latches = record {
-  aig = record {
-    inputs = 2;
-    latches = record { next = 2; reset = Zero } ∷ record { next = 4; reset = Zero } ∷ [];
-    gates = record { rhs0 = 8; rhs1 = 6 } ∷ [];
-  };
-  props = record { outputs = 10 ∷ []; bad = []; constraints = []; justice = []; fairness = [] };
-  symbols = record { inputs = []; latches = []; outputs = []; bad = []; constraints = []; justice = []; fairness = [] };
-}
+abbrev two_latches : Counts
+two_latches = record { inputs = 2; latches = 2; free = 0; known = 2; gates = 1; levels = 1; outputs = 1; bad = 0; constraints = 0; justice = 0; fairness = 0 }
 
 same_example : json_line (difference_data None) ≡ codes "{\"command\":\"same\",\"difference\":null,\"result\":\"Same\",\"status\":0}\n"
 unfolding serde_json_on_literals digits
@@ -40,8 +34,8 @@ differ_example : json_line (difference_data (Some (record { sequence = 0; step =
 unfolding serde_json_on_literals digits
 differ_example = refl
 
-stat_example : json_line (statistics_data two_latches 1)
-    ≡ codes "{\"circuit\":{\"bad\":0,\"constraints\":0,\"fairness\":0,\"free\":0,\"gates\":1,\"inputs\":2,\"justice\":0,\"latches\":2,\"outputs\":1},\"command\":\"stat\",\"passable\":1,\"status\":0}\n"
+stat_example : json_line (statistics_data (record { counts = two_latches; passable = 1 }))
+    ≡ codes "{\"circuit\":{\"bad\":0,\"constraints\":0,\"fairness\":0,\"free\":0,\"gates\":1,\"inputs\":2,\"justice\":0,\"known\":2,\"latches\":2,\"levels\":1,\"outputs\":1},\"command\":\"stat\",\"passable\":1,\"status\":0}\n"
 unfolding serde_json_on_literals digits
 stat_example = refl
 
@@ -67,8 +61,16 @@ one_latch = record {
   symbols = record { inputs = []; latches = []; outputs = []; bad = []; constraints = []; justice = []; fairness = [] };
 }
 
-retime_example : json_line (retiming_data (record { circuit = one_latch; kept_free = []; read_latches = 2; frames = record { before = 2; after = 1; moved = 1 } ∷ []; certificates = [] }) (Some (record { reading = 120; cleaning = 7; frames = record { looking = 40; moving = 5 } ∷ []; writing = 60 })))
-    ≡ codes "{\"after\":{\"bad\":0,\"constraints\":0,\"fairness\":0,\"free\":0,\"gates\":1,\"inputs\":2,\"justice\":0,\"latches\":1,\"outputs\":1},\"before\":{\"latches\":2},\"command\":\"retime\",\"frames\":[{\"after\":1,\"before\":2,\"gates\":1}],\"free_kept\":[],\"microseconds\":{\"cleaning\":7,\"frames\":[{\"looking\":40,\"moving\":5}],\"reading\":120,\"writing\":60},\"status\":0}\n"
+-- nothing is passable any more, and a next literal reads the gate
+abbrev one_left : Remaining
+one_left = record {
+  counts = record two_latches { latches = 1; known = 1 };
+  held_back = record { free = 0; held = 0; read_elsewhere = 1; passable = 0 };
+  is_least = true;
+}
+
+retime_example : json_line (retiming_data (record { circuit = one_latch; kept_free = []; read_latches = 2; frames = record { before = 2; after = 1; moved = 1 } ∷ []; certificates = [] }) one_left (Some (record { reading = 120; cleaning = 7; frames = record { looking = 40; moving = 5 } ∷ []; writing = 60 })))
+    ≡ codes "{\"after\":{\"bad\":0,\"constraints\":0,\"fairness\":0,\"free\":0,\"gates\":1,\"inputs\":2,\"justice\":0,\"known\":1,\"latches\":1,\"levels\":1,\"outputs\":1},\"before\":{\"latches\":2},\"command\":\"retime\",\"frames\":[{\"after\":1,\"before\":2,\"gates\":1}],\"free_kept\":[],\"held_back\":{\"free\":0,\"held\":0,\"least\":true,\"passable\":0,\"read_elsewhere\":1},\"microseconds\":{\"cleaning\":7,\"frames\":[{\"looking\":40,\"moving\":5}],\"reading\":120,\"writing\":60},\"status\":0}\n"
 unfolding serde_json_on_literals digits
 retime_example = refl
 

@@ -3,7 +3,9 @@ use Rattle.std.proofs.Common.{ℕ, ◌≡◌, ◌≤◌, suc, false, List, [], �
 use Rattle.std.specs.Prelude.{codes}
 use Rattle.std.proofs.Math.Nat.{max-le}
 use Rattle.std.proofs.lemmas.Bool.{or_from}
-use Rattle.aig_graph.specs.Circuits.{Netlist}
+use Rattle.circuit_counts.specs.declared.remaining.Remaining.{Remaining}
+use Rattle.circuit_counts.specs.declared.statistics.Counts.{Counts}
+use Rattle.circuit_counts.specs.declared.statistics.Statistics.{Statistics}
 use Rattle.certificates.specs.declared.certificate.Certificate.{Certificate}
 use Rattle.certificate_audits.specs.declared.outcome.Audit.{Audit}
 use Rattle.counted_io.specs.Output.{Output}
@@ -77,11 +79,11 @@ is_plain few p = record { whole = p.whole; nests = omega (arith, few, p.nests) }
 plain-fault : (fault : Fault) → Plain 1 (fault_data fault)
 plain-fault fault = plain-object (plain-member (plain-string _) (plain-member (plain-or_null count plain-count (fault_offset fault)) plain-none))
 
-plain-circuit : {n : ℕ} (c : Netlist) → Plain (suc n) (circuit_data c)
+plain-circuit : {n : ℕ} (c : Counts) → Plain (suc n) (circuit_data c)
 plain-circuit c = record { whole = refl; nests = omega arith }
 
-pub statistics : (c : Netlist) (passable : ℕ) → IsPlain (statistics_data c passable)
-statistics c passable = record { whole = refl; nests = omega arith }
+pub statistics : (s : Statistics) → IsPlain (statistics_data s)
+statistics s = record { whole = refl; nests = omega arith }
 
 pub difference : (found : Option Place) → IsPlain (difference_data found)
 difference None = record { whole = refl; nests = omega arith }
@@ -98,10 +100,10 @@ plain-times t =
     plain-object (plain-member (plain-count t.cleaning) (plain-member (plain-array {n = 1} frame_times_data t.frames (λ f. record { whole = refl; nests = omega arith }))
     (plain-member (plain-count t.reading) (plain-member (plain-count t.writing) plain-none))))
 
-pub retiming : (r : Retimed) (times : Option Times) → IsPlain (retiming_data r times)
-retiming r times =
-    is_plain {n = 4} (omega arith) (plain-object (plain-member (plain-circuit r.circuit) (plain-member record { whole = refl; nests = omega arith }
-    (plain-member (plain-string _) (plain-member (plain-array frame_data r.frames plain-frame) (plain-member (plain-array count r.kept_free plain-count) (plain-member (plain-or_null times_data plain-times times) (plain-member (plain-count 0) plain-none))))))))
+pub retiming : (r : Retimed) (left : Remaining) (times : Option Times) → IsPlain (retiming_data r left times)
+retiming r left times =
+    is_plain {n = 4} (omega arith) (plain-object (plain-member (plain-circuit left.counts) (plain-member record { whole = refl; nests = omega arith }
+    (plain-member (plain-string _) (plain-member (plain-array frame_data r.frames plain-frame) (plain-member (plain-array count r.kept_free plain-count) (plain-member record { whole = refl; nests = omega arith } (plain-member (plain-or_null times_data plain-times times) (plain-member (plain-count 0) plain-none)))))))))
 
 pub audit : (blocks : List Certificate) (a : Audit) (status : ℕ) → IsPlain (audit_data blocks a status)
 audit blocks a status =

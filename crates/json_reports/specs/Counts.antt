@@ -1,27 +1,29 @@
 -- What a circuit has, as an object.
-use Rattle.std.specs.Prelude.{ℕ, length, codes}
-use Rattle.aig_graph.specs.Graph.{free_latches}
-use Rattle.aig_graph.specs.Circuits.{Netlist}
+use Rattle.std.specs.Prelude.{codes}
+use Rattle.circuit_counts.specs.declared.statistics.Counts.{Counts}
+use Rattle.circuit_counts.specs.declared.statistics.Statistics.{Statistics}
 use Rattle.serde_json.specs.Data.{Data, string, object, member, no_members}
 use Rattle.json_reports.specs.Members.{count}
 
--- how many there are of each kind
-abbrev pub circuit_data : Netlist → Data
+-- how many there are of each kind, and the levels
+abbrev pub circuit_data : Counts → Data
 circuit_data c =
-    object (member (codes "bad") (count (length c.props.bad))
-    (member (codes "constraints") (count (length c.props.constraints))
-    (member (codes "fairness") (count (length c.props.fairness))
-    (member (codes "free") (count (free_latches c.aig))
-    (member (codes "gates") (count (length c.aig.gates))
-    (member (codes "inputs") (count c.aig.inputs)
-    (member (codes "justice") (count (length c.props.justice))
-    (member (codes "latches") (count (length c.aig.latches))
-    (member (codes "outputs") (count (length c.props.outputs)) no_members)))))))))
+    object (member (codes "bad") (count c.bad)
+    (member (codes "constraints") (count c.constraints)
+    (member (codes "fairness") (count c.fairness)
+    (member (codes "free") (count c.free)
+    (member (codes "gates") (count c.gates)
+    (member (codes "inputs") (count c.inputs)
+    (member (codes "justice") (count c.justice)
+    (member (codes "known") (count c.known)
+    (member (codes "latches") (count c.latches)
+    (member (codes "levels") (count c.levels)
+    (member (codes "outputs") (count c.outputs) no_members)))))))))))
 
--- what is printed of a circuit with so many passable gates
-abbrev pub statistics_data : Netlist → ℕ → Data
-statistics_data c passable =
-    object (member (codes "circuit") (circuit_data c)
+-- what `stat` prints
+abbrev pub statistics_data : Statistics → Data
+statistics_data s =
+    object (member (codes "circuit") (circuit_data s.counts)
     (member (codes "command") (string (codes "stat"))
-    (member (codes "passable") (count passable)
+    (member (codes "passable") (count s.passable)
     (member (codes "status") (count 0) no_members))))

@@ -1,8 +1,10 @@
 -- A retimed circuit and its frames, as an object.
-use Rattle.std.specs.Prelude.{ℕ, Option, codes}
+use Rattle.std.specs.Prelude.{ℕ, Bool, Option, codes}
+use Rattle.circuit_counts.specs.declared.held_back.HeldBack.{HeldBack}
+use Rattle.circuit_counts.specs.declared.remaining.Remaining.{Remaining}
 use Rattle.retimed_circuits.specs.declared.report.FrameReport.{FrameReport}
 use Rattle.retimed_circuits.specs.declared.report.Retimed.{Retimed}
-use Rattle.serde_json.specs.Data.{Data, string, object, member, no_members}
+use Rattle.serde_json.specs.Data.{Data, boolean, string, object, member, no_members}
 use Rattle.json_reports.specs.Counts.{circuit_data}
 use Rattle.json_reports.specs.Members.{count, array_of, or_null}
 use Rattle.json_reports.specs.Timings.{times_data}
@@ -16,12 +18,22 @@ frame_data f = object (member (codes "after") (count f.after) (member (codes "be
 abbrev pub before_data : ℕ → Data
 before_data latches = object (member (codes "latches") (count latches) no_members)
 
-abbrev pub retiming_data : Retimed → Option Times → Data
-retiming_data r times =
-    object (member (codes "after") (circuit_data r.circuit)
+-- how many latches stay and for what, how many gates are passable, and whether no set of gates leaves fewer latches
+abbrev pub held_back_data : HeldBack → Bool → Data
+held_back_data h is_least =
+    object (member (codes "free") (count h.free)
+    (member (codes "held") (count h.held)
+    (member (codes "least") (boolean is_least)
+    (member (codes "passable") (count h.passable)
+    (member (codes "read_elsewhere") (count h.read_elsewhere) no_members)))))
+
+abbrev pub retiming_data : Retimed → Remaining → Option Times → Data
+retiming_data r left times =
+    object (member (codes "after") (circuit_data left.counts)
     (member (codes "before") (before_data r.read_latches)
     (member (codes "command") (string (codes "retime"))
     (member (codes "frames") (array_of frame_data r.frames)
     (member (codes "free_kept") (array_of count r.kept_free)
+    (member (codes "held_back") (held_back_data left.held_back left.is_least)
     (member (codes "microseconds") (or_null times_data times)
-    (member (codes "status") (count 0) no_members)))))))
+    (member (codes "status") (count 0) no_members))))))))

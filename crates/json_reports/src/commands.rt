@@ -16,9 +16,9 @@ use crate::printing::{PrintError, print_object};
 use crate::refusal::{Refusal, refusal_object};
 use crate::retiming::retiming_object;
 use crate::times::Times;
-use aig_graph::Circuit;
 use certificate_audits::Audit;
 use certificates::Certificate;
+use circuit_counts::{Remaining, Statistics};
 use counted_io::CountedWrite;
 use lane_sim::Place;
 use reports::JobReport;
@@ -33,13 +33,15 @@ use std::alloc::Global;
 pub fn print_retiming<W: CountedWrite>(
     alloc: Global,
     retimed: &Retimed,
+    remaining: &Remaining,
     times: Option<&Times>,
     writer: &mut W,
 ) -> Result<(), PrintError>
-    ensures { PrintsLine (retiming_data retimed.now (option_map (λ t. t.now) times.entry))
+    ensures { PrintsLine
+        (retiming_data retimed.now remaining.now (option_map (λ t. t.now) times.entry))
         (W.output writer.old) (W.output writer.new) result }
 {
-    let object = retiming_object(alloc, retimed, times)?;
+    let object = retiming_object(alloc, retimed, remaining, times)?;
     print_object(alloc, &object, writer)
 }
 
@@ -50,14 +52,13 @@ pub fn print_retiming<W: CountedWrite>(
 /// Those of [`print_object`].
 pub fn print_statistics<W: CountedWrite>(
     alloc: Global,
-    circuit: &Circuit,
-    passable: u32,
+    statistics: &Statistics,
     writer: &mut W,
 ) -> Result<(), PrintError>
-    ensures { PrintsLine (statistics_data circuit.now passable)
+    ensures { PrintsLine (statistics_data statistics.now)
         (W.output writer.old) (W.output writer.new) result }
 {
-    let object = statistics_object(alloc, circuit, passable)?;
+    let object = statistics_object(alloc, statistics)?;
     print_object(alloc, &object, writer)
 }
 

@@ -4,49 +4,45 @@ ghost use Rattle.serde_json.specs.View.{view};
 ghost use Rattle.json_reports.specs.Counts.{circuit_data, statistics_data};
 
 use crate::members::counts_object;
-use aig_graph::Circuit;
+use circuit_counts::{Counts, Statistics};
 use serde_json::{Value, json};
 use std::alloc::{AllocError, Global};
 
-/// How many there are of each kind in a circuit: inputs, latches, free latches, gates, and properties of each kind (justice
-/// properties, not their literals).
+/// How many there are of each kind in a circuit, and its levels.
 ///
 /// # Errors
 ///
 /// Memory is refused.
-pub fn circuit_object(alloc: Global, circuit: &Circuit) -> Result<Value, AllocError>
-    ensures { IfOk result (λ v. view v ≡ circuit_data circuit.now) }
+pub fn circuit_object(alloc: Global, counts: &Counts) -> Result<Value, AllocError>
+    ensures { IfOk result (λ v. view v ≡ circuit_data counts.now) }
 {
-    let aig = circuit.aig();
-    let props = circuit.props();
     counts_object(
         alloc,
         &[
-            ("bad", props.bad.len() as u64),
-            ("constraints", props.constraints.len() as u64),
-            ("fairness", props.fairness.len() as u64),
-            ("free", u64::from(aig.free_latches())),
-            ("gates", aig.gates().len() as u64),
-            ("inputs", u64::from(aig.inputs())),
-            ("justice", props.justice.len() as u64),
-            ("latches", aig.latches().len() as u64),
-            ("outputs", props.outputs.len() as u64),
+            ("bad", counts.bad),
+            ("constraints", counts.constraints),
+            ("fairness", counts.fairness),
+            ("free", counts.free),
+            ("gates", counts.gates),
+            ("inputs", counts.inputs),
+            ("justice", counts.justice),
+            ("known", counts.known),
+            ("latches", counts.latches),
+            ("levels", counts.levels),
+            ("outputs", counts.outputs),
         ],
     )
 }
 
-/// What `stat` prints of a circuit with so many passable gates.
+/// What `stat` tells of a circuit.
 ///
 /// # Errors
 ///
 /// Memory is refused.
-pub fn statistics_object(
-    alloc: Global,
-    circuit: &Circuit,
-    passable: u32,
-) -> Result<Value, AllocError>
-    ensures { IfOk result (λ v. view v ≡ statistics_data circuit.now passable) }
+pub fn statistics_object(alloc: Global, statistics: &Statistics) -> Result<Value, AllocError>
+    ensures { IfOk result (λ v. view v ≡ statistics_data statistics.now) }
 {
-    let counts = circuit_object(alloc, circuit)?;
+    let counts = circuit_object(alloc, &statistics.counts)?;
+    let passable = statistics.passable;
     json!(in alloc; {"circuit": counts, "command": "stat", "passable": passable, "status": 0u32})
 }

@@ -3,11 +3,12 @@ ghost use Rattle.std.specs.Prelude.{◌≡◌, IfOk, OnOk, option_map};
 ghost use Rattle.serde_json.specs.Data.{no_members, object};
 ghost use Rattle.serde_json.specs.View.{members_view, view};
 ghost use Rattle.json_reports.specs.Members.{array_of, count};
-ghost use Rattle.json_reports.specs.Retimings.{before_data, frame_data, retiming_data};
+ghost use Rattle.json_reports.specs.Retimings.{before_data, frame_data, held_back_data, retiming_data};
 
 use crate::counts::circuit_object;
 use crate::members::{put_count, put_text};
 use crate::times::{Times, times_value};
+use circuit_counts::{HeldBack, Remaining};
 use retimed_circuits::{FrameReport, Retimed};
 use serde_json::{Map, Value, json};
 use std::alloc::{AllocError, Global};
@@ -45,16 +46,37 @@ fn before_object(alloc: Global, latches: u32) -> Result<Value, AllocError>
     json!(in alloc; {"latches": latches})
 }
 
+fn held_back_object(
+    alloc: Global,
+    held_back: &HeldBack,
+    is_least: bool,
+) -> Result<Value, AllocError>
+    ensures { IfOk result (λ v. view v ≡ held_back_data held_back.now is_least) }
+{
+    let free = held_back.free;
+    let held = held_back.held;
+    let passable = held_back.passable;
+    let read_elsewhere = held_back.read_elsewhere;
+    json!(in alloc; {
+        "free": free,
+        "held": held,
+        "least": is_least,
+        "passable": passable,
+        "read_elsewhere": read_elsewhere
+    })
+}
+
 /// Puts the members of a retiming into an object that has none.
 fn put_retiming(
     members: &mut Map<String, Value>,
     alloc: Global,
     retimed: &Retimed,
+    remaining: &Remaining,
     times: Option<&Times>,
 ) -> Result<(), AllocError>
     ensures { OnOk result (members_view members.old.entries ≡ no_members
         → object (members_view members.new.entries)
-        ≡ retiming_data retimed.now (option_map (λ t. t.now) times.entry)) }
+        ≡ retiming_data retimed.now remaining.now (option_map (λ t. t.now) times.entry)) }
 {
     let frames = retimed.frames.as_slice();
     let free_kept = retimed.kept_free.as_slice();
@@ -62,7 +84,7 @@ fn put_retiming(
         members,
         alloc,
         "after",
-        circuit_object(alloc, &retimed.circuit)?,
+        circuit_object(alloc, &remaining.counts)?,
     )?;
     serde_json::put(
         members,
@@ -78,13 +100,19 @@ fn put_retiming(
         "free_kept",
         numbers_array(alloc, free_kept)?,
     )?;
+    serde_json::put(
+        members,
+        alloc,
+        "held_back",
+        held_back_object(alloc, &remaining.held_back, remaining.is_least)?,
+    )?;
     serde_json::put(members, alloc, "microseconds", times_value(alloc, times)?)?;
     put_count(members, alloc, "status", 0)?;
     Ok(())
 }
 
-/// What `retime` prints: each frame, what the written circuit has, the places of the free latches that stayed among those of the
-/// circuit that was read, and how long the parts of the run took, where that was measured.
+/// What `retime` prints: each frame, what the written circuit has and why no more latches go, the places of the free latches that
+/// stayed among those of the circuit that was read, and how long the parts of the run took, where that was measured.
 ///
 /// # Errors
 ///
@@ -92,12 +120,13 @@ fn put_retiming(
 pub fn retiming_object(
     alloc: Global,
     retimed: &Retimed,
+    remaining: &Remaining,
     times: Option<&Times>,
 ) -> Result<Value, AllocError>
     ensures { IfOk result (λ v. view v
-        ≡ retiming_data retimed.now (option_map (λ t. t.now) times.entry)) }
+        ≡ retiming_data retimed.now remaining.now (option_map (λ t. t.now) times.entry)) }
 {
     let mut members = Map::new(alloc);
-    put_retiming(&mut members, alloc, retimed, times)?;
+    put_retiming(&mut members, alloc, retimed, remaining, times)?;
     Ok(Value::Object(members))
 }

@@ -6,5 +6,5 @@ mod lines;
 mod progress;
 mod stopwatch;
 
-pub use lines::State;
+pub use lines::{Frame, State};
 pub use progress::Progress;

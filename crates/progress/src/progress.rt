@@ -1,5 +1,5 @@
 //! When a run is shown.
-use crate::lines::{State, clear_line, write_in_place, write_line};
+use crate::lines::{Frame, State, clear_line, write_in_place, write_line};
 use crate::stopwatch::Stopwatch;
 use aig_graph::Aig;
 use command_line::{Retiming, Shown};
@@ -30,6 +30,15 @@ fn show_for(shown: Shown, is_terminal: bool) -> Show {
     }
 }
 
+/// The frame after so many, whose set is looked for in the graph.
+fn frame_of(taken: usize, aig: &Aig) -> Frame {
+    Frame {
+        number: (taken as u64).saturating_add(1),
+        latches: aig.known_latches(),
+        gates: aig.gates().len() as u64,
+    }
+}
+
 /// Shows a run on a writer, mostly standard error. A write that fails changes nothing of the run.
 ///
 /// The seconds are whole ones since this was made; they are left out where the clock can't be read.
@@ -39,7 +48,7 @@ pub struct Progress<'a, R, E> {
     clock: &'a R,
     began: Option<Instant>,
     err: &'a mut E,
-    state: Option<State>,
+    frame: Option<Frame>,
     on_line: bool,
     watch: Option<Stopwatch>,
 }
@@ -64,7 +73,7 @@ impl<'a, R: Clock, E: CountedWrite> Progress<'a, R, E> {
             clock,
             began: Instant::now(clock).ok(),
             err,
-            state: None,
+            frame: None,
             on_line: false,
             watch,
         }
@@ -77,10 +86,24 @@ impl<'a, R: Clock, E: CountedWrite> Progress<'a, R, E> {
         Some(elapsed.as_secs())
     }
 
+    /// What the run does in this stage; it moves over the set of the frame that was looked for last.
+    fn state_in(&mut self, stage: Stage<'_>) -> Option<State> {
+        match stage {
+            Stage::Cleaning => Some(State::Cleaning),
+            Stage::Looking { taken, aig } => {
+                let frame = frame_of(taken, aig);
+                self.frame = Some(frame);
+                Some(State::Looking(frame))
+            }
+            Stage::Moving => Some(State::Moving(self.frame?)),
+            Stage::Writing => Some(State::Writing),
+        }
+    }
+
     /// Writes the line over, where the run has taken a second.
-    fn write_over(&mut self) {
+    fn write_over(&mut self, stage: Stage<'_>) {
         let seconds = self.seconds();
-        if let Some(state) = self.state {
+        if let Some(state) = self.state_in(stage) {
             if seconds.unwrap_or(0) > 0 {
                 let _ = write_in_place(state, seconds, self.err);
                 self.on_line = true;
@@ -88,21 +111,10 @@ impl<'a, R: Clock, E: CountedWrite> Progress<'a, R, E> {
         }
     }
 
-    /// A set is looked for in the graph.
-    fn look(&mut self, taken: usize, aig: &Aig) {
-        self.state = Some(State {
-            frame: (taken as u64).saturating_add(1),
-            latches: aig.known_latches(),
-            gates: aig.gates().len() as u64,
-        });
-    }
-
-    /// Writes the line of the frame that is looked for.
-    fn write_frame(&mut self) {
+    /// Writes the line of a frame that is looked for.
+    fn write_frame(&mut self, frame: Frame) {
         let seconds = self.seconds();
-        if let Some(state) = self.state {
-            let _ = write_line(state, seconds, self.err);
-        }
+        let _ = write_line(frame, seconds, self.err);
     }
 
     /// Clears the line in its place, where there is one.
@@ -128,16 +140,10 @@ impl<'a, R: Clock, E: CountedWrite> Progress<'a, R, E> {
             Show::Nothing => {}
             Show::EachFrame => {
                 if let Stage::Looking { taken, aig } = stage {
-                    self.look(taken, aig);
-                    self.write_frame();
+                    self.write_frame(frame_of(taken, aig));
                 }
             }
-            Show::InPlace => {
-                if let Stage::Looking { taken, aig } = stage {
-                    self.look(taken, aig);
-                }
-                self.write_over();
-            }
+            Show::InPlace => self.write_over(stage),
         }
     }
 }

@@ -1,23 +1,22 @@
 -- The text of what a circuit has.
-use Rattle.std.specs.Prelude.{ℕ, List, [], ◌∷◌, ◌++◌, length, decimal, codes}
-use Rattle.aig_graph.specs.Graph.{free_latches}
-use Rattle.aig_graph.specs.Circuits.{Netlist}
-use Rattle.aig_graph.specs.declared.properties.Props.{Props}
+use Rattle.std.specs.Prelude.{ℕ, List, [], ◌∷◌, ◌++◌, decimal, codes}
+use Rattle.circuit_counts.specs.declared.statistics.Counts.{Counts}
+use Rattle.circuit_counts.specs.declared.statistics.Statistics.{Statistics}
 
 -- a word, a space, a number
 unfoldable pub count_line : List ℕ → ℕ → List ℕ
 count_line word count = word ++ (32 ∷ (decimal count ++ 10 ∷ []))
 
-unfoldable pub graph_counts : Netlist → List ℕ
+unfoldable pub graph_counts : Counts → List ℕ
 graph_counts c =
-    count_line (codes "inputs") c.aig.inputs ++ (count_line (codes "latches") (length c.aig.latches)
-    ++ (count_line (codes "free") (free_latches c.aig) ++ count_line (codes "gates") (length c.aig.gates)))
+    count_line (codes "inputs") c.inputs ++ (count_line (codes "latches") c.latches
+    ++ (count_line (codes "free") c.free ++ count_line (codes "gates") c.gates))
 
-unfoldable pub property_counts : Props → List ℕ
-property_counts p =
-    count_line (codes "outputs") (length p.outputs) ++ (count_line (codes "bad") (length p.bad) ++ (count_line (codes "constraints") (length p.constraints)
-    ++ (count_line (codes "justice") (length p.justice) ++ count_line (codes "fairness") (length p.fairness))))
+unfoldable pub property_counts : Counts → List ℕ
+property_counts c =
+    count_line (codes "outputs") c.outputs ++ (count_line (codes "bad") c.bad ++ (count_line (codes "constraints") c.constraints
+    ++ (count_line (codes "justice") c.justice ++ count_line (codes "fairness") c.fairness)))
 
--- what is printed of a circuit with so many passable gates
-unfoldable pub counts_text : Netlist → ℕ → List ℕ
-counts_text c passable = graph_counts c ++ (property_counts c.props ++ count_line (codes "passable") passable)
+-- the lines of `stat`
+unfoldable pub counts_text : Statistics → List ℕ
+counts_text s = graph_counts s.counts ++ (property_counts s.counts ++ count_line (codes "passable") s.passable)

@@ -4,3 +4,4 @@ pub mod Counts
 pub mod Retimings
 pub mod Batches
 pub mod Audits
+pub mod Remaining

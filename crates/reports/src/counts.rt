@@ -1,9 +1,9 @@
 ghost use Rattle.std.specs.Prelude.{◌≡◌};
 ghost use Rattle.counted_io.specs.Buffered.{Puts};
 ghost use Rattle.counted_io.specs.Output.{Writes};
-ghost use Rattle.reports.specs.Counts.{count_line, counts_text, graph_counts, property_counts};
+ghost use Rattle.reports.specs.Counts.{count_line, graph_counts, property_counts, counts_text};
 
-use aig_graph::{Circuit, Props};
+use circuit_counts::{Counts, Statistics};
 use counted_io::{Buffered, CountedWrite, WriteError};
 
 /// Puts a word, a space, a number and the newline.
@@ -16,49 +16,47 @@ fn put_count<W: CountedWrite>(out: &mut Buffered<'_, W>, word: &[u8], count: u64
     out.put_byte(b'\n');
 }
 
-fn put_graph_counts<W: CountedWrite>(out: &mut Buffered<'_, W>, circuit: &Circuit)
-    ensures { Puts W.output out.old out.new (graph_counts circuit.now) }
+fn put_graph_counts<W: CountedWrite>(out: &mut Buffered<'_, W>, counts: &Counts)
+    ensures { Puts W.output out.old out.new (graph_counts counts.now) }
 {
-    let aig = circuit.aig();
-    put_count(out, b"inputs", u64::from(aig.inputs()));
-    put_count(out, b"latches", aig.latches().len() as u64);
-    put_count(out, b"free", u64::from(aig.free_latches()));
-    put_count(out, b"gates", aig.gates().len() as u64);
+    put_count(out, b"inputs", counts.inputs);
+    put_count(out, b"latches", counts.latches);
+    put_count(out, b"free", counts.free);
+    put_count(out, b"gates", counts.gates);
 }
 
-fn put_property_counts<W: CountedWrite>(out: &mut Buffered<'_, W>, props: &Props)
-    ensures { Puts W.output out.old out.new (property_counts props.now) }
+fn put_property_counts<W: CountedWrite>(out: &mut Buffered<'_, W>, counts: &Counts)
+    ensures { Puts W.output out.old out.new (property_counts counts.now) }
 {
-    put_count(out, b"outputs", props.outputs.len() as u64);
-    put_count(out, b"bad", props.bad.len() as u64);
-    put_count(out, b"constraints", props.constraints.len() as u64);
-    put_count(out, b"justice", props.justice.len() as u64);
-    put_count(out, b"fairness", props.fairness.len() as u64);
+    put_count(out, b"outputs", counts.outputs);
+    put_count(out, b"bad", counts.bad);
+    put_count(out, b"constraints", counts.constraints);
+    put_count(out, b"justice", counts.justice);
+    put_count(out, b"fairness", counts.fairness);
 }
 
-fn put_counts<W: CountedWrite>(out: &mut Buffered<'_, W>, circuit: &Circuit, passable: u32)
-    ensures { Puts W.output out.old out.new (counts_text circuit.now passable) }
+fn put_counts<W: CountedWrite>(out: &mut Buffered<'_, W>, statistics: &Statistics)
+    ensures { Puts W.output out.old out.new (counts_text statistics.now) }
 {
-    put_graph_counts(out, circuit);
-    put_property_counts(out, circuit.props());
-    put_count(out, b"passable", u64::from(passable));
+    put_graph_counts(out, &statistics.counts);
+    put_property_counts(out, &statistics.counts);
+    put_count(out, b"passable", statistics.passable);
 }
 
-/// Prints how many there are of each kind: inputs, latches, free latches, gates, properties of each kind (justice
-/// properties, not their literals), and passable gates.
+/// Prints the lines of `stat`: inputs, latches, free latches, gates, properties of each kind, and passable gates. The other counts
+/// stand in the object of JSON alone.
 ///
 /// # Errors
 ///
 /// `Device` where a write failed: a beginning of the text was written then, and the writer isn't called again.
 pub fn print_counts<W: CountedWrite>(
-    circuit: &Circuit,
-    passable: u32,
+    statistics: &Statistics,
     writer: &mut W,
 ) -> Result<(), WriteError>
     ensures { Writes (W.output writer.old) (W.output writer.new) result
-        (counts_text circuit.now passable) }
+        (counts_text statistics.now) }
 {
     let mut out = Buffered::new(writer);
-    put_counts(&mut out, circuit, passable);
+    put_counts(&mut out, statistics);
     out.flush()
 }

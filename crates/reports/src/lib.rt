@@ -7,6 +7,7 @@ mod audit;
 mod batch;
 mod counts;
 mod difference;
+mod remaining;
 mod retiming;
 mod trace;
 
@@ -14,5 +15,6 @@ pub use audit::print_audit;
 pub use batch::{JobReport, print_job};
 pub use counts::print_counts;
 pub use difference::{print_difference, print_shapes_differ};
+pub use remaining::print_remaining;
 pub use retiming::print_retiming;
 pub use trace::print_trace;

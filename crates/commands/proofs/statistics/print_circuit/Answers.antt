@@ -3,4 +3,4 @@ use Rattle.commands.proofs.statistics.print_circuit.Goals as goal
 
 pub returns-then-json-clause-statistics : goal.returns-then-json-clause-statistics
 returns-then-json-clause-statistics g c =
-    object_of_counts c.args.json c.args.circuit.now c.in-Ok.passable _ _ c.print_statistics.result c.if-json.true c.in-Ok.ensures c.print_statistics.ensures
+    object_of_counts c.args.json c.args.circuit.now c.in-Ok.statistics _ _ c.print_statistics.result c.if-json.true c.in-Ok.ensures c.print_statistics.ensures

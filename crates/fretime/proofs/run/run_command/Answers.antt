@@ -1,5 +1,5 @@
-use Rattle.fretime.proofs.RunLaws.{by_report}
+use Rattle.fretime.proofs.RunLaws.{by_failure}
 use Rattle.fretime.proofs.run.run_command.Goals as goal
 
-pub returns-in-Ok : goal.returns-in-Ok
-returns-in-Ok g c = by_report c.reported.result c.run_task-ended.result _ _ _ c.reported.ensures.outcome c.run_task-ended.ensures.prints c.reported.ensures.prints
+pub returns-in-Err : goal.returns-in-Err
+returns-in-Err g c = by_failure c.report_failure.result c.in-Err.failure _ c.report_failure.ensures

@@ -5,5 +5,4 @@ use Rattle.reports.proofs.counts.put_property_counts.Goals as goal
 pub returns : goal.returns
 unfolding property_counts
 returns g c =
-    rw (c.len.ensures, c.len-2.ensures, c.len-3.ensures, c.len-4.ensures, c.len-5.ensures) at
-    (puts-then c.put_count.ensures (puts-then c.put_count-2.ensures (puts-then c.put_count-3.ensures (puts-then c.put_count-4.ensures c.put_count-5.ensures))))
+    puts-then c.put_count.ensures (puts-then c.put_count-2.ensures (puts-then c.put_count-3.ensures (puts-then c.put_count-4.ensures c.put_count-5.ensures)))

@@ -1,0 +1,4 @@
+pub mod LevelLaws
+pub mod HeldBackLaws
+pub mod RemainingLaws
+pub mod CountLaws

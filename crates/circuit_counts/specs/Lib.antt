@@ -1,0 +1,4 @@
+pub mod Levels
+pub mod HeldBack
+pub mod Counts
+pub mod Remaining
