@@ -36,6 +36,7 @@ complete -c fretime -n '__fish_seen_subcommand_from retime' -l binary -d 'Write 
 complete -c fretime -n '__fish_seen_subcommand_from retime' -x -l workers -d 'Threads that work on the flow'
 complete -c fretime -n '__fish_seen_subcommand_from retime' -x -l frames -d 'The most frames to take'
 complete -c fretime -n '__fish_seen_subcommand_from retime' -l near -d 'Move latches as few gates as a least count allows'
+complete -c fretime -n '__fish_seen_subcommand_from retime' -l merge -d 'Merge latches that always agree, before the first frame'
 complete -c fretime -n '__fish_seen_subcommand_from retime' -x -l keep -d 'Hold each latch with this name; may be given more than once'
 complete -c fretime -n '__fish_seen_subcommand_from retime' -r -l keep-from -d 'Hold the latches that the lines of FILE name'
 complete -c fretime -n '__fish_seen_subcommand_from retime' -r -l cert -d 'Write a certificate of each frame to FILE, for \'verify\''
@@ -48,8 +49,10 @@ complete -c fretime -n '__fish_seen_subcommand_from batch' -l binary -d 'Write b
 complete -c fretime -n '__fish_seen_subcommand_from batch' -x -l workers -d 'Threads, each with a circuit at a time'
 complete -c fretime -n '__fish_seen_subcommand_from batch' -x -l frames -d 'The most frames to take'
 complete -c fretime -n '__fish_seen_subcommand_from batch' -l near -d 'Move latches as few gates as a least count allows'
+complete -c fretime -n '__fish_seen_subcommand_from batch' -l merge -d 'Merge latches that always agree, before the first frame'
 complete -c fretime -n '__fish_seen_subcommand_from batch' -l json -d 'Print an object of JSON in place of the lines'
 
+complete -c fretime -n '__fish_seen_subcommand_from stat' -l merge -d 'Count the latches that always agree, too'
 complete -c fretime -n '__fish_seen_subcommand_from stat' -l json -d 'Print an object of JSON in place of the lines'
 
 complete -c fretime -n '__fish_seen_subcommand_from convert' -l ascii -d 'Write ASCII'
@@ -59,13 +62,17 @@ complete -c fretime -n '__fish_seen_subcommand_from same' -l json -d 'Print an o
 
 complete -c fretime -n '__fish_seen_subcommand_from verify' -x -l keep -d 'Hold each latch with this name; may be given more than once'
 complete -c fretime -n '__fish_seen_subcommand_from verify' -r -l keep-from -d 'Hold the latches that the lines of FILE name'
+complete -c fretime -n '__fish_seen_subcommand_from verify' -l merge -d 'IN was retimed with --merge'
 complete -c fretime -n '__fish_seen_subcommand_from verify' -l json -d 'Print an object of JSON in place of the lines'
 
 complete -c fretime -n '__fish_seen_subcommand_from dot' -l frame -d 'Show over which gates latches move next'
+complete -c fretime -n '__fish_seen_subcommand_from dot' -l merge -d 'Merge latches that always agree first'
 complete -c fretime -n '__fish_seen_subcommand_from dot' -x -l keep -d 'Hold each latch with this name; may be given more than once'
 complete -c fretime -n '__fish_seen_subcommand_from dot' -r -l keep-from -d 'Hold the latches that the lines of FILE name'
 complete -c fretime -n '__fish_seen_subcommand_from dot' -x -l around -d 'Draw the neighbourhood of what has this name alone'
 complete -c fretime -n '__fish_seen_subcommand_from dot' -x -l depth -d 'How many edges the neighbourhood reaches, else 2'
+
+complete -c fretime -n '__fish_seen_subcommand_from witness' -l merge -d 'OUT was written with --merge'
 
 complete -c fretime -n '__fish_seen_subcommand_from retime verify dot' -x -l keep -a '(__fretime_names l)' \
     -d 'Hold each latch with this name; may be given more than once'

@@ -1,9 +1,10 @@
 -- What a circuit has, as an object.
-use Rattle.std.specs.Prelude.{codes}
+use Rattle.std.specs.Prelude.{codes, Option}
 use Rattle.circuit_counts.specs.declared.statistics.Counts.{Counts}
 use Rattle.circuit_counts.specs.declared.statistics.Statistics.{Statistics}
 use Rattle.serde_json.specs.Data.{Data, string, object, member, no_members}
-use Rattle.json_reports.specs.Members.{count}
+use Rattle.merged_latches.specs.declared.counts.MergeCounts.{MergeCounts}
+use Rattle.json_reports.specs.Members.{count, or_null}
 
 -- how many there are of each kind, and the levels
 abbrev pub circuit_data : Counts → Data
@@ -20,10 +21,15 @@ circuit_data c =
     (member (codes "levels") (count c.levels)
     (member (codes "outputs") (count c.outputs) no_members)))))))))))
 
+-- how many latches are merged, and how many of these with a constant
+abbrev pub merge_data : MergeCounts → Data
+merge_data counts = object (member (codes "constant") (count counts.constant) (member (codes "latches") (count counts.merged) no_members))
+
 -- what `stat` prints
-abbrev pub statistics_data : Statistics → Data
-statistics_data s =
+abbrev pub statistics_data : Statistics → Option MergeCounts → Data
+statistics_data s merged =
     object (member (codes "circuit") (circuit_data s.counts)
     (member (codes "command") (string (codes "stat"))
+    (member (codes "merged") (or_null merge_data merged)
     (member (codes "passable") (count s.passable)
-    (member (codes "status") (count 0) no_members))))
+    (member (codes "status") (count 0) no_members)))))

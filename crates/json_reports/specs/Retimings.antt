@@ -5,7 +5,7 @@ use Rattle.circuit_counts.specs.declared.remaining.Remaining.{Remaining}
 use Rattle.retimed_circuits.specs.declared.report.FrameReport.{FrameReport}
 use Rattle.retimed_circuits.specs.declared.report.Retimed.{Retimed}
 use Rattle.serde_json.specs.Data.{Data, boolean, string, object, member, no_members}
-use Rattle.json_reports.specs.Counts.{circuit_data}
+use Rattle.json_reports.specs.Counts.{circuit_data, merge_data}
 use Rattle.json_reports.specs.Members.{count, array_of, or_null}
 use Rattle.json_reports.specs.Timings.{times_data}
 use Rattle.json_reports.specs.declared.times.Times.{Times}
@@ -35,5 +35,6 @@ retiming_data r left times =
     (member (codes "frames") (array_of frame_data r.frames)
     (member (codes "free_kept") (array_of count r.kept_free)
     (member (codes "held_back") (held_back_data left.held_back left.is_least)
+    (member (codes "merged") (or_null merge_data r.merged)
     (member (codes "microseconds") (or_null times_data times)
-    (member (codes "status") (count 0) no_members))))))))
+    (member (codes "status") (count 0) no_members)))))))))

@@ -21,6 +21,7 @@ use certificates::Certificate;
 use circuit_counts::{Remaining, Statistics};
 use counted_io::CountedWrite;
 use lane_sim::Place;
+use merged_latches::MergeCounts;
 use reports::JobReport;
 use retimed_circuits::Retimed;
 use std::alloc::Global;
@@ -53,12 +54,13 @@ pub fn print_retiming<W: CountedWrite>(
 pub fn print_statistics<W: CountedWrite>(
     alloc: Global,
     statistics: &Statistics,
+    merged: Option<MergeCounts>,
     writer: &mut W,
 ) -> Result<(), PrintError>
-    ensures { PrintsLine (statistics_data statistics.now)
+    ensures { PrintsLine (statistics_data statistics.now merged)
         (W.output writer.old) (W.output writer.new) result }
 {
-    let object = statistics_object(alloc, statistics)?;
+    let object = statistics_object(alloc, statistics, merged)?;
     print_object(alloc, &object, writer)
 }
 

@@ -1,10 +1,12 @@
 //! What a circuit has.
 ghost use Rattle.std.specs.Prelude.{◌≡◌, IfOk};
 ghost use Rattle.serde_json.specs.View.{view};
-ghost use Rattle.json_reports.specs.Counts.{circuit_data, statistics_data};
+ghost use Rattle.json_reports.specs.Counts.{circuit_data, merge_data, statistics_data};
+ghost use Rattle.json_reports.specs.Members.{or_null};
 
 use crate::members::counts_object;
 use circuit_counts::{Counts, Statistics};
+use merged_latches::MergeCounts;
 use serde_json::{Value, json};
 use std::alloc::{AllocError, Global};
 
@@ -34,15 +36,42 @@ pub fn circuit_object(alloc: Global, counts: &Counts) -> Result<Value, AllocErro
     )
 }
 
-/// What `stat` tells of a circuit.
+fn merge_object(alloc: Global, counts: MergeCounts) -> Result<Value, AllocError>
+    ensures { IfOk result (λ v. view v ≡ merge_data counts) }
+{
+    json!(in alloc; {"constant": counts.constant, "latches": counts.merged})
+}
+
+/// How many latches are merged, and how many of these with a constant, or null where none were to be.
+pub(crate) fn merged_value(alloc: Global, merged: Option<MergeCounts>) -> Result<Value, AllocError>
+    ensures { IfOk result (λ v. view v ≡ or_null merge_data merged) }
+{
+    match merged {
+        Some(counts) => merge_object(alloc, counts),
+        None => Ok(Value::Null),
+    }
+}
+
+/// What `stat` tells of a circuit, and how many of its latches are merged, where that was asked for.
 ///
 /// # Errors
 ///
 /// Memory is refused.
-pub fn statistics_object(alloc: Global, statistics: &Statistics) -> Result<Value, AllocError>
-    ensures { IfOk result (λ v. view v ≡ statistics_data statistics.now) }
+pub fn statistics_object(
+    alloc: Global,
+    statistics: &Statistics,
+    merged: Option<MergeCounts>,
+) -> Result<Value, AllocError>
+    ensures { IfOk result (λ v. view v ≡ statistics_data statistics.now merged) }
 {
+    let merged = merged_value(alloc, merged)?;
     let counts = circuit_object(alloc, &statistics.counts)?;
     let passable = statistics.passable;
-    json!(in alloc; {"circuit": counts, "command": "stat", "passable": passable, "status": 0u32})
+    json!(in alloc; {
+        "circuit": counts,
+        "command": "stat",
+        "merged": merged,
+        "passable": passable,
+        "status": 0u32,
+    })
 }

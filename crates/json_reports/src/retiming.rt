@@ -5,7 +5,7 @@ ghost use Rattle.serde_json.specs.View.{members_view, view};
 ghost use Rattle.json_reports.specs.Members.{array_of, count};
 ghost use Rattle.json_reports.specs.Retimings.{before_data, frame_data, held_back_data, retiming_data};
 
-use crate::counts::circuit_object;
+use crate::counts::{circuit_object, merged_value};
 use crate::members::{put_count, put_text};
 use crate::times::{Times, times_value};
 use circuit_counts::{HeldBack, Remaining};
@@ -106,13 +106,20 @@ fn put_retiming(
         "held_back",
         held_back_object(alloc, &remaining.held_back, remaining.is_least)?,
     )?;
+    serde_json::put(
+        members,
+        alloc,
+        "merged",
+        merged_value(alloc, retimed.merged)?,
+    )?;
     serde_json::put(members, alloc, "microseconds", times_value(alloc, times)?)?;
     put_count(members, alloc, "status", 0)?;
     Ok(())
 }
 
 /// What `retime` prints: each frame, what the written circuit has and why no more latches go, the places of the free latches that
-/// stayed among those of the circuit that was read, and how long the parts of the run took, where that was measured.
+/// stayed among those of the circuit that was read, how many latches were merged where that was asked for, and how long the parts
+/// of the run took, where that was measured.
 ///
 /// # Errors
 ///

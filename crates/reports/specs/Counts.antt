@@ -1,7 +1,8 @@
 -- The text of what a circuit has.
-use Rattle.std.specs.Prelude.{ℕ, List, [], ◌∷◌, ◌++◌, decimal, codes}
+use Rattle.std.specs.Prelude.{ℕ, List, [], ◌∷◌, ◌++◌, decimal, codes, Option, Some, None}
 use Rattle.circuit_counts.specs.declared.statistics.Counts.{Counts}
 use Rattle.circuit_counts.specs.declared.statistics.Statistics.{Statistics}
+use Rattle.merged_latches.specs.declared.counts.MergeCounts.{MergeCounts}
 
 -- a word, a space, a number
 unfoldable pub count_line : List ℕ → ℕ → List ℕ
@@ -17,6 +18,11 @@ property_counts c =
     count_line (codes "outputs") c.outputs ++ (count_line (codes "bad") c.bad ++ (count_line (codes "constraints") c.constraints
     ++ (count_line (codes "justice") c.justice ++ count_line (codes "fairness") c.fairness)))
 
+-- how many latches are merged, and how many of these with a constant, where that was asked for
+unfoldable pub merge_counts : Option MergeCounts → List ℕ
+merge_counts None = []
+merge_counts (Some counts) = count_line (codes "merged") counts.merged ++ count_line (codes "constant") counts.constant
+
 -- the lines of `stat`
-unfoldable pub counts_text : Statistics → List ℕ
-counts_text s = graph_counts s.counts ++ (property_counts s.counts ++ count_line (codes "passable") s.passable)
+unfoldable pub counts_text : Statistics → Option MergeCounts → List ℕ
+counts_text s merged = graph_counts s.counts ++ (property_counts s.counts ++ (count_line (codes "passable") s.passable ++ merge_counts merged))

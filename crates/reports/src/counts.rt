@@ -1,10 +1,12 @@
+//! What a circuit has, in lines: a word and a number each.
 ghost use Rattle.std.specs.Prelude.{◌≡◌};
 ghost use Rattle.counted_io.specs.Buffered.{Puts};
 ghost use Rattle.counted_io.specs.Output.{Writes};
-ghost use Rattle.reports.specs.Counts.{count_line, graph_counts, property_counts, counts_text};
+ghost use Rattle.reports.specs.Counts.{count_line, counts_text, graph_counts, merge_counts, property_counts};
 
 use circuit_counts::{Counts, Statistics};
 use counted_io::{Buffered, CountedWrite, WriteError};
+use merged_latches::MergeCounts;
 
 /// Puts a word, a space, a number and the newline.
 fn put_count<W: CountedWrite>(out: &mut Buffered<'_, W>, word: &[u8], count: u64)
@@ -35,28 +37,46 @@ fn put_property_counts<W: CountedWrite>(out: &mut Buffered<'_, W>, counts: &Coun
     put_count(out, b"fairness", counts.fairness);
 }
 
-fn put_counts<W: CountedWrite>(out: &mut Buffered<'_, W>, statistics: &Statistics)
-    ensures { Puts W.output out.old out.new (counts_text statistics.now) }
+fn put_merge_counts<W: CountedWrite>(out: &mut Buffered<'_, W>, merged: Option<MergeCounts>)
+    ensures { Puts W.output out.old out.new (merge_counts merged) }
+{
+    match merged {
+        Some(counts) => {
+            put_count(out, b"merged", u64::from(counts.merged));
+            put_count(out, b"constant", u64::from(counts.constant));
+        }
+        None => {}
+    }
+}
+
+fn put_counts<W: CountedWrite>(
+    out: &mut Buffered<'_, W>,
+    statistics: &Statistics,
+    merged: Option<MergeCounts>,
+)
+    ensures { Puts W.output out.old out.new (counts_text statistics.now merged) }
 {
     put_graph_counts(out, &statistics.counts);
     put_property_counts(out, &statistics.counts);
     put_count(out, b"passable", statistics.passable);
+    put_merge_counts(out, merged);
 }
 
-/// Prints the lines of `stat`: inputs, latches, free latches, gates, properties of each kind, and passable gates. The other counts
-/// stand in the object of JSON alone.
+/// Prints the lines of `stat`: inputs, latches, free latches, gates, properties of each kind, passable gates, and, where they are
+/// given, latches that are merged, and those of them with a constant. The other counts stand in the object of JSON alone.
 ///
 /// # Errors
 ///
 /// `Device` where a write failed: a beginning of the text was written then, and the writer isn't called again.
 pub fn print_counts<W: CountedWrite>(
     statistics: &Statistics,
+    merged: Option<MergeCounts>,
     writer: &mut W,
 ) -> Result<(), WriteError>
     ensures { Writes (W.output writer.old) (W.output writer.new) result
-        (counts_text statistics.now) }
+        (counts_text statistics.now merged) }
 {
     let mut out = Buffered::new(writer);
-    put_counts(&mut out, statistics);
+    put_counts(&mut out, statistics, merged);
     out.flush()
 }

@@ -5,4 +5,4 @@ use Rattle.reports.proofs.counts.put_counts.Goals as goal
 pub returns : goal.returns
 unfolding counts_text
 returns g c =
-    puts-then c.put_graph_counts.ensures (puts-then c.put_property_counts.ensures c.put_count.ensures)
+    puts-then c.put_graph_counts.ensures (puts-then c.put_property_counts.ensures (puts-then c.put_count.ensures c.put_merge_counts.ensures))

@@ -1,11 +1,11 @@
 use Rattle.std.proofs.lemmas.Result.{IfOk-from_err}
-use Rattle.frames.proofs.retiming.retime_watched.Goals as goal
+use Rattle.frames.proofs.retiming.retime_as_is_over.Goals as goal
 
 pub retimed_from-requires-after_bounds : goal.retimed_from-requires-after_bounds
-retimed_from-requires-after_bounds g c κs within = record { read = c.args.circuit.now; underway = c.in_ok-start.ensures.underway; names = c.in_ok-start.ensures.none_missing }
+retimed_from-requires-after_bounds g c κs within = record { read = c.args.circuit; underway = c.in_ok-start.ensures.underway; names = c.in_ok-start.ensures.none_missing }
 
 pub returns-clause-retimed : goal.returns-clause-retimed
-returns-clause-retimed g c = c.in_ok-retimed.ensures c.args.circuit.now c.in_ok-start.ensures.underway
+returns-clause-retimed g c = c.in_ok-retimed.ensures c.args.circuit c.in_ok-start.ensures.underway
 
 pub returns-clause-none_missing : goal.returns-clause-none_missing
 returns-clause-none_missing g c = c.in_ok-start.ensures.none_missing
