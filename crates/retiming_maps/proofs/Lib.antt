@@ -1,0 +1,5 @@
+pub mod StartLaws
+pub mod StandsLaws
+pub mod StepLaws
+pub mod FollowingLaws
+pub mod FinishingLaws

@@ -1,0 +1,104 @@
+-- A map of states that grows with a retiming.
+use Rattle.std.specs.Prelude.{ℕ, ◌≡◌, true, List, [], length, slice_get, Some}
+use Rattle.aig_graph.specs.Circuits.{AreLiteralsOf, Netlist}
+use Rattle.aig_graph.specs.declared.properties.Symbols.{Symbols}
+use Rattle.aig_graph.specs.Graph.{Graph, IsGraph, free_latches}
+use Rattle.aig_graph.specs.Laws.{composed}
+use Rattle.certificates.specs.declared.certificate.Certificate.{Certificate}
+use Rattle.clean.specs.declared.tracing.TracedPass.{TracedPass}
+use Rattle.cleaned_circuits.specs.Cleaned.{Cleans, IsPass}
+use Rattle.least_sets.specs.declared.choice.Choice.{Choice}
+use Rattle.retimed_circuits.specs.declared.report.FrameReport.{FrameReport}
+use Rattle.retimed_circuits.specs.declared.report.Retimed.{Retimed}
+use Rattle.retimed_circuits.specs.Retiming.{IsRetimed}
+use Rattle.retimed_circuits.specs.Frames.{AfterFrames, CleansIn, moved_in}
+use Rattle.retimed_circuits.specs.Names.{held_latches}
+use Rattle.map_circuits.specs.Constraining.{AreOne}
+use Rattle.map_circuits.specs.Following.{state_of}
+use Rattle.state_maps.specs.States.{IsStateMap}
+use Rattle.retiming_maps.specs.declared.parts.MapParts.{MapParts}
+
+-- Gates over an input for each latch of c. Where the constraints are 1, the functions are the state of d: a map of c's states.
+pub record IsMapBy (c d : Netlist) (kept : List ℕ) (g : Graph) (functions constraints : List ℕ) : Type 0 where
+  pub graph : IsGraph g
+  pub inputs : g.inputs ≡ length c.aig.latches
+  pub latches : g.latches ≡ []
+  pub functions_within : AreLiteralsOf g functions
+  pub constraints_within : AreLiteralsOf g constraints
+  pub many : length functions ≡ length d.aig.latches
+  pub each : length kept ≡ free_latches d.aig
+  pub maps : IsStateMap c d kept (AreOne g constraints) (state_of g functions)
+
+-- the parts are a map of c's states to those of d
+abbrev pub IsMapTo : Netlist → Netlist → List ℕ → MapParts → Type 0
+IsMapTo c d kept m = IsMapBy c d kept m.gates m.functions.items m.constraints.items
+
+-- the parts are a map of some circuit's states to those of d
+abbrev pub IsSomeMapTo : Netlist → MapParts → Type 0
+IsSomeMapTo d m = (c : Netlist) × (kept : List ℕ) × IsMapTo c d kept m
+
+-- what was a map to d before is one to e, which has the free latches of d at these places
+abbrev pub LeadsOn : Netlist → MapParts → Netlist → List ℕ → MapParts → Type 0
+LeadsOn d old e more new = (c : Netlist) (kept : List ℕ) → IsMapTo c d kept old → IsMapTo c e (composed kept more) new
+
+-- what was a map to d before is one to e, which has all free latches of d
+abbrev pub LeadsWhole : Netlist → MapParts → Netlist → MapParts → Type 0
+LeadsWhole d old e new = (c : Netlist) (kept : List ℕ) → IsMapTo c d kept old → IsMapTo c e kept new
+
+-- a pass that the map follows
+pub record IsPassAlong (held : List ℕ) (c : Netlist) (old new : MapParts) (t : TracedPass) : Type 0 where
+  pub pass : IsPass held c t.circuit t.kept_free.items t.held.items
+  pub leads : LeadsOn c old t.circuit t.kept_free.items new
+
+-- one more pass that the map follows; the places of free latches are counted where those of the last pass are
+pub record IsNextAlong (last : TracedPass) (old new : MapParts) (t : TracedPass) : Type 0 where
+  pub second : List ℕ
+  pub pass : IsPass last.held.items last.circuit t.circuit second t.held.items
+  pub places : t.kept_free.items ≡ composed last.kept_free.items second
+  pub leads : LeadsOn last.circuit old t.circuit second new
+
+-- a cleaning that the map follows
+pub record IsCleanedAlong (held : List ℕ) (c : Netlist) (old new : MapParts) (d : Netlist) : Type 0 where
+  pub kept : List ℕ
+  pub cleaned : Cleans d held c kept
+  pub leads : LeadsOn c old d kept new
+
+-- a move over the set and a cleaning that the map follows
+pub record IsFrameAlong (names : List (List ℕ)) (c : Netlist) (set : List ℕ) (old new : MapParts) (d : Netlist) : Type 0 where
+  pub kept : List ℕ
+  pub cleaned : CleansIn names (moved_in names c set) d kept
+  pub held : held_latches names d ≡ held_latches names c
+  pub leads : LeadsOn c old d kept new
+
+-- r is c retimed, with certificates, by some choice and limit of frames
+pub record IsRetimedIn (c : Netlist) (names : List (List ℕ)) (r : Retimed) : Type 0 where
+  pub choice : Choice
+  pub max_frames : ℕ
+  pub is : IsRetimed choice c names max_frames true r
+
+-- the gates of the certificate at this place
+pub record IsGatesAt (blocks : List Certificate) (place : ℕ) (gates : List ℕ) : Type 0 where
+  pub block : Certificate
+  pub there : slice_get blocks place ≡ Some block
+  pub same : gates ≡ block.gates
+
+-- what the first n frames of a retiming of c make, with a map to it
+pub record IsFollowed (names : List (List ℕ)) (c : Netlist) (r : Retimed) (n : ℕ) (d : Netlist) (m : MapParts) : Type 0 where
+  pub retimed : IsRetimedIn c names r
+  pub kept : List ℕ
+  pub reports : List FrameReport
+  pub frames : AfterFrames retimed.choice names c n d kept reports
+  pub held : held_latches names d ≡ held_latches names c
+  pub map : IsMapTo c d kept m
+
+-- the names of a map: those of the latches of both circuits
+abbrev pub map_symbols : Netlist → Netlist → Symbols
+map_symbols c d = record { inputs = c.symbols.latches; latches = []; outputs = d.symbols.latches; bad = []; constraints = []; justice = []; fairness = [] }
+
+-- the parts as a circuit with these names
+abbrev pub map_of : MapParts → Symbols → Netlist
+map_of m symbols = record {
+  aig = m.gates;
+  props = record { outputs = m.functions.items; bad = []; constraints = m.constraints.items; justice = []; fairness = [] };
+  symbols = symbols;
+}

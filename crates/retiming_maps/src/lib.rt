@@ -1,0 +1,13 @@
+//! The map of states of a retiming, as a circuit: what each latch of the written circuit holds, as a function of the latches of the
+//! circuit that was read.
+#![tactic(auto)]
+
+mod frames;
+mod maps;
+mod moves;
+mod parts;
+mod passes;
+mod start;
+
+pub use map_circuits::MapError;
+pub use maps::state_map;

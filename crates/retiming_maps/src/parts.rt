@@ -1,0 +1,12 @@
+use aig_graph::{AigBuilder, Lit};
+
+/// A map of states, as far as it has come.
+#[derive(Drop)]
+pub(crate) struct MapParts {
+    /// Gates over an input for each latch of the circuit that was read.
+    pub gates: AigBuilder,
+    /// What each latch of the circuit that the run has come to holds.
+    pub functions: Vec<Lit>,
+    /// What the functions rest on.
+    pub constraints: Vec<Lit>,
+}

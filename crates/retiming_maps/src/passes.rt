@@ -1,0 +1,130 @@
+//! A map that follows a cleaning, pass after pass: what stands for a latch is a constraint, and latches that stay keep their functions.
+ghost use Rattle.std.specs.Prelude.{◌≡◌, ◌<◌, ◌≤◌, All, IfOk, OnOk, false, length, true};
+ghost use Rattle.aig_graph.specs.Graph.{free_latches, latches_and_gates};
+ghost use Rattle.clean.specs.Tracing.{IsTraced};
+ghost use Rattle.retiming_maps.specs.Mapping.{IsCleanedAlong, IsNextAlong, IsPassAlong, IsSomeMapTo, LeadsOn};
+
+use crate::parts::MapParts;
+use aig_graph::{Circuit, Keep};
+use clean::{TracedPass, composed, traced_pass};
+use map_circuits::{MapError, add_constraints, passed_functions};
+use std::alloc::Global;
+
+/// Follows a pass that was made with these latches held.
+fn follow_pass(
+    alloc: Global,
+    parts: &mut MapParts,
+    circuit: &Circuit,
+    held: &[u32],
+    pass: &TracedPass,
+) -> Result<(), MapError>
+    requires map { IsSomeMapTo circuit.now parts.old }
+    requires traced { IsTraced held.now circuit.now pass.now }
+    ensures { OnOk result (LeadsOn circuit.now parts.old pass.now.circuit
+        pass.now.kept_free.items parts.new) }
+{
+    let _held = held;
+    let functions = parts.functions.as_slice();
+    let first = circuit.aig().first_latch();
+    let stands = pass.stands.as_slice();
+    add_constraints(
+        &mut parts.gates,
+        &mut parts.constraints,
+        functions,
+        first,
+        stands,
+    )?;
+    let stays = pass.stays.as_slice();
+    let new = passed_functions(alloc, functions, stays)?;
+    parts.functions = new;
+    Ok(())
+}
+
+/// A pass of cleaning, with the latches at these positions held.
+fn passed(
+    alloc: Global,
+    parts: &mut MapParts,
+    circuit: &Circuit,
+    held: &[u32],
+) -> Result<TracedPass, MapError>
+    requires map { IsSomeMapTo circuit.now parts.old }
+    requires in_range { All (λ j. j < length circuit.now.aig.latches) held.now }
+    ensures { IfOk result (IsPassAlong held.now circuit.now parts.old parts.new) }
+{
+    let pass = traced_pass(alloc, circuit, held)?;
+    match follow_pass(alloc, parts, circuit, held, &pass) {
+        Ok(()) => Ok(pass),
+        Err(error) => {
+            drop(pass);
+            Err(error)
+        }
+    }
+}
+
+/// The pass after a pass. Where the places of the last pass are counted among the free latches of an earlier circuit, so are
+/// those of this one.
+fn pass_after(
+    alloc: Global,
+    parts: &mut MapParts,
+    last: &TracedPass,
+) -> Result<TracedPass, MapError>
+    requires map { IsSomeMapTo last.now.circuit parts.old }
+    requires in_range { All (λ j. j < length last.now.circuit.aig.latches) last.now.held.items }
+    requires places { length last.now.kept_free.items ≡ free_latches last.now.circuit.aig }
+    ensures { IfOk result (IsNextAlong last.now parts.old parts.new) }
+{
+    // That it is a circuit is what its readers ensure.
+    last.circuit.known();
+    let mut next = passed(alloc, parts, &last.circuit, last.held.as_slice())?;
+    let places = composed(alloc, last.kept_free.as_slice(), next.kept_free.as_slice())?;
+    next.kept_free = places;
+    Ok(next)
+}
+
+/// The pass after a pass that isn't needed any more.
+fn next_pass(alloc: Global, parts: &mut MapParts, last: TracedPass) -> Result<TracedPass, MapError>
+    requires map { IsSomeMapTo last.circuit parts.old }
+    requires in_range { All (λ j. j < length last.circuit.aig.latches) last.held.items }
+    requires places { length last.kept_free.items ≡ free_latches last.circuit.aig }
+    ensures { IfOk result (IsNextAlong last parts.old parts.new) }
+{
+    let next = pass_after(alloc, parts, &last);
+    drop(last);
+    next
+}
+
+/// What the last pass leaves.
+fn circuit_of(last: TracedPass) -> Circuit
+    ensures { result ≡ last.circuit }
+{
+    let TracedPass { circuit, .. } = last;
+    circuit
+}
+
+/// Whether a pass left fewer latches or gates than there were before it. One that leaves as many has changed nothing.
+fn leaves_fewer(last: &TracedPass, before: usize) -> bool
+    ensures fewer { result ≡ true → latches_and_gates last.now.circuit.aig < before }
+    ensures done { result ≡ false → before ≤ latches_and_gates last.now.circuit.aig }
+{
+    last.circuit.aig().latches_and_gates() < before
+}
+
+/// The circuit, cleaned pass after pass until one changes nothing.
+pub(crate) fn cleaned_along(
+    alloc: Global,
+    parts: &mut MapParts,
+    circuit: &Circuit,
+    keep: &Keep,
+) -> Result<Circuit, MapError>
+    requires map { IsSomeMapTo circuit.now parts.old }
+    requires in_range { All (λ j. j < length circuit.now.aig.latches) keep.now }
+    ensures { IfOk result (IsCleanedAlong keep.now circuit.now parts.old parts.new) }
+{
+    let mut before = circuit.aig().latches_and_gates();
+    let mut last = passed(alloc, parts, circuit, keep.positions())?;
+    while leaves_fewer(&last, before) {
+        before = last.circuit.aig().latches_and_gates();
+        last = next_pass(alloc, parts, last)?;
+    }
+    Ok(circuit_of(last))
+}
