@@ -7,10 +7,12 @@ use Rattle.file_words.specs.declared.fault.ReadError.{ReadError}
 use Rattle.file_words.specs.declared.fault.ReadError.TheVariants as faults
 use Rattle.aig_binary.specs.Ending.{IsReadError}
 use Rattle.retimed_circuits.specs.declared.report.Retimed.{Retimed}
+use Rattle.retimed_circuits.proofs.MergedRunLaws.{read-latches}
 use Rattle.frames.specs.declared.options.Options.{Options}
 use Rattle.frames.specs.declared.errors.BytesError.{BytesError}
 use Rattle.frames.specs.declared.errors.BytesError.TheVariants.{Read, Retime, Write}
 use Rattle.frames.specs.declared.errors.RetimeError.TheVariants as retiming
+use Rattle.frames.specs.Named.{names_in}
 use Rattle.frames.specs.Answering.{IsAnswered, IsBytesError, text_for}
 use Rattle.batch_pool.specs.declared.job.Outcome.{Outcome}
 use Rattle.batch_pool.specs.declared.job.Outcome.TheVariants as outcomes
@@ -48,7 +50,7 @@ an_answer bytes text options r old before after known empty full answered =
       answer = answered.written.answer;
       text_is = writes;
       reads_back = answered.reads_back bytes known;
-      before_is = answered.written.answer.retimed.read_latches;
+      before_is = read-latches options.merge options.choice answered.spelt.circuit (names_in options) options.max_frames options.certify r answered.written.answer.retimed;
       after_is = refl;
       frames_is = refl;
     }

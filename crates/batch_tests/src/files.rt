@@ -43,5 +43,6 @@ pub(crate) fn defaults(alloc: Global) -> Options {
         choice: Choice::Greatest,
         certify: false,
         keep: Vec::new(alloc),
+        merge: false,
     }
 }

@@ -2,6 +2,7 @@
 use Rattle.std.proofs.Common.{ℕ, ◌≡◌, ◌≢◌, suc, List, [], ◌∷◌, refl, arith, ap, sym, ◌∙◌, subst}
 use Rattle.aig_graph.specs.Circuits.{Netlist}
 use Rattle.cleaned_circuits.proofs.CleanedLaws.{cleans-one}
+use Rattle.retimed_circuits.proofs.MergedRunLaws.{merges-one}
 use Rattle.certificates.specs.declared.certificate.Certificate.{Certificate}
 use Rattle.certificates.specs.declared.verdict.Verdict.{Verdict}
 use Rattle.certificates.specs.declared.verdict.Verdict.TheVariants.{Yes, No}
@@ -14,7 +15,7 @@ use Rattle.certificate_audits.specs.declared.judging.Finding.TheVariants.{Object
 use Rattle.certificate_audits.specs.declared.outcome.Audit.{Audit}
 use Rattle.certificate_audits.specs.declared.outcome.End.{End}
 use Rattle.certificate_audits.specs.declared.outcome.End.TheVariants as ending
-use Rattle.certificate_audits.specs.Audits.{Audits, IsNext, IsAudit, no_blocks, objected, open_end, certified_end, past_end, goes_on}
+use Rattle.certificate_audits.specs.Audits.{IsMergedAudit, Audits, IsNext, IsAudit, no_blocks, objected, open_end, certified_end, past_end, goes_on}
 use Rattle.certificate_audits.specs.Findings.{IsFinding}
 
 verdict-one : (c : Netlist) (held : List ℕ) (cert : Certificate) (v w : Verdict) → IsVerdict c held cert v → IsVerdict c held cert w → v ≡ w
@@ -151,3 +152,9 @@ audit-one names c blocks a b p q =
     let audits : Audits names p.first blocks b.confirmed b.end = subst (λ (d : Netlist). Audits names d blocks b.confirmed b.end) (sym same.0) q.audits in
     let ends = audits-one names blocks p.first a.confirmed b.confirmed a.end b.end p.audits audits in
     λ i. record { confirmed = ends.0 i; end = ends.1 i }
+
+-- and so that of what a circuit is merged to
+pub merged-audit-one : (names : List (List ℕ)) (c : Netlist) (blocks : List Certificate) (a b : Audit) → IsMergedAudit names c blocks a → IsMergedAudit names c blocks b → a ≡ b
+merged-audit-one names c blocks a b p q =
+    let start = merges-one names c p.start q.start p.kept q.kept p.counts q.counts p.merges q.merges in
+    audit-one names p.start blocks a b p.of_start (subst (λ (d : Netlist). IsAudit names d blocks b) (sym start.circuit) q.of_start)

@@ -8,7 +8,9 @@ use Rattle.certificates.specs.declared.verdict.Verdict.{Verdict}
 use Rattle.certificates.specs.declared.verdict.Verdict.TheVariants.{Yes, No}
 use Rattle.certificates.specs.Verdicts.{IsVerdict}
 use Rattle.aig_graph.specs.Keep.{held_in}
+use Rattle.merged_latches.specs.declared.counts.MergeCounts.{MergeCounts}
 use Rattle.retimed_circuits.specs.Frames.{CleansIn, moved_in}
+use Rattle.retimed_circuits.specs.Merging.{MergesIn}
 use Rattle.certificate_audits.specs.declared.outcome.Audit.{Audit}
 use Rattle.certificate_audits.specs.declared.outcome.End.{End}
 use Rattle.certificate_audits.specs.declared.outcome.End.TheVariants.{NoBlocks, Certified, Open, BlocksFollow, Objected}
@@ -49,3 +51,11 @@ pub record IsAudit (names : List (List ℕ)) (c : Netlist) (blocks : List Certif
   pub kept : List ℕ
   pub cleaned : CleansIn names c first kept
   pub audits : Audits names first blocks audit.confirmed audit.end
+
+-- the audit of blocks, as a circuit was retimed whose latches were merged first: that of what c is merged to
+pub record IsMergedAudit (names : List (List ℕ)) (c : Netlist) (blocks : List Certificate) (audit : Audit) : Type 0 where
+  pub start : Netlist
+  pub kept : List ℕ
+  pub counts : MergeCounts
+  pub merges : MergesIn names c start kept counts
+  pub of_start : IsAudit names start blocks audit

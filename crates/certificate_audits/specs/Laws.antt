@@ -8,7 +8,7 @@ use Rattle.aig_graph.specs.Keep.{held_in}
 use Rattle.retimed_circuits.specs.Frames.{CleansIn, NoneSmaller, count_in}
 use Rattle.certificate_audits.specs.declared.outcome.Audit.{Audit}
 use Rattle.certificate_audits.specs.declared.outcome.End.TheVariants.{Certified}
-use Rattle.certificate_audits.specs.Audits.{IsAudit, IsNext}
+use Rattle.certificate_audits.specs.Audits.{IsAudit, IsMergedAudit, IsNext}
 
 -- the block's gates are a least set of c, and its count is what they count
 pub record IsLeastIn (names : List (List ℕ)) (c : Netlist) (block : Certificate) : Type 0 where
@@ -35,3 +35,10 @@ CertifiedLaw names c blocks = (audit : Audit) → IsAudit names c blocks audit �
 -- there is one audit
 abbrev pub AuditLaw : List (List ℕ) → Netlist → List Certificate → Type 0
 AuditLaw names c blocks = (a b : Audit) → IsAudit names c blocks a → IsAudit names c blocks b → a ≡ b
+
+-- where it ends certified, so does that of what c is merged to
+abbrev pub MergedCertifiedLaw : List (List ℕ) → Netlist → List Certificate → Type 0
+MergedCertifiedLaw names c blocks = (audit : Audit) (is : IsMergedAudit names c blocks audit) → audit.end ≡ Certified → IsCertified names is.start blocks audit
+
+abbrev pub MergedAuditLaw : List (List ℕ) → Netlist → List Certificate → Type 0
+MergedAuditLaw names c blocks = (a b : Audit) → IsMergedAudit names c blocks a → IsMergedAudit names c blocks b → a ≡ b

@@ -1,7 +1,7 @@
 ghost use Rattle.std.specs.Prelude.{ℕ, List};
 ghost use Rattle.aig_graph.specs.Circuits.{Netlist};
 ghost use Rattle.certificates.specs.declared.certificate.Certificate.{Certificate as Block};
-ghost use Rattle.certificate_audits.specs.Laws.{AuditLaw, CertifiedLaw};
+ghost use Rattle.certificate_audits.specs.Laws.{AuditLaw, CertifiedLaw, MergedAuditLaw, MergedCertifiedLaw};
 
 /// Where an audit ends certified, all blocks are confirmed, each set is least in its circuit, its count is the number of known
 /// latches after the move over it, and no closed set of the last circuit needs fewer latches than it has.
@@ -14,4 +14,12 @@ pub fn certified_law()
 pub fn audit_law()
     ensures { (names : List (List ℕ)) (c : Netlist) (blocks : List Block)
         → AuditLaw names c blocks }
+{}
+
+/// The same of circuits whose latches were merged first: what an audit shows, it shows of what the circuit is merged to.
+pub fn merged_audit_laws()
+    ensures certified { (names : List (List ℕ)) (c : Netlist) (blocks : List Block)
+        → MergedCertifiedLaw names c blocks }
+    ensures one { (names : List (List ℕ)) (c : Netlist) (blocks : List Block)
+        → MergedAuditLaw names c blocks }
 {}

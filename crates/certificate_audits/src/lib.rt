@@ -4,10 +4,12 @@
 
 mod judging;
 mod laws;
+mod merged;
 mod moving;
 mod outcome;
 mod run;
 
-pub use laws::{audit_law, certified_law};
+pub use laws::{audit_law, certified_law, merged_audit_laws};
+pub use merged::audit_merged;
 pub use outcome::{Audit, End};
 pub use run::audit_blocks;

@@ -48,7 +48,7 @@ fn audit_from(
 }
 
 /// The audit of blocks, the first of which is for the circuit cleaned.
-fn audit_held(
+pub(crate) fn audit_held(
     alloc: Global,
     circuit: &Circuit,
     keep: &Keep,

@@ -19,7 +19,8 @@ use Rattle.merged_latches.proofs.ReadingLaws.{from_reset-twice, from_reset-zero,
 use Rattle.merged_latches.proofs.RunLaws.{replaced-signed}
 use Rattle.merged_latches.proofs.CoarserLaws.{coarser-stands, stands_by-constant}
 use Rattle.clean.specs.declared.told.Told.{Told}
-use Rattle.clean.specs.Rounds.{constant_told, told_of, next_round, first_read, first_round, is_merged, merged_latches}
+use Rattle.merged_latches.specs.Counts.{is_merged, merged_latches}
+use Rattle.clean.specs.Rounds.{constant_told, told_of, next_round, first_read, first_round}
 use Rattle.clean.proofs.RoundLaws.{After, alone, by_constant, by_first, after, Led, led, leader-same, leader-constant, length-round}
 
 -- where q passes as seldom as p, which passes only where q does, they pass together

@@ -10,7 +10,8 @@ use Rattle.cleaned_circuits.proofs.StandLaws.{length-merge_gates}
 use Rattle.merged_latches.specs.Readings.{from_reset, leaves, own_literal, read, stands_by, told}
 use Rattle.merged_latches.proofs.ReadingLaws.{length-leaves}
 use Rattle.clean.specs.declared.told.Told.{Told}
-use Rattle.clean.specs.Rounds.{first_read, first_round, is_merged, next_read, next_round, told_of}
+use Rattle.merged_latches.specs.Counts.{is_merged}
+use Rattle.clean.specs.Rounds.{first_read, first_round, next_read, next_round, told_of}
 use Rattle.clean.specs.Substitutions.{from_first, own_literals}
 use Rattle.variable_tables.proofs.TableLaws.{entry, table-end}
 

@@ -3,7 +3,6 @@ use Rattle.std.specs.Prelude.{ℕ, ◌++◌, ◌≡◌, ◌==◌, ◌&&◌, not,
 use Rattle.std.specs.Map.{lookup}
 use Rattle.aig_graph.specs.declared.graph.Latch.{Latch}
 use Rattle.aig_graph.specs.Graph.{Graph}
-use Rattle.variable_tables.specs.Counting.{count_below}
 use Rattle.variable_tables.specs.Tables.{table}
 use Rattle.cleaned_circuits.specs.Latches.{constant_of}
 use Rattle.cleaned_circuits.specs.Merged.{stand_or_own}
@@ -63,14 +62,6 @@ first_read g held j (Some latch) = if may_merge held j latch then constant_of la
 
 unfoldable pub first_round : Graph → List ℕ → List ℕ
 first_round g held = table 0 (length g.latches) (λ j. first_read g held j (slice_get g.latches j))
-
--- whether latch j reads as another
-abbrev pub is_merged : Graph → List ℕ → ℕ → Bool
-is_merged g reads j = not (read reads j == own_literal g j)
-
--- how many latches read as another
-abbrev pub merged_latches : Graph → List ℕ → ℕ
-merged_latches g reads = count_below (is_merged g reads) (length g.latches)
 
 -- the entries have for each class and what is told there the first below n
 pub record AreFirstTold (g : Graph) (held reads : List ℕ) (n : ℕ) (entries : List (Told × ℕ)) : Type 0 where

@@ -22,6 +22,6 @@ mod tracing;
 mod trim;
 
 pub use cleaning::{Cleaned, clean, composed};
-pub use merging::merge_latches;
+pub use merging::{MergedCircuit, merge_latches};
 pub use named::clean_by_names;
 pub use tracing::{TracedPass, traced_pass};

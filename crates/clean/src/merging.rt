@@ -8,14 +8,16 @@ ghost use Rattle.aig_graph.specs.Laws.{all_free};
 ghost use Rattle.aig_graph.specs.Streams.{SameStreams};
 ghost use Rattle.cleaned_circuits.specs.Merged.{replaced_circuit};
 ghost use Rattle.merged_latches.specs.Partitions.{IsCoarsest, IsMerged};
-ghost use Rattle.clean.specs.Rounds.{first_round, merged_latches, next_round};
+ghost use Rattle.merged_latches.specs.Counts.{AreCounts, merged_latches};
+ghost use Rattle.clean.specs.Rounds.{first_round, next_round};
 
 use crate::held::Held;
 use crate::merged::replaced_aig;
 use crate::names::copied_symbols;
-use crate::rounds::{first_round, merged_latches, next_round, stands_by};
+use crate::rounds::{counts_of, first_round, merged_latches, next_round, stands_by};
 use crate::substitution::Substitution;
 use aig_graph::{Aig, Circuit, Keep, Lit, NoMemory};
+use merged_latches::MergeCounts;
 use std::alloc::Global;
 
 /// A reading, and what a round makes of it.
@@ -106,6 +108,15 @@ fn replaced_circuit(
     Ok(Circuit::new(aig, props, symbols))
 }
 
+/// A circuit in which latches that always agree are one, and how many were merged.
+#[derive(Drop)]
+pub struct MergedCircuit {
+    /// The circuit; all its latches, gates and names are still there.
+    pub circuit: Circuit,
+    /// How many of its latches nothing reads any more, since they read as others.
+    pub counts: MergeCounts,
+}
+
 /// A circuit in which latches that always agree are one: by the coarsest partition of the constant and the latches of known reset that
 /// aren't held, in which those of a class are told the same by their next literals. Each reads as the first of its class, negated where
 /// their resets differ, or as the constant. All latches, gates and names stay, and what nothing reads any more goes in cleaning.
@@ -115,15 +126,26 @@ fn replaced_circuit(
 /// # Errors
 ///
 /// `NoMemory` where memory is refused.
-pub fn merge_latches(alloc: Global, circuit: &Circuit, keep: &Keep) -> Result<Circuit, NoMemory>
-    ensures merged { IfOk result (λ after. IsMerged keep.now circuit.now after) }
-    ensures streams { IfOk result (λ after. SameStreams circuit.now after
+pub fn merge_latches(
+    alloc: Global,
+    circuit: &Circuit,
+    keep: &Keep,
+) -> Result<MergedCircuit, NoMemory>
+    ensures merged { IfOk result (λ after. IsMerged keep.now circuit.now after.circuit) }
+    ensures counted { IfOk result (λ after. AreCounts circuit.now.aig keep.now after.counts) }
+    ensures streams { IfOk result (λ after. SameStreams circuit.now after.circuit
         (all_free circuit.now.aig)) }
 {
     let aig = circuit.aig();
     let held = Held::new(alloc, keep.positions(), aig.latches().len())?;
     let reads = coarsest_reading(alloc, aig, &held)?;
-    let stands = stands_by(alloc, aig, reads.as_slice())?;
+    let literals = reads.as_slice();
+    let counts = counts_of(aig, literals);
+    let stands = stands_by(alloc, aig, literals)?;
     drop(reads);
-    replaced_circuit(alloc, circuit, &stands)
+    let merged = replaced_circuit(alloc, circuit, &stands)?;
+    Ok(MergedCircuit {
+        circuit: merged,
+        counts,
+    })
 }

@@ -2,10 +2,12 @@
 //! kept and finer than the reading stays finer than what the round makes of it.
 ghost use Rattle.std.specs.Prelude.{◌≡◌, ◌<◌, slice_get, length, Some, OnOk, IfOk};
 ghost use Rattle.std.specs.Map.{lookup};
+ghost use Rattle.variable_tables.specs.Counting.{count_below};
 ghost use Rattle.aig_graph.specs.Graph.{variable};
 ghost use Rattle.cleaned_circuits.specs.Merged.{stand_or_own};
 ghost use Rattle.merged_latches.specs.Readings.{from_reset, may_merge, stands_by, told};
-ghost use Rattle.clean.specs.Rounds.{entries_told, first_read, first_round, is_told, merged_latches, next_round, read_told, told_after};
+ghost use Rattle.merged_latches.specs.Counts.{counts_of, merged_latches, reads_constant};
+ghost use Rattle.clean.specs.Rounds.{entries_told, first_read, first_round, is_told, next_round, read_told, told_after};
 
 use crate::gates::merge_gates;
 use crate::held::Held;
@@ -13,6 +15,7 @@ use crate::latches::{constant_of, own_literal};
 use crate::substitution::Substitution;
 use crate::told::{FirstTold, Told};
 use aig_graph::{Aig, Latch, Lit, NoMemory, Reset};
+use merged_latches::MergeCounts;
 use std::alloc::Global;
 
 /// Whether the latch at a place may be merged.
@@ -146,4 +149,30 @@ pub(crate) fn merged_latches(aig: &Aig, reads: &[Lit]) -> usize
         }
     }
     merged
+}
+
+/// How many latches read as a constant.
+fn constant_latches(reads: &[Lit]) -> usize
+    ensures { result ≡ count_below (reads_constant reads.now) (length reads.now) }
+{
+    let mut constant = 0;
+    for lit in reads {
+        if lit.var() == 0 {
+            constant += 1;
+        }
+    }
+    constant
+}
+
+/// How many latches read as another, and how many of these as a constant.
+pub(crate) fn counts_of(aig: &Aig, reads: &[Lit]) -> MergeCounts
+    requires { length reads.now ≡ length aig.now.latches }
+    ensures { result ≡ counts_of aig.now reads.now }
+{
+    // That they are counted by 32 bits is what the graph's readers ensure.
+    aig.known();
+    MergeCounts {
+        merged: merged_latches(aig, reads) as u32,
+        constant: constant_latches(reads) as u32,
+    }
 }

@@ -18,6 +18,8 @@ use Rattle.command_line.specs.declared.task.Batch.{Batch as Batching}
 use Rattle.command_line.specs.declared.task.Verification.{Verification}
 use Rattle.command_line.specs.declared.task.Comparison.{Comparison}
 use Rattle.command_line.specs.declared.task.Drawing.{Drawing}
+use Rattle.command_line.specs.declared.task.Counting.{Counting}
+use Rattle.command_line.specs.declared.task.Carrying.{Carrying}
 use Rattle.command_line.specs.declared.task.Task.{Task}
 use Rattle.command_line.specs.declared.task.Task.TheVariants.{Retime, Batch, Stat, Convert, Sim, Same, Verify, Dot, Witness, Explain}
 
@@ -86,6 +88,7 @@ pub record IsRetiming (matches : ArgMatches) (retiming : Retiming) : Type 0 wher
   pub certificates : IsSomeTarget matches (codes "cert") retiming.certificates
   pub shown : IsShown matches retiming.shown
   pub names : map (λ name. name.now) retiming.keep.items ≡ values_of matches (codes "keep")
+  pub merge : IsFlag matches (codes "merge") retiming.merge
   pub json : IsFlag matches (codes "json") retiming.json
 
 -- the list and the options of a batch are the values of their own arguments
@@ -95,6 +98,7 @@ pub record IsBatch (matches : ArgMatches) (batch : Batching) : Type 0 where
   pub workers : IsNumber matches (codes "workers") 1 batch.workers
   pub frames : IsNumber matches (codes "frames") (2 ^ 28) batch.frames
   pub choice : IsChoice matches batch.choice
+  pub merge : IsFlag matches (codes "merge") batch.merge
   pub json : IsFlag matches (codes "json") batch.json
 
 -- the paths and the names of a verification are the values of their own arguments
@@ -102,6 +106,7 @@ pub record IsVerification (matches : ArgMatches) (verification : Verification) :
   pub input : IsSource matches (codes "IN") verification.input
   pub certificates : IsSource matches (codes "CERT") verification.certificates
   pub names : map (λ name. name.now) verification.keep.items ≡ values_of matches (codes "keep")
+  pub merge : IsFlag matches (codes "merge") verification.merge
   pub json : IsFlag matches (codes "json") verification.json
 
 -- the paths and the flag of a comparison are the values of their own arguments
@@ -116,34 +121,48 @@ pub record IsDrawing (matches : ArgMatches) (drawing : Drawing) : Type 0 where
   pub input : IsSource matches (codes "IN") drawing.input
   pub output : IsTarget matches (codes "OUT") drawing.output
   pub frame : IsFlag matches (codes "frame") drawing.frame
+  pub merge : IsFlag matches (codes "merge") drawing.merge
   pub around : option_map (λ name. name.now) drawing.around ≡ first_value (found_of matches) (codes "around")
   pub depth : IsNumber matches (codes "depth") 2 drawing.depth
   pub names : map (λ name. name.now) drawing.keep.items ≡ values_of matches (codes "keep")
+
+-- the path and the flags of a count are the values of their own arguments
+pub record IsCounting (matches : ArgMatches) (counting : Counting) : Type 0 where
+  pub input : IsSource matches (codes "IN") counting.input
+  pub merge : IsFlag matches (codes "merge") counting.merge
+  pub json : IsFlag matches (codes "json") counting.json
+
+-- the paths and the flag of a witness that is carried back are the values of their own arguments
+pub record IsCarrying (matches : ArgMatches) (carrying : Carrying) : Type 0 where
+  pub input : IsSource matches (codes "IN") carrying.input
+  pub retimed : IsSource matches (codes "OUT") carrying.retimed
+  pub witness : IsSource matches (codes "WITNESS") carrying.witness
+  pub merge : IsFlag matches (codes "merge") carrying.merge
 
 -- each path of the task, and the name of a fault, is the value of its own argument, so that no file is written that was to be read
 abbrev pub AsksFor : ArgMatches → Task → Type 0
 AsksFor matches (Retime retiming) = IsRetiming matches retiming
 AsksFor matches (Batch batch) = IsBatch matches batch
-AsksFor matches (Stat input json) = IsSource matches (codes "IN") input × IsFlag matches (codes "json") json
+AsksFor matches (Stat counting) = IsCounting matches counting
 AsksFor matches (Convert input output spelling) = IsSource matches (codes "IN") input × IsTarget matches (codes "OUT") output × IsSpelling matches spelling
 AsksFor matches (Sim input stimulus) = IsSource matches (codes "IN") input × IsSource matches (codes "STIM") stimulus
 AsksFor matches (Same comparison) = IsComparison matches comparison
 AsksFor matches (Verify verification) = IsVerification matches verification
 AsksFor matches (Dot drawing) = IsDrawing matches drawing
-AsksFor matches (Witness input retimed witness) = IsSource matches (codes "IN") input × IsSource matches (codes "OUT") retimed × IsSource matches (codes "WITNESS") witness
+AsksFor matches (Witness carrying) = IsCarrying matches carrying
 AsksFor matches (Explain name) = IsGiven matches (codes "FAULT") name
 
 -- the name of the command that does the task
 abbrev pub command_of : Task → List ℕ
 command_of (Retime retiming) = codes "retime"
 command_of (Batch batch) = codes "batch"
-command_of (Stat input json) = codes "stat"
+command_of (Stat counting) = codes "stat"
 command_of (Convert input output spelling) = codes "convert"
 command_of (Sim input stimulus) = codes "sim"
 command_of (Same comparison) = codes "same"
 command_of (Verify verification) = codes "verify"
 command_of (Dot drawing) = codes "dot"
-command_of (Witness input retimed witness) = codes "witness"
+command_of (Witness carrying) = codes "witness"
 command_of (Explain name) = codes "explain"
 
 -- the task is that of the command with this name, by the arguments of the command

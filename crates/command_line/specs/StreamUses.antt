@@ -15,13 +15,13 @@ use Rattle.command_line.specs.declared.task.Task.TheVariants.{Retime, Batch, Sta
 abbrev pub sources_of : Task → List Source
 sources_of (Retime retiming) = retiming.input ∷ []
 sources_of (Batch batch) = batch.list ∷ []
-sources_of (Stat input json) = input ∷ []
+sources_of (Stat counting) = counting.input ∷ []
 sources_of (Convert input output spelling) = input ∷ []
 sources_of (Sim input stimulus) = input ∷ stimulus ∷ []
 sources_of (Same comparison) = comparison.first ∷ comparison.second ∷ comparison.stimulus ∷ []
 sources_of (Verify verification) = verification.input ∷ verification.certificates ∷ []
 sources_of (Dot drawing) = drawing.input ∷ []
-sources_of (Witness input retimed witness) = input ∷ retimed ∷ witness ∷ []
+sources_of (Witness carrying) = carrying.input ∷ carrying.retimed ∷ carrying.witness ∷ []
 sources_of (Explain name) = []
 
 -- the circuit and the certificates that a retiming writes
@@ -33,13 +33,13 @@ both_targets output (Some certificates) = output ∷ certificates ∷ []
 abbrev pub targets_of : Task → List Target
 targets_of (Retime retiming) = both_targets retiming.output retiming.certificates
 targets_of (Batch batch) = []
-targets_of (Stat input json) = []
+targets_of (Stat counting) = []
 targets_of (Convert input output spelling) = output ∷ []
 targets_of (Sim input stimulus) = []
 targets_of (Same comparison) = []
 targets_of (Verify verification) = []
 targets_of (Dot drawing) = drawing.output ∷ []
-targets_of (Witness input retimed witness) = []
+targets_of (Witness carrying) = []
 targets_of (Explain name) = []
 
 -- whether the file with this path is read
@@ -61,13 +61,13 @@ covers retiming (Some (targets.File path)) = is_read_from path.now retiming.inpu
 abbrev pub covers_circuit : Task → Bool
 covers_circuit (Retime retiming) = covers retiming retiming.certificates
 covers_circuit (Batch batch) = false
-covers_circuit (Stat input json) = false
+covers_circuit (Stat counting) = false
 covers_circuit (Convert input output spelling) = false
 covers_circuit (Sim input stimulus) = false
 covers_circuit (Same comparison) = false
 covers_circuit (Verify verification) = false
 covers_circuit (Dot drawing) = false
-covers_circuit (Witness input retimed witness) = false
+covers_circuit (Witness carrying) = false
 covers_circuit (Explain name) = false
 
 -- standard input is read once at most, and standard output written once, but for printed lines; and so is a file of certificates,

@@ -8,4 +8,6 @@ mod task;
 mod texts;
 
 pub use parse::parse_arguments;
-pub use task::{Batch, Comparison, Drawing, Retiming, Shown, Task, Verification};
+pub use task::{
+    Batch, Carrying, Comparison, Counting, Drawing, Retiming, Shown, Task, Verification,
+};

@@ -7,7 +7,9 @@ ghost use Rattle.command_line.specs.declared.task.Task.TheVariants.{Dot, Retime,
 
 use crate::program::program;
 use crate::stream_uses::stream_conflict;
-use crate::task::{Batch, Comparison, Drawing, Retiming, Shown, Task, Verification};
+use crate::task::{
+    Batch, Carrying, Comparison, Counting, Drawing, Retiming, Shown, Task, Verification,
+};
 use clap::error::ErrorKind;
 use clap::{ArgMatches, Command, Error};
 use file_words::Spelling;
@@ -100,6 +102,13 @@ fn json(matches: &ArgMatches<'_>) -> bool
     matches.get_flag("json")
 }
 
+/// Whether latches that always agree are merged.
+fn merge(matches: &ArgMatches<'_>) -> bool
+    ensures { IsFlag matches.now (codes "merge") result }
+{
+    matches.get_flag("merge")
+}
+
 fn retiming<'a>(alloc: Global, matches: &ArgMatches<'a>) -> Result<Option<Retiming<'a>>, AllocError>
     ensures { IfOk result (λ found. IfSome found (λ retiming. AsksFor matches.now
         (Retime retiming))) }
@@ -115,6 +124,7 @@ fn retiming<'a>(alloc: Global, matches: &ArgMatches<'a>) -> Result<Option<Retimi
         frames: frames(matches),
         choice: choice(matches),
         certificates: target(matches, "cert"),
+        merge: merge(matches),
         json: json(matches),
         shown: shown(matches),
         keep: keep(alloc, matches)?,
@@ -146,6 +156,7 @@ fn verification<'a>(
     Ok(Some(Verification {
         input,
         certificates,
+        merge: merge(matches),
         json: json(matches),
         keep: keep(alloc, matches)?,
     }))
@@ -179,6 +190,7 @@ fn drawing<'a>(alloc: Global, matches: &ArgMatches<'a>) -> Result<Option<Drawing
         input,
         output,
         frame: matches.get_flag("frame"),
+        merge: merge(matches),
         around: matches.get_str("around"),
         depth: depth(matches),
         keep: keep(alloc, matches)?,
@@ -203,6 +215,7 @@ fn batch<'a>(matches: &ArgMatches<'a>) -> Option<Task<'a>>
         workers: workers(matches),
         frames: frames(matches),
         choice: choice(matches),
+        merge: merge(matches),
         json: json(matches),
     }))
 }
@@ -210,7 +223,11 @@ fn batch<'a>(matches: &ArgMatches<'a>) -> Option<Task<'a>>
 fn statistics<'a>(matches: &ArgMatches<'a>) -> Option<Task<'a>>
     ensures { IfSome result (Asks (codes "stat") matches.now) }
 {
-    Some(Task::Stat(source(matches, "IN")?, json(matches)))
+    Some(Task::Stat(Counting {
+        input: source(matches, "IN")?,
+        merge: merge(matches),
+        json: json(matches),
+    }))
 }
 
 fn conversion<'a>(matches: &ArgMatches<'a>) -> Option<Task<'a>>
@@ -241,9 +258,12 @@ fn comparison<'a>(matches: &ArgMatches<'a>) -> Option<Task<'a>>
 fn witness<'a>(matches: &ArgMatches<'a>) -> Option<Task<'a>>
     ensures { IfSome result (Asks (codes "witness") matches.now) }
 {
-    let input = source(matches, "IN")?;
-    let retimed = source(matches, "OUT")?;
-    Some(Task::Witness(input, retimed, source(matches, "WITNESS")?))
+    Some(Task::Witness(Carrying {
+        input: source(matches, "IN")?,
+        retimed: source(matches, "OUT")?,
+        witness: source(matches, "WITNESS")?,
+        merge: merge(matches),
+    }))
 }
 
 fn explanation<'a>(matches: &ArgMatches<'a>) -> Option<Task<'a>>

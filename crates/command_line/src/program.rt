@@ -36,6 +36,10 @@ fn near<'a>(alloc: Global) -> Arg<'a> {
     )
 }
 
+fn merge<'a>(alloc: Global, help: &'a str) -> Arg<'a> {
+    flag(alloc, "merge", help)
+}
+
 /// The flag for a line a frame, which isn't given together with the one for none.
 fn progress<'a>(alloc: Global) -> Result<Arg<'a>, AllocError> {
     let help = "Write a line to standard error as each frame begins";
@@ -186,7 +190,9 @@ fn with_limits<'a>(
 ) -> Result<Command<'a>, AllocError> {
     let command = with(command, workers(alloc, threads));
     let command = with(command, frames(alloc));
-    with(command, near(alloc))
+    let command = with(command, near(alloc));
+    let help = "Merge latches that always agree, before the first frame";
+    with(command, merge(alloc, help))
 }
 
 fn retime<'a>(alloc: Global) -> Result<Command<'a>, AllocError> {
@@ -230,6 +236,8 @@ fn stat<'a>(alloc: Global) -> Result<Command<'a>, AllocError> {
         .after_help(texts::STAT_EXAMPLE)
         .arg_required_else_help(true)
         .arg(path(alloc, "IN", "The AIGER file to read"));
+    let help = "Count the latches that always agree, too";
+    let command = with(command, merge(alloc, help));
     with(command, json(alloc))
 }
 
@@ -274,6 +282,7 @@ fn verify<'a>(alloc: Global) -> Result<Command<'a>, AllocError> {
     let command = command.arg(path(alloc, "IN", "The AIGER file that was retimed"));
     let command = with(command, path(alloc, "CERT", "The certificates"));
     let command = with(command, names(alloc));
+    let command = with(command, merge(alloc, "IN was retimed with --merge"));
     with(command, json(alloc))
 }
 
@@ -283,6 +292,12 @@ fn around<'a>(alloc: Global) -> Arg<'a> {
         .value_name("NAME")
         .action(ArgAction::Set)
         .help("Draw the neighbourhood of the input, latch or property with this name alone")
+}
+
+/// The flag for a circuit that is merged before its next frame is shown.
+fn merge_before_frame<'a>(alloc: Global) -> Result<Arg<'a>, AllocError> {
+    let help = "Merge latches that always agree first";
+    merge(alloc, help).requires_arg("frame")
 }
 
 fn dot<'a>(alloc: Global) -> Result<Command<'a>, AllocError> {
@@ -299,6 +314,7 @@ fn dot<'a>(alloc: Global) -> Result<Command<'a>, AllocError> {
         command,
         flag(alloc, "frame", "Show over which gates latches move next"),
     );
+    let command = with_flag(command, merge_before_frame(alloc));
     let command = with(command, names(alloc));
     let command = with(command, around(alloc));
     let depth = "How many edges the neighbourhood reaches";
@@ -318,7 +334,8 @@ fn witness<'a>(alloc: Global) -> Result<Command<'a>, AllocError> {
         command,
         path(alloc, "OUT", "The AIGER file that was written"),
     );
-    with(command, path(alloc, "WITNESS", "The witness for OUT"))
+    let command = with(command, path(alloc, "WITNESS", "The witness for OUT"));
+    with(command, merge(alloc, "OUT was written with --merge"))
 }
 
 fn explain<'a>(alloc: Global) -> Result<Command<'a>, AllocError> {

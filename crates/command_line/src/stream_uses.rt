@@ -28,14 +28,17 @@ fn stdin_uses(task: &Task<'_>) -> usize
     match task {
         Task::Retime(retiming) => stdin_count(&[retiming.input]),
         Task::Batch(batch) => stdin_count(&[batch.list]),
-        Task::Stat(input, _) | Task::Convert(input, _, _) => stdin_count(&[*input]),
+        Task::Stat(counting) => stdin_count(&[counting.input]),
+        Task::Convert(input, _, _) => stdin_count(&[*input]),
         Task::Sim(input, stimulus) => stdin_count(&[*input, *stimulus]),
         Task::Same(comparison) => stdin_count(&[
             comparison.first,
             comparison.second,
             comparison.stimulus,
         ]),
-        Task::Witness(first, second, third) => stdin_count(&[*first, *second, *third]),
+        Task::Witness(carrying) => {
+            stdin_count(&[carrying.input, carrying.retimed, carrying.witness])
+        }
         Task::Verify(verification) => stdin_count(&[verification.input, verification.certificates]),
         Task::Dot(drawing) => stdin_count(&[drawing.input]),
         Task::Explain(_) => 0,
@@ -54,11 +57,11 @@ fn stdout_uses(task: &Task<'_>) -> usize
         Task::Convert(_, output, _) => stdout_count(&[*output]),
         Task::Dot(drawing) => stdout_count(&[drawing.output]),
         Task::Batch(_)
-        | Task::Stat(_, _)
+        | Task::Stat(_)
         | Task::Sim(_, _)
         | Task::Same(_)
         | Task::Verify(_)
-        | Task::Witness(_, _, _)
+        | Task::Witness(_)
         | Task::Explain(_) => 0,
     }
 }
@@ -93,13 +96,13 @@ fn covers_circuit(task: &Task<'_>) -> bool
             Some(Target::Stdout) | None => false,
         },
         Task::Batch(_)
-        | Task::Stat(_, _)
+        | Task::Stat(_)
         | Task::Convert(_, _, _)
         | Task::Sim(_, _)
         | Task::Same(_)
         | Task::Verify(_)
         | Task::Dot(_)
-        | Task::Witness(_, _, _)
+        | Task::Witness(_)
         | Task::Explain(_) => false,
     }
 }

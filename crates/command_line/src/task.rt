@@ -36,6 +36,8 @@ pub struct Retiming<'a> {
     pub shown: Shown,
     /// The names of the latches that are held in their places.
     pub keep: Vec<&'a str>,
+    /// Whether latches that always agree are merged before the first frame.
+    pub merge: bool,
     /// Whether an object of JSON is printed in place of the lines.
     pub json: bool,
 }
@@ -49,6 +51,8 @@ pub struct Verification<'a> {
     pub certificates: Source<'a>,
     /// The names of the latches that were held in their places.
     pub keep: Vec<&'a str>,
+    /// Whether latches that always agree were merged before the first frame.
+    pub merge: bool,
     /// Whether an object of JSON is printed in place of the lines.
     pub json: bool,
 }
@@ -79,6 +83,8 @@ pub struct Batch<'a> {
     pub frames: u32,
     /// Which of the least sets a frame takes.
     pub choice: Choice,
+    /// Whether latches that always agree are merged before the first frame of a circuit.
+    pub merge: bool,
     /// Whether an object of JSON is printed in place of the lines.
     pub json: bool,
 }
@@ -92,12 +98,38 @@ pub struct Drawing<'a> {
     pub output: Target<'a>,
     /// Whether the set over which latches move next is shown.
     pub frame: bool,
+    /// Whether latches that always agree are merged, where that set is shown.
+    pub merge: bool,
     /// The names of the latches that are held in their places.
     pub keep: Vec<&'a str>,
     /// The name of what the picture shows the neighbourhood of; `None` asks for the whole circuit.
     pub around: Option<&'a str>,
     /// How many edges the neighbourhood reaches, from 1 to 100.
     pub depth: u32,
+}
+
+/// What `stat` is to do.
+#[derive(Clone, Copy)]
+pub struct Counting<'a> {
+    /// The circuit.
+    pub input: Source<'a>,
+    /// Whether it is told how many latches always agree.
+    pub merge: bool,
+    /// Whether an object of JSON is printed in place of the lines.
+    pub json: bool,
+}
+
+/// What `witness` is to do.
+#[derive(Clone, Copy)]
+pub struct Carrying<'a> {
+    /// The circuit.
+    pub input: Source<'a>,
+    /// The circuit that was made of it.
+    pub retimed: Source<'a>,
+    /// The witness for that one.
+    pub witness: Source<'a>,
+    /// Whether latches that always agree were merged before the first frame.
+    pub merge: bool,
 }
 
 /// What a command line asks for.
@@ -107,8 +139,8 @@ pub enum Task<'a> {
     Retime(Retiming<'a>),
     /// Retime the circuits of a list.
     Batch(Batch<'a>),
-    /// Count what a circuit has, and print it as an object of JSON or in lines.
-    Stat(Source<'a>, bool),
+    /// Count what a circuit has.
+    Stat(Counting<'a>),
     /// Write a circuit in a spelling; `None` is the one that wasn't read.
     Convert(Source<'a>, Target<'a>, Option<Spelling>),
     /// Simulate a circuit under a stimulus.
@@ -119,8 +151,8 @@ pub enum Task<'a> {
     Verify(Verification<'a>),
     /// Write a picture of a circuit.
     Dot(Drawing<'a>),
-    /// Carry a witness of a retimed circuit, the second, back to the first.
-    Witness(Source<'a>, Source<'a>, Source<'a>),
+    /// Carry a witness of a retimed circuit back to the one that it was made of.
+    Witness(Carrying<'a>),
     /// Print the page of the fault with this name.
     Explain(&'a str),
 }

@@ -25,6 +25,10 @@ Only latches with a known reset (0 or 1) move. A netlist from RTL without initia
 give the registers initial values, or, where the reset sequence makes that right, set them to zero
 (`setundef -init -zero` in Yosys, before `write_aiger`).
 
+With --merge, latches that always agree, or that never change, are merged once before the first frame: it finds logic that is there
+twice, and features that are tied off. It is found without search; copies that were built differently are not. A merged latch has
+more readers, so here and there fewer can move.
+
 OUT is created once IN has been read and retimed: a circuit that is refused leaves OUT as it was.
 
 With --cert, FILE gets a certificate of each frame, once OUT is written: 'verify IN FILE' checks from it that no other set of gates
@@ -70,7 +74,7 @@ pub(crate) const VERIFY_LONG_ABOUT: &str =
     "Reads a circuit, and the certificates of its frames, and checks each against the circuit of its frame, without any flow.
 
 'yes' says that no set of gates leaves fewer latches than the certificate's. The circuit of the next frame is made from IN by
-the certificate's set. Name the latches that were held, as for 'retime'.";
+the certificate's set. Name the latches that were held, and give --merge, as for 'retime'.";
 
 pub(crate) const VERIFY_EXAMPLE: &str = "Example:
   fretime retime counter.aag smaller.aag --cert counter.cert
@@ -86,6 +90,9 @@ Exit status: 0 all are confirmed, 1 a file is refused or IN has no latch NAME, 2
 
 pub(crate) const STAT_EXAMPLE: &str =
     "Latches are free where they have no known reset; free latches never move.
+
+With --merge a last line says how many latches 'retime --merge' would merge, and how many of these never change:
+  merged 2, constant 1
 
 Exit status: 0 done, 1 IN is no circuit, 2 command line, 3 device, 4 out of memory.";
 
@@ -108,7 +115,7 @@ Inputs are tags, latches boxes with their reset beside them, free latches dashed
 gray where no latch can move over them; outputs and other properties are notes. An edge with a dot is a negation. Names are those
 of the file.
 
-With --frame the circuit is cleaned first, as 'retime' does; the gates over which 'retime' moves latches next are shaded, and what
+With --frame the circuit is cleaned first, and merged where --merge is given, as 'retime' does; the gates over which 'retime' moves latches next are shaded, and what
 holds a latch afterwards has a bold line.
 
 A circuit of over 2,000 nodes is refused, but for a neighbourhood: --around NAME draws what is at most so many edges away from
@@ -129,7 +136,8 @@ pub(crate) const WITNESS_LONG_ABOUT: &str =
 witness for the first.
 
 Both circuits are simulated, with 0 for each x: each property of the witness has to fail first at the same step in both. Latches with a
-known reset hold it, free latches that OUT has hold what they did there, and the others x. The inputs are the same.";
+known reset hold it, free latches that OUT has hold what they did there, and the others x. The inputs are the same. Give --merge as for
+'retime': which free latches OUT has may rest on it.";
 
 pub(crate) const WITNESS_EXAMPLE: &str = "Example:
   fretime retime counter.aag smaller.aag

@@ -17,6 +17,7 @@ use circuit_files::{Failure, Outcome};
 use counted_io::CountedWrite;
 use json_reports::{PrintError, Times};
 use lane_sim::Place;
+use merged_latches::MergeCounts;
 use reports::JobReport;
 use retimed_circuits::Retimed;
 use std::alloc::Global;
@@ -48,17 +49,18 @@ pub fn print_retiming<'a, W: CountedWrite>(
     ended(printed, Outcome::Done)
 }
 
-/// Prints what a circuit with so many passable gates has.
+/// Prints what a circuit with so many passable gates has, and how many of its latches are merged, where that was asked for.
 pub fn print_statistics<'a, W: CountedWrite>(
     alloc: Global,
     circuit: &Circuit,
     passable: u32,
+    merged: Option<MergeCounts>,
     writer: &mut W,
 ) -> Result<Outcome, Failure<'a>>
-    ensures { EndsPrintingObject Done (statistics_data circuit.now passable) (W.output writer.old)
-        (W.output writer.new) result }
+    ensures { EndsPrintingObject Done (statistics_data circuit.now passable merged)
+        (W.output writer.old) (W.output writer.new) result }
 {
-    let printed = json_reports::print_statistics(alloc, circuit, passable, writer);
+    let printed = json_reports::print_statistics(alloc, circuit, passable, merged, writer);
     ended(printed, Outcome::Done)
 }
 

@@ -17,9 +17,9 @@ use Rattle.circuit_files.specs.declared.outcome.Failure.TheVariants as fails
 use Rattle.circuit_files.specs.declared.outcome.Outcome.{Outcome}
 use Rattle.circuit_files.specs.declared.outcome.Outcome.TheVariants.{Done}
 use Rattle.least_sets.specs.declared.choice.Choice.TheVariants.{Greatest}
-use Rattle.retimed_circuits.specs.Retiming.{IsRetimed}
 use Rattle.retimed_circuits.specs.declared.report.Retimed.{Retimed}
 use Rattle.frames.specs.Named.{names_in}
+use Rattle.frames.specs.Retiming.{IsRetimedBy}
 use Rattle.frames.specs.declared.options.Options.{Options}
 use Rattle.pictures.specs.Looks.{everything}
 use Rattle.pictures.specs.Near.{is_name_of, is_near}
@@ -55,7 +55,7 @@ IsSetFor false c held set = set ≡ None
 
 -- the circuit that is drawn: that, or where the next frame is asked for it cleaned and retimed by the options
 abbrev pub IsCircuitFor : Bool → Netlist → Options → Netlist → Type 0
-IsCircuitFor true c options d = (r : Retimed) × IsRetimed options.choice c (names_in options) options.max_frames options.certify r × (d ≡ r.circuit)
+IsCircuitFor true c options d = (r : Retimed) × IsRetimedBy options c r × (d ≡ r.circuit)
 IsCircuitFor false c options d = d ≡ c
 
 -- the options of a retiming that takes no frame, which holds the latches that the task names
@@ -63,6 +63,7 @@ pub record AreOptionsFor (task : Drawing) (options : Options) : Type 0 where
   pub frames : options.max_frames ≡ 0
   pub choice : options.choice ≡ Greatest
   pub certify : options.certify ≡ false
+  pub merge : options.merge ≡ task.merge
   pub names : names_in options ≡ map (λ name. name.now) task.keep.items
 
 -- the picture of a circuit with held latches, which can be drawn, was written, with a set where the next frame is asked for

@@ -5,6 +5,10 @@ use Rattle.aig_graph.specs.Graph.{free_latches}
 use Rattle.aig_graph.specs.Laws.{all_free}
 use Rattle.aig_binary.specs.declared.reading.SpeltCircuit.{SpeltCircuit}
 use Rattle.cleaned_circuits.specs.Cleaned.{Cleans}
+use Rattle.retimed_circuits.specs.declared.report.Retimed.{Retimed}
+use Rattle.frames.specs.declared.options.Options.{Options}
+use Rattle.frames.specs.Named.{names_in}
+use Rattle.frames.specs.Retiming.{IsRetimedBy}
 use Rattle.reports.specs.Differences.{shapes_text}
 use Rattle.witnesses.specs.Circuits.{widths_of}
 use Rattle.witnesses.specs.Confirming.{IsConfirmedBack}
@@ -12,7 +16,7 @@ use Rattle.witnesses.specs.Texts.{objection_text, whole_text}
 use Rattle.witnesses.specs.declared.witness.Witness.{Witness}
 use Rattle.counted_io.specs.Input.{Input}
 use Rattle.counted_io.specs.Output.{Output}
-use Rattle.stream_paths.specs.declared.source.Source.{Source}
+use Rattle.command_line.specs.declared.task.Carrying.{Carrying}
 use Rattle.circuit_files.specs.declared.outcome.Outcome.{Outcome}
 use Rattle.circuit_files.specs.declared.outcome.Outcome.TheVariants as ends
 use Rattle.commands.specs.Printing.{EndsWith}
@@ -37,11 +41,30 @@ pub record AreLeft (c : Netlist) (free : ℕ) (places : Option (List ℕ)) : Typ
   pub cleans : Cleans cleaned [] c kept
   pub are : places ≡ if_many (free_latches cleaned.aig) kept free
 
--- the places of d's free latches among c's: all where there are as many, else those that cleaning leaves
-abbrev pub AreKept : Netlist → Netlist → Option (List ℕ) → Type 0
-AreKept c d places =
+-- the options of a retiming that merges latches, takes no frame and holds no latch
+pub record AreMergeOptions (options : Options) : Type 0 where
+  pub frames : options.max_frames ≡ 0
+  pub merge : options.merge ≡ true
+  pub names : names_in options ≡ []
+
+-- the places of the free latches that cleaning leaves of what c is merged to, where these are so many
+pub record AreLeftMerged (c : Netlist) (free : ℕ) (places : Option (List ℕ)) : Type 0 where
+  pub options : Options
+  pub are_options : AreMergeOptions options
+  pub retimed : Retimed
+  pub is : IsRetimedBy options c retimed
+  pub are : places ≡ if_many (free_latches retimed.circuit.aig) retimed.kept_free free
+
+abbrev pub AreLeftFor : Bool → Netlist → ℕ → Option (List ℕ) → Type 0
+AreLeftFor false c free places = AreLeft c free places
+AreLeftFor true c free places = AreLeftMerged c free places
+
+-- the places of d's free latches among c's: all where there are as many, else those that cleaning leaves, of c, or where latches were
+-- merged of what c is merged to
+abbrev pub AreKept : Bool → Netlist → Netlist → Option (List ℕ) → Type 0
+AreKept merge c d places =
     ((free_latches c.aig ≡ free_latches d.aig) × (places ≡ Some (all_free c.aig)))
-    ⊎ ((free_latches c.aig ≢ free_latches d.aig) × AreLeft c (free_latches d.aig) places)
+    ⊎ ((free_latches c.aig ≢ free_latches d.aig) × AreLeftFor merge c (free_latches d.aig) places)
 
 -- where these free latches were kept
 abbrev pub IsJudged : Netlist → Netlist → List ℕ → Witness → Fate → Type 0
@@ -50,36 +73,36 @@ IsJudged c d kept w (Objected objection) = IsConfirmedBack c d kept w (Err objec
 IsJudged c d kept w ShapesDiffer = ⊥
 
 -- the circuits have the widths of a retiming, and the witness is judged by the free latches that were kept
-pub record IsJudgedBy (c d : Netlist) (w : Witness) (fate : Fate) : Type 0 where
+pub record IsJudgedBy (merge : Bool) (c d : Netlist) (w : Witness) (fate : Fate) : Type 0 where
   pub widths : have_same_widths c d ≡ true
   pub kept : List ℕ
-  pub are : AreKept c d (Some kept)
+  pub are : AreKept merge c d (Some kept)
   pub judged : IsJudged c d kept w fate
 
 -- what becomes of a witness of d; the circuits aren't those of a retiming where their widths differ or no free latches were kept
-abbrev pub IsFate : Netlist → Netlist → Witness → Fate → Type 0
-IsFate c d w ShapesDiffer = (have_same_widths c d ≡ false) ⊎ AreKept c d None
-IsFate c d w fate = IsJudgedBy c d w fate
+abbrev pub IsFate : Bool → Netlist → Netlist → Witness → Fate → Type 0
+IsFate merge c d w ShapesDiffer = (have_same_widths c d ≡ false) ⊎ AreKept merge c d None
+IsFate merge c d w fate = IsJudgedBy merge c d w fate
 
 -- of the witness that is read
-pub record IsFateUnder (c d : Netlist) (witness : Source) (before after : Input) (fate : Fate) : Type 0 where
+pub record IsFateUnder (task : Carrying) (c d : Netlist) (before after : Input) (fate : Fate) : Type 0 where
   pub read_witness : Witness
-  pub read : IsWitnessAt witness d before after read_witness
-  pub is : IsFate c d read_witness fate
+  pub read : IsWitnessAt task.witness d before after read_witness
+  pub is : IsFate task.merge c d read_witness fate
 
 -- of the circuit that is read, and the witness that is read after it
-pub record IsFateWith (c : Netlist) (retimed witness : Source) (before after : Input) (fate : Fate) : Type 0 where
+pub record IsFateWith (task : Carrying) (c : Netlist) (before after : Input) (fate : Fate) : Type 0 where
   pub spelt : SpeltCircuit
   pub between : Input
-  pub read : IsCircuitAt retimed before between spelt
-  pub found : IsFateUnder c spelt.circuit witness between after fate
+  pub read : IsCircuitAt task.retimed before between spelt
+  pub found : IsFateUnder task c spelt.circuit between after fate
 
 -- of all that is read, in this order
-pub record IsFateOf (input retimed witness : Source) (before after : Input) (fate : Fate) : Type 0 where
+pub record IsFateOf (task : Carrying) (before after : Input) (fate : Fate) : Type 0 where
   pub spelt : SpeltCircuit
   pub between : Input
-  pub read : IsCircuitAt input before between spelt
-  pub found : IsFateWith spelt.circuit retimed witness between after fate
+  pub read : IsCircuitAt task.input before between spelt
+  pub found : IsFateWith task spelt.circuit between after fate
 
 abbrev pub fate_text : Fate → List ℕ
 fate_text (Confirmed confirmed) = whole_text confirmed.witness confirmed.reached
@@ -92,7 +115,7 @@ outcome_of_fate (Objected objection) = ends.Unconfirmed
 outcome_of_fate ShapesDiffer = ends.ShapesDiffer
 
 -- that was printed, and the run ends by it
-pub record PrintsFate (input retimed witness : Source) (before after : Input) (old new : Output) (ended : Outcome) : Type 0 where
+pub record PrintsFate (task : Carrying) (before after : Input) (old new : Output) (ended : Outcome) : Type 0 where
   pub fate : Fate
-  pub found : IsFateOf input retimed witness before after fate
+  pub found : IsFateOf task before after fate
   pub printed : EndsWith (outcome_of_fate fate) (fate_text fate) old new ended

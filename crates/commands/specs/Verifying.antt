@@ -6,7 +6,7 @@ use Rattle.counted_io.specs.Input.{Input}
 use Rattle.counted_io.specs.Output.{Output, WritesAll}
 use Rattle.certificates.specs.declared.certificate.Certificate.{Certificate}
 use Rattle.certificate_files.specs.declared.file.CertFile.{CertFile}
-use Rattle.certificate_audits.specs.Audits.{IsAudit}
+use Rattle.certificate_audits.specs.Audits.{IsAudit, IsMergedAudit}
 use Rattle.certificate_audits.specs.declared.outcome.Audit.{Audit}
 use Rattle.certificate_audits.specs.declared.outcome.End.{End}
 use Rattle.certificate_audits.specs.declared.outcome.End.TheVariants.{NoBlocks, Certified, Open, BlocksFollow, Objected}
@@ -40,10 +40,15 @@ pub record EndsWithAudit (json : Bool) (blocks : List Certificate) (audit : Audi
   pub prints : WritesAll old new (printed_audit json blocks audit)
   pub ends : ended ≡ outcome_of_end audit.end
 
+-- the audit of the blocks for c, or, where latches were merged before the first frame, for what c is merged to
+abbrev pub IsAuditFor : Bool → List (List ℕ) → Netlist → List Certificate → Audit → Type 0
+IsAuditFor false names c blocks audit = IsAudit names c blocks audit
+IsAuditFor true names c blocks audit = IsMergedAudit names c blocks audit
+
 -- the audit of the blocks for this circuit, with the latches held that the task names, is printed as it asks, and the run ends by it
 pub record PrintsAudit (task : Verification) (c : Netlist) (blocks : List Certificate) (ended : Outcome) (old new : Output) : Type 0 where
   pub audit : Audit
-  pub audits : IsAudit (held_names task) c blocks audit
+  pub audits : IsAuditFor task.merge (held_names task) c blocks audit
   pub printed : EndsWithAudit task.json blocks audit old new ended
 
 -- that of the certificates that are read, for this circuit

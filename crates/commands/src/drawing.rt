@@ -4,8 +4,7 @@ ghost use Rattle.aig_graph.specs.Keep.{held_by};
 ghost use Rattle.counted_io.specs.Output.{WritesAll};
 ghost use Rattle.pictures.specs.Looks.{IsViewOf};
 ghost use Rattle.pictures.specs.Pictures.{picture};
-ghost use Rattle.retimed_circuits.specs.Retiming.{IsRetimed};
-ghost use Rattle.frames.specs.Named.{names_in};
+ghost use Rattle.frames.specs.Retiming.{IsRetimedBy};
 ghost use Rattle.stream_paths.specs.Streams.{is_stdout};
 ghost use Rattle.circuit_files.specs.Outcomes.{outcome_of};
 ghost use Rattle.circuit_files.specs.declared.outcome.Outcome.TheVariants.{Device};
@@ -263,8 +262,7 @@ fn cleaned<R: Threads + Sync>(
     circuit: &Circuit,
     options: &Options,
 ) -> Result<Retimed, RetimeError>
-    ensures { IfOk result (IsRetimed options.now.choice circuit.now (names_in options.now)
-        options.now.max_frames options.now.certify) }
+    ensures { IfOk result (IsRetimedBy options.now circuit.now) }
 {
     let crew = Crew::new(1, OpenGate);
     retime(rt, alloc, circuit, options, &crew)
@@ -314,6 +312,7 @@ fn options(alloc: Global, task: &Drawing<'_>) -> Result<Options, AllocError>
     Ok(Options {
         max_frames: 0,
         keep: bytes_of_names(alloc, task.keep.as_slice())?,
+        merge: task.merge,
         ..Options::defaults(alloc)
     })
 }

@@ -44,6 +44,7 @@ fn options(alloc: Global, task: &Retiming<'_>) -> Result<Options, AllocError>
         choice: task.choice,
         certify: task.certificates.is_some(),
         keep: bytes_of_names(alloc, task.keep.as_slice())?,
+        merge: task.merge,
     })
 }
 

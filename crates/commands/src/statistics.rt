@@ -3,17 +3,19 @@ ghost use Rattle.std.specs.Prelude.{◌≡◌, IfOk};
 ghost use Rattle.reports.specs.Counts.{counts_text};
 ghost use Rattle.circuit_files.specs.declared.outcome.Outcome.TheVariants.{Done};
 ghost use Rattle.commands.specs.Printing.{EndsPrinting, EndsWith, Prints, ending};
-ghost use Rattle.commands.specs.Statistics.{PrintsStatistics, passable_count, statistics_text};
+ghost use Rattle.commands.specs.Statistics.{AreMergeCounts, AreMergeCountsFor, PrintsCounts, PrintsStatistics, passable_count, statistics_text};
 
 use crate::ended::ended;
 use aig_graph::{Circuit, Keep, NoMemory};
 use circuit_files::{Failure, Outcome, circuit_at};
+use frame_start::merged_start;
+use command_line::Counting;
 use counted_io::{CountedRead, CountedWrite};
 use frame_net::passable;
+use merged_latches::MergeCounts;
 use reports::print_counts;
 use std::alloc::Global;
 use std::rt::Files;
-use stream_paths::Source;
 
 /// The number of passable gates, where no latch is held.
 fn passable_gates(alloc: Global, circuit: &Circuit) -> Result<u32, NoMemory>
@@ -23,37 +25,83 @@ fn passable_gates(alloc: Global, circuit: &Circuit) -> Result<u32, NoMemory>
     Ok(pass.count())
 }
 
+/// How many latches of the circuit cleaned are merged, where none is held.
+fn merge_counts(alloc: Global, circuit: &Circuit) -> Result<MergeCounts, NoMemory>
+    ensures { IfOk result (AreMergeCounts circuit.now) }
+{
+    let start = merged_start(alloc, circuit, &[])?;
+    let counts = start.counts;
+    drop(start);
+    Ok(counts)
+}
+
+/// The same, where that is asked for.
+fn merge_counts_for(
+    alloc: Global,
+    circuit: &Circuit,
+    merge: bool,
+) -> Result<Option<MergeCounts>, NoMemory>
+    ensures { IfOk result (AreMergeCountsFor merge circuit.now) }
+{
+    if !merge {
+        return Ok(None);
+    }
+    match merge_counts(alloc, circuit) {
+        Ok(counts) => Ok(Some(counts)),
+        Err(error) => Err(error),
+    }
+}
+
 fn print_lines<'a, O: CountedWrite>(
     circuit: &Circuit,
     passable: u32,
+    merged: Option<MergeCounts>,
     out: &mut O,
 ) -> Result<Outcome, Failure<'a>>
-    ensures { EndsPrinting Done (counts_text circuit.now passable) (O.output out.old)
+    ensures { EndsPrinting Done (counts_text circuit.now passable merged) (O.output out.old)
         (O.output out.new) result }
 {
-    ended(print_counts(circuit, passable, out), Outcome::Done)
+    ended(print_counts(circuit, passable, merged, out), Outcome::Done)
 }
 
-/// Prints what a circuit has, as an object of JSON or in lines.
-fn print_circuit<'a, O: CountedWrite>(
+/// Prints what a circuit has, and how many of its latches are merged where that is known, as an object of JSON or in lines.
+fn print_merged<'a, O: CountedWrite>(
     alloc: Global,
     circuit: &Circuit,
+    merged: Option<MergeCounts>,
     json: bool,
     out: &mut O,
 ) -> Result<Outcome, Failure<'a>>
-    ensures statistics { IfOk result (EndsWith Done (statistics_text json circuit.now)
+    ensures statistics { IfOk result (EndsWith Done (statistics_text json circuit.now merged)
         (O.output out.old) (O.output out.new)) }
     ensures prints { Prints (ending result) (O.output out.old) (O.output out.new) }
 {
     match passable_gates(alloc, circuit) {
         Ok(passable) => {
             if json {
-                command_objects::print_statistics(alloc, circuit, passable, out)
+                command_objects::print_statistics(alloc, circuit, passable, merged, out)
             } else {
-                print_lines(circuit, passable, out)
+                print_lines(circuit, passable, merged, out)
             }
         }
         Err(_) => Err(Failure::Memory),
+    }
+}
+
+/// Prints what a circuit has, as the task asks.
+fn print_circuit<'a, O: CountedWrite>(
+    alloc: Global,
+    circuit: &Circuit,
+    task: &Counting<'_>,
+    out: &mut O,
+) -> Result<Outcome, Failure<'a>>
+    ensures statistics { IfOk result (PrintsCounts task.now circuit.now (O.output out.old)
+        (O.output out.new)) }
+    ensures prints { Prints (ending result) (O.output out.old) (O.output out.new) }
+{
+    match merge_counts_for(alloc, circuit, task.merge) {
+        Ok(merged) => print_merged(alloc, circuit, merged, task.json, out),
+        Err(NoMemory) => Err(Failure::Memory),
     }
 }
 
@@ -61,18 +109,17 @@ fn print_circuit<'a, O: CountedWrite>(
 pub fn print_statistics<'a, R: Files, I: CountedRead, O: CountedWrite>(
     rt: &R,
     alloc: Global,
-    input: Source<'a>,
-    json: bool,
+    task: &Counting<'a>,
     stdin: &mut I,
     out: &mut O,
 ) -> Result<Outcome, Failure<'a>>
-    ensures statistics { IfOk result (PrintsStatistics input.entry json (I.input stdin.old)
+    ensures statistics { IfOk result (PrintsStatistics task.now (I.input stdin.old)
         (I.input stdin.new) (O.output out.old) (O.output out.new)) }
     ensures prints { Prints (ending result) (O.output out.old) (O.output out.new) }
 {
-    match circuit_at(rt, alloc, input, stdin) {
+    match circuit_at(rt, alloc, task.input, stdin) {
         Ok(spelt) => {
-            let printed = print_circuit(alloc, &spelt.circuit, json, out);
+            let printed = print_circuit(alloc, &spelt.circuit, task, out);
             drop(spelt);
             printed
         }

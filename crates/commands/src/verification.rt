@@ -1,15 +1,15 @@
 //! The command `verify`.
 ghost use Rattle.std.specs.Prelude.{◌≡◌, IfOk};
-ghost use Rattle.certificate_audits.specs.Audits.{IsAudit};
+ghost use Rattle.certificate_audits.specs.Audits.{IsAudit, IsMergedAudit};
 ghost use Rattle.aig_graph.specs.Keep.{names_of};
 ghost use Rattle.reports.specs.Audits.{audit_text};
 ghost use Rattle.commands.specs.Printing.{EndsPrinting, Prints, ending};
-ghost use Rattle.commands.specs.Verifying.{EndsWithAudit, PrintsAudit, PrintsAuditFor, PrintsAuditOf, held_names, outcome_of_end};
+ghost use Rattle.commands.specs.Verifying.{EndsWithAudit, IsAuditFor, PrintsAudit, PrintsAuditFor, PrintsAuditOf, held_names, outcome_of_end};
 
 use crate::ended::ended;
 use crate::names::{bytes_of_names, failure_of_names};
 use aig_graph::Circuit;
-use certificate_audits::{Audit, End, audit_blocks};
+use certificate_audits::{Audit, End, audit_blocks, audit_merged};
 use certificates::Certificate;
 use circuit_files::{Failure, Outcome, certificates_at, circuit_at};
 use command_line::Verification;
@@ -18,8 +18,8 @@ use reports::print_audit;
 use std::alloc::Global;
 use std::rt::Files;
 
-/// The audit of certificates, where the latches with these names are held.
-fn audited_by<'a>(
+/// The audit of certificates of a run that merged no latches, where those with these names are held.
+fn audited_as_is<'a>(
     alloc: Global,
     circuit: &Circuit,
     blocks: &[Certificate],
@@ -34,6 +34,40 @@ fn audited_by<'a>(
     }
 }
 
+/// The same of a run that merged latches first.
+fn audited_merged<'a>(
+    alloc: Global,
+    circuit: &Circuit,
+    blocks: &[Certificate],
+    names: &[Vec<u8>],
+    task: &Verification<'a>,
+) -> Result<Audit, Failure<'a>>
+    ensures { IfOk result (IsMergedAudit (names_of names.now) circuit.now blocks.now) }
+{
+    match audit_merged(alloc, circuit, blocks, names) {
+        Ok(audit) => Ok(audit),
+        Err(error) => Err(failure_of_names(error, task.input, task.keep.as_slice())),
+    }
+}
+
+/// The audit of certificates, where the latches with these names are held.
+fn audited_by<'a>(
+    alloc: Global,
+    circuit: &Circuit,
+    blocks: &[Certificate],
+    names: &[Vec<u8>],
+    task: &Verification<'a>,
+) -> Result<Audit, Failure<'a>>
+    ensures { IfOk result (IsAuditFor task.now.merge (names_of names.now) circuit.now
+        blocks.now) }
+{
+    if task.merge {
+        audited_merged(alloc, circuit, blocks, names, task)
+    } else {
+        audited_as_is(alloc, circuit, blocks, names, task)
+    }
+}
+
 /// The audit of certificates.
 fn audited<'a>(
     alloc: Global,
@@ -41,7 +75,8 @@ fn audited<'a>(
     blocks: &[Certificate],
     task: &Verification<'a>,
 ) -> Result<Audit, Failure<'a>>
-    ensures { IfOk result (IsAudit (held_names task.now) circuit.now blocks.now) }
+    ensures { IfOk result (IsAuditFor task.now.merge (held_names task.now) circuit.now
+        blocks.now) }
 {
     match bytes_of_names(alloc, task.keep.as_slice()) {
         Ok(names) => audited_by(alloc, circuit, blocks, names.as_slice(), task),

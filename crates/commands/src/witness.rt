@@ -3,7 +3,7 @@ ghost use Rattle.std.specs.Prelude.{◌≡◌, IfOk};
 ghost use Rattle.aig_graph.specs.Graph as graphs;
 ghost use Rattle.witnesses.specs.Texts.{whole_text};
 ghost use Rattle.circuit_files.specs.declared.outcome.Outcome.TheVariants.{Done};
-ghost use Rattle.commands.specs.Fates.{AreKept, IsFate, IsFateOf, IsFateUnder, IsFateWith, IsJudged, PrintsFate, fate_text, if_many, outcome_of_fate};
+ghost use Rattle.commands.specs.Fates.{AreKept, AreLeft, AreLeftMerged, AreMergeOptions, IsFate, IsFateOf, IsFateUnder, IsFateWith, IsJudged, PrintsFate, fate_text, if_many, outcome_of_fate};
 ghost use Rattle.commands.specs.Fates as wanted;
 ghost use Rattle.commands.specs.Printing.{EndsPrinting, Prints, ending};
 
@@ -11,12 +11,14 @@ use crate::ended::ended;
 use aig_graph::{Circuit, Keep, NoMemory, Sequence};
 use circuit_files::{Failure, Outcome, circuit_at, witness_at};
 use clean::{Cleaned, clean};
+use command_line::Carrying;
 use counted_io::{CountedRead, CountedWrite};
+use frames::{Options, Retimed, retime};
+use pulse::{Crew, OpenGate};
 use reports::print_shapes_differ;
 use std::alloc::Global;
 use std::rt::Files;
 use std::thread::Threads;
-use stream_paths::Source;
 use tidy::all_places;
 use witnesses::{Confirmed, Objection, Widths, Witness, confirm, print_objection, print_witness};
 
@@ -45,22 +47,84 @@ fn places_left(cleaned: Cleaned, free: u32) -> Option<Sequence<u32>>
     }
 }
 
+/// The places that a retiming leaves, where there are so many.
+fn places_of(retimed: Retimed, free: u32) -> Option<Sequence<u32>>
+    ensures { result ≡ if_many (graphs.free_latches retimed.circuit.aig) retimed.kept_free free }
+{
+    let Retimed {
+        circuit,
+        kept_free,
+        certificates,
+        ..
+    } = retimed;
+    drop(certificates);
+    if circuit.aig().free_latches() == free {
+        Some(kept_free)
+    } else {
+        None
+    }
+}
+
+/// The options of a retiming that merges latches and takes no frame.
+fn merge_options(alloc: Global) -> Options
+    ensures { AreMergeOptions result }
+{
+    Options {
+        max_frames: 0,
+        merge: true,
+        ..Options::defaults(alloc)
+    }
+}
+
+/// The places of the free latches that are left of a circuit once it is merged and cleaned, where there are so many.
+fn places_merged<R: Threads + Sync>(
+    rt: &R,
+    alloc: Global,
+    circuit: &Circuit,
+    free: u32,
+) -> Result<Option<Sequence<u32>>, NoMemory>
+    ensures { IfOk result (AreLeftMerged circuit.now free) }
+{
+    let options = merge_options(alloc);
+    match retime(rt, alloc, circuit, &options, &Crew::new(1, OpenGate)) {
+        Ok(retimed) => Ok(places_of(retimed, free)),
+        Err(_) => Err(NoMemory),
+    }
+}
+
+/// The places of the free latches that cleaning leaves of a circuit, where there are so many.
+fn places_cleaned(
+    alloc: Global,
+    circuit: &Circuit,
+    free: u32,
+) -> Result<Option<Sequence<u32>>, NoMemory>
+    ensures { IfOk result (AreLeft circuit.now free) }
+{
+    match clean(alloc, circuit, &Keep::none()) {
+        Ok(cleaned) => Ok(places_left(cleaned, free)),
+        Err(error) => Err(error),
+    }
+}
+
 /// The places of a retimed circuit's free latches among those of the circuit that it was made of: they keep their order, so these are
-/// all where there are as many, and else those that cleaning leaves, where these are as many.
-fn kept_places(
+/// all where there are as many, and else those that are left before the first frame, where these are as many.
+fn kept_places<R: Threads + Sync>(
+    rt: &R,
     alloc: Global,
     circuit: &Circuit,
     retimed: &Circuit,
+    merge: bool,
 ) -> Result<Option<Sequence<u32>>, NoMemory>
-    ensures { IfOk result (AreKept circuit.now retimed.now) }
+    ensures { IfOk result (AreKept merge circuit.now retimed.now) }
 {
     let free = retimed.aig().free_latches();
     if circuit.aig().free_latches() == free {
         return Ok(Some(all_places(alloc, circuit.aig())?));
     }
-    match clean(alloc, circuit, &Keep::none()) {
-        Ok(cleaned) => Ok(places_left(cleaned, free)),
-        Err(error) => Err(error),
+    if merge {
+        places_merged(rt, alloc, circuit, free)
+    } else {
+        places_cleaned(alloc, circuit, free)
     }
 }
 
@@ -100,14 +164,15 @@ fn judged<'a, R: Threads + Sync>(
     alloc: Global,
     circuit: &Circuit,
     retimed: &Circuit,
+    merge: bool,
     witness: Witness,
 ) -> Result<Fate, Failure<'a>>
-    ensures { IfOk result (IsFate circuit.now retimed.now witness) }
+    ensures { IfOk result (IsFate merge circuit.now retimed.now witness) }
 {
     if !have_same_widths(circuit, retimed) {
         return Ok(Fate::ShapesDiffer);
     }
-    let Ok(places) = kept_places(alloc, circuit, retimed) else {
+    let Ok(places) = kept_places(rt, alloc, circuit, retimed, merge) else {
         return Err(Failure::Memory);
     };
     let Some(kept) = places else {
@@ -125,14 +190,14 @@ fn fate_under<'a, R: Files + Threads + Sync, I: CountedRead>(
     alloc: Global,
     circuit: &Circuit,
     retimed: &Circuit,
-    witness: Source<'a>,
+    task: &Carrying<'a>,
     stdin: &mut I,
 ) -> Result<Fate, Failure<'a>>
-    ensures { IfOk result (IsFateUnder circuit.now retimed.now witness.entry (I.input stdin.old)
+    ensures { IfOk result (IsFateUnder task.now circuit.now retimed.now (I.input stdin.old)
         (I.input stdin.new)) }
 {
-    match witness_at(rt, alloc, witness, retimed, stdin) {
-        Ok(witness) => judged(rt, alloc, circuit, retimed, witness),
+    match witness_at(rt, alloc, task.witness, retimed, stdin) {
+        Ok(witness) => judged(rt, alloc, circuit, retimed, task.merge, witness),
         Err(failure) => Err(failure),
     }
 }
@@ -142,16 +207,15 @@ fn fate_with<'a, R: Files + Threads + Sync, I: CountedRead>(
     rt: &R,
     alloc: Global,
     circuit: &Circuit,
-    retimed: Source<'a>,
-    witness: Source<'a>,
+    task: &Carrying<'a>,
     stdin: &mut I,
 ) -> Result<Fate, Failure<'a>>
-    ensures { IfOk result (IsFateWith circuit.now retimed.entry witness.entry (I.input stdin.old)
+    ensures { IfOk result (IsFateWith task.now circuit.now (I.input stdin.old)
         (I.input stdin.new)) }
 {
-    match circuit_at(rt, alloc, retimed, stdin) {
+    match circuit_at(rt, alloc, task.retimed, stdin) {
         Ok(retimed) => {
-            let found = fate_under(rt, alloc, circuit, &retimed.circuit, witness, stdin);
+            let found = fate_under(rt, alloc, circuit, &retimed.circuit, task, stdin);
             drop(retimed);
             found
         }
@@ -162,17 +226,14 @@ fn fate_with<'a, R: Files + Threads + Sync, I: CountedRead>(
 fn fate_of<'a, R: Files + Threads + Sync, I: CountedRead>(
     rt: &R,
     alloc: Global,
-    input: Source<'a>,
-    retimed: Source<'a>,
-    witness: Source<'a>,
+    task: &Carrying<'a>,
     stdin: &mut I,
 ) -> Result<Fate, Failure<'a>>
-    ensures { IfOk result (IsFateOf input.entry retimed.entry witness.entry (I.input stdin.old)
-        (I.input stdin.new)) }
+    ensures { IfOk result (IsFateOf task.now (I.input stdin.old) (I.input stdin.new)) }
 {
-    match circuit_at(rt, alloc, input, stdin) {
+    match circuit_at(rt, alloc, task.input, stdin) {
         Ok(circuit) => {
-            let found = fate_with(rt, alloc, &circuit.circuit, retimed, witness, stdin);
+            let found = fate_with(rt, alloc, &circuit.circuit, task, stdin);
             drop(circuit);
             found
         }
@@ -206,17 +267,15 @@ fn print_fate<'a, O: CountedWrite>(fate: &Fate, out: &mut O) -> Result<Outcome, 
 pub fn print_witness_back<'a, R: Files + Threads + Sync, I: CountedRead, O: CountedWrite>(
     rt: &R,
     alloc: Global,
-    input: Source<'a>,
-    retimed: Source<'a>,
-    witness: Source<'a>,
+    task: &Carrying<'a>,
     stdin: &mut I,
     out: &mut O,
 ) -> Result<Outcome, Failure<'a>>
-    ensures fate { IfOk result (PrintsFate input.entry retimed.entry witness.entry
-        (I.input stdin.old) (I.input stdin.new) (O.output out.old) (O.output out.new)) }
+    ensures fate { IfOk result (PrintsFate task.now (I.input stdin.old) (I.input stdin.new)
+        (O.output out.old) (O.output out.new)) }
     ensures prints { Prints (ending result) (O.output out.old) (O.output out.new) }
 {
-    let fate = fate_of(rt, alloc, input, retimed, witness, stdin)?;
+    let fate = fate_of(rt, alloc, task, stdin)?;
     let printed = print_fate(&fate, out);
     drop(fate);
     printed

@@ -32,6 +32,7 @@ fn certifies<R: Threads + Sync>(
         choice: Choice::Greatest,
         certify: true,
         keep: Vec::new(alloc),
+        merge: false,
     };
     match retime(rt, alloc, circuit, &options, &Crew::new(1, OpenGate)) {
         Ok(retimed) => have_counts(retimed.certificates.as_slice(), counts),

@@ -17,6 +17,7 @@ fn defaults(alloc: Global) -> Options {
         choice: Choice::Greatest,
         certify: false,
         keep: Vec::new(alloc),
+        merge: false,
     }
 }
 

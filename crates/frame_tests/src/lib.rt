@@ -21,6 +21,8 @@ mod graphs;
 #[cfg(test)]
 mod lanes;
 #[cfg(test)]
+mod merged;
+#[cfg(test)]
 mod moves;
 #[cfg(test)]
 mod names;

@@ -34,6 +34,7 @@ fn gives<R: Threads + Sync>(
         choice,
         certify: false,
         keep: Vec::new(alloc),
+        merge: false,
     };
     let crew = Crew::new(1, OpenGate);
     let mut reader = Counted::new(bytes);
@@ -117,6 +118,7 @@ fn end<R: Threads + Sync>(rt: &R, alloc: Global, bytes: &[u8], writes: u64) -> O
         choice: Choice::Greatest,
         certify: false,
         keep: Vec::new(alloc),
+        merge: false,
     };
     let crew = Crew::new(1, OpenGate);
     let mut reader = Counted::new(bytes);

@@ -21,6 +21,7 @@ fn retimed<R: Threads + Sync>(
         choice: Choice::Greatest,
         certify: false,
         keep: Vec::new(alloc),
+        merge: false,
     };
     retime(rt, alloc, circuit, &options, &Crew::new(1, OpenGate)).ok()
 }
@@ -87,6 +88,7 @@ fn refuses_name<R: Threads + Sync>(
         choice: Choice::Greatest,
         certify: false,
         keep,
+        merge: false,
     };
     let refused = retime(rt, alloc, circuit, &options, &Crew::new(1, OpenGate)).err();
     refused == Some(RetimeError::NoSuchName(0))

@@ -49,6 +49,7 @@ fn stages_of<R: Threads + Sync>(rt: &R, alloc: Global, bytes: &[u8], max_frames:
         choice: Choice::Greatest,
         certify: false,
         keep: Vec::new(alloc),
+        merge: false,
     };
     let crew = Crew::new(1, OpenGate);
     let mut reader = Counted::new(bytes);

@@ -93,6 +93,7 @@ fn works_at_once<R: Threads + Sync>(rt: &R, alloc: Global, circuit: &Circuit, he
         choice: Choice::Greatest,
         certify: false,
         keep: Vec::new(alloc),
+        merge: false,
     };
     let crew = Crew::new(2, HeldGate::new(held));
     let done = retime(rt, alloc, circuit, &options, &crew).is_ok();

@@ -1,5 +1,5 @@
 -- What the frames of a run rest on.
-use Rattle.std.proofs.Common.{ℕ, ◌≡◌, ◌<◌, ◌≤◌, ◌++◌, suc, refl, List, [], ◌∷◌, length, get_or, arith, ap, sym, ◌∙◌, subst, Result, Ok, Err}
+use Rattle.std.proofs.Common.{ℕ, ◌≡◌, ◌<◌, ◌≤◌, ◌++◌, suc, refl, List, [], ◌∷◌, length, get_or, arith, ap, sym, ◌∙◌, subst, Result, Ok, Err, None}
 use Rattle.std.specs.Result.{IfOk}
 use Rattle.std.specs.List.{All}
 use Rattle.std.proofs.lemmas.List.FromFn.{length-range_with_len}
@@ -33,7 +33,7 @@ use Rattle.frames.specs.declared.frame.Frame.{Frame}
 use Rattle.frames.specs.declared.options.Options.{Options}
 use Rattle.frames.specs.Found.{Moves}
 use Rattle.frames.specs.Named.{kept_by, names_in}
-use Rattle.frames.specs.Retiming.{IsCleanedBy, IsHelpingSetBy, IsMovedBy, IsRetimedBy, IsTidyBy, Keeps, NoneSmallerBy}
+use Rattle.frames.specs.Retiming.{IsCleanedBy, IsHelpingSetBy, IsMovedBy, IsRetimedAsIs, IsTidyBy, Keeps, NoneSmallerBy}
 use Rattle.frames.specs.Underway.{IsUnderway, IsRun}
 use Rattle.frames.proofs.CertificateLaws.{certified}
 
@@ -101,19 +101,20 @@ moved-by options c after set (Err e) netlist same streams is = tt
 
 -- a cleaned circuit is what no frame makes
 pub underway-first : (options : Options) (c : Netlist) (d : Cleaned) (r : Retimed) → IsCircuit c → CleansIn (names_in options) c d.circuit d.kept_free → SameStreams c d.circuit d.kept_free
-    → r.circuit ≡ d.circuit → r.kept_free ≡ d.kept_free → r.read_latches ≡ length c.aig.latches → r.frames ≡ [] → IsUnderway options c 0 r
-underway-first options c d r valid cleans streams circuit places latches none =
-    let s : Retimed = record { circuit = d.circuit; kept_free = d.kept_free; read_latches = length c.aig.latches; frames = []; certificates = r.certificates } in
-    let same : r ≡ s = λ i. record { circuit = circuit i; kept_free = places i; read_latches = latches i; frames = none i; certificates = r.certificates } in
+    → r.circuit ≡ d.circuit → r.kept_free ≡ d.kept_free → r.read_latches ≡ length c.aig.latches → r.merged ≡ None → r.frames ≡ [] → IsUnderway options c 0 r
+underway-first options c d r valid cleans streams circuit places latches unmerged none =
+    let s : Retimed = record { circuit = d.circuit; kept_free = d.kept_free; read_latches = length c.aig.latches; merged = None; frames = []; certificates = r.certificates } in
+    let same : r ≡ s = λ i. record { circuit = circuit i; kept_free = places i; read_latches = latches i; merged = unmerged i; frames = none i; certificates = r.certificates } in
     subst (IsUnderway options c 0) (sym same)
-    (record { frames = cleaned d.circuit d.kept_free cleans; read_latches = refl; keeps = cleaned-keeps options c d.circuit d.kept_free valid cleans streams })
+    (record { frames = cleaned d.circuit d.kept_free cleans; read_latches = refl; none_merged = refl; keeps = cleaned-keeps options c d.circuit d.kept_free valid cleans streams })
 
 -- whatever certificates the next state has
 pub one-more : (options : Options) (c : Netlist) (n : ℕ) (r : Retimed) (taken : Frame) (certs : List Certificate) → IsUnderway options c n r → Moves options r.circuit taken → IsUnderway options c (suc n)
-    (record { circuit = taken.cleaned.circuit; kept_free = composed r.kept_free taken.cleaned.kept_free; read_latches = r.read_latches; frames = r.frames ++ taken.report ∷ []; certificates = certs })
+    (record { circuit = taken.cleaned.circuit; kept_free = composed r.kept_free taken.cleaned.kept_free; read_latches = r.read_latches; merged = None; frames = r.frames ++ taken.report ∷ []; certificates = certs })
 one-more options c n r taken certs before moves = record {
   frames = frame n r.circuit taken.cleaned.circuit r.kept_free taken.cleaned.kept_free r.frames taken.report before.frames moves.moves;
   read_latches = before.read_latches;
+  none_merged = refl;
   keeps = record {
     streams = same_streams-transitive c r.circuit taken.cleaned.circuit r.kept_free taken.cleaned.kept_free before.keeps.streams moves.keeps.streams;
     held = moves.keeps.held ∙ before.keeps.held;
@@ -123,10 +124,10 @@ one-more options c n r taken certs before moves = record {
 
 -- a run ends at the limit of frames, or where none counts less; it has the certificates that were collected
 pub ended : (options : Options) (c : Netlist) (records : Records) (r : Retimed) → IsRun options c records r
-    → IsRetimedBy options c
-    (record { circuit = r.circuit; kept_free = r.kept_free; read_latches = r.read_latches; frames = r.frames; certificates = records.certificates.items })
+    → IsRetimedAsIs options c
+    (record { circuit = r.circuit; kept_free = r.kept_free; read_latches = r.read_latches; merged = r.merged; frames = r.frames; certificates = records.certificates.items })
 ended options c records r run =
-    let s : Retimed = record { circuit = r.circuit; kept_free = r.kept_free; read_latches = r.read_latches; frames = r.frames; certificates = records.certificates.items } in
+    let s : Retimed = record { circuit = r.circuit; kept_free = r.kept_free; read_latches = r.read_latches; merged = r.merged; frames = r.frames; certificates = records.certificates.items } in
     let choice = options.choice in
     let names = names_in options in
     let taken : AfterFrames choice names c run.taken r.circuit r.kept_free r.frames = run.underway.frames in
@@ -136,6 +137,7 @@ ended options c records r run =
       within = omega (arith, long, run.within);
       last = λ less. run.last (omega (arith, long, less));
       read_latches = run.underway.read_latches;
+      none_merged = run.underway.none_merged;
       streams = run.underway.keeps.streams;
       certified = certified options c run.looked s records run.collected refl run.taken taken
           (λ limit. run.limited (sym long ∙ limit) ∙ sym long) (λ less. run.ended (omega (arith, long, less)) ∙ ap suc (sym long));

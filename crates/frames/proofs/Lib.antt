@@ -2,3 +2,4 @@ pub mod CertificateLaws
 pub mod FrameLaws
 pub mod AnswerLaws
 pub mod StopLaws
+pub mod MergedLaws

@@ -3,10 +3,11 @@ use Rattle.std.specs.Prelude.{◌≡◌, ◌^◌, [], None, false}
 use Rattle.least_sets.specs.declared.choice.Choice.TheVariants.{Greatest}
 use Rattle.frames.specs.declared.options.Options.{Options}
 
--- the spelling of the file, as many frames as can be, each over the greatest least set, no certificate, no latch held
+-- the spelling of the file, as many frames as can be, each over the greatest least set, no certificate, no latch held, none merged
 pub record AreDefaults (options : Options) : Type 0 where
   pub spelling : options.spelling ≡ None
   pub frames : options.max_frames ≡ 2 ^ 28
   pub choice : options.choice ≡ Greatest
   pub certify : options.certify ≡ false
   pub keep : options.keep.items ≡ []
+  pub merge : options.merge ≡ false

@@ -5,4 +5,5 @@ pub mod Retiming
 pub mod Found
 pub mod Certified
 pub mod Underway
+pub mod Merging
 pub mod Answering

@@ -6,14 +6,21 @@ use Rattle.clean.specs.declared.cleaning.Cleaned.{Cleaned}
 use Rattle.retimed_circuits.specs.declared.report.Retimed.{Retimed}
 use Rattle.retimed_circuits.specs.Frames.{CleansIn, IsHelpingSet, NoneSmaller, moved_in}
 use Rattle.retimed_circuits.specs.Names.{held_latches}
-use Rattle.retimed_circuits.specs.Retiming.{IsRetimed}
+use Rattle.retimed_circuits.specs.Retiming.{IsMergedRetimed, IsRetimed, IsRetimedWith}
 use Rattle.tidy.specs.Tidy.{IsTidyIn}
 use Rattle.frames.specs.declared.options.Options.{Options}
 use Rattle.frames.specs.Named.{names_in}
 
 -- r is c retimed by the options
 abbrev pub IsRetimedBy : Options → Netlist → Retimed → Type 0
-IsRetimedBy options c r = IsRetimed options.choice c (names_in options) options.max_frames options.certify r
+IsRetimedBy options c r = IsRetimedWith options.merge options.choice c (names_in options) options.max_frames options.certify r
+
+-- the same without merging, and with it, whatever the options say of that
+abbrev pub IsRetimedAsIs : Options → Netlist → Retimed → Type 0
+IsRetimedAsIs options c r = IsRetimed options.choice c (names_in options) options.max_frames options.certify r
+
+abbrev pub IsRetimedMerged : Options → Netlist → Retimed → Type 0
+IsRetimedMerged options c r = IsMergedRetimed options.choice c (names_in options) options.max_frames options.certify r
 
 -- no closed set counts less than c has known latches
 abbrev pub NoneSmallerBy : Options → Netlist → Type 0

@@ -1,5 +1,5 @@
 -- A run of frames that goes on, and one that ended.
-use Rattle.std.specs.Prelude.{ℕ, suc, ◌≡◌, ◌<◌, ◌≤◌, length}
+use Rattle.std.specs.Prelude.{ℕ, suc, ◌≡◌, ◌<◌, ◌≤◌, length, None}
 use Rattle.aig_graph.specs.Circuits.{Netlist}
 use Rattle.chosen_cuts.specs.declared.records.Records.{Records}
 use Rattle.retimed_circuits.specs.declared.report.Retimed.{Retimed}
@@ -13,6 +13,7 @@ use Rattle.frames.specs.Retiming.{Keeps, NoneSmallerBy}
 pub record IsUnderway (options : Options) (c : Netlist) (n : ℕ) (r : Retimed) : Type 0 where
   pub frames : AfterFrames options.choice (names_in options) c n r.circuit r.kept_free r.frames
   pub read_latches : r.read_latches ≡ length c.aig.latches
+  pub none_merged : r.merged ≡ None
   pub keeps : Keeps options c r.circuit r.kept_free
 
 -- r is some circuit that has latches of all names, cleaned; it is named here alone, since it may have been dropped

@@ -10,7 +10,7 @@ ghost use Rattle.frames.specs.declared.errors.RetimeError.TheVariants.{NoSuchNam
 
 use crate::errors::BytesError;
 use crate::options::Options;
-use crate::retiming::retime_over;
+use crate::runs::retime_over;
 use crate::watcher::{FrameWatcher, NoWatcher, Stage};
 use aig_binary::{AnyReader, CircuitReader, Spelling, SpeltCircuit, read_circuit, write};
 use aig_graph::Circuit;

@@ -18,6 +18,8 @@ pub struct Options {
     pub certify: bool,
     /// The latches whose symbol has one of these names are held: they stay, with their resets and names.
     pub keep: Vec<Vec<u8>>,
+    /// Whether latches that always agree are merged before the first frame: the circuit is cleaned, merged, and retimed as any circuit is.
+    pub merge: bool,
 }
 
 impl Options {
@@ -32,6 +34,7 @@ impl Options {
             choice: Choice::Greatest,
             certify: false,
             keep: Vec::new(alloc),
+            merge: false,
         }
     }
 }

@@ -1,9 +1,9 @@
 //! Frame after frame.
-ghost use Rattle.std.specs.Prelude.{ℕ, ◌≡◌, suc, [], IfOk, OnOk, IsErrOf};
+ghost use Rattle.std.specs.Prelude.{ℕ, ◌≡◌, suc, [], None, IfOk, OnOk, IsErrOf};
 ghost use Rattle.aig_graph.specs.Circuits.{Netlist};
 ghost use Rattle.frames.specs.Found.{Moves};
 ghost use Rattle.frames.specs.Named.{IsFirstMissingBy, NoneMissingBy};
-ghost use Rattle.frames.specs.Retiming.{IsRetimedBy};
+ghost use Rattle.frames.specs.Retiming.{IsRetimedAsIs};
 ghost use Rattle.frames.specs.Underway.{IsBegun, IsRun, IsUnderway};
 ghost use Rattle.frames.specs.declared.errors.RetimeError.TheVariants.{NoSuchName};
 
@@ -11,7 +11,7 @@ use crate::errors::RetimeError;
 use crate::frame::{Frame, next_frame};
 use crate::history::{history_of, with_frame};
 use crate::options::Options;
-use crate::watcher::{FrameWatcher, NoWatcher, Stage};
+use crate::watcher::{FrameWatcher, Stage};
 use aig_graph::{Circuit, NoMemory, Sequence, keep_of};
 use chosen_cuts::Records;
 use clean::{Cleaned, clean};
@@ -25,6 +25,7 @@ fn begun(alloc: Global, start: Cleaned, read_latches: u32) -> Retimed
     ensures circuit { result.circuit ≡ start.circuit }
     ensures kept_free { result.kept_free ≡ start.kept_free }
     ensures read_latches { result.read_latches ≡ read_latches }
+    ensures merged { result.merged ≡ None }
     ensures frames { result.frames ≡ [] }
 {
     let Cleaned {
@@ -36,6 +37,7 @@ fn begun(alloc: Global, start: Cleaned, read_latches: u32) -> Retimed
         circuit,
         kept_free,
         read_latches,
+        merged: None,
         frames: Sequence::empty(alloc),
         certificates: Sequence::empty(alloc),
     }
@@ -59,7 +61,11 @@ fn begun_by_names(
 }
 
 /// The circuit before any frame, where a latch has each of the names; the one that was read is dropped.
-fn begun_over(alloc: Global, circuit: Circuit, options: &Options) -> Result<Retimed, RetimeError>
+pub(crate) fn begun_over(
+    alloc: Global,
+    circuit: Circuit,
+    options: &Options,
+) -> Result<Retimed, RetimeError>
     ensures underway { IfOk result (IsUnderway options.now circuit 0) }
     ensures none_missing { OnOk result (NoneMissingBy options.now circuit) }
     ensures missing { (place : ℕ) → IsErrOf result (NoSuchName place)
@@ -90,6 +96,7 @@ fn after_frame(
             circuit: cleaned.circuit,
             kept_free: after.kept_free,
             read_latches: after.read_latches,
+            merged: None,
             frames: after.frames,
             certificates: Sequence::empty(alloc),
         }),
@@ -146,6 +153,7 @@ fn with_certificates(retimed: Retimed, records: Records) -> Retimed
     ensures circuit { result.circuit ≡ retimed.circuit }
     ensures kept_free { result.kept_free ≡ retimed.kept_free }
     ensures read_latches { result.read_latches ≡ retimed.read_latches }
+    ensures merged { result.merged ≡ retimed.merged }
     ensures frames { result.frames ≡ retimed.frames }
     ensures certificates { result.certificates ≡ records.certificates.items }
 {
@@ -153,6 +161,7 @@ fn with_certificates(retimed: Retimed, records: Records) -> Retimed
         circuit,
         kept_free,
         read_latches,
+        merged,
         frames,
         ..
     } = retimed;
@@ -161,6 +170,7 @@ fn with_certificates(retimed: Retimed, records: Records) -> Retimed
         circuit,
         kept_free,
         read_latches,
+        merged,
         frames,
         certificates: Sequence::from_vec(certificates),
     }
@@ -168,7 +178,7 @@ fn with_certificates(retimed: Retimed, records: Records) -> Retimed
 
 /// A cleaned circuit retimed to the end, with the certificates that are wanted: the answer for every circuit that it is the cleaning
 /// of.
-fn retimed_from<G: PhaseGate, V: FrameWatcher>(
+pub(crate) fn retimed_from<G: PhaseGate, V: FrameWatcher>(
     rt: &(impl Threads + Sync),
     alloc: Global,
     start: Retimed,
@@ -179,7 +189,7 @@ fn retimed_from<G: PhaseGate, V: FrameWatcher>(
     requires { IsBegun options.now start }
     ensures { IfOk result (λ r. (c : Netlist)
         → IsUnderway options.now c 0 start
-        → IsRetimedBy options.now c r) }
+        → IsRetimedAsIs options.now c r) }
 {
     let mut records = Records::new(alloc, options.certify);
     match all_frames(rt, alloc, start, options, crew, &mut records, watcher) {
@@ -191,38 +201,8 @@ fn retimed_from<G: PhaseGate, V: FrameWatcher>(
     }
 }
 
-/// Cleans a circuit and retimes it forward, frame by frame: the latches move over the chosen least set of the circuit, and the
-/// circuit is cleaned again. It ends where no closed set needs fewer latches than there are, or at the limit of frames. The
-/// latches whose names the options have stay. The answer is the same for every crew, but for the routes of certificates.
-///
-/// A frame costs what its maximum flow costs, and is linear in the circuit but for that; what it made is dropped before the next
-/// one begins.
-///
-/// # Errors
-///
-/// `NoSuchName` where a name that the options have is that of no latch of the circuit, which is found first; `NoMemory` where
-/// memory is refused.
-pub fn retime<G: PhaseGate>(
-    rt: &(impl Threads + Sync),
-    alloc: Global,
-    circuit: &Circuit,
-    options: &Options,
-    crew: &Crew<G>,
-) -> Result<Retimed, RetimeError>
-    ensures retimed { IfOk result (IsRetimedBy options.now circuit.now) }
-    ensures none_missing { OnOk result (NoneMissingBy options.now circuit.now) }
-    ensures missing { (place : ℕ) → IsErrOf result (NoSuchName place)
-        → IsFirstMissingBy options.now circuit.now place }
-{
-    retime_watched(rt, alloc, circuit, options, crew, &mut NoWatcher)
-}
-
-/// [`retime`], seen by a watcher, which changes nothing of the answer.
-///
-/// # Errors
-///
-/// Those of [`retime`].
-pub fn retime_watched<G: PhaseGate, V: FrameWatcher>(
+/// A circuit cleaned and retimed, no latches merged.
+pub(crate) fn retime_as_is<G: PhaseGate, V: FrameWatcher>(
     rt: &(impl Threads + Sync),
     alloc: Global,
     circuit: &Circuit,
@@ -230,23 +210,18 @@ pub fn retime_watched<G: PhaseGate, V: FrameWatcher>(
     crew: &Crew<G>,
     watcher: &mut V,
 ) -> Result<Retimed, RetimeError>
-    ensures retimed { IfOk result (IsRetimedBy options.now circuit.now) }
+    ensures retimed { IfOk result (IsRetimedAsIs options.now circuit.now) }
     ensures none_missing { OnOk result (NoneMissingBy options.now circuit.now) }
     ensures missing { (place : ℕ) → IsErrOf result (NoSuchName place)
         → IsFirstMissingBy options.now circuit.now place }
 {
-    watcher.enter(Stage::Cleaning);
     let start = begun_by_names(alloc, circuit, options)?;
     let retimed = retimed_from(rt, alloc, start, options, crew, watcher)?;
     Ok(retimed)
 }
 
-/// [`retime_watched`] of a circuit that nobody needs once it is cleaned: it is dropped then, before the first frame.
-///
-/// # Errors
-///
-/// Those of [`retime`].
-pub(crate) fn retime_over<G: PhaseGate, V: FrameWatcher>(
+/// [`retime_as_is`] of a circuit that nobody needs once it is cleaned: it is dropped then, before the first frame.
+pub(crate) fn retime_as_is_over<G: PhaseGate, V: FrameWatcher>(
     rt: &(impl Threads + Sync),
     alloc: Global,
     circuit: Circuit,
@@ -254,12 +229,11 @@ pub(crate) fn retime_over<G: PhaseGate, V: FrameWatcher>(
     crew: &Crew<G>,
     watcher: &mut V,
 ) -> Result<Retimed, RetimeError>
-    ensures retimed { IfOk result (IsRetimedBy options.now circuit) }
+    ensures retimed { IfOk result (IsRetimedAsIs options.now circuit) }
     ensures none_missing { OnOk result (NoneMissingBy options.now circuit) }
     ensures missing { (place : ℕ) → IsErrOf result (NoSuchName place)
         → IsFirstMissingBy options.now circuit place }
 {
-    watcher.enter(Stage::Cleaning);
     let start = begun_over(alloc, circuit, options)?;
     let retimed = retimed_from(rt, alloc, start, options, crew, watcher)?;
     Ok(retimed)

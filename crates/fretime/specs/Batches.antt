@@ -23,6 +23,7 @@ pub record AreBatchOptions (task : Batch) (options : Options) : Type 0 where
   pub frames : options.max_frames ≡ task.frames
   pub choice : options.choice ≡ task.choice
   pub certify : options.certify ≡ false
+  pub merge : options.merge ≡ task.merge
   pub keep : options.keep.items ≡ []
 
 -- each outcome is that of its job, by the options of the task

@@ -33,27 +33,27 @@ if_json json name = if json then Some name else None
 -- the name of a task's command, where its failures are printed as objects; a batch prints its own
 abbrev pub object_command : Task → Option (List ℕ)
 object_command (Retime retiming) = if_json retiming.json (codes "retime")
-object_command (Stat input json) = if_json json (codes "stat")
+object_command (Stat counting) = if_json counting.json (codes "stat")
 object_command (Same comparison) = if_json comparison.json (codes "same")
 object_command (Verify verification) = if_json verification.json (codes "verify")
 object_command (Batch batch) = None
 object_command (Convert input output spelling) = None
 object_command (Sim input stimulus) = None
 object_command (Dot drawing) = None
-object_command (Witness input retimed witness) = None
+object_command (Witness carrying) = None
 object_command (Explain name) = None
 
 -- whether objects go to standard error, since standard output is given a circuit or certificates
 abbrev pub prints_aside : Task → Bool
 prints_aside (Retime retiming) = takes_stdout retiming
 prints_aside (Batch batch) = false
-prints_aside (Stat input json) = false
+prints_aside (Stat counting) = false
 prints_aside (Convert input output spelling) = false
 prints_aside (Sim input stimulus) = false
 prints_aside (Same comparison) = false
 prints_aside (Verify verification) = false
 prints_aside (Dot drawing) = false
-prints_aside (Witness input retimed witness) = false
+prints_aside (Witness carrying) = false
 prints_aside (Explain name) = false
 
 -- what a failure of the command with this name gives standard output, if it has any

@@ -36,13 +36,13 @@ MayGive (Err failure) old new = Prints (outcome_of failure) old new
 abbrev pub Does : Task → Input → Input → Output → Output → Outcome → Type 0
 Does (Retime retiming) before after old new ended = IsPipe retiming → WritesPipe retiming before old new
 Does (Batch batch) before after old new ended = PrintsList batch.json ended old new
-Does (Stat input json) before after old new ended = PrintsStatistics input json before after old new ended
+Does (Stat counting) before after old new ended = PrintsStatistics counting before after old new ended
 Does (Convert input output spelling) before after old new ended = is_stdin input ≡ true → is_stdout output ≡ true → ConvertsPipe spelling before old new
 Does (Sim input stimulus) before after old new ended = PrintsTrace input stimulus before after old new ended
 Does (Same comparison) before after old new ended = PrintsFinding comparison before after old new ended
 Does (Verify verification) before after old new ended = PrintsAuditOf verification before after old new ended
 Does (Dot drawing) before after old new ended = PrintsPicture drawing before after old new ended
-Does (Witness input retimed witness) before after old new ended = PrintsFate input retimed witness before after old new ended
+Does (Witness carrying) before after old new ended = PrintsFate carrying before after old new ended
 Does (Explain name) before after old new ended = Explains name.now old new ended
 
 -- that two circuits can't be compared, in a line or as an object

@@ -58,6 +58,7 @@ fn options_of(alloc: Global, task: &Batch<'_>) -> Options
         spelling: task.spelling,
         max_frames: task.frames,
         choice: task.choice,
+        merge: task.merge,
         ..Options::defaults(alloc)
     }
 }

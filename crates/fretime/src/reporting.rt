@@ -68,7 +68,7 @@ fn command_with_objects(task: &Task<'_>) -> Option<&'static str>
 {
     match task {
         Task::Retime(retiming) if retiming.json => Some("retime"),
-        Task::Stat(_, json) if *json => Some("stat"),
+        Task::Stat(counting) if counting.json => Some("stat"),
         Task::Same(comparison) if comparison.json => Some("same"),
         Task::Verify(verification) if verification.json => Some("verify"),
         _ => None,

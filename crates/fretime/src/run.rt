@@ -50,7 +50,7 @@ fn run_task<
             print_retimed(rt, alloc, retiming, is_terminal, stdin, out, err)
         }
         Task::Batch(batch) => Ok(retime_list(rt, alloc, batch, stdin, out, err)),
-        Task::Stat(input, json) => print_statistics(rt, alloc, *input, *json, stdin, out),
+        Task::Stat(counting) => print_statistics(rt, alloc, counting, stdin, out),
         Task::Convert(input, output, spelling) => {
             convert(rt, alloc, *input, *output, *spelling, stdin, out)
         }
@@ -58,9 +58,7 @@ fn run_task<
         Task::Same(comparison) => print_comparison(rt, alloc, comparison, stdin, out),
         Task::Verify(verification) => print_verification(rt, alloc, verification, stdin, out),
         Task::Dot(drawing) => write_picture(rt, alloc, drawing, stdin, out),
-        Task::Witness(input, retimed, witness) => {
-            print_witness_back(rt, alloc, *input, *retimed, *witness, stdin, out)
-        }
+        Task::Witness(carrying) => print_witness_back(rt, alloc, carrying, stdin, out),
         Task::Explain(name) => explain(alloc, *name, out, err),
     }
 }

@@ -40,8 +40,8 @@ differ_example : json_line (difference_data (Some (record { sequence = 0; step =
 unfolding serde_json_on_literals digits
 differ_example = refl
 
-stat_example : json_line (statistics_data two_latches 1)
-    ≡ codes "{\"circuit\":{\"bad\":0,\"constraints\":0,\"fairness\":0,\"free\":0,\"gates\":1,\"inputs\":2,\"justice\":0,\"latches\":2,\"outputs\":1},\"command\":\"stat\",\"passable\":1,\"status\":0}\n"
+stat_example : json_line (statistics_data two_latches 1 None)
+    ≡ codes "{\"circuit\":{\"bad\":0,\"constraints\":0,\"fairness\":0,\"free\":0,\"gates\":1,\"inputs\":2,\"justice\":0,\"latches\":2,\"outputs\":1},\"command\":\"stat\",\"merged\":null,\"passable\":1,\"status\":0}\n"
 unfolding serde_json_on_literals digits
 stat_example = refl
 
@@ -67,8 +67,8 @@ one_latch = record {
   symbols = record { inputs = []; latches = []; outputs = []; bad = []; constraints = []; justice = []; fairness = [] };
 }
 
-retime_example : json_line (retiming_data (record { circuit = one_latch; kept_free = []; read_latches = 2; frames = record { before = 2; after = 1; moved = 1 } ∷ []; certificates = [] }) (Some (record { reading = 120; cleaning = 7; frames = record { looking = 40; moving = 5 } ∷ []; writing = 60 })))
-    ≡ codes "{\"after\":{\"bad\":0,\"constraints\":0,\"fairness\":0,\"free\":0,\"gates\":1,\"inputs\":2,\"justice\":0,\"latches\":1,\"outputs\":1},\"before\":{\"latches\":2},\"command\":\"retime\",\"frames\":[{\"after\":1,\"before\":2,\"gates\":1}],\"free_kept\":[],\"microseconds\":{\"cleaning\":7,\"frames\":[{\"looking\":40,\"moving\":5}],\"reading\":120,\"writing\":60},\"status\":0}\n"
+retime_example : json_line (retiming_data (record { circuit = one_latch; kept_free = []; read_latches = 2; merged = None; frames = record { before = 2; after = 1; moved = 1 } ∷ []; certificates = [] }) (Some (record { reading = 120; cleaning = 7; frames = record { looking = 40; moving = 5 } ∷ []; writing = 60 })))
+    ≡ codes "{\"after\":{\"bad\":0,\"constraints\":0,\"fairness\":0,\"free\":0,\"gates\":1,\"inputs\":2,\"justice\":0,\"latches\":1,\"outputs\":1},\"before\":{\"latches\":2},\"command\":\"retime\",\"frames\":[{\"after\":1,\"before\":2,\"gates\":1}],\"free_kept\":[],\"merged\":null,\"microseconds\":{\"cleaning\":7,\"frames\":[{\"looking\":40,\"moving\":5}],\"reading\":120,\"writing\":60},\"status\":0}\n"
 unfolding serde_json_on_literals digits
 retime_example = refl
 

@@ -16,7 +16,8 @@ use Rattle.serde_json.specs.View.{items_of}
 use Rattle.serde_json.specs.Written.{has_float, items_have_float, members_have_float}
 use Rattle.json_reports.specs.Audits.{audit_data, block_data, objection_at, objection_name}
 use Rattle.json_reports.specs.Batches.{batch_data, job_data, latches_data}
-use Rattle.json_reports.specs.Counts.{circuit_data, statistics_data}
+use Rattle.merged_latches.specs.declared.counts.MergeCounts.{MergeCounts}
+use Rattle.json_reports.specs.Counts.{circuit_data, merge_data, statistics_data}
 use Rattle.json_reports.specs.Differences.{difference_data, place_data, shapes_data}
 use Rattle.json_reports.specs.Faults.{fault_data, fault_offset}
 use Rattle.json_reports.specs.Lines.{IsPlain, PrintsLine}
@@ -80,8 +81,9 @@ plain-fault fault = plain-object (plain-member (plain-string _) (plain-member (p
 plain-circuit : {n : ℕ} (c : Netlist) → Plain (suc n) (circuit_data c)
 plain-circuit c = record { whole = refl; nests = omega arith }
 
-pub statistics : (c : Netlist) (passable : ℕ) → IsPlain (statistics_data c passable)
-statistics c passable = record { whole = refl; nests = omega arith }
+pub statistics : (c : Netlist) (passable : ℕ) (merged : Option MergeCounts) → IsPlain (statistics_data c passable merged)
+statistics c passable None = record { whole = refl; nests = omega arith }
+statistics c passable (Some counts) = record { whole = refl; nests = omega arith }
 
 pub difference : (found : Option Place) → IsPlain (difference_data found)
 difference None = record { whole = refl; nests = omega arith }
@@ -98,10 +100,13 @@ plain-times t =
     plain-object (plain-member (plain-count t.cleaning) (plain-member (plain-array {n = 1} frame_times_data t.frames (λ f. record { whole = refl; nests = omega arith }))
     (plain-member (plain-count t.reading) (plain-member (plain-count t.writing) plain-none))))
 
+plain-merge : (counts : MergeCounts) → Plain 3 (merge_data counts)
+plain-merge counts = record { whole = refl; nests = omega arith }
+
 pub retiming : (r : Retimed) (times : Option Times) → IsPlain (retiming_data r times)
 retiming r times =
     is_plain {n = 4} (omega arith) (plain-object (plain-member (plain-circuit r.circuit) (plain-member record { whole = refl; nests = omega arith }
-    (plain-member (plain-string _) (plain-member (plain-array frame_data r.frames plain-frame) (plain-member (plain-array count r.kept_free plain-count) (plain-member (plain-or_null times_data plain-times times) (plain-member (plain-count 0) plain-none))))))))
+    (plain-member (plain-string _) (plain-member (plain-array frame_data r.frames plain-frame) (plain-member (plain-array count r.kept_free plain-count) (plain-member (plain-or_null merge_data plain-merge r.merged) (plain-member (plain-or_null times_data plain-times times) (plain-member (plain-count 0) plain-none)))))))))
 
 pub audit : (blocks : List Certificate) (a : Audit) (status : ℕ) → IsPlain (audit_data blocks a status)
 audit blocks a status =

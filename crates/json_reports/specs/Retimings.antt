@@ -3,7 +3,7 @@ use Rattle.std.specs.Prelude.{ℕ, Option, codes}
 use Rattle.retimed_circuits.specs.declared.report.FrameReport.{FrameReport}
 use Rattle.retimed_circuits.specs.declared.report.Retimed.{Retimed}
 use Rattle.serde_json.specs.Data.{Data, string, object, member, no_members}
-use Rattle.json_reports.specs.Counts.{circuit_data}
+use Rattle.json_reports.specs.Counts.{circuit_data, merge_data}
 use Rattle.json_reports.specs.Members.{count, array_of, or_null}
 use Rattle.json_reports.specs.Timings.{times_data}
 use Rattle.json_reports.specs.declared.times.Times.{Times}
@@ -23,5 +23,6 @@ retiming_data r times =
     (member (codes "command") (string (codes "retime"))
     (member (codes "frames") (array_of frame_data r.frames)
     (member (codes "free_kept") (array_of count r.kept_free)
+    (member (codes "merged") (or_null merge_data r.merged)
     (member (codes "microseconds") (or_null times_data times)
-    (member (codes "status") (count 0) no_members)))))))
+    (member (codes "status") (count 0) no_members))))))))

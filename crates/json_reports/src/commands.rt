@@ -21,6 +21,7 @@ use certificate_audits::Audit;
 use certificates::Certificate;
 use counted_io::CountedWrite;
 use lane_sim::Place;
+use merged_latches::MergeCounts;
 use reports::JobReport;
 use retimed_circuits::Retimed;
 use std::alloc::Global;
@@ -52,12 +53,13 @@ pub fn print_statistics<W: CountedWrite>(
     alloc: Global,
     circuit: &Circuit,
     passable: u32,
+    merged: Option<MergeCounts>,
     writer: &mut W,
 ) -> Result<(), PrintError>
-    ensures { PrintsLine (statistics_data circuit.now passable)
+    ensures { PrintsLine (statistics_data circuit.now passable merged)
         (W.output writer.old) (W.output writer.new) result }
 {
-    let object = statistics_object(alloc, circuit, passable)?;
+    let object = statistics_object(alloc, circuit, passable, merged)?;
     print_object(alloc, &object, writer)
 }
 

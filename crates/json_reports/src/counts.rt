@@ -1,10 +1,12 @@
 //! What a circuit has.
 ghost use Rattle.std.specs.Prelude.{◌≡◌, IfOk};
 ghost use Rattle.serde_json.specs.View.{view};
-ghost use Rattle.json_reports.specs.Counts.{circuit_data, statistics_data};
+ghost use Rattle.json_reports.specs.Counts.{circuit_data, merge_data, statistics_data};
+ghost use Rattle.json_reports.specs.Members.{or_null};
 
 use crate::members::counts_object;
 use aig_graph::Circuit;
+use merged_latches::MergeCounts;
 use serde_json::{Value, json};
 use std::alloc::{AllocError, Global};
 
@@ -35,6 +37,22 @@ pub fn circuit_object(alloc: Global, circuit: &Circuit) -> Result<Value, AllocEr
     )
 }
 
+fn merge_object(alloc: Global, counts: MergeCounts) -> Result<Value, AllocError>
+    ensures { IfOk result (λ v. view v ≡ merge_data counts) }
+{
+    json!(in alloc; {"constant": counts.constant, "latches": counts.merged})
+}
+
+/// How many latches are merged, and how many of these with a constant, or null where none were to be.
+pub(crate) fn merged_value(alloc: Global, merged: Option<MergeCounts>) -> Result<Value, AllocError>
+    ensures { IfOk result (λ v. view v ≡ or_null merge_data merged) }
+{
+    match merged {
+        Some(counts) => merge_object(alloc, counts),
+        None => Ok(Value::Null),
+    }
+}
+
 /// What `stat` prints of a circuit with so many passable gates.
 ///
 /// # Errors
@@ -44,9 +62,17 @@ pub fn statistics_object(
     alloc: Global,
     circuit: &Circuit,
     passable: u32,
+    merged: Option<MergeCounts>,
 ) -> Result<Value, AllocError>
-    ensures { IfOk result (λ v. view v ≡ statistics_data circuit.now passable) }
+    ensures { IfOk result (λ v. view v ≡ statistics_data circuit.now passable merged) }
 {
+    let merged = merged_value(alloc, merged)?;
     let counts = circuit_object(alloc, circuit)?;
-    json!(in alloc; {"circuit": counts, "command": "stat", "passable": passable, "status": 0u32})
+    json!(in alloc; {
+        "circuit": counts,
+        "command": "stat",
+        "merged": merged,
+        "passable": passable,
+        "status": 0u32,
+    })
 }

@@ -5,7 +5,7 @@ ghost use Rattle.serde_json.specs.View.{members_view, view};
 ghost use Rattle.json_reports.specs.Members.{array_of, count};
 ghost use Rattle.json_reports.specs.Retimings.{before_data, frame_data, retiming_data};
 
-use crate::counts::circuit_object;
+use crate::counts::{circuit_object, merged_value};
 use crate::members::{put_count, put_text};
 use crate::times::{Times, times_value};
 use retimed_circuits::{FrameReport, Retimed};
@@ -78,13 +78,19 @@ fn put_retiming(
         "free_kept",
         numbers_array(alloc, free_kept)?,
     )?;
+    serde_json::put(
+        members,
+        alloc,
+        "merged",
+        merged_value(alloc, retimed.merged)?,
+    )?;
     serde_json::put(members, alloc, "microseconds", times_value(alloc, times)?)?;
     put_count(members, alloc, "status", 0)?;
     Ok(())
 }
 
 /// What `retime` prints: each frame, what the written circuit has, the places of the free latches that stayed among those of the
-/// circuit that was read, and how long the parts of the run took, where that was measured.
+/// circuit that was read, how many latches were merged where that was asked for, and how long the parts of the run took, where that was measured.
 ///
 /// # Errors
 ///

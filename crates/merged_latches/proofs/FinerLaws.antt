@@ -10,6 +10,8 @@ use Rattle.cleaned_circuits.specs.Merged.{replaced_circuit}
 use Rattle.cleaned_circuits.proofs.LatchLaws.{constant-even}
 use Rattle.cleaned_circuits.proofs.StandLaws.{replaced-variable}
 use Rattle.merged_latches.specs.Readings.{own_literal, read, from_reset, IsReading, leaves, stands_by}
+use Rattle.merged_latches.specs.declared.counts.MergeCounts.{MergeCounts}
+use Rattle.merged_latches.specs.Counts.{AreCounts, counts_of}
 use Rattle.merged_latches.specs.Partitions.{IsFiner, IsCoarsest, IsMerged}
 use Rattle.merged_latches.proofs.ReadingLaws.{Form, constant, latch_of, form, form-variable, are-leaves}
 
@@ -53,3 +55,7 @@ module _ (g : Graph) (held : List ℕ) where
 pub merged-one : (held : List ℕ) (c d e : Netlist) → IsMerged held c d → IsMerged held c e → d ≡ e
 merged-one held c d e one two =
     one.circuit ∙ ap (λ (reads : List ℕ). replaced_circuit (stands_by c.aig reads) c) (coarsest-one c.aig held one.reads two.reads one.coarsest two.coarsest) ∙ sym two.circuit
+
+-- and so many of its latches are merged
+pub counts-one : (g : Graph) (held : List ℕ) (counts other : MergeCounts) → AreCounts g held counts → AreCounts g held other → counts ≡ other
+counts-one g held counts other one two = one.counted ∙ ap (counts_of g) (coarsest-one g held one.reads two.reads one.coarsest two.coarsest) ∙ sym two.counted

@@ -7,6 +7,8 @@ use Rattle.aig_graph.specs.Streams.{SameStreams}
 use Rattle.aig_graph.specs.Value.{Inputs, Choice, value}
 use Rattle.merged_latches.specs.Readings.{own_literal, read}
 use Rattle.merged_latches.specs.Partitions.{IsKept, IsCoarsest, IsMerged}
+use Rattle.merged_latches.specs.Counts.{AreCounts}
+use Rattle.merged_latches.specs.declared.counts.MergeCounts.{MergeCounts}
 
 -- where latches read by a kept reading, each has at each step the value of what it reads as
 abbrev pub HasItsValue : Graph → List ℕ → List ℕ → Type 0
@@ -24,3 +26,7 @@ IsOneReading g held reads other = IsCoarsest g held reads → IsCoarsest g held 
 -- a circuit is merged to one circuit
 abbrev pub IsOneCircuit : List ℕ → Netlist → Netlist → Netlist → Type 0
 IsOneCircuit held c d e = IsMerged held c d → IsMerged held c e → d ≡ e
+
+-- and so many latches are merged
+abbrev pub AreOneCount : Graph → List ℕ → MergeCounts → MergeCounts → Type 0
+AreOneCount g held counts other = AreCounts g held counts → AreCounts g held other → counts ≡ other

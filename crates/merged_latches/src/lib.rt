@@ -3,6 +3,8 @@
 //! opposite ones where their resets differ. The coarsest such partition is one, and needs no solver.
 #![tactic(auto)]
 
+mod counts;
 mod laws;
 
+pub use counts::MergeCounts;
 pub use laws::merging_laws;

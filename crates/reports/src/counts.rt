@@ -1,10 +1,12 @@
+//! What a circuit has, in lines: a word and a number each.
 ghost use Rattle.std.specs.Prelude.{◌≡◌};
 ghost use Rattle.counted_io.specs.Buffered.{Puts};
 ghost use Rattle.counted_io.specs.Output.{Writes};
-ghost use Rattle.reports.specs.Counts.{count_line, counts_text, graph_counts, property_counts};
+ghost use Rattle.reports.specs.Counts.{count_line, counts_text, graph_counts, merge_counts, property_counts};
 
 use aig_graph::{Circuit, Props};
 use counted_io::{Buffered, CountedWrite, WriteError};
+use merged_latches::MergeCounts;
 
 /// Puts a word, a space, a number and the newline.
 fn put_count<W: CountedWrite>(out: &mut Buffered<'_, W>, word: &[u8], count: u64)
@@ -36,16 +38,31 @@ fn put_property_counts<W: CountedWrite>(out: &mut Buffered<'_, W>, props: &Props
     put_count(out, b"fairness", props.fairness.len() as u64);
 }
 
-fn put_counts<W: CountedWrite>(out: &mut Buffered<'_, W>, circuit: &Circuit, passable: u32)
-    ensures { Puts W.output out.old out.new (counts_text circuit.now passable) }
+fn put_merge_counts<W: CountedWrite>(out: &mut Buffered<'_, W>, merged: Option<MergeCounts>)
+    ensures { Puts W.output out.old out.new (merge_counts merged) }
+{
+    if let Some(counts) = merged {
+        put_count(out, b"merged", u64::from(counts.merged));
+        put_count(out, b"constant", u64::from(counts.constant));
+    }
+}
+
+fn put_counts<W: CountedWrite>(
+    out: &mut Buffered<'_, W>,
+    circuit: &Circuit,
+    passable: u32,
+    merged: Option<MergeCounts>,
+)
+    ensures { Puts W.output out.old out.new (counts_text circuit.now passable merged) }
 {
     put_graph_counts(out, circuit);
     put_property_counts(out, circuit.props());
     put_count(out, b"passable", u64::from(passable));
+    put_merge_counts(out, merged);
 }
 
 /// Prints how many there are of each kind: inputs, latches, free latches, gates, properties of each kind (justice
-/// properties, not their literals), and passable gates.
+/// properties, not their literals), passable gates, and, where they are given, latches that are merged, and those of them with a constant.
 ///
 /// # Errors
 ///
@@ -53,12 +70,13 @@ fn put_counts<W: CountedWrite>(out: &mut Buffered<'_, W>, circuit: &Circuit, pas
 pub fn print_counts<W: CountedWrite>(
     circuit: &Circuit,
     passable: u32,
+    merged: Option<MergeCounts>,
     writer: &mut W,
 ) -> Result<(), WriteError>
     ensures { Writes (W.output writer.old) (W.output writer.new) result
-        (counts_text circuit.now passable) }
+        (counts_text circuit.now passable merged) }
 {
     let mut out = Buffered::new(writer);
-    put_counts(&mut out, circuit, passable);
+    put_counts(&mut out, circuit, passable, merged);
     out.flush()
 }

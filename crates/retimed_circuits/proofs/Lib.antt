@@ -4,3 +4,4 @@ pub mod RunLaws
 pub mod HeldLaws
 pub mod NameLaws
 pub mod LimitLaws
+pub mod MergedRunLaws

@@ -1,5 +1,5 @@
--- Cleaning and moving keep the number of properties and make no new name.
-use Rattle.std.proofs.Common.{ℕ, Bool, ◌+◌, ◌≡◌, List, length, map, ap, sym, subst, arith}
+-- Cleaning, merging and moving keep the number of properties and make no new name.
+use Rattle.std.proofs.Common.{ℕ, Bool, true, false, ◌+◌, ◌≡◌, List, length, map, ap, sym, subst, arith}
 use Rattle.std.specs.List.{sum}
 use Rattle.std.proofs.lemmas.List.{length-map}
 use Rattle.std.proofs.lemmas.List.Elements.{All-from_recursion, recursion_from_All}
@@ -11,11 +11,15 @@ use Rattle.cleaned_circuits.specs.Trimmed.{trimmed_symbols, new_position}
 use Rattle.cleaned_circuits.specs.Cleaned.{IsPass, Cleans, unchanged, after_pass}
 use Rattle.variable_tables.specs.Counting.{count_below}
 use Rattle.rebuild.specs.Moved.{is_latched, moved_symbols, stays}
-use Rattle.ascii_file.specs.Laws.{all_names}
+use Rattle.aig_graph.specs.Streams.{SameShape}
+use Rattle.ascii_file.specs.Laws.{all_names, IsWithinLimits}
+use Rattle.merged_latches.specs.declared.counts.MergeCounts.{MergeCounts}
 use Rattle.least_sets.specs.declared.choice.Choice.{Choice}
 use Rattle.retimed_circuits.specs.declared.report.FrameReport.{FrameReport}
 use Rattle.aig_graph.specs.Keep.{held_in}
 use Rattle.retimed_circuits.specs.Frames.{AfterFrames, move_in, moved_in, cleaned, frame}
+use Rattle.retimed_circuits.specs.declared.report.Retimed.{Retimed}
+use Rattle.retimed_circuits.specs.Merging.{MergesIn}
 use Rattle.retimed_circuits.specs.Laws.{StaysWithin}
 use Rattle.ascii_file.proofs.OneLineLaws.{IsOneLine, HasOneLineNames, picked, with_latches}
 
@@ -42,18 +46,32 @@ after-names choice names c _ _ _ _ (frame n d e kept left reports report run las
     let moved : Netlist = moved_in names d last.set in
     cleans-names e (held_in names moved) moved left last.cleaned (moved-names names d last.set (after-names choice names c n d kept reports run all))
 
-pub stays-within : (choice : Choice) (c : Netlist) (names : List (List ℕ)) (max_frames : ℕ) (certify : Bool) → StaysWithin choice c names max_frames certify
-stays-within choice c names max_frames certify r retimed within =
-    let shape = retimed.streams.shape in
-    let sizes : sum (map length r.circuit.props.justice) ≡ sum (map length c.props.justice) = ap sum shape.justice in
-    let same : length (map length r.circuit.props.justice) ≡ length (map length c.props.justice) = ap (λ (ns : List ℕ). length ns) shape.justice in
-    let clean = recursion_from_All IsOneLine (all_names c.symbols) within.names in
+-- a circuit of as many properties, whose names are of one line each
+within-by : (c d : Netlist) → SameShape c d → HasOneLineNames d → IsWithinLimits c → IsWithinLimits d
+within-by c d shape names within =
+    let sizes : sum (map length d.props.justice) ≡ sum (map length c.props.justice) = ap sum shape.justice in
+    let same : length (map length d.props.justice) ≡ length (map length c.props.justice) = ap (λ (ns : List ℕ). length ns) shape.justice in
     record {
       outputs = omega (arith, shape.outputs, within.outputs);
       bad = omega (arith, shape.bad, within.bad);
       constraints = omega (arith, shape.constraints, within.constraints);
-      justice = omega (arith, same, within.justice, length-map r.circuit.props.justice (λ (lits : List ℕ). length lits), length-map c.props.justice (λ (lits : List ℕ). length lits));
+      justice = omega (arith, same, within.justice, length-map d.props.justice (λ (lits : List ℕ). length lits), length-map c.props.justice (λ (lits : List ℕ). length lits));
       justice_literals = omega (arith, sizes, within.justice_literals);
       fairness = omega (arith, shape.fairness, within.fairness);
-      names = All-from_recursion IsOneLine (all_names r.circuit.symbols) (after-names choice names c (length r.frames) r.circuit r.kept_free r.frames retimed.frames clean);
+      names = All-from_recursion IsOneLine (all_names d.symbols) names;
     }
+
+merged-names : (names : List (List ℕ)) (c d : Netlist) (kept : List ℕ) (counts : MergeCounts) → MergesIn names c d kept counts → HasOneLineNames c → HasOneLineNames d
+merged-names names c d kept counts merges all =
+    subst HasOneLineNames (sym merges.merged.circuit) (cleans-names merges.clean (held_in names c) c kept merges.cleaned all)
+
+pub stays-within : (merge : Bool) (choice : Choice) (c : Netlist) (names : List (List ℕ)) (max_frames : ℕ) (certify : Bool) → StaysWithin merge choice c names max_frames certify
+stays-within false choice c names max_frames certify r retimed within =
+    let all = recursion_from_All IsOneLine (all_names c.symbols) within.names in
+    within-by c r.circuit retimed.streams.shape (after-names choice names c (length r.frames) r.circuit r.kept_free r.frames retimed.frames all) within
+stays-within true choice c names max_frames certify r retimed within =
+    let all = recursion_from_All IsOneLine (all_names c.symbols) within.names in
+    let s = retimed.from_start in
+    let started : HasOneLineNames retimed.start = merged-names names c retimed.start retimed.kept retimed.counts retimed.merges all in
+    let ended : HasOneLineNames s.circuit = after-names choice names retimed.start (length s.frames) s.circuit s.kept_free s.frames retimed.retimed.frames started in
+    within-by c r.circuit retimed.streams.shape (subst HasOneLineNames (sym (ap (λ (x : Retimed). x.circuit) retimed.whole)) ended) within

@@ -94,6 +94,7 @@ retiming-one choice c names max_frames certify other r s p q = elim (cases_order
         circuit = ends.circuit;
         free = ends.free;
         latches = latches;
+        merged = p.none_merged ∙ sym q.none_merged;
         frames = ends.reports;
         certificates = λ same. same-certificates choice c names max_frames certify r s p.frames p.certified (subst Q (sym same) q.certified) p.within here;
       })

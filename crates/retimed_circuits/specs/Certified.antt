@@ -50,5 +50,6 @@ pub record IsSameRetiming (certify other : Bool) (r s : Retimed) : Type 0 where
   pub circuit : r.circuit ≡ s.circuit
   pub free : r.kept_free ≡ s.kept_free
   pub latches : r.read_latches ≡ s.read_latches
+  pub merged : r.merged ≡ s.merged
   pub frames : r.frames ≡ s.frames
   pub certificates : certify ≡ other → SameButRoutes r.certificates s.certificates

@@ -5,20 +5,26 @@ use Rattle.aig_graph.specs.Circuits.{Netlist, IsNetlist}
 use Rattle.aig_graph.specs.Keep.{NoneMissing}
 use Rattle.ascii_file.specs.Laws.{IsWithinLimits}
 use Rattle.least_sets.specs.declared.choice.Choice.{Choice}
+use Rattle.merged_latches.specs.Partitions.{IsMerged}
 use Rattle.retimed_circuits.specs.declared.report.Retimed.{Retimed}
 use Rattle.retimed_circuits.specs.Names.{held_latches}
 use Rattle.retimed_circuits.specs.Certified.{IsSameRetiming}
 use Rattle.retimed_circuits.specs.Frames.{CleansIn, moved_in}
-use Rattle.retimed_circuits.specs.Retiming.{IsRetimed}
+use Rattle.retimed_circuits.specs.Retiming.{IsRetimedWith}
 
--- what a circuit is retimed to is one, by the choice, the names and the limit of frames alone, and so are its certificates but for their routes
-abbrev pub IsDetermined : Choice → Netlist → List (List ℕ) → ℕ → Type 0
-IsDetermined choice c names max_frames = (certify other : Bool) (r s : Retimed) → IsRetimed choice c names max_frames certify r
-    → IsRetimed choice c names max_frames other s → IsSameRetiming certify other r s
+-- what a circuit is retimed to is one, by whether latches are merged, the choice, the names and the limit of frames alone, and so are its
+-- certificates but for their routes
+abbrev pub IsDetermined : Bool → Choice → Netlist → List (List ℕ) → ℕ → Type 0
+IsDetermined merge choice c names max_frames = (certify other : Bool) (r s : Retimed) → IsRetimedWith merge choice c names max_frames certify r
+    → IsRetimedWith merge choice c names max_frames other s → IsSameRetiming certify other r s
 
 -- cleaning keeps the latches that the names hold
 abbrev pub CleaningKeepsHeld : List (List ℕ) → Netlist → Type 0
 CleaningKeepsHeld names c = (d : Netlist) (kept : List ℕ) → IsGraph c.aig → IsNetlist c → CleansIn names c d kept → held_latches names d ≡ held_latches names c
+
+-- so does merging
+abbrev pub MergingKeepsHeld : List (List ℕ) → Netlist → Type 0
+MergingKeepsHeld names c = (d : Netlist) (held : List ℕ) → IsMerged held c d → held_latches names d ≡ held_latches names c
 
 -- moving keeps the latches that the names hold
 abbrev pub MovingKeepsHeld : List (List ℕ) → Netlist → Type 0
@@ -29,5 +35,5 @@ abbrev pub NamesStay : List (List ℕ) → Netlist → Netlist → Type 0
 NamesStay names c d = held_latches names d ≡ held_latches names c → NoneMissing names c → NoneMissing names d
 
 -- what a circuit within the limits of a header is retimed to is within them
-abbrev pub StaysWithin : Choice → Netlist → List (List ℕ) → ℕ → Bool → Type 0
-StaysWithin choice c names max_frames certify = (r : Retimed) → IsRetimed choice c names max_frames certify r → IsWithinLimits c → IsWithinLimits r.circuit
+abbrev pub StaysWithin : Bool → Choice → Netlist → List (List ℕ) → ℕ → Bool → Type 0
+StaysWithin merge choice c names max_frames certify = (r : Retimed) → IsRetimedWith merge choice c names max_frames certify r → IsWithinLimits c → IsWithinLimits r.circuit

@@ -1,5 +1,6 @@
 use aig_graph::{Circuit, Sequence};
 use certificates::Certificate;
+use merged_latches::MergeCounts;
 
 /// A frame: a move of latches forward over a set of gates.
 #[derive(Clone, Copy, Debug, PartialEq, Eq)]
@@ -21,6 +22,8 @@ pub struct Retimed {
     pub kept_free: Sequence<u32>,
     /// How many latches the circuit that was read has.
     pub read_latches: u32,
+    /// Where latches that always agree were to be merged before the first frame, how many of the cleaned circuit were.
+    pub merged: Option<MergeCounts>,
     /// The frames taken, in order.
     pub frames: Sequence<FrameReport>,
     /// Where certificates were wanted, one of each circuit that a frame was taken of, and one of the last circuit where the limit of

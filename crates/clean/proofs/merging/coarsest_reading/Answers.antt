@@ -2,7 +2,7 @@ use Rattle.std.proofs.Common.{◌≡◌, ◌∙◌, sym, subst, nat_lt, false, L
 use Rattle.std.proofs.lemmas.Bool.{ltb-false}
 use Rattle.aig_graph.specs.Graph.{Graph, IsGraph}
 use Rattle.merged_latches.specs.Partitions.{IsCoarsest}
-use Rattle.clean.specs.Rounds.{merged_latches}
+use Rattle.merged_latches.specs.Counts.{merged_latches}
 use Rattle.clean.proofs.CoarsestLaws.{round-first, round-long, round-after, round-last}
 use Rattle.clean.proofs.merging.coarsest_reading.Goals as goal
 

@@ -1,4 +1,4 @@
-use Rattle.clean.specs.Rounds.{merged_latches}
+use Rattle.merged_latches.specs.Counts.{merged_latches}
 use Rattle.clean.proofs.CoarsestLaws.{IsRound}
 use Rattle.clean.proofs.merging.coarsest_reading.Given as goal
 

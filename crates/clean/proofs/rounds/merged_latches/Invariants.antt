@@ -1,6 +1,6 @@
 use Rattle.std.proofs.Common.{◌≡◌}
 use Rattle.variable_tables.specs.Counting.{count_below}
-use Rattle.clean.specs.Rounds.{is_merged}
+use Rattle.merged_latches.specs.Counts.{is_merged}
 use Rattle.clean.proofs.rounds.merged_latches.Given as goal
 
 abbrev pub invariant-loop-place : goal.invariant-loop-place

@@ -4,4 +4,4 @@ use Rattle.command_objects.proofs.findings.print_statistics.Goals as goal
 
 pub returns : goal.returns
 returns g c =
-    object_ends c.print_statistics-printed.result _ (statistics_data c.args.circuit.now c.args.passable) _ _ _ c.ended.ensures c.print_statistics-printed.ensures
+    object_ends c.print_statistics-printed.result _ (statistics_data c.args.circuit.now c.args.passable c.args.merged) _ _ _ c.ended.ensures c.print_statistics-printed.ensures

@@ -1,6 +1,6 @@
-use Rattle.commands.proofs.StatisticsLaws.{object_of_counts}
+use Rattle.std.proofs.lemmas.Result.{IfOk-weaker}
 use Rattle.commands.proofs.statistics.print_circuit.Goals as goal
 
-pub returns-then-json-clause-statistics : goal.returns-then-json-clause-statistics
-returns-then-json-clause-statistics g c =
-    object_of_counts c.args.json c.args.circuit.now c.in-Ok.passable _ _ c.print_statistics.result c.if-json.true c.in-Ok.ensures c.print_statistics.ensures
+pub returns-in-Ok-clause-statistics : goal.returns-in-Ok-clause-statistics
+returns-in-Ok-clause-statistics g c =
+    IfOk-weaker c.print_merged.result _ _ (λ ended printed. record { merged = c.in-Ok.merged; are = c.in-Ok.ensures; printed = printed }) c.print_merged.ensures.statistics

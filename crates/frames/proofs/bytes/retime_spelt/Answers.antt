@@ -21,7 +21,7 @@ returns-in-Ok-clause-ok g c =
       writes = c.in-Ok.ensures.ok;
       reads_back = λ within.
           (the_spelling_law (unwrap_or options.spelling spelt.spelling) r.circuit).read c.in_range.ensures.graph c.in_range.ensures.netlist
-          (stays-within options.choice spelt.circuit (names_in options) options.max_frames options.certify r retimed within);
+          (stays-within options.merge options.choice spelt.circuit (names_in options) options.max_frames options.certify r retimed within);
     }
 
 pub returns-in_err-retimed-clause-ok : goal.returns-in_err-retimed-clause-ok

@@ -1,4 +1,4 @@
-use Rattle.std.proofs.Common.{ℕ, List, ◌≡◌, ◌∙◌, ◌++◌, ◌∷◌, ◌<◌, [], arith, ap, get_or, length, sym, subst, suc}
+use Rattle.std.proofs.Common.{ℕ, List, ◌≡◌, ◌∙◌, ◌++◌, ◌∷◌, ◌<◌, [], None, arith, ap, get_or, length, sym, subst, suc}
 use Rattle.std.specs.List.{All}
 use Rattle.aig_graph.specs.Graph.{free_latches}
 use Rattle.aig_graph.specs.Laws.{composed}
@@ -28,7 +28,7 @@ returns-in-Ok c = λ d n before.
     ∙ ap (λ (first : List ℕ). composed first c.as_slice-places.result.now) c.history_of.ensures.kept_free ∙ ap (composed r.kept_free) c.as_slice-places.ensures in
     let latches : after.read_latches ≡ r.read_latches = c.in-Ok.ensures.read_latches ∙ c.history_of.ensures.read_latches in
     let reports : after.frames ≡ r.frames ++ c.args.frame.report ∷ [] = c.in-Ok.ensures.frames ∙ ap (λ (xs : List FrameReport). xs ++ c.args.frame.report ∷ []) c.history_of.ensures.frames in
-    let P : List ℕ → ℕ → List FrameReport → Type 0 = λ places many all. IsUnderway options d (suc n) (record { circuit = e.circuit; kept_free = places; read_latches = many; frames = all; certificates = c.empty.result }) in
+    let P : List ℕ → ℕ → List FrameReport → Type 0 = λ places many all. IsUnderway options d (suc n) (record { circuit = e.circuit; kept_free = places; read_latches = many; merged = None; frames = all; certificates = c.empty.result }) in
     subst (λ (places : List ℕ). P places after.read_latches after.frames) (sym kept)
     (subst (λ (many : ℕ). P (composed r.kept_free e.kept_free) many after.frames) (sym latches)
     (subst (λ (all : List FrameReport). P (composed r.kept_free e.kept_free) r.read_latches all) (sym reports) (one-more options d n r c.args.frame c.empty.result before c.requires.moves)))

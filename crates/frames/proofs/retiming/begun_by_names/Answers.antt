@@ -25,7 +25,7 @@ returns-clause-underway c =
     let latches = c.begun.ensures.read_latches ∙ ap length (c.latches.ensures.value ∙ ap (λ (g : Graph). g.latches) c.aig.ensures.value) in
     underway-first options before start c.begun.result (record { graph = c.aig.ensures.graph; netlist = c.aig.ensures.netlist })
     (subst P kept c.in_ok-start.ensures.cleaned) c.in_ok-start.ensures.streams
-    c.begun.ensures.circuit c.begun.ensures.kept_free latches c.begun.ensures.frames
+    c.begun.ensures.circuit c.begun.ensures.kept_free latches c.begun.ensures.merged c.begun.ensures.frames
 
 pub returns-in_err-keep-clause-underway : goal.returns-in_err-keep-clause-underway
 returns-in_err-keep-clause-underway c = IfOk-from_err c.from_residual.result _ c.from_residual.ensures.0

@@ -1,6 +1,6 @@
 use Rattle.std.proofs.Common.{◌≡◌, sym, subst}
 use Rattle.retimed_circuits.specs.declared.report.Retimed.{Retimed}
-use Rattle.frames.specs.Retiming.{IsRetimedBy}
+use Rattle.frames.specs.Retiming.{IsRetimedAsIs}
 use Rattle.frames.proofs.FrameLaws.{ended}
 use Rattle.frames.proofs.retiming.retimed_from.Goals as goal
 
@@ -19,12 +19,13 @@ returns-in-Ok g c = λ d start.
     let r = c.in-Ok.retimed in
     let records = c.all_frames.new.records in
     let whole = c.with_certificates.ensures in
-    let s : Retimed = record { circuit = r.circuit; kept_free = r.kept_free; read_latches = r.read_latches; frames = r.frames; certificates = records.certificates.items } in
+    let s : Retimed = record { circuit = r.circuit; kept_free = r.kept_free; read_latches = r.read_latches; merged = r.merged; frames = r.frames; certificates = records.certificates.items } in
     let same : c.with_certificates.result ≡ s = λ i. record {
       circuit = whole.circuit i;
       kept_free = whole.kept_free i;
       read_latches = whole.read_latches i;
+      merged = whole.merged i;
       frames = whole.frames i;
       certificates = whole.certificates i;
     } in
-    subst (IsRetimedBy options d) (sym same) (ended options d records r (c.in-Ok.ensures d start))
+    subst (IsRetimedAsIs options d) (sym same) (ended options d records r (c.in-Ok.ensures d start))

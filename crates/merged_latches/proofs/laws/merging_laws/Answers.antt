@@ -1,7 +1,7 @@
 use Rattle.aig_graph.proofs.KindLaws.{element}
 use Rattle.merged_latches.proofs.ValueLaws.{agree-always}
 use Rattle.merged_latches.proofs.MergingLaws.{merged-streams}
-use Rattle.merged_latches.proofs.FinerLaws.{coarsest-one, merged-one}
+use Rattle.merged_latches.proofs.FinerLaws.{coarsest-one, counts-one, merged-one}
 use Rattle.merged_latches.proofs.laws.merging_laws.Goals as goal
 
 pub returns-clause-values : goal.returns-clause-values
@@ -15,3 +15,6 @@ returns-clause-one_reading c = λ g held reads other one two. coarsest-one g hel
 
 pub returns-clause-one_circuit : goal.returns-clause-one_circuit
 returns-clause-one_circuit c = λ held before d e one two. merged-one held before d e one two
+
+pub returns-clause-one_count : goal.returns-clause-one_count
+returns-clause-one_count c = λ g held counts other one two. counts-one g held counts other one two

@@ -6,4 +6,4 @@ pub returns : goal.returns
 unfolding counts_text
 returns g c =
     rw (c.from.ensures, c.props.ensures.value) at
-    (puts-then c.put_graph_counts.ensures (puts-then c.put_property_counts.ensures c.put_count.ensures))
+    (puts-then c.put_graph_counts.ensures (puts-then c.put_property_counts.ensures (puts-then c.put_count.ensures c.put_merge_counts.ensures)))

@@ -1,4 +1,4 @@
-use Rattle.frames.proofs.retiming.retime.Goals as goal
+use Rattle.frames.proofs.runs.retime.Goals as goal
 
 pub returns-clause-retimed : goal.returns-clause-retimed
 returns-clause-retimed g c = c.retime_watched.ensures.retimed

@@ -1,0 +1,23 @@
+use Rattle.std.proofs.lemmas.Result.{IfOk-from_err}
+use Rattle.frames.proofs.merging.retime_merged_over.Goals as goal
+
+pub retime_start-requires-after_bounds : goal.retime_start-requires-after_bounds
+retime_start-requires-after_bounds g c κs within = (c.args.circuit, c.in_ok-start.ensures.started)
+
+pub returns-clause-retimed : goal.returns-clause-retimed
+returns-clause-retimed g c = c.in_ok-retimed.ensures c.args.circuit c.in_ok-start.ensures.started
+
+pub returns-clause-none_missing : goal.returns-clause-none_missing
+returns-clause-none_missing g c = c.in_ok-start.ensures.none_missing
+
+pub returns-in_err-start-clause-retimed : goal.returns-in_err-start-clause-retimed
+returns-in_err-start-clause-retimed g c = IfOk-from_err c.from_residual.result _ c.from_residual.ensures.0
+
+pub returns-in_err-start-clause-none_missing : goal.returns-in_err-start-clause-none_missing
+returns-in_err-start-clause-none_missing g c = IfOk-from_err c.from_residual.result _ c.from_residual.ensures.0
+
+pub returns-in_err-retimed-clause-retimed : goal.returns-in_err-retimed-clause-retimed
+returns-in_err-retimed-clause-retimed g c = IfOk-from_err c.from_residual-in_err-retimed.result _ c.from_residual-in_err-retimed.ensures.0
+
+pub returns-in_err-retimed-clause-none_missing : goal.returns-in_err-retimed-clause-none_missing
+returns-in_err-retimed-clause-none_missing g c = IfOk-from_err c.from_residual-in_err-retimed.result _ c.from_residual-in_err-retimed.ensures.0

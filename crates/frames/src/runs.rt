@@ -1,0 +1,95 @@
+//! Whole runs: a circuit retimed as it is, or merged first.
+ghost use Rattle.std.specs.Prelude.{ℕ, IfOk, OnOk, IsErrOf};
+ghost use Rattle.frames.specs.Named.{IsFirstMissingBy, NoneMissingBy};
+ghost use Rattle.frames.specs.Retiming.{IsRetimedBy};
+ghost use Rattle.frames.specs.declared.errors.RetimeError.TheVariants.{NoSuchName};
+
+use crate::errors::RetimeError;
+use crate::merging::{retime_merged, retime_merged_over};
+use crate::options::Options;
+use crate::retiming::{retime_as_is, retime_as_is_over};
+use crate::watcher::{FrameWatcher, NoWatcher, Stage};
+use aig_graph::Circuit;
+use pulse::{Crew, PhaseGate};
+use retimed_circuits::Retimed;
+use std::alloc::Global;
+use std::thread::Threads;
+
+/// Cleans a circuit and retimes it forward, frame by frame: the latches move over the chosen least set of the circuit, and the
+/// circuit is cleaned again. It ends where no closed set needs fewer latches than there are, or at the limit of frames. The
+/// latches whose names the options have stay. Where the options ask for it, latches that always agree are merged before the first
+/// frame. The answer is the same for every crew, but for the routes of certificates.
+///
+/// A frame costs what its maximum flow costs, and is linear in the circuit but for that; what it made is dropped before the next
+/// one begins.
+///
+/// # Errors
+///
+/// `NoSuchName` where a name that the options have is that of no latch of the circuit, which is found first; `NoMemory` where
+/// memory is refused.
+pub fn retime<G: PhaseGate>(
+    rt: &(impl Threads + Sync),
+    alloc: Global,
+    circuit: &Circuit,
+    options: &Options,
+    crew: &Crew<G>,
+) -> Result<Retimed, RetimeError>
+    ensures retimed { IfOk result (IsRetimedBy options.now circuit.now) }
+    ensures none_missing { OnOk result (NoneMissingBy options.now circuit.now) }
+    ensures missing { (place : ℕ) → IsErrOf result (NoSuchName place)
+        → IsFirstMissingBy options.now circuit.now place }
+{
+    retime_watched(rt, alloc, circuit, options, crew, &mut NoWatcher)
+}
+
+/// [`retime`], seen by a watcher, which changes nothing of the answer.
+///
+/// # Errors
+///
+/// Those of [`retime`].
+pub fn retime_watched<G: PhaseGate, V: FrameWatcher>(
+    rt: &(impl Threads + Sync),
+    alloc: Global,
+    circuit: &Circuit,
+    options: &Options,
+    crew: &Crew<G>,
+    watcher: &mut V,
+) -> Result<Retimed, RetimeError>
+    ensures retimed { IfOk result (IsRetimedBy options.now circuit.now) }
+    ensures none_missing { OnOk result (NoneMissingBy options.now circuit.now) }
+    ensures missing { (place : ℕ) → IsErrOf result (NoSuchName place)
+        → IsFirstMissingBy options.now circuit.now place }
+{
+    watcher.enter(Stage::Cleaning);
+    if options.merge {
+        retime_merged(rt, alloc, circuit, options, crew, watcher)
+    } else {
+        retime_as_is(rt, alloc, circuit, options, crew, watcher)
+    }
+}
+
+/// [`retime_watched`] of a circuit that nobody needs once it is cleaned: it is dropped then, before the first frame.
+///
+/// # Errors
+///
+/// Those of [`retime`].
+pub(crate) fn retime_over<G: PhaseGate, V: FrameWatcher>(
+    rt: &(impl Threads + Sync),
+    alloc: Global,
+    circuit: Circuit,
+    options: &Options,
+    crew: &Crew<G>,
+    watcher: &mut V,
+) -> Result<Retimed, RetimeError>
+    ensures retimed { IfOk result (IsRetimedBy options.now circuit) }
+    ensures none_missing { OnOk result (NoneMissingBy options.now circuit) }
+    ensures missing { (place : ℕ) → IsErrOf result (NoSuchName place)
+        → IsFirstMissingBy options.now circuit place }
+{
+    watcher.enter(Stage::Cleaning);
+    if options.merge {
+        retime_merged_over(rt, alloc, circuit, options, crew, watcher)
+    } else {
+        retime_as_is_over(rt, alloc, circuit, options, crew, watcher)
+    }
+}
