@@ -42,13 +42,15 @@ _fretime() {
         return
     fi
     case ${COMP_WORDS[1]} in
-        retime) options="--ascii --binary --workers --frames --near --keep --cert --progress --quiet --json --help" ;;
-        batch) options="--ascii --binary --workers --frames --near --json --help" ;;
+        retime) options="--ascii --binary --workers --frames --near --merge --keep --cert --progress --quiet --json --help" ;;
+        batch) options="--ascii --binary --workers --frames --near --merge --json --help" ;;
         convert) options="--ascii --binary --help" ;;
-        verify) options="--keep --json --help" ;;
-        dot) options="--frame --keep --around --depth --help" ;;
-        stat | same) options="--json --help" ;;
-        sim | witness) options="--help" ;;
+        verify) options="--keep --merge --json --help" ;;
+        dot) options="--frame --merge --keep --around --depth --help" ;;
+        stat) options="--merge --json --help" ;;
+        same) options="--json --help" ;;
+        sim) options="--help" ;;
+        witness) options="--merge --help" ;;
         explain)
             if [ "$COMP_CWORD" = 2 ]; then
                 mapfile -t COMPREPLY < <(compgen -W "--help BadHeader TooLarge MaxIndex BadLine BadLiteral DefinedTwice Undefined Cycle \

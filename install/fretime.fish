@@ -36,6 +36,7 @@ complete -c fretime -n '__fish_seen_subcommand_from retime' -l binary -d 'Write 
 complete -c fretime -n '__fish_seen_subcommand_from retime' -x -l workers -d 'Threads that work on the flow'
 complete -c fretime -n '__fish_seen_subcommand_from retime' -x -l frames -d 'The most frames to take'
 complete -c fretime -n '__fish_seen_subcommand_from retime' -l near -d 'Move each latch as few gates forward as a least count allows'
+complete -c fretime -n '__fish_seen_subcommand_from retime' -l merge -d 'Merge latches that always agree, before the first frame'
 complete -c fretime -n '__fish_seen_subcommand_from retime' -x -l keep -d 'Hold each latch with this name in its place; may be given more than once'
 complete -c fretime -n '__fish_seen_subcommand_from retime' -r -l cert -d 'Write a certificate of each frame to FILE, for \'verify\''
 complete -c fretime -n '__fish_seen_subcommand_from retime' -l json -d 'Print an object of JSON in place of the lines'
@@ -47,8 +48,10 @@ complete -c fretime -n '__fish_seen_subcommand_from batch' -l binary -d 'Write b
 complete -c fretime -n '__fish_seen_subcommand_from batch' -x -l workers -d 'Threads, each of which retimes a circuit at a time'
 complete -c fretime -n '__fish_seen_subcommand_from batch' -x -l frames -d 'The most frames to take'
 complete -c fretime -n '__fish_seen_subcommand_from batch' -l near -d 'Move each latch as few gates forward as a least count allows'
+complete -c fretime -n '__fish_seen_subcommand_from batch' -l merge -d 'Merge latches that always agree, before the first frame'
 complete -c fretime -n '__fish_seen_subcommand_from batch' -l json -d 'Print an object of JSON in place of the lines'
 
+complete -c fretime -n '__fish_seen_subcommand_from stat' -l merge -d 'Count the latches that always agree, too'
 complete -c fretime -n '__fish_seen_subcommand_from stat' -l json -d 'Print an object of JSON in place of the lines'
 
 complete -c fretime -n '__fish_seen_subcommand_from convert' -l ascii -d 'Write ASCII'
@@ -57,12 +60,16 @@ complete -c fretime -n '__fish_seen_subcommand_from convert' -l binary -d 'Write
 complete -c fretime -n '__fish_seen_subcommand_from same' -l json -d 'Print an object of JSON in place of the lines'
 
 complete -c fretime -n '__fish_seen_subcommand_from verify' -x -l keep -d 'Hold each latch with this name in its place; may be given more than once'
+complete -c fretime -n '__fish_seen_subcommand_from verify' -l merge -d 'IN was retimed with --merge'
 complete -c fretime -n '__fish_seen_subcommand_from verify' -l json -d 'Print an object of JSON in place of the lines'
 
 complete -c fretime -n '__fish_seen_subcommand_from dot' -l frame -d 'Show over which gates latches move next'
+complete -c fretime -n '__fish_seen_subcommand_from dot' -l merge -d 'Merge latches that always agree first'
 complete -c fretime -n '__fish_seen_subcommand_from dot' -x -l keep -d 'Hold each latch with this name in its place; may be given more than once'
 complete -c fretime -n '__fish_seen_subcommand_from dot' -x -l around -d 'Draw the neighbourhood of the input, latch or property with this name alone'
 complete -c fretime -n '__fish_seen_subcommand_from dot' -x -l depth -d 'How many edges the neighbourhood reaches'
+
+complete -c fretime -n '__fish_seen_subcommand_from witness' -l merge -d 'OUT was written with --merge'
 
 complete -c fretime -n '__fish_seen_subcommand_from retime verify dot' -x -l keep -a '(__fretime_names l)' \
     -d 'Hold each latch with this name in its place; may be given more than once'

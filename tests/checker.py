@@ -2,7 +2,7 @@
 """Checks a file of certificates for a circuit, by docs/CERTIFICATES.md alone: it shares no code with the program, nor with the
 reference model.
 
-usage: tests/checker.py IN CERT [--keep NAME]...
+usage: tests/checker.py IN CERT [--keep NAME]... [--merge]
 
 Prints a line for each block, then how the blocks end. The status is 0 where each block shows that its set is least, 5 where one
 doesn't or blocks follow the end, 1 where a file is refused, 3 where one can't be read. The word `verify` may stand before IN, as
@@ -89,11 +89,7 @@ def cleaned(c):
 
 def cleaned_once(c):
     """What is constant, or equal to what stands before it, is replaced; then what nothing rests on is dropped."""
-    stand_in, latches_alike, gates_alike = {}, {}, {}
-
-    def now(lit):
-        return stand_in.get(lit // 2, lit & ~1) ^ lit & 1
-
+    stand_in, latches_alike = {}, {}
     for v in sorted(c.known()):
         latch = c.latches[v]
         if not latch.held and latch.next_lit in (2 * v, latch.reset):
@@ -101,6 +97,17 @@ def cleaned_once(c):
         else:
             first = latches_alike.setdefault((latch.next_lit, latch.reset), v)
             stand_in[v] = 2 * (v if latch.held else first)
+    return reached(replaced(c, stand_in))
+
+
+def replaced(c, stand_in):
+    """The circuit where these literals stand for latches, and gates that are constant or equal to what stands before them are replaced
+    too; what stands for the gates is put into `stand_in`."""
+    gates_alike = {}
+
+    def now(lit):
+        return stand_in.get(lit // 2, lit & ~1) ^ lit & 1
+
     for v, fan_ins in c.gates.items():
         small, large = sorted(map(now, fan_ins))
         if small == 0 or small ^ 1 == large:
@@ -111,7 +118,24 @@ def cleaned_once(c):
             stand_in[v] = 2 * gates_alike.setdefault((small, large), v)
     latches = {v: replace(latch, next_lit=now(latch.next_lit)) for v, latch in c.latches.items()}
     gates = {v: fan_ins for fan_ins, v in gates_alike.items()}
-    return reached(Circuit(c.inputs, latches, gates, [now(lit) for lit in c.properties]))
+    return Circuit(c.inputs, latches, gates, [now(lit) for lit in c.properties])
+
+
+def merged(c):
+    """Latches that always agree read as one: first all known latches that aren't held are one group, with the constant; a group is split
+    by the next literals of its latches, each negated where the reset is 1, as long as they differ there."""
+    group = dict.fromkeys(sorted(c.known() - c.held()), 0)
+    while True:
+        first, stand_in = {}, {}
+        for v, g in group.items():
+            first.setdefault(g, v)
+            stand_in[v] = c.latches[v].reset if g == 0 else 2 * first[g] ^ c.latches[first[g]].reset ^ c.latches[v].reset
+        now = replaced(c, stand_in)
+        split = {v: (g, now.latches[v].next_lit ^ c.latches[v].reset) for v, g in group.items()}
+        if len({(0, 0), *split.values()}) == len({0, *group.values()}):
+            return now
+        numbers = {(0, 0): 0}
+        group = {v: numbers.setdefault(key, len(numbers)) for v, key in split.items()}
 
 
 def reached(c):
@@ -365,12 +389,14 @@ def main(words):
     parser.add_argument('circuit', metavar='IN')
     parser.add_argument('certificates', metavar='CERT')
     parser.add_argument('--keep', metavar='NAME', action='append', default=[], help='a latch with this name is held')
+    parser.add_argument('--merge', action='store_true', help='latches that always agree were merged before the first frame')
     given = parser.parse_args(words[1:] if words[:1] == ['verify'] else words)
     names = [os.fsencode(name) for name in given.keep]
     try:
         c, name_of = read(given.circuit, read_circuit)
         blocks = read(given.certificates, read_blocks)
         hold(given.circuit, c, name_of, names)
+        c = merged(cleaned(c)) if given.merge else c
         lines, status = verify(c, blocks)
     except Refused as fault:
         lines, status = [], 1

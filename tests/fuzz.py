@@ -79,6 +79,7 @@ def options(rng, c):
     """A number of workers, and at random a spelling, a limit of frames, and names of latches, one of which may be missing."""
     words = ['--workers', str(rng.choice(WORKERS))] + rng.choice([[], [], ['--ascii'], ['--binary']])
     words += rng.choice([[], [], ['--frames', str(rng.randint(1, 3))]]) + rng.choice([[], ['--near']])
+    words += rng.choice([[], ['--merge']])
     names = sorted({name for name in c.symbols['l'].values() if name.isascii()})
     if rng.random() < 0.4:
         names = rng.sample(names, rng.randint(0, len(names))) + ([b'no latch'] if rng.random() < 0.1 else [])
@@ -90,7 +91,7 @@ def picture_options(rng, c):
     """At random a frame, a held latch, and the neighbourhood of a name that may be missing."""
     latches, names = ([name.decode() for name in kind if name.isascii()] for kind in (
         c.symbols['l'].values(), [name for names in c.symbols.values() for name in names.values()]))
-    words = rng.choice([[], ['--frame']]) + [f'--keep={name}' for name in rng.sample(latches, min(len(latches), rng.randint(0, 1)))]
+    words = rng.choice([[], ['--frame'], ['--frame', '--merge']]) + [f'--keep={name}' for name in rng.sample(latches, min(len(latches), rng.randint(0, 1)))]
     if rng.random() < 0.5:
         words += [f'--around={rng.choice([*names, "nothing"])}'] + rng.choice([[], [f'--depth={rng.randint(1, 4)}']])
     return words
@@ -108,11 +109,13 @@ def both_least_sets_agree(c):
 def compare_small(rng, comparison):
     """All commands on one small circuit."""
     c = random_files.tree(rng) if rng.random() < 0.6 else random_files.circuit(rng, 3, 5, 9)
+    c = random_files.with_copies(rng, c) if rng.random() < 0.3 else c
     data = random_files.any_file(rng, c)
     comparison.count(both_least_sets_agree(c), f'least sets of {data}')
-    retimed = comparison.run(['retime', 'in', 'OUT', *options(rng, c)], {'in': data})
+    words = options(rng, c)
+    retimed = comparison.run(['retime', 'in', 'OUT', *words], {'in': data})
     comparison.run(['convert', 'in', 'OUT', *rng.choice([[], ['--ascii'], ['--binary']])], {'in': data})
-    comparison.run(['stat', 'in'], {'in': data})
+    comparison.run(['stat', 'in', *rng.choice([[], ['--merge']])], {'in': data})
     comparison.run(['dot', 'in', 'OUT', *picture_options(rng, c)], {'in': data})
     stim = random_files.stimulus(rng, c, rng.choice([0, 1, 3, 70]), 4)
     comparison.run(['sim', 'in', 'stim'], {'in': data, 'stim': stim})
@@ -120,7 +123,7 @@ def compare_small(rng, comparison):
         comparison.run(['same', 'in', 'other', 'stim'], {'in': data, 'other': retimed, 'stim': stim})
         found = random_files.witness(rng, read(retimed)[0], rng.randint(0, 4))
         found = found if rng.random() < 0.8 else random_files.damaged(rng, found)
-        comparison.run(['witness', 'in', 'other', 'wit'], {'in': data, 'other': retimed, 'wit': found})
+        comparison.run(['witness', 'in', 'other', 'wit', *set(words) & {'--merge'}], {'in': data, 'other': retimed, 'wit': found})
 
 
 def compare_certificates(rng, comparison):
@@ -130,7 +133,7 @@ def compare_certificates(rng, comparison):
     data, words = random_files.any_file(rng, c), options(rng, c)
     if not comparison.run(['retime', 'in', 'OUT', *words, '--cert', 'CERT'], {'in': data}):
         return
-    held = [word for word in words if word.startswith('--keep')]
+    held = [word for word in words if word.startswith('--keep') or word == '--merge']
     texts = [content(OWN[who]['CERT']) for who in OWN]
     both = [[line for line in (text or b'').split(b'\n') if line[:2] != b'r '] for text in texts]
     comparison.count(both[0] == both[1], f'certificates {words} on {data}\n{both}')

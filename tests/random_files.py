@@ -91,6 +91,28 @@ def tree(rng):
     return Circuit(inputs, list(zip(next_lits, resets)), gates, outputs, symbols=symbols(rng, counts))
 
 
+def with_copies(rng, c):
+    """The circuit with its latches and gates there twice, some latches as their negations; each property reads one of the two. A free
+    latch is read by all, and its copy by none."""
+    signs = [rng.randrange(2) for _ in c.latches]
+    first, many = c.first_latch(), len(c.latches)
+
+    def own(lit):
+        return lit if lit // 2 < c.first_gate() else lit + 2 * many
+
+    def copied(lit):
+        var = lit // 2
+        if var >= c.first_gate():
+            return lit + 2 * (many + len(c.gates))
+        return lit + 2 * many ^ signs[var - first] if c.is_known(var) else lit
+
+    copies = [(copied(lit), FREE) if reset is FREE else (copied(lit) ^ sign, reset ^ sign)
+              for (lit, reset), sign in zip(c.latches, signs)]
+    gates = [ordered(*map(read, fan_ins)) for read in (own, copied) for fan_ins in c.gates]
+    latches = [(own(lit), reset) for lit, reset in c.latches] + copies
+    return c.with_parts(latches, gates, lambda lit: rng.choice([own, copied])(lit), c.symbols['l'])
+
+
 def shuffled_symbols(rng, c):
     lines = symbol_lines(c)
     rng.shuffle(lines)

@@ -73,16 +73,17 @@ def report_of(text: bytes) -> dict[str, Any] | None:
     return json.loads(lines[-1]) if lines else None
 
 
-def retime(circuit: bytes, *, near: bool = False, keep: Iterable[str] = (), frames: int | None = None, workers: int = 1,
-           ascii: bool | None = None, certificates: bool = False, seconds: float | None = None) -> Retimed:
+def retime(circuit: bytes, *, near: bool = False, merge: bool = False, keep: Iterable[str] = (), frames: int | None = None,
+           workers: int = 1, ascii: bool | None = None, certificates: bool = False, seconds: float | None = None) -> Retimed:
     """The circuit with its latches moved forward, frame by frame, until no move leaves fewer.
 
-    `near` takes the smallest of a frame's least sets, `keep` holds the latches with these names, `frames` is the most that are taken,
-    `ascii` chooses the spelling (that of the circuit where it is None). A run of over `seconds` raises subprocess.TimeoutExpired.
+    `near` takes the smallest of a frame's least sets, `merge` merges latches that always agree before the first frame, `keep` holds
+    the latches with these names, `frames` is the most that are taken, `ascii` chooses the spelling (that of the circuit where it is
+    None). A run of over `seconds` raises subprocess.TimeoutExpired.
     A circuit that is refused, a name of no latch, or want of memory raises RetimeError.
     """
     words = [program(), 'retime', '-', '-', '--json', '--quiet', '--workers', str(workers)]
-    words += ['--near'] * near + [f'--keep={name}' for name in keep]
+    words += ['--near'] * near + ['--merge'] * merge + [f'--keep={name}' for name in keep]
     words += [] if frames is None else ['--frames', str(frames)]
     words += [] if ascii is None else ['--ascii' if ascii else '--binary']
     with tempfile.TemporaryDirectory(prefix='fretime-') as folder:

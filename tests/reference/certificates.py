@@ -3,6 +3,7 @@ import dataclasses
 import re
 
 from reference.cleaning import cleaned
+from reference.merging import start_of
 from reference.reading import Fault, number
 from reference.retiming import arcs_of, border, frames_of, held_latches, maximum_flow, moved, passable, read_outside
 
@@ -34,9 +35,9 @@ def routes_of(c, held):
     return routes
 
 
-def certificates(c, most, names, smallest):
+def certificates(c, most, names, smallest, merge):
     """A block for each frame, and one for the last circuit where the limit of frames didn't end the run."""
-    return [Block(count, sorted(members), routes_of(d, held)) for d, held, count, members in frames_of(c, most, names, smallest)]
+    return [Block(count, sorted(members), routes_of(d, held)) for d, held, count, members in frames_of(c, most, names, smallest, merge)]
 
 
 def written(choice, blocks):
@@ -121,9 +122,9 @@ def verdict(c, held, block):
     return 'Yes' if {block.count} == {len(border(c, set(gates), held)), len(block.routes)} else 'CountDiffers'
 
 
-def audit(c, names, blocks):
+def audit(c, names, blocks, merge):
     """The printed lines, and the status."""
-    c, held = cleaned(c, held_latches(c, names))
+    c, held = start_of(c, held_latches(c, names), merge)
     lines, known = [], None
     for k, block in enumerate(blocks):
         if known is not None and blocks[k - 1].count >= known:

@@ -24,9 +24,10 @@ def latch_replacements(c, held):
     return replacements
 
 
-def replacements_of(c, held):
-    """The literals that stand for latches and gates after one pass, by variable; and the fan-ins of the gates that are kept."""
-    replacements, kept = latch_replacements(c, held), {}
+def with_gates(c, replacements):
+    """The literals that stand for latches and gates, by variable, where these stand for latches; and the fan-ins of the gates that
+    are kept."""
+    kept = {}
     for k, fan_ins in enumerate(c.gates):
         var = c.first_gate() + k
         a, b = ordered(*(replaced(lit, replacements) for lit in fan_ins))
@@ -56,7 +57,7 @@ def reached(c, held, next_lits, kept, properties):
 def left_after(c, held):
     """What one pass makes: the replacements, the next literals of all latches, the fan-ins of the gates that are kept, and the
     variables that are left."""
-    replacements, kept = replacements_of(c, held)
+    replacements, kept = with_gates(c, latch_replacements(c, held))
     next_lits = {c.first_latch() + k: replaced(next_lit, replacements) for k, (next_lit, _) in enumerate(c.latches)}
     left = sorted(reached(c, held, next_lits, kept, [replaced(lit, replacements) for lit in c.properties()]))
     return replacements, next_lits, kept, left

@@ -4,6 +4,7 @@ import sys
 
 from reference.certificates import audit, certificates, read_blocks, written
 from reference.circuit import text
+from reference.merging import merge_counts
 from reference.pictures import MOST_NODES, has_name, neighbourhood, nodes, picture
 from reference.reading import Fault, read
 from reference.retiming import NoSuchName, frames_of, held_latches, passable, retimed
@@ -11,9 +12,11 @@ from reference.simulation import difference_text, read_stimulus, trace, trace_te
 from reference.witnesses import carried_text
 
 PATHS = {'retime': 2, 'batch': 1, 'stat': 1, 'convert': 2, 'sim': 2, 'same': 3, 'verify': 2, 'dot': 2, 'witness': 3}
-OPTIONS = {'retime': {'--ascii', '--binary', '--workers', '--frames', '--near', '--keep', '--cert', '--progress', '--quiet'},
-           'verify': {'--keep'}, 'dot': {'--frame', '--keep', '--around', '--depth'},
-           'batch': {'--ascii', '--binary', '--workers', '--frames', '--near'}, 'convert': {'--ascii', '--binary'}}
+OPTIONS = {'retime': {'--ascii', '--binary', '--workers', '--frames', '--near', '--merge', '--keep', '--cert', '--progress',
+                      '--quiet'},
+           'verify': {'--keep', '--merge'}, 'dot': {'--frame', '--merge', '--keep', '--around', '--depth'},
+           'batch': {'--ascii', '--binary', '--workers', '--frames', '--near', '--merge'}, 'convert': {'--ascii', '--binary'},
+           'stat': {'--merge'}, 'witness': {'--merge'}}
 WRITING = {'retime', 'convert', 'dot'}
 GREATEST = {'--workers': 64, '--frames': 2**28, '--depth': 100}
 VALUED = {'--workers', '--frames', '--keep', '--cert', '--around', '--depth'}
@@ -48,6 +51,8 @@ def parsed(words):
         options.setdefault(name, []).append(value)
     if len(paths) != PATHS[command] or {'--ascii', '--binary'} <= set(options) or {'--progress', '--quiet'} <= set(options):
         raise Ends(2, 'error: wrong arguments')
+    if command == 'dot' and '--merge' in options and '--frame' not in options:
+        raise Ends(2, 'error: --merge without --frame')
     outputs = paths[1:] if command in WRITING else []
     if paths[:len(paths) - len(outputs)].count('-') > 1:
         raise Ends(2, 'error: standard input is read once')
@@ -127,14 +132,14 @@ def letters_of(options, otherwise):
 def retime(paths, options):
     c, letters = circuit_of(paths[0])
     most = int(options['--frames'][0]) if '--frames' in options else None
-    names, smallest = [os.fsencode(name) for name in options.get('--keep', [])], '--near' in options
+    names, smallest, merge = [os.fsencode(name) for name in options.get('--keep', [])], '--near' in options, '--merge' in options
     try:
-        d, frames = retimed(c, most, names, smallest)
+        d, frames = retimed(c, most, names, smallest, merge)
     except NoSuchName as missing:
         raise no_such_name(paths[0], c, missing.args[0]) from missing
     write(paths[1], text(d, letters_of(options, letters)))
     for path in options.get('--cert', []):
-        write(path, written('smallest' if smallest else 'greatest', certificates(c, most, names, smallest)))
+        write(path, written('smallest' if smallest else 'greatest', certificates(c, most, names, smallest, merge)))
     lines = [f'frame {k + 1}: {before} to {after}\n' for k, (before, after) in enumerate(frames)]
     return 0, ''.join(lines) + f'latches {len(c.latches)} to {len(d.latches)}\n'
 
@@ -175,19 +180,21 @@ def batch(paths, options):
             ended = ended or 1
             say(f'{k + 1} refused {fault}\n')
             continue
-        d, _ = retimed(c, most, [], '--near' in options)
+        d, _ = retimed(c, most, [], '--near' in options, '--merge' in options)
         write_file(output_path, text(d, letters_of(options, letters)))
         say(f'{k + 1} done {len(c.latches)} to {len(d.latches)}\n')
     return ended, ''
 
 
-def stat(paths, _):
+def stat(paths, options):
     c, _ = circuit_of(paths[0])
     counts = {
         'inputs': c.inputs, 'latches': len(c.latches), 'free': c.free_latches(), 'gates': len(c.gates), 'outputs': len(c.outputs),
         'bad': len(c.bad), 'constraints': len(c.constraints), 'justice': len(c.justice), 'fairness': len(c.fairness),
         'passable': len(passable(c)),
     }
+    if '--merge' in options:
+        counts['merged'], counts['constant'] = merge_counts(c)
     return 0, ''.join(f'{name} {count}\n' for name, count in counts.items())
 
 
@@ -215,7 +222,7 @@ def verify(paths, options):
     except Fault as fault:
         raise Ends(1, f'{source_name(paths[1])}: {fault}') from fault
     try:
-        lines, status = audit(c, [os.fsencode(name) for name in options.get('--keep', [])], blocks)
+        lines, status = audit(c, [os.fsencode(name) for name in options.get('--keep', [])], blocks, '--merge' in options)
     except NoSuchName as missing:
         raise no_such_name(paths[0], c, missing.args[0]) from missing
     return status, ''.join(f'{line}\n' for line in lines)
@@ -229,7 +236,7 @@ def drawn_circuit(c, path, options):
         held = held_latches(c, names)
         if '--frame' not in options:
             return c, held, None
-        d, held, count, members = frames_of(c, 1, names)[0]
+        d, held, count, members = frames_of(c, 1, names, merge='--merge' in options)[0]
     except NoSuchName as missing:
         raise no_such_name(path, c, missing.args[0]) from missing
     return d, held, members if count < d.known_latches() else None
@@ -250,10 +257,10 @@ def dot(paths, options):
     return 0, ''
 
 
-def witness(paths, _):
+def witness(paths, options):
     c, d = circuit_of(paths[0])[0], circuit_of(paths[1])[0]
     try:
-        said, status = carried_text(c, d, bytes_of(paths[2]))
+        said, status = carried_text(c, d, bytes_of(paths[2]), '--merge' in options)
     except Fault as fault:
         raise Ends(1, f'{source_name(paths[2])}: {fault}') from fault
     return status, said

@@ -3,6 +3,7 @@ import itertools
 
 from reference.circuit import FREE, ordered
 from reference.cleaning import cleaned
+from reference.merging import start_of
 
 MOST_ENUMERATED = 9
 
@@ -191,12 +192,12 @@ def moved(c, members, held=frozenset()):
     return d, {staying.index(start + k) for k in held}
 
 
-def frames_of(c, most=None, names=(), smallest=False):
+def frames_of(c, most=None, names=(), smallest=False, merge=False):
     """The circuit of each frame, its held latches, its least count and the set that is taken; and the same of the last circuit,
     where the limit of frames didn't end the run."""
     least_set = smallest_least if smallest else greatest_least
     found = []
-    c, held = cleaned(c, held_latches(c, names))
+    c, held = start_of(c, held_latches(c, names), merge)
     while most is None or len(found) < most:
         count, members = least_set(c, held)
         found.append((c, held, count, members))
@@ -206,11 +207,11 @@ def frames_of(c, most=None, names=(), smallest=False):
     return found
 
 
-def retimed(c, most=None, names=(), smallest=False):
+def retimed(c, most=None, names=(), smallest=False, merge=False):
     """The retimed circuit, and for each frame its known latches before and the count of its set."""
-    found = frames_of(c, most, names, smallest)
+    found = frames_of(c, most, names, smallest, merge)
     frames = [(d.known_latches(), count) for d, _, count, _ in found if count < d.known_latches()]
     if not found:
-        return cleaned(c, held_latches(c, names))[0], frames
+        return start_of(c, held_latches(c, names), merge)[0], frames
     d, held, count, members = found[-1]
     return (cleaned(*moved(d, members, held))[0] if count < d.known_latches() else d), frames

@@ -3,7 +3,7 @@ import dataclasses
 import re
 
 from reference.circuit import FREE
-from reference.cleaning import cleaned
+from reference.merging import start_of
 from reference.reading import Fault
 from reference.simulation import steps
 
@@ -79,13 +79,14 @@ def first_step(c, latches, rows, number):
     return None
 
 
-def kept_free(c, d):
-    """The places of d's free latches among those of c: all, or those that cleaning leaves. None where neither are as many."""
+def kept_free(c, d, merge):
+    """The places of d's free latches among those of c: all, or those that are left before the first frame. None where neither are as
+    many."""
     if c.free_latches() == d.free_latches():
         return list(range(c.free_latches()))
     free = [k for k, (_, reset) in enumerate(c.latches) if reset is FREE]
     numbered = dataclasses.replace(c, symbols={**c.symbols, 'l': {k: k for k in range(len(c.latches))}})
-    left, _ = cleaned(numbered)
+    left, _ = start_of(numbered, merge=merge)
     kept = [free.index(left.symbols['l'][k]) for k, (_, reset) in enumerate(left.latches) if reset is FREE]
     return kept if len(kept) == d.free_latches() else None
 
@@ -96,11 +97,11 @@ def carried(c, d, kept, latches):
     return ''.join(next(values) if reset is FREE else str(reset) for _, reset in c.latches)
 
 
-def carried_text(c, d, data):
+def carried_text(c, d, data, merge):
     """What is printed, and the exit status."""
     properties, latches, rows = read_witness(data, d)
     counts = [(e.inputs, len(bad_places(e)), len(e.constraints), len(e.justice)) for e in (c, d)]
-    kept = kept_free(c, d) if counts[0] == counts[1] else None
+    kept = kept_free(c, d, merge) if counts[0] == counts[1] else None
     if kept is None:
         return 'shapes differ\n', 1
     back, comments = carried(c, d, kept, latches), []

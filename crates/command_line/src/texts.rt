@@ -91,8 +91,9 @@ Exit status: 0 all are confirmed, 1 a file is refused or IN has no latch NAME, 2
 pub(crate) const STAT_EXAMPLE: &str =
     "Latches are free where they have no known reset; free latches never move.
 
-With --merge a last line says how many latches 'retime --merge' would merge, and how many of these never change:
-  merged 2, constant 1
+With --merge two last lines say how many latches 'retime --merge' would merge, and how many of these never change:
+  merged 2
+  constant 1
 
 Exit status: 0 done, 1 IN is no circuit, 2 command line, 3 device, 4 out of memory.";
 

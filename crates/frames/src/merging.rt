@@ -6,14 +6,13 @@ ghost use Rattle.frames.specs.Merging.{IsStart, told_of_read};
 ghost use Rattle.frames.specs.Named.{IsFirstMissingBy, NoneMissingBy};
 ghost use Rattle.frames.specs.Retiming.{IsRetimedAsIs, IsRetimedMerged};
 ghost use Rattle.frames.specs.Underway.{IsUnderway};
-ghost use Rattle.aig_graph.specs.declared.holding.KeepError.TheVariants as keeping;
 ghost use Rattle.frames.specs.declared.errors.RetimeError.TheVariants.{NoSuchName};
 
 use crate::errors::RetimeError;
 use crate::options::Options;
 use crate::retiming::{begun_over, retimed_from};
 use crate::watcher::FrameWatcher;
-use aig_graph::{Circuit, KeepError, NoMemory, Sequence, keep_of};
+use aig_graph::{Circuit, NoMemory, Sequence, keep_of};
 use clean::composed;
 use frame_start::{MergedStart, merged_start};
 use merged_latches::MergeCounts;
@@ -38,18 +37,13 @@ pub(crate) struct Start {
 }
 
 /// Whether a latch has each of the names.
-fn are_found(alloc: Global, circuit: &Circuit, options: &Options) -> Result<(), KeepError>
+fn are_found(alloc: Global, circuit: &Circuit, options: &Options) -> Result<(), RetimeError>
     ensures none_missing { OnOk result (NoneMissingBy options.now circuit.now) }
-    ensures missing { (place : ℕ) → IsErrOf result (keeping.NoSuchName place)
+    ensures missing { (place : ℕ) → IsErrOf result (NoSuchName place)
         → IsFirstMissingBy options.now circuit.now place }
 {
-    match keep_of(alloc, circuit, options.keep.as_slice()) {
-        Ok(keep) => {
-            drop(keep);
-            Ok(())
-        }
-        Err(error) => Err(error),
-    }
+    drop(keep_of(alloc, circuit, options.keep.as_slice())?);
+    Ok(())
 }
 
 /// A merged circuit as what frames start from, of a circuit with so many latches.
@@ -74,6 +68,16 @@ fn start_after(merged: MergedStart, latches: u32) -> Start
     }
 }
 
+/// What frames start from, of a circuit that has latches of all names.
+fn start_found(alloc: Global, circuit: &Circuit, options: &Options) -> Result<Start, NoMemory>
+    requires { NoneMissingBy options.now circuit.now }
+    ensures { IfOk result (IsStart options.now circuit.now) }
+{
+    let latches = circuit.aig().latches().len() as u32;
+    let merged = merged_start(alloc, circuit, options.keep.as_slice())?;
+    Ok(start_after(merged, latches))
+}
+
 /// What frames start from, where a latch has each of the names.
 fn start_of(alloc: Global, circuit: &Circuit, options: &Options) -> Result<Start, RetimeError>
     ensures started { IfOk result (IsStart options.now circuit.now) }
@@ -81,12 +85,11 @@ fn start_of(alloc: Global, circuit: &Circuit, options: &Options) -> Result<Start
     ensures missing { (place : ℕ) → IsErrOf result (NoSuchName place)
         → IsFirstMissingBy options.now circuit.now place }
 {
-    // What a circuit's names and latches are is what its readers ensure.
-    circuit.known();
     are_found(alloc, circuit, options)?;
-    let latches = circuit.aig().latches().len() as u32;
-    let merged = merged_start(alloc, circuit, options.keep.as_slice())?;
-    Ok(start_after(merged, latches))
+    match start_found(alloc, circuit, options) {
+        Ok(start) => Ok(start),
+        Err(NoMemory) => Err(RetimeError::NoMemory),
+    }
 }
 
 /// What frames start from; the circuit that was read is dropped.

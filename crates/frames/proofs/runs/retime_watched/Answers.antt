@@ -1,23 +1,20 @@
-use Rattle.std.proofs.lemmas.Result.{IfOk-from_err}
-use Rattle.frames.proofs.retiming.retime_watched.Goals as goal
+use Rattle.frames.proofs.MergedLaws.{by-frames, by-merging}
+use Rattle.frames.proofs.runs.retime_watched.Goals as goal
 
-pub retimed_from-requires-after_bounds : goal.retimed_from-requires-after_bounds
-retimed_from-requires-after_bounds g c κs within = record { read = c.args.circuit.now; underway = c.in_ok-start.ensures.underway; names = c.in_ok-start.ensures.none_missing }
+pub returns-then-merge-clause-retimed : goal.returns-then-merge-clause-retimed
+returns-then-merge-clause-retimed g c = by-merging c.args.options.now c.args.circuit.now c.retime_merged.result c.if-merge.true c.retime_merged.ensures.retimed
 
-pub returns-clause-retimed : goal.returns-clause-retimed
-returns-clause-retimed g c = c.in_ok-retimed.ensures c.args.circuit.now c.in_ok-start.ensures.underway
+pub returns-then-merge-clause-none_missing : goal.returns-then-merge-clause-none_missing
+returns-then-merge-clause-none_missing g c = c.retime_merged.ensures.none_missing
 
-pub returns-clause-none_missing : goal.returns-clause-none_missing
-returns-clause-none_missing g c = c.in_ok-start.ensures.none_missing
+pub returns-then-merge-clause-missing : goal.returns-then-merge-clause-missing
+returns-then-merge-clause-missing g c = c.retime_merged.ensures.missing
 
-pub returns-in_err-start-clause-retimed : goal.returns-in_err-start-clause-retimed
-returns-in_err-start-clause-retimed g c = IfOk-from_err c.from_residual.result _ c.from_residual.ensures.0
+pub returns-else-merge-clause-retimed : goal.returns-else-merge-clause-retimed
+returns-else-merge-clause-retimed g c = by-frames c.args.options.now c.args.circuit.now c.retime_as_is.result c.if-merge.false c.retime_as_is.ensures.retimed
 
-pub returns-in_err-start-clause-none_missing : goal.returns-in_err-start-clause-none_missing
-returns-in_err-start-clause-none_missing g c = IfOk-from_err c.from_residual.result _ c.from_residual.ensures.0
+pub returns-else-merge-clause-none_missing : goal.returns-else-merge-clause-none_missing
+returns-else-merge-clause-none_missing g c = c.retime_as_is.ensures.none_missing
 
-pub returns-in_err-retimed-clause-retimed : goal.returns-in_err-retimed-clause-retimed
-returns-in_err-retimed-clause-retimed g c = IfOk-from_err c.from_residual-in_err-retimed.result _ c.from_residual-in_err-retimed.ensures.0
-
-pub returns-in_err-retimed-clause-none_missing : goal.returns-in_err-retimed-clause-none_missing
-returns-in_err-retimed-clause-none_missing g c = IfOk-from_err c.from_residual-in_err-retimed.result _ c.from_residual-in_err-retimed.ensures.0
+pub returns-else-merge-clause-missing : goal.returns-else-merge-clause-missing
+returns-else-merge-clause-missing g c = c.retime_as_is.ensures.missing
