@@ -2,11 +2,10 @@
 //! kept and finer than the reading stays finer than what the round makes of it.
 ghost use Rattle.std.specs.Prelude.{◌≡◌, ◌<◌, slice_get, length, Some, OnOk, IfOk};
 ghost use Rattle.std.specs.Map.{lookup};
-ghost use Rattle.variable_tables.specs.Counting.{count_below};
 ghost use Rattle.aig_graph.specs.Graph.{variable};
 ghost use Rattle.cleaned_circuits.specs.Merged.{stand_or_own};
 ghost use Rattle.merged_latches.specs.Readings.{from_reset, may_merge, stands_by, told};
-ghost use Rattle.merged_latches.specs.Counts.{counts_of, merged_latches, reads_constant};
+ghost use Rattle.merged_latches.specs.Counts.{constant_latches, counts_of, is_constant, merged_latches};
 ghost use Rattle.clean.specs.Rounds.{entries_told, first_read, first_round, is_told, next_round, read_told, told_after};
 
 use crate::gates::merge_gates;
@@ -151,17 +150,17 @@ pub(crate) fn merged_latches(aig: &Aig, reads: &[Lit]) -> usize
     merged
 }
 
+fn is_constant(lit: Lit) -> bool
+    ensures { result ≡ is_constant lit }
+{
+    lit.var() == 0
+}
+
 /// How many latches read as a constant.
 fn constant_latches(reads: &[Lit]) -> usize
-    ensures { result ≡ count_below (reads_constant reads.now) (length reads.now) }
+    ensures { result ≡ constant_latches reads.now }
 {
-    let mut constant = 0;
-    for lit in reads {
-        if lit.var() == 0 {
-            constant += 1;
-        }
-    }
-    constant
+    reads.iter().filter(|lit| is_constant(**lit)).count()
 }
 
 /// How many latches read as another, and how many of these as a constant.

@@ -1,5 +1,6 @@
 -- How many latches read as another.
 use Rattle.std.specs.Prelude.{ℕ, ◌≡◌, ◌==◌, not, Bool, List, length}
+use Rattle.std.specs.List.{count_by}
 use Rattle.aig_graph.specs.Graph.{Graph, variable}
 use Rattle.variable_tables.specs.Counting.{count_below}
 use Rattle.merged_latches.specs.declared.counts.MergeCounts.{MergeCounts}
@@ -10,20 +11,20 @@ use Rattle.merged_latches.specs.Readings.{own_literal, read}
 abbrev pub is_merged : Graph → List ℕ → ℕ → Bool
 is_merged g reads j = not (read reads j == own_literal g j)
 
--- whether latch j reads as a constant
-abbrev pub reads_constant : List ℕ → ℕ → Bool
-reads_constant reads j = variable (read reads j) == 0
+-- whether the literal is a constant
+abbrev pub is_constant : ℕ → Bool
+is_constant lit = variable lit == 0
 
 -- how many latches read as another, or as a constant
 abbrev pub merged_latches : Graph → List ℕ → ℕ
 merged_latches g reads = count_below (is_merged g reads) (length g.latches)
 
 -- how many read as a constant
-abbrev pub constant_latches : Graph → List ℕ → ℕ
-constant_latches g reads = count_below (reads_constant reads) (length g.latches)
+abbrev pub constant_latches : List ℕ → ℕ
+constant_latches reads = count_by is_constant reads
 
 abbrev pub counts_of : Graph → List ℕ → MergeCounts
-counts_of g reads = record { merged = merged_latches g reads; constant = constant_latches g reads }
+counts_of g reads = record { merged = merged_latches g reads; constant = constant_latches reads }
 
 -- the counts of the coarsest kept reading
 pub record AreCounts (g : Graph) (held : List ℕ) (counts : MergeCounts) : Type 0 where
