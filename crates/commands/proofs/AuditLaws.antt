@@ -1,7 +1,9 @@
 -- What is printed of an audit, by how the run ends.
-use Rattle.std.proofs.Common.{◌≡◌, Bool, true, false, IfOk, List, Result, Ok, Err, sym, subst}
+use Rattle.std.proofs.Common.{ℕ, ◌≡◌, Bool, true, false, IfOk, List, Result, Ok, Err, sym, subst}
 use Rattle.counted_io.specs.Output.{Output}
 use Rattle.certificates.specs.declared.certificate.Certificate.{Certificate}
+use Rattle.aig_graph.specs.Circuits.{Netlist}
+use Rattle.certificate_audits.specs.Audits.{IsAudit, IsMergedAudit}
 use Rattle.certificate_audits.specs.declared.outcome.Audit.{Audit}
 use Rattle.certificate_audits.specs.declared.outcome.End.{End}
 use Rattle.certificate_audits.specs.declared.outcome.End.TheVariants.{NoBlocks, Certified, Open, BlocksFollow, Objected}
@@ -12,8 +14,17 @@ use Rattle.circuit_files.specs.declared.outcome.Outcome.{Outcome}
 use Rattle.circuit_files.specs.declared.outcome.Failure.{Failure}
 use Rattle.command_objects.specs.Objects.{EndsPrintingObject}
 use Rattle.commands.specs.Printing.{EndsPrinting, Prints, ending}
-use Rattle.commands.specs.Verifying.{EndsWithAudit, outcome_of_end}
+use Rattle.commands.specs.Verifying.{EndsWithAudit, IsAuditFor, outcome_of_end}
 use Rattle.commands.proofs.PrintingLaws.{lines_print, object_prints}
+
+-- an audit, as the task says
+pub merged_audit : {E : Type 0} (merge : Bool) (names : List (List ℕ)) (c : Netlist) (blocks : List Certificate) (r : Result Audit E)
+    → merge ≡ true → IfOk r (IsMergedAudit names c blocks) → IfOk r (IsAuditFor merge names c blocks)
+merged_audit merge names c blocks r asked is = let P : Bool → Type 0 = λ m. IfOk r (IsAuditFor m names c blocks) in subst P (sym asked) is
+
+pub plain_audit : {E : Type 0} (merge : Bool) (names : List (List ℕ)) (c : Netlist) (blocks : List Certificate) (r : Result Audit E)
+    → merge ≡ false → IfOk r (IsAudit names c blocks) → IfOk r (IsAuditFor merge names c blocks)
+plain_audit merge names c blocks r unasked is = let P : Bool → Type 0 = λ m. IfOk r (IsAuditFor m names c blocks) in subst P (sym unasked) is
 
 -- whatever is printed of an audit may be
 audit_may_be_printed : (e : End) (old new : Output) → Prints (outcome_of_end e) old new

@@ -8,10 +8,10 @@ ghost use Rattle.commands.specs.Statistics.{AreMergeCounts, AreMergeCountsFor, P
 use crate::ended::ended;
 use aig_graph::{Circuit, Keep, NoMemory};
 use circuit_files::{Failure, Outcome, circuit_at};
-use frame_start::merged_start;
 use command_line::Counting;
 use counted_io::{CountedRead, CountedWrite};
 use frame_net::passable;
+use frame_start::merged_start;
 use merged_latches::MergeCounts;
 use reports::print_counts;
 use std::alloc::Global;
@@ -43,12 +43,13 @@ fn merge_counts_for(
 ) -> Result<Option<MergeCounts>, NoMemory>
     ensures { IfOk result (AreMergeCountsFor merge circuit.now) }
 {
-    if !merge {
-        return Ok(None);
-    }
-    match merge_counts(alloc, circuit) {
-        Ok(counts) => Ok(Some(counts)),
-        Err(error) => Err(error),
+    if merge {
+        match merge_counts(alloc, circuit) {
+            Ok(counts) => Ok(Some(counts)),
+            Err(error) => Err(error),
+        }
+    } else {
+        Ok(None)
     }
 }
 

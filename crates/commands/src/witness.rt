@@ -3,7 +3,7 @@ ghost use Rattle.std.specs.Prelude.{◌≡◌, IfOk};
 ghost use Rattle.aig_graph.specs.Graph as graphs;
 ghost use Rattle.witnesses.specs.Texts.{whole_text};
 ghost use Rattle.circuit_files.specs.declared.outcome.Outcome.TheVariants.{Done};
-ghost use Rattle.commands.specs.Fates.{AreKept, AreLeft, AreLeftMerged, AreMergeOptions, IsFate, IsFateOf, IsFateUnder, IsFateWith, IsJudged, PrintsFate, fate_text, if_many, outcome_of_fate};
+ghost use Rattle.commands.specs.Fates.{AreKept, AreLeft, AreLeftFor, AreLeftMerged, AreMergeOptions, IsFate, IsFateOf, IsFateUnder, IsFateWith, IsJudged, PrintsFate, fate_text, if_many, outcome_of_fate};
 ghost use Rattle.commands.specs.Fates as wanted;
 ghost use Rattle.commands.specs.Printing.{EndsPrinting, Prints, ending};
 
@@ -106,6 +106,23 @@ fn places_cleaned(
     }
 }
 
+/// The places of the free latches that are left of a circuit before the first frame, where there are so many.
+fn places_before<R: Threads + Sync>(
+    rt: &R,
+    alloc: Global,
+    circuit: &Circuit,
+    free: u32,
+    merge: bool,
+) -> Result<Option<Sequence<u32>>, NoMemory>
+    ensures { IfOk result (AreLeftFor merge circuit.now free) }
+{
+    if merge {
+        places_merged(rt, alloc, circuit, free)
+    } else {
+        places_cleaned(alloc, circuit, free)
+    }
+}
+
 /// The places of a retimed circuit's free latches among those of the circuit that it was made of: they keep their order, so these are
 /// all where there are as many, and else those that are left before the first frame, where these are as many.
 fn kept_places<R: Threads + Sync>(
@@ -121,11 +138,7 @@ fn kept_places<R: Threads + Sync>(
     if circuit.aig().free_latches() == free {
         return Ok(Some(all_places(alloc, circuit.aig())?));
     }
-    if merge {
-        places_merged(rt, alloc, circuit, free)
-    } else {
-        places_cleaned(alloc, circuit, free)
-    }
+    places_before(rt, alloc, circuit, free, merge)
 }
 
 /// Whether the circuits have as many properties and inputs.

@@ -54,11 +54,11 @@ merged-retimed options c start r s is retimed same =
 
 -- what the options ask for
 pub by-merging : {E : Type 0} (options : Options) (c : Netlist) (r : Result Retimed E) → options.merge ≡ true → IfOk r (IsRetimedMerged options c) → IfOk r (IsRetimedBy options c)
-by-merging options c r yes is =
+by-merging options c r asked is =
     let P : Bool → Type 0 = λ merge. IfOk r (IsRetimedWith merge options.choice c (names_in options) options.max_frames options.certify) in
-    subst P (sym yes) is
+    subst P (sym asked) is
 
 pub by-frames : {E : Type 0} (options : Options) (c : Netlist) (r : Result Retimed E) → options.merge ≡ false → IfOk r (IsRetimedAsIs options c) → IfOk r (IsRetimedBy options c)
-by-frames options c r no is =
+by-frames options c r unasked is =
     let P : Bool → Type 0 = λ merge. IfOk r (IsRetimedWith merge options.choice c (names_in options) options.max_frames options.certify) in
-    subst P (sym no) is
+    subst P (sym unasked) is

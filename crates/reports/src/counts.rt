@@ -41,9 +41,12 @@ fn put_property_counts<W: CountedWrite>(out: &mut Buffered<'_, W>, props: &Props
 fn put_merge_counts<W: CountedWrite>(out: &mut Buffered<'_, W>, merged: Option<MergeCounts>)
     ensures { Puts W.output out.old out.new (merge_counts merged) }
 {
-    if let Some(counts) = merged {
-        put_count(out, b"merged", u64::from(counts.merged));
-        put_count(out, b"constant", u64::from(counts.constant));
+    match merged {
+        Some(counts) => {
+            put_count(out, b"merged", u64::from(counts.merged));
+            put_count(out, b"constant", u64::from(counts.constant));
+        }
+        None => {}
     }
 }
 
