@@ -1,5 +1,5 @@
 -- Merging keeps the latches that names hold, and a run that merges first is one.
-use Rattle.std.proofs.Common.{ℕ, Bool, true, false, inl, inr, ◌≡◌, ◌≤◌, List, length, map, Option, Some, None, slice_get, refl, arith, ap, ap₂, sym, ◌∙◌, subst, filter}
+use Rattle.std.proofs.Common.{ℕ, Bool, true, false, inl, inr, ◌≡◌, List, length, map, Some, slice_get, refl, arith, ap, ap₂, sym, ◌∙◌, subst, filter}
 use Rattle.std.proofs.lemmas.List.{length-map}
 use Rattle.std.proofs.lemmas.Option.{slice_get_cases}
 use Rattle.variable_tables.proofs.ListLaws.{slice_get-map_some}
@@ -17,7 +17,7 @@ use Rattle.merged_latches.specs.Partitions.{IsMerged}
 use Rattle.merged_latches.specs.Readings.{stands_by}
 use Rattle.merged_latches.proofs.FinerLaws.{counts-one, merged-one}
 use Rattle.retimed_circuits.specs.declared.report.Retimed.{Retimed}
-use Rattle.retimed_circuits.specs.Certified.{IsSameRetiming, SameButRoutes}
+use Rattle.retimed_circuits.specs.Certified.{IsSameRetiming}
 use Rattle.retimed_circuits.specs.Merging.{MergesIn}
 use Rattle.retimed_circuits.specs.Names.{held_latch, held_latches, reset_of}
 use Rattle.retimed_circuits.specs.Retiming.{IsMergedRetimed, IsRetimed, IsRetimedWith, since_merged}
