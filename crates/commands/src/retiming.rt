@@ -265,11 +265,7 @@ fn certified<
 }
 
 /// What the task's retiming leaves.
-fn remaining(
-    alloc: Global,
-    task: &Retiming<'_>,
-    retimed: &Retimed,
-) -> Result<Remaining, NoMemory>
+fn remaining(alloc: Global, task: &Retiming<'_>, retimed: &Retimed) -> Result<Remaining, NoMemory>
     ensures { IfOk result (λ left. left ≡ remaining_of task.now retimed.now) }
 {
     let names = bytes_of_names(alloc, task.keep.as_slice())?;
@@ -301,13 +297,14 @@ fn print_as<'a, W: CountedWrite>(
     alloc: Global,
     task: &Retiming<'_>,
     timed: &Timed,
+    json: bool,
     writer: &mut W,
 ) -> Result<Outcome, Failure<'a>>
-    ensures frames { EndsPrintingFrames task.now.json task.now timed.now.retimed timed.now.times
+    ensures frames { EndsPrintingFrames json task.now timed.now.retimed timed.now.times
         (W.output writer.old) (W.output writer.new) result }
     ensures prints { Prints (ending result) (W.output writer.old) (W.output writer.new) }
 {
-    if task.json {
+    if json {
         print_object(alloc, task, timed, writer)
     } else {
         ended(print_retiming(&timed.retimed, writer), Outcome::Done)
@@ -348,10 +345,10 @@ fn print_frames<'a, O: CountedWrite, E: CountedWrite>(
         → Prints (ending result) (O.output out.old) (O.output out.new) }
 {
     if task.takes_stdout() {
-        let _ = print_as(alloc, task, timed, err);
+        let _ = print_as(alloc, task, timed, task.json, err);
         Ok(Outcome::Done)
     } else {
-        print_as(alloc, task, timed, out)
+        print_as(alloc, task, timed, task.json, out)
     }
 }
 
