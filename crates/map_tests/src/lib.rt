@@ -1,0 +1,5 @@
+//! Tests of the public calls on maps of states.
+#![tactic(auto)]
+
+#[cfg(test)]
+mod checked;
