@@ -1,0 +1,90 @@
+-- Why there is no retiming with a map.
+use Rattle.std.proofs.Common.{ℕ, ◌≡◌, ◌∙◌, inl, inr, refl, sym, subst}
+use Rattle.aig_graph.specs.Circuits.{Netlist}
+use Rattle.counted_io.specs.Input.{Input}
+use Rattle.counted_io.specs.Output.{Output, WritesAll, WritesPart}
+use Rattle.aig_binary.specs.declared.reading.SpeltCircuit.{SpeltCircuit}
+use Rattle.aig_binary.specs.Ending.{ReadsToEnd, Spells}
+use Rattle.frames.specs.declared.errors.BytesError.TheVariants.{Read, Retime, Write}
+use Rattle.frames.specs.declared.errors.RetimeError.{RetimeError}
+use Rattle.frames.specs.declared.errors.RetimeError.TheVariants.{NoMemory, NoSuchName}
+use Rattle.frames.specs.declared.options.Options.{Options}
+use Rattle.frames.specs.Answering.{IsWritten}
+use Rattle.frames.specs.Named.{IsFirstMissingBy, names_in}
+use Rattle.frames.proofs.StopLaws.{stops-answering}
+use Rattle.std.specs.Option.{unwrap_or}
+use Rattle.file_words.specs.declared.spelling.Spelling.{Spelling}
+use Rattle.aig_binary.specs.Spellings.{text_in}
+use Rattle.aig_binary.proofs.LimitLaws.{reads-within}
+use Rattle.aig_binary.proofs.SpellingLaws.{the_spelling_law}
+use Rattle.retimed_circuits.specs.declared.report.Retimed.{Retimed}
+use Rattle.retimed_circuits.proofs.LimitLaws.{stays-within}
+use Rattle.state_maps.specs.MapCircuits.{IsMapCircuit}
+use Rattle.mapped_answers.specs.declared.making.Made.{Made}
+use Rattle.mapped_answers.specs.declared.mapped.Mapped.{Mapped}
+use Rattle.mapped_answers.specs.declared.mapped.MappedError.{MappedError}
+use Rattle.mapped_answers.specs.declared.mapped.MappedError.TheVariants.{Answer, MapTooLarge}
+use Rattle.mapped_answers.specs.Mapping.{IsMade, IsMadeCutOff, IsMadeWritten, IsMakingError, IsMapError, IsMapped, IsMappedError, IsMappedOf, IsMappingStop}
+
+-- no map
+pub unmapped : (options : Options) (c : Netlist) (e : MappedError) → IsMapError e → IsMakingError options c e
+unmapped options c e (inl memory) = subst (IsMakingError options c) (sym memory) tt
+unmapped options c e (inr large) = subst (IsMakingError options c) (sym large) tt
+
+-- no retiming
+pub unretimed : (options : Options) (c : Netlist) (e : RetimeError) → ((place : ℕ) → e ≡ NoSuchName place → IsFirstMissingBy options c place) → IsMakingError options c (Answer (Retime e))
+unretimed options c NoMemory missing = tt
+unretimed options c (NoSuchName place) missing = missing place refl
+
+-- nothing is written then
+pub makes-nothing : (options : Options) (spelt : SpeltCircuit) (out : Output) (e : MappedError) → IsMakingError options spelt.circuit e → IsMappingStop options spelt out out e
+makes-nothing options spelt out MapTooLarge is = refl
+makes-nothing options spelt out (Answer (Read e)) is = absurd is
+makes-nothing options spelt out (Answer (Retime NoMemory)) is = refl
+makes-nothing options spelt out (Answer (Retime (NoSuchName place))) is = (refl, is)
+makes-nothing options spelt out (Answer (Write e)) is = absurd is
+
+-- what stops after the reading is why there is no answer
+pub stops-mapping : (options : Options) (old new : Input) (before after : Output) (spelt : SpeltCircuit) (e : MappedError)
+    → ReadsToEnd old new → Spells old spelt → IsMappingStop options spelt before after e → IsMappedError options old new before after e
+stops-mapping options old new before after spelt MapTooLarge read spells stop = (read, stop)
+stops-mapping options old new before after spelt (Answer e) read spells stop = stops-answering options old new before after spelt e read spells stop
+
+-- what was made is written as the answer
+pub written-answer : (options : Options) (spelt : SpeltCircuit) (made : Made) (spelling : Spelling) (old new : Output) (m : Mapped) → spelling ≡ unwrap_or options.spelling spelt.spelling
+    → IsMade options spelt.circuit made → IsMadeWritten made spelling old new m → IsMappedOf options spelt old new m
+written-answer options spelt made spelling old new m same is written =
+    let text : Spelling = unwrap_or options.spelling spelt.spelling in
+    let P : Retimed → Type 0 = λ r. IsWritten options spelt old new r in
+    let Q : Retimed → Netlist → Type 0 = λ r map. IsMapCircuit spelt.circuit r.circuit r.kept_free map in
+    let whole : P made.retimed = record {
+      answer = record { names = is.names; retimed = is.retimed };
+      writes = subst (λ (s : Spelling). WritesAll old new (text_in s made.retimed.circuit)) same written.writes;
+      reads_back = λ within. (the_spelling_law text made.retimed.circuit).read written.graph written.netlist
+          (stays-within options.merge options.choice spelt.circuit (names_in options) options.max_frames options.certify made.retimed is.retimed within);
+    } in
+    record {
+      written = subst P (sym written.same) whole;
+      map = subst (λ (r : Retimed). Q r m.map.circuit) (sym written.same) (subst (λ (map : Netlist). Q made.retimed map) (sym written.map) is.map);
+      spelling = written.spelt ∙ same;
+    }
+
+-- or a beginning of it
+pub cut_off-answer : (options : Options) (spelt : SpeltCircuit) (made : Made) (spelling : Spelling) (old new : Output) (e : MappedError) → spelling ≡ unwrap_or options.spelling spelt.spelling
+    → IsMade options spelt.circuit made → IsMadeCutOff made spelling old new e → IsMappingStop options spelt old new e
+cut_off-answer options spelt made spelling old new MapTooLarge same is none = absurd none
+cut_off-answer options spelt made spelling old new (Answer (Read e)) same is none = absurd none
+cut_off-answer options spelt made spelling old new (Answer (Retime e)) same is none = absurd none
+cut_off-answer options spelt made spelling old new (Answer (Write e)) same is part = record {
+  retimed = made.retimed;
+  answer = record { names = is.names; retimed = is.retimed };
+  writes = subst (λ (s : Spelling). WritesPart old new (text_in s made.retimed.circuit)) same part;
+}
+
+-- the answer of the bytes
+pub mapped-answer : (options : Options) (input : Input) (old new : Output) (spelt : SpeltCircuit) (m : Mapped) → Spells input spelt → IsMappedOf options spelt old new m → IsMapped input old new options m
+mapped-answer options input old new spelt m read of = record {
+  answered = record { spelt = spelt; read = read; written = of.written; reads_back = λ left known. of.written.reads_back (reads-within left spelt.circuit (read.circuit.bytes left known)) };
+  map = of.map;
+  spelling = of.spelling;
+}

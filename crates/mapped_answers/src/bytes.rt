@@ -1,0 +1,138 @@
+//! From a reader's bytes to a writer's. The map is made before anything is written, so that memory that is refused for it, or its size,
+//! leaves what is written as it was.
+ghost use Rattle.std.specs.Prelude.{◌≡◌, [], false, true, IfErr, IfOk, OnOk, unwrap_or};
+ghost use Rattle.aig_graph.specs.Circuits.{IsNetlist};
+ghost use Rattle.aig_graph.specs.Graph.{IsGraph};
+ghost use Rattle.aig_binary.specs.Ending.{IsReadError, ReadsToEnd, Spells};
+ghost use Rattle.aig_binary.specs.Spellings.{text_in};
+ghost use Rattle.counted_io.specs.Output.{Writes};
+ghost use Rattle.mapped_answers.specs.Mapping.{IsMadeCutOff, IsMadeWritten, IsMapped, IsMappedError, IsMappedOf, IsMappingStop};
+
+use crate::making::{Made, made_over};
+use crate::mapped::{Mapped, MappedError};
+use aig_binary::{AnyReader, CircuitReader, Spelling, SpeltCircuit, read_circuit, write};
+use aig_graph::Circuit;
+use counted_io::{CountedRead, CountedWrite, WriteError};
+use file_words::ReadError;
+use frames::{BytesError, FrameWatcher, Options, Stage};
+use pulse::{Crew, PhaseGate};
+use std::alloc::Global;
+use std::thread::Threads;
+
+/// Writes a circuit in this spelling.
+fn write_in<W: CountedWrite>(
+    circuit: &Circuit,
+    spelling: Spelling,
+    writer: &mut W,
+) -> Result<(), WriteError>
+    ensures graph { IsGraph circuit.now.aig }
+    ensures netlist { IsNetlist circuit.now }
+    ensures writes { Writes (W.output writer.old) (W.output writer.new) result
+        (text_in spelling circuit.now) }
+{
+    circuit.known();
+    write(circuit, spelling, writer)
+}
+
+/// Writes the circuit of a retiming in this spelling, which is that of the map too.
+fn write_made<W: CountedWrite>(
+    made: Made,
+    spelling: Spelling,
+    writer: &mut W,
+) -> Result<Mapped, MappedError>
+    ensures ok { IfOk result (IsMadeWritten made spelling (W.output writer.old)
+        (W.output writer.new)) }
+    ensures err { IfErr result (IsMadeCutOff made spelling (W.output writer.old)
+        (W.output writer.new)) }
+{
+    match write_in(&made.retimed.circuit, spelling, writer) {
+        Ok(()) => {
+            let Made { retimed, map } = made;
+            Ok(Mapped {
+                retimed,
+                map: SpeltCircuit {
+                    circuit: map,
+                    spelling,
+                },
+            })
+        }
+        Err(error) => {
+            drop(made);
+            Err(MappedError::Answer(BytesError::Write(error)))
+        }
+    }
+}
+
+/// Retimes the circuit that was read, makes its map, and writes it.
+fn mapped_spelt<W: CountedWrite, G: PhaseGate, V: FrameWatcher>(
+    rt: &(impl Threads + Sync),
+    alloc: Global,
+    spelt: SpeltCircuit,
+    writer: &mut W,
+    options: &Options,
+    crew: &Crew<G>,
+    watcher: &mut V,
+) -> Result<Mapped, MappedError>
+    requires certify { options.now.certify ≡ true }
+    requires merge { options.now.merge ≡ false }
+    ensures ok { IfOk result (IsMappedOf options.now spelt (W.output writer.old)
+        (W.output writer.new)) }
+    ensures err { IfErr result (IsMappingStop options.now spelt (W.output writer.old)
+        (W.output writer.new)) }
+{
+    let SpeltCircuit {
+        circuit,
+        spelling: fallback,
+    } = spelt;
+    let spelling = options.spelling.unwrap_or(fallback);
+    match made_over(rt, alloc, circuit, options, crew, watcher) {
+        Ok(made) => {
+            watcher.enter(Stage::Writing);
+            write_made(made, spelling, writer)
+        }
+        Err(error) => Err(error),
+    }
+}
+
+/// The circuit of a reader's bytes, by a reader of circuits that has been fed nothing yet.
+fn read_by<R: CountedRead, C: CircuitReader + Drop>(
+    reader: &mut R,
+    mut circuits: C,
+) -> Result<SpeltCircuit, ReadError>
+    requires { C.holds circuits [] }
+    ensures read { OnOk result (ReadsToEnd (R.input reader.old) (R.input reader.new)) }
+    ensures circuit { IfOk result (Spells (R.input reader.old)) }
+    ensures err { IfErr result (IsReadError (R.input reader.old) (R.input reader.new)) }
+{
+    read_circuit(reader, &mut circuits)
+}
+
+/// Reads a circuit, retimes it and writes it as `frames::retime_bytes` does, and returns its map too, which is made before the
+/// circuit is written. The options ask for certificates, from which the map is made, and merge no latches. The circuit that was read is kept until the
+/// map is there.
+///
+/// # Errors
+///
+/// `Answer` with what `frames::retime_bytes` would say, and where memory for the map is refused; `MapTooLarge` where the map would
+/// have too many variables: nothing is written then.
+pub fn retime_bytes_mapped<R: CountedRead, W: CountedWrite, G: PhaseGate, V: FrameWatcher>(
+    rt: &(impl Threads + Sync),
+    alloc: Global,
+    reader: &mut R,
+    writer: &mut W,
+    options: &Options,
+    crew: &Crew<G>,
+    watcher: &mut V,
+) -> Result<Mapped, MappedError>
+    requires certify { options.now.certify ≡ true }
+    requires merge { options.now.merge ≡ false }
+    ensures ok { IfOk result (IsMapped (R.input reader.old) (W.output writer.old)
+        (W.output writer.new) options.now) }
+    ensures err { IfErr result (IsMappedError options.now (R.input reader.old) (R.input reader.new)
+        (W.output writer.old) (W.output writer.new)) }
+{
+    match read_by(reader, AnyReader::new(alloc)) {
+        Ok(spelt) => mapped_spelt(rt, alloc, spelt, writer, options, crew, watcher),
+        Err(error) => Err(MappedError::Answer(BytesError::Read(error))),
+    }
+}

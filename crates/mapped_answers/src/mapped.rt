@@ -1,0 +1,23 @@
+use aig_binary::SpeltCircuit;
+use frames::{BytesError, Retimed};
+use thiserror::Error;
+
+/// A retiming, with its map in the spelling that the circuit is written in.
+#[derive(Drop)]
+pub struct Mapped {
+    /// The retiming, whose circuit was written.
+    pub retimed: Retimed,
+    /// The map of the states of the circuit that was read to those of the one that was written.
+    pub map: SpeltCircuit,
+}
+
+/// Why a reader's bytes weren't retimed, mapped and written.
+#[derive(Clone, Copy, Debug, PartialEq, Eq, Error)]
+pub enum MappedError {
+    /// There is no answer, or there was no memory for a map.
+    #[error("{0}")]
+    Answer(BytesError),
+    /// The map would have more variables than a circuit may have.
+    #[error("the map has too many variables")]
+    MapTooLarge,
+}
