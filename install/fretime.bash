@@ -16,7 +16,7 @@ _fretime_circuit() {
     local word is_value=
     for word in "${COMP_WORDS[@]:2:COMP_CWORD-2}"; do
         case $is_value$word in
-            --workers | --frames | --keep | --keep-from | --cert | --around | --depth) is_value=yes ;;
+            --workers | --frames | --keep | --keep-from | --cert | --map | --around | --depth) is_value=yes ;;
             --* | yes=) ;;
             yes*) is_value= ;;
             *) _fretime_plain "$word"; return ;;
@@ -42,7 +42,7 @@ _fretime() {
         return
     fi
     case ${COMP_WORDS[1]} in
-        retime) options="--ascii --binary --workers --frames --near --merge --keep --keep-from --cert --progress --quiet --json --help" ;;
+        retime) options="--ascii --binary --workers --frames --near --merge --keep --keep-from --cert --map --progress --quiet --json --help" ;;
         batch) options="--ascii --binary --workers --frames --near --merge --json --help" ;;
         convert) options="--ascii --binary --help" ;;
         verify) options="--keep --keep-from --merge --json --help" ;;

@@ -11,6 +11,7 @@ import subprocess
 import sys
 import tempfile
 
+import map_checker
 import random_files
 from reference import program as reference_program
 from reference.circuit import ordered
@@ -54,7 +55,7 @@ class Comparison:
         return written
 
 
-OWN = {who: {'OUT': f'{who}.out', 'CERT': f'{who}.cert'} for who in ('reference', 'program')}
+OWN = {who: {'OUT': f'{who}.out', 'CERT': f'{who}.cert', 'MAP': f'{who}.map'} for who in ('reference', 'program')}
 
 
 def ran(words):
@@ -143,6 +144,19 @@ def compare_certificates(rng, comparison):
             compare_judges(comparison, random_files.bent(rng, text), held, data)
 
 
+def compare_maps(rng, comparison):
+    """What `--map` writes, and that the checker of maps accepts it with what was read and written."""
+    c = random_files.tree(rng) if rng.random() < 0.7 else random_files.pipeline(rng, rng.choice([4, 8]), rng.randint(1, 3))
+    data, words = random_files.any_file(rng, c), options(rng, c)
+    retimed = comparison.run(['retime', 'in', 'OUT', *words, '--map', 'MAP'], {'in': data})
+    if not retimed:
+        return
+    maps = [content(OWN[who]['MAP']) for who in OWN]
+    comparison.count(maps[0] == maps[1], f'map {words} on {data}\n{maps}')
+    parts = [map_checker.read_circuit(part) for part in (data, retimed, maps[1])]
+    comparison.count(map_checker.Judge().shows(*parts), f'the checker of maps refuses {words} on {data}\n{maps[1]}')
+
+
 def compare_judges(comparison, certificates, held, data):
     """The program, the reference and the checker say the same."""
     comparison.run(['verify', 'in', 'cert', *held], {'in': data, 'cert': certificates})
@@ -202,13 +216,13 @@ def compare_with_one_worker(comparison, family):
 def compare_all(comparison, count, rng):
     """All comparisons, in the current folder: a small circuit of each family of bench/families.py; large ones, on which crews are
     compared with one worker; then small circuits with all sections in both spellings, pipelines of several frames, damaged files,
-    and certificates."""
+    certificates, and maps of states."""
     for family in FAMILIES:
         compare_crews(comparison, circuit_of(family))
     for family in LARGE:
         compare_with_one_worker(comparison, family)
     for k in range(count):
-        several = [compare_small, compare_small, compare_two, compare_damaged, compare_certificates]
+        several = [compare_small, compare_small, compare_two, compare_damaged, compare_certificates, compare_maps]
         compare = rng.choice(several) if k % 10 != 9 else compare_pipeline
         compare(rng, comparison)
 

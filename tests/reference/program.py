@@ -4,6 +4,7 @@ import sys
 
 from reference.certificates import audit, certificates, read_blocks, written
 from reference.circuit import text
+from reference.maps import state_map
 from reference.merging import merge_counts
 from reference.pictures import MOST_NODES, has_name, neighbourhood, nodes, picture
 from reference.reading import Fault, read
@@ -12,14 +13,15 @@ from reference.simulation import difference_text, read_stimulus, trace, trace_te
 from reference.witnesses import carried_text
 
 PATHS = {'retime': 2, 'batch': 1, 'stat': 1, 'convert': 2, 'sim': 2, 'same': 3, 'verify': 2, 'dot': 2, 'witness': 3}
-OPTIONS = {'retime': {'--ascii', '--binary', '--workers', '--frames', '--near', '--merge', '--keep', '--cert', '--progress',
+OPTIONS = {'retime': {'--ascii', '--binary', '--workers', '--frames', '--near', '--merge', '--keep', '--cert', '--map', '--progress',
                       '--quiet'},
            'verify': {'--keep', '--merge'}, 'dot': {'--frame', '--merge', '--keep', '--around', '--depth'},
            'batch': {'--ascii', '--binary', '--workers', '--frames', '--near', '--merge'}, 'convert': {'--ascii', '--binary'},
            'stat': {'--merge'}, 'witness': {'--merge'}}
 WRITING = {'retime', 'convert', 'dot'}
 GREATEST = {'--workers': 64, '--frames': 2**28, '--depth': 100}
-VALUED = {'--workers', '--frames', '--keep', '--cert', '--around', '--depth'}
+VALUED = {'--workers', '--frames', '--keep', '--cert', '--map', '--around', '--depth'}
+BESIDE = ('--map', '--cert')
 LINES = 2**20
 
 
@@ -84,11 +86,17 @@ def parsed(words):
     outputs = paths[1:] if command in WRITING else []
     if paths[:len(paths) - len(outputs)].count('-') > 1:
         raise Ends(2, 'error: standard input is read once')
-    if (outputs + options.get('--cert', [])).count('-') > 1:
+    if (outputs + beside(options)).count('-') > 1:
         raise Ends(2, 'error: standard output is written once')
-    if command == 'retime' and set(paths) - {'-'} & set(options.get('--cert', [])):
-        raise Ends(2, 'error: certificates have a file of their own')
+    files = [path for path in beside(options) if path != '-']
+    if command == 'retime' and (set(paths) & set(files) or len(files) != len(set(files))):
+        raise Ends(2, 'error: a map and certificates have files of their own')
     return command, paths, options
+
+
+def beside(options):
+    """The files that are written beside a circuit."""
+    return [path for name in BESIDE for path in options.get(name, [])]
 
 
 def source_name(path):
@@ -166,6 +174,8 @@ def retime(paths, options):
     except NoSuchName as missing:
         raise no_such_name(paths[0], c, missing.args[0]) from missing
     write(paths[1], text(d, letters_of(options, letters)))
+    for path in options.get('--map', []):
+        write(path, text(state_map(c, most, names, smallest)[0], letters_of(options, letters)))
     for path in options.get('--cert', []):
         write(path, written('smallest' if smallest else 'greatest', certificates(c, most, names, smallest, merge)))
     lines = [f'frame {k + 1}: {before} to {after}\n' for k, (before, after) in enumerate(frames)]
@@ -303,7 +313,7 @@ def run(words):
     try:
         command, paths, options = parsed(words)
         status, said = COMMANDS[command](paths, options)
-        takes_stdout = command in WRITING and '-' in paths[1:] + options.get('--cert', [])
+        takes_stdout = command in WRITING and '-' in paths[1:] + beside(options)
         return (status, '', said) if takes_stdout else (status, said, '')
     except Ends as end:
         return end.args[0], '', end.args[1] + '\n'

@@ -86,6 +86,7 @@ pub record IsRetiming (matches : ArgMatches) (retiming : Retiming) : Type 0 wher
   pub frames : IsNumber matches (codes "frames") (2 ^ 28) retiming.frames
   pub choice : IsChoice matches retiming.choice
   pub certificates : IsSomeTarget matches (codes "cert") retiming.certificates
+  pub mapping : IsSomeTarget matches (codes "map") retiming.map
   pub shown : IsShown matches retiming.shown
   pub names : map (λ name. name.now) retiming.keep.items ≡ values_of matches (codes "keep")
   pub merge : IsFlag matches (codes "merge") retiming.merge

@@ -24,14 +24,18 @@ sources_of (Dot drawing) = drawing.input ∷ []
 sources_of (Witness carrying) = carrying.input ∷ carrying.retimed ∷ carrying.witness ∷ []
 sources_of (Explain name) = []
 
--- the circuit and the certificates that a retiming writes
-abbrev pub both_targets : Target → Option Target → List Target
-both_targets output None = output ∷ []
-both_targets output (Some certificates) = output ∷ certificates ∷ []
+-- a target more, where there is one
+abbrev pub with_target : Option Target → List Target → List Target
+with_target None targets = targets
+with_target (Some target) targets = target ∷ targets
+
+-- the circuit, the map and the certificates that a retiming writes
+abbrev pub retiming_targets : Target → Option Target → Option Target → List Target
+retiming_targets output map certificates = output ∷ with_target map (with_target certificates [])
 
 -- what a task writes, but for the lines that it prints
 abbrev pub targets_of : Task → List Target
-targets_of (Retime retiming) = both_targets retiming.output retiming.certificates
+targets_of (Retime retiming) = retiming_targets retiming.output retiming.map retiming.certificates
 targets_of (Batch batch) = []
 targets_of (Stat counting) = []
 targets_of (Convert input output spelling) = output ∷ []
@@ -52,14 +56,22 @@ abbrev pub is_written_to : List ℕ → Target → Bool
 is_written_to path targets.Stdout = false
 is_written_to path (targets.File other) = bytes_eq other.now path
 
--- whether certificates go to the file of the circuit, the one that is read or the one that is written
+-- whether something goes to the file of the circuit, the one that is read or the one that is written
 abbrev pub covers : Retiming → Option Target → Bool
 covers retiming None = false
 covers retiming (Some targets.Stdout) = false
 covers retiming (Some (targets.File path)) = is_read_from path.now retiming.input || is_written_to path.now retiming.output
 
+-- whether two things go to one file
+abbrev pub are_one_file : Option Target → Option Target → Bool
+are_one_file None second = false
+are_one_file (Some targets.Stdout) second = false
+are_one_file (Some (targets.File path)) None = false
+are_one_file (Some (targets.File path)) (Some other) = is_written_to path.now other
+
+-- whether the map or certificates go to the file of the circuit, or to one file
 abbrev pub covers_circuit : Task → Bool
-covers_circuit (Retime retiming) = covers retiming retiming.certificates
+covers_circuit (Retime retiming) = covers retiming retiming.certificates || covers retiming retiming.map || are_one_file retiming.map retiming.certificates
 covers_circuit (Batch batch) = false
 covers_circuit (Stat counting) = false
 covers_circuit (Convert input output spelling) = false
@@ -70,8 +82,8 @@ covers_circuit (Dot drawing) = false
 covers_circuit (Witness carrying) = false
 covers_circuit (Explain name) = false
 
--- standard input is read once at most, and standard output written once, but for printed lines; and so is a file of certificates,
--- which is none of the circuit's
+-- standard input is read once at most, and standard output written once, but for printed lines; and a map and certificates have
+-- files of their own
 pub record UsesStreamsOnce (task : Task) : Type 0 where
   pub stdin : count_by is_stdin (sources_of task) ≤ 1
   pub stdout : count_by is_stdout (targets_of task) ≤ 1
@@ -82,6 +94,6 @@ abbrev pub writes_stdout : Option Target → Bool
 writes_stdout (Some target) = is_stdout target
 writes_stdout None = false
 
--- whether a circuit or certificates go to standard output
+-- whether a circuit, a map or certificates go to standard output
 abbrev pub takes_stdout : Retiming → Bool
-takes_stdout task = is_stdout task.output || writes_stdout task.certificates
+takes_stdout task = is_stdout task.output || writes_stdout task.certificates || writes_stdout task.map

@@ -125,6 +125,7 @@ fn retiming<'a>(alloc: Global, matches: &ArgMatches<'a>) -> Result<Option<Retimi
         choice: choice(matches),
         certificates: target(matches, "cert"),
         merge: merge(matches),
+        map: target(matches, "map"),
         json: json(matches),
         shown: shown(matches),
         keep: keep(alloc, matches)?,

@@ -1,9 +1,9 @@
-//! Standard input is read once, and standard output written once. Certificates are written last, so on the circuit's own file they
-//! would take its place.
+//! Standard input is read once, and standard output written once. A map and certificates are written last, so on the circuit's own
+//! file they would take its place.
 ghost use Rattle.std.specs.Prelude.{◌≡◌, ◌≤◌, IfNone};
 ghost use Rattle.std.specs.List.{count_by};
 ghost use Rattle.stream_paths.specs.Streams.{is_stdin, is_stdout};
-ghost use Rattle.command_line.specs.StreamUses.{UsesStreamsOnce, covers_circuit, is_read_from, is_written_to, sources_of, targets_of};
+ghost use Rattle.command_line.specs.StreamUses.{UsesStreamsOnce, are_one_file, covers, covers_circuit, is_read_from, is_written_to, retiming_targets, sources_of, targets_of};
 ghost use Rattle.command_line.specs.StreamUses as wanted;
 
 use crate::task::{Retiming, Task};
@@ -45,15 +45,25 @@ fn stdin_uses(task: &Task<'_>) -> usize
     }
 }
 
+/// How many of the circuit, the map and the certificates go to standard output.
+fn stdout_uses_of(retiming: &Retiming<'_>) -> usize
+    ensures { result ≡ count_by is_stdout (retiming_targets retiming.now.output retiming.now.map
+        retiming.now.certificates) }
+{
+    match (retiming.map, retiming.certificates) {
+        (Some(map), Some(certificates)) => stdout_count(&[retiming.output, map, certificates]),
+        (Some(map), None) => stdout_count(&[retiming.output, map]),
+        (None, Some(certificates)) => stdout_count(&[retiming.output, certificates]),
+        (None, None) => stdout_count(&[retiming.output]),
+    }
+}
+
 /// How many of the things that a task writes are standard output.
 fn stdout_uses(task: &Task<'_>) -> usize
     ensures { result ≡ count_by is_stdout (targets_of task.now) }
 {
     match task {
-        Task::Retime(retiming) => match retiming.certificates {
-            Some(certificates) => stdout_count(&[retiming.output, certificates]),
-            None => stdout_count(&[retiming.output]),
-        },
+        Task::Retime(retiming) => stdout_uses_of(retiming),
         Task::Convert(_, output, _) => stdout_count(&[*output]),
         Task::Dot(drawing) => stdout_count(&[drawing.output]),
         Task::Batch(_)
@@ -84,17 +94,38 @@ fn is_written_to(path: &str, target: Target<'_>) -> bool
     }
 }
 
-/// Whether a task writes certificates over a circuit, that which it reads or that which it writes.
+/// Whether something is written over the circuit, that which is read or that which is written.
+fn covers(retiming: &Retiming<'_>, target: Option<Target<'_>>) -> bool
+    ensures { result ≡ covers retiming.now target.entry }
+{
+    match target {
+        Some(Target::File(path)) => {
+            is_read_from(path, retiming.input) || is_written_to(path, retiming.output)
+        }
+        Some(Target::Stdout) | None => false,
+    }
+}
+
+/// Whether two things go to one file.
+fn are_one_file(first: Option<Target<'_>>, second: Option<Target<'_>>) -> bool
+    ensures { result ≡ are_one_file first.entry second.entry }
+{
+    match (first, second) {
+        (Some(Target::File(path)), Some(other)) => is_written_to(path, other),
+        _ => false,
+    }
+}
+
+/// Whether a task writes a map or certificates over a circuit, that which it reads or that which it writes, or both to one file.
 fn covers_circuit(task: &Task<'_>) -> bool
     ensures { result ≡ covers_circuit task.now }
 {
     match task {
-        Task::Retime(retiming) => match retiming.certificates {
-            Some(Target::File(path)) => {
-                is_read_from(path, retiming.input) || is_written_to(path, retiming.output)
-            }
-            Some(Target::Stdout) | None => false,
-        },
+        Task::Retime(retiming) => {
+            covers(retiming, retiming.certificates)
+                || covers(retiming, retiming.map)
+                || are_one_file(retiming.map, retiming.certificates)
+        }
         Task::Batch(_)
         | Task::Stat(_)
         | Task::Convert(_, _, _)
@@ -107,7 +138,7 @@ fn covers_circuit(task: &Task<'_>) -> bool
     }
 }
 
-/// What is wrong where a task has more than one use for a standard stream, or certificates go over a circuit.
+/// What is wrong where a task has more than one use for a standard stream, or a map or certificates have no file of their own.
 pub(crate) fn stream_conflict(task: &Task<'_>) -> Option<&'static str>
     ensures { IfNone result (UsesStreamsOnce task.now) }
 {
@@ -115,23 +146,32 @@ pub(crate) fn stream_conflict(task: &Task<'_>) -> Option<&'static str>
         Some("standard input is read once: '-' can stand for one of these files only")
     } else if stdout_uses(task) > 1 {
         Some(
-            "standard output is written once: '-' can stand for OUT or for the file of certificates, not for both",
+            "standard output is written once: '-' can stand for one of OUT, MAP and the file of certificates only",
         )
     } else if covers_circuit(task) {
-        Some("certificates have a file of their own: FILE can't be that of IN or OUT")
+        Some(
+            "a map and certificates have files of their own: neither can be that of IN or OUT, nor both one",
+        )
     } else {
         None
     }
 }
 
+/// Whether something that is written where it is asked for goes to standard output.
+fn writes_stdout(target: Option<Target<'_>>) -> bool
+    ensures { result ≡ wanted.writes_stdout target.entry }
+{
+    match target {
+        Some(target) => target.is_stdout(),
+        None => false,
+    }
+}
+
 impl<'a> Retiming<'a> {
-    /// Whether a circuit or certificates go to standard output, so that what is printed goes to standard error.
+    /// Whether a circuit, a map or certificates go to standard output, so that what is printed goes to standard error.
     pub fn takes_stdout(&self) -> bool
         ensures { result ≡ wanted.takes_stdout self.now }
     {
-        match self.certificates {
-            Some(certificates) => self.output.is_stdout() || certificates.is_stdout(),
-            None => self.output.is_stdout(),
-        }
+        self.output.is_stdout() || writes_stdout(self.certificates) || writes_stdout(self.map)
     }
 }

@@ -40,7 +40,13 @@ With --cert, FILE gets a certificate of each frame, once OUT is written: 'verify
 IN FILE' checks from it that no other set of gates would have left fewer
 latches.
 
-Where OUT or FILE is '-', standard output, the lines that are printed go to
+With --map, MAP gets a circuit whose inputs are the latches of IN and whose
+outputs are those of OUT: step for step each latch of OUT holds what its output
+says, wherever the constraints of MAP are 1, which they always are. So a SAT
+solver can check the run, and what is proved of OUT is carried back to IN.
+Nothing is written where MAP would have too many variables.
+
+Where OUT, MAP or FILE is '-', standard output, the lines that are printed go to
 standard error.
 
 Where standard error is a terminal, one line of it shows how far a run of over a

@@ -20,6 +20,7 @@ pub record IsPipe (task : Retiming) : Type 0 where
   pub stdin : is_stdin task.input ≡ true
   pub stdout : is_stdout task.output ≡ true
   pub alone : writes_stdout task.certificates ≡ false
+  pub map_aside : writes_stdout task.map ≡ false
 
 -- the answer by the options of the task, of the bytes that standard input had left, was written, and nothing else
 pub record AnswersPipe (task : Retiming) (input : Input) (old new : Output) (retimed : Retimed) : Type 0 where

@@ -1,5 +1,5 @@
 -- What the task of a retiming makes of its options, of an error, and of a retiming.
-use Rattle.std.specs.Prelude.{ℕ, ◌≡◌, Bool, true, false, List, Option, Some, Result, is_some, map, length, nat_lt, slice_get}
+use Rattle.std.specs.Prelude.{ℕ, ◌≡◌, ◌||◌, Bool, true, false, List, Option, Some, Result, is_some, map, length, nat_lt, slice_get}
 use Rattle.std.specs.Borrow.{Bor}
 use Rattle.stream_paths.specs.Streams.{target_name}
 use Rattle.command_line.specs.declared.task.Retiming.{Retiming}
@@ -14,9 +14,11 @@ use Rattle.circuit_counts.specs.declared.remaining.Remaining.{Remaining}
 use Rattle.reports.specs.Retimings.{retiming_text}
 use Rattle.json_reports.specs.Retimings.{retiming_data}
 use Rattle.json_reports.specs.declared.times.Times.{Times}
-use Rattle.circuit_files.specs.Outcomes.{failure_of_reading}
+use Rattle.mapped_answers.specs.declared.mapped.MappedError.{MappedError}
+use Rattle.mapped_answers.specs.declared.mapped.MappedError.TheVariants.{Answer, MapTooLarge}
+use Rattle.circuit_files.specs.Outcomes.{failure_of_reading, outcome_of}
 use Rattle.circuit_files.specs.declared.outcome.Outcome.{Outcome}
-use Rattle.circuit_files.specs.declared.outcome.Outcome.TheVariants.{Done}
+use Rattle.circuit_files.specs.declared.outcome.Outcome.TheVariants.{Done, Refused}
 use Rattle.circuit_files.specs.declared.outcome.Failure.{Failure}
 use Rattle.circuit_files.specs.declared.outcome.Failure.TheVariants as fails
 use Rattle.command_objects.specs.Objects.{EndsPrintingObject}
@@ -28,7 +30,7 @@ pub record AreOptionsOf (task : Retiming) (options : Options) : Type 0 where
   pub spelling : options.spelling ≡ task.spelling
   pub frames : options.max_frames ≡ task.frames
   pub choice : options.choice ≡ task.choice
-  pub certify : options.certify ≡ is_some task.certificates
+  pub certify : options.certify ≡ is_some task.certificates || is_some task.map
   pub merge : options.merge ≡ task.merge
   pub names : map (λ name. name.items) options.keep.items ≡ map (λ name. name.now) task.keep.items
 
@@ -42,6 +44,11 @@ IsFailureOf task (Write error) failure = (name : Bor (List ℕ)) × (name.now �
 -- what the task's retiming leaves: the circuit, where its held latches stay; fewer frames than the limit end where no set leaves fewer
 abbrev pub remaining_of : Retiming → Retimed → Remaining
 remaining_of task r = remaining r.circuit (map (λ name. name.now) task.keep.items) (nat_lt (length r.frames) task.frames)
+
+-- the failure of a run that makes a map: that of the answer, or the map is refused
+abbrev pub IsMappedFailureOf : Retiming → MappedError → Failure → Type 0
+IsMappedFailureOf task (Answer error) failure = IsFailureOf task error failure
+IsMappedFailureOf task MapTooLarge failure = outcome_of failure ≡ Refused
 
 -- how printing a retiming ends, as an object of JSON where that is asked for, else in lines
 abbrev pub EndsPrintingFrames : Bool → Retiming → Retimed → Option Times → Output → Output → Result Outcome Failure → Type 0

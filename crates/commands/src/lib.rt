@@ -2,6 +2,7 @@
 //! traces, compares, and checks certificates. It reads files or standard input, and returns how the run ends.
 #![tactic(auto)]
 
+mod answer;
 mod comparison;
 mod conversion;
 mod drawing;

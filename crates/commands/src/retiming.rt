@@ -1,5 +1,5 @@
 //! The command `retime`.
-ghost use Rattle.std.specs.Prelude.{◌≡◌, ◌<◌, ◌≤◌, true, false, IfErr, IfOk, OnOk};
+ghost use Rattle.std.specs.Prelude.{◌≡◌, true, false, IfErr, IfOk, OnOk};
 ghost use Rattle.counted_io.specs.Output.{Writes, WritesAll};
 ghost use Rattle.certificate_files.specs.Texts.{file_text};
 ghost use Rattle.frames.specs.Answering.{IsAnswered};
@@ -9,10 +9,11 @@ ghost use Rattle.circuit_files.specs.Outcomes.{outcome_of};
 ghost use Rattle.circuit_files.specs.declared.outcome.Outcome.TheVariants.{Device, Done};
 ghost use Rattle.commands.specs.Pipes.{AnswersPipe, IsPipe, WritesPipe};
 ghost use Rattle.commands.specs.Printing.{EndsAside, Prints, ending};
-ghost use Rattle.commands.specs.RetimingTasks.{AreOptionsOf, EndsPrintingFrames, IsFailureOf, PrintsAlike, SaysFrames, remaining_of};
+ghost use Rattle.commands.specs.RetimingTasks.{AreOptionsOf, EndsPrintingFrames, PrintsAlike, SaysFrames, remaining_of};
 
+use crate::answer::{Answer, map_written, retime_between, retimed_of};
 use crate::ended::ended;
-use crate::names::{bytes_of_names, missing_name};
+use crate::names::bytes_of_names;
 use aig_graph::{NoMemory, Sequence};
 use certificate_files::{CertFile, Choice, write_cert};
 use certificates::Certificate;
@@ -20,10 +21,9 @@ use circuit_counts::Remaining;
 use circuit_files::{Failure, LazyFile, Outcome};
 use command_line::{Retiming, Shown};
 use counted_io::{Counted, CountedRead, CountedWrite, WriteError};
-use frames::{BytesError, FrameWatcher, Options, RetimeError, Retimed, retime_bytes_watched};
+use frames::{FrameWatcher, Options, Retimed};
 use json_reports::Times;
 use progress::Progress;
-use pulse::{Crew, OpenGate};
 use reports::{print_remaining, print_retiming};
 use std::alloc::{AllocError, Global};
 use std::fs::File;
@@ -33,9 +33,6 @@ use std::thread::Threads;
 use std::time::Clock;
 use stream_paths::{Source, Target};
 
-/// The most workers of a crew.
-const MOST_WORKERS: u32 = 64;
-
 fn options(alloc: Global, task: &Retiming<'_>) -> Result<Options, AllocError>
     ensures { IfOk result (AreOptionsOf task.now) }
 {
@@ -43,52 +40,10 @@ fn options(alloc: Global, task: &Retiming<'_>) -> Result<Options, AllocError>
         spelling: task.spelling,
         max_frames: task.frames,
         choice: task.choice,
-        certify: task.certificates.is_some(),
+        certify: task.certificates.is_some() || task.map.is_some(),
         keep: bytes_of_names(alloc, task.keep.as_slice())?,
         merge: task.merge,
     })
-}
-
-fn crew(task: &Retiming<'_>) -> Crew<OpenGate>
-    ensures { 0 < task.now.workers → task.now.workers ≤ 64 → result.workers ≡ task.now.workers }
-{
-    Crew::new(task.workers.clamp(1, MOST_WORKERS), OpenGate)
-}
-
-/// The failure that an error is, with the name of what it is about.
-fn failure_of<'a>(error: BytesError, task: &Retiming<'a>) -> Failure<'a>
-    ensures { IsFailureOf task.now error result }
-{
-    match error {
-        BytesError::Read(error) => Failure::of_reading(error, task.input.name()),
-        BytesError::Retime(RetimeError::NoMemory) => Failure::Memory,
-        BytesError::Retime(RetimeError::NoSuchName(place)) => {
-            missing_name(task.input.name(), task.keep.as_slice(), place)
-        }
-        BytesError::Write(_) => Failure::Device(task.output.name()),
-    }
-}
-
-/// Reads the circuit from the one, and writes it, retimed, to the other.
-fn retime_between<'a, R: Threads + Sync, I: CountedRead, W: CountedWrite, V: FrameWatcher>(
-    rt: &R,
-    alloc: Global,
-    task: &Retiming<'a>,
-    options: &Options,
-    reader: &mut I,
-    writer: &mut W,
-    watcher: &mut V,
-) -> Result<Retimed, Failure<'a>>
-    ensures answer { IfOk result (IsAnswered (I.input reader.old) (W.output writer.old)
-        (W.output writer.new) options.now) }
-    ensures prints { IfErr result (λ failure. Prints (outcome_of failure) (W.output writer.old)
-        (W.output writer.new)) }
-{
-    let crew = crew(task);
-    match retime_bytes_watched(rt, alloc, reader, writer, options, &crew, watcher) {
-        Ok(retimed) => Ok(retimed),
-        Err(error) => Err(failure_of(error, task)),
-    }
 }
 
 /// Reads what the task reads.
@@ -100,10 +55,11 @@ fn retime_input<'a, R: Files + Threads + Sync, I: CountedRead, W: CountedWrite, 
     stdin: &mut I,
     writer: &mut W,
     watcher: &mut V,
-) -> Result<Retimed, Failure<'a>>
-    ensures answer { IfOk result (λ retimed. is_stdin task.now.input ≡ true
+) -> Result<Answer, Failure<'a>>
+    requires { AreOptionsOf task.now options.now }
+    ensures answer { IfOk result (λ answer. is_stdin task.now.input ≡ true
         → IsAnswered (I.input stdin.old) (W.output writer.old)
-        (W.output writer.new) options.now retimed) }
+        (W.output writer.new) options.now answer.retimed) }
     ensures prints { IfErr result (λ failure. Prints (outcome_of failure) (W.output writer.old)
         (W.output writer.new)) }
 {
@@ -128,10 +84,11 @@ fn retime_by<'a, R: Files + Threads + Sync, I: CountedRead, O: CountedWrite, V: 
     stdin: &mut I,
     out: &mut O,
     watcher: &mut V,
-) -> Result<Retimed, Failure<'a>>
-    ensures answer { IfOk result (λ retimed. IsPipe task.now
+) -> Result<Answer, Failure<'a>>
+    requires { AreOptionsOf task.now options.now }
+    ensures answer { IfOk result (λ answer. IsPipe task.now
         → IsAnswered (I.input stdin.old) (O.output out.old)
-        (O.output out.new) options.now retimed) }
+        (O.output out.new) options.now answer.retimed) }
     ensures file { is_stdout task.now.output ≡ false → O.output out.new ≡ O.output out.old }
     ensures prints { IfErr result (λ failure. Prints (outcome_of failure) (O.output out.old)
         (O.output out.new)) }
@@ -152,9 +109,9 @@ fn retimed<'a, R: Files + Threads + Sync, I: CountedRead, O: CountedWrite, V: Fr
     stdin: &mut I,
     out: &mut O,
     watcher: &mut V,
-) -> Result<Retimed, Failure<'a>>
-    ensures answer { IfOk result (λ retimed. IsPipe task.now
-        → AnswersPipe task.now (I.input stdin.old) (O.output out.old) (O.output out.new) retimed) }
+) -> Result<Answer, Failure<'a>>
+    ensures answer { IfOk result (λ answer. IsPipe task.now → AnswersPipe task.now
+        (I.input stdin.old) (O.output out.old) (O.output out.new) answer.retimed) }
     ensures file { is_stdout task.now.output ≡ false → O.output out.new ≡ O.output out.old }
     ensures prints { IfErr result (λ failure. Prints (outcome_of failure) (O.output out.old)
         (O.output out.new)) }
@@ -227,6 +184,22 @@ fn certify<'a, R: Files, O: CountedWrite>(
     }
 }
 
+/// Writes the map and the certificates where they are asked for.
+fn write_beside<'a, R: Files, O: CountedWrite>(
+    rt: &R,
+    alloc: Global,
+    task: &Retiming<'a>,
+    answer: &mut Answer,
+    out: &mut O,
+) -> Result<(), Failure<'a>>
+    ensures file { writes_stdout task.now.map ≡ false → writes_stdout task.now.certificates
+        ≡ false → O.output out.new ≡ O.output out.old }
+    ensures err { IfErr result (λ failure. outcome_of failure ≡ Device) }
+{
+    map_written(rt, task, answer, out)?;
+    certify(rt, alloc, task, &mut answer.retimed, out)
+}
+
 /// A retiming, and how long its parts took, where that was measured.
 #[derive(Drop)]
 struct Timed {
@@ -234,7 +207,7 @@ struct Timed {
     times: Option<Times>,
 }
 
-/// Writes the circuit, and then the certificates. Shows on standard error how far the run is, until the circuit is written.
+/// Writes the circuit, and then the map and the certificates. Shows on standard error how far the run is, until the circuit is written.
 fn certified<
     'a,
     R: Files + Threads + Sync + Clock,
@@ -259,8 +232,9 @@ fn certified<
     let mut progress = Progress::new(task, is_terminal, rt, alloc, err);
     let ended = retimed(rt, alloc, task, stdin, out, &mut progress);
     let times = progress.end();
-    let mut retimed = ended?;
-    certify(rt, alloc, task, &mut retimed, out)?;
+    let mut answer = ended?;
+    write_beside(rt, alloc, task, &mut answer, out)?;
+    let retimed = retimed_of(answer);
     Ok(Timed { retimed, times })
 }
 
@@ -326,8 +300,8 @@ fn tell_remaining<E: CountedWrite>(
     }
 }
 
-/// Prints the frames that were taken to standard output, or to standard error where a circuit or certificates have been written
-/// to standard output: a write that fails there changes nothing.
+/// Prints the frames that were taken to standard output, or to standard error where a circuit, a map or certificates have been
+/// written to standard output: a write that fails there changes nothing.
 fn print_frames<'a, O: CountedWrite, E: CountedWrite>(
     alloc: Global,
     task: &Retiming<'_>,
@@ -352,7 +326,7 @@ fn print_frames<'a, O: CountedWrite, E: CountedWrite>(
     }
 }
 
-/// Reads a circuit, writes it, retimed, and the certificates where they are asked for, and then prints the frames that were taken,
+/// Reads a circuit, writes it, retimed, its map and the certificates where they are asked for, and then prints the frames that were taken,
 /// as an object of JSON or in lines.
 ///
 /// Shows how far the run is as the task asks, and on a terminal why no more latches go; `is_terminal` is whether standard error is

@@ -1,6 +1,6 @@
 use Rattle.frames.proofs.StopLaws.{error_of}
 use Rattle.commands.proofs.PipeLaws.{stopped}
-use Rattle.commands.proofs.retiming.retime_between.Goals as goal
+use Rattle.commands.proofs.answer.plain_between.Goals as goal
 
 pub returns-in-Err-clause-prints : goal.returns-in-Err-clause-prints
 returns-in-Err-clause-prints g c =
