@@ -40,7 +40,7 @@ complete -c fretime -n '__fish_seen_subcommand_from retime' -l merge -d 'Merge l
 complete -c fretime -n '__fish_seen_subcommand_from retime' -x -l keep -d 'Hold each latch with this name; may be given more than once'
 complete -c fretime -n '__fish_seen_subcommand_from retime' -r -l keep-from -d 'Hold the latches that the lines of FILE name'
 complete -c fretime -n '__fish_seen_subcommand_from retime' -r -l cert -d 'Write a certificate of each frame to FILE, for \'verify\''
-complete -c fretime -n '__fish_seen_subcommand_from retime' -r -l map -d 'Write to MAP, as a circuit, what each latch of OUT holds by the latches of IN'
+complete -c fretime -n '__fish_seen_subcommand_from retime' -r -l map -d 'Write to MAP, as a circuit, how OUT\'s latches follow from IN\'s'
 complete -c fretime -n '__fish_seen_subcommand_from retime' -l json -d 'Print an object of JSON in place of the lines'
 complete -c fretime -n '__fish_seen_subcommand_from retime' -l progress -d 'Write a line to standard error as each frame begins'
 complete -c fretime -n '__fish_seen_subcommand_from retime' -l quiet -d 'Show no progress on a terminal either'

@@ -59,12 +59,13 @@ fn certificates<'a>(alloc: Global) -> Arg<'a> {
         .help("Write a certificate of each frame to FILE, for 'verify'")
 }
 
-fn map<'a>(alloc: Global) -> Arg<'a> {
+fn map<'a>(alloc: Global) -> Result<Arg<'a>, AllocError> {
     Arg::new(alloc, "map")
         .long("map")
         .value_name("MAP")
         .action(ArgAction::Set)
-        .help("Write to MAP, as a circuit, what each latch of OUT holds by the latches of IN")
+        .help("Write to MAP, as a circuit, how OUT's latches follow from IN's")
+        .conflicts_with("merge")
 }
 
 fn names<'a>(alloc: Global) -> Arg<'a> {
@@ -232,7 +233,7 @@ fn retime<'a>(alloc: Global) -> Result<Command<'a>, AllocError> {
     let command = with_spelling(alloc, with_files(alloc, command));
     let command = with_limits(alloc, command, "Threads that work on the flow");
     let command = with(command, certificates(alloc));
-    let command = with(command, map(alloc));
+    let command = with_flag(command, map(alloc));
     let command = with_progress(alloc, command);
     let command = with_names(alloc, command);
     with(command, json(alloc))

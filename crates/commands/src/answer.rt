@@ -101,7 +101,8 @@ fn mapped_between<R: Threads + Sync, I: CountedRead, W: CountedWrite, V: FrameWa
     writer: &mut W,
     watcher: &mut V,
 ) -> Result<Mapped, MappedError>
-    requires { options.now.certify ≡ true }
+    requires certify { options.now.certify ≡ true }
+    requires merge { options.now.merge ≡ false }
     ensures ok { IfOk result (IsMapped (I.input reader.old) (W.output writer.old)
         (W.output writer.new) options.now) }
     ensures err { IfErr result (IsMappedError options.now (I.input reader.old) (I.input reader.new)
@@ -130,7 +131,8 @@ pub(crate) fn retimed_of(answer: Answer) -> Retimed
     retimed
 }
 
-/// Reads the circuit from the one, and writes it, retimed, to the other.
+/// Reads the circuit from the one, and writes it, retimed, to the other. No map is made where latches are merged: a command line
+/// doesn't ask for both.
 pub(crate) fn retime_between<
     'a,
     R: Threads + Sync,
@@ -152,12 +154,14 @@ pub(crate) fn retime_between<
     ensures prints { IfErr result (λ failure. Prints (outcome_of failure) (W.output writer.old)
         (W.output writer.new)) }
 {
-    let Some(map) = task.map else {
-        return plain_between(rt, alloc, task, options, reader, writer, watcher);
-    };
-    match mapped_between(rt, alloc, task, options, reader, writer, watcher) {
-        Ok(mapped) => Ok(answer_of(mapped)),
-        Err(error) => Err(failure_of_mapped(error, task, map)),
+    match (task.map, task.merge) {
+        (Some(map), false) => {
+            match mapped_between(rt, alloc, task, options, reader, writer, watcher) {
+                Ok(mapped) => Ok(answer_of(mapped)),
+                Err(error) => Err(failure_of_mapped(error, task, map)),
+            }
+        }
+        _ => plain_between(rt, alloc, task, options, reader, writer, watcher),
     }
 }
 
