@@ -2,6 +2,7 @@
 //! its place and is gone at the end; and how long its parts take.
 #![tactic(auto)]
 
+mod laps;
 mod lines;
 mod progress;
 mod stopwatch;

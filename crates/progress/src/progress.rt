@@ -1,4 +1,7 @@
 //! When a run is shown.
+ghost use Rattle.std.specs.Prelude.{◌≡◌};
+ghost use Rattle.progress.specs.Shows as wanted;
+
 use crate::lines::{Frame, State, clear_line, write_in_place, write_line};
 use crate::stopwatch::Stopwatch;
 use aig_graph::Aig;
@@ -22,7 +25,9 @@ enum Show {
 }
 
 /// What is shown of a run that asks for this.
-fn show_for(shown: Shown, is_terminal: bool) -> Show {
+fn show_for(shown: Shown, is_terminal: bool) -> Show
+    ensures { result ≡ wanted.show_for shown is_terminal }
+{
     match shown {
         Shown::EachFrame => Show::EachFrame,
         Shown::OnTerminal if is_terminal => Show::InPlace,
@@ -31,7 +36,9 @@ fn show_for(shown: Shown, is_terminal: bool) -> Show {
 }
 
 /// The frame after so many, whose set is looked for in the graph.
-fn frame_of(taken: usize, aig: &Aig) -> Frame {
+fn frame_of(taken: usize, aig: &Aig) -> Frame
+    ensures { result ≡ wanted.frame_of taken aig.now }
+{
     Frame {
         number: (taken as u64).saturating_add(1),
         latches: aig.known_latches(),

@@ -1,132 +1,92 @@
-//! How long the parts of a run take.
-use aig_graph::Sequence;
+//! Takes the time of the parts of a run.
+ghost use Rattle.std.specs.Prelude.{◌≡◌, [], true, false, IfSome};
+ghost use Rattle.std.specs.Duration.{as_nanos};
+ghost use Rattle.progress.specs.Laps.{IsEnded, IsStopped, microseconds_of, part_of};
+ghost use Rattle.progress.specs.declared.laps.Part.TheVariants.{Reading};
+
+use crate::laps::{Lap, Part, times_of};
 use frames::Stage;
-use json_reports::{FrameTimes, Times};
+use json_reports::Times;
 use std::alloc::Global;
 use std::time::{Clock, Duration, Instant};
 
-/// What a run does.
-#[derive(Clone, Copy, PartialEq, Eq)]
-enum Part {
-    Reading,
-    Cleaning,
-    Looking,
-    Moving,
-    Writing,
-}
-
-fn part_of(stage: Stage<'_>) -> Part {
-    match stage {
-        Stage::Cleaning => Part::Cleaning,
-        Stage::Looking { .. } => Part::Looking,
-        Stage::Moving => Part::Moving,
-        Stage::Writing => Part::Writing,
-    }
-}
-
-fn microseconds(passed: Duration) -> u64 {
-    let whole = passed.as_secs().saturating_mul(1_000_000);
-    whole.saturating_add(u64::from(passed.subsec_micros()))
+/// Whole microseconds, `u64::MAX` at most.
+fn microseconds(passed: Duration) -> u64
+    ensures { result ≡ microseconds_of (as_nanos passed) }
+{
+    passed.as_micros().min(u128::from(u64::MAX)) as u64
 }
 
 /// Takes the time of each part of a run. Where the clock can't be read, or memory is refused, there are no times in the end.
 #[derive(Drop)]
 pub(crate) struct Stopwatch {
+    alloc: Global,
     part: Part,
     since: Instant,
-    reading: u64,
-    cleaning: u64,
-    looking: u64,
-    writing: u64,
-    frames: Vec<FrameTimes>,
+    laps: Vec<Lap>,
     has_failed: bool,
 }
 
 impl Stopwatch {
     /// Begins with reading.
-    pub(crate) fn start<R: Clock>(clock: &R, alloc: Global) -> Option<Stopwatch> {
+    pub(crate) fn start<R: Clock>(clock: &R, alloc: Global) -> Option<Stopwatch>
+        ensures part { IfSome result (λ watch. watch.part ≡ Reading) }
+        ensures laps { IfSome result (λ watch. watch.laps.items ≡ []) }
+        ensures has_failed { IfSome result (λ watch. watch.has_failed ≡ false) }
+    {
         let since = Instant::now(clock).ok()?;
         Some(Stopwatch {
+            alloc,
             part: Part::Reading,
             since,
-            reading: 0,
-            cleaning: 0,
-            looking: 0,
-            writing: 0,
-            frames: Vec::new(alloc),
+            laps: Vec::new(alloc),
             has_failed: false,
         })
     }
 
-    /// The microseconds since the part began; from now on those of the next one are counted.
-    fn lap<R: Clock>(&mut self, clock: &R) -> u64 {
-        match Instant::now(clock) {
-            Ok(now) => {
-                let passed = now.duration_since(self.since);
-                self.since = now;
-                microseconds(passed)
-            }
-            Err(_) => {
-                self.has_failed = true;
-                0
-            }
-        }
-    }
-
-    /// Adds a circuit of which a set was looked for.
-    fn add_frame(&mut self, moving: u64) {
-        let looking = self.looking;
-        match self.frames.push(FrameTimes { looking, moving }) {
+    /// Ends the part that goes on.
+    fn end_part<R: Clock>(&mut self, clock: &R)
+        ensures ended { IsEnded self.old self.new }
+        ensures part { self.new.part ≡ self.old.part }
+        ensures failed { self.old.has_failed ≡ true → self.new.has_failed ≡ true }
+    {
+        let Ok(now) = Instant::now(clock) else {
+            self.has_failed = true;
+            return;
+        };
+        let lap = Lap {
+            part: self.part,
+            microseconds: microseconds(now.duration_since(self.since)),
+        };
+        self.since = now;
+        match self.laps.push(lap) {
             Ok(()) => {}
             Err(_) => self.has_failed = true,
         }
     }
 
-    /// The part took so long; latches move next, or don't.
-    fn end_part(&mut self, passed: u64, moves_next: bool) {
-        match self.part {
-            Part::Reading => self.reading = passed,
-            Part::Cleaning => self.cleaning = passed,
-            Part::Looking => {
-                self.looking = passed;
-                if !moves_next {
-                    self.add_frame(0);
-                }
-            }
-            Part::Moving => self.add_frame(passed),
-            Part::Writing => self.writing = passed,
-        }
-    }
-
     /// A stage begins.
-    pub(crate) fn enter<R: Clock>(&mut self, clock: &R, stage: Stage<'_>) {
-        let passed = self.lap(clock);
-        let part = part_of(stage);
-        self.end_part(passed, part == Part::Moving);
-        self.part = part;
+    pub(crate) fn enter<R: Clock>(&mut self, clock: &R, stage: Stage<'_>)
+        ensures ended { IsEnded self.old self.new }
+        ensures part { self.new.part ≡ part_of stage.entry }
+        ensures failed { self.old.has_failed ≡ true → self.new.has_failed ≡ true }
+    {
+        self.end_part(clock);
+        self.part = Part::of(stage);
     }
 
     /// The last part ends.
-    pub(crate) fn stop<R: Clock>(self, clock: &R) -> Option<Times> {
+    pub(crate) fn stop<R: Clock>(self, clock: &R) -> Option<Times>
+        ensures { IfSome result (IsStopped self) }
+    {
         let mut watch = self;
-        let passed = watch.lap(clock);
-        watch.end_part(passed, false);
-        let Stopwatch {
-            reading,
-            cleaning,
-            writing,
-            frames,
-            has_failed,
-            ..
-        } = watch;
-        if has_failed {
+        watch.end_part(clock);
+        if watch.has_failed {
             return None;
         }
-        Some(Times {
-            reading,
-            cleaning,
-            frames: Sequence::from_vec(frames),
-            writing,
-        })
+        match times_of(watch.alloc, watch.laps.as_slice()) {
+            Ok(times) => Some(times),
+            Err(_) => None,
+        }
     }
 }
