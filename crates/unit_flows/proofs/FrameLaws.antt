@@ -1,0 +1,63 @@
+-- What the tables of a frame say of a place.
+use Rattle.std.proofs.Common.{◌≡◌, ℕ, suc, ◌+◌, ◌-◌, ◌<◌, ◌&&◌, ◌||◌, not, Bool, true, false, List, length, get_or, arith, refl, ap, ◌∙◌, subst}
+use Rattle.variable_tables.specs.Tables.{table}
+use Rattle.variable_tables.specs.Marking.{mark_at}
+use Rattle.variable_tables.proofs.MarkingLaws.{AreMarks-table}
+use Rattle.variable_tables.proofs.TableLaws.{length-table}
+use Rattle.aig_graph.specs.declared.graph.Gate.{Gate}
+use Rattle.aig_graph.specs.Graph.{Graph, first_latch, latches_and_gates}
+use Rattle.aig_graph.specs.Circuits.{Netlist}
+use Rattle.frame_net.specs.Capacity.{leaves}
+use Rattle.unit_flows.specs.Units.{nth_gate}
+use Rattle.unit_flows.specs.Shown.{IsCutAt}
+use Rattle.std.proofs.lemmas.Bool.{le-leb}
+use Rattle.std.proofs.lemmas.List.{get_or_default}
+use Rattle.flow_theory.specs.Flow.{sum_below}
+
+pub leaving-long : (c : Netlist) (held : List ℕ) (marks : List Bool) → marks ≡ table (first_latch c.aig) (latches_and_gates c.aig) (leaves c.aig c.props held) → length marks ≡ latches_and_gates c.aig
+leaving-long c held marks filled = ap length filled ∙ length-table (first_latch c.aig) (latches_and_gates c.aig) (leaves c.aig c.props held)
+
+pub leaving-at : (c : Netlist) (held : List ℕ) (marks : List Bool) (p : ℕ) → marks ≡ table (first_latch c.aig) (latches_and_gates c.aig) (leaves c.aig c.props held) → p < latches_and_gates c.aig
+    → get_or marks p false ≡ leaves c.aig c.props held (first_latch c.aig + p)
+leaving-at c held marks p filled h = AreMarks-table (first_latch c.aig) (latches_and_gates c.aig) marks (leaves c.aig c.props held) filled p (omega (arith, h, leaving-long c held marks filled))
+
+-- the mark of the variable at a place
+pub mark-at-place : (first : ℕ) (marks : List Bool) (p : ℕ) → mark_at first marks (first + p) ≡ get_or marks p false
+unfolding mark_at
+mark-at-place first marks p =
+    let place : first + p - first ≡ p = omega arith in
+    ap (λ (b : Bool). b && get_or marks (first + p - first) false) (le-leb first (first + p) (omega arith)) ∙ ap (λ (i : ℕ). get_or marks i false) place
+
+pub leaving-read : (c : Netlist) (held : List ℕ) (marks : List Bool) (p : ℕ) (r : Bool) → marks ≡ table (first_latch c.aig) (latches_and_gates c.aig) (leaves c.aig c.props held) → p < latches_and_gates c.aig
+    → r ≡ get_or marks p r → r ≡ leaves c.aig c.props held (first_latch c.aig + p)
+leaving-read c held marks p r filled h read =
+    read ∙ get_or_default marks p r false (omega (arith, h, leaving-long c held marks filled)) ∙ leaving-at c held marks p filled h
+
+-- one place more of a sum
+pub sum-more : (f : ℕ → ℕ) (n t u : ℕ) → t ≡ sum_below n f → u ≡ f n → t + u ≡ sum_below (n + 1) f
+sum-more f n t u so here =
+    let next : n + 1 ≡ suc n = omega arith in
+    omega (arith, so, here, ap (λ (i : ℕ). sum_below i f) next)
+
+pub or-not : (i a : Bool) → (not i || a) ≡ true → i ≡ true → a ≡ true
+or-not true a e yes' = e
+or-not false a e yes' = absurd (cc)
+
+pub cross-same : (k k' o o' r r' : Bool) → k ≡ k' → o ≡ o' → r ≡ r' → ((k || o) && r) ≡ ((k' || o') && r')
+cross-same k k' o o' r r' a b e = rw (a, b, e) refl
+
+-- a cut at a gate, by numbers that are equal
+pub cut-same : (first first' begin begin' var var' : ℕ) (gate gate' : Gate) (xs ys : List Bool) → first ≡ first' → begin ≡ begin' → var ≡ var' → gate ≡ gate'
+    → IsCutAt begin (mark_at first xs) (mark_at first ys) var gate → IsCutAt begin' (mark_at first' xs) (mark_at first' ys) var' gate'
+cut-same first first' begin begin' var var' gate gate' xs ys a b d e cut =
+    subst (λ (n : ℕ). IsCutAt begin' (mark_at n xs) (mark_at n ys) var' gate') a
+    (subst (λ (n : ℕ). IsCutAt n (mark_at first xs) (mark_at first ys) var' gate') b
+    (subst (λ (n : ℕ). IsCutAt begin (mark_at first xs) (mark_at first ys) n gate') d (subst (λ (x : Gate). IsCutAt begin (mark_at first xs) (mark_at first ys) var x) e cut)))
+
+pub gate-read : (g : Graph) (gates : List Gate) (k : ℕ) (r : Gate) → gates ≡ g.gates → k < length gates → r ≡ get_or gates k r → r ≡ nth_gate g k
+gate-read g gates k r same h read = read ∙ get_or_default gates k r _ h ∙ ap (λ (xs : List Gate). get_or xs k (record { rhs0 = 0; rhs1 = 0 })) same
+
+pub not-both : (a b : Bool) → a ≡ true → a ≡ b → b ≡ false → ⊥
+not-both true true e f g = absurd (cc)
+not-both true false e f g = absurd (cc)
+not-both false b e f g = absurd (cc)

@@ -1,0 +1,83 @@
+-- What the units at one gate add to both sides of a cut.
+use Rattle.std.proofs.Common.{◌≡◌, ◌⊎◌, ℕ, suc, zero, ◌+◌, ◌*◌, ◌<◌, ◌≤◌, Bool, true, false, arith, refl, inl, inr}
+use Rattle.unit_flows.specs.Units.{unit}
+
+pub unit-true : (b : Bool) → b ≡ true → unit b ≡ 1
+unfolding unit
+unit-true true e = refl
+unit-true false e = absurd (cc)
+
+pub unit-false : (b : Bool) → b ≡ false → unit b ≡ 0
+unfolding unit
+unit-false true e = absurd (cc)
+unit-false false e = refl
+
+pub unit-le : (b : Bool) → unit b ≤ 1
+unfolding unit
+unit-le true = omega arith
+unit-le false = omega arith
+
+pub mul-le : (a b : ℕ) → b ≤ 1 → a * b ≤ a
+mul-le a zero h = omega arith
+mul-le a (suc zero) h = omega arith
+mul-le a (suc (suc b)) h = absurd (omega (arith, h))
+
+pub le-mul : (a b : ℕ) → a ≤ 1 → a * b ≤ b
+le-mul zero b h = omega arith
+le-mul (suc zero) b h = omega arith
+le-mul (suc (suc a)) b h = absurd (omega (arith, h))
+
+-- The weights of the nodes before and after a gate and after and before its fan-ins, 1 on the far side of a cut and else 0, and 1 where the
+-- gate is in the border: where the node before the gate lies on the far side ..
+pub record IsFar (before after border after1 after2 before1 before2 : ℕ) : Type 0 where
+  pub before_is : before ≡ 1
+  pub after_is : after ≡ 1
+  pub border_is : border ≡ 0
+  pub after1_is : after1 ≡ 1
+  pub after2_is : after2 ≡ 1
+  pub before1_le : before1 ≤ 1
+  pub before2_le : before2 ≤ 1
+
+-- .. and where it lies on the near side
+pub record IsNear (before after border after1 after2 before1 before2 : ℕ) : Type 0 where
+  pub before_is : before ≡ 0
+  pub after_le : after ≤ 1
+  pub border_is : border ≡ after
+  pub before1_is : before1 ≡ 0
+  pub before2_is : before2 ≡ 0
+
+abbrev pub IsSplit : ℕ → ℕ → ℕ → ℕ → ℕ → ℕ → ℕ → Type 0
+IsSplit before after border after1 after2 before1 before2 = IsFar before after border after1 after2 before1 before2 ⊎ IsNear before after border after1 after2 before1 before2
+
+module _ (through up1 up2 down1 down2 : ℕ) (small : through ≤ 1) (before after border after1 after2 before1 before2 : ℕ) where
+  -- what comes to far nodes here, and what goes on from them with the border
+  abbrev pub comes : ℕ
+  comes = through * after + before * (up1 + up2) + (down1 * before1 + down2 * before2)
+
+  abbrev pub goes : ℕ
+  goes = up1 * after1 + up2 * after2 + before * (through + down1 + down2) + border
+
+  pub comes-le : IsSplit before after border after1 after2 before1 before2 → comes ≤ goes
+  comes-le (inl far) = rw (far.before_is, far.after_is, far.border_is, far.after1_is, far.after2_is) (omega (arith, mul-le down1 before1 far.before1_le, mul-le down2 before2 far.before2_le))
+  comes-le (inr near) = rw (near.before_is, near.border_is, near.before1_is, near.before2_is) (omega (arith, le-mul through after small))
+
+  -- where as much goes on as comes, no unit goes to the near side, and each way to the far side is full
+  pub full-through : IsSplit before after border after1 after2 before1 before2 → goes ≤ comes → after ≡ 1 → through ≡ 0 → before ≡ 1
+  full-through (inl far) full a t = far.before_is
+  full-through (inr near) full a t = absurd (let f = rw (near.before_is, near.border_is, near.before1_is, near.before2_is, a, t) at full in omega (arith, f))
+
+  pub full-first_home : IsSplit before after border after1 after2 before1 before2 → goes ≤ comes → after1 ≡ 1 → up1 ≡ 1 → before ≡ 1
+  full-first_home (inl far) full a u = far.before_is
+  full-first_home (inr near) full a u = absurd (let f = rw (near.before_is, near.border_is, near.before1_is, near.before2_is, a, u) at full in omega (arith, f, le-mul through after small))
+
+  pub full-second_home : IsSplit before after border after1 after2 before1 before2 → goes ≤ comes → after2 ≡ 1 → up2 ≡ 1 → before ≡ 1
+  full-second_home (inl far) full a u = far.before_is
+  full-second_home (inr near) full a u = absurd (let f = rw (near.before_is, near.border_is, near.before1_is, near.before2_is, a, u) at full in omega (arith, f, le-mul through after small))
+
+  pub full-first_back : IsSplit before after border after1 after2 before1 before2 → goes ≤ comes → before ≡ 1 → 0 < down1 → before1 ≡ 0 → ⊥
+  full-first_back (inl far) full b d z = let f = rw (far.before_is, far.after_is, far.border_is, far.after1_is, far.after2_is, z) at full in omega (arith, f, d, mul-le down2 before2 far.before2_le)
+  full-first_back (inr near) full b d z = omega (arith, b, near.before_is)
+
+  pub full-second_back : IsSplit before after border after1 after2 before1 before2 → goes ≤ comes → before ≡ 1 → 0 < down2 → before2 ≡ 0 → ⊥
+  full-second_back (inl far) full b d z = let f = rw (far.before_is, far.after_is, far.border_is, far.after1_is, far.after2_is, z) at full in omega (arith, f, d, mul-le down1 before1 far.before1_le)
+  full-second_back (inr near) full b d z = omega (arith, b, near.before_is)

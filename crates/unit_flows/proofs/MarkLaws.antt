@@ -1,0 +1,83 @@
+-- Marks that stay within a set of nodes.
+use Rattle.std.proofs.Common.{◌≡◌, ◌⊎◌, ℕ, ◌+◌, ◌-◌, ◌≤◌, ◌==◌, nat_le, Bool, true, false, ◌&&◌, List, length, get_or, replicate, arith, ap, sym, ◌∙◌, subst, inl, inr}
+use Rattle.std.proofs.lemmas.Bool.{cases_lt, leb-true, eqb-true, or_cases, and_parts, and_right}
+use Rattle.std.proofs.lemmas.List.{get_or_past, get_or-replicate, length-replicate}
+use Rattle.variable_tables.specs.Marking.{Marks, mark_at}
+use Rattle.variable_tables.specs.Tables.{table}
+use Rattle.variable_tables.proofs.MarkingLaws.{AreMarks-table}
+use Rattle.variable_tables.proofs.TableLaws.{length-table}
+use Rattle.aig_graph.specs.Graph.{first_latch, latches_and_gates}
+use Rattle.aig_graph.specs.Circuits.{Netlist}
+use Rattle.frame_net.specs.Capacity.{leaves}
+use Rattle.unit_flows.specs.declared.gate_flow.GateFlow.{GateFlow}
+use Rattle.unit_flows.specs.Marks.{AreWithin, ReachSink}
+
+-- a mark is an old one, or passes
+pub mark-new : (first : ℕ) (old new : List Bool) (p : ℕ → Bool) (v : ℕ) → Marks first old new p → mark_at first new v ≡ true → (mark_at first old v ≡ true) ⊎ (p v ≡ true)
+unfolding mark_at
+mark-new first old new p v marks e =
+    let parts = and_parts (nat_le first v) (get_or new (v - first) false) e in
+    let low : first ≤ v = leb-true first v parts.0 in
+    let place : first + (v - first) ≡ v = omega arith in
+    elim (cases_lt (v - first) (length old)) [
+      | inl below ↦ elim (or_cases (get_or old (v - first) false) (p (first + (v - first))) (sym (marks.each (v - first) below) ∙ parts.1)) [
+        | inl before ↦ inl (ap (λ (b : Bool). b && get_or old (v - first) false) parts.0 ∙ before)
+        | inr now ↦ inr (sym (ap p place) ∙ now)
+      ]
+      | inr past ↦ absurd (false_true (sym (get_or_past new (v - first) false (omega (arith, past, marks.as_long))) ∙ parts.1))
+    ]
+  where
+    false_true : false ≡ true → ⊥
+    false_true e = absurd (cc)
+
+one : (wished : Bool) (var v : ℕ) (b : ℕ → Bool) → (wished ≡ true → b var ≡ true) → (wished && (var == v)) ≡ true → b v ≡ true
+one wished var v b h e =
+    let parts = and_parts wished (var == v) e in
+    sym (ap b (eqb-true var v parts.1)) ∙ h parts.0
+
+pub within-before : (first var : ℕ) (xs new ys : List Bool) (wished : Bool) (b a : ℕ → Bool) → AreWithin first xs ys b a → Marks first xs new (λ v. wished && (var == v)) → (wished ≡ true → b var ≡ true)
+    → AreWithin first new ys b a
+within-before first var xs new ys wished b a within marks h = record {
+  each_before = λ v e. elim (mark-new first xs new (λ v. wished && (var == v)) v marks e) [ inl old ↦ within.each_before v old | inr now ↦ one wished var v b h now ];
+  each_after = within.each_after;
+}
+
+pub within-after : (first var : ℕ) (xs new ys : List Bool) (wished : Bool) (b a : ℕ → Bool) → AreWithin first ys xs b a → Marks first xs new (λ v. wished && (var == v)) → (wished ≡ true → a var ≡ true)
+    → AreWithin first ys new b a
+within-after first var xs new ys wished b a within marks h = record {
+  each_before = within.each_before;
+  each_after = λ v e. elim (mark-new first xs new (λ v. wished && (var == v)) v marks e) [ inl old ↦ within.each_after v old | inr now ↦ one wished var v a h now ];
+}
+
+-- before any sweep what leaves is marked after, and nothing before
+pub reach-first : (c : Netlist) (held : List ℕ) (flows : List GateFlow) (n : ℕ) (xs ys : List Bool) → xs ≡ replicate n false → ys ≡ table (first_latch c.aig) (latches_and_gates c.aig) (leaves c.aig c.props held)
+    → ReachSink c held flows xs ys
+unfolding mark_at
+reach-first c held flows n xs ys none filled b a up = record {
+  each_before = λ v e. absurd (true_false (sym e ∙ ap (λ (zs : List Bool). mark_at (first_latch c.aig) zs v) none ∙ unmarked (first_latch c.aig) n v));
+  each_after = λ v e. up.sink v (leaving v e);
+}
+  where
+    true_false : true ≡ false → ⊥
+    true_false e = absurd (cc)
+
+    unmarked : (first n v : ℕ) → mark_at first (replicate n false) v ≡ false
+    unmarked first n v = and_right (nat_le first v) (get_or (replicate n false) (v - first) false) (elim (cases_lt (v - first) n) [
+      | inl below ↦ get_or-replicate n (v - first) false false below
+      | inr past ↦ get_or_past (replicate n false) (v - first) false (omega (arith, past, length-replicate n false))
+    ])
+
+    leaving : (v : ℕ) → mark_at (first_latch c.aig) ys v ≡ true → leaves c.aig c.props held v ≡ true
+    leaving v e =
+        let parts = and_parts (nat_le (first_latch c.aig) v) (get_or ys (v - first_latch c.aig) false) e in
+        let low : first_latch c.aig ≤ v = leb-true (first_latch c.aig) v parts.0 in
+        let place : first_latch c.aig + (v - first_latch c.aig) ≡ v = omega (arith, low) in
+        let long : length ys ≡ latches_and_gates c.aig = ap length filled ∙ length-table (first_latch c.aig) (latches_and_gates c.aig) (leaves c.aig c.props held) in
+        elim (cases_lt (v - first_latch c.aig) (length ys)) [
+          | inl below ↦ sym (ap (leaves c.aig c.props held) place) ∙ sym (AreMarks-table (first_latch c.aig) (latches_and_gates c.aig) ys (leaves c.aig c.props held) filled (v - first_latch c.aig) below) ∙ parts.1
+          | inr past ↦ absurd (true_false (sym parts.1 ∙ get_or_past ys (v - first_latch c.aig) false past))
+        ]
+
+pub reach-same : (c : Netlist) (held : List ℕ) (flows : List GateFlow) (xs xs' ys ys' : List Bool) → xs' ≡ xs → ys' ≡ ys → ReachSink c held flows xs ys → ReachSink c held flows xs' ys'
+reach-same c held flows xs xs' ys ys' e f reach =
+    subst (λ (zs : List Bool). ReachSink c held flows zs ys') (sym e) (subst (λ (zs : List Bool). ReachSink c held flows xs zs) (sym f) reach)

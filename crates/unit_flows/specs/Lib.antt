@@ -1,0 +1,5 @@
+pub mod Units
+pub mod Marks
+pub mod Shown
+pub mod Passes
+pub mod Laws

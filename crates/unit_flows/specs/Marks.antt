@@ -1,0 +1,38 @@
+-- Nodes before and after variables from which more units could come to the sink.
+use Rattle.std.specs.Prelude.{◌≡◌, ℕ, ◌+◌, ◌<◌, Bool, true, false, List, length}
+use Rattle.variable_tables.specs.Marking.{mark_at}
+use Rattle.aig_graph.specs.declared.graph.Gate.{Gate}
+use Rattle.aig_graph.specs.Graph.{variable, first_latch, first_gate}
+use Rattle.aig_graph.specs.Circuits.{Netlist}
+use Rattle.frame_net.specs.Capacity.{leaves}
+use Rattle.unit_flows.specs.declared.gate_flow.GateFlow.{GateFlow}
+use Rattle.unit_flows.specs.Units.{nth_gate, nth_flow}
+
+-- A set of nodes, by those before and those after a variable, holds with each end of a residual arc at the gate w the arc's beginning. From
+-- before a gate a unit may go through it where none does, on to before a fan-in, or home to after one from which a unit came; from after a
+-- fan-in on to before the gate; from before a fan-in back to before the gate where one went on; from after the gate back where one went through.
+pub record HoldsTails (before after : ℕ → Bool) (w : ℕ) (gate : Gate) (flow : GateFlow) : Type 0 where
+  pub through : after w ≡ true → flow.through ≡ false → before w ≡ true
+  pub first_on : before (variable gate.rhs1) ≡ true → before w ≡ true
+  pub second_on : before (variable gate.rhs0) ≡ true → before w ≡ true
+  pub first_home : after (variable gate.rhs1) ≡ true → flow.first_up ≡ true → before w ≡ true
+  pub second_home : after (variable gate.rhs0) ≡ true → flow.second_up ≡ true → before w ≡ true
+  pub first_reads : before w ≡ true → after (variable gate.rhs1) ≡ true
+  pub second_reads : before w ≡ true → after (variable gate.rhs0) ≡ true
+  pub first_back : before w ≡ true → 0 < flow.first_down → before (variable gate.rhs1) ≡ true
+  pub second_back : before w ≡ true → 0 < flow.second_down → before (variable gate.rhs0) ≡ true
+  pub back : before w ≡ true → flow.through ≡ true → after w ≡ true
+
+-- it does so at each gate, and holds the nodes after what is read from outside the passable gates
+pub record IsUpstream (c : Netlist) (held : List ℕ) (flows : List GateFlow) (before after : ℕ → Bool) : Type 0 where
+  pub sink : (v : ℕ) → leaves c.aig c.props held v ≡ true → after v ≡ true
+  pub gates : (k : ℕ) → k < length c.aig.gates → HoldsTails before after (first_gate c.aig + k) (nth_gate c.aig k) (nth_flow flows k)
+
+-- what is marked before and after variables lies in the set
+pub record AreWithin (first : ℕ) (marks_before marks_after : List Bool) (before after : ℕ → Bool) : Type 0 where
+  pub each_before : (v : ℕ) → mark_at first marks_before v ≡ true → before v ≡ true
+  pub each_after : (v : ℕ) → mark_at first marks_after v ≡ true → after v ≡ true
+
+-- all that is marked reaches the sink over residual arcs: it lies in each set that these lead back to from there
+abbrev pub ReachSink : Netlist → List ℕ → List GateFlow → List Bool → List Bool → Type 0
+ReachSink c held flows marks_before marks_after = (before after : ℕ → Bool) → IsUpstream c held flows before after → AreWithin (first_latch c.aig) marks_before marks_after before after

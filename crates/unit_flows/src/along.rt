@@ -1,0 +1,139 @@
+//! A flow of units along what an earlier one did at each gate, as far as that leads: from each known latch one is sent to the gate that took it
+//! from there, through that gate or on to before a fan-in, as then, until it leaves or nothing more is known.
+
+use crate::frame::Frame;
+use crate::gate_flow::GateFlow;
+use aig_graph::{Aig, Gate, NoMemory};
+use std::alloc::Global;
+
+/// Stands for no gate.
+const NOBODY: u32 = u32::MAX;
+
+/// The gate's number, where the variable is one.
+fn gate_number(aig: &Aig, var: u32) -> Option<usize> {
+    let first = aig.first_gate();
+    if var < first {
+        return None;
+    }
+    Some((var - first) as usize)
+}
+
+/// Notes that a gate takes the unit after a variable, where no gate before it does.
+fn note_taker(takers: &mut [u32], first: u32, var: u32, gate: u32) {
+    if let Some(taker) = takers.get_mut(var.saturating_sub(first) as usize) {
+        if *taker == NOBODY {
+            *taker = gate;
+        }
+    }
+}
+
+/// By place, from the first latch on, the number of the gate that took the unit after it.
+fn takers_of(alloc: Global, frame: &Frame, known: &[GateFlow]) -> Result<Vec<u32>, NoMemory> {
+    let aig = frame.circuit.aig();
+    let first = aig.first_latch();
+    let mut takers = vec![in alloc; NOBODY; frame.leaving.len()]?;
+    let table = takers.as_mut_slice();
+    for (gate, (literals, flow)) in aig.gates().iter().zip(known).enumerate() {
+        if flow.first_up {
+            note_taker(table, first, literals.rhs1.var(), gate as u32);
+        }
+        if flow.second_up {
+            note_taker(table, first, literals.rhs0.var(), gate as u32);
+        }
+    }
+    Ok(takers)
+}
+
+/// A unit goes on from before a gate to before a fan-in, where fewer do than it is known of. The number of that gate.
+fn goes_down(aig: &Aig, literals: &Gate, known: &GateFlow, flow: &mut GateFlow) -> Option<usize> {
+    if flow.first_down < known.first_down {
+        let next = gate_number(aig, literals.rhs1.var())?;
+        flow.first_down = flow.first_down.saturating_add(1);
+        return Some(next);
+    }
+    if flow.second_down < known.second_down {
+        let next = gate_number(aig, literals.rhs0.var())?;
+        flow.second_down = flow.second_down.saturating_add(1);
+        return Some(next);
+    }
+    None
+}
+
+/// From before a gate a unit goes through it, or through one that it goes down to. The number of the gate that it goes through.
+fn goes_through(
+    aig: &Aig,
+    known: &[GateFlow],
+    flows: &mut [GateFlow],
+    from: usize,
+) -> Option<usize> {
+    let mut gate = from;
+    for _ in 0..u32::MAX {
+        let literals = aig.gates().get(gate)?;
+        let told = known.get(gate)?;
+        let flow = flows.get_mut(gate)?;
+        if told.through && !flow.through {
+            flow.through = true;
+            return Some(gate);
+        }
+        gate = goes_down(aig, literals, told, flow)?;
+    }
+    None
+}
+
+/// The gate that takes the unit after a place takes it. Its number.
+fn is_taken(
+    frame: &Frame,
+    known: &[GateFlow],
+    takers: &[u32],
+    flows: &mut [GateFlow],
+    place: usize,
+) -> Option<usize> {
+    let taker = *takers.get(place)? as usize;
+    let aig = frame.circuit.aig();
+    let literals = aig.gates().get(taker)?;
+    let told = known.get(taker)?;
+    let flow = flows.get_mut(taker)?;
+    let is_first = literals.rhs1.var().saturating_sub(aig.first_latch()) as usize == place;
+    flow.note_up(!(is_first && told.first_up));
+    Some(taker)
+}
+
+/// Sends the unit after a latch as far as it is known to go.
+fn send(frame: &Frame, known: &[GateFlow], takers: &[u32], flows: &mut [GateFlow], latch: usize) {
+    let aig = frame.circuit.aig();
+    let mut place = latch;
+    for _ in 0..frame.leaving.len() {
+        if frame.leaving.get(place).copied() != Some(false) {
+            return;
+        }
+        let Some(taker) = is_taken(frame, known, takers, flows, place) else {
+            return;
+        };
+        let Some(gate) = goes_through(aig, known, flows, taker) else {
+            return;
+        };
+        place = aig.latches().len().saturating_add(gate);
+    }
+}
+
+/// A flow along what is known of an earlier one at each gate: 4 bytes a latch and gate, and what the units' ways cost.
+///
+/// # Errors
+///
+/// `NoMemory` where a table is refused.
+pub(crate) fn flows_along(
+    alloc: Global,
+    frame: &Frame,
+    known: &[GateFlow],
+) -> Result<Vec<GateFlow>, NoMemory> {
+    let aig = frame.circuit.aig();
+    let takers = takers_of(alloc, frame, known)?;
+    let mut flows = vec![in alloc; GateFlow::none(); aig.gates().len()]?;
+    let first = aig.first_latch();
+    for place in 0..aig.latches().len() {
+        if aig.is_known_latch(first.saturating_add(place as u32)) {
+            send(frame, known, takers.as_slice(), flows.as_mut_slice(), place);
+        }
+    }
+    Ok(flows)
+}

@@ -1,0 +1,33 @@
+//! What comes to nodes and goes on from them.
+ghost use Rattle.std.specs.Prelude.{◌≡◌, ◌<◌, IsTrue, length};
+ghost use Rattle.aig_graph.specs.Graph.{latches_and_gates};
+ghost use Rattle.unit_flows.specs.Units.{comes_after, IsBalancedBefore};
+
+use crate::gate_flow::GateFlow;
+use crate::tallies::unit;
+use aig_graph::Aig;
+
+/// Whether a unit comes after the variable at a place: a known latch, or a gate that one goes through.
+pub(crate) fn comes_after(aig: &Aig, flows: &[GateFlow], place: usize) -> bool
+    requires place { place < latches_and_gates aig.now }
+    requires flows { length flows.now ≡ length aig.now.gates }
+    ensures { result ≡ comes_after aig.now flows.now place }
+{
+    let latches = aig.latches().len();
+    if place < latches {
+        aig.is_known_latch(aig.first_latch() + place as u32)
+    } else {
+        flows[place - latches].through
+    }
+}
+
+/// Whether no more units go on from before a gate than come there, where so many come from gates that read it.
+pub(crate) fn gives_no_more(flow: &GateFlow, came: u32) -> bool
+    ensures { IsTrue result → IsBalancedBefore flow.now came }
+{
+    let goes = u64::from(unit(flow.through))
+        + u64::from(flow.first_down)
+        + u64::from(flow.second_down);
+    let comes = u64::from(unit(flow.first_up)) + u64::from(unit(flow.second_up)) + u64::from(came);
+    goes <= comes
+}

@@ -1,0 +1,42 @@
+ghost use Rattle.std.specs.Prelude.{◌≡◌, IfOk};
+ghost use Rattle.variable_tables.specs.Tables.{table};
+ghost use Rattle.aig_graph.specs.Graph.{first_latch, latches_and_gates};
+ghost use Rattle.frame_net.specs.Passable.{IsPassSet};
+ghost use Rattle.frame_net.specs.Capacity.{leaves};
+
+use aig_graph::{Circuit, Keep, NoMemory};
+use frame_net::{PassSet, leaving_marks, passable};
+use std::alloc::Global;
+
+/// A circuit and its held latches, with its passable gates and the marks of what is held or read from outside them, from the first latch on.
+#[derive(Drop)]
+pub(crate) struct Frame<'a> {
+    pub circuit: &'a Circuit,
+    pub keep: &'a Keep,
+    pub pass: PassSet,
+    pub leaving: Vec<bool>,
+    ghost pass_is: { IsPassSet circuit.now.aig keep.now pass },
+    ghost leaving_are: { leaving.items ≡ table (first_latch circuit.now.aig)
+        (latches_and_gates circuit.now.aig) (leaves circuit.now.aig circuit.now.props keep.now) },
+}
+
+impl<'a> Frame<'a> {
+    /// The passable gates and the marks of a circuit.
+    ///
+    /// # Errors
+    ///
+    /// `NoMemory` where a table is refused.
+    pub fn new(alloc: Global, circuit: &'a Circuit, keep: &'a Keep) -> Result<Frame<'a>, NoMemory>
+        ensures circuit { IfOk result (λ frame. frame.circuit.now ≡ circuit.now) }
+        ensures held { IfOk result (λ frame. frame.keep.now ≡ keep.now) }
+    {
+        let pass = passable(alloc, circuit.aig(), keep)?;
+        let leaving = leaving_marks(alloc, circuit.aig(), circuit.props(), &pass, keep)?;
+        Ok(Frame {
+            circuit,
+            keep,
+            pass,
+            leaving,
+        })
+    }
+}

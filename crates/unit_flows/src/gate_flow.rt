@@ -1,0 +1,77 @@
+/// What a flow did at a gate: whether a unit came from the output of a fan-in, for each of the two; whether one went through; and how
+/// many went on to before a fan-in that is a gate. The first fan-in is the one of the smaller variable.
+#[derive(Clone, Copy, Debug, PartialEq, Eq)]
+pub struct GateFlow {
+    pub first_up: bool,
+    pub second_up: bool,
+    pub through: bool,
+    pub first_down: u32,
+    pub second_down: u32,
+}
+
+impl GateFlow {
+    /// Nothing.
+    pub fn none() -> GateFlow {
+        GateFlow {
+            first_up: false,
+            second_up: false,
+            through: false,
+            first_down: 0,
+            second_down: 0,
+        }
+    }
+
+    /// What is wished of a gate whose flow isn't known: a unit from either fan-in, and one through.
+    pub fn unknown() -> GateFlow {
+        GateFlow {
+            first_up: true,
+            second_up: true,
+            through: true,
+            first_down: 0,
+            second_down: 0,
+        }
+    }
+
+    /// Whether nothing came to the gate and nothing went on from it.
+    pub fn is_none(&self) -> bool {
+        !(self.first_up || self.second_up || self.through)
+            && self.first_down == 0
+            && self.second_down == 0
+    }
+
+    /// Whether a unit came from the output of the second or the first fan-in.
+    pub fn up(&self, second: bool) -> bool {
+        if second {
+            self.second_up
+        } else {
+            self.first_up
+        }
+    }
+
+    /// The units that went on to before the second or the first fan-in.
+    pub fn down(&self, second: bool) -> u32 {
+        if second {
+            self.second_down
+        } else {
+            self.first_down
+        }
+    }
+
+    /// Notes that a unit came from the output of the second or the first fan-in.
+    pub fn note_up(&mut self, second: bool) {
+        if second {
+            self.second_up = true;
+        } else {
+            self.first_up = true;
+        }
+    }
+
+    /// Notes how many units went on to before the second or the first fan-in.
+    pub fn note_down(&mut self, second: bool, units: u32) {
+        if second {
+            self.second_down = units;
+        } else {
+            self.first_down = units;
+        }
+    }
+}

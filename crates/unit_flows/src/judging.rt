@@ -1,0 +1,86 @@
+//! Judges a flow: whether it shows the greatest least set, and which that is.
+ghost use Rattle.std.specs.Prelude.{◌≡◌, IfOk, IfSome, IsTrue, length};
+ghost use Rattle.variable_tables.specs.Counting.{places};
+ghost use Rattle.variable_tables.specs.Marking.{mark_at};
+ghost use Rattle.aig_graph.specs.Graph.{first_latch, variables_end, latches_and_gates};
+ghost use Rattle.aig_graph.specs.Border.{IsGreatestLeast};
+ghost use Rattle.unit_flows.specs.Shown.{is_off, HasFullCut};
+
+use crate::cut::is_off;
+use crate::frame::Frame;
+use crate::gate_flow::GateFlow;
+use crate::passes::{gates_hold, places_hold};
+use crate::sweeps::{NodeMarks, mark};
+use crate::tallies::tally;
+use aig_graph::{ClosedSet, NoMemory};
+use std::alloc::Global;
+
+/// Whether no node of a flow gives more than it gets, and the marks are a full cut for it.
+fn is_shown(
+    alloc: Global,
+    frame: &Frame,
+    flows: &[GateFlow],
+    marks: &NodeMarks,
+) -> Result<bool, NoMemory>
+    requires flows { length flows.now ≡ length frame.now.circuit.now.aig.gates }
+    requires after { length marks.now.after.items
+        ≡ latches_and_gates frame.now.circuit.now.aig }
+    ensures { IfOk result (λ shown. IsTrue shown → HasFullCut frame.now.circuit.now
+        frame.now.keep.now flows.now
+        (mark_at (first_latch frame.now.circuit.now.aig) marks.now.before.items)
+        (mark_at (first_latch frame.now.circuit.now.aig) marks.now.after.items)) }
+{
+    let aig = frame.circuit.aig();
+    let entries = aig.latches_and_gates();
+    let mut went = vec![in alloc; 0u32; entries]?;
+    let mut came = vec![in alloc; 0u32; entries]?;
+    let (before, after) = (marks.before.as_slice(), marks.after.as_slice());
+    Ok(
+        tally(went.as_mut_slice(), came.as_mut_slice(), aig, flows)
+            && gates_hold(frame, flows, came.as_slice(), before, after)
+            && places_hold(frame, flows, went.as_slice(), before, after),
+    )
+}
+
+/// The passable gates that aren't marked before, rising.
+fn off_marks(alloc: Global, frame: &Frame, before: &[bool]) -> Result<Vec<u32>, NoMemory>
+    ensures { IfOk result (λ vars. vars.items ≡ places (is_off frame.now.circuit.now frame.now.keep.now
+        (mark_at (first_latch frame.now.circuit.now.aig) before.now))
+        (variables_end frame.now.circuit.now.aig)) }
+{
+    let aig = frame.circuit.aig();
+    let first = aig.first_latch();
+    let mut vars = Vec::new(alloc);
+    for place in 0..aig.latches_and_gates() {
+        let var = first + place as u32;
+        if is_off(frame, before, var) {
+            vars.push(var)?;
+        }
+    }
+    Ok(vars)
+}
+
+/// The greatest least set, where a flow shows it: no node of the flow gives more than it gets, and its marks are a full cut. Nothing of the
+/// flow is trusted. A few passes over the gates, and sweeps until nothing is newly marked; 12 bytes a latch and gate.
+///
+/// # Errors
+///
+/// `NoMemory` where a table is refused.
+pub(crate) fn shown_set(
+    alloc: Global,
+    frame: &Frame,
+    flows: &[GateFlow],
+) -> Result<Option<ClosedSet>, NoMemory>
+    ensures { IfOk result (λ shown. IfSome shown (λ set. IsGreatestLeast
+        frame.now.circuit.now frame.now.keep.now set)) }
+{
+    if flows.len() != frame.circuit.aig().gates().len() {
+        return Ok(None);
+    }
+    let marks = mark(alloc, frame, flows)?;
+    if !is_shown(alloc, frame, flows, &marks)? {
+        return Ok(None);
+    }
+    let vars = off_marks(alloc, frame, marks.before.as_slice())?;
+    Ok(ClosedSet::new(vars))
+}

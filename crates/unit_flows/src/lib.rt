@@ -1,0 +1,34 @@
+//! Judges flows of units over the gates of a circuit, without a network. One unit comes after each known latch, and one at most goes through
+//! a gate. Where no node gives more than it gets, no closed set has a smaller border than there are units that come to the sink; so a cut
+//! that as many units cross as it has room for is least, and where all that is marked reaches the sink over residual arcs, each least set
+//! lies off the marks (Hurst, Mishchenko and Brayton, 2007).
+#![tactic(auto)]
+
+ghost use Rattle.unit_flows.specs.Laws.{BorderLaw, ShownLaw};
+
+mod along;
+mod balance;
+mod cut;
+mod first_start;
+mod frame;
+mod gate_flow;
+mod judging;
+mod least_set;
+mod marks;
+mod passes;
+mod start;
+mod sweeps;
+mod tallies;
+
+pub use gate_flow::GateFlow;
+pub use least_set::greatest_least_shown;
+
+/// The border of each closed set has at least as many variables as units come to the sink.
+pub fn border_law()
+    ensures { BorderLaw }
+{}
+
+/// The passable gates off the marks of a full cut, all of whose marks reach the sink, are the greatest least set.
+pub fn shown_law()
+    ensures { ShownLaw }
+{}

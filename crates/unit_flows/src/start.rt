@@ -1,0 +1,113 @@
+//! One start of a circuit's first flow: which gate takes a unit from which fan-in.
+
+use crate::frame::Frame;
+use aig_graph::NoMemory;
+use std::alloc::Global;
+use std::mem;
+
+/// One of the two fan-ins of a gate, by their variables.
+#[derive(Clone, Copy, Debug, PartialEq, Eq)]
+pub(crate) enum FanIn {
+    Smaller,
+    Larger,
+}
+
+/// What stands after a latch or a gate: whether it leaves there, whether its unit is asked for, and whether a unit waits there.
+#[derive(Clone, Copy, Debug)]
+struct Spot {
+    leaves: bool,
+    asked: bool,
+    waits: bool,
+}
+
+/// A start: the fan-in from which each gate takes a unit, what stands after each variable, by its place from the first latch on, and how many
+/// units came to the sink.
+#[derive(Drop)]
+pub(crate) struct Start {
+    pub takes: Vec<Option<FanIn>>,
+    spots: Vec<Spot>,
+    pub arrived: usize,
+}
+
+impl Start {
+    /// A unit has come after each known latch, and no gate has taken one.
+    pub(crate) fn new(alloc: Global, frame: &Frame) -> Result<Start, NoMemory> {
+        let aig = frame.circuit.aig();
+        let mut spots = Vec::with_capacity(alloc, frame.leaving.len())?;
+        for leaves in &frame.leaving {
+            spots.push(Spot {
+                leaves: *leaves,
+                asked: *leaves,
+                waits: false,
+            })?;
+        }
+        let takes = vec![in alloc; None; aig.gates().len()]?;
+        let mut start = Start {
+            takes,
+            spots,
+            arrived: 0,
+        };
+        let first = aig.first_latch();
+        for place in 0..aig.latches().len() {
+            if aig.is_known_latch(first.saturating_add(place as u32)) {
+                start.put_after(place);
+            }
+        }
+        Ok(start)
+    }
+
+    /// A unit comes after a latch or a gate: from there it goes to the sink, or it waits.
+    fn put_after(&mut self, place: usize) {
+        if let Some(spot) = self.spots.get_mut(place) {
+            if spot.leaves {
+                self.arrived = self.arrived.saturating_add(1);
+            } else {
+                spot.waits = true;
+            }
+        }
+    }
+
+    /// Whether a unit waited after a fan-in; then the gate has taken it, and it comes after the gate's own place.
+    pub(crate) fn takes_from(
+        &mut self,
+        gate: usize,
+        own: usize,
+        fan_in: FanIn,
+        place: usize,
+    ) -> bool {
+        let waited = match self.spots.get_mut(place) {
+            Some(spot) => mem::replace(&mut spot.waits, false),
+            None => false,
+        };
+        if waited {
+            self.note(gate, Some(fan_in));
+            self.put_after(own);
+        }
+        waited
+    }
+
+    /// Notes from which fan-in a gate takes its unit.
+    pub(crate) fn note(&mut self, gate: usize, taken: Option<FanIn>) {
+        if let Some(take) = self.takes.get_mut(gate) {
+            *take = taken;
+        }
+    }
+
+    /// The fan-in from which a gate takes its unit.
+    pub(crate) fn taken(&self, gate: usize) -> Option<FanIn> {
+        *self.takes.get(gate)?
+    }
+
+    /// Whether nobody has asked for the unit after a fan-in yet; now it is asked for.
+    pub(crate) fn asks(&mut self, place: usize) -> bool {
+        match self.spots.get_mut(place) {
+            Some(spot) => !mem::replace(&mut spot.asked, true),
+            None => false,
+        }
+    }
+
+    /// Whether the unit after a place is asked for.
+    pub(crate) fn is_asked(&self, place: usize) -> bool {
+        self.spots.get(place).is_some_and(|spot| spot.asked)
+    }
+}

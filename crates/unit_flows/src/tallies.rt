@@ -1,0 +1,80 @@
+//! Adds up the units of all gates by variable: how many go on from after each to gates, and how many come to before each from gates that
+//! read it. Nothing of a flow is trusted: units from or to what has no entry are refused.
+ghost use Rattle.std.specs.Prelude.{◌≡◌, ◌+◌, ◌*◌, ◌≤◌, ℕ, IsTrue, length, replicate};
+ghost use Rattle.aig_graph.specs.Graph.{first_latch, latches_and_gates};
+ghost use Rattle.unit_flows.specs.Units.{unit, weigh, ups, downs, AreTallies};
+
+use crate::gate_flow::GateFlow;
+use aig_graph::{Aig, Gate};
+
+/// One where it holds, else none.
+#[tactic(auto, unfolding(crate::specs::Units::unit))]
+pub(crate) fn unit(holds: bool) -> u32
+    ensures value { result ≡ unit holds }
+    ensures small { result ≤ 1 }
+{
+    if holds { 1 } else { 0 }
+}
+
+/// Adds units to the entry of a variable. No where some are to be added and there is no entry, or no room in it.
+fn add_units(table: &mut [u32], first: u32, var: u32, units: u32) -> bool
+    ensures len { length table.new ≡ length table.old }
+    ensures sum { IsTrue result → (weight : ℕ → ℕ) → weigh first table.new weight
+        ≡ weigh first table.old weight + units * weight var }
+{
+    if units == 0 {
+        return true;
+    }
+    if var < first || (var - first) as usize >= table.len() {
+        return false;
+    }
+    let place = (var - first) as usize;
+    if table[place] > u32::MAX - units {
+        return false;
+    }
+    table[place] += units;
+    true
+}
+
+/// Adds the units that come to before a gate from after its fan-ins.
+fn add_ups(went: &mut [u32], first: u32, gate: &Gate, flow: &GateFlow) -> bool
+    ensures len { length went.new ≡ length went.old }
+    ensures sum { IsTrue result → (weight : ℕ → ℕ) → weigh first went.new weight
+        ≡ weigh first went.old weight + ups weight gate.now flow.now }
+{
+    let smaller = add_units(went, first, gate.rhs1.var(), unit(flow.first_up));
+    let larger = add_units(went, first, gate.rhs0.var(), unit(flow.second_up));
+    smaller && larger
+}
+
+/// Adds the units that go on from before a gate to before its fan-ins.
+fn add_downs(came: &mut [u32], first: u32, gate: &Gate, flow: &GateFlow) -> bool
+    ensures len { length came.new ≡ length came.old }
+    ensures sum { IsTrue result → (weight : ℕ → ℕ) → weigh first came.new weight
+        ≡ weigh first came.old weight + downs weight gate.now flow.now }
+{
+    let smaller = add_units(came, first, gate.rhs1.var(), flow.first_down);
+    let larger = add_units(came, first, gate.rhs0.var(), flow.second_down);
+    smaller && larger
+}
+
+/// The tallies of all gates, in tables of zeros. No where units go from or to what has no entry.
+pub(crate) fn tally(went: &mut [u32], came: &mut [u32], aig: &Aig, flows: &[GateFlow]) -> bool
+    requires flows { length flows.now ≡ length aig.now.gates }
+    requires went { went.old ≡ replicate (latches_and_gates aig.now) 0 }
+    requires came { came.old ≡ replicate (latches_and_gates aig.now) 0 }
+    ensures { IsTrue result → AreTallies aig.now flows.now (length aig.now.gates)
+        went.new came.new }
+{
+    let first = aig.first_latch();
+    let gates = aig.gates();
+    for k in 0..gates.len() {
+        let flow = &flows[k];
+        let ups = add_ups(went, first, &gates[k], flow);
+        let downs = add_downs(came, first, &gates[k], flow);
+        if !(ups && downs) {
+            return false;
+        }
+    }
+    true
+}
