@@ -1,6 +1,6 @@
 //! The flows of gates, as the gates go from circuit to circuit.
 
-use crate::gate_flow::GateFlow;
+use unit_flows::GateFlow;
 use aig_graph::{Aig, ClosedSet, NoMemory};
 use std::alloc::Global;
 
