@@ -206,8 +206,9 @@ fn chosen_by_flow<G: PhaseGate>(
 /// this flow did at the circuit's gates. They are hints: the set is the same whatever they say. Where the records want certificates, one
 /// of the set is added to them, which passes all tests of `certificates::check`.
 ///
-/// Where a start shows the greatest set, no network is made. Else what is made on the way (the network, its flow, for the smallest set the routes of the flow) is dropped, but for the memory of a
-/// small network's tables by arc, of its flow's residuals and of its pushes, which the records keep for the next circuit.
+/// Where a start shows the greatest set, no network is made. Else what is made on the way (the network, its flow, for the smallest set the
+/// routes of the flow) is dropped, but for the memory of a small network's tables by arc, of its flow's residuals and of its pushes, which the
+/// records keep for the next circuit.
 ///
 /// # Errors
 ///

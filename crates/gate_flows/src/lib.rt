@@ -12,6 +12,6 @@ mod wishing;
 
 pub use carrying::{after_cleaning, after_move};
 pub use first_start::first_wishes;
-pub use unit_flows::GateFlow;
 pub use noting::gate_flows;
+pub use unit_flows::GateFlow;
 pub use wishing::wishes;
