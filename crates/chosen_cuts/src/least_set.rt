@@ -1,12 +1,13 @@
 //! From a circuit to its chosen least set: network, maximum preflow, and of that either the far side, or the near side of the
 //! routes that its units take. Routes are also what a certificate consists of, so for the greatest set they are looked for only
 //! where one is wanted.
-ghost use Rattle.std.specs.Prelude.{IfOk, ◌≡◌};
+ghost use Rattle.std.specs.Prelude.{IfOk, IfSome, IsTrue, false, ◌≡◌};
 ghost use Rattle.aig_graph.specs.Border.{IsGreatestLeast, IsLeast, IsSmallestLeast};
 ghost use Rattle.chosen_cuts.specs.Certified.{AddsOne};
 ghost use Rattle.cut_cert.specs.Shown.{AreLeastRoutes};
 ghost use Rattle.frame_cuts.specs.Cuts.{IsNetworkOf};
 ghost use Rattle.least_sets.specs.Chosen.{IsChosen};
+ghost use Rattle.least_sets.specs.declared.choice.Choice.TheVariants.{Greatest};
 ghost use Rattle.pulse.specs.Conditions.{IsMaxPreflow};
 
 use crate::records::Records;
@@ -19,6 +20,10 @@ use pulse::{Crew, MOST_ARCS_KEPT, MaxPreflow, PhaseGate};
 use std::alloc::Global;
 use std::mem;
 use std::thread::Threads;
+use unit_flows::greatest_least_shown;
+
+/// From so many latches and gates on a crew of two or more looks at starts first.
+const MANY_PLACES: usize = 4096;
 
 /// The set; its certificate is added, where certificates are wanted.
 fn recorded(
@@ -133,17 +138,44 @@ fn residuals_of(alloc: Global, net: &Net, preflow: MaxPreflow) -> Vec<u32> {
     preflow.into_residuals(alloc)
 }
 
-/// The chosen least set of a circuit whose held latches stay where they are, from a start along the records' flows; then they are what
-/// this flow did at the circuit's gates. They are hints: the set is the same whatever they say. Where the records want certificates, one
-/// of the set is added to them, which passes all tests of `certificates::check`.
-///
-/// What is made on the way (the network, its flow, for the smallest set the routes of the flow) is dropped, but for the memory of a
-/// small network's tables by arc, of its flow's residuals and of its pushes, which the records keep for the next circuit.
-///
-/// # Errors
-///
-/// `NoMemory`; then the records may be those of before, or of this run.
-pub fn chosen_least_along<G: PhaseGate>(
+/// Whether a start is judged before a network is made: for the greatest set alone, where no certificate is wanted, and not for a crew of two
+/// or more on a small circuit, whose first pulses are large for it and are shared out.
+fn looks_at_starts<G: PhaseGate>(
+    circuit: &Circuit,
+    choice: Choice,
+    crew: &Crew<G>,
+    records: &Records,
+) -> bool
+    ensures { IsTrue result → (choice ≡ Greatest) × (records.now.certify ≡ false) }
+{
+    choice == Choice::Greatest
+        && !records.certify
+        && (crew.workers() < 2 || circuit.aig().latches_and_gates() >= MANY_PLACES)
+}
+
+/// The chosen least set, where a start is looked at and shows it. Nothing of the records changes but the flows.
+fn shown_by_start<G: PhaseGate>(
+    alloc: Global,
+    circuit: &Circuit,
+    keep: &Keep,
+    choice: Choice,
+    crew: &Crew<G>,
+    records: &mut Records,
+) -> Result<Option<ClosedSet>, NoMemory>
+    ensures set { IfOk result (λ shown. IfSome shown (IsChosen choice circuit.now keep.now)) }
+    ensures none_wanted { IfOk result (λ shown. IfSome shown (λ set. records.old.certify ≡ false)) }
+    ensures certify { records.new.certify ≡ records.old.certify }
+    ensures certificates { records.new.certificates.items ≡ records.old.certificates.items }
+{
+    if looks_at_starts(circuit, choice, crew, records) {
+        greatest_least_shown(alloc, circuit, keep, &mut records.flows)
+    } else {
+        Ok(None)
+    }
+}
+
+/// The chosen least set, by a maximum flow of the circuit's network.
+fn chosen_by_flow<G: PhaseGate>(
     rt: &(impl Threads + Sync),
     alloc: Global,
     circuit: &Circuit,
@@ -168,4 +200,33 @@ pub fn chosen_least_along<G: PhaseGate>(
     drop(mem::replace(&mut records.flow_tables.residuals, residuals));
     drop(mem::replace(&mut records.tables, tables_of(alloc, net)));
     set
+}
+
+/// The chosen least set of a circuit whose held latches stay where they are, from a start along the records' flows; then they are what
+/// this flow did at the circuit's gates. They are hints: the set is the same whatever they say. Where the records want certificates, one
+/// of the set is added to them, which passes all tests of `certificates::check`.
+///
+/// Where a start shows the greatest set, no network is made. Else what is made on the way (the network, its flow, for the smallest set the
+/// routes of the flow) is dropped, but for the memory of a small network's tables by arc, of its flow's residuals and of its pushes, which the
+/// records keep for the next circuit.
+///
+/// # Errors
+///
+/// `NoMemory`; then the records may be those of before, or of this run.
+pub fn chosen_least_along<G: PhaseGate>(
+    rt: &(impl Threads + Sync),
+    alloc: Global,
+    circuit: &Circuit,
+    keep: &Keep,
+    choice: Choice,
+    crew: &Crew<G>,
+    records: &mut Records,
+) -> Result<ClosedSet, NoMemory>
+    ensures set { IfOk result (IsChosen choice circuit.now keep.now) }
+    ensures certificate { IfOk result (AddsOne circuit.now keep.now records.old records.new) }
+{
+    match shown_by_start(alloc, circuit, keep, choice, crew, records)? {
+        Some(set) => Ok(set),
+        None => chosen_by_flow(rt, alloc, circuit, keep, choice, crew, records),
+    }
 }

@@ -1,8 +1,8 @@
 //! The flows of gates, as the gates go from circuit to circuit.
 
-use crate::gate_flow::GateFlow;
 use aig_graph::{Aig, ClosedSet, NoMemory};
 use std::alloc::Global;
+use unit_flows::GateFlow;
 
 /// A mark for each gate of the set.
 fn set_marks(alloc: Global, aig: &Aig, set: &ClosedSet) -> Result<Vec<bool>, NoMemory> {

@@ -9,7 +9,7 @@
 ghost use Rattle.std.specs.Prelude.{◌<◌};
 ghost use Rattle.frame_net.specs.FlowNet.{node_count};
 
-use crate::gate_flow::{first_before, is_before};
+use crate::gate_nodes::{first_before, is_before};
 use crate::start::{FanIn, Start};
 use crate::wishing::{no_wishes, wish, wish_into_sink};
 use aig_graph::{Aig, NoMemory};

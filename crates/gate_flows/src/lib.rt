@@ -5,13 +5,13 @@
 
 mod carrying;
 mod first_start;
-mod gate_flow;
+mod gate_nodes;
 mod noting;
 mod start;
 mod wishing;
 
 pub use carrying::{after_cleaning, after_move};
 pub use first_start::first_wishes;
-pub use gate_flow::GateFlow;
 pub use noting::gate_flows;
+pub use unit_flows::GateFlow;
 pub use wishing::wishes;

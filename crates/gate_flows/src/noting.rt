@@ -3,11 +3,12 @@ ghost use Rattle.std.specs.Prelude.{◌<◌};
 ghost use Rattle.frame_net.specs.FlowNet.{node_count};
 ghost use Rattle.pulse.specs.Conditions.{IsMaxPreflow};
 
-use crate::gate_flow::{GateFlow, first_before, gate_place, is_before};
+use crate::gate_nodes::{first_before, gate_place, is_before};
 use aig_graph::{Aig, NoMemory};
 use frame_net::Net;
 use pulse::MaxPreflow;
 use std::alloc::Global;
+use unit_flows::GateFlow;
 
 /// What a preflow did at the node before a gate. Heads rise: the nodes of the first fan-in come first, then those of the second one, and
 /// then the gate's output. An arc that carries nothing its own way has what its mate carries as residual above its capacity.

@@ -2,9 +2,10 @@
 ghost use Rattle.std.specs.Prelude.{◌<◌};
 ghost use Rattle.frame_net.specs.FlowNet.{node_count};
 
-use crate::gate_flow::{GateFlow, first_before, gate_place, is_before};
+use crate::gate_nodes::{first_before, gate_place, is_before};
 use aig_graph::{Aig, NoMemory};
 use frame_net::Net;
+use unit_flows::GateFlow;
 
 /// Wishes so many units over an arc.
 pub(crate) fn wish(wishes: &mut [u32], arc: usize, units: u32) {

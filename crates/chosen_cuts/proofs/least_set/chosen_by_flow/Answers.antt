@@ -1,5 +1,5 @@
 use Rattle.std.proofs.lemmas.Result.{IfOk-from_err, IfOk-weaker}
-use Rattle.chosen_cuts.proofs.least_set.chosen_least_along.Goals as goal
+use Rattle.chosen_cuts.proofs.least_set.chosen_by_flow.Goals as goal
 
 pub chosen_set-set-requires-clause-network : goal.chosen_set-set-requires-clause-network
 chosen_set-set-requires-clause-network g c = c.in_ok-net.ensures
