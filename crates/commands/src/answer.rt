@@ -56,11 +56,7 @@ fn failure_of<'a>(error: BytesError, task: &Retiming<'a>) -> Failure<'a>
 }
 
 /// The same of a run that makes a map: one that is too large fails as a file that says so in its first line.
-fn failure_of_mapped<'a>(
-    error: MappedError,
-    task: &Retiming<'a>,
-    map: Target<'a>,
-) -> Failure<'a>
+fn failure_of_mapped<'a>(error: MappedError, task: &Retiming<'a>, map: Target<'a>) -> Failure<'a>
     ensures { IsMappedFailureOf task.now error result }
 {
     match error {
