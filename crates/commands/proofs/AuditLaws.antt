@@ -13,9 +13,9 @@ use Rattle.circuit_files.specs.Codes.{status_of}
 use Rattle.circuit_files.specs.declared.outcome.Outcome.{Outcome}
 use Rattle.circuit_files.specs.declared.outcome.Failure.{Failure}
 use Rattle.command_objects.specs.Objects.{EndsPrintingObject}
-use Rattle.commands.specs.Printing.{EndsPrinting, Prints, ending}
+use Rattle.command_endings.specs.Printing.{EndsPrinting, Prints, ending}
 use Rattle.commands.specs.Verifying.{EndsWithAudit, IsAuditFor, outcome_of_end}
-use Rattle.commands.proofs.PrintingLaws.{lines_print, object_prints}
+use Rattle.command_endings.proofs.PrintingLaws.{lines_print, object_prints}
 
 -- an audit, as the task says
 pub merged_audit : {E : Type 0} (merge : Bool) (names : List (List ℕ)) (c : Netlist) (blocks : List Certificate) (r : Result Audit E)

@@ -7,10 +7,10 @@ use Rattle.witnesses.specs.declared.witness.Witness.{Witness}
 use Rattle.circuit_files.specs.declared.outcome.Outcome.{Outcome}
 use Rattle.circuit_files.specs.declared.outcome.Failure.{Failure}
 use Rattle.commands.specs.Fates.{AreKept, AreLeft, AreLeftFor, AreLeftMerged, IsFate, IsJudged, fate_text, have_same_widths, outcome_of_fate}
-use Rattle.commands.specs.Printing.{EndsPrinting, Prints, ending}
+use Rattle.command_endings.specs.Printing.{EndsPrinting, Prints, ending}
 use Rattle.commands.specs.declared.witness.Fate.{Fate}
 use Rattle.commands.specs.declared.witness.Fate.TheVariants.{Confirmed, Objected, ShapesDiffer}
-use Rattle.commands.proofs.PrintingLaws.{lines_print}
+use Rattle.command_endings.proofs.PrintingLaws.{lines_print}
 
 -- the free latches that are left before the first frame, as the task says
 pub left_merged : {E : Type 0} (merge : Bool) (c : Netlist) (free : ℕ) (r : Result (Option (List ℕ)) E) → merge ≡ true → IfOk r (AreLeftMerged c free) → IfOk r (AreLeftFor merge c free)

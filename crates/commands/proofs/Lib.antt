@@ -1,5 +1,3 @@
-pub mod PrintingLaws
-pub mod FindingLaws
 pub mod FrameLaws
 pub mod StatisticsLaws
 pub mod FateLaws

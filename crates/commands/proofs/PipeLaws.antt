@@ -21,9 +21,9 @@ use Rattle.circuit_files.specs.declared.outcome.Outcome.{Outcome}
 use Rattle.circuit_files.specs.declared.outcome.Outcome.TheVariants.{Done}
 use Rattle.circuit_files.specs.declared.outcome.Failure.{Failure}
 use Rattle.commands.specs.Pipes.{AnswersPipe, IsPipe, WritesPipe}
-use Rattle.commands.specs.Printing.{EndsAside, Prints, ending}
+use Rattle.command_endings.specs.Printing.{EndsAside, Prints, ending}
 use Rattle.commands.specs.RetimingTasks.{IsFailureOf, IsMappedFailureOf}
-use Rattle.commands.proofs.PrintingLaws.{failing_after, prints_after}
+use Rattle.command_endings.proofs.PrintingLaws.{failing_after, prints_after}
 
 -- why there is no whole answer, as the failure of the task
 pub stopped : (task : Retiming) (options : Options) (old new : Input) (before after : Output) (e : BytesError) (f : Failure)

@@ -11,9 +11,9 @@ use Rattle.circuit_files.specs.declared.outcome.Outcome.{Outcome}
 use Rattle.circuit_files.specs.declared.outcome.Outcome.TheVariants.{Done}
 use Rattle.circuit_files.specs.declared.outcome.Failure.{Failure}
 use Rattle.command_objects.specs.Objects.{EndsPrintingObject}
-use Rattle.commands.specs.Printing.{EndsPrinting, EndsWith}
+use Rattle.command_endings.specs.Printing.{EndsPrinting, EndsWith}
 use Rattle.commands.specs.Statistics.{statistics_text}
-use Rattle.commands.proofs.PrintingLaws.{ends_with_line, ends_with_object_line}
+use Rattle.command_endings.proofs.PrintingLaws.{ends_with_line, ends_with_object_line}
 
 -- all of it, in the form that is asked for
 abbrev EndsCounted : Bool → Netlist → Option MergeCounts → Output → Output → Result Outcome Failure → Type 0

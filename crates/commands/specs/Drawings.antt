@@ -25,8 +25,8 @@ use Rattle.pictures.specs.Looks.{everything}
 use Rattle.pictures.specs.Near.{is_name_of, is_near}
 use Rattle.pictures.specs.Pictures.{picture}
 use Rattle.command_line.specs.declared.task.Drawing.{Drawing}
-use Rattle.commands.specs.HeldNames.{OfSource}
-use Rattle.commands.specs.Sources.{IsCircuitAt}
+use Rattle.command_endings.specs.HeldNames.{OfSource}
+use Rattle.command_endings.specs.Sources.{IsCircuitAt}
 
 -- the neighbourhood of what the name names, or all variables
 abbrev pub shown : Netlist → Drawing → ℕ → Bool

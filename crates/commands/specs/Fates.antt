@@ -19,8 +19,8 @@ use Rattle.counted_io.specs.Output.{Output}
 use Rattle.command_line.specs.declared.task.Carrying.{Carrying}
 use Rattle.circuit_files.specs.declared.outcome.Outcome.{Outcome}
 use Rattle.circuit_files.specs.declared.outcome.Outcome.TheVariants as ends
-use Rattle.commands.specs.Printing.{EndsWith}
-use Rattle.commands.specs.Sources.{IsCircuitAt, IsWitnessAt}
+use Rattle.command_endings.specs.Printing.{EndsWith}
+use Rattle.command_endings.specs.Sources.{IsCircuitAt, IsWitnessAt}
 use Rattle.commands.specs.declared.witness.Fate.{Fate}
 use Rattle.commands.specs.declared.witness.Fate.TheVariants.{Confirmed, Objected, ShapesDiffer}
 

@@ -1,12 +1,7 @@
-pub mod Printing
-pub mod Sources
-pub mod HeldNames
-pub mod Comparing
 pub mod RetimingTasks
 pub mod OtherSpelling
 pub mod Pipes
 pub mod Verifying
 pub mod Drawings
 pub mod Statistics
-pub mod Simulating
 pub mod Fates

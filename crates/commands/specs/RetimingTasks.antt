@@ -22,8 +22,8 @@ use Rattle.circuit_files.specs.declared.outcome.Outcome.TheVariants.{Done, Refus
 use Rattle.circuit_files.specs.declared.outcome.Failure.{Failure}
 use Rattle.circuit_files.specs.declared.outcome.Failure.TheVariants as fails
 use Rattle.command_objects.specs.Objects.{EndsPrintingObject}
-use Rattle.commands.specs.HeldNames.{OfSource}
-use Rattle.commands.specs.Printing.{EndsPrinting}
+use Rattle.command_endings.specs.HeldNames.{OfSource}
+use Rattle.command_endings.specs.Printing.{EndsPrinting}
 
 -- the options are the task's
 pub record AreOptionsOf (task : Retiming) (options : Options) : Type 0 where

@@ -13,8 +13,8 @@ use Rattle.counted_io.specs.Output.{Output}
 use Rattle.command_line.specs.declared.task.Counting.{Counting}
 use Rattle.circuit_files.specs.declared.outcome.Outcome.{Outcome}
 use Rattle.circuit_files.specs.declared.outcome.Outcome.TheVariants.{Done}
-use Rattle.commands.specs.Printing.{EndsWith}
-use Rattle.commands.specs.Sources.{IsCircuitAt}
+use Rattle.command_endings.specs.Printing.{EndsWith}
+use Rattle.command_endings.specs.Sources.{IsCircuitAt}
 
 -- how many latches of c cleaned are merged, where none is held
 pub record AreMergeCounts (c : Netlist) (counts : MergeCounts) : Type 0 where

@@ -17,7 +17,7 @@ use Rattle.command_line.specs.declared.task.Verification.{Verification}
 use Rattle.circuit_files.specs.Codes.{status_of}
 use Rattle.circuit_files.specs.declared.outcome.Outcome.{Outcome}
 use Rattle.circuit_files.specs.declared.outcome.Outcome.TheVariants.{Done, Unconfirmed}
-use Rattle.commands.specs.Sources.{AreCertificatesAt, IsCircuitAt}
+use Rattle.command_endings.specs.Sources.{AreCertificatesAt, IsCircuitAt}
 
 abbrev pub outcome_of_end : End → Outcome
 outcome_of_end NoBlocks = Done

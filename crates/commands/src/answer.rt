@@ -8,12 +8,12 @@ ghost use Rattle.mapped_answers.specs.Mapping.{IsMapped, IsMappedError};
 ghost use Rattle.circuit_files.specs.Outcomes.{outcome_of};
 ghost use Rattle.circuit_files.specs.declared.outcome.Outcome.TheVariants.{Device};
 ghost use Rattle.command_line.specs.StreamUses.{writes_stdout};
-ghost use Rattle.commands.specs.Printing.{Prints};
+ghost use Rattle.command_endings.specs.Printing.{Prints};
 ghost use Rattle.commands.specs.RetimingTasks.{AreOptionsOf, IsFailureOf, IsMappedFailureOf};
 
-use crate::names::missing_name;
 use aig_binary::{SpeltCircuit, write};
 use circuit_files::{Failure, LazyFile};
+use command_endings::missing_name;
 use command_line::Retiming;
 use counted_io::{Counted, CountedRead, CountedWrite, WriteError};
 use file_words::ReadError;

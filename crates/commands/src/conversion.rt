@@ -6,7 +6,7 @@ ghost use Rattle.stream_paths.specs.Streams.{is_stdin, is_stdout};
 ghost use Rattle.commands.specs.OtherSpelling.{other_spelling};
 ghost use Rattle.commands.specs.OtherSpelling as wanted;
 ghost use Rattle.commands.specs.Pipes.{ConvertsPipe};
-ghost use Rattle.commands.specs.Printing.{Prints, ending};
+ghost use Rattle.command_endings.specs.Printing.{Prints, ending};
 
 use aig_binary::{Spelling, write};
 use aig_graph::Circuit;

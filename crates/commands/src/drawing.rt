@@ -10,11 +10,11 @@ ghost use Rattle.circuit_files.specs.Outcomes.{outcome_of};
 ghost use Rattle.circuit_files.specs.declared.outcome.Outcome.TheVariants.{Device};
 ghost use Rattle.commands.specs.Drawings.{AreOptionsFor, CanBeDrawn, Draws, DrawsBy, DrawsCircuit, DrawsInput, IsRefusal, IsSetFor, PrintsPicture, shown};
 ghost use Rattle.commands.specs.Drawings as wanted;
-ghost use Rattle.commands.specs.Printing.{Prints, ending};
+ghost use Rattle.command_endings.specs.Printing.{Prints, ending};
 
-use crate::names::{bytes_of_names, failure_of_names, missing_name};
 use aig_graph::{Circuit, ClosedSet, Keep, NoMemory, count, keep_of};
 use circuit_files::{Failure, LazyFile, Outcome, circuit_at};
+use command_endings::{bytes_of_names, failure_of_names, missing_name};
 use command_line::Drawing;
 use counted_io::{Counted, CountedRead, CountedWrite};
 use cut_cert::greatest_least;

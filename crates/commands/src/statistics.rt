@@ -2,13 +2,13 @@
 ghost use Rattle.std.specs.Prelude.{IfOk};
 ghost use Rattle.reports.specs.Counts.{counts_text};
 ghost use Rattle.circuit_files.specs.declared.outcome.Outcome.TheVariants.{Done};
-ghost use Rattle.commands.specs.Printing.{EndsPrinting, EndsWith, Prints, ending};
+ghost use Rattle.command_endings.specs.Printing.{EndsPrinting, EndsWith, Prints, ending};
 ghost use Rattle.commands.specs.Statistics.{AreMergeCounts, AreMergeCountsFor, PrintsCounts, PrintsStatistics, statistics_text};
 
-use crate::ended::ended;
 use aig_graph::{Circuit, NoMemory};
 use circuit_counts::Statistics;
 use circuit_files::{Failure, Outcome, circuit_at};
+use command_endings::ended;
 use command_line::Counting;
 use counted_io::{CountedRead, CountedWrite};
 use frame_start::merged_start;

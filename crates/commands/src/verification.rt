@@ -3,15 +3,14 @@ ghost use Rattle.std.specs.Prelude.{◌≡◌, IfOk};
 ghost use Rattle.certificate_audits.specs.Audits.{IsAudit, IsMergedAudit};
 ghost use Rattle.aig_graph.specs.Keep.{names_of};
 ghost use Rattle.reports.specs.Audits.{audit_text};
-ghost use Rattle.commands.specs.Printing.{EndsPrinting, Prints, ending};
+ghost use Rattle.command_endings.specs.Printing.{EndsPrinting, Prints, ending};
 ghost use Rattle.commands.specs.Verifying.{EndsWithAudit, IsAuditFor, PrintsAudit, PrintsAuditFor, PrintsAuditOf, held_names, outcome_of_end};
 
-use crate::ended::ended;
-use crate::names::{bytes_of_names, failure_of_names};
 use aig_graph::Circuit;
 use certificate_audits::{Audit, End, audit_blocks, audit_merged};
 use certificates::Certificate;
 use circuit_files::{Failure, Outcome, certificates_at, circuit_at};
+use command_endings::{bytes_of_names, ended, failure_of_names};
 use command_line::Verification;
 use counted_io::{CountedRead, CountedWrite};
 use reports::print_audit;

@@ -5,12 +5,12 @@ ghost use Rattle.witnesses.specs.Texts.{whole_text};
 ghost use Rattle.circuit_files.specs.declared.outcome.Outcome.TheVariants.{Done};
 ghost use Rattle.commands.specs.Fates.{AreKept, AreLeft, AreLeftFor, AreLeftMerged, AreMergeOptions, IsFate, IsFateOf, IsFateUnder, IsFateWith, IsJudged, PrintsFate, fate_text, if_many, outcome_of_fate};
 ghost use Rattle.commands.specs.Fates as wanted;
-ghost use Rattle.commands.specs.Printing.{EndsPrinting, Prints, ending};
+ghost use Rattle.command_endings.specs.Printing.{EndsPrinting, Prints, ending};
 
-use crate::ended::ended;
 use aig_graph::{Circuit, Keep, NoMemory, Sequence};
 use circuit_files::{Failure, Outcome, circuit_at, witness_at};
 use clean::{Cleaned, clean};
+use command_endings::ended;
 use command_line::Carrying;
 use counted_io::{CountedRead, CountedWrite};
 use frames::{Options, Retimed, retime};

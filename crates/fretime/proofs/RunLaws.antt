@@ -8,7 +8,7 @@ use Rattle.circuit_files.specs.declared.outcome.Outcome.TheVariants.{Done, Refus
 use Rattle.circuit_files.specs.declared.outcome.Failure.{Failure}
 use Rattle.circuit_files.specs.declared.outcome.Failure.TheVariants as fails
 use Rattle.fretime.specs.Reporting.{MayRefuse, PrintsFailure}
-use Rattle.commands.specs.Printing.{Prints, ending}
+use Rattle.command_endings.specs.Printing.{Prints, ending}
 use Rattle.fretime.specs.Batches.{PrintsList}
 use Rattle.fretime.specs.Runs.{MayGive, MayPrint, PrintsFilesOrRefusal, PrintsShapes}
 

@@ -8,7 +8,7 @@ use Rattle.fault_pages.specs.Pages.{advice_of, meaning_of, rule_of}
 use Rattle.fault_pages.specs.declared.fault.Fault.{Fault}
 use Rattle.circuit_files.specs.declared.outcome.Outcome.{Outcome}
 use Rattle.circuit_files.specs.declared.outcome.Outcome.TheVariants.{CommandLine, Done}
-use Rattle.commands.specs.Printing.{EndsWith}
+use Rattle.command_endings.specs.Printing.{EndsWith}
 
 -- a byte of a file; four spaces begin the next line
 unfoldable pub indented_byte : ℕ → List ℕ

@@ -13,12 +13,12 @@ use Rattle.circuit_files.specs.Outcomes.{outcome_of}
 use Rattle.circuit_files.specs.declared.outcome.Outcome.{Outcome}
 use Rattle.circuit_files.specs.declared.outcome.Failure.{Failure}
 use Rattle.command_objects.specs.Objects.{PrintsRefusal}
-use Rattle.commands.specs.Comparing.{PrintsFinding}
+use Rattle.simulation_commands.specs.Comparing.{PrintsFinding}
 use Rattle.commands.specs.Drawings.{PrintsPicture}
 use Rattle.commands.specs.Fates.{PrintsFate}
 use Rattle.commands.specs.Pipes.{ConvertsPipe, IsPipe, WritesPipe}
-use Rattle.commands.specs.Printing.{Prints}
-use Rattle.commands.specs.Simulating.{PrintsTrace}
+use Rattle.command_endings.specs.Printing.{Prints}
+use Rattle.simulation_commands.specs.Simulating.{PrintsTrace}
 use Rattle.commands.specs.Statistics.{PrintsStatistics}
 use Rattle.commands.specs.Verifying.{PrintsAuditOf}
 use Rattle.fretime.specs.Batches.{PrintsFiles, PrintsList}

@@ -5,7 +5,7 @@ ghost use Rattle.counted_io.specs.Buffered.{Puts};
 ghost use Rattle.counted_io.specs.Output.{Output, Writes};
 ghost use Rattle.fault_pages.specs.Files.{smallest_file};
 ghost use Rattle.circuit_files.specs.declared.outcome.Outcome.TheVariants.{CommandLine};
-ghost use Rattle.commands.specs.Printing.{Prints, ending};
+ghost use Rattle.command_endings.specs.Printing.{Prints, ending};
 ghost use Rattle.fretime.specs.Explaining.{Explains, file_part, file_text, indented, indented_byte, page_text};
 
 use circuit_files::{Failure, Outcome};

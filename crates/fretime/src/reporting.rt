@@ -1,7 +1,7 @@
 //! Why a command failed, on standard error, and as an object of JSON where that is asked for.
 ghost use Rattle.std.specs.Prelude.{◌≡◌, ◌⊎◌, true, false, IfErr, option_map};
 ghost use Rattle.circuit_files.specs.Outcomes.{outcome_of};
-ghost use Rattle.commands.specs.Printing.{ending};
+ghost use Rattle.command_endings.specs.Printing.{ending};
 ghost use Rattle.fretime.specs.Reporting.{MayRefuse, PrintsFailure, SaysFailure, SaysWhy, object_command};
 ghost use Rattle.fretime.specs.Reporting as wanted;
 

@@ -15,10 +15,10 @@ use clap::Error;
 use clap::error::ErrorKind;
 use command_line::{Task, parse_arguments};
 use commands::{
-    convert, print_comparison, print_retimed, print_simulation, print_statistics,
-    print_verification, print_witness_back, write_picture,
+    convert, print_retimed, print_statistics, print_verification, print_witness_back, write_picture,
 };
 use counted_io::{Buffered, CountedRead, CountedWrite};
+use simulation_commands::{print_comparison, print_simulation};
 use std::alloc::Global;
 use std::fmt::Write;
 use std::io;

@@ -10,8 +10,8 @@ use Rattle.counted_io.specs.Output.{Output}
 use Rattle.stream_paths.specs.declared.source.Source.{Source}
 use Rattle.circuit_files.specs.declared.outcome.Outcome.{Outcome}
 use Rattle.circuit_files.specs.declared.outcome.Outcome.TheVariants.{Done}
-use Rattle.commands.specs.Printing.{EndsWith}
-use Rattle.commands.specs.Sources.{IsCircuitAt, IsStimulusAt}
+use Rattle.command_endings.specs.Printing.{EndsWith}
+use Rattle.command_endings.specs.Sources.{IsCircuitAt, IsStimulusAt}
 
 -- the trace of a circuit under the stimulus that is read
 pub record IsTraceUnder (c : Netlist) (stimulus : Source) (before after : Input) (found : List (List (List Bool))) : Type 0 where

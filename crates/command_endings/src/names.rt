@@ -2,7 +2,7 @@
 ghost use Rattle.std.specs.Prelude.{ℕ, ◌≡◌, List, Some, IfOk, map, slice_get};
 ghost use Rattle.std.specs.Borrow.{Bor};
 ghost use Rattle.circuit_files.specs.declared.outcome.Failure.TheVariants.{NoSuchName};
-ghost use Rattle.commands.specs.HeldNames.{IsFailureOfNames};
+ghost use Rattle.command_endings.specs.HeldNames.{IsFailureOfNames};
 
 use aig_graph::KeepError;
 use circuit_files::Failure;

@@ -5,11 +5,11 @@ use Rattle.json_reports.specs.Lines.{json_line}
 use Rattle.circuit_files.specs.declared.outcome.Outcome.{Outcome}
 use Rattle.circuit_files.specs.declared.outcome.Failure.{Failure}
 use Rattle.command_objects.specs.Objects.{EndsPrintingObject}
-use Rattle.commands.specs.Comparing.{finding_object, finding_text, outcome_of_finding, printed_finding}
-use Rattle.commands.specs.Printing.{EndsPrinting, EndsWith, Prints, ending}
-use Rattle.commands.specs.declared.comparison.Finding.{Finding}
-use Rattle.commands.specs.declared.comparison.Finding.TheVariants.{Same, Differ, ShapesDiffer}
-use Rattle.commands.proofs.PrintingLaws.{ends_with_line, ends_with_object_line, lines_print, object_prints}
+use Rattle.simulation_commands.specs.Comparing.{finding_object, finding_text, outcome_of_finding, printed_finding}
+use Rattle.command_endings.specs.Printing.{EndsPrinting, EndsWith, Prints, ending}
+use Rattle.simulation_commands.specs.declared.comparison.Finding.{Finding}
+use Rattle.simulation_commands.specs.declared.comparison.Finding.TheVariants.{Same, Differ, ShapesDiffer}
+use Rattle.command_endings.proofs.PrintingLaws.{ends_with_line, ends_with_object_line, lines_print, object_prints}
 
 line_may_be_printed : (f : Finding) (old new : Output) → WritesAll old new (finding_text f) → Prints (outcome_of_finding f) old new
 line_may_be_printed Same old new written = tt

@@ -1,12 +1,12 @@
 //! The command `same`.
 ghost use Rattle.std.specs.Prelude.{◌≡◌, IfOk};
 ghost use Rattle.command_objects.specs.Objects.{EndsPrintingObject};
-ghost use Rattle.commands.specs.Comparing.{IsFinding, IsFindingOf, IsFindingUnder, IsFindingWith, PrintsFinding, finding_object, finding_text, outcome_of_finding, printed_finding};
-ghost use Rattle.commands.specs.Printing.{EndsPrinting, EndsWith, Prints, ending};
+ghost use Rattle.simulation_commands.specs.Comparing.{IsFinding, IsFindingOf, IsFindingUnder, IsFindingWith, PrintsFinding, finding_object, finding_text, outcome_of_finding, printed_finding};
+ghost use Rattle.command_endings.specs.Printing.{EndsPrinting, EndsWith, Prints, ending};
 
-use crate::ended::ended;
 use aig_graph::Circuit;
 use circuit_files::{Failure, Outcome, circuit_at, stimulus_at};
+use command_endings::ended;
 use command_line::Comparison;
 use counted_io::{CountedRead, CountedWrite};
 use lane_sim::{Place, SimError, Stimulus, first_difference};

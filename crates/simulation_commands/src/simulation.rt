@@ -3,12 +3,12 @@ ghost use Rattle.std.specs.Prelude.{◌≡◌, IfOk};
 ghost use Rattle.lane_sim.specs.Traces as traces;
 ghost use Rattle.reports.specs.Traces.{trace_text};
 ghost use Rattle.circuit_files.specs.declared.outcome.Outcome.TheVariants.{Done};
-ghost use Rattle.commands.specs.Printing.{EndsPrinting, Prints, ending};
-ghost use Rattle.commands.specs.Simulating.{IsTraceOf, IsTraceUnder, PrintsTrace};
+ghost use Rattle.command_endings.specs.Printing.{EndsPrinting, Prints, ending};
+ghost use Rattle.simulation_commands.specs.Simulating.{IsTraceOf, IsTraceUnder, PrintsTrace};
 
-use crate::ended::ended;
 use aig_graph::Circuit;
 use circuit_files::{Failure, Outcome, circuit_at, stimulus_at};
+use command_endings::ended;
 use counted_io::{CountedRead, CountedWrite};
 use lane_sim::{Stimulus, Trace, simulate};
 use reports::print_trace;

@@ -15,10 +15,10 @@ use Rattle.stream_paths.specs.declared.source.Source.{Source}
 use Rattle.command_line.specs.declared.task.Comparison.{Comparison}
 use Rattle.circuit_files.specs.declared.outcome.Outcome.{Outcome}
 use Rattle.circuit_files.specs.declared.outcome.Outcome.TheVariants as ends
-use Rattle.commands.specs.Printing.{EndsWith}
-use Rattle.commands.specs.Sources.{IsCircuitAt, IsStimulusAt}
-use Rattle.commands.specs.declared.comparison.Finding.{Finding}
-use Rattle.commands.specs.declared.comparison.Finding.TheVariants.{Same, Differ, ShapesDiffer}
+use Rattle.command_endings.specs.Printing.{EndsWith}
+use Rattle.command_endings.specs.Sources.{IsCircuitAt, IsStimulusAt}
+use Rattle.simulation_commands.specs.declared.comparison.Finding.{Finding}
+use Rattle.simulation_commands.specs.declared.comparison.Finding.TheVariants.{Same, Differ, ShapesDiffer}
 
 -- what is found of two circuits under a stimulus
 abbrev pub IsFinding : Netlist → Netlist → List InputSequence → Finding → Type 0

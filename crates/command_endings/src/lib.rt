@@ -1,0 +1,9 @@
+//! What the commands share: how one ends that has printed, what standard output may have been given by then, what is read of a file
+//! or of standard input, and the names of latches that are held.
+#![tactic(auto)]
+
+mod ended;
+mod names;
+
+pub use ended::ended;
+pub use names::{bytes_of_names, failure_of_names, missing_name};

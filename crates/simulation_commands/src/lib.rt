@@ -1,0 +1,9 @@
+//! The commands that simulate: `sim` prints what the properties of a circuit are, step by step, and `same` where two circuits differ
+//! first.
+#![tactic(auto)]
+
+mod comparison;
+mod simulation;
+
+pub use comparison::print_comparison;
+pub use simulation::print_simulation;
