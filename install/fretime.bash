@@ -11,16 +11,24 @@ _fretime_plain() {
     printf '%s\n' "$word"
 }
 
+# The options of a command, each with its value, as its help lists them.
+_fretime_options() {
+    "$(_fretime_plain "${COMP_WORDS[0]}")" "${COMP_WORDS[1]}" -h 2>&1 < /dev/null | sed -En 's/^ +(-\w, )?(--[a-z-]+( <\w+>)?) .*/\2/p'
+}
+
 # The circuit that is read: the first word after the command that is no option, nor the value of one.
 _fretime_circuit() {
-    local word is_value=
+    local word is_value= with_value
+    with_value=$(_fretime_options | sed -n 's/ <.*//p')
     for word in "${COMP_WORDS[@]:2:COMP_CWORD-2}"; do
-        case $is_value$word in
-            --workers | --frames | --keep | --keep-from | --cert | --map | --around | --depth) is_value=yes ;;
-            --* | yes=) ;;
-            yes*) is_value= ;;
-            *) _fretime_plain "$word"; return ;;
-        esac
+        if [ "$is_value" ]; then
+            is_value=
+        elif [[ $'\n'$with_value$'\n' == *$'\n'"$word"$'\n'* ]]; then
+            is_value=yes
+        elif [[ $word != --* ]]; then
+            _fretime_plain "$word"
+            return
+        fi
     done
 }
 
@@ -42,15 +50,7 @@ _fretime() {
         return
     fi
     case ${COMP_WORDS[1]} in
-        retime) options="--ascii --binary --workers --frames --near --merge --keep --keep-from --cert --map --progress --quiet --json --help" ;;
-        batch) options="--ascii --binary --workers --frames --near --merge --json --help" ;;
-        convert) options="--ascii --binary --help" ;;
-        verify) options="--keep --keep-from --merge --json --help" ;;
-        dot) options="--frame --merge --keep --keep-from --around --depth --help" ;;
-        stat) options="--merge --json --help" ;;
-        same) options="--json --help" ;;
-        sim) options="--help" ;;
-        witness) options="--merge --help" ;;
+        retime | batch | convert | verify | dot | stat | same | sim | witness) options=$(_fretime_options) ;;
         explain)
             if [ "$COMP_CWORD" = 2 ]; then
                 mapfile -t COMPREPLY < <(compgen -W "--help BadHeader TooLarge MaxIndex BadLine BadLiteral DefinedTwice Undefined Cycle \
@@ -76,10 +76,10 @@ _fretime() {
             mapfile -t COMPREPLY < <(_fretime_names ilobcjf "$word")
             return
             ;;
-        --workers | --frames | --depth) return ;;
     esac
+    if [[ $'\n'$options$'\n' == *$'\n'"$before <n>"$'\n'* ]]; then return; fi
     case $word in
-        -*) mapfile -t COMPREPLY < <(compgen -W "$options" -- "$word") ;;
+        -*) mapfile -t COMPREPLY < <(compgen -W "$(sed 's/ <.*//' <<< "$options")" -- "$word") ;;
         *)
             compopt -o filenames 2> /dev/null
             mapfile -t COMPREPLY < <(compgen -f -- "$word")
