@@ -2,8 +2,8 @@
 //! or of standard input, and the names of latches that are held.
 #![tactic(auto)]
 
-mod ended;
+mod endings;
 mod names;
 
-pub use ended::ended;
+pub use endings::ended;
 pub use names::{bytes_of_names, failure_of_names, missing_name};
