@@ -364,8 +364,17 @@ def tied_off(places, bits):
     return c
 
 
+def counter(bits):
+    """A counter that an input steps: no two of its bits agree, which shows bit after bit."""
+    c = Builder()
+    word, step = c.register(bits), c.input()
+    c.follow(word, c.add(word, [step])[:bits])
+    c.outputs = [c.all_of(word)]
+    return c
+
+
 FAMILIES = {it.__name__: it for it in (products, multiplier, divider, cordic, fir, two_stages, adder_tree, delay_lines, rounds,
-                                       gates, lockstep, voted, serial_ports, tied_off)}
+                                       gates, lockstep, voted, serial_ports, tied_off, counter)}
 
 
 def main(words):

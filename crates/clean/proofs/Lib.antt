@@ -12,6 +12,3 @@ pub mod CleaningLaws
 pub mod MappingLaws
 pub mod PlainLaws
 pub mod SettledLaws
-pub mod RoundLaws
-pub mod CoarsestLaws
-pub mod RoundStepLaws

@@ -5,4 +5,3 @@ pub mod Sweep
 pub mod Passes
 pub mod Settled
 pub mod Tracing
-pub mod Rounds

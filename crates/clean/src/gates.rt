@@ -12,7 +12,7 @@ use aig_graph::{Aig, Gate, Lit, NoMemory};
 use std::alloc::Global;
 
 /// The literal that a gate comes down to, where the kept gates are these.
-fn known_stand(kept: &KeptGates, gate: &Gate) -> Option<Lit>
+pub fn known_stand(kept: &KeptGates, gate: &Gate) -> Option<Lit>
     ensures { result ≡ known_stand (pairs kept.now) gate.now }
 {
     if gate.rhs1 == Lit::FALSE {
@@ -69,11 +69,7 @@ fn merge_gate(kept: &mut KeptGates, stands: &mut Substitution, gate: Gate) -> Re
 }
 
 /// What stands for each variable, where `stands` has the variables before the gates.
-pub(crate) fn merge_gates(
-    alloc: Global,
-    aig: &Aig,
-    stands: &mut Substitution,
-) -> Result<(), NoMemory>
+pub fn merge_gates(alloc: Global, aig: &Aig, stands: &mut Substitution) -> Result<(), NoMemory>
     requires { length stands.old ≡ first_gate aig.now }
     ensures { OnOk result (stands.new ≡
         (merge_gates aig.now.gates (record { stands = stands.old; kept = [] })).stands) }

@@ -7,19 +7,15 @@ use variable_tables::{NoMemory, marks_of};
 
 /// The positions of held latches, with a mark for each latch that is held.
 #[derive(Drop)]
-pub(crate) struct Held<'a> {
-    pub(crate) positions: &'a [u32],
-    pub(crate) marks: Vec<bool>,
+pub struct Held<'a> {
+    pub positions: &'a [u32],
+    pub marks: Vec<bool>,
     ghost marked: { marks.items ≡ table 0 (length marks.items) (has positions.now) },
 }
 
 impl<'a> Held<'a> {
     /// The held latches at these positions, among so many latches.
-    pub(crate) fn new(
-        alloc: Global,
-        positions: &'a [u32],
-        latches: usize,
-    ) -> Result<Held<'a>, NoMemory>
+    pub fn new(alloc: Global, positions: &'a [u32], latches: usize) -> Result<Held<'a>, NoMemory>
         ensures positions { IfOk result (λ held. held.positions.now ≡ positions.now) }
         ensures long { IfOk result (λ held. length held.marks.items ≡ latches) }
     {
@@ -28,7 +24,7 @@ impl<'a> Held<'a> {
     }
 
     /// Whether the latch at a position is held.
-    pub(crate) fn has(&self, position: usize) -> bool
+    pub fn has(&self, position: usize) -> bool
         requires { position < length self.now.marks.items }
         ensures { result ≡ has self.now.positions.now position }
     {

@@ -36,7 +36,7 @@ pub(crate) struct GateList {
 
 /// The gates that are kept so far, each with the literal of its variable.
 #[derive(Drop)]
-pub(crate) struct KeptGates {
+pub struct KeptGates {
     first: u32,
     gates: Vec<KeptGate>,
     lists: Vec<GateList>,
@@ -75,7 +75,7 @@ fn insert_new(rest: &mut IndexMap<Gate, Lit>, gate: Gate, lit: Lit) -> Result<()
 
 impl KeptGates {
     /// No gates yet of such a circuit, with room for all that it has.
-    pub(crate) fn of(alloc: Global, aig: &Aig) -> Result<KeptGates, NoMemory>
+    pub fn of(alloc: Global, aig: &Aig) -> Result<KeptGates, NoMemory>
         ensures { IfOk result (λ kept. pairs kept ≡ []) }
     {
         let variables = aig.latches_and_gates();
@@ -118,7 +118,7 @@ impl KeptGates {
     }
 
     /// The literal of the kept gate of these literals.
-    pub(crate) fn find(&self, gate: Gate) -> Option<Lit>
+    pub fn find(&self, gate: Gate) -> Option<Lit>
         ensures { result ≡ lookup (is_gate gate) (pairs self.now) }
     {
         match self.listed(gate) {
@@ -172,7 +172,7 @@ impl KeptGates {
     }
 
     /// Adds a gate of other literals than those of each kept one.
-    pub(crate) fn add(&mut self, gate: Gate, lit: Lit) -> Result<(), NoMemory>
+    pub fn add(&mut self, gate: Gate, lit: Lit) -> Result<(), NoMemory>
         requires { lookup (is_gate gate) (pairs self.old) ≡ None }
         ensures { OnOk result (pairs self.new ≡ pairs self.old ++ (gate, lit) ∷ []) }
     {

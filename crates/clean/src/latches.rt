@@ -16,7 +16,7 @@ use aig_graph::{Aig, Latch, Lit, NoMemory, Reset};
 use std::alloc::Global;
 
 /// The constant of a known reset.
-pub(crate) fn constant_of(reset: Reset) -> Lit
+pub fn constant_of(reset: Reset) -> Lit
     ensures { result ≡ constant_of reset }
 {
     match reset {
@@ -37,7 +37,7 @@ fn is_stuck(latch: Latch, own: Lit, is_held: bool) -> bool
 }
 
 /// The literal of the latch at a place.
-pub(crate) fn own_literal(aig: &Aig, place: usize) -> Lit
+pub fn own_literal(aig: &Aig, place: usize) -> Lit
     requires { place < length aig.now.latches }
     ensures { result ≡ 2 * (first_latch aig.now + place) }
 {

@@ -1,5 +1,5 @@
-//! Structural cleaning of circuits: stuck and twin latches, gates that say nothing new, and what no property rests on. And latches that
-//! always agree, merged.
+//! Structural cleaning of circuits: stuck and twin latches, gates that say nothing new, and what no property rests on. What a pass is made
+//! of is lent to whatever merges latches by another rule.
 #![tactic(auto)]
 
 mod cleaning;
@@ -9,19 +9,21 @@ mod held;
 mod kept;
 mod latches;
 mod merged;
-mod merging;
 mod named;
 mod names;
 mod pass;
 mod reached;
-mod rounds;
 mod stands;
 mod substitution;
-mod told;
 mod tracing;
 mod trim;
 
 pub use cleaning::{Cleaned, clean, composed};
-pub use merging::{MergedCircuit, merge_latches};
+pub use gates::{known_stand, merge_gates};
+pub use held::Held;
+pub use kept::KeptGates;
+pub use latches::{constant_of, own_literal};
+pub use merged::replaced_circuit;
 pub use named::clean_by_names;
+pub use substitution::Substitution;
 pub use tracing::{TracedPass, traced_pass};

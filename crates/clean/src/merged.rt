@@ -2,9 +2,11 @@
 //! are kept by this half alone.
 ghost use Rattle.std.specs.Prelude.{◌≡◌, ◌<◌, IfOk, length, map};
 ghost use Rattle.aig_graph.specs.Graph.{IsGraph, variable, variables_end};
-ghost use Rattle.cleaned_circuits.specs.Merged.{replaced_latch, replaced_gate, replaced_graph, merged_of};
+ghost use Rattle.aig_graph.specs.Circuits.{IsNetlist};
+ghost use Rattle.cleaned_circuits.specs.Merged.{replaced_latch, replaced_gate, replaced_graph, replaced_circuit, merged_of};
 
 use crate::held::Held;
+use crate::names::copied_symbols;
 use crate::stands::stands_of;
 use crate::substitution::Substitution;
 use aig_graph::{Aig, Circuit, Gate, Latch, NoMemory, Props};
@@ -41,7 +43,7 @@ fn replaced_gates(alloc: Global, stands: &Substitution, aig: &Aig) -> Result<Vec
 }
 
 /// The graph, reading what stands for what it reads.
-pub(crate) fn replaced_aig(alloc: Global, aig: &Aig, stands: &Substitution) -> Result<Aig, NoMemory>
+fn replaced_aig(alloc: Global, aig: &Aig, stands: &Substitution) -> Result<Aig, NoMemory>
     requires long { length stands.now ≡ variables_end aig.now }
     requires graph { IsGraph (replaced_graph stands.now aig.now) }
     ensures { IfOk result (λ after. after ≡ replaced_graph stands.now aig.now) }
@@ -49,6 +51,27 @@ pub(crate) fn replaced_aig(alloc: Global, aig: &Aig, stands: &Substitution) -> R
     let latches = replaced_latches(alloc, stands, aig)?;
     let gates = replaced_gates(alloc, stands, aig)?;
     Ok(Aig::from_parts(aig.inputs(), latches, gates))
+}
+
+/// The circuit, reading what stands for what it reads. Nothing goes, and names stay.
+///
+/// # Errors
+///
+/// `NoMemory` where memory is refused.
+pub fn replaced_circuit(
+    alloc: Global,
+    circuit: &Circuit,
+    stands: &Substitution,
+) -> Result<Circuit, NoMemory>
+    requires long { length stands.now ≡ variables_end circuit.now.aig }
+    requires graph { IsGraph (replaced_circuit stands.now circuit.now).aig }
+    requires netlist { IsNetlist (replaced_circuit stands.now circuit.now) }
+    ensures { IfOk result (λ after. after ≡ replaced_circuit stands.now circuit.now) }
+{
+    let aig = replaced_aig(alloc, circuit.aig(), stands)?;
+    let props = circuit.props().mapped(alloc, stands)?;
+    let symbols = copied_symbols(alloc, circuit.symbols())?;
+    Ok(Circuit::new(aig, props, symbols))
 }
 
 /// The circuit, reading what stands for what it reads.

@@ -12,7 +12,7 @@ use std::marker::Model;
 /// A literal for each variable. The variables before the first latch, the constant and the inputs, stand for themselves
 /// and take no room: a circuit may have 2^28 - 1 inputs and nothing else.
 #[derive(Drop)]
-pub(crate) struct Substitution {
+pub struct Substitution {
     first: u32,
     literals: Vec<Lit>,
 }
@@ -30,7 +30,7 @@ impl Model for Substitution {
 
 impl Substitution {
     /// The variables before `first`, with room for `room` more.
-    pub(crate) fn new(alloc: Global, first: u32, room: usize) -> Result<Substitution, NoMemory>
+    pub fn new(alloc: Global, first: u32, room: usize) -> Result<Substitution, NoMemory>
         requires { first ≤ 2 ^ 28 }
         ensures { IfOk result (λ s. s ≡ own_literals first) }
     {
@@ -47,7 +47,7 @@ impl Substitution {
     }
 
     /// A literal for the next variable.
-    pub(crate) fn push(&mut self, lit: Lit) -> Result<(), NoMemory>
+    pub fn push(&mut self, lit: Lit) -> Result<(), NoMemory>
         requires { length self.old < 2 ^ 28 }
         ensures { OnOk result (self.new ≡ self.old ++ lit ∷ []) }
     {
@@ -56,7 +56,7 @@ impl Substitution {
     }
 
     /// What stands for a literal.
-    pub(crate) fn literal(&self, lit: Lit) -> Lit
+    pub fn literal(&self, lit: Lit) -> Lit
         requires { variable lit < length self.now }
         ensures { result ≡ replaced self.now lit }
     {

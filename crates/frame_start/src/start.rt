@@ -10,7 +10,8 @@ ghost use Rattle.retimed_circuits.specs.Merging.{MergesIn};
 ghost use Rattle.retimed_circuits.specs.Names.{held_latches};
 
 use aig_graph::{Circuit, NoMemory, Sequence, keep_by_names};
-use clean::{Cleaned, MergedCircuit, clean_by_names, merge_latches};
+use clean::{Cleaned, clean_by_names};
+use latch_merging::{MergedCircuit, merge_latches};
 use merged_latches::MergeCounts;
 use std::alloc::Global;
 

@@ -1,7 +1,0 @@
-use Rattle.std.proofs.Common.{◌≡◌, slice_get}
-use Rattle.variable_tables.specs.Tables.{table}
-use Rattle.clean.specs.Rounds.{first_read}
-use Rattle.clean.proofs.rounds.first_round.Given as goal
-
-abbrev pub invariant-loop-place : goal.invariant-loop-place
-invariant-loop-place l = l.reads.items ≡ table 0 l.place (λ j. first_read l.aig l.held.positions.now j (slice_get l.aig.latches j))

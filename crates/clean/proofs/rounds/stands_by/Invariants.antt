@@ -1,7 +1,0 @@
-use Rattle.std.proofs.Common.{◌≡◌, take}
-use Rattle.aig_graph.specs.Graph.{first_latch}
-use Rattle.clean.specs.Substitutions.{from_first}
-use Rattle.clean.proofs.rounds.stands_by.Given as goal
-
-abbrev pub invariant-loop-lit : goal.invariant-loop-lit
-invariant-loop-lit l = l.stands ≡ from_first (first_latch l.aig) (take l.lit-index l.reads)

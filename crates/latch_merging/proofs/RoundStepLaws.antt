@@ -1,0 +1,74 @@
+-- Steps of the loops over latches.
+use Rattle.std.proofs.Common.{zero-add, ℕ, ◌+◌, ◌<◌, ◌≤◌, ◌≡◌, List, [], ◌∷◌, ◌++◌, length, take, Bool, not, nat_eq, Some, slice_get, get_or, refl, arith, ap, sym, ◌∙◌, add-one}
+use Rattle.std.proofs.Math.Seq.{take-suc}
+use Rattle.std.proofs.lemmas.List.{get_or_default}
+use Rattle.aig_graph.specs.declared.graph.Latch.{Latch}
+use Rattle.aig_graph.specs.Graph.{Graph, first_latch, variables_end}
+use Rattle.variable_tables.specs.Tables.{table}
+use Rattle.cleaned_circuits.specs.Merged.{merging_from, stands_after}
+use Rattle.cleaned_circuits.proofs.StandLaws.{length-merge_gates}
+use Rattle.merged_latches.specs.Readings.{from_reset, leaves, own_literal, read, stands_by, told}
+use Rattle.merged_latches.proofs.ReadingLaws.{length-leaves}
+use Rattle.latch_merging.specs.declared.told.Told.{Told}
+use Rattle.merged_latches.specs.Counts.{is_merged}
+use Rattle.latch_merging.specs.Rounds.{first_read, first_round, next_read, round_by, told_of}
+use Rattle.clean.specs.Substitutions.{from_first, own_literals}
+use Rattle.variable_tables.proofs.TableLaws.{entry, table-end}
+
+-- for each variable there stands a literal
+pub stands_by-long : (g : Graph) (reads : List ℕ) → length reads ≡ length g.latches → length (stands_by g reads) ≡ variables_end g
+unfolding stands_after
+stands_by-long g reads long = omega (arith, length-merge_gates g.gates (merging_from (leaves g reads)), length-leaves g [] reads, long)
+
+-- what is known before the gates, as the substitution has it
+pub leaves-is : (g : Graph) (reads : List ℕ) → from_first (first_latch g) reads ≡ leaves g reads
+unfolding from_first own_literals leaves
+leaves-is g reads = refl
+
+-- one more element at the end
+pub take-more : (xs : List ℕ) (k x : ℕ) → k < length xs → x ≡ get_or xs k x → take (k + 1) xs ≡ take k xs ++ x ∷ []
+take-more xs k x h e = ap (λ (n : ℕ). take n xs) (add-one k) ∙ take-suc xs k x h ∙ ap (λ (z : ℕ). take k xs ++ z ∷ []) (sym e)
+
+-- one more entry of what the first round begins with
+pub first-more : (g : Graph) (held : List ℕ) (k : ℕ) (latch : Latch) (old new : List ℕ) (lit : ℕ) → slice_get g.latches k ≡ Some latch
+    → old ≡ table 0 k (λ j. first_read g held j (slice_get g.latches j)) → lit ≡ first_read g held k (Some latch) → new ≡ old ++ lit ∷ []
+    → new ≡ table 0 (k + 1) (λ j. first_read g held j (slice_get g.latches j))
+first-more g held k latch old new lit there before is pushed =
+    entry 0 k (λ j. first_read g held j (slice_get g.latches j)) old new lit before pushed
+    (is ∙ ap (first_read g held k) (sym there) ∙ ap (λ (j : ℕ). first_read g held j (slice_get g.latches j)) (sym (zero-add k)))
+
+-- at the end of the loop
+pub first-end : (g : Graph) (held : List ℕ) (k : ℕ) (xs : List ℕ) → k ≤ length g.latches → length g.latches ≤ k
+    → xs ≡ table 0 k (λ j. first_read g held j (slice_get g.latches j)) → xs ≡ first_round g held
+unfolding first_round
+first-end g held k xs h l filled = table-end 0 k (length g.latches) (λ j. first_read g held j (slice_get g.latches j)) xs h l filled
+
+-- the same after a round
+pub next-more : (g : Graph) (held : List ℕ) (keys : ℕ → Latch → Told) (k : ℕ) (old new : List ℕ) (lit : ℕ) → old ≡ table 0 k (λ j. next_read g held keys j (slice_get g.latches j))
+    → lit ≡ next_read g held keys k (slice_get g.latches k) → new ≡ old ++ lit ∷ [] → new ≡ table 0 (k + 1) (λ j. next_read g held keys j (slice_get g.latches j))
+next-more g held keys k old new lit before is pushed =
+    entry 0 k (λ j. next_read g held keys j (slice_get g.latches j)) old new lit before pushed
+    (is ∙ ap (λ (j : ℕ). next_read g held keys j (slice_get g.latches j)) (sym (zero-add k)))
+
+-- at the end of the loop
+pub next-end : (g : Graph) (held : List ℕ) (keys : ℕ → Latch → Told) (k : ℕ) (xs : List ℕ) → k ≤ length g.latches → length g.latches ≤ k
+    → xs ≡ table 0 k (λ j. next_read g held keys j (slice_get g.latches j)) → xs ≡ round_by g held keys
+unfolding round_by
+next-end g held keys k xs h l filled = table-end 0 k (length g.latches) (λ j. next_read g held keys j (slice_get g.latches j)) xs h l filled
+
+-- what a latch is told, by its parts
+pub told-is : (g : Graph) (reads stands : List ℕ) (k : ℕ) (latch : Latch) (lit : ℕ) (key : Told) → stands ≡ stands_by g reads → lit ≡ read reads k
+    → key.class ≡ from_reset latch.reset lit → key.literal ≡ told stands latch → key ≡ told_of g reads k latch
+told-is g reads stands k latch lit key by at class literal =
+    let one : ℕ → Told = λ n. record { class = n; literal = key.literal } in
+    let two : ℕ → Told = λ n. record { class = from_reset latch.reset (read reads k); literal = n } in
+    ap one (class ∙ ap (from_reset latch.reset) at) ∙ ap two (literal ∙ ap (λ (xs : List ℕ). told xs latch) by)
+
+-- what the loop reads
+pub item-read : (reads : List ℕ) (k lit : ℕ) → k < length reads → lit ≡ get_or reads k lit → lit ≡ read reads k
+item-read reads k lit h e = e ∙ get_or_default reads k lit 0 h
+
+-- whether a latch reads as another
+pub merged-is : (g : Graph) (reads : List ℕ) (k lit own : ℕ) (ne : Bool) → k < length reads → lit ≡ get_or reads k lit → own ≡ own_literal g k → ne ≡ not (nat_eq lit own) → ne ≡ is_merged g reads k
+merged-is g reads k lit own ne h e is told_ne =
+    told_ne ∙ ap (λ (n : ℕ). not (nat_eq n own)) (item-read reads k lit h e) ∙ ap (λ (n : ℕ). not (nat_eq (read reads k) n)) is

@@ -1,0 +1,54 @@
+use Rattle.std.proofs.Common.{◌≡◌, ◌∙◌, ◌<◌, ap, sym, arith, length, List, ℕ}
+use Rattle.aig_graph.specs.declared.graph.Latch.{Latch}
+use Rattle.aig_graph.specs.Graph.{Graph, variable, variables_end}
+use Rattle.variable_tables.proofs.TableLaws.{table-none}
+use Rattle.latch_merging.specs.declared.told.Told.{Told}
+use Rattle.latch_merging.specs.Rounds.{entries_told, read_told, told_of}
+use Rattle.clean.proofs.MappingLaws.{latch-there}
+use Rattle.latch_merging.proofs.RoundLaws.{firsts-start, firsts-more, read-more}
+use Rattle.latch_merging.proofs.RoundStepLaws.{stands_by-long, next-more, next-end, told-is, item-read}
+use Rattle.latch_merging.proofs.rounds.next_round.Goals as goal
+
+pub loop-place-init : goal.loop-place-init
+loop-place-init c = record {
+  next = c.in_ok-next.ensures.items ∙ sym (table-none 0 _);
+  firsts = rw c.in_ok-firsts.ensures (firsts-start c.args.aig.now c.args.held.now.positions.now (told_of c.args.aig.now c.args.reads.now));
+}
+
+pub told_of-told-requires : goal.told_of-told-requires
+told_of-told-requires c =
+    let g : Graph = c.args.aig.now in
+    let there = latch-there g c.latches-latch-items.result.now c.loop-place.place c.latch-item.result c.latches-latch-items.ensures.value c.loop-place-test.true c.latch-item.is in
+    let within : variable c.latch-item.result.next < variables_end g = c.latches-latch-items.ensures.graph.latches c.loop-place.place c.latch-item.result there in
+    omega (arith, within, ap (λ (xs : List ℕ). length xs) c.in_ok-stands.ensures, stands_by-long g c.args.reads.now c.requires.reads)
+
+pub next_read-requires-clause-there : goal.next_read-requires-clause-there
+next_read-requires-clause-there c =
+    latch-there c.args.aig.now c.latches-latch-items.result.now c.loop-place.place c.latch-item.result c.latches-latch-items.ensures.value c.loop-place-test.true c.latch-item.is
+
+pub loop-place-preserved : goal.loop-place-preserved
+loop-place-preserved c =
+    let g : Graph = c.args.aig.now in
+    let held : List ℕ = c.args.held.now.positions.now in
+    let reads : List ℕ = c.args.reads.now in
+    let k : ℕ = c.loop-place.place in
+    let latch : Latch = c.latch-item.result in
+    let there = latch-there g c.latches-latch-items.result.now k latch c.latches-latch-items.ensures.value c.loop-place-test.true c.latch-item.is in
+    let within : k < length reads =
+    omega (arith, c.loop-place-test.true, c.requires.reads, ap (λ (xs : List Latch). length xs) c.latches-latch-items.ensures.value) in
+    let key : c.told_of-told.result ≡ told_of g reads k latch =
+    told-is g reads c.in_ok-stands.stands k latch c.index-reads-place.result c.told_of-told.result c.in_ok-stands.ensures
+    (item-read reads k c.index-reads-place.result within c.index-reads-place.is) c.told_of-told.ensures.class c.told_of-told.ensures.literal in
+    record {
+      next = next-more g held (told_of g reads) k c.loop-place.next.items c.push.new.self.items c.in_ok-lit.lit c.loop-place.invariant.next
+          (c.in_ok-lit.ensures.literal ∙ ap (λ (x : Told). read_told g held c.loop-place.firsts x k latch) key
+          ∙ read-more g held (told_of g reads) k latch there c.loop-place.firsts c.loop-place.invariant.firsts) c.in_ok-push.ensures.items;
+      firsts = firsts-more g held (told_of g reads) k latch there c.loop-place.firsts c.loop-place.invariant.firsts c.next_read.new.firsts
+          (c.in_ok-lit.ensures.entries ∙ ap (λ (x : Told). entries_told g held c.loop-place.firsts x k latch) key);
+    }
+
+pub returns : goal.returns
+returns c =
+    let long = ap (λ (xs : List Latch). length xs) c.latches-latch-items.ensures.value in
+    next-end c.args.aig.now c.args.held.now.positions.now (told_of c.args.aig.now c.args.reads.now) c.loop-place.place c.loop-place.next.items (omega (arith, c.loop-place.auto.place-end, long))
+    (omega (arith, c.loop-place-test.false, long)) c.loop-place.invariant.next

@@ -1,0 +1,174 @@
+//! One round of merging latches: each class of a reading is parted by what its latches are told, where all latches read so. Whatever is
+//! kept and finer than the reading stays finer than what the round makes of it.
+ghost use Rattle.std.specs.Prelude.{◌≡◌, ◌<◌, slice_get, length, Some, OnOk, IfOk};
+ghost use Rattle.std.specs.Map.{lookup};
+ghost use Rattle.aig_graph.specs.Graph.{variable};
+ghost use Rattle.cleaned_circuits.specs.Merged.{stand_or_own};
+ghost use Rattle.merged_latches.specs.Readings.{from_reset, may_merge, stands_by, told};
+ghost use Rattle.merged_latches.specs.Counts.{constant_latches, counts_of, is_constant, merged_latches};
+ghost use Rattle.latch_merging.specs.Rounds.{entries_told, first_read, first_round, is_told, next_round, read_told, told_after};
+
+use crate::told::{FirstTold, Told};
+use aig_graph::{Aig, Latch, Lit, NoMemory, Reset};
+use clean::{Held, Substitution, constant_of, merge_gates, own_literal};
+use merged_latches::MergeCounts;
+use std::alloc::Global;
+
+/// Whether the latch at a place may be merged.
+fn may_merge(held: &Held<'_>, place: usize, latch: &Latch) -> bool
+    requires { place < length held.now.marks.items }
+    ensures { result ≡ may_merge held.now.positions.now place latch.now }
+{
+    let is_held = held.has(place);
+    latch.reset != Reset::Free && !is_held
+}
+
+/// What stands for each variable, where latches read so.
+pub(crate) fn stands_by(alloc: Global, aig: &Aig, reads: &[Lit]) -> Result<Substitution, NoMemory>
+    requires { length reads.now ≡ length aig.now.latches }
+    ensures { IfOk result (λ stands. stands ≡ stands_by aig.now reads.now) }
+{
+    let mut stands = Substitution::new(alloc, aig.first_latch(), aig.latches_and_gates())?;
+    for lit in reads {
+        stands.push(*lit)?;
+    }
+    merge_gates(alloc, aig, &mut stands)?;
+    Ok(stands)
+}
+
+/// What a latch reads as before the first round.
+fn first_read(aig: &Aig, held: &Held<'_>, place: usize, latch: &Latch) -> Lit
+    requires there { slice_get aig.now.latches place ≡ Some latch.now }
+    requires held { length held.now.marks.items ≡ length aig.now.latches }
+    ensures { result ≡ first_read aig.now held.now.positions.now place (Some latch.now) }
+{
+    if may_merge(held, place, latch) {
+        constant_of(latch.reset)
+    } else {
+        own_literal(aig, place)
+    }
+}
+
+/// The reading before the first round: all that may be merged are of the constant's class.
+pub(crate) fn first_round(alloc: Global, aig: &Aig, held: &Held<'_>) -> Result<Vec<Lit>, NoMemory>
+    requires { length held.now.marks.items ≡ length aig.now.latches }
+    ensures { IfOk result (λ reads. reads.items ≡ first_round aig.now held.now.positions.now) }
+{
+    let mut reads = Vec::with_capacity(alloc, aig.latches().len())?;
+    for (place, latch) in aig.latches().iter().enumerate() {
+        reads.push(first_read(aig, held, place, latch))?;
+    }
+    Ok(reads)
+}
+
+/// The class of a latch that reads as a literal, and what it is told.
+fn told_of(stands: &Substitution, reads: Lit, latch: &Latch) -> Told
+    requires { variable latch.now.next < length stands.now }
+    ensures class { result.class ≡ from_reset latch.now.reset reads }
+    ensures literal { result.literal ≡ told stands.now latch.now }
+{
+    let start = constant_of(latch.reset);
+    Told {
+        class: reads.signed_as(start),
+        literal: stands.literal(latch.next).signed_as(start),
+    }
+}
+
+/// What a latch that may be merged reads as after a round.
+fn merged_read(firsts: &mut FirstTold, told: Told, own: Lit, reset: Reset) -> Result<Lit, NoMemory>
+    ensures literal { IfOk result (λ lit. lit ≡ from_reset reset
+        (stand_or_own (from_reset reset own) (lookup (is_told told) firsts.old))) }
+    ensures entries { OnOk result (firsts.new ≡ told_after firsts.old (from_reset reset own) told
+        (lookup (is_told told) firsts.old)) }
+{
+    let start = constant_of(reset);
+    let first = firsts.first(told, own.signed_as(start))?;
+    Ok(first.signed_as(start))
+}
+
+/// What the latch at a place reads as after a round, where it is told so and the first ones before it are these.
+fn next_read(
+    firsts: &mut FirstTold,
+    aig: &Aig,
+    held: &Held<'_>,
+    told: Told,
+    place: usize,
+    latch: &Latch,
+) -> Result<Lit, NoMemory>
+    requires there { slice_get aig.now.latches place ≡ Some latch.now }
+    requires held { length held.now.marks.items ≡ length aig.now.latches }
+    ensures literal { IfOk result (λ lit. lit ≡
+        read_told aig.now held.now.positions.now firsts.old told place latch.now) }
+    ensures entries { OnOk result (firsts.new ≡
+        entries_told aig.now held.now.positions.now firsts.old told place latch.now) }
+{
+    let own = own_literal(aig, place);
+    if may_merge(held, place, latch) {
+        merged_read(firsts, told, own, latch.reset)
+    } else {
+        Ok(own)
+    }
+}
+
+/// The reading after a round.
+pub(crate) fn next_round(
+    alloc: Global,
+    aig: &Aig,
+    held: &Held<'_>,
+    reads: &[Lit],
+) -> Result<Vec<Lit>, NoMemory>
+    requires held { length held.now.marks.items ≡ length aig.now.latches }
+    requires reads { length reads.now ≡ length aig.now.latches }
+    ensures { IfOk result (λ next. next.items
+        ≡ next_round aig.now held.now.positions.now reads.now) }
+{
+    let stands = stands_by(alloc, aig, reads)?;
+    let mut firsts = FirstTold::new(alloc)?;
+    let mut next = Vec::with_capacity(alloc, reads.len())?;
+    for (place, latch) in aig.latches().iter().enumerate() {
+        let told = told_of(&stands, reads[place], latch);
+        let lit = next_read(&mut firsts, aig, held, told, place, latch)?;
+        next.push(lit)?;
+    }
+    Ok(next)
+}
+
+/// How many latches read as another.
+pub(crate) fn merged_latches(aig: &Aig, reads: &[Lit]) -> usize
+    requires { length reads.now ≡ length aig.now.latches }
+    ensures { result ≡ merged_latches aig.now reads.now }
+{
+    let mut merged = 0;
+    for (place, lit) in reads.iter().enumerate() {
+        if *lit != own_literal(aig, place) {
+            merged += 1;
+        }
+    }
+    merged
+}
+
+fn is_constant(lit: Lit) -> bool
+    ensures { result ≡ is_constant lit }
+{
+    lit.var() == 0
+}
+
+/// How many latches read as a constant.
+fn constant_latches(reads: &[Lit]) -> usize
+    ensures { result ≡ constant_latches reads.now }
+{
+    reads.iter().filter(|lit| is_constant(**lit)).count()
+}
+
+/// How many latches read as another, and how many of these as a constant.
+pub(crate) fn counts_of(aig: &Aig, reads: &[Lit]) -> MergeCounts
+    requires { length reads.now ≡ length aig.now.latches }
+    ensures { result ≡ counts_of aig.now reads.now }
+{
+    // That they are counted by 32 bits is what the graph's readers ensure.
+    aig.known();
+    MergeCounts {
+        merged: merged_latches(aig, reads) as u32,
+        constant: constant_latches(reads) as u32,
+    }
+}
