@@ -1,4 +1,6 @@
 //! What a watcher is told of a run, in order.
+ghost use Rattle.std.specs.Prelude.{⊤};
+
 use crate::circuits::{CHAINS, TWO_LATCHES};
 use aag_text::Counted;
 use frames::{Choice, FrameWatcher, Options, Stage, retime_bytes_watched};
@@ -36,6 +38,8 @@ struct Stages {
 }
 
 impl FrameWatcher for Stages {
+    ghost was_told = { λ _ _. ⊤ };
+
     fn enter(&mut self, stage: Stage<'_>) {
         let _ = self.told.push(Told::of(stage));
     }

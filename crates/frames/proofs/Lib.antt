@@ -3,3 +3,4 @@ pub mod FrameLaws
 pub mod AnswerLaws
 pub mod StopLaws
 pub mod MergedLaws
+pub mod StageLaws

@@ -6,4 +6,5 @@ pub mod Found
 pub mod Certified
 pub mod Underway
 pub mod Merging
+pub mod Stages
 pub mod Answering

@@ -1,11 +1,12 @@
 //! From a reader's bytes to a writer's.
-ghost use Rattle.std.specs.Prelude.{◌≡◌, ℕ, [], IfOk, OnOk, IfErr, IsErrOf, unwrap_or};
+ghost use Rattle.std.specs.Prelude.{◌≡◌, ℕ, [], ◌∷◌, ◌++◌, IfOk, OnOk, IfErr, IsErrOf, unwrap_or};
 ghost use Rattle.aig_binary.specs.Ending.{IsReadError, ReadsToEnd, Spells};
 ghost use Rattle.counted_io.specs.Output.{Writes};
 ghost use Rattle.aig_graph.specs.Circuits.{IsNetlist};
 ghost use Rattle.aig_graph.specs.Graph.{IsGraph};
 ghost use Rattle.aig_binary.specs.Spellings.{text_in};
 ghost use Rattle.frames.specs.Answering.{AfterReading, AreOfCircuit, BeforeWriting, IsAnswered, IsCutOff, IsMissingIn, IsStop, IsWritten, RetimesBytes};
+ghost use Rattle.frames.specs.Stages.{Tells, Writing, stages_of};
 ghost use Rattle.frames.specs.declared.errors.RetimeError.TheVariants.{NoSuchName};
 
 use crate::errors::BytesError;
@@ -57,6 +58,8 @@ fn retime_spelt<W: CountedWrite, G: PhaseGate, V: FrameWatcher>(
         (W.output writer.new)) }
     ensures err { IfErr result (IsStop options.now spelt (W.output writer.old)
         (W.output writer.new)) }
+    ensures told { IfOk result (λ r. Tells V.was_told watcher.old watcher.new
+        (stages_of options.now.max_frames r ++ Writing ∷ [])) }
 {
     let SpeltCircuit { circuit, spelling } = spelt;
     let retimed = retime_over(rt, alloc, circuit, options, crew, watcher)?;
@@ -120,8 +123,8 @@ fn read_by<R: CountedRead, C: CircuitReader + Drop>(
     read_circuit(reader, &mut circuits)
 }
 
-/// [`retime_bytes`], seen by a watcher. Reading goes before its first stage. What `RetimesBytes` says is what the clauses of
-/// `retime_bytes` say.
+/// [`retime_bytes`], seen by a watcher, which is told the stages that [`retime_watched`](crate::retime_watched) tells, and that the
+/// circuit is written. Reading goes before its first stage. What `RetimesBytes` says is what the clauses of `retime_bytes` say.
 ///
 /// # Errors
 ///
@@ -135,8 +138,10 @@ pub fn retime_bytes_watched<R: CountedRead, W: CountedWrite, G: PhaseGate, V: Fr
     crew: &Crew<G>,
     watcher: &mut V,
 ) -> Result<Retimed, BytesError>
-    ensures { RetimesBytes options.now (R.input reader.old) (R.input reader.new)
+    ensures retimes { RetimesBytes options.now (R.input reader.old) (R.input reader.new)
         (W.output writer.old) (W.output writer.new) result }
+    ensures told { IfOk result (λ r. Tells V.was_told watcher.old watcher.new
+        (stages_of options.now.max_frames r ++ Writing ∷ [])) }
 {
     let spelt = read_by(reader, AnyReader::new(alloc))?;
     retime_spelt(rt, alloc, spelt, writer, options, crew, watcher)

@@ -1,5 +1,5 @@
 //! One frame: the latches of a cleaned circuit move over its chosen least set, and the circuit is cleaned again.
-ghost use Rattle.std.specs.Prelude.{◌≡◌, IfOk, OnOk, MatchOption};
+ghost use Rattle.std.specs.Prelude.{◌≡◌, [], ◌∷◌, IfOk, OnOk, MatchOption};
 ghost use Rattle.aig_graph.specs.Graph.{IsGraph};
 ghost use Rattle.aig_graph.specs.Move.{move_of};
 ghost use Rattle.rebuild.specs.Marked.{AreMarksOf};
@@ -7,6 +7,7 @@ ghost use Rattle.frames.specs.Certified.{AddsChosen};
 ghost use Rattle.frames.specs.Found.{Moves};
 ghost use Rattle.frames.specs.Named.{NoneMissingBy, kept_by};
 ghost use Rattle.frames.specs.Retiming.{IsHelpingSetBy, IsMovedBy, IsTidyBy, NoneSmallerBy};
+ghost use Rattle.frames.specs.Stages.{Moving, Tells};
 
 use crate::helping::helping_set;
 use crate::options::Options;
@@ -98,6 +99,9 @@ pub(crate) fn next_frame<G: PhaseGate, V: FrameWatcher>(
         (NoneSmallerBy options.now circuit.now) (Moves options.now circuit.now)) }
     ensures certificate { OnOk result
         (AddsChosen options.now circuit.now records.old records.new) }
+    ensures told { IfOk result (λ found. MatchOption found
+        (Tells V.was_told watcher.old watcher.new [])
+        (λ _. Tells V.was_told watcher.old watcher.new (Moving ∷ []))) }
 {
     circuit.known();
     let keep = keep_by_names(alloc, circuit, options.keep.as_slice())?;

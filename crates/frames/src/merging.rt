@@ -5,6 +5,7 @@ ghost use Rattle.aig_graph.specs.Circuits.{Netlist};
 ghost use Rattle.frames.specs.Merging.{IsStart, told_of_read};
 ghost use Rattle.frames.specs.Named.{IsFirstMissingBy, NoneMissingBy};
 ghost use Rattle.frames.specs.Retiming.{IsRetimedAsIs, IsRetimedMerged};
+ghost use Rattle.frames.specs.Stages.{Tells, looks_of};
 ghost use Rattle.frames.specs.Underway.{IsUnderway};
 ghost use Rattle.frames.specs.declared.errors.RetimeError.TheVariants.{NoSuchName};
 
@@ -155,7 +156,9 @@ fn retime_begun<G: PhaseGate, V: FrameWatcher>(
     watcher: &mut V,
 ) -> Result<Retimed, NoMemory>
     requires { NoneMissingBy options.now circuit }
-    ensures { IfOk result (IsRetimedAsIs options.now circuit) }
+    ensures retimed { IfOk result (IsRetimedAsIs options.now circuit) }
+    ensures told { IfOk result (λ r. Tells V.was_told watcher.old watcher.new
+        (looks_of options.now.max_frames r)) }
 {
     let start = begun_from(alloc, circuit, options)?;
     retimed_from(rt, alloc, start, options, crew, watcher)
@@ -171,8 +174,10 @@ fn retime_start<G: PhaseGate, V: FrameWatcher>(
     watcher: &mut V,
 ) -> Result<Retimed, NoMemory>
     requires { (c : Netlist) × IsStart options.now c start }
-    ensures { IfOk result (λ r. (c : Netlist) → IsStart options.now c start
+    ensures retimed { IfOk result (λ r. (c : Netlist) → IsStart options.now c start
         → IsRetimedMerged options.now c r) }
+    ensures told { IfOk result (λ r. Tells V.was_told watcher.old watcher.new
+        (looks_of options.now.max_frames r)) }
 {
     let Start { circuit, read } = start;
     match retime_begun(rt, alloc, circuit, options, crew, watcher) {
@@ -197,6 +202,8 @@ pub(crate) fn retime_merged<G: PhaseGate, V: FrameWatcher>(
     ensures none_missing { OnOk result (NoneMissingBy options.now circuit.now) }
     ensures missing { (place : ℕ) → IsErrOf result (NoSuchName place)
         → IsFirstMissingBy options.now circuit.now place }
+    ensures told { IfOk result (λ r. Tells V.was_told watcher.old watcher.new
+        (looks_of options.now.max_frames r)) }
 {
     let start = start_of(alloc, circuit, options)?;
     let retimed = retime_start(rt, alloc, start, options, crew, watcher)?;
@@ -216,6 +223,8 @@ pub(crate) fn retime_merged_over<G: PhaseGate, V: FrameWatcher>(
     ensures none_missing { OnOk result (NoneMissingBy options.now circuit) }
     ensures missing { (place : ℕ) → IsErrOf result (NoSuchName place)
         → IsFirstMissingBy options.now circuit place }
+    ensures told { IfOk result (λ r. Tells V.was_told watcher.old watcher.new
+        (looks_of options.now.max_frames r)) }
 {
     let start = start_over(alloc, circuit, options)?;
     let retimed = retime_start(rt, alloc, start, options, crew, watcher)?;

@@ -1,9 +1,11 @@
 //! Frame after frame.
-ghost use Rattle.std.specs.Prelude.{ℕ, ◌≡◌, suc, [], None, IfOk, OnOk, IsErrOf};
+ghost use Rattle.std.specs.Prelude.{ℕ, ◌≡◌, suc, [], ◌∷◌, ◌++◌, length, None, IfOk, OnOk, IsErrOf};
 ghost use Rattle.aig_graph.specs.Circuits.{Netlist};
+ghost use Rattle.aig_graph.specs.Graph.{known_latches};
 ghost use Rattle.frames.specs.Found.{Moves};
 ghost use Rattle.frames.specs.Named.{IsFirstMissingBy, NoneMissingBy};
 ghost use Rattle.frames.specs.Retiming.{IsRetimedAsIs};
+ghost use Rattle.frames.specs.Stages.{Looking, Tells, looks_of};
 ghost use Rattle.frames.specs.Underway.{IsBegun, IsRun, IsUnderway};
 ghost use Rattle.frames.specs.declared.errors.RetimeError.TheVariants.{NoSuchName};
 
@@ -85,9 +87,10 @@ fn after_frame(
 ) -> Result<Retimed, NoMemory>
     requires underway { (c : Netlist) × (n : ℕ) × IsUnderway options.now c n retimed }
     requires moves { Moves options.now retimed.circuit frame }
-    ensures { IfOk result (λ after. (c : Netlist) (n : ℕ)
+    ensures underway { IfOk result (λ after. (c : Netlist) (n : ℕ)
         → IsUnderway options.now c n retimed
         → IsUnderway options.now c (suc n) after) }
+    ensures frames { IfOk result (λ after. after.frames ≡ retimed.frames ++ frame.report ∷ []) }
 {
     let Frame { cleaned, report } = frame;
     let places = cleaned.kept_free.as_slice();
@@ -108,7 +111,10 @@ fn after_frame(
 }
 
 /// Tells a watcher that the set of the next frame is looked for.
-fn enter_looking<V: FrameWatcher>(retimed: &Retimed, watcher: &mut V) {
+fn enter_looking<V: FrameWatcher>(retimed: &Retimed, watcher: &mut V)
+    ensures { Tells V.was_told watcher.old watcher.new
+        (Looking (length retimed.now.frames) (known_latches retimed.now.circuit.aig) ∷ []) }
+{
     watcher.enter(Stage::Looking {
         taken: retimed.frames.len(),
         aig: retimed.circuit.aig(),
@@ -129,9 +135,11 @@ fn all_frames<G: PhaseGate, V: FrameWatcher>(
     requires begun { IsBegun options.now start }
     requires wanted { records.old.certify ≡ options.now.certify }
     requires none_yet { records.old.certificates.items ≡ [] }
-    ensures { IfOk result (λ r. (c : Netlist)
+    ensures run { IfOk result (λ r. (c : Netlist)
         → IsUnderway options.now c 0 start
         → IsRun options.now c records.new r) }
+    ensures told { IfOk result (λ r. Tells V.was_told watcher.old watcher.new
+        (looks_of options.now.max_frames r)) }
 {
     let mut retimed = start;
     for _ in 0..options.max_frames {
@@ -187,9 +195,11 @@ pub(crate) fn retimed_from<G: PhaseGate, V: FrameWatcher>(
     watcher: &mut V,
 ) -> Result<Retimed, NoMemory>
     requires { IsBegun options.now start }
-    ensures { IfOk result (λ r. (c : Netlist)
+    ensures retimed { IfOk result (λ r. (c : Netlist)
         → IsUnderway options.now c 0 start
         → IsRetimedAsIs options.now c r) }
+    ensures told { IfOk result (λ r. Tells V.was_told watcher.old watcher.new
+        (looks_of options.now.max_frames r)) }
 {
     let mut records = Records::new(alloc, options.certify);
     match all_frames(rt, alloc, start, options, crew, &mut records, watcher) {
@@ -214,6 +224,8 @@ pub(crate) fn retime_as_is<G: PhaseGate, V: FrameWatcher>(
     ensures none_missing { OnOk result (NoneMissingBy options.now circuit.now) }
     ensures missing { (place : ℕ) → IsErrOf result (NoSuchName place)
         → IsFirstMissingBy options.now circuit.now place }
+    ensures told { IfOk result (λ r. Tells V.was_told watcher.old watcher.new
+        (looks_of options.now.max_frames r)) }
 {
     let start = begun_by_names(alloc, circuit, options)?;
     let retimed = retimed_from(rt, alloc, start, options, crew, watcher)?;
@@ -233,6 +245,8 @@ pub(crate) fn retime_as_is_over<G: PhaseGate, V: FrameWatcher>(
     ensures none_missing { OnOk result (NoneMissingBy options.now circuit) }
     ensures missing { (place : ℕ) → IsErrOf result (NoSuchName place)
         → IsFirstMissingBy options.now circuit place }
+    ensures told { IfOk result (λ r. Tells V.was_told watcher.old watcher.new
+        (looks_of options.now.max_frames r)) }
 {
     let start = begun_over(alloc, circuit, options)?;
     let retimed = retimed_from(rt, alloc, start, options, crew, watcher)?;

@@ -2,6 +2,7 @@
 ghost use Rattle.std.specs.Prelude.{ℕ, IfOk, OnOk, IsErrOf};
 ghost use Rattle.frames.specs.Named.{IsFirstMissingBy, NoneMissingBy};
 ghost use Rattle.frames.specs.Retiming.{IsRetimedBy};
+ghost use Rattle.frames.specs.Stages.{Tells, stages_of};
 ghost use Rattle.frames.specs.declared.errors.RetimeError.TheVariants.{NoSuchName};
 
 use crate::errors::RetimeError;
@@ -42,7 +43,8 @@ pub fn retime<G: PhaseGate>(
     retime_watched(rt, alloc, circuit, options, crew, &mut NoWatcher)
 }
 
-/// [`retime`], seen by a watcher, which changes nothing of the answer.
+/// [`retime`], seen by a watcher, which changes nothing of the answer. It is told of the cleaning, of each look for a set and each
+/// move over one, and of the last look, which finds that none helps, where the limit leaves a frame.
 ///
 /// # Errors
 ///
@@ -59,6 +61,8 @@ pub fn retime_watched<G: PhaseGate, V: FrameWatcher>(
     ensures none_missing { OnOk result (NoneMissingBy options.now circuit.now) }
     ensures missing { (place : ℕ) → IsErrOf result (NoSuchName place)
         → IsFirstMissingBy options.now circuit.now place }
+    ensures told { IfOk result (λ r. Tells V.was_told watcher.old watcher.new
+        (stages_of options.now.max_frames r)) }
 {
     watcher.enter(Stage::Cleaning);
     if options.merge {
@@ -85,6 +89,8 @@ pub(crate) fn retime_over<G: PhaseGate, V: FrameWatcher>(
     ensures none_missing { OnOk result (NoneMissingBy options.now circuit) }
     ensures missing { (place : ℕ) → IsErrOf result (NoSuchName place)
         → IsFirstMissingBy options.now circuit place }
+    ensures told { IfOk result (λ r. Tells V.was_told watcher.old watcher.new
+        (stages_of options.now.max_frames r)) }
 {
     watcher.enter(Stage::Cleaning);
     if options.merge {

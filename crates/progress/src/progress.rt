@@ -1,5 +1,5 @@
 //! When a run is shown.
-ghost use Rattle.std.specs.Prelude.{◌≡◌};
+ghost use Rattle.std.specs.Prelude.{◌≡◌, ⊤};
 ghost use Rattle.progress.specs.Shows as wanted;
 
 use crate::lines::{Frame, State, clear_line, write_in_place, write_line};
@@ -155,7 +155,10 @@ impl<'a, R: Clock, E: CountedWrite> Progress<'a, R, E> {
     }
 }
 
+/// What it was told isn't kept, so no clause speaks of it.
 impl<R: Clock, E: CountedWrite> FrameWatcher for Progress<'_, R, E> {
+    ghost was_told = { λ _ _. ⊤ };
+
     fn enter(&mut self, stage: Stage<'_>) {
         if let Some(watch) = &mut self.watch {
             watch.enter(self.clock, stage);

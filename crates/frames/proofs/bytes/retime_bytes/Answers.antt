@@ -1,22 +1,22 @@
 use Rattle.frames.proofs.bytes.retime_bytes.Goals as goal
 
 pub returns-clause-read : goal.returns-clause-read
-returns-clause-read g c = c.retime_bytes_watched.ensures.read
+returns-clause-read g c = c.retime_bytes_watched.ensures.retimes.read
 
 pub returns-clause-circuit : goal.returns-clause-circuit
-returns-clause-circuit g c = c.retime_bytes_watched.ensures.circuit
+returns-clause-circuit g c = c.retime_bytes_watched.ensures.retimes.circuit
 
 pub returns-clause-answer : goal.returns-clause-answer
-returns-clause-answer g c = c.retime_bytes_watched.ensures.answer
+returns-clause-answer g c = c.retime_bytes_watched.ensures.retimes.answer
 
 pub returns-clause-unread : goal.returns-clause-unread
-returns-clause-unread g c = c.retime_bytes_watched.ensures.unread
+returns-clause-unread g c = c.retime_bytes_watched.ensures.retimes.unread
 
 pub returns-clause-missing : goal.returns-clause-missing
-returns-clause-missing g c = c.retime_bytes_watched.ensures.missing
+returns-clause-missing g c = c.retime_bytes_watched.ensures.retimes.missing
 
 pub returns-clause-unwritten : goal.returns-clause-unwritten
-returns-clause-unwritten g c = c.retime_bytes_watched.ensures.unwritten
+returns-clause-unwritten g c = c.retime_bytes_watched.ensures.retimes.unwritten
 
 pub returns-clause-cut_off : goal.returns-clause-cut_off
-returns-clause-cut_off g c = c.retime_bytes_watched.ensures.cut_off
+returns-clause-cut_off g c = c.retime_bytes_watched.ensures.retimes.cut_off

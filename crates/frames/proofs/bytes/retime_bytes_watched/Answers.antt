@@ -7,8 +7,8 @@ use Rattle.frames.specs.Answering.{IsAnswered, IsBytesError, IsStop, IsWritten}
 use Rattle.frames.proofs.StopLaws.{at-error, facts_of, stops-answering}
 use Rattle.frames.proofs.bytes.retime_bytes_watched.Goals as goal
 
-pub returns-in_err-spelt : goal.returns-in_err-spelt
-returns-in_err-spelt g c =
+pub returns-in_err-spelt-clause-retimes : goal.returns-in_err-spelt-clause-retimes
+returns-in_err-spelt-clause-retimes g c =
     let options = c.args.options.now in
     let old = g.R.CountedRead.input c.args.reader.now in
     let new = g.R.CountedRead.input c.read_by.new.reader in
@@ -19,8 +19,8 @@ returns-in_err-spelt g c =
     (IfOk-from_err result _ c.from_residual.ensures.0)
     (at-error result (Read c.in_err-spelt.field-0.0) (IsBytesError options old new out out) c.from_residual.ensures.1 (c.in_err-spelt.ensures.err, refl))
 
-pub returns : goal.returns
-returns g c =
+pub returns-clause-retimes : goal.returns-clause-retimes
+returns-clause-retimes g c =
     let options = c.args.options.now in
     let old = g.R.CountedRead.input c.args.reader.now in
     let new = g.R.CountedRead.input c.read_by.new.reader in
@@ -37,3 +37,9 @@ returns g c =
     answer.ensures.ok)
     (IfErr-weaker answer.result (IsStop options spelt before after) (IsBytesError options old new before after)
     (λ e stop. stops-answering options old new before after spelt e c.in_ok-spelt.ensures.read read stop) answer.ensures.err)
+
+pub returns-clause-told : goal.returns-clause-told
+returns-clause-told g c = c.retime_spelt.ensures.told
+
+pub returns-in_err-spelt-clause-told : goal.returns-in_err-spelt-clause-told
+returns-in_err-spelt-clause-told g c = IfOk-from_err c.from_residual.result _ c.from_residual.ensures.0

@@ -1,4 +1,4 @@
-use Rattle.std.proofs.Common.{Err, ap}
+use Rattle.std.proofs.Common.{Err, ap, [], ◌∷◌}
 use Rattle.std.specs.Option.{unwrap_or}
 use Rattle.aig_binary.proofs.SpellingLaws.{the_spelling_law}
 use Rattle.retimed_circuits.proofs.LimitLaws.{stays-within}
@@ -6,7 +6,9 @@ use Rattle.frames.specs.declared.errors.BytesError.TheVariants.{Retime}
 use Rattle.frames.specs.declared.errors.RetimeError.{RetimeError}
 use Rattle.frames.specs.Answering.{IsStop}
 use Rattle.frames.specs.Named.{names_in}
+use Rattle.frames.specs.Stages.{Writing, stages_of}
 use Rattle.std.proofs.lemmas.Result.{IfOk-from_err}
+use Rattle.frames.proofs.StageLaws.{tells-then}
 use Rattle.frames.proofs.StopLaws.{at-error, stops-retiming}
 use Rattle.frames.proofs.bytes.retime_spelt.Goals as goal
 
@@ -48,3 +50,11 @@ returns-in-Err-clause-err g c =
       answer = record { names = retimed.none_missing; retimed = retimed.retimed };
       writes = c.in-Err.ensures.err;
     }
+
+pub returns-in_err-retimed-clause-told : goal.returns-in_err-retimed-clause-told
+returns-in_err-retimed-clause-told g c = IfOk-from_err c.from_residual.result _ c.from_residual.ensures.0
+
+pub returns-in-Ok-clause-told : goal.returns-in-Ok-clause-told
+returns-in-Ok-clause-told g c =
+    let r = c.in_ok-retimed.retimed in
+    tells-then g.V.FrameWatcher.was_told c.args.watcher.now c.retime_over.new.watcher c.enter.new.self (stages_of c.args.options.now.max_frames r) (Writing ∷ []) c.in_ok-retimed.ensures.told c.enter.ensures

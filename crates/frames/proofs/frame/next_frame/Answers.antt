@@ -7,6 +7,7 @@ use Rattle.rebuild.specs.Marked.{AreMarksOf}
 use Rattle.frames.specs.declared.helping.Helping.{Helping}
 use Rattle.frames.specs.Found.{Helps}
 use Rattle.frames.specs.Retiming.{NoneSmallerBy}
+use Rattle.frames.proofs.StageLaws.{tells-nothing}
 use Rattle.frames.proofs.frame.next_frame.Goals as goal
 
 pub keep_by_names-requires : goal.keep_by_names-requires
@@ -60,17 +61,26 @@ returns-in_err-keep-clause-found g c = IfOk-from_err c.from_residual.result _ c.
 pub returns-in_err-keep-clause-certificate : goal.returns-in_err-keep-clause-certificate
 returns-in_err-keep-clause-certificate g c = IfOk-from_err c.from_residual.result _ c.from_residual.ensures.0
 
+pub returns-in_err-keep-clause-told : goal.returns-in_err-keep-clause-told
+returns-in_err-keep-clause-told g c = IfOk-from_err c.from_residual.result _ c.from_residual.ensures.0
+
 pub returns-in_err-found-clause-found : goal.returns-in_err-found-clause-found
 returns-in_err-found-clause-found g c = IfOk-from_err c.from_residual-in_err-found.result _ c.from_residual-in_err-found.ensures.0
 
 pub returns-in_err-found-clause-certificate : goal.returns-in_err-found-clause-certificate
 returns-in_err-found-clause-certificate g c = IfOk-from_err c.from_residual-in_err-found.result _ c.from_residual-in_err-found.ensures.0
 
+pub returns-in_err-found-clause-told : goal.returns-in_err-found-clause-told
+returns-in_err-found-clause-told g c = IfOk-from_err c.from_residual-in_err-found.result _ c.from_residual-in_err-found.ensures.0
+
 pub returns-in_err-cleaned-in-Some-clause-found : goal.returns-in_err-cleaned-in-Some-clause-found
 returns-in_err-cleaned-in-Some-clause-found g c = IfOk-from_err c.from_residual-in_err-cleaned-in-Some.result _ c.from_residual-in_err-cleaned-in-Some.ensures.0
 
 pub returns-in_err-cleaned-in-Some-clause-certificate : goal.returns-in_err-cleaned-in-Some-clause-certificate
 returns-in_err-cleaned-in-Some-clause-certificate g c = IfOk-from_err c.from_residual-in_err-cleaned-in-Some.result _ c.from_residual-in_err-cleaned-in-Some.ensures.0
+
+pub returns-in_err-cleaned-in-Some-clause-told : goal.returns-in_err-cleaned-in-Some-clause-told
+returns-in_err-cleaned-in-Some-clause-told g c = IfOk-from_err c.from_residual-in_err-cleaned-in-Some.result _ c.from_residual-in_err-cleaned-in-Some.ensures.0
 
 pub returns-clause-certificate : goal.returns-clause-certificate
 returns-clause-certificate g c = c.in_ok-found.ensures.certificate
@@ -93,3 +103,9 @@ moved_over-requires-clause-marked g c =
     let helps : Helps options before c.in-Some.found = subst P c.in-Some.is c.in_ok-found.ensures.found in
     let kept = c.in_ok-keep.ensures ∙ ap (λ names. held_in (names_of names) before) c.as_slice.ensures.value in
     subst (λ (held : List ℕ). AreMarksOf (move_of before held c.in-Some.found.set) c.in-Some.found.marks) (sym kept) helps.marks
+
+pub returns-clause-told : goal.returns-clause-told
+returns-clause-told g c = tells-nothing g.V.FrameWatcher.was_told c.args.watcher.now
+
+pub returns-in-Some-clause-told : goal.returns-in-Some-clause-told
+returns-in-Some-clause-told g c = c.enter.ensures

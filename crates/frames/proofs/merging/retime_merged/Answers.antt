@@ -5,7 +5,7 @@ pub retime_start-requires-after_bounds : goal.retime_start-requires-after_bounds
 retime_start-requires-after_bounds g c κs within = (c.args.circuit.now, c.in_ok-start.ensures.started)
 
 pub returns-clause-retimed : goal.returns-clause-retimed
-returns-clause-retimed g c = c.in_ok-retimed.ensures c.args.circuit.now c.in_ok-start.ensures.started
+returns-clause-retimed g c = c.in_ok-retimed.ensures.retimed c.args.circuit.now c.in_ok-start.ensures.started
 
 pub returns-clause-none_missing : goal.returns-clause-none_missing
 returns-clause-none_missing g c = c.in_ok-start.ensures.none_missing
@@ -21,3 +21,12 @@ returns-in_err-retimed-clause-retimed g c = IfOk-from_err c.from_residual-in_err
 
 pub returns-in_err-retimed-clause-none_missing : goal.returns-in_err-retimed-clause-none_missing
 returns-in_err-retimed-clause-none_missing g c = IfOk-from_err c.from_residual-in_err-retimed.result _ c.from_residual-in_err-retimed.ensures.0
+
+pub returns-clause-told : goal.returns-clause-told
+returns-clause-told g c = c.in_ok-retimed.ensures.told
+
+pub returns-in_err-start-clause-told : goal.returns-in_err-start-clause-told
+returns-in_err-start-clause-told g c = IfOk-from_err c.from_residual.result _ c.from_residual.ensures.0
+
+pub returns-in_err-retimed-clause-told : goal.returns-in_err-retimed-clause-told
+returns-in_err-retimed-clause-told g c = IfOk-from_err c.from_residual-in_err-retimed.result _ c.from_residual-in_err-retimed.ensures.0

@@ -18,8 +18,11 @@ with_frame-requires c =
     omega (arith, here, many, same) in
     subst (λ (xs : List ℕ). All (λ (place : ℕ). place < length c.history_of.result.kept_free) xs) (sym c.as_slice-places.ensures) below
 
-pub returns-in-Ok : goal.returns-in-Ok
-returns-in-Ok c = λ d n before.
+pub returns-in-Ok-clause-frames : goal.returns-in-Ok-clause-frames
+returns-in-Ok-clause-frames c = c.in-Ok.ensures.frames ∙ ap (λ (xs : List FrameReport). xs ++ c.args.frame.report ∷ []) c.history_of.ensures.frames
+
+pub returns-in-Ok-clause-underway : goal.returns-in-Ok-clause-underway
+returns-in-Ok-clause-underway c = λ d n before.
     let options = c.args.options.now in
     let r = c.args.retimed in
     let e = c.args.frame.cleaned in

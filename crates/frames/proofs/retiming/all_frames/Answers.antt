@@ -1,30 +1,39 @@
-use Rattle.std.proofs.Common.{◌+◌, ◌≡◌, Option, suc, arith, subst, ℕ, refl}
+use Rattle.std.proofs.Common.{◌+◌, ◌≡◌, [], ◌∷◌, Option, ap, length, suc, arith, subst, ℕ, refl}
 use Rattle.std.specs.Option.{MatchOption}
+use Rattle.aig_graph.specs.Circuits.{Netlist}
+use Rattle.aig_graph.specs.Graph.{known_latches}
+use Rattle.retimed_circuits.specs.declared.report.FrameReport.{FrameReport}
 use Rattle.retimed_circuits.proofs.NameLaws.{names-stay}
 use Rattle.frames.specs.declared.frame.Frame.{Frame}
 use Rattle.frames.specs.Certified.{AreCollected}
 use Rattle.frames.specs.Found.{Moves}
 use Rattle.frames.specs.Named.{names_in}
 use Rattle.frames.specs.Retiming.{NoneSmallerBy}
+use Rattle.frames.specs.Stages.{Moving, Tells}
 use Rattle.frames.specs.Underway.{IsUnderway}
 use Rattle.frames.proofs.CertificateLaws.{none-collected, one-collected}
+use Rattle.frames.proofs.StageLaws.{many-taken, none-taken, tells-end, tells-frame, tells-limit, tells-start}
 use Rattle.std.proofs.lemmas.Result.{IfOk-from_err}
 use Rattle.frames.proofs.retiming.all_frames.Goals as goal
 
 pub loop-init : goal.loop-init
-loop-init g c = λ d start.
-    (start, none-collected c.args.options.now d c.args.records.now c.requires.wanted c.requires.none_yet)
+loop-init g c =
+    let begun = c.requires.begun in
+    let start = c.args.start in (
+      λ d underway. (underway, none-collected c.args.options.now d c.args.records.now c.requires.wanted c.requires.none_yet),
+      tells-start g.V.FrameWatcher.was_told c.args.watcher.now start.frames (none-taken c.args.options.now begun.read start begun.underway),
+    )
 
 pub next_frame-requires-clause-tidy : goal.next_frame-requires-clause-tidy
-next_frame-requires-clause-tidy g c κs within = let begun = c.requires.begun in (c.loop.invariant begun.read begun.underway).0.keeps.tidy
+next_frame-requires-clause-tidy g c κs within = let begun = c.requires.begun in (c.loop.invariant.0 begun.read begun.underway).0.keeps.tidy
 
 pub next_frame-requires-clause-names : goal.next_frame-requires-clause-names
 next_frame-requires-clause-names g c κs within =
     let begun = c.requires.begun in
-    names-stay (names_in c.args.options.now) begun.read c.loop.retimed.circuit (c.loop.invariant begun.read begun.underway).0.keeps.held begun.names
+    names-stay (names_in c.args.options.now) begun.read c.loop.retimed.circuit (c.loop.invariant.0 begun.read begun.underway).0.keeps.held begun.names
 
 pub after_frame-requires-clause-underway : goal.after_frame-requires-clause-underway
-after_frame-requires-clause-underway g c = let begun = c.requires.begun in (begun.read, c.loop.counter, (c.loop.invariant begun.read begun.underway).0)
+after_frame-requires-clause-underway g c = let begun = c.requires.begun in (begun.read, c.loop.counter, (c.loop.invariant.0 begun.read begun.underway).0)
 
 pub after_frame-requires-clause-moves : goal.after_frame-requires-clause-moves
 after_frame-requires-clause-moves g c =
@@ -33,11 +42,11 @@ after_frame-requires-clause-moves g c =
     subst P c.in-Ok-Some.field-0-is c.in-Ok-Some.ensures.found
 
 -- the last circuit was looked at, and none counts less
-pub returns-in-Ok-None : goal.returns-in-Ok-None
-returns-in-Ok-None g c = λ d start.
+pub returns-in-Ok-None-clause-run : goal.returns-in-Ok-None-clause-run
+returns-in-Ok-None-clause-run g c = λ d start.
     let options = c.args.options.now in
     let before = c.loop.retimed in
-    let so_far = c.loop.invariant d start in
+    let so_far = c.loop.invariant.0 d start in
     let P : Option Frame → Type 0 = λ found. MatchOption found (NoneSmallerBy options before.circuit) (Moves options before.circuit) in
     let none : NoneSmallerBy options before.circuit = subst P c.in-Ok-None.field-0-is c.in-Ok-None.ensures.found in
     record {
@@ -53,22 +62,34 @@ returns-in-Ok-None g c = λ d start.
     }
 
 pub loop-preserved : goal.loop-preserved
-loop-preserved g c = λ d start.
+loop-preserved g c =
     let options = c.args.options.now in
     let before = c.loop.retimed in
-    let so_far = c.loop.invariant d start in
-    let P : ℕ → Type 0 = λ n. IsUnderway options d n c.in_ok-retimed-in-Ok-Some.retimed in
-    let Q : ℕ → Type 0 = λ n. AreCollected options d n c.next_frame.new.records in
-    let next : suc c.loop.counter ≡ c.loop.counter + 1 = omega arith in (
-      subst P next (c.in_ok-retimed-in-Ok-Some.ensures d c.loop.counter so_far.0),
-      subst Q next
-          (one-collected options d c.loop.counter c.loop.records c.next_frame.new.records before.circuit before.kept_free before.frames so_far.1 so_far.0.frames c.in-Ok-Some.ensures.certificate),
+    let after = c.in_ok-retimed-in-Ok-Some.retimed in
+    let P : ℕ → Netlist → Type 0 = λ n d. IsUnderway options d n after in
+    let Q : ℕ → Netlist → Type 0 = λ n d. AreCollected options d n c.next_frame.new.records in
+    let next : suc c.loop.counter ≡ c.loop.counter + 1 = omega arith in
+    let was_told = g.V.FrameWatcher.was_told in
+    let looking = c.enter_looking.new.watcher in
+    let moving = c.next_frame.new.watcher in
+    let F : Option Frame → Type 0 = λ found. MatchOption found (NoneSmallerBy options before.circuit) (Moves options before.circuit) in
+    let T : Option Frame → Type 0 = λ found. MatchOption found (Tells was_told looking moving []) (λ _. Tells was_told looking moving (Moving ∷ [])) in
+    let moves : Moves options before.circuit c.in-Ok-Some.frame = subst F c.in-Ok-Some.field-0-is c.in-Ok-Some.ensures.found in
+    let told : Tells was_told looking moving (Moving ∷ []) = subst T c.in-Ok-Some.field-0-is c.in-Ok-Some.ensures.told in (
+      λ d start.
+          let so_far = c.loop.invariant.0 d start in (
+        subst (λ n. P n d) next (c.in_ok-retimed-in-Ok-Some.ensures.underway d c.loop.counter so_far.0),
+        subst (λ n. Q n d) next
+            (one-collected options d c.loop.counter c.loop.records c.next_frame.new.records before.circuit before.kept_free before.frames so_far.1 so_far.0.frames c.in-Ok-Some.ensures.certificate),
+      ),
+      tells-frame was_told c.args.watcher.now c.loop.watcher looking moving before.frames after.frames c.in-Ok-Some.frame.report (known_latches before.circuit.aig)
+          c.in_ok-retimed-in-Ok-Some.ensures.frames (ap (λ (r : FrameReport). r.before) moves.moves.reported) c.loop.invariant.1 c.enter_looking.ensures told,
     )
 
 -- at the limit the last circuit isn't looked at
-pub returns : goal.returns
-returns g c = λ d start.
-    let so_far = c.loop.invariant d start in
+pub returns-clause-run : goal.returns-clause-run
+returns-clause-run g c = λ d start.
+    let so_far = c.loop.invariant.0 d start in
     record {
       taken = c.loop.counter;
       underway = so_far.0;
@@ -80,5 +101,30 @@ returns g c = λ d start.
       ended = λ less. absurd (omega (arith, c.loop-test.false, less));
     }
 
-pub returns-in_err-retimed-in-Ok-Some : goal.returns-in_err-retimed-in-Ok-Some
-returns-in_err-retimed-in-Ok-Some g c = IfOk-from_err c.from_residual.result _ c.from_residual.ensures.0
+pub returns-in_err-retimed-in-Ok-Some-clause-run : goal.returns-in_err-retimed-in-Ok-Some-clause-run
+returns-in_err-retimed-in-Ok-Some-clause-run g c = IfOk-from_err c.from_residual.result _ c.from_residual.ensures.0
+
+pub returns-in_err-retimed-in-Ok-Some-clause-told : goal.returns-in_err-retimed-in-Ok-Some-clause-told
+returns-in_err-retimed-in-Ok-Some-clause-told g c = IfOk-from_err c.from_residual.result _ c.from_residual.ensures.0
+
+-- the last look found none
+pub returns-in-Ok-None-clause-told : goal.returns-in-Ok-None-clause-told
+returns-in-Ok-None-clause-told g c =
+    let options = c.args.options.now in
+    let begun = c.requires.begun in
+    let before = c.loop.retimed in
+    let was_told = g.V.FrameWatcher.was_told in
+    let looking = c.enter_looking.new.watcher in
+    let after = c.next_frame.new.watcher in
+    let many : length before.frames ≡ c.loop.counter = many-taken options begun.read c.loop.counter before (c.loop.invariant.0 begun.read begun.underway).0 in
+    let T : Option Frame → Type 0 = λ found. MatchOption found (Tells was_told looking after []) (λ _. Tells was_told looking after (Moving ∷ [])) in
+    let told : Tells was_told looking after [] = subst T c.in-Ok-None.field-0-is c.in-Ok-None.ensures.told in
+    tells-end was_told c.args.watcher.now c.loop.watcher looking after options.max_frames before (omega (arith, many, c.loop-test.true)) c.loop.invariant.1 c.enter_looking.ensures told
+
+pub returns-clause-told : goal.returns-clause-told
+returns-clause-told g c =
+    let options = c.args.options.now in
+    let begun = c.requires.begun in
+    let last = c.loop.retimed in
+    let many : length last.frames ≡ c.loop.counter = many-taken options begun.read c.loop.counter last (c.loop.invariant.0 begun.read begun.underway).0 in
+    tells-limit g.V.FrameWatcher.was_told c.args.watcher.now c.loop.watcher options.max_frames last (omega (arith, many, c.loop-test.false, c.loop.auto.counter-end)) c.loop.invariant.1

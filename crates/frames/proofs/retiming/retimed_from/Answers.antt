@@ -2,6 +2,7 @@ use Rattle.std.proofs.Common.{◌≡◌, sym, subst}
 use Rattle.retimed_circuits.specs.declared.report.Retimed.{Retimed}
 use Rattle.frames.specs.Retiming.{IsRetimedAsIs}
 use Rattle.frames.proofs.FrameLaws.{ended}
+use Rattle.frames.proofs.StageLaws.{same-looks}
 use Rattle.frames.proofs.retiming.retimed_from.Goals as goal
 
 pub all_frames-requires-clause-begun : goal.all_frames-requires-clause-begun
@@ -13,8 +14,8 @@ all_frames-requires-clause-wanted g c κs within = c.new-records.ensures.certify
 pub all_frames-requires-clause-none_yet : goal.all_frames-requires-clause-none_yet
 all_frames-requires-clause-none_yet g c κs within = c.new-records.ensures.certificates
 
-pub returns-in-Ok : goal.returns-in-Ok
-returns-in-Ok g c = λ d start.
+pub returns-in-Ok-clause-retimed : goal.returns-in-Ok-clause-retimed
+returns-in-Ok-clause-retimed g c = λ d start.
     let options = c.args.options.now in
     let r = c.in-Ok.retimed in
     let records = c.all_frames.new.records in
@@ -28,4 +29,9 @@ returns-in-Ok g c = λ d start.
       frames = whole.frames i;
       certificates = whole.certificates i;
     } in
-    subst (IsRetimedAsIs options d) (sym same) (ended options d records r (c.in-Ok.ensures d start))
+    subst (IsRetimedAsIs options d) (sym same) (ended options d records r (c.in-Ok.ensures.run d start))
+
+pub returns-in-Ok-clause-told : goal.returns-in-Ok-clause-told
+returns-in-Ok-clause-told g c =
+    let whole = c.with_certificates.ensures in
+    same-looks g.V.FrameWatcher.was_told c.args.watcher.now c.all_frames.new.watcher c.args.options.now.max_frames c.in-Ok.retimed c.with_certificates.result whole.frames whole.circuit c.in-Ok.ensures.told
