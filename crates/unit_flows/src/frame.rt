@@ -10,7 +10,7 @@ use std::alloc::Global;
 
 /// A circuit and its held latches, with its passable gates and the marks of what is held or read from outside them, from the first latch on.
 #[derive(Drop)]
-pub(crate) struct Frame<'a> {
+pub struct Frame<'a> {
     pub circuit: &'a Circuit,
     pub keep: &'a Keep,
     pub pass: PassSet,

@@ -66,6 +66,15 @@ impl GateFlow {
         }
     }
 
+    /// Notes that none came from the output of the second or the first fan-in.
+    pub fn clear_up(&mut self, second: bool) {
+        if second {
+            self.second_up = false;
+        } else {
+            self.first_up = false;
+        }
+    }
+
     /// Notes how many units went on to before the second or the first fan-in.
     pub fn note_down(&mut self, second: bool, units: u32) {
         if second {

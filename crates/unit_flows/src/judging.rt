@@ -37,8 +37,8 @@ fn is_shown(
     let (before, after) = (marks.before.as_slice(), marks.after.as_slice());
     Ok(
         tally(went.as_mut_slice(), came.as_mut_slice(), aig, flows)
-            && gates_hold(frame, flows, came.as_slice(), before, after)
-            && places_hold(frame, flows, went.as_slice(), before, after),
+            && places_hold(frame, flows, went.as_slice(), before, after)
+            && gates_hold(frame, flows, came.as_slice(), before, after),
     )
 }
 
@@ -66,7 +66,7 @@ fn off_marks(alloc: Global, frame: &Frame, before: &[bool]) -> Result<Vec<u32>, 
 /// # Errors
 ///
 /// `NoMemory` where a table is refused.
-pub(crate) fn shown_set(
+pub fn shown_set(
     alloc: Global,
     frame: &Frame,
     flows: &[GateFlow],

@@ -55,6 +55,25 @@ fn shown_next(
     shown_set(alloc, frame, flows.as_slice())
 }
 
+/// What the better of two starts does at the gates of a circuit: a hint, of which nothing is promised.
+///
+/// # Errors
+///
+/// `NoMemory` where a table is refused.
+pub fn first_flows(
+    alloc: Global,
+    circuit: &Circuit,
+    keep: &Keep,
+) -> Result<Vec<GateFlow>, NoMemory> {
+    let frame = Frame::new(alloc, circuit, keep)?;
+    let mut flows = Vec::new(alloc);
+    let arrived = put_start_up(alloc, &frame, &mut flows)?;
+    if arrived < circuit.aig().known_latches() as usize {
+        let _is_better = put_start_down(alloc, &frame, &mut flows, arrived)?;
+    }
+    Ok(flows)
+}
+
 /// The greatest least set of a circuit whose held latches stay where they are, where a start shows it: one along `flows`, what the last flow
 /// did at the circuit's gates, or along nothing where there are none. Then `flows` is what the start does there. They are hints: the set is
 /// the same whatever they say, or there is none.

@@ -20,8 +20,11 @@ mod start;
 mod sweeps;
 mod tallies;
 
+pub use frame::Frame;
 pub use gate_flow::GateFlow;
-pub use least_set::greatest_least_shown;
+pub use judging::shown_set;
+pub use least_set::{first_flows, greatest_least_shown};
+pub use sweeps::{NodeMarks, mark};
 
 /// The border of each closed set has at least as many variables as units come to the sink.
 pub fn border_law()

@@ -14,7 +14,7 @@ const MOST_ROUNDS: u32 = 65_536;
 
 /// Marks by variable, from the first latch on, of the nodes before and after each.
 #[derive(Drop)]
-pub(crate) struct NodeMarks {
+pub struct NodeMarks {
     pub before: Vec<bool>,
     pub after: Vec<bool>,
 }
@@ -87,12 +87,12 @@ fn leaving_of(alloc: Global, frame: &Frame) -> Result<Vec<bool>, NoMemory>
     Ok(marks)
 }
 
-/// Marks what reaches the sink.
+/// Marks what reaches the sink over residual arcs, as far as sweeps find it: all that does but where these are very many.
 ///
 /// # Errors
 ///
 /// `NoMemory` where a table is refused.
-pub(crate) fn mark(alloc: Global, frame: &Frame, flows: &[GateFlow]) -> Result<NodeMarks, NoMemory>
+pub fn mark(alloc: Global, frame: &Frame, flows: &[GateFlow]) -> Result<NodeMarks, NoMemory>
     requires { length flows.now ≡ length frame.now.circuit.now.aig.gates }
     ensures reach { IfOk result (λ marks. ReachSink frame.now.circuit.now frame.now.keep.now flows.now
         marks.before.items marks.after.items) }
