@@ -1,0 +1,182 @@
+//! The tables of a flow of units by place: what the flow does at each gate, what stands at each place, and which gates read it.
+
+use crate::readers::Readers;
+use crate::spots::{Labels, Spot};
+use aig_graph::{Gate, NoMemory};
+use std::alloc::Global;
+use unit_flows::{Frame, GateFlow};
+
+/// The places of a gate's two fan-ins, that of the smaller variable first.
+#[derive(Clone, Copy, Debug)]
+pub(crate) struct FanIns {
+    pub smaller: u32,
+    pub larger: u32,
+}
+
+impl FanIns {
+    /// The place of the second or the first fan-in.
+    pub fn at(&self, second: bool) -> u32 {
+        if second { self.larger } else { self.smaller }
+    }
+
+    /// Whether the gate reads a place by its second fan-in.
+    pub fn is_second(&self, place: u32) -> bool {
+        self.smaller != place
+    }
+}
+
+/// A flow of units over the gates of a frame, and what its pulses need to know.
+#[derive(Drop)]
+pub(crate) struct Search<'a> {
+    gates: &'a [Gate],
+    first: u32,
+    latches: u32,
+    /// As many units as an arc without a bound carries at most.
+    pub most: u32,
+    pub readers: Readers,
+    pub labels: Vec<Labels>,
+    pub spots: Vec<Spot>,
+    pub flows: Vec<GateFlow>,
+}
+
+impl<'a> Search<'a> {
+    /// The tables of a flow.
+    ///
+    /// # Errors
+    ///
+    /// `NoMemory` where a table is refused.
+    pub fn new(
+        alloc: Global,
+        frame: &'a Frame,
+        flows: Vec<GateFlow>,
+    ) -> Result<Search<'a>, NoMemory> {
+        let aig = frame.circuit.aig();
+        let spots = spots_of(alloc, frame)?;
+        let mut search = Search {
+            gates: aig.gates(),
+            first: aig.first_latch(),
+            latches: aig.first_gate().wrapping_sub(aig.first_latch()),
+            most: aig.known_latches().saturating_add(1),
+            readers: Readers::none(alloc),
+            labels: Vec::new(alloc),
+            spots,
+            flows,
+        };
+        for place in 0..aig.latches_and_gates() {
+            search.note_coming(place as u32);
+        }
+        for place in 0..aig.latches_and_gates() {
+            search.note_going(place as u32);
+        }
+        Ok(search)
+    }
+
+    /// Makes lists of readers and labels, where there are none.
+    ///
+    /// # Errors
+    ///
+    /// `NoMemory` where a table is refused.
+    pub fn list_readers(&mut self, alloc: Global, frame: &Frame) -> Result<(), NoMemory> {
+        if self.labels.is_empty() {
+            self.readers = Readers::of(alloc, frame)?;
+            self.labels = vec![in alloc; Labels::NONE; self.spots.len()]?;
+        }
+        Ok(())
+    }
+
+    /// The flow alone.
+    pub fn into_flows(self) -> Vec<GateFlow> {
+        self.flows
+    }
+
+    /// The number of a place among the gates, if there is one.
+    fn number(&self, place: u32) -> usize {
+        place.wrapping_sub(self.latches) as usize
+    }
+
+    /// The fan-ins of the gate at a place.
+    pub fn fan_ins(&self, place: u32) -> Option<FanIns> {
+        let gate = self.gates.get(self.number(place))?;
+        Some(FanIns {
+            smaller: gate.rhs1.var().wrapping_sub(self.first),
+            larger: gate.rhs0.var().wrapping_sub(self.first),
+        })
+    }
+
+    /// What the flow does at the gate at a place.
+    pub fn flow(&self, place: u32) -> GateFlow {
+        match self.flows.get(self.number(place)) {
+            Some(flow) => *flow,
+            None => GateFlow::none(),
+        }
+    }
+
+    /// The same, to be changed.
+    pub fn flow_mut(&mut self, place: u32) -> Option<&mut GateFlow> {
+        let number = self.number(place);
+        self.flows.get_mut(number)
+    }
+
+    /// Units come to the node before a place.
+    pub fn add_before(&mut self, place: u32, units: u32) {
+        if let Some(spot) = self.spots.get_mut(place as usize) {
+            spot.excess = spot.excess.saturating_add(units);
+        }
+    }
+
+    /// A unit waits after a place, or none does any more.
+    pub fn set_waits(&mut self, place: u32, waits: bool) {
+        if let Some(spot) = self.spots.get_mut(place as usize) {
+            spot.waits = waits;
+        }
+    }
+
+    /// Notes what came to before a gate from after its fan-ins, and what it sent on to before these.
+    fn note_coming(&mut self, place: u32) {
+        let Some(fan_ins) = self.fan_ins(place) else {
+            return;
+        };
+        let flow = self.flow(place);
+        for second in [false, true] {
+            if flow.up(second) {
+                self.set_waits(fan_ins.at(second), false);
+                self.add_before(place, 1);
+            }
+            if flow.down(second) > 0 {
+                self.add_before(fan_ins.at(second), flow.down(second));
+            }
+        }
+    }
+
+    /// Notes what goes on from before a gate.
+    fn note_going(&mut self, place: u32) {
+        let flow = self.flow(place);
+        let goes = u32::from(flow.through)
+            .saturating_add(flow.first_down)
+            .saturating_add(flow.second_down);
+        if let Some(spot) = self.spots.get_mut(place as usize) {
+            spot.excess = spot.excess.saturating_sub(goes);
+            spot.waits = spot.waits && (flow.through || place < self.latches);
+        }
+    }
+}
+
+/// What stands at each place where no gate has done anything: a unit has come after each known latch, and it waits where no arc leads to the
+/// sink.
+fn spots_of(alloc: Global, frame: &Frame) -> Result<Vec<Spot>, NoMemory> {
+    let aig = frame.circuit.aig();
+    let first = aig.first_latch();
+    let mut spots = Vec::with_capacity(alloc, frame.leaving.len())?;
+    for place in 0..aig.latches_and_gates() {
+        let var = first.wrapping_add(place as u32);
+        let holds = frame.pass.has(var) || aig.is_known_latch(var);
+        let leaves = frame.leaving.get(place).copied().unwrap_or(false);
+        spots.push(Spot {
+            excess: 0,
+            holds,
+            leaves,
+            waits: holds && !leaves,
+        })?;
+    }
+    Ok(spots)
+}

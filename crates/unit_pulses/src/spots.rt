@@ -1,0 +1,45 @@
+//! What stands at each place, and how far the sink is from there.
+
+/// The label of a node from which no unit can come to the sink.
+pub(crate) const FAR: u32 = u32::MAX;
+
+/// How many arcs lead to the sink from the node before a place and from that after it, at least.
+#[derive(Clone, Copy, Debug)]
+pub(crate) struct Labels {
+    pub before: u32,
+    pub after: u32,
+}
+
+impl Labels {
+    pub const NONE: Labels = Labels {
+        before: FAR,
+        after: FAR,
+    };
+}
+
+/// How many units stand before a place, and whether one waits after it.
+#[derive(Clone, Copy, Debug)]
+pub(crate) struct Spot {
+    pub excess: u32,
+    /// Whether it is a known latch or a passable gate.
+    pub holds: bool,
+    /// Whether an arc leads from after it to the sink.
+    pub leaves: bool,
+    pub waits: bool,
+}
+
+/// The label of the node before a place.
+pub(crate) fn label_before(labels: &[Labels], place: u32) -> u32 {
+    match labels.get(place as usize) {
+        Some(labels) => labels.before,
+        None => FAR,
+    }
+}
+
+/// The label of the node after a place.
+pub(crate) fn label_after(labels: &[Labels], place: u32) -> u32 {
+    match labels.get(place as usize) {
+        Some(labels) => labels.after,
+        None => FAR,
+    }
+}
