@@ -6,7 +6,11 @@ ghost use Rattle.map_circuits.specs.Growing.{Extends, IsConjunction, IsEquality}
 use aig_graph::{AigBuilder, BuildError, Lit};
 
 /// Adds the conjunction of two literals.
-pub(crate) fn add_conjunction(gates: &mut AigBuilder, a: Lit, b: Lit) -> Result<Lit, BuildError>
+///
+/// # Errors
+///
+/// `NoMemory` where memory is refused, `TooLarge` where the graph has as many variables as it may; it is as it was then.
+pub fn add_conjunction(gates: &mut AigBuilder, a: Lit, b: Lit) -> Result<Lit, BuildError>
     requires graph { IsGraph gates.old }
     requires a { IsLiteralOf gates.old a }
     requires b { IsLiteralOf gates.old b }

@@ -10,6 +10,6 @@ mod passing;
 
 pub use constraining::add_constraints;
 pub use errors::MapError;
-pub use gates::add_equality;
+pub use gates::{add_conjunction, add_equality};
 pub use moving::moved_functions;
 pub use passing::passed_functions;

@@ -1,0 +1,2 @@
+pub mod InstanceLaws
+pub mod ConjunctionLaws

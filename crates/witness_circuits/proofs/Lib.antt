@@ -1,0 +1,3 @@
+pub mod OpeningLaws
+pub mod JoiningLaws
+pub mod RunLaws

@@ -1,0 +1,3 @@
+pub mod Witnesses
+pub mod Joining
+pub mod Laws
