@@ -20,8 +20,9 @@ use Rattle.command_line.specs.declared.task.Comparison.{Comparison}
 use Rattle.command_line.specs.declared.task.Drawing.{Drawing}
 use Rattle.command_line.specs.declared.task.Counting.{Counting}
 use Rattle.command_line.specs.declared.task.Carrying.{Carrying}
+use Rattle.command_line.specs.declared.task.Checking.{Checking}
 use Rattle.command_line.specs.declared.task.Task.{Task}
-use Rattle.command_line.specs.declared.task.Task.TheVariants.{Retime, Batch, Stat, Convert, Sim, Same, Verify, Dot, Witness, Explain}
+use Rattle.command_line.specs.declared.task.Task.TheVariants.{Retime, Batch, Stat, Convert, Sim, Same, Verify, Check, Dot, Witness, Explain}
 
 -- the text is the first value of the argument with this id
 abbrev pub IsGiven : ArgMatches → List ℕ → Bor (List ℕ) → Type 0
@@ -140,6 +141,12 @@ pub record IsCarrying (matches : ArgMatches) (carrying : Carrying) : Type 0 wher
   pub witness : IsSource matches (codes "WITNESS") carrying.witness
   pub merge : IsFlag matches (codes "merge") carrying.merge
 
+-- the paths of the circuits and of the map that is checked are the values of their own arguments
+pub record IsChecking (matches : ArgMatches) (checking : Checking) : Type 0 where
+  pub input : IsSource matches (codes "IN") checking.input
+  pub retimed : IsSource matches (codes "OUT") checking.retimed
+  pub mapping : IsSource matches (codes "MAP") checking.map
+
 -- each path of the task, and the name of a fault, is the value of its own argument, so that no file is written that was to be read
 abbrev pub AsksFor : ArgMatches → Task → Type 0
 AsksFor matches (Retime retiming) = IsRetiming matches retiming
@@ -149,6 +156,7 @@ AsksFor matches (Convert input output spelling) = IsSource matches (codes "IN") 
 AsksFor matches (Sim input stimulus) = IsSource matches (codes "IN") input × IsSource matches (codes "STIM") stimulus
 AsksFor matches (Same comparison) = IsComparison matches comparison
 AsksFor matches (Verify verification) = IsVerification matches verification
+AsksFor matches (Check checking) = IsChecking matches checking
 AsksFor matches (Dot drawing) = IsDrawing matches drawing
 AsksFor matches (Witness carrying) = IsCarrying matches carrying
 AsksFor matches (Explain name) = IsGiven matches (codes "FAULT") name
@@ -162,6 +170,7 @@ command_of (Convert input output spelling) = codes "convert"
 command_of (Sim input stimulus) = codes "sim"
 command_of (Same comparison) = codes "same"
 command_of (Verify verification) = codes "verify"
+command_of (Check checking) = codes "check"
 command_of (Dot drawing) = codes "dot"
 command_of (Witness carrying) = codes "witness"
 command_of (Explain name) = codes "explain"

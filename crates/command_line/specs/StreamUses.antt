@@ -9,7 +9,7 @@ use Rattle.stream_paths.specs.declared.target.Target.{Target}
 use Rattle.stream_paths.specs.declared.target.Target.TheVariants as targets
 use Rattle.command_line.specs.declared.task.Retiming.{Retiming}
 use Rattle.command_line.specs.declared.task.Task.{Task}
-use Rattle.command_line.specs.declared.task.Task.TheVariants.{Retime, Batch, Stat, Convert, Sim, Same, Verify, Dot, Witness, Explain}
+use Rattle.command_line.specs.declared.task.Task.TheVariants.{Retime, Batch, Stat, Convert, Sim, Same, Verify, Check, Dot, Witness, Explain}
 
 -- what a task reads
 abbrev pub sources_of : Task → List Source
@@ -20,6 +20,7 @@ sources_of (Convert input output spelling) = input ∷ []
 sources_of (Sim input stimulus) = input ∷ stimulus ∷ []
 sources_of (Same comparison) = comparison.first ∷ comparison.second ∷ comparison.stimulus ∷ []
 sources_of (Verify verification) = verification.input ∷ verification.certificates ∷ []
+sources_of (Check checking) = checking.input ∷ checking.retimed ∷ checking.map ∷ []
 sources_of (Dot drawing) = drawing.input ∷ []
 sources_of (Witness carrying) = carrying.input ∷ carrying.retimed ∷ carrying.witness ∷ []
 sources_of (Explain name) = []
@@ -42,6 +43,7 @@ targets_of (Convert input output spelling) = output ∷ []
 targets_of (Sim input stimulus) = []
 targets_of (Same comparison) = []
 targets_of (Verify verification) = []
+targets_of (Check checking) = []
 targets_of (Dot drawing) = drawing.output ∷ []
 targets_of (Witness carrying) = []
 targets_of (Explain name) = []
@@ -78,6 +80,7 @@ covers_circuit (Convert input output spelling) = false
 covers_circuit (Sim input stimulus) = false
 covers_circuit (Same comparison) = false
 covers_circuit (Verify verification) = false
+covers_circuit (Check checking) = false
 covers_circuit (Dot drawing) = false
 covers_circuit (Witness carrying) = false
 covers_circuit (Explain name) = false

@@ -9,5 +9,5 @@ mod texts;
 
 pub use parse::parse_arguments;
 pub use task::{
-    Batch, Carrying, Comparison, Counting, Drawing, Retiming, Shown, Task, Verification,
+    Batch, Carrying, Checking, Comparison, Counting, Drawing, Retiming, Shown, Task, Verification,
 };

@@ -8,7 +8,7 @@ ghost use Rattle.command_line.specs.declared.task.Task.TheVariants.{Dot, Retime,
 use crate::program::program;
 use crate::stream_uses::stream_conflict;
 use crate::task::{
-    Batch, Carrying, Comparison, Counting, Drawing, Retiming, Shown, Task, Verification,
+    Batch, Carrying, Checking, Comparison, Counting, Drawing, Retiming, Shown, Task, Verification,
 };
 use clap::error::ErrorKind;
 use clap::{ArgMatches, Command, Error};
@@ -267,6 +267,16 @@ fn witness<'a>(matches: &ArgMatches<'a>) -> Option<Task<'a>>
     }))
 }
 
+fn check<'a>(matches: &ArgMatches<'a>) -> Option<Task<'a>>
+    ensures { IfSome result (Asks (codes "check") matches.now) }
+{
+    Some(Task::Check(Checking {
+        input: source(matches, "IN")?,
+        retimed: source(matches, "OUT")?,
+        map: source(matches, "MAP")?,
+    }))
+}
+
 fn explanation<'a>(matches: &ArgMatches<'a>) -> Option<Task<'a>>
     ensures { IfSome result (Asks (codes "explain") matches.now) }
 {
@@ -284,6 +294,7 @@ fn task_without_names<'a>(name: &str, matches: &ArgMatches<'a>) -> Option<Task<'
         "sim" => simulation(matches),
         "same" => comparison(matches),
         "witness" => witness(matches),
+        "check" => check(matches),
         "explain" => explanation(matches),
         _ => None,
     }

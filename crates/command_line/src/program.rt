@@ -310,6 +310,24 @@ fn verify<'a>(alloc: Global) -> Result<Command<'a>, AllocError> {
     with(command, json(alloc))
 }
 
+/// The circuit that was made of IN, in a command that reads both.
+fn retimed<'a>(alloc: Global) -> Arg<'a> {
+    path(alloc, "OUT", "The AIGER file that was written")
+}
+
+fn check<'a>(alloc: Global) -> Result<Command<'a>, AllocError> {
+    let command = command(
+        alloc,
+        "check",
+        texts::CHECK_ABOUT,
+        texts::CHECK_LONG_ABOUT,
+        texts::CHECK_EXAMPLE,
+    );
+    let command = command.arg(path(alloc, "IN", "The AIGER file that was retimed"));
+    let command = with(command, retimed(alloc));
+    with(command, path(alloc, "MAP", "The map of states"))
+}
+
 fn around<'a>(alloc: Global) -> Arg<'a> {
     Arg::new(alloc, "around")
         .long("around")
@@ -363,10 +381,7 @@ fn witness<'a>(alloc: Global) -> Result<Command<'a>, AllocError> {
         texts::WITNESS_EXAMPLE,
     );
     let command = command.arg(path(alloc, "IN", "The AIGER file that was retimed"));
-    let command = with(
-        command,
-        path(alloc, "OUT", "The AIGER file that was written"),
-    );
+    let command = with(command, retimed(alloc));
     let command = with(command, path(alloc, "WITNESS", "The witness for OUT"));
     with(command, merge(alloc, "OUT was written with --merge"))
 }
@@ -416,6 +431,7 @@ fn with_inquiries<'a>(
     program: Result<Command<'a>, AllocError>,
 ) -> Result<Command<'a>, AllocError> {
     let program = with_command(program, verify(alloc));
+    let program = with_command(program, check(alloc));
     let program = with_command(program, dot(alloc));
     let program = with_command(program, witness(alloc));
     with_command(program, explain(alloc))

@@ -40,6 +40,7 @@ fn stdin_uses(task: &Task<'_>) -> usize
             stdin_count(&[carrying.input, carrying.retimed, carrying.witness])
         }
         Task::Verify(verification) => stdin_count(&[verification.input, verification.certificates]),
+        Task::Check(checking) => stdin_count(&[checking.input, checking.retimed, checking.map]),
         Task::Dot(drawing) => stdin_count(&[drawing.input]),
         Task::Explain(_) => 0,
     }
@@ -72,6 +73,7 @@ fn stdout_uses(task: &Task<'_>) -> usize
         | Task::Same(_)
         | Task::Verify(_)
         | Task::Witness(_)
+        | Task::Check(_)
         | Task::Explain(_) => 0,
     }
 }
@@ -134,6 +136,7 @@ fn covers_circuit(task: &Task<'_>) -> bool
         | Task::Verify(_)
         | Task::Dot(_)
         | Task::Witness(_)
+        | Task::Check(_)
         | Task::Explain(_) => false,
     }
 }

@@ -134,6 +134,17 @@ pub struct Carrying<'a> {
     pub merge: bool,
 }
 
+/// What `check` is to do.
+#[derive(Clone, Copy)]
+pub struct Checking<'a> {
+    /// The circuit.
+    pub input: Source<'a>,
+    /// The circuit that was made of it.
+    pub retimed: Source<'a>,
+    /// The map of the states of the one to those of the other.
+    pub map: Source<'a>,
+}
+
 /// What a command line asks for.
 #[derive(Drop)]
 pub enum Task<'a> {
@@ -151,6 +162,8 @@ pub enum Task<'a> {
     Same(Comparison<'a>),
     /// Check the certificates of a retiming.
     Verify(Verification<'a>),
+    /// Check by a map of states that a circuit is a retiming of another.
+    Check(Checking<'a>),
     /// Write a picture of a circuit.
     Dot(Drawing<'a>),
     /// Carry a witness of a retimed circuit back to the one that it was made of.

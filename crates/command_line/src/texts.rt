@@ -111,6 +111,33 @@ be left with fewer latches ('open') or not:
 Exit status: 0 all are confirmed, 1 a file is refused or IN has no latch NAME,
 2 command line, 3 device, 4 out of memory, 5 a certificate is rejected.";
 
+pub(crate) const CHECK_ABOUT: &str =
+    "Checks by a map of states that a circuit is a retiming of another";
+
+pub(crate) const CHECK_LONG_ABOUT: &str =
+    "Reads a circuit, the circuit that was made of it, and a map of the states of the
+one to those of the other, as 'retime --map' writes it, and checks that by this
+map all properties of both are the same at each step, whoever made the files.
+
+Nothing is searched for. Gates with the same fan-ins are taken for one, and so
+are two literals that a constraint of MAP says to be equal. What has to be equal
+and isn't one literal then is not shown; a SAT solver may still show it, as
+docs/STATE_MAPS.md says.";
+
+pub(crate) const CHECK_EXAMPLE: &str = "Example:
+  fretime retime counter.aag smaller.aag --map counter.map
+  fretime check counter.aag smaller.aag counter.map
+
+It prints 'retiming', or the first that isn't shown, by its number from 0:
+  not shown: next latch 3
+
+At step 0 that is a constraint of MAP or a latch of OUT ('reset'). Else it is a
+constraint that may end to hold ('keep'), a latch of OUT ('next'), or an output,
+bad, constraint, justice or fairness of OUT ('read').
+
+Exit status: 0 a retiming, 1 a file is refused, MAP is no map, or shapes differ,
+2 command line, 3 device, 4 out of memory, 5 not shown.";
+
 pub(crate) const STAT_EXAMPLE: &str =
     "Latches are free where they have no known reset; free latches never move.
 
@@ -200,8 +227,8 @@ Faults of circuits, and some of them of other files too: BadHeader, TooLarge,
 MaxIndex, BadLine, BadLiteral, DefinedTwice, Undefined, Cycle, BadReset,
 BadDelta, Truncated, BadSymbol, Trailing. Of a stimulus or a witness: Width,
 TooMany, NoSuchProperty. Of names and pictures: NoSuchName, TooManyNodes. Of
-certificates: NotClosed, BadRoute, UsedTwice, CountDiffers. Of a run: NoMemory,
-Device.
+maps: NotAMap. Of certificates: NotClosed, BadRoute, UsedTwice, CountDiffers. Of
+a run: NoMemory, Device.
 
 Exit status: 0 done, 2 command line, or there is no such fault, 3 device, 4 out
 of memory.";
