@@ -27,6 +27,7 @@ outcome_of (fails.RefusedCertificates path fault) = ends.Refused
 outcome_of (fails.RefusedWitness path fault) = ends.Refused
 outcome_of (fails.NoSuchName path name) = ends.Refused
 outcome_of (fails.TooManyNodes path) = ends.Refused
+outcome_of (fails.NotAMap path) = ends.Refused
 outcome_of (fails.Device path) = ends.Device
 outcome_of fails.Memory = ends.Memory
 

@@ -28,7 +28,7 @@ pub enum Outcome {
     Memory,
     /// Two circuits differ.
     Differ,
-    /// A certificate is rejected, or a witness isn't confirmed.
+    /// A certificate is rejected, a witness isn't confirmed, or a retiming isn't shown to be one.
     Unconfirmed,
 }
 
@@ -75,6 +75,9 @@ pub enum Failure<'a> {
     /// The circuit has too many nodes for a picture.
     #[error("{0}: TooManyNodes, over 2000: --around NAME draws a neighbourhood")]
     TooManyNodes(&'a str),
+    /// The circuit of a map has a latch, a bad state, a justice property or a fairness constraint.
+    #[error("{0}: NotAMap")]
+    NotAMap(&'a str),
     /// The file couldn't be opened, created, read or written.
     #[error("{0}: device")]
     Device(&'a str),
@@ -156,7 +159,8 @@ impl<'a> Failure<'a> {
             | Failure::RefusedCertificates(_, _)
             | Failure::RefusedWitness(_, _)
             | Failure::NoSuchName(_, _)
-            | Failure::TooManyNodes(_) => Outcome::Refused,
+            | Failure::TooManyNodes(_)
+            | Failure::NotAMap(_) => Outcome::Refused,
             Failure::Device(_) => Outcome::Device,
             Failure::Memory => Outcome::Memory,
         }

@@ -49,6 +49,7 @@ fault_of (fails.RefusedCertificates path fault) = faults.Certificates fault
 fault_of (fails.RefusedWitness path fault) = faults.Witness fault
 fault_of (fails.NoSuchName path name) = faults.NoSuchName
 fault_of (fails.TooManyNodes path) = faults.TooManyNodes
+fault_of (fails.NotAMap path) = faults.NotAMap
 fault_of (fails.Device path) = faults.Device
 fault_of fails.Memory = faults.Circuit reading.NoMemory
 
@@ -61,6 +62,7 @@ name_of (fails.RefusedList path fault) = None
 name_of (fails.RefusedCertificates path fault) = None
 name_of (fails.RefusedWitness path fault) = None
 name_of (fails.TooManyNodes path) = None
+name_of (fails.NotAMap path) = None
 name_of (fails.Device path) = None
 name_of fails.Memory = None
 
@@ -73,6 +75,7 @@ path_of (fails.RefusedCertificates path fault) = Some path
 path_of (fails.RefusedWitness path fault) = Some path
 path_of (fails.NoSuchName path name) = Some path
 path_of (fails.TooManyNodes path) = Some path
+path_of (fails.NotAMap path) = Some path
 path_of (fails.Device path) = Some path
 path_of fails.Memory = None
 

@@ -24,6 +24,7 @@ pub enum Fault {
     NoSuchName,
     NoSuchProperty,
     TooManyNodes,
+    NotAMap,
     NotClosed,
     BadRoute,
     UsedTwice,
@@ -32,7 +33,7 @@ pub enum Fault {
     Device,
 }
 
-const FAULTS: [Fault; 24] = [
+const FAULTS: [Fault; 25] = [
     Fault::BadHeader,
     Fault::TooLarge,
     Fault::MaxIndex,
@@ -51,6 +52,7 @@ const FAULTS: [Fault; 24] = [
     Fault::NoSuchName,
     Fault::NoSuchProperty,
     Fault::TooManyNodes,
+    Fault::NotAMap,
     Fault::NotClosed,
     Fault::BadRoute,
     Fault::UsedTwice,
@@ -91,6 +93,7 @@ impl Fault {
             Fault::NoSuchName => "NoSuchName",
             Fault::NoSuchProperty => "NoSuchProperty",
             Fault::TooManyNodes => "TooManyNodes",
+            Fault::NotAMap => "NotAMap",
             Fault::NotClosed => "NotClosed",
             Fault::BadRoute => "BadRoute",
             Fault::UsedTwice => "UsedTwice",

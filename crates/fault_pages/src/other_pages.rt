@@ -37,6 +37,14 @@ pub const TOO_MANY_NODES: Page = Page {
     advice: "Draw a neighbourhood: 'fretime dot IN OUT --around NAME --depth 3'.",
 };
 
+pub const NOT_A_MAP: Page = Page {
+    meaning: "The circuit of a map of states has more than gates, outputs and constraints.",
+    rule: "A map has no latch, bad state, justice property or fairness constraint. Its
+inputs are the latches of IN, its outputs those of OUT.",
+    advice: "See that IN, OUT and MAP are given in this order: 'fretime retime IN OUT --map
+MAP' writes MAP.",
+};
+
 /// What to do where a certificate is rejected.
 const CHECK_AGAIN: &str =
     "See that the certificates are of this IN, and give each --keep that 'retime'

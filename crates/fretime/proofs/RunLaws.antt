@@ -31,6 +31,7 @@ failed json (fails.RefusedCertificates path fault) old mid new same p = printed 
 failed json (fails.RefusedWitness path fault) old mid new same p = printed json Refused old mid new same (λ j q. inl q) refl p
 failed json (fails.NoSuchName path name) old mid new same p = printed json Refused old mid new same (λ j q. inl q) refl p
 failed json (fails.TooManyNodes path) old mid new same p = printed json Refused old mid new same (λ j q. inl q) refl p
+failed json (fails.NotAMap path) old mid new same p = printed json Refused old mid new same (λ j q. inl q) refl p
 failed json (fails.Device path) old mid new before p = inl tt
 failed json fails.Memory old mid new same p = printed json Memory old mid new same (λ j q. inl q) refl p
 
@@ -57,6 +58,7 @@ nothing_printed (fails.RefusedCertificates path fault) s = refl
 nothing_printed (fails.RefusedWitness path fault) s = refl
 nothing_printed (fails.NoSuchName path name) s = refl
 nothing_printed (fails.TooManyNodes path) s = refl
+nothing_printed (fails.NotAMap path) s = refl
 nothing_printed (fails.Device path) s = tt
 nothing_printed fails.Memory s = refl
 

@@ -7,13 +7,14 @@ use Rattle.json_reports.specs.Differences.{shapes_data}
 use Rattle.json_reports.specs.Lines.{json_line}
 use Rattle.stream_paths.specs.Streams.{is_stdin, is_stdout}
 use Rattle.command_line.specs.declared.task.Task.{Task}
-use Rattle.command_line.specs.declared.task.Task.TheVariants.{Retime, Batch, Stat, Convert, Sim, Same, Verify, Dot, Witness, Explain}
+use Rattle.command_line.specs.declared.task.Task.TheVariants.{Retime, Batch, Stat, Convert, Sim, Same, Verify, Check, Dot, Witness, Explain}
 use Rattle.circuit_files.specs.Codes.{status_of}
 use Rattle.circuit_files.specs.Outcomes.{outcome_of}
 use Rattle.circuit_files.specs.declared.outcome.Outcome.{Outcome}
 use Rattle.circuit_files.specs.declared.outcome.Failure.{Failure}
 use Rattle.command_objects.specs.Objects.{PrintsRefusal}
 use Rattle.simulation_commands.specs.Comparing.{PrintsFinding}
+use Rattle.map_commands.specs.Checking.{PrintsCheck}
 use Rattle.commands.specs.Drawings.{PrintsPicture}
 use Rattle.commands.specs.Fates.{PrintsFate}
 use Rattle.commands.specs.Pipes.{ConvertsPipe, IsPipe, WritesPipe}
@@ -41,6 +42,7 @@ Does (Convert input output spelling) before after old new ended = is_stdin input
 Does (Sim input stimulus) before after old new ended = PrintsTrace input stimulus before after old new ended
 Does (Same comparison) before after old new ended = PrintsFinding comparison before after old new ended
 Does (Verify verification) before after old new ended = PrintsAuditOf verification before after old new ended
+Does (Check checking) before after old new ended = PrintsCheck checking before after old new ended
 Does (Dot drawing) before after old new ended = PrintsPicture drawing before after old new ended
 Does (Witness carrying) before after old new ended = PrintsFate carrying before after old new ended
 Does (Explain name) before after old new ended = Explains name.now old new ended

@@ -18,6 +18,7 @@ use commands::{
     convert, print_retimed, print_statistics, print_verification, print_witness_back, write_picture,
 };
 use counted_io::{Buffered, CountedRead, CountedWrite};
+use map_commands::print_check;
 use simulation_commands::{print_comparison, print_simulation};
 use std::alloc::Global;
 use std::fmt::Write;
@@ -58,6 +59,7 @@ fn run_task<
         Task::Sim(input, stimulus) => print_simulation(rt, alloc, *input, *stimulus, stdin, out),
         Task::Same(comparison) => print_comparison(rt, alloc, comparison, stdin, out),
         Task::Verify(verification) => print_verification(rt, alloc, verification, stdin, out),
+        Task::Check(checking) => print_check(rt, alloc, checking, stdin, out),
         Task::Dot(drawing) => write_picture(rt, alloc, drawing, stdin, out),
         Task::Witness(carrying) => print_witness_back(rt, alloc, carrying, stdin, out),
         Task::Explain(name) => explain(alloc, *name, out, err),

@@ -176,6 +176,7 @@ pub fn check_map(
     map: &Circuit,
 ) -> Result<Answer, CheckError>
     ensures answer { IfOk result (IsAnswer first.now second.now map.now) }
+    ensures fitting { OnOk result (IsMap map.now × AreFitting first.now second.now map.now) }
     ensures not_a_map { IsErrOf result CheckError.NotAMap ↔ (IsMap map.now → ⊥) }
     ensures shapes { IsErrOf result CheckError.ShapesDiffer ↔ (IsMap map.now
         × (AreFitting first.now second.now map.now → ⊥)) }

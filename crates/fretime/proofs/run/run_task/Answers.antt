@@ -22,6 +22,9 @@ returns-in-Same-clause-prints g c = by_command c.print_comparison.result _ _ c.p
 pub returns-in-Verify-clause-prints : goal.returns-in-Verify-clause-prints
 returns-in-Verify-clause-prints g c = by_command c.print_verification.result _ _ c.print_verification.ensures.prints
 
+pub returns-in-Check-clause-prints : goal.returns-in-Check-clause-prints
+returns-in-Check-clause-prints g c = by_command c.print_check.result _ _ c.print_check.ensures.prints
+
 pub returns-in-Dot-clause-prints : goal.returns-in-Dot-clause-prints
 returns-in-Dot-clause-prints g c = by_command c.write_picture.result _ _ c.write_picture.ensures.prints
 

@@ -1,0 +1,19 @@
+-- What is printed of a map that was checked, by how the run ends.
+use Rattle.std.proofs.Common.{inl, Result}
+use Rattle.counted_io.specs.Output.{Output, WritesAll}
+use Rattle.circuit_files.specs.declared.outcome.Outcome.{Outcome}
+use Rattle.circuit_files.specs.declared.outcome.Failure.{Failure}
+use Rattle.command_endings.specs.Printing.{EndsPrinting, Prints, ending}
+use Rattle.command_endings.proofs.PrintingLaws.{lines_print}
+use Rattle.map_commands.specs.Checking.{outcome_of_verdict, verdict_text}
+use Rattle.map_commands.specs.declared.check.Verdict.{Verdict}
+use Rattle.map_commands.specs.declared.check.Verdict.TheVariants.{Retiming, NotShown, ShapesDiffer}
+
+verdict_may_be_printed : (verdict : Verdict) (old new : Output) → WritesAll old new (verdict_text verdict) → Prints (outcome_of_verdict verdict) old new
+verdict_may_be_printed Retiming old new written = tt
+verdict_may_be_printed (NotShown doubt) old new written = tt
+verdict_may_be_printed ShapesDiffer old new written = inl written
+
+pub verdict_prints : (verdict : Verdict) (old new : Output) (result : Result Outcome Failure)
+    → EndsPrinting (outcome_of_verdict verdict) (verdict_text verdict) old new result → Prints (ending result) old new
+verdict_prints verdict old new result p = lines_print (outcome_of_verdict verdict) (verdict_text verdict) old new result (verdict_may_be_printed verdict old new) p
