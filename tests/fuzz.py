@@ -14,7 +14,7 @@ import tempfile
 import map_checker
 import random_files
 from reference import program as reference_program
-from reference.circuit import ordered
+from reference.circuit import FREE, ordered, text
 from reference.reading import Fault, read
 from reference.retiming import greatest_least_by_flow, held_latches, least_of_all, passable, smallest_least_by_flow
 
@@ -155,6 +155,36 @@ def compare_maps(rng, comparison):
     comparison.count(maps[0] == maps[1], f'map {words} on {data}\n{maps}')
     parts = [map_checker.read_circuit(part) for part in (data, retimed, maps[1])]
     comparison.count(map_checker.Judge().shows(*parts), f'the checker of maps refuses {words} on {data}\n{maps[1]}')
+    compare_checks(rng, comparison, data, retimed, maps[1])
+
+
+def changed(rng, c):
+    """The circuit with one thing changed: the sign of a fan-in or of a next literal, a reset, a property, or one constraint less."""
+    kind = rng.choice([name for name in ('gates', 'latches', 'outputs', 'bad', 'constraints', 'fairness') if getattr(c, name)] or ['outputs'])
+    parts = list(getattr(c, kind))
+    if parts:
+        k, other = rng.randrange(len(parts)), 2 * rng.randrange(c.end()) + rng.randrange(2)
+        if kind == 'gates':
+            a, b = parts[k]
+            parts[k] = ordered(*rng.choice([(a ^ 1, b), (a, b ^ 1), (a, a ^ b & 1)]))
+        elif kind == 'latches':
+            next_lit, reset = parts[k]
+            parts[k] = rng.choice([(next_lit ^ 1, reset), (other, reset), (next_lit, rng.choice([0, 1, FREE]))])
+        elif kind == 'constraints' and rng.random() < 0.5:
+            del parts[k]
+        else:
+            parts[k] = rng.choice([parts[k] ^ 1, other])
+    return dataclasses.replace(c, **{kind: parts})
+
+
+def compare_checks(rng, comparison, data, retimed, map_data):
+    """What `check` says of a map, and where something was changed; and of three files in another order."""
+    comparison.run(['check', 'in', 'other', 'map'], {'in': data, 'other': retimed, 'map': map_data})
+    comparison.run(['check', *rng.sample(['in', 'other', 'map'], 3)], {})
+    parts = [read(part)[0] for part in (data, retimed, map_data)]
+    for _ in range(4):
+        worse = [changed(rng, part) if k == chosen else part for chosen in [rng.choice([0, 1, 1, 2, 2])] for k, part in enumerate(parts)]
+        comparison.run(['check', 'in', 'other', 'map'], dict(zip(('in', 'other', 'map'), (text(part, rng.choice(['aag', 'aig'])) for part in worse))))
 
 
 def compare_judges(comparison, certificates, held, data):

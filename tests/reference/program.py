@@ -3,6 +3,7 @@ import os
 import sys
 
 from reference.certificates import audit, certificates, read_blocks, written
+from reference.checks import checked, is_map
 from reference.circuit import text
 from reference.maps import state_map
 from reference.merging import merge_counts
@@ -12,7 +13,7 @@ from reference.retiming import NoSuchName, frames_of, held_latches, passable, re
 from reference.simulation import difference_text, read_stimulus, trace, trace_text
 from reference.witnesses import carried_text
 
-PATHS = {'retime': 2, 'batch': 1, 'stat': 1, 'convert': 2, 'sim': 2, 'same': 3, 'verify': 2, 'dot': 2, 'witness': 3}
+PATHS = {'retime': 2, 'batch': 1, 'stat': 1, 'convert': 2, 'sim': 2, 'same': 3, 'verify': 2, 'check': 3, 'dot': 2, 'witness': 3}
 OPTIONS = {'retime': {'--ascii', '--binary', '--workers', '--frames', '--near', '--merge', '--keep', '--cert', '--map', '--progress',
                       '--quiet'},
            'verify': {'--keep', '--merge'}, 'dot': {'--frame', '--merge', '--keep', '--around', '--depth'},
@@ -268,6 +269,14 @@ def verify(paths, options):
     return status, ''.join(f'{line}\n' for line in lines)
 
 
+def check(paths, _):
+    c, d, m = (circuit_of(path)[0] for path in paths)
+    if not is_map(m):
+        raise Ends(1, f'{source_name(paths[2])}: NotAMap')
+    said, status = checked(c, d, m)
+    return status, said
+
+
 def drawn_circuit(c, path, options):
     """What a picture shows: the circuit, its held latches and a set. With --frame the circuit is cleaned, and the set is the one that
     its next frame takes."""
@@ -307,7 +316,7 @@ def witness(paths, options):
 
 
 COMMANDS = {'retime': retime, 'batch': batch, 'stat': stat, 'convert': convert, 'sim': sim, 'same': same, 'verify': verify,
-            'dot': dot, 'witness': witness}
+            'check': check, 'dot': dot, 'witness': witness}
 
 
 def run(words):
