@@ -1,5 +1,5 @@
 -- Why there is no retiming with a map.
-use Rattle.std.proofs.Common.{ℕ, ◌≡◌, ◌∙◌, inl, inr, refl, sym, subst}
+use Rattle.std.proofs.Common.{ℕ, ◌≡◌, ◌∙◌, ◌++◌, ◌∷◌, [], List, inl, inr, refl, sym, subst}
 use Rattle.aig_graph.specs.Circuits.{Netlist}
 use Rattle.counted_io.specs.Input.{Input}
 use Rattle.counted_io.specs.Output.{Output, WritesAll, WritesPart}
@@ -11,6 +11,8 @@ use Rattle.frames.specs.declared.errors.RetimeError.TheVariants.{NoMemory, NoSuc
 use Rattle.frames.specs.declared.options.Options.{Options}
 use Rattle.frames.specs.Answering.{IsWritten}
 use Rattle.frames.specs.Named.{IsFirstMissingBy, names_in}
+use Rattle.frames.specs.Stages.{Tells, Told, Writing, stages_of}
+use Rattle.frames.proofs.StageLaws.{tells-then}
 use Rattle.frames.proofs.StopLaws.{stops-answering}
 use Rattle.std.specs.Option.{unwrap_or}
 use Rattle.file_words.specs.declared.spelling.Spelling.{Spelling}
@@ -88,3 +90,9 @@ mapped-answer options input old new spelt m read of = record {
   map = of.map;
   spelling = of.spelling;
 }
+
+-- the stages that are told of a retiming are those of the answer that it is written as
+pub told-answer : {W : Type 0} (was_told : W → List Told → Type 0) (limit : ℕ) (a b c : W) (made : Made) (m : Mapped) → m.retimed ≡ made.retimed
+    → Tells was_told a b (stages_of limit made.retimed) → Tells was_told b c (Writing ∷ []) → Tells was_told a c (stages_of limit m.retimed ++ Writing ∷ [])
+told-answer was_told limit a b c made m same stages writing =
+    subst (λ (r : Retimed). Tells was_told a c (stages_of limit r ++ Writing ∷ [])) (sym same) (tells-then was_told a b c (stages_of limit made.retimed) (Writing ∷ []) stages writing)

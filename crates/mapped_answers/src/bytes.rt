@@ -1,11 +1,12 @@
 //! From a reader's bytes to a writer's. The map is made before anything is written, so that memory that is refused for it, or its size,
 //! leaves what is written as it was.
-ghost use Rattle.std.specs.Prelude.{◌≡◌, [], false, true, IfErr, IfOk, OnOk, unwrap_or};
+ghost use Rattle.std.specs.Prelude.{◌≡◌, [], ◌∷◌, ◌++◌, false, true, IfErr, IfOk, OnOk, unwrap_or};
 ghost use Rattle.aig_graph.specs.Circuits.{IsNetlist};
 ghost use Rattle.aig_graph.specs.Graph.{IsGraph};
 ghost use Rattle.aig_binary.specs.Ending.{IsReadError, ReadsToEnd, Spells};
 ghost use Rattle.aig_binary.specs.Spellings.{text_in};
 ghost use Rattle.counted_io.specs.Output.{Writes};
+ghost use Rattle.frames.specs.Stages.{Tells, Writing, stages_of};
 ghost use Rattle.mapped_answers.specs.Mapping.{IsMadeCutOff, IsMadeWritten, IsMapped, IsMappedError, IsMappedOf, IsMappingStop};
 
 use crate::making::{Made, made_over};
@@ -79,6 +80,8 @@ fn mapped_spelt<W: CountedWrite, G: PhaseGate, V: FrameWatcher>(
         (W.output writer.new)) }
     ensures err { IfErr result (IsMappingStop options.now spelt (W.output writer.old)
         (W.output writer.new)) }
+    ensures told { IfOk result (λ mapped. Tells V.was_told watcher.old watcher.new
+        (stages_of options.now.max_frames mapped.retimed ++ Writing ∷ [])) }
 {
     let SpeltCircuit {
         circuit,
@@ -108,8 +111,8 @@ fn read_by<R: CountedRead, C: CircuitReader + Drop>(
 }
 
 /// Reads a circuit, retimes it and writes it as `frames::retime_bytes` does, and returns its map too, which is made before the
-/// circuit is written. The options ask for certificates, from which the map is made, and merge no latches. The circuit that was read is kept until the
-/// map is there.
+/// circuit is written. The options ask for certificates, from which the map is made, and merge no latches. The circuit that was
+/// read is kept until the map is there. A watcher is told what `frames::retime_bytes_watched` tells it.
 ///
 /// # Errors
 ///
@@ -130,6 +133,8 @@ pub fn retime_bytes_mapped<R: CountedRead, W: CountedWrite, G: PhaseGate, V: Fra
         (W.output writer.new) options.now) }
     ensures err { IfErr result (IsMappedError options.now (R.input reader.old) (R.input reader.new)
         (W.output writer.old) (W.output writer.new)) }
+    ensures told { IfOk result (λ mapped. Tells V.was_told watcher.old watcher.new
+        (stages_of options.now.max_frames mapped.retimed ++ Writing ∷ [])) }
 {
     match read_by(reader, AnyReader::new(alloc)) {
         Ok(spelt) => mapped_spelt(rt, alloc, spelt, writer, options, crew, watcher),

@@ -2,6 +2,7 @@
 ghost use Rattle.std.specs.Prelude.{◌≡◌, false, true, IfErr, IfOk};
 ghost use Rattle.frames.specs.Named.{NoneMissingBy};
 ghost use Rattle.frames.specs.Retiming.{IsRetimedBy};
+ghost use Rattle.frames.specs.Stages.{Tells, stages_of};
 ghost use Rattle.mapped_answers.specs.Mapping.{IsMade, IsMakingError, IsMapError};
 
 use crate::mapped::MappedError;
@@ -42,6 +43,7 @@ fn with_map(
     requires retimed { IsRetimedBy options.now circuit.now retimed }
     ensures ok { IfOk result (IsMade options.now circuit.now) }
     ensures err { IfErr result IsMapError }
+    ensures same { IfOk result (λ made. made.retimed ≡ retimed) }
 {
     match state_map(alloc, circuit, &retimed, options.keep.as_slice()) {
         Ok(map) => Ok(Made { retimed, map }),
@@ -65,6 +67,8 @@ fn made_of<G: PhaseGate, V: FrameWatcher>(
     requires merge { options.now.merge ≡ false }
     ensures ok { IfOk result (IsMade options.now circuit.now) }
     ensures err { IfErr result (IsMakingError options.now circuit.now) }
+    ensures told { IfOk result (λ made. Tells V.was_told watcher.old watcher.new
+        (stages_of options.now.max_frames made.retimed)) }
 {
     match retime_watched(rt, alloc, circuit, options, crew, watcher) {
         Ok(retimed) => with_map(alloc, circuit, retimed, options),
@@ -85,6 +89,8 @@ pub(crate) fn made_over<G: PhaseGate, V: FrameWatcher>(
     requires merge { options.now.merge ≡ false }
     ensures ok { IfOk result (IsMade options.now circuit) }
     ensures err { IfErr result (IsMakingError options.now circuit) }
+    ensures told { IfOk result (λ made. Tells V.was_told watcher.old watcher.new
+        (stages_of options.now.max_frames made.retimed)) }
 {
     let made = made_of(rt, alloc, &circuit, options, crew, watcher);
     drop(circuit);

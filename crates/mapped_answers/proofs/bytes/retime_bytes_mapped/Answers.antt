@@ -23,3 +23,6 @@ returns-in-Ok-clause-err g c =
     let spelt = c.in-Ok.spelt in
     IfErr-weaker c.mapped_spelt.result (IsMappingStop options spelt before after) (IsMappedError options old new before after)
     (λ e stop. stops-mapping options old new before after spelt e c.in-Ok.ensures.read c.in-Ok.ensures.circuit stop) c.mapped_spelt.ensures.err
+
+pub returns-in-Ok-clause-told : goal.returns-in-Ok-clause-told
+returns-in-Ok-clause-told g c = c.mapped_spelt.ensures.told
