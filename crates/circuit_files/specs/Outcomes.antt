@@ -31,6 +31,18 @@ outcome_of (fails.NotAMap path) = ends.Refused
 outcome_of (fails.Device path) = ends.Device
 outcome_of fails.Memory = ends.Memory
 
+-- the failure names this file, or none, since memory was wanting
+abbrev pub IsAbout : List ℕ → Failure → Type 0
+IsAbout name (fails.Refused path fault) = path.now ≡ name
+IsAbout name (fails.RefusedStimulus path fault) = path.now ≡ name
+IsAbout name (fails.RefusedList path fault) = path.now ≡ name
+IsAbout name (fails.RefusedCertificates path fault) = path.now ≡ name
+IsAbout name (fails.RefusedWitness path fault) = path.now ≡ name
+IsAbout name (fails.NoSuchName path latch) = path.now ≡ name
+IsAbout name (fails.TooManyNodes path) = path.now ≡ name
+IsAbout name (fails.Device path) = path.now ≡ name
+IsAbout name fails.Memory = Unit {0}
+
 -- the failure that an error of reading a circuit or a stimulus is, with the file's path
 abbrev pub failure_of_reading : ReadError → Bor (List ℕ) → Failure
 failure_of_reading reading.NoMemory path = fails.Memory

@@ -3,7 +3,9 @@ ghost use Rattle.std.specs.Prelude.{◌≡◌, [], true, false, IfErr, IfOk, Mat
 ghost use Rattle.counted_io.specs.Input.{ReadsAll};
 ghost use Rattle.aig_binary.specs.Ending.{IsReadError, Spells};
 ghost use Rattle.circuit_files.specs.Reading.{AreCertificatesOf, IsBytesFailure, IsCircuitFailure, IsOfStdin, IsReadingOfStdin, IsStimulusOf, IsWitnessOf};
-ghost use Rattle.stream_paths.specs.Streams.{is_stdin};
+ghost use Rattle.circuit_files.specs.Outcomes.{IsAbout};
+ghost use Rattle.circuit_files.specs.declared.outcome.Failure.TheVariants as fails;
+ghost use Rattle.stream_paths.specs.Streams.{is_stdin, source_name};
 
 use crate::outcome::Failure;
 use aig_binary::{AnyReader, CircuitReader, SpeltCircuit, read_circuit};
@@ -39,10 +41,21 @@ fn circuit_of<'a, R: CountedRead>(
     ensures circuit { IfOk result (Spells (R.input reader.old)) }
     ensures err { IfErr result (IsCircuitFailure (R.input reader.old)
         (R.input reader.new) path.entry) }
+    ensures named { IfErr result (IsAbout path.now) }
 {
     match circuit_by(reader, AnyReader::new(alloc)) {
         Ok(spelt) => Ok(spelt),
         Err(error) => Err(Failure::of_reading(error, path)),
+    }
+}
+
+/// The file with this path, to be read.
+pub fn opened<'a, R: Files>(rt: &R, path: &'a str) -> Result<R::File, Failure<'a>>
+    ensures { IfErr result (λ failure. failure ≡ fails.Device path.entry) }
+{
+    match File::open(rt, path) {
+        Ok(file) => Ok(file),
+        Err(_) => Err(Failure::Device(path)),
     }
 }
 
@@ -51,10 +64,10 @@ fn circuit_of_file<'a, R: Files>(
     rt: &R,
     alloc: Global,
     path: &'a str,
-) -> Result<SpeltCircuit, Failure<'a>> {
-    let Ok(input) = File::open(rt, path) else {
-        return Err(Failure::Device(path));
-    };
+) -> Result<SpeltCircuit, Failure<'a>>
+    ensures { IfErr result (IsAbout path.now) }
+{
+    let input = opened(rt, path)?;
     circuit_of(alloc, &mut Counted::new(input), path)
 }
 
@@ -68,6 +81,7 @@ pub fn circuit_at<'a, R: Files, I: CountedRead>(
     ensures stdin { is_stdin source.entry ≡ true → MatchResult result (Spells (I.input stdin.old))
         (IsOfStdin (IsCircuitFailure (I.input stdin.old) (I.input stdin.new))) }
     ensures file { is_stdin source.entry ≡ false → I.input stdin.new ≡ I.input stdin.old }
+    ensures named { IfErr result (IsAbout (source_name source.entry)) }
 {
     match source {
         Source::Stdin => circuit_of(alloc, stdin, source.name()),
@@ -85,6 +99,7 @@ fn bytes_of<'a, R: CountedRead>(
         (R.input reader.new) bytes.items) }
     ensures err { IfErr result (IsBytesFailure (R.input reader.old)
         (R.input reader.new) path.entry) }
+    ensures named { IfErr result (IsAbout path.now) }
 {
     match read_all(alloc, reader) {
         Ok(bytes) => Ok(bytes),
@@ -97,10 +112,10 @@ pub fn bytes_of_file<'a, R: Files>(
     rt: &R,
     alloc: Global,
     path: &'a str,
-) -> Result<Vec<u8>, Failure<'a>> {
-    let Ok(input) = File::open(rt, path) else {
-        return Err(Failure::Device(path));
-    };
+) -> Result<Vec<u8>, Failure<'a>>
+    ensures { IfErr result (IsAbout path.now) }
+{
+    let input = opened(rt, path)?;
     bytes_of(alloc, &mut Counted::new(input), path)
 }
 
@@ -115,6 +130,7 @@ pub fn bytes_at<'a, R: Files, I: CountedRead>(
         (λ bytes. ReadsAll (I.input stdin.old) (I.input stdin.new) bytes.items)
         (IsOfStdin (IsBytesFailure (I.input stdin.old) (I.input stdin.new))) }
     ensures file { is_stdin source.entry ≡ false → I.input stdin.new ≡ I.input stdin.old }
+    ensures named { IfErr result (IsAbout (source_name source.entry)) }
 {
     match source {
         Source::Stdin => bytes_of(alloc, stdin, source.name()),
@@ -129,7 +145,8 @@ fn stimulus_of<'a>(
     path: &'a str,
     circuit: &Circuit,
 ) -> Result<Stimulus, Failure<'a>>
-    ensures { IsStimulusOf circuit.now.aig bytes.now path.entry result }
+    ensures reads { IsStimulusOf circuit.now.aig bytes.now path.entry result }
+    ensures named { IfErr result (IsAbout path.now) }
 {
     let inputs = circuit.aig().inputs() as usize;
     let free = circuit.aig().free_latches() as usize;
@@ -150,6 +167,7 @@ pub fn stimulus_at<'a, R: Files, I: CountedRead>(
     ensures stdin { is_stdin source.entry ≡ true → IsReadingOfStdin (I.input stdin.old)
         (I.input stdin.new) (IsStimulusOf circuit.now.aig) result }
     ensures file { is_stdin source.entry ≡ false → I.input stdin.new ≡ I.input stdin.old }
+    ensures named { IfErr result (IsAbout (source_name source.entry)) }
 {
     let bytes = bytes_at(rt, alloc, source, stdin)?;
     stimulus_of(alloc, bytes.as_slice(), source.name(), circuit)
@@ -157,7 +175,8 @@ pub fn stimulus_at<'a, R: Files, I: CountedRead>(
 
 /// The certificates of the bytes of a file.
 fn certificates_of<'a>(alloc: Global, bytes: &[u8], path: &'a str) -> Result<CertFile, Failure<'a>>
-    ensures { AreCertificatesOf bytes.now path.entry result }
+    ensures reads { AreCertificatesOf bytes.now path.entry result }
+    ensures named { IfErr result (IsAbout path.now) }
 {
     match read_cert(alloc, bytes) {
         Ok(file) => Ok(file),
@@ -175,6 +194,7 @@ pub fn certificates_at<'a, R: Files, I: CountedRead>(
     ensures stdin { is_stdin source.entry ≡ true → IsReadingOfStdin (I.input stdin.old)
         (I.input stdin.new) AreCertificatesOf result }
     ensures file { is_stdin source.entry ≡ false → I.input stdin.new ≡ I.input stdin.old }
+    ensures named { IfErr result (IsAbout (source_name source.entry)) }
 {
     let bytes = bytes_at(rt, alloc, source, stdin)?;
     certificates_of(alloc, bytes.as_slice(), source.name())
@@ -187,7 +207,8 @@ fn witness_of<'a>(
     path: &'a str,
     circuit: &Circuit,
 ) -> Result<Witness, Failure<'a>>
-    ensures { IsWitnessOf circuit.now bytes.now path.entry result }
+    ensures reads { IsWitnessOf circuit.now bytes.now path.entry result }
+    ensures named { IfErr result (IsAbout path.now) }
 {
     match read_witness(alloc, bytes, &Widths::of(circuit)) {
         Ok(witness) => Ok(witness),
@@ -206,6 +227,7 @@ pub fn witness_at<'a, R: Files, I: CountedRead>(
     ensures stdin { is_stdin source.entry ≡ true → IsReadingOfStdin (I.input stdin.old)
         (I.input stdin.new) (IsWitnessOf circuit.now) result }
     ensures file { is_stdin source.entry ≡ false → I.input stdin.new ≡ I.input stdin.old }
+    ensures named { IfErr result (IsAbout (source_name source.entry)) }
 {
     let bytes = bytes_at(rt, alloc, source, stdin)?;
     witness_of(alloc, bytes.as_slice(), source.name(), circuit)

@@ -5,6 +5,8 @@ mod files;
 mod lazy_file;
 mod outcome;
 
-pub use files::{bytes_at, bytes_of_file, certificates_at, circuit_at, stimulus_at, witness_at};
+pub use files::{
+    bytes_at, bytes_of_file, certificates_at, circuit_at, opened, stimulus_at, witness_at,
+};
 pub use lazy_file::LazyFile;
 pub use outcome::{Failure, Outcome};
