@@ -7,7 +7,7 @@ ghost use Rattle.pulse.specs.Conditions.{IsMaxPreflow};
 use crate::greatest::greatest_cut;
 use aig_graph::{Circuit, ClosedSet, Keep, NoMemory};
 use frame_net::{Net, Tables, passable};
-use gate_flows::{GateFlow, first_wishes, gate_flows, wishes};
+use gate_flows::{GateFlow, first_flows, gate_flows, wishes};
 use pulse::{Crew, FlowTables, MaxPreflow, PhaseGate, PulseError, run_along_wishes};
 use std::alloc::Global;
 use std::thread::Threads;
@@ -80,25 +80,28 @@ fn note(
     }
 }
 
-/// The wishes of a flow: along what the last one did, or along a first start where nothing is known of it. A crew of two or more begins the
-/// flow of a small network without any: its first pulses are large for their network, so they are shared out.
-fn start_wishes<G: PhaseGate>(
+/// Where nothing is known of a flow, `flows` becomes what a start does at the circuit's gates. A crew of two or more begins the flow of a small
+/// network without any: its first pulses are large for their network, so they are shared out.
+///
+/// # Errors
+///
+/// `NoMemory`; then `flows` is as before.
+pub fn start_if_unknown<G: PhaseGate>(
     alloc: Global,
     circuit: &Circuit,
+    keep: &Keep,
     net: &Net,
     crew: &Crew<G>,
-    flows: &[GateFlow],
-    memory: Vec<u32>,
-) -> Result<Vec<u32>, NoMemory> {
+    flows: &mut Vec<GateFlow>,
+) -> Result<(), NoMemory> {
     if flows.is_empty() && (crew.workers() < 2 || net.nodes() >= MANY_NODES) {
-        return first_wishes(alloc, net, circuit.aig(), memory);
+        *flows = first_flows(alloc, circuit, keep)?;
     }
-    wishes(net, circuit.aig(), flows, memory)
+    Ok(())
 }
 
-/// A maximum preflow of a circuit's network, from a start along `flows`, what the last flow did at the circuit's gates, or along a start of
-/// their own where there are none; then `flows` is what this one did there. They are hints: what is returned is a maximum preflow whatever
-/// they say. Wishes, residuals and pushes stand in the memory of `tables`, where it serves.
+/// A maximum preflow of a circuit's network, from a start along `flows`, what the last flow or a start did at the circuit's gates, or from
+/// none; then `flows` is what this one did there. They are hints: what is returned is a maximum preflow whatever they say. Wishes, residuals and pushes stand in the memory of `tables`, where it serves.
 ///
 /// # Errors
 ///
@@ -115,14 +118,14 @@ pub fn preflow_along<G: PhaseGate>(
     ensures { IfOk result (IsMaxPreflow net.now) }
 {
     let memory = tables.take_pushes(alloc);
-    let wished = start_wishes(alloc, circuit, net, crew, flows.as_slice(), memory)?;
+    let wished = wishes(net, circuit.aig(), flows.as_slice(), memory)?;
     let preflow = maximum_preflow(rt, alloc, net, crew, wished, tables)?;
     note(alloc, circuit, net, &preflow, flows);
     Ok(preflow)
 }
 
 /// The greatest least set of a circuit whose held latches stay where they are, from a start along `flows`, what the last flow did at the
-/// circuit's gates; then `flows` is what this one did there. They are hints: the set is the same whatever they say, and however many there are.
+/// circuit's gates, or along a start of their own where there are none; then `flows` is what this one did there. They are hints: the set is the same whatever they say, and however many there are.
 ///
 /// What is made on the way (the network, its flow) is dropped.
 ///
@@ -140,6 +143,7 @@ pub fn greatest_least_along<G: PhaseGate>(
     ensures { IfOk result (IsGreatestLeast circuit.now keep.now) }
 {
     let net = network(alloc, circuit, keep)?;
+    start_if_unknown(alloc, circuit, keep, &net, crew, flows)?;
     let mut tables = FlowTables::none(alloc);
     let preflow = preflow_along(rt, alloc, circuit, &net, crew, flows, &mut tables)?;
     let set = greatest_cut(alloc, &net, &preflow)?;

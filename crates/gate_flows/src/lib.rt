@@ -4,14 +4,11 @@
 #![tactic(auto)]
 
 mod carrying;
-mod first_start;
 mod gate_nodes;
 mod noting;
-mod start;
 mod wishing;
 
 pub use carrying::{after_cleaning, after_move};
-pub use first_start::first_wishes;
 pub use noting::gate_flows;
-pub use unit_flows::GateFlow;
+pub use unit_flows::{GateFlow, first_flows};
 pub use wishing::wishes;

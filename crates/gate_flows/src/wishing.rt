@@ -8,14 +8,14 @@ use frame_net::Net;
 use unit_flows::GateFlow;
 
 /// Wishes so many units over an arc.
-pub(crate) fn wish(wishes: &mut [u32], arc: usize, units: u32) {
+fn wish(wishes: &mut [u32], arc: usize, units: u32) {
     if let Some(wish) = wishes.get_mut(arc) {
         *wish = units;
     }
 }
 
 /// Wishes a unit over each arc into the sink.
-pub(crate) fn wish_into_sink(net: &Net, wishes: &mut [u32]) {
+fn wish_into_sink(net: &Net, wishes: &mut [u32]) {
     net.known();
     for mate in net.mates(1) {
         wish(wishes, *mate as usize, 1);
@@ -57,7 +57,7 @@ fn flow_of<'a>(net: &Net, aig: &Aig, flows: &'a [GateFlow], v: u32) -> Option<&'
 }
 
 /// No wish for any of so many arcs, in the memory of a table whose values don't matter.
-pub(crate) fn no_wishes(memory: Vec<u32>, arcs: usize) -> Result<Vec<u32>, NoMemory> {
+fn no_wishes(memory: Vec<u32>, arcs: usize) -> Result<Vec<u32>, NoMemory> {
     let mut wishes = memory;
     wishes.clear();
     wishes.resize(arcs, 0)?;
