@@ -13,16 +13,16 @@ ghost use Rattle.pulse.specs.Conditions.{IsMaxPreflow};
 use crate::records::Records;
 use aig_graph::{Circuit, ClosedSet, Keep, NoMemory};
 use certificates::Routes;
-use cut_cert::{greatest_cut, near_cut, network_in, preflow_along, routes};
+use cut_cert::{greatest_cut, near_cut, network_in, preflow_along, routes, start_if_unknown};
 use frame_net::{Net, Tables};
 use least_sets::Choice;
 use pulse::{Crew, MOST_ARCS_KEPT, MaxPreflow, PhaseGate};
 use std::alloc::Global;
 use std::mem;
 use std::thread::Threads;
-use unit_flows::greatest_least_shown;
+use unit_pulses::greatest_least_brought;
 
-/// From so many latches and gates on a crew of two or more looks at starts first.
+/// From so many latches and gates on a crew of two or more looks at flows of units first.
 const MANY_PLACES: usize = 4096;
 
 /// The set; its certificate is added, where certificates are wanted.
@@ -138,9 +138,9 @@ fn residuals_of(alloc: Global, net: &Net, preflow: MaxPreflow) -> Vec<u32> {
     preflow.into_residuals(alloc)
 }
 
-/// Whether a start is judged before a network is made: for the greatest set alone, where no certificate is wanted, and not for a crew of two
+/// Whether flows of units are judged before a network is made: for the greatest set alone, where no certificate is wanted, and not for a crew of two
 /// or more on a small circuit, whose first pulses are large for it and are shared out.
-fn looks_at_starts<G: PhaseGate>(
+fn looks_at_units<G: PhaseGate>(
     circuit: &Circuit,
     choice: Choice,
     crew: &Crew<G>,
@@ -153,8 +153,8 @@ fn looks_at_starts<G: PhaseGate>(
         && (crew.workers() < 2 || circuit.aig().latches_and_gates() >= MANY_PLACES)
 }
 
-/// The chosen least set, where a start is looked at and shows it. Nothing of the records changes but the flows.
-fn shown_by_start<G: PhaseGate>(
+/// The chosen least set, where a flow of units is looked at and shows it. Nothing of the records changes but the flows.
+fn shown_by_units<G: PhaseGate>(
     alloc: Global,
     circuit: &Circuit,
     keep: &Keep,
@@ -167,8 +167,8 @@ fn shown_by_start<G: PhaseGate>(
     ensures certify { records.new.certify ≡ records.old.certify }
     ensures certificates { records.new.certificates.items ≡ records.old.certificates.items }
 {
-    if looks_at_starts(circuit, choice, crew, records) {
-        greatest_least_shown(alloc, circuit, keep, &mut records.flows)
+    if looks_at_units(circuit, choice, crew, records) {
+        greatest_least_brought(alloc, circuit, keep, &mut records.flows)
     } else {
         Ok(None)
     }
@@ -194,6 +194,7 @@ fn chosen_by_flow<G: PhaseGate>(
         flow_tables,
         ..
     } = &mut *records;
+    start_if_unknown(alloc, circuit, keep, &net, crew, flows)?;
     let preflow = preflow_along(rt, alloc, circuit, &net, crew, flows, flow_tables)?;
     let set = chosen_set(alloc, circuit, keep, &net, &preflow, choice, records);
     let residuals = residuals_of(alloc, &net, preflow);
@@ -206,7 +207,7 @@ fn chosen_by_flow<G: PhaseGate>(
 /// this flow did at the circuit's gates. They are hints: the set is the same whatever they say. Where the records want certificates, one
 /// of the set is added to them, which passes all tests of `certificates::check`.
 ///
-/// Where a start shows the greatest set, no network is made. Else what is made on the way (the network, its flow, for the smallest set the
+/// Where a flow of units shows the greatest set, no network is made. Else what is made on the way (the network, its flow, for the smallest set the
 /// routes of the flow) is dropped, but for the memory of a small network's tables by arc, of its flow's residuals and of its pushes, which the
 /// records keep for the next circuit.
 ///
@@ -225,7 +226,7 @@ pub fn chosen_least_along<G: PhaseGate>(
     ensures set { IfOk result (IsChosen choice circuit.now keep.now) }
     ensures certificate { IfOk result (AddsOne circuit.now keep.now records.old records.new) }
 {
-    match shown_by_start(alloc, circuit, keep, choice, crew, records)? {
+    match shown_by_units(alloc, circuit, keep, choice, crew, records)? {
         Some(set) => Ok(set),
         None => chosen_by_flow(rt, alloc, circuit, keep, choice, crew, records),
     }
