@@ -1,0 +1,2 @@
+mod WordLaws
+mod RoomLaws
