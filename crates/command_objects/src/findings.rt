@@ -15,7 +15,7 @@ use certificates::Certificate;
 use circuit_counts::{Remaining, Statistics};
 use circuit_files::{Failure, Outcome};
 use counted_io::CountedWrite;
-use json_reports::{PrintError, Times};
+use json_reports::{MapCounts, PrintError, Times};
 use lane_sim::Place;
 use merged_latches::MergeCounts;
 use reports::JobReport;
@@ -33,20 +33,21 @@ fn ended<'a>(printed: Result<(), PrintError>, outcome: Outcome) -> Result<Outcom
     }
 }
 
-/// Prints the frames of a retiming, what the written circuit has and why no more latches go, which free latches stayed, and how
-/// long the parts of the run took, where that was measured.
+/// Prints the frames of a retiming, what the written circuit has and why no more latches go, which free latches stayed, what the map
+/// of states has, and how long the parts of the run took, where that was measured.
 pub fn print_retiming<'a, W: CountedWrite>(
     alloc: Global,
     retimed: &Retimed,
     remaining: &Remaining,
     times: Option<&Times>,
+    map: Option<MapCounts>,
     writer: &mut W,
 ) -> Result<Outcome, Failure<'a>>
     ensures { EndsPrintingObject Done
-        (retiming_data retimed.now remaining.now (option_map (λ t. t.now) times.entry))
+        (retiming_data retimed.now remaining.now (option_map (λ t. t.now) times.entry) map)
         (W.output writer.old) (W.output writer.new) result }
 {
-    let printed = json_reports::print_retiming(alloc, retimed, remaining, times, writer);
+    let printed = json_reports::print_retiming(alloc, retimed, remaining, times, map, writer);
     ended(printed, Outcome::Done)
 }
 

@@ -8,6 +8,7 @@ use Rattle.counted_io.specs.Output.{Output}
 use Rattle.retimed_circuits.specs.declared.report.Retimed.{Retimed}
 use Rattle.json_reports.specs.Retimings.{retiming_data}
 use Rattle.json_reports.specs.declared.times.Times.{Times}
+use Rattle.json_reports.specs.declared.counts.MapCounts.{MapCounts}
 use Rattle.circuit_files.specs.declared.outcome.Outcome.{Outcome}
 use Rattle.circuit_files.specs.declared.outcome.Outcome.TheVariants.{Done}
 use Rattle.circuit_files.specs.declared.outcome.Failure.{Failure}
@@ -17,16 +18,16 @@ use Rattle.command_line.specs.declared.task.Retiming.{Retiming}
 use Rattle.commands.specs.RetimingTasks.{EndsPrintingFrames, remaining_of}
 
 -- an object where it was asked for
-pub frames_as_object : (json : Bool) (task : Retiming) (r : Retimed) (times : Option Times) (old new : Output) (result : Result Outcome Failure)
-    → json ≡ true → EndsPrintingFrames true task r times old new result → EndsPrintingFrames json task r times old new result
-frames_as_object json task r times old new result asked p = subst (λ (j : Bool). EndsPrintingFrames j task r times old new result) (sym asked) p
+pub frames_as_object : (json : Bool) (task : Retiming) (r : Retimed) (times : Option Times) (mapped : Option MapCounts) (old new : Output) (result : Result Outcome Failure)
+    → json ≡ true → EndsPrintingFrames true task r times mapped old new result → EndsPrintingFrames json task r times mapped old new result
+frames_as_object json task r times mapped old new result asked p = subst (λ (j : Bool). EndsPrintingFrames j task r times mapped old new result) (sym asked) p
 
 -- by what is left of it, and by the times that were taken
-pub object_of_frames : (task : Retiming) (r : Retimed) (left : Remaining) (took times : Option Times) (old new : Output) (result : Result Outcome Failure)
-    → left ≡ remaining_of task r → took ≡ times → EndsPrintingObject Done (retiming_data r left took) old new result → EndsPrintingFrames true task r times old new result
-object_of_frames task r left took times old new result is same p =
-    subst (λ (t : Option Times). EndsPrintingObject Done (retiming_data r (remaining_of task r) t) old new result) same
-    (subst (λ (x : Remaining). EndsPrintingObject Done (retiming_data r x took) old new result) is p)
+pub object_of_frames : (task : Retiming) (r : Retimed) (left : Remaining) (took times : Option Times) (mapped : Option MapCounts) (old new : Output) (result : Result Outcome Failure)
+    → left ≡ remaining_of task r → took ≡ times → EndsPrintingObject Done (retiming_data r left took mapped) old new result → EndsPrintingFrames true task r times mapped old new result
+object_of_frames task r left took times mapped old new result is same p =
+    subst (λ (t : Option Times). EndsPrintingObject Done (retiming_data r (remaining_of task r) t mapped) old new result) same
+    (subst (λ (x : Remaining). EndsPrintingObject Done (retiming_data r x took mapped) old new result) is p)
 
 -- what is left, by the names as bytes and the number of frames
 pub remaining_is : (task : Retiming) (r : Retimed) (keep : List (Bor (List ℕ))) (names read : List (Vec ℕ)) (frames : ℕ) → keep ≡ task.keep.items → read ≡ names

@@ -1,6 +1,7 @@
 -- What the task of a retiming makes of its options, of an error, and of a retiming.
 use Rattle.std.specs.Prelude.{ℕ, ◌≡◌, ◌||◌, Bool, true, false, List, Option, Some, Result, is_some, map, length, nat_lt, slice_get}
 use Rattle.std.specs.Borrow.{Bor}
+use Rattle.aig_graph.specs.Circuits.{Netlist}
 use Rattle.stream_paths.specs.Streams.{target_name}
 use Rattle.command_line.specs.declared.task.Retiming.{Retiming}
 use Rattle.frames.specs.declared.options.Options.{Options}
@@ -14,6 +15,7 @@ use Rattle.circuit_counts.specs.declared.remaining.Remaining.{Remaining}
 use Rattle.reports.specs.Retimings.{retiming_text}
 use Rattle.json_reports.specs.Retimings.{retiming_data}
 use Rattle.json_reports.specs.declared.times.Times.{Times}
+use Rattle.json_reports.specs.declared.counts.MapCounts.{MapCounts}
 use Rattle.mapped_answers.specs.declared.mapped.MappedError.{MappedError}
 use Rattle.mapped_answers.specs.declared.mapped.MappedError.TheVariants.{Answer, MapTooLarge}
 use Rattle.circuit_files.specs.Outcomes.{failure_of_reading, outcome_of}
@@ -50,17 +52,21 @@ abbrev pub IsMappedFailureOf : Retiming → MappedError → Failure → Type 0
 IsMappedFailureOf task (Answer error) failure = IsFailureOf task error failure
 IsMappedFailureOf task MapTooLarge failure = outcome_of failure ≡ Refused
 
+-- how many gates and constraints a map has
+abbrev pub counts_of : Netlist → MapCounts
+counts_of m = record { gates = length m.aig.gates; constraints = length m.props.constraints }
+
 -- how printing a retiming ends, as an object of JSON where that is asked for, else in lines
-abbrev pub EndsPrintingFrames : Bool → Retiming → Retimed → Option Times → Output → Output → Result Outcome Failure → Type 0
-EndsPrintingFrames true task r times old new result = EndsPrintingObject Done (retiming_data r (remaining_of task r) times) old new result
-EndsPrintingFrames false task r times old new result = EndsPrinting Done (retiming_text r) old new result
+abbrev pub EndsPrintingFrames : Bool → Retiming → Retimed → Option Times → Option MapCounts → Output → Output → Result Outcome Failure → Type 0
+EndsPrintingFrames true task r times mapped old new result = EndsPrintingObject Done (retiming_data r (remaining_of task r) times mapped) old new result
+EndsPrintingFrames false task r times mapped old new result = EndsPrinting Done (retiming_text r) old new result
 
 -- so it was printed where nobody asks how that ended
-pub record SaysFrames (task : Retiming) (r : Retimed) (times : Option Times) (old new : Output) : Type 0 where
+pub record SaysFrames (task : Retiming) (r : Retimed) (times : Option Times) (mapped : Option MapCounts) (old new : Output) : Type 0 where
   pub ended : Result Outcome Failure
-  pub prints : EndsPrintingFrames task.json task r times old new ended
+  pub prints : EndsPrintingFrames task.json task r times mapped old new ended
 
 -- what is printed of it is the same, certificates or none
 abbrev pub PrintsAlike : Retimed → Retimed → Type 0
 PrintsAlike r s = (retiming_text r ≡ retiming_text s)
-    × ((task : Retiming) (times : Option Times) → retiming_data r (remaining_of task r) times ≡ retiming_data s (remaining_of task s) times)
+    × ((task : Retiming) (times : Option Times) (mapped : Option MapCounts) → retiming_data r (remaining_of task r) times mapped ≡ retiming_data s (remaining_of task s) times mapped)

@@ -1,5 +1,5 @@
 //! From the bytes that `retime` reads to the circuit that it writes, with a map of states where one is asked for.
-ghost use Rattle.std.specs.Prelude.{◌≡◌, ◌<◌, ◌≤◌, true, false, IfErr, IfOk};
+ghost use Rattle.std.specs.Prelude.{◌≡◌, ◌<◌, ◌≤◌, true, false, IfErr, IfOk, option_map};
 ghost use Rattle.aig_binary.specs.Spellings.{text_in};
 ghost use Rattle.counted_io.specs.Output.{Writes};
 ghost use Rattle.stream_paths.specs.Streams.{is_stdout};
@@ -9,7 +9,7 @@ ghost use Rattle.circuit_files.specs.Outcomes.{outcome_of};
 ghost use Rattle.circuit_files.specs.declared.outcome.Outcome.TheVariants.{Device};
 ghost use Rattle.command_line.specs.StreamUses.{writes_stdout};
 ghost use Rattle.command_endings.specs.Printing.{Prints};
-ghost use Rattle.commands.specs.RetimingTasks.{AreOptionsOf, IsFailureOf, IsMappedFailureOf};
+ghost use Rattle.commands.specs.RetimingTasks.{AreOptionsOf, IsFailureOf, IsMappedFailureOf, counts_of};
 
 use aig_binary::{SpeltCircuit, write};
 use circuit_files::{Failure, LazyFile};
@@ -18,6 +18,7 @@ use command_line::Retiming;
 use counted_io::{Counted, CountedRead, CountedWrite, WriteError};
 use file_words::ReadError;
 use frames::{BytesError, FrameWatcher, Options, RetimeError, Retimed, retime_bytes_watched};
+use json_reports::MapCounts;
 use mapped_answers::{Mapped, MappedError, retime_bytes_mapped};
 use pulse::{Crew, OpenGate};
 use std::alloc::Global;
@@ -125,6 +126,19 @@ pub(crate) fn retimed_of(answer: Answer) -> Retimed
 {
     let Answer { retimed, .. } = answer;
     retimed
+}
+
+/// How many gates and constraints the map has.
+pub(crate) fn map_counts(answer: &Answer) -> Option<MapCounts>
+    ensures { result ≡ option_map (λ map. counts_of map.circuit) answer.now.map }
+{
+    match &answer.map {
+        Some(map) => Some(MapCounts {
+            gates: map.circuit.aig().gates().len() as u64,
+            constraints: map.circuit.props().constraints.len() as u64,
+        }),
+        None => None,
+    }
 }
 
 /// Reads the circuit from the one, and writes it, retimed, to the other. No map is made where latches are merged: a command line

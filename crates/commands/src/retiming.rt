@@ -11,7 +11,7 @@ ghost use Rattle.commands.specs.Pipes.{AnswersPipe, IsPipe, WritesPipe};
 ghost use Rattle.command_endings.specs.Printing.{EndsAside, Prints, ending};
 ghost use Rattle.commands.specs.RetimingTasks.{AreOptionsOf, EndsPrintingFrames, PrintsAlike, SaysFrames, remaining_of};
 
-use crate::answer::{Answer, map_written, retime_between, retimed_of};
+use crate::answer::{Answer, map_counts, map_written, retime_between, retimed_of};
 use aig_graph::{NoMemory, Sequence};
 use certificate_files::{CertFile, Choice, write_cert};
 use certificates::Certificate;
@@ -21,7 +21,7 @@ use command_endings::{bytes_of_names, ended};
 use command_line::{Retiming, Shown};
 use counted_io::{Counted, CountedRead, CountedWrite, WriteError};
 use frames::{FrameWatcher, Options, Retimed};
-use json_reports::Times;
+use json_reports::{MapCounts, Times};
 use progress::Progress;
 use reports::{print_remaining, print_retiming};
 use std::alloc::{AllocError, Global};
@@ -199,11 +199,12 @@ fn write_beside<'a, R: Files, O: CountedWrite>(
     certify(rt, alloc, task, &mut answer.retimed, out)
 }
 
-/// A retiming, and how long its parts took, where that was measured.
+/// A retiming, how long its parts took, where that was measured, and what its map has, where one is written.
 #[derive(Drop)]
 struct Timed {
     retimed: Retimed,
     times: Option<Times>,
+    map: Option<MapCounts>,
 }
 
 /// Writes the circuit, and then the map and the certificates. Shows on standard error how far the run is, until the circuit is written.
@@ -233,8 +234,13 @@ fn certified<
     let times = progress.end();
     let mut answer = ended?;
     write_beside(rt, alloc, task, &mut answer, out)?;
+    let map = map_counts(&answer);
     let retimed = retimed_of(answer);
-    Ok(Timed { retimed, times })
+    Ok(Timed {
+        retimed,
+        times,
+        map,
+    })
 }
 
 /// What the task's retiming leaves.
@@ -253,13 +259,13 @@ fn print_object<'a, W: CountedWrite>(
     timed: &Timed,
     writer: &mut W,
 ) -> Result<Outcome, Failure<'a>>
-    ensures { EndsPrintingFrames true task.now timed.now.retimed timed.now.times
+    ensures { EndsPrintingFrames true task.now timed.now.retimed timed.now.times timed.now.map
         (W.output writer.old) (W.output writer.new) result }
 {
     match remaining(alloc, task, &timed.retimed) {
         Ok(left) => {
             let times = timed.times.as_ref();
-            command_objects::print_retiming(alloc, &timed.retimed, &left, times, writer)
+            command_objects::print_retiming(alloc, &timed.retimed, &left, times, timed.map, writer)
         }
         Err(_) => Err(Failure::Memory),
     }
@@ -273,7 +279,7 @@ fn print_as<'a, W: CountedWrite>(
     json: bool,
     writer: &mut W,
 ) -> Result<Outcome, Failure<'a>>
-    ensures frames { EndsPrintingFrames json task.now timed.now.retimed timed.now.times
+    ensures frames { EndsPrintingFrames json task.now timed.now.retimed timed.now.times timed.now.map
         (W.output writer.old) (W.output writer.new) result }
     ensures prints { Prints (ending result) (W.output writer.old) (W.output writer.new) }
 {
@@ -311,9 +317,9 @@ fn print_frames<'a, O: CountedWrite, E: CountedWrite>(
     ensures aside { takes_stdout task.now ≡ true
         → EndsAside Done (O.output out.old) (O.output out.new) result }
     ensures says { takes_stdout task.now ≡ true → SaysFrames task.now timed.now.retimed
-        timed.now.times (E.output err.old) (E.output err.new) }
+        timed.now.times timed.now.map (E.output err.old) (E.output err.new) }
     ensures frames { takes_stdout task.now ≡ false → EndsPrintingFrames task.now.json task.now
-        timed.now.retimed timed.now.times (O.output out.old) (O.output out.new) result }
+        timed.now.retimed timed.now.times timed.now.map (O.output out.old) (O.output out.new) result }
     ensures prints { takes_stdout task.now ≡ false
         → Prints (ending result) (O.output out.old) (O.output out.new) }
 {

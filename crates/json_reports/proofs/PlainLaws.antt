@@ -19,7 +19,7 @@ use Rattle.serde_json.specs.Written.{has_float, items_have_float, members_have_f
 use Rattle.json_reports.specs.Audits.{audit_data, block_data, objection_at, objection_name}
 use Rattle.json_reports.specs.Batches.{batch_data, job_data, latches_data}
 use Rattle.merged_latches.specs.declared.counts.MergeCounts.{MergeCounts}
-use Rattle.json_reports.specs.Counts.{circuit_data, merge_data, statistics_data}
+use Rattle.json_reports.specs.Counts.{circuit_data, map_data, merge_data, statistics_data}
 use Rattle.json_reports.specs.Differences.{difference_data, place_data, shapes_data}
 use Rattle.json_reports.specs.Faults.{fault_data, fault_offset}
 use Rattle.json_reports.specs.Lines.{IsPlain, PrintsLine}
@@ -32,6 +32,7 @@ use Rattle.json_reports.specs.declared.fault.Fault.TheVariants as faults
 use Rattle.json_reports.specs.declared.printing.PrintError.{PrintError}
 use Rattle.json_reports.specs.declared.refusal.Refusal.{Refusal}
 use Rattle.json_reports.specs.declared.times.Times.{Times}
+use Rattle.json_reports.specs.declared.counts.MapCounts.{MapCounts}
 
 record Plain (n : ℕ) (d : Data) : Type 0 where
   whole : has_float d ≡ false
@@ -105,11 +106,14 @@ plain-times t =
 plain-merge : (counts : MergeCounts) → Plain 3 (merge_data counts)
 plain-merge counts = record { whole = refl; nests = omega arith }
 
-pub retiming : (r : Retimed) (left : Remaining) (times : Option Times) → IsPlain (retiming_data r left times)
-retiming r left times =
+plain-map : (counts : MapCounts) → Plain 3 (map_data counts)
+plain-map counts = record { whole = refl; nests = omega arith }
+
+pub retiming : (r : Retimed) (left : Remaining) (times : Option Times) (mapped : Option MapCounts) → IsPlain (retiming_data r left times mapped)
+retiming r left times mapped =
     is_plain {n = 4} (omega arith) (plain-object (plain-member (plain-circuit left.counts) (plain-member record { whole = refl; nests = omega arith }
     (plain-member (plain-string _) (plain-member (plain-array frame_data r.frames plain-frame) (plain-member (plain-array count r.kept_free plain-count) (plain-member record { whole = refl; nests = omega arith }
-    (plain-member (plain-or_null merge_data plain-merge r.merged) (plain-member (plain-or_null times_data plain-times times) (plain-member (plain-count 0) plain-none))))))))))
+    (plain-member (plain-or_null map_data plain-map mapped) (plain-member (plain-or_null merge_data plain-merge r.merged) (plain-member (plain-or_null times_data plain-times times) (plain-member (plain-count 0) plain-none)))))))))))
 
 pub audit : (blocks : List Certificate) (a : Audit) (status : ℕ) → IsPlain (audit_data blocks a status)
 audit blocks a status =

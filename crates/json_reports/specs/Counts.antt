@@ -4,6 +4,7 @@ use Rattle.circuit_counts.specs.declared.statistics.Counts.{Counts}
 use Rattle.circuit_counts.specs.declared.statistics.Statistics.{Statistics}
 use Rattle.serde_json.specs.Data.{Data, string, object, member, no_members}
 use Rattle.merged_latches.specs.declared.counts.MergeCounts.{MergeCounts}
+use Rattle.json_reports.specs.declared.counts.MapCounts.{MapCounts}
 use Rattle.json_reports.specs.Members.{count, or_null}
 
 -- how many there are of each kind, and the levels
@@ -20,6 +21,10 @@ circuit_data c =
     (member (codes "latches") (count c.latches)
     (member (codes "levels") (count c.levels)
     (member (codes "outputs") (count c.outputs) no_members)))))))))))
+
+-- how many constraints and gates a map of states has
+abbrev pub map_data : MapCounts → Data
+map_data counts = object (member (codes "constraints") (count counts.constraints) (member (codes "gates") (count counts.gates) no_members))
 
 -- how many latches are merged, and how many of these with a constant
 abbrev pub merge_data : MergeCounts → Data

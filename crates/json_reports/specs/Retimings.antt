@@ -5,9 +5,10 @@ use Rattle.circuit_counts.specs.declared.remaining.Remaining.{Remaining}
 use Rattle.retimed_circuits.specs.declared.report.FrameReport.{FrameReport}
 use Rattle.retimed_circuits.specs.declared.report.Retimed.{Retimed}
 use Rattle.serde_json.specs.Data.{Data, boolean, string, object, member, no_members}
-use Rattle.json_reports.specs.Counts.{circuit_data, merge_data}
+use Rattle.json_reports.specs.Counts.{circuit_data, map_data, merge_data}
 use Rattle.json_reports.specs.Members.{count, array_of, or_null}
 use Rattle.json_reports.specs.Timings.{times_data}
+use Rattle.json_reports.specs.declared.counts.MapCounts.{MapCounts}
 use Rattle.json_reports.specs.declared.times.Times.{Times}
 
 -- the known latches before and right after a frame, and the gates that they move over
@@ -27,14 +28,15 @@ held_back_data h is_least =
     (member (codes "passable") (count h.passable)
     (member (codes "read_elsewhere") (count h.read_elsewhere) no_members)))))
 
-abbrev pub retiming_data : Retimed → Remaining → Option Times → Data
-retiming_data r left times =
+abbrev pub retiming_data : Retimed → Remaining → Option Times → Option MapCounts → Data
+retiming_data r left times mapped =
     object (member (codes "after") (circuit_data left.counts)
     (member (codes "before") (before_data r.read_latches)
     (member (codes "command") (string (codes "retime"))
     (member (codes "frames") (array_of frame_data r.frames)
     (member (codes "free_kept") (array_of count r.kept_free)
     (member (codes "held_back") (held_back_data left.held_back left.is_least)
+    (member (codes "map") (or_null map_data mapped)
     (member (codes "merged") (or_null merge_data r.merged)
     (member (codes "microseconds") (or_null times_data times)
-    (member (codes "status") (count 0) no_members)))))))))
+    (member (codes "status") (count 0) no_members))))))))))

@@ -10,7 +10,7 @@ ghost use Rattle.json_reports.specs.Retimings.{retiming_data};
 
 use crate::audit::audit_object;
 use crate::batch::batch_object;
-use crate::counts::statistics_object;
+use crate::counts::{MapCounts, statistics_object};
 use crate::difference::{difference_object, shapes_object};
 use crate::printing::{PrintError, print_object};
 use crate::refusal::{Refusal, refusal_object};
@@ -36,13 +36,14 @@ pub fn print_retiming<W: CountedWrite>(
     retimed: &Retimed,
     remaining: &Remaining,
     times: Option<&Times>,
+    map: Option<MapCounts>,
     writer: &mut W,
 ) -> Result<(), PrintError>
     ensures { PrintsLine
-        (retiming_data retimed.now remaining.now (option_map (λ t. t.now) times.entry))
+        (retiming_data retimed.now remaining.now (option_map (λ t. t.now) times.entry) map)
         (W.output writer.old) (W.output writer.new) result }
 {
-    let object = retiming_object(alloc, retimed, remaining, times)?;
+    let object = retiming_object(alloc, retimed, remaining, times, map)?;
     print_object(alloc, &object, writer)
 }
 

@@ -1,7 +1,7 @@
 //! What a circuit has.
 ghost use Rattle.std.specs.Prelude.{◌≡◌, IfOk};
 ghost use Rattle.serde_json.specs.View.{view};
-ghost use Rattle.json_reports.specs.Counts.{circuit_data, merge_data, statistics_data};
+ghost use Rattle.json_reports.specs.Counts.{circuit_data, map_data, merge_data, statistics_data};
 ghost use Rattle.json_reports.specs.Members.{or_null};
 
 use crate::members::counts_object;
@@ -40,6 +40,29 @@ fn merge_object(alloc: Global, counts: MergeCounts) -> Result<Value, AllocError>
     ensures { IfOk result (λ v. view v ≡ merge_data counts) }
 {
     json!(in alloc; {"constant": counts.constant, "latches": counts.merged})
+}
+
+/// How many gates and constraints a map of states has.
+#[derive(Clone, Copy, Debug, PartialEq, Eq)]
+pub struct MapCounts {
+    pub gates: u64,
+    pub constraints: u64,
+}
+
+fn map_object(alloc: Global, counts: MapCounts) -> Result<Value, AllocError>
+    ensures { IfOk result (λ v. view v ≡ map_data counts) }
+{
+    json!(in alloc; {"constraints": counts.constraints, "gates": counts.gates})
+}
+
+/// What a map has, or null where none was written.
+pub(crate) fn map_value(alloc: Global, map: Option<MapCounts>) -> Result<Value, AllocError>
+    ensures { IfOk result (λ v. view v ≡ or_null map_data map) }
+{
+    match map {
+        Some(counts) => map_object(alloc, counts),
+        None => Ok(Value::Null),
+    }
 }
 
 /// How many latches are merged, and how many of these with a constant, or null where none were to be.

@@ -5,7 +5,7 @@ ghost use Rattle.serde_json.specs.View.{members_view, view};
 ghost use Rattle.json_reports.specs.Members.{array_of, count};
 ghost use Rattle.json_reports.specs.Retimings.{before_data, frame_data, held_back_data, retiming_data};
 
-use crate::counts::{circuit_object, merged_value};
+use crate::counts::{MapCounts, circuit_object, map_value, merged_value};
 use crate::members::{put_count, put_text};
 use crate::times::{Times, times_value};
 use circuit_counts::{HeldBack, Remaining};
@@ -73,10 +73,11 @@ fn put_retiming(
     retimed: &Retimed,
     remaining: &Remaining,
     times: Option<&Times>,
+    map: Option<MapCounts>,
 ) -> Result<(), AllocError>
     ensures { OnOk result (members_view members.old.entries ≡ no_members
         → object (members_view members.new.entries)
-        ≡ retiming_data retimed.now remaining.now (option_map (λ t. t.now) times.entry)) }
+        ≡ retiming_data retimed.now remaining.now (option_map (λ t. t.now) times.entry) map) }
 {
     let frames = retimed.frames.as_slice();
     let free_kept = retimed.kept_free.as_slice();
@@ -106,6 +107,7 @@ fn put_retiming(
         "held_back",
         held_back_object(alloc, &remaining.held_back, remaining.is_least)?,
     )?;
+    serde_json::put(members, alloc, "map", map_value(alloc, map)?)?;
     serde_json::put(
         members,
         alloc,
@@ -118,8 +120,8 @@ fn put_retiming(
 }
 
 /// What `retime` prints: each frame, what the written circuit has and why no more latches go, the places of the free latches that
-/// stayed among those of the circuit that was read, how many latches were merged where that was asked for, and how long the parts
-/// of the run took, where that was measured.
+/// stayed among those of the circuit that was read, what the map of states has and how many latches were merged, where these were asked
+/// for, and how long the parts of the run took, where that was measured.
 ///
 /// # Errors
 ///
@@ -129,11 +131,12 @@ pub fn retiming_object(
     retimed: &Retimed,
     remaining: &Remaining,
     times: Option<&Times>,
+    map: Option<MapCounts>,
 ) -> Result<Value, AllocError>
     ensures { IfOk result (λ v. view v
-        ≡ retiming_data retimed.now remaining.now (option_map (λ t. t.now) times.entry)) }
+        ≡ retiming_data retimed.now remaining.now (option_map (λ t. t.now) times.entry) map) }
 {
     let mut members = Map::new(alloc);
-    put_retiming(&mut members, alloc, retimed, remaining, times)?;
+    put_retiming(&mut members, alloc, retimed, remaining, times, map)?;
     Ok(Value::Object(members))
 }
