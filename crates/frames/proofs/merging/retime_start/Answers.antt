@@ -21,4 +21,4 @@ returns-in-Ok-clause-told g c =
     let s = c.in-Ok.retimed in
     IfOk-weaker c.told_of_read.result _ _
     (λ r same. same-looks g.V.FrameWatcher.was_told c.args.watcher.now c.retime_begun.new.watcher c.args.options.now.max_frames s r
-        (ap (λ (x : Retimed). x.frames) same) (ap (λ (x : Retimed). x.circuit) same) c.in-Ok.ensures.told) c.told_of_read.ensures
+    (ap (λ (x : Retimed). x.frames) same) (ap (λ (x : Retimed). x.circuit) same) c.in-Ok.ensures.told) c.told_of_read.ensures

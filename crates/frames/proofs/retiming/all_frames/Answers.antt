@@ -78,10 +78,10 @@ loop-preserved g c =
     let told : Tells was_told looking moving (Moving ∷ []) = subst T c.in-Ok-Some.field-0-is c.in-Ok-Some.ensures.told in (
       λ d start.
           let so_far = c.loop.invariant.0 d start in (
-        subst (λ n. P n d) next (c.in_ok-retimed-in-Ok-Some.ensures.underway d c.loop.counter so_far.0),
-        subst (λ n. Q n d) next
-            (one-collected options d c.loop.counter c.loop.records c.next_frame.new.records before.circuit before.kept_free before.frames so_far.1 so_far.0.frames c.in-Ok-Some.ensures.certificate),
-      ),
+            subst (λ n. P n d) next (c.in_ok-retimed-in-Ok-Some.ensures.underway d c.loop.counter so_far.0),
+            subst (λ n. Q n d) next
+                (one-collected options d c.loop.counter c.loop.records c.next_frame.new.records before.circuit before.kept_free before.frames so_far.1 so_far.0.frames c.in-Ok-Some.ensures.certificate),
+          ),
       tells-frame was_told c.args.watcher.now c.loop.watcher looking moving before.frames after.frames c.in-Ok-Some.frame.report (known_latches before.circuit.aig)
           c.in_ok-retimed-in-Ok-Some.ensures.frames (ap (λ (r : FrameReport). r.before) moves.moves.reported) c.loop.invariant.1 c.enter_looking.ensures told,
     )
