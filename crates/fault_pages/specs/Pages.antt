@@ -1,7 +1,7 @@
 -- The texts of the page of each fault.
 use Rattle.std.specs.Prelude.{ℕ, List, codes}
 use Rattle.fault_pages.specs.declared.fault.Fault.{Fault}
-use Rattle.fault_pages.specs.declared.fault.Fault.TheVariants.{BadHeader, TooLarge, MaxIndex, BadLine, BadLiteral, DefinedTwice, Undefined, Cycle, BadReset, BadDelta, Truncated, BadSymbol, Trailing, Width, TooMany, NoSuchName, NoSuchProperty, TooManyNodes, NotAMap, NotClosed, BadRoute, UsedTwice, CountDiffers, NoMemory, Device}
+use Rattle.fault_pages.specs.declared.fault.Fault.TheVariants.{BadHeader, TooLarge, MaxIndex, BadLine, BadLiteral, DefinedTwice, Undefined, Cycle, BadReset, BadDelta, Truncated, BadSymbol, Trailing, Width, TooMany, NoSuchName, NoSuchProperty, TooManyNodes, TooManySteps, NotAMap, NotClosed, BadRoute, UsedTwice, CountDiffers, NoMemory, Device}
 
 -- what the fault is
 abbrev pub meaning_of : Fault → List ℕ
@@ -23,6 +23,7 @@ meaning_of TooMany = codes "A stimulus has more than 1048576 sequences."
 meaning_of NoSuchName = codes "The circuit has no latch, or for --around nothing, of this name."
 meaning_of NoSuchProperty = codes "A witness names a property that the circuit doesn't have."
 meaning_of TooManyNodes = codes "A circuit of over 2000 nodes makes no picture that can be read."
+meaning_of TooManySteps = codes "So many random sequences, of so many steps, take too much memory."
 meaning_of NotAMap = codes "The circuit of a map of states has more than gates, outputs and constraints."
 meaning_of NotClosed = codes "The set of gates of a certificate isn't closed."
 meaning_of BadRoute = codes "A list of points of a certificate is no route."
@@ -51,6 +52,7 @@ rule_of TooMany = codes "A line '=' begins a sequence."
 rule_of NoSuchName = codes "Names are those of the symbols of the file, compared byte by byte: --keep takes\nthose of latches, 'l', and --around of 'dot' those of all kinds."
 rule_of NoSuchProperty = codes "The second line of a witness names bad states, b0 on, and justice properties,\nj0 on, by their positions."
 rule_of TooManyNodes = codes "Inputs, latches, gates and properties are nodes."
+rule_of TooManySteps = codes "All steps take 2^28 bytes at most, each 64 and one for each input; the choices\nfor free latches 2^28, one each; the trace 2^31 bits, one for each literal of a\nproperty and each step, for 256 sequences at least."
 rule_of NotAMap = codes "A map has no latch, bad state, justice property or fairness constraint. Its\ninputs are the latches of IN, its outputs those of OUT."
 rule_of NotClosed = codes "Its gates rise strictly. Each is a gate that latches may pass, and each gate\nthat it reads is one of the set."
 rule_of BadRoute = codes "A route goes from a known latch through gates that latches may pass to what no\nmove passes, by the steps of docs/CERTIFICATES.md."
@@ -79,6 +81,7 @@ advice_of TooMany = codes "Cut the stimulus before a line '=', and run each part
 advice_of NoSuchName = codes "List those of latches: grep -a '^l[0-9]' IN. A file without names gets them\nwhere it is written, as by Yosys' write_aiger -symbols."
 advice_of NoSuchProperty = codes "See that the witness is one of this circuit: 'fretime stat OUT' counts its\nproperties."
 advice_of TooManyNodes = codes "Draw a neighbourhood: 'fretime dot IN OUT --around NAME --depth 3'."
+advice_of TooManySteps = codes "Take fewer steps or sequences. For more of them run again with another --seed."
 advice_of NotAMap = codes "See that IN, OUT and MAP are given in this order: 'fretime retime IN OUT --map\nMAP' writes MAP."
 advice_of NotClosed = codes "See that the certificates are of this IN, and give each --keep that 'retime'\ngot. Else they are wrong: 'fretime retime IN OUT --cert FILE' writes others."
 advice_of BadRoute = codes "See that the certificates are of this IN, and give each --keep that 'retime'\ngot. Else they are wrong: 'fretime retime IN OUT --cert FILE' writes others."

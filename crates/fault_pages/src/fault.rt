@@ -24,6 +24,7 @@ pub enum Fault {
     NoSuchName,
     NoSuchProperty,
     TooManyNodes,
+    TooManySteps,
     NotAMap,
     NotClosed,
     BadRoute,
@@ -33,7 +34,7 @@ pub enum Fault {
     Device,
 }
 
-const FAULTS: [Fault; 25] = [
+const FAULTS: [Fault; 26] = [
     Fault::BadHeader,
     Fault::TooLarge,
     Fault::MaxIndex,
@@ -52,6 +53,7 @@ const FAULTS: [Fault; 25] = [
     Fault::NoSuchName,
     Fault::NoSuchProperty,
     Fault::TooManyNodes,
+    Fault::TooManySteps,
     Fault::NotAMap,
     Fault::NotClosed,
     Fault::BadRoute,
@@ -93,6 +95,7 @@ impl Fault {
             Fault::NoSuchName => "NoSuchName",
             Fault::NoSuchProperty => "NoSuchProperty",
             Fault::TooManyNodes => "TooManyNodes",
+            Fault::TooManySteps => "TooManySteps",
             Fault::NotAMap => "NotAMap",
             Fault::NotClosed => "NotClosed",
             Fault::BadRoute => "BadRoute",

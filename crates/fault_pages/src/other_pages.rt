@@ -45,6 +45,14 @@ inputs are the latches of IN, its outputs those of OUT.",
 MAP' writes MAP.",
 };
 
+pub const TOO_MANY_STEPS: Page = Page {
+    meaning: "So many random sequences, of so many steps, take too much memory.",
+    rule: "All steps take 2^28 bytes at most, each 64 and one for each input; the choices
+for free latches 2^28, one each; the trace 2^31 bits, one for each literal of a
+property and each step, for 256 sequences at least.",
+    advice: "Take fewer steps or sequences. For more of them run again with another --seed.",
+};
+
 /// What to do where a certificate is rejected.
 const CHECK_AGAIN: &str =
     "See that the certificates are of this IN, and give each --keep that 'retime'

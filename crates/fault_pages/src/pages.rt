@@ -31,6 +31,7 @@ impl Fault {
             Fault::NoSuchName => others::NO_SUCH_NAME,
             Fault::NoSuchProperty => others::NO_SUCH_PROPERTY,
             Fault::TooManyNodes => others::TOO_MANY_NODES,
+            Fault::TooManySteps => others::TOO_MANY_STEPS,
             Fault::NotAMap => others::NOT_A_MAP,
             Fault::NotClosed => others::NOT_CLOSED,
             Fault::BadRoute => others::BAD_ROUTE,

@@ -27,6 +27,7 @@ impl Fault {
             | Fault::NoSuchName
             | Fault::NoSuchProperty
             | Fault::TooManyNodes
+            | Fault::TooManySteps
             | Fault::NotAMap
             | Fault::NotClosed
             | Fault::BadRoute

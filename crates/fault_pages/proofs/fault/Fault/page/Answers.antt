@@ -56,6 +56,9 @@ returns-in-NoSuchProperty c = record { meaning = sym (ap meaning_of c.in-NoSuchP
 pub returns-in-TooManyNodes : goal.returns-in-TooManyNodes
 returns-in-TooManyNodes c = record { meaning = sym (ap meaning_of c.in-TooManyNodes.is); rule = sym (ap rule_of c.in-TooManyNodes.is); advice = sym (ap advice_of c.in-TooManyNodes.is) }
 
+pub returns-in-TooManySteps : goal.returns-in-TooManySteps
+returns-in-TooManySteps c = record { meaning = sym (ap meaning_of c.in-TooManySteps.is); rule = sym (ap rule_of c.in-TooManySteps.is); advice = sym (ap advice_of c.in-TooManySteps.is) }
+
 pub returns-in-NotAMap : goal.returns-in-NotAMap
 returns-in-NotAMap c = record { meaning = sym (ap meaning_of c.in-NotAMap.is); rule = sym (ap rule_of c.in-NotAMap.is); advice = sym (ap advice_of c.in-NotAMap.is) }
 
