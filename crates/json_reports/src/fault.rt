@@ -29,6 +29,8 @@ pub enum Fault {
     NoSuchName,
     /// A circuit has too many nodes for a picture.
     TooManyNodes,
+    /// Random sequences of a circuit would take too much memory.
+    TooManySteps,
     /// A circuit of a map has a latch, a bad state, a justice property or a fairness constraint.
     NotAMap,
     /// A file couldn't be opened, created, read or written.
@@ -50,6 +52,7 @@ impl Fault {
             Fault::Witness(fault) => fault.name(),
             Fault::NoSuchName => "NoSuchName",
             Fault::TooManyNodes => "TooManyNodes",
+            Fault::TooManySteps => "TooManySteps",
             Fault::NotAMap => "NotAMap",
             Fault::Device => "Device",
         }
@@ -65,7 +68,11 @@ impl Fault {
             Fault::FileList(fault) => fault.offset(),
             Fault::Certificates(fault) => fault.offset(),
             Fault::Witness(fault) => fault.offset(),
-            Fault::NoSuchName | Fault::TooManyNodes | Fault::NotAMap | Fault::Device => None,
+            Fault::NoSuchName
+            | Fault::TooManyNodes
+            | Fault::TooManySteps
+            | Fault::NotAMap
+            | Fault::Device => None,
         }
     }
 }
