@@ -75,6 +75,9 @@ pub enum Failure<'a> {
     /// The circuit has too many nodes for a picture.
     #[error("{0}: TooManyNodes, over 2000: --around NAME draws a neighbourhood")]
     TooManyNodes(&'a str),
+    /// Random sequences of the circuit would take too much memory.
+    #[error("{0}: TooManySteps: take fewer steps or sequences")]
+    TooManySteps(&'a str),
     /// The circuit of a map has a latch, a bad state, a justice property or a fairness constraint.
     #[error("{0}: NotAMap")]
     NotAMap(&'a str),
@@ -160,6 +163,7 @@ impl<'a> Failure<'a> {
             | Failure::RefusedWitness(_, _)
             | Failure::NoSuchName(_, _)
             | Failure::TooManyNodes(_)
+            | Failure::TooManySteps(_)
             | Failure::NotAMap(_) => Outcome::Refused,
             Failure::Device(_) => Outcome::Device,
             Failure::Memory => Outcome::Memory,

@@ -20,6 +20,7 @@ failing (fails.RefusedCertificates path fault) s = refl
 failing (fails.RefusedWitness path fault) s = refl
 failing (fails.NoSuchName path name) s = refl
 failing (fails.TooManyNodes path) s = refl
+failing (fails.TooManySteps path) s = refl
 failing (fails.NotAMap path) s = refl
 failing (fails.Device path) s = tt
 failing fails.Memory s = refl

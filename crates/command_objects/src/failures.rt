@@ -23,6 +23,7 @@ fn fault_of(failure: Failure<'_>) -> Fault
         Failure::RefusedWitness(_, fault) => Fault::Witness(fault),
         Failure::NoSuchName(_, _) => Fault::NoSuchName,
         Failure::TooManyNodes(_) => Fault::TooManyNodes,
+        Failure::TooManySteps(_) => Fault::TooManySteps,
         Failure::NotAMap(_) => Fault::NotAMap,
         Failure::Device(_) => Fault::Device,
         Failure::Memory => Fault::Circuit(ReadError::NoMemory),
@@ -51,6 +52,7 @@ fn path_of<'a>(failure: Failure<'a>) -> Option<&'a str>
         | Failure::RefusedWitness(path, _)
         | Failure::NoSuchName(path, _)
         | Failure::TooManyNodes(path)
+        | Failure::TooManySteps(path)
         | Failure::NotAMap(path)
         | Failure::Device(path) => Some(path),
         Failure::Memory => None,
