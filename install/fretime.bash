@@ -54,7 +54,7 @@ _fretime() {
         explain)
             if [ "$COMP_CWORD" = 2 ]; then
                 mapfile -t COMPREPLY < <(compgen -W "--help BadHeader TooLarge MaxIndex BadLine BadLiteral DefinedTwice Undefined Cycle \
-                    BadReset BadDelta Truncated BadSymbol Trailing Width TooMany NoSuchProperty \
+                    BadReset BadDelta Truncated BadSymbol Trailing Width TooMany NoSuchProperty TooManySteps \
                     NoSuchName TooManyNodes NotAMap NotClosed BadRoute UsedTwice CountDiffers NoMemory Device" -- "$word")
             fi
             return

@@ -37,11 +37,11 @@ complete -c fretime -n '__fish_seen_subcommand_from retime' -l binary -d 'Write 
 complete -c fretime -n '__fish_seen_subcommand_from retime' -x -l workers -d 'Threads that work on the flow'
 complete -c fretime -n '__fish_seen_subcommand_from retime' -x -l frames -d 'The most frames to take'
 complete -c fretime -n '__fish_seen_subcommand_from retime' -l near -d 'Move latches as few gates as a least count allows'
-complete -c fretime -n '__fish_seen_subcommand_from retime' -l merge -d 'Merge latches that always agree, before the first frame'
-complete -c fretime -n '__fish_seen_subcommand_from retime' -x -l keep -d 'Hold each latch with this name; may be given more than once'
+complete -c fretime -n '__fish_seen_subcommand_from retime' -l merge -d 'Merge latches that always agree, before any frame'
+complete -c fretime -n '__fish_seen_subcommand_from retime' -x -l keep -d 'Hold each latch with this name; may be repeated'
 complete -c fretime -n '__fish_seen_subcommand_from retime' -r -l keep-from -d 'Hold the latches that the lines of FILE name'
-complete -c fretime -n '__fish_seen_subcommand_from retime' -r -l cert -d 'Write a certificate of each frame to FILE, for \'verify\''
-complete -c fretime -n '__fish_seen_subcommand_from retime' -r -l map -d 'Write to MAP, as a circuit, how OUT\'s latches follow from IN\'s'
+complete -c fretime -n '__fish_seen_subcommand_from retime' -r -l cert -d 'Write a certificate of each frame to FILE'
+complete -c fretime -n '__fish_seen_subcommand_from retime' -r -l map -d 'Write how OUT\'s latches follow from IN\'s to MAP'
 complete -c fretime -n '__fish_seen_subcommand_from retime' -l json -d 'Print an object of JSON in place of the lines'
 complete -c fretime -n '__fish_seen_subcommand_from retime' -l progress -d 'Write a line to standard error as each frame begins'
 complete -c fretime -n '__fish_seen_subcommand_from retime' -l quiet -d 'Show no progress on a terminal either'
@@ -51,7 +51,7 @@ complete -c fretime -n '__fish_seen_subcommand_from batch' -l binary -d 'Write b
 complete -c fretime -n '__fish_seen_subcommand_from batch' -x -l workers -d 'Threads, each with a circuit at a time'
 complete -c fretime -n '__fish_seen_subcommand_from batch' -x -l frames -d 'The most frames to take'
 complete -c fretime -n '__fish_seen_subcommand_from batch' -l near -d 'Move latches as few gates as a least count allows'
-complete -c fretime -n '__fish_seen_subcommand_from batch' -l merge -d 'Merge latches that always agree, before the first frame'
+complete -c fretime -n '__fish_seen_subcommand_from batch' -l merge -d 'Merge latches that always agree, before any frame'
 complete -c fretime -n '__fish_seen_subcommand_from batch' -l json -d 'Print an object of JSON in place of the lines'
 
 complete -c fretime -n '__fish_seen_subcommand_from stat' -l merge -d 'Count the latches that always agree, too'
@@ -60,16 +60,23 @@ complete -c fretime -n '__fish_seen_subcommand_from stat' -l json -d 'Print an o
 complete -c fretime -n '__fish_seen_subcommand_from convert' -l ascii -d 'Write ASCII'
 complete -c fretime -n '__fish_seen_subcommand_from convert' -l binary -d 'Write binary'
 
+complete -c fretime -n '__fish_seen_subcommand_from sim' -x -l random -d 'Take n random sequences in place of STIM'
+complete -c fretime -n '__fish_seen_subcommand_from sim' -x -l steps -d 'The steps of each random sequence, else 100'
+complete -c fretime -n '__fish_seen_subcommand_from sim' -x -l seed -d 'What random digits follow from, else 0'
+
+complete -c fretime -n '__fish_seen_subcommand_from same' -x -l random -d 'Take n random sequences in place of STIM'
+complete -c fretime -n '__fish_seen_subcommand_from same' -x -l steps -d 'The steps of each random sequence, else 100'
+complete -c fretime -n '__fish_seen_subcommand_from same' -x -l seed -d 'What random digits follow from, else 0'
 complete -c fretime -n '__fish_seen_subcommand_from same' -l json -d 'Print an object of JSON in place of the lines'
 
-complete -c fretime -n '__fish_seen_subcommand_from verify' -x -l keep -d 'Hold each latch with this name; may be given more than once'
+complete -c fretime -n '__fish_seen_subcommand_from verify' -x -l keep -d 'Hold each latch with this name; may be repeated'
 complete -c fretime -n '__fish_seen_subcommand_from verify' -r -l keep-from -d 'Hold the latches that the lines of FILE name'
 complete -c fretime -n '__fish_seen_subcommand_from verify' -l merge -d 'IN was retimed with --merge'
 complete -c fretime -n '__fish_seen_subcommand_from verify' -l json -d 'Print an object of JSON in place of the lines'
 
 complete -c fretime -n '__fish_seen_subcommand_from dot' -l frame -d 'Show over which gates latches move next'
 complete -c fretime -n '__fish_seen_subcommand_from dot' -l merge -d 'Merge latches that always agree first'
-complete -c fretime -n '__fish_seen_subcommand_from dot' -x -l keep -d 'Hold each latch with this name; may be given more than once'
+complete -c fretime -n '__fish_seen_subcommand_from dot' -x -l keep -d 'Hold each latch with this name; may be repeated'
 complete -c fretime -n '__fish_seen_subcommand_from dot' -r -l keep-from -d 'Hold the latches that the lines of FILE name'
 complete -c fretime -n '__fish_seen_subcommand_from dot' -x -l around -d 'Draw the neighbourhood of what has this name alone'
 complete -c fretime -n '__fish_seen_subcommand_from dot' -x -l depth -d 'How many edges the neighbourhood reaches, else 2'
@@ -77,8 +84,8 @@ complete -c fretime -n '__fish_seen_subcommand_from dot' -x -l depth -d 'How man
 complete -c fretime -n '__fish_seen_subcommand_from witness' -l merge -d 'OUT was written with --merge'
 
 complete -c fretime -n '__fish_seen_subcommand_from retime verify dot' -x -l keep -a '(__fretime_names l)' \
-    -d 'Hold each latch with this name; may be given more than once'
+    -d 'Hold each latch with this name; may be repeated'
 complete -c fretime -n '__fish_seen_subcommand_from dot' -x -l around -a '(__fretime_names ilobcjf)' \
     -d 'Draw the neighbourhood of what has this name alone'
 
-complete -c fretime -n '__fish_seen_subcommand_from explain' -f -a 'BadHeader TooLarge MaxIndex BadLine BadLiteral DefinedTwice Undefined Cycle BadReset BadDelta Truncated BadSymbol Trailing Width TooMany NoSuchProperty NoSuchName TooManyNodes NotAMap NotClosed BadRoute UsedTwice CountDiffers NoMemory Device'
+complete -c fretime -n '__fish_seen_subcommand_from explain' -f -a 'BadHeader TooLarge MaxIndex BadLine BadLiteral DefinedTwice Undefined Cycle BadReset BadDelta Truncated BadSymbol Trailing Width TooMany NoSuchProperty TooManySteps NoSuchName TooManyNodes NotAMap NotClosed BadRoute UsedTwice CountDiffers NoMemory Device'

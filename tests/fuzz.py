@@ -98,6 +98,12 @@ def picture_options(rng, c):
     return words
 
 
+def random_sequences(rng):
+    """Options of `sim` and `same` in place of a stimulus."""
+    words = ['--random', str(rng.choice([1, 2, 70]))] + rng.choice([[], ['--steps', str(rng.randint(1, 5))]])
+    return words + rng.choice([[], ['--seed', str(rng.choice([1, 2**32 - 1, rng.randrange(2**32)]))]])
+
+
 def both_least_sets_agree(c):
     """Every closed set tried, against augmenting paths."""
     held = set() if len(c.latches) % 2 else held_latches(c, list(c.symbols['l'].values())[:1])
@@ -120,8 +126,10 @@ def compare_small(rng, comparison):
     comparison.run(['dot', 'in', 'OUT', *picture_options(rng, c)], {'in': data})
     stim = random_files.stimulus(rng, c, rng.choice([0, 1, 3, 70]), 4)
     comparison.run(['sim', 'in', 'stim'], {'in': data, 'stim': stim})
+    comparison.run(['sim', 'in', *random_sequences(rng)], {'in': data})
     if retimed:
         comparison.run(['same', 'in', 'other', 'stim'], {'in': data, 'other': retimed, 'stim': stim})
+        comparison.run(['same', 'in', 'other', *random_sequences(rng)], {'in': data, 'other': retimed})
         found = random_files.witness(rng, read(retimed)[0], rng.randint(0, 4))
         found = found if rng.random() < 0.8 else random_files.damaged(rng, found)
         comparison.run(['witness', 'in', 'other', 'wit', *set(words) & {'--merge'}], {'in': data, 'other': retimed, 'wit': found})
@@ -203,6 +211,7 @@ def compare_two(rng, comparison):
     stim = random_files.stimulus(rng, c, rng.choice([1, 3, 300]), 5)
     files = {'a': random_files.any_file(rng, c), 'b': random_files.any_file(rng, d), 'stim': stim}
     comparison.run(['same', 'a', 'b', 'stim'], files)
+    comparison.run(['same', 'a', 'b', *random_sequences(rng)], files)
     comparison.run(['sim', 'a', 'stim'], {'stim': random_files.damaged(rng, stim)})
 
 

@@ -10,7 +10,7 @@ from reference.merging import merge_counts
 from reference.pictures import MOST_NODES, has_name, neighbourhood, nodes, picture
 from reference.reading import Fault, read
 from reference.retiming import NoSuchName, frames_of, held_latches, passable, retimed
-from reference.simulation import difference_text, read_stimulus, trace, trace_text
+from reference.simulation import difference_text, is_too_long, random_stimulus, read_stimulus, trace, trace_text
 from reference.witnesses import carried_text
 
 PATHS = {'retime': 2, 'batch': 1, 'stat': 1, 'convert': 2, 'sim': 2, 'same': 3, 'verify': 2, 'check': 3, 'dot': 2, 'witness': 3}
@@ -18,10 +18,12 @@ OPTIONS = {'retime': {'--ascii', '--binary', '--workers', '--frames', '--near', 
                       '--quiet'},
            'verify': {'--keep', '--merge'}, 'dot': {'--frame', '--merge', '--keep', '--around', '--depth'},
            'batch': {'--ascii', '--binary', '--workers', '--frames', '--near', '--merge'}, 'convert': {'--ascii', '--binary'},
-           'stat': {'--merge'}, 'witness': {'--merge'}}
+           'stat': {'--merge'}, 'witness': {'--merge'}, 'sim': {'--random', '--steps', '--seed'},
+           'same': {'--random', '--steps', '--seed'}}
 WRITING = {'retime', 'convert', 'dot'}
-GREATEST = {'--workers': 64, '--frames': 2**28, '--depth': 100}
-VALUED = {'--workers', '--frames', '--keep', '--cert', '--map', '--around', '--depth'}
+GREATEST = {'--workers': 64, '--frames': 2**28, '--depth': 100, '--random': 2**20, '--steps': 2**22, '--seed': 2**32 - 1}
+LEAST = {'--seed': 0}
+VALUED = {'--workers', '--frames', '--keep', '--cert', '--map', '--around', '--depth', '--random', '--steps', '--seed'}
 BESIDE = ('--map', '--cert')
 LINES = 2**20
 
@@ -75,11 +77,14 @@ def parsed(words):
             value = next(rest, '--')
             if value != '-' and value.startswith('-'):
                 raise Ends(2, f'error: {word} without a value')
-        if name in GREATEST and not (value.isdigit() and 1 <= int(value) <= GREATEST[name]):
+        if name in GREATEST and not (value.isdigit() and LEAST.get(name, 1) <= int(value) <= GREATEST[name]):
             raise Ends(2, f'error: {name} {value}')
         options.setdefault(name, []).append(value)
-    if len(paths) != PATHS[command] or {'--ascii', '--binary'} <= set(options) or {'--progress', '--quiet'} <= set(options):
+    wanted = PATHS[command] - ('--random' in options)
+    if len(paths) != wanted or {'--ascii', '--binary'} <= set(options) or {'--progress', '--quiet'} <= set(options):
         raise Ends(2, 'error: wrong arguments')
+    if {'--steps', '--seed'} & set(options) and '--random' not in options:
+        raise Ends(2, 'error: steps or a seed of no random sequences')
     if '--depth' in options and '--around' not in options:
         raise Ends(2, 'error: a depth of no neighbourhood')
     if command == 'dot' and '--merge' in options and '--frame' not in options:
@@ -137,11 +142,17 @@ def no_such_name(path, c, name):
     return Ends(1, f'{source_name(path)}: NoSuchName {os.fsdecode(name)}')
 
 
-def stimulus_of(path, c):
+def stimulus_of(paths, options, c):
+    """The stimulus that is read, or the random one; the paths are those of the circuits, and then of the stimulus."""
+    if '--random' in options:
+        sequences, steps, seed = (int(options.get(name, [other])[0]) for name, other in (('--random', 1), ('--steps', 100), ('--seed', 0)))
+        if is_too_long(c, sequences, steps):
+            raise Ends(1, f'{source_name(paths[0])}: TooManySteps: take fewer steps or sequences')
+        return random_stimulus(c.inputs, c.free_latches(), sequences, steps, seed)
     try:
-        return read_stimulus(bytes_of(path), c.inputs, c.free_latches())
+        return read_stimulus(bytes_of(paths[-1]), c.inputs, c.free_latches())
     except Fault as fault:
-        raise Ends(1, f'{source_name(path)}: {fault}') from fault
+        raise Ends(1, f'{source_name(paths[-1])}: {fault}') from fault
 
 
 def write_file(path, data):
@@ -245,14 +256,14 @@ def convert(paths, options):
     return 0, ''
 
 
-def sim(paths, _):
+def sim(paths, options):
     c, _ = circuit_of(paths[0])
-    return 0, trace_text(trace(c, stimulus_of(paths[1], c)))
+    return 0, trace_text(trace(c, stimulus_of(paths, options, c)))
 
 
-def same(paths, _):
+def same(paths, options):
     c, d = circuit_of(paths[0])[0], circuit_of(paths[1])[0]
-    said = difference_text(c, d, stimulus_of(paths[2], c))
+    said = difference_text(c, d, stimulus_of(paths, options, c))
     return {'same\n': 0, 'shapes differ\n': 1}.get(said, 5), said
 
 

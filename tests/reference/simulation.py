@@ -29,6 +29,39 @@ def read_stimulus(data, inputs, free):
     return sequences
 
 
+def words_of(seed):
+    """The words of SplitMix64 from a seed."""
+    while True:
+        seed = (seed + 0x9e3779b97f4a7c15) % 2**64
+        word = (seed ^ seed >> 30) * 0xbf58476d1ce4e5b9 % 2**64
+        word = (word ^ word >> 27) * 0x94d049bb133111eb % 2**64
+        yield word ^ word >> 31
+
+
+def digits_of(seed, count):
+    """So many bits of the words from a seed, the lowest of each first."""
+    words = words_of(seed)
+    bits = [bool(word >> place & 1) for word, _ in zip(words, range(-(-count // 64))) for place in range(64)]
+    return bits[:count]
+
+
+def random_stimulus(inputs, free, sequences, steps, seed):
+    """Sequences as `read_stimulus` has them: a word is the seed of a sequence, whose words are the seeds of the choice and of each
+    step."""
+    found, seeds = [], words_of(seed)
+    for _ in range(sequences):
+        words = words_of(next(seeds))
+        choice = digits_of(next(words), free)
+        found.append((choice, [digits_of(next(words), inputs) for _ in range(steps)]))
+    return found
+
+
+def is_too_long(c, sequences, steps):
+    """Whether so many sequences of so many steps, or a trace under them, take too much memory."""
+    return (sequences * steps * (c.inputs + 64) > 2**28 or sequences * c.free_latches() > 2**28
+            or max(sequences, 256) * steps * len(c.properties()) > 2**31)
+
+
 def value_of(lit, values):
     """The value of a literal, where each variable has its value."""
     return values[lit // 2] != bool(lit & 1)

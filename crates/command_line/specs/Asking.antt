@@ -16,6 +16,10 @@ use Rattle.command_line.specs.declared.task.Shown.TheVariants.{OnTerminal, EachF
 use Rattle.command_line.specs.declared.task.Retiming.{Retiming}
 use Rattle.command_line.specs.declared.task.Batch.{Batch as Batching}
 use Rattle.command_line.specs.declared.task.Verification.{Verification}
+use Rattle.command_line.specs.declared.task.Sequences.{Sequences}
+use Rattle.command_line.specs.declared.task.Stimuli.{Stimuli}
+use Rattle.command_line.specs.declared.task.Stimuli.TheVariants.{Read, Random}
+use Rattle.command_line.specs.declared.task.Simulation.{Simulation}
 use Rattle.command_line.specs.declared.task.Comparison.{Comparison}
 use Rattle.command_line.specs.declared.task.Drawing.{Drawing}
 use Rattle.command_line.specs.declared.task.Counting.{Counting}
@@ -111,11 +115,28 @@ pub record IsVerification (matches : ArgMatches) (verification : Verification) :
   pub merge : IsFlag matches (codes "merge") verification.merge
   pub json : IsFlag matches (codes "json") verification.json
 
+-- the numbers of random sequences are the values of their own arguments
+pub record AreSequences (matches : ArgMatches) (sequences : Sequences) : Type 0 where
+  pub given : (text : Bor (List ℕ)) × IsGiven matches (codes "random") text
+  pub count : IsNumber matches (codes "random") 1 sequences.count
+  pub steps : IsNumber matches (codes "steps") 100 sequences.steps
+  pub seed : IsNumber matches (codes "seed") 0 sequences.seed
+
+-- the stimulus is read where no number of random sequences is given
+abbrev pub AreStimuli : ArgMatches → Stimuli → Type 0
+AreStimuli matches (Read source) = (first_value (found_of matches) (codes "random") ≡ None) × IsSource matches (codes "STIM") source
+AreStimuli matches (Random sequences) = AreSequences matches sequences
+
+-- the path of a simulation and what it is under are the values of their own arguments
+pub record IsSimulation (matches : ArgMatches) (simulation : Simulation) : Type 0 where
+  pub input : IsSource matches (codes "IN") simulation.input
+  pub stimuli : AreStimuli matches simulation.stimuli
+
 -- the paths and the flag of a comparison are the values of their own arguments
 pub record IsComparison (matches : ArgMatches) (comparison : Comparison) : Type 0 where
   pub first : IsSource matches (codes "A") comparison.first
   pub second : IsSource matches (codes "B") comparison.second
-  pub stimulus : IsSource matches (codes "STIM") comparison.stimulus
+  pub stimuli : AreStimuli matches comparison.stimuli
   pub json : IsFlag matches (codes "json") comparison.json
 
 -- the paths, the options and the names of a drawing are the values of their own arguments
@@ -153,7 +174,7 @@ AsksFor matches (Retime retiming) = IsRetiming matches retiming
 AsksFor matches (Batch batch) = IsBatch matches batch
 AsksFor matches (Stat counting) = IsCounting matches counting
 AsksFor matches (Convert input output spelling) = IsSource matches (codes "IN") input × IsTarget matches (codes "OUT") output × IsSpelling matches spelling
-AsksFor matches (Sim input stimulus) = IsSource matches (codes "IN") input × IsSource matches (codes "STIM") stimulus
+AsksFor matches (Sim simulation) = IsSimulation matches simulation
 AsksFor matches (Same comparison) = IsComparison matches comparison
 AsksFor matches (Verify verification) = IsVerification matches verification
 AsksFor matches (Check checking) = IsChecking matches checking
@@ -167,7 +188,7 @@ command_of (Retime retiming) = codes "retime"
 command_of (Batch batch) = codes "batch"
 command_of (Stat counting) = codes "stat"
 command_of (Convert input output spelling) = codes "convert"
-command_of (Sim input stimulus) = codes "sim"
+command_of (Sim simulation) = codes "sim"
 command_of (Same comparison) = codes "same"
 command_of (Verify verification) = codes "verify"
 command_of (Check checking) = codes "check"

@@ -7,9 +7,24 @@ use Rattle.stream_paths.specs.declared.source.Source.{Source}
 use Rattle.stream_paths.specs.declared.source.Source.TheVariants as sources
 use Rattle.stream_paths.specs.declared.target.Target.{Target}
 use Rattle.stream_paths.specs.declared.target.Target.TheVariants as targets
+use Rattle.command_line.specs.declared.task.Comparison.{Comparison}
 use Rattle.command_line.specs.declared.task.Retiming.{Retiming}
+use Rattle.command_line.specs.declared.task.Simulation.{Simulation}
+use Rattle.command_line.specs.declared.task.Stimuli.{Stimuli}
+use Rattle.command_line.specs.declared.task.Stimuli.TheVariants.{Read, Random}
 use Rattle.command_line.specs.declared.task.Task.{Task}
 use Rattle.command_line.specs.declared.task.Task.TheVariants.{Retime, Batch, Stat, Convert, Sim, Same, Verify, Check, Dot, Witness, Explain}
+
+-- what follows what else is read: a stimulus, unless it is made of random sequences
+abbrev pub with_stimulus : Stimuli → List Source
+with_stimulus (Read source) = source ∷ []
+with_stimulus (Random sequences) = []
+
+abbrev pub sources_of_simulation : Simulation → List Source
+sources_of_simulation simulation = simulation.input ∷ with_stimulus simulation.stimuli
+
+abbrev pub sources_of_comparison : Comparison → List Source
+sources_of_comparison comparison = comparison.first ∷ comparison.second ∷ with_stimulus comparison.stimuli
 
 -- what a task reads
 abbrev pub sources_of : Task → List Source
@@ -17,8 +32,8 @@ sources_of (Retime retiming) = retiming.input ∷ []
 sources_of (Batch batch) = batch.list ∷ []
 sources_of (Stat counting) = counting.input ∷ []
 sources_of (Convert input output spelling) = input ∷ []
-sources_of (Sim input stimulus) = input ∷ stimulus ∷ []
-sources_of (Same comparison) = comparison.first ∷ comparison.second ∷ comparison.stimulus ∷ []
+sources_of (Sim simulation) = sources_of_simulation simulation
+sources_of (Same comparison) = sources_of_comparison comparison
 sources_of (Verify verification) = verification.input ∷ verification.certificates ∷ []
 sources_of (Check checking) = checking.input ∷ checking.retimed ∷ checking.map ∷ []
 sources_of (Dot drawing) = drawing.input ∷ []
@@ -40,7 +55,7 @@ targets_of (Retime retiming) = retiming_targets retiming.output retiming.map ret
 targets_of (Batch batch) = []
 targets_of (Stat counting) = []
 targets_of (Convert input output spelling) = output ∷ []
-targets_of (Sim input stimulus) = []
+targets_of (Sim simulation) = []
 targets_of (Same comparison) = []
 targets_of (Verify verification) = []
 targets_of (Check checking) = []
@@ -77,7 +92,7 @@ covers_circuit (Retime retiming) = covers retiming retiming.certificates || cove
 covers_circuit (Batch batch) = false
 covers_circuit (Stat counting) = false
 covers_circuit (Convert input output spelling) = false
-covers_circuit (Sim input stimulus) = false
+covers_circuit (Sim simulation) = false
 covers_circuit (Same comparison) = false
 covers_circuit (Verify verification) = false
 covers_circuit (Check checking) = false

@@ -9,5 +9,6 @@ mod texts;
 
 pub use parse::parse_arguments;
 pub use task::{
-    Batch, Carrying, Checking, Comparison, Counting, Drawing, Retiming, Shown, Task, Verification,
+    Batch, Carrying, Checking, Comparison, Counting, Drawing, Retiming, Sequences, Shown,
+    Simulation, Stimuli, Task, Verification,
 };

@@ -1,14 +1,16 @@
 //! From the matches of the command-line library to a task. Each field of a task has a function of its own, whose clause says
 //! which argument it comes from; that the library matched the words as it should is only tested.
-ghost use Rattle.std.specs.Prelude.{◌≡◌, ◌^◌, IfOk, IfSome, codes, map};
-ghost use Rattle.command_line.specs.Asking.{Asks, AsksFor, IsChoice, IsFlag, IsNumber, IsShown, IsSomeTarget, IsSource, IsSpelling, values_of};
+ghost use Rattle.std.specs.Prelude.{◌≡◌, ◌^◌, IfOk, IfSome, MatchOption, None, codes, map};
+ghost use Rattle.clap.specs.Words.{first_value, found_of};
+ghost use Rattle.command_line.specs.Asking.{AreSequences, AreStimuli, Asks, AsksFor, IsChoice, IsFlag, IsNumber, IsShown, IsSomeTarget, IsSource, IsSpelling, values_of};
 ghost use Rattle.command_line.specs.StreamUses.{UsesStreamsOnce};
 ghost use Rattle.command_line.specs.declared.task.Task.TheVariants.{Dot, Retime, Verify};
 
 use crate::program::program;
 use crate::stream_uses::stream_conflict;
 use crate::task::{
-    Batch, Carrying, Checking, Comparison, Counting, Drawing, Retiming, Shown, Task, Verification,
+    Batch, Carrying, Checking, Comparison, Counting, Drawing, Retiming, Sequences, Shown,
+    Simulation, Stimuli, Task, Verification,
 };
 use clap::error::ErrorKind;
 use clap::{ArgMatches, Command, Error};
@@ -239,10 +241,36 @@ fn conversion<'a>(matches: &ArgMatches<'a>) -> Option<Task<'a>>
     Some(Task::Convert(input, output, spelling(matches)))
 }
 
+/// Which random sequences are asked for, where any are.
+fn sequences(matches: &ArgMatches<'_>) -> Option<Sequences>
+    ensures { MatchOption result (first_value (found_of matches.now) (codes "random") ≡ None)
+        (AreSequences matches.now) }
+{
+    let _given = matches.get_str("random")?;
+    Some(Sequences {
+        count: number(matches, "random", 1),
+        steps: number(matches, "steps", 100),
+        seed: number(matches, "seed", 0),
+    })
+}
+
+/// What circuits are simulated under.
+fn stimuli<'a>(matches: &ArgMatches<'a>) -> Option<Stimuli<'a>>
+    ensures { IfSome result (AreStimuli matches.now) }
+{
+    match sequences(matches) {
+        Some(sequences) => Some(Stimuli::Random(sequences)),
+        None => Some(Stimuli::Read(source(matches, "STIM")?)),
+    }
+}
+
 fn simulation<'a>(matches: &ArgMatches<'a>) -> Option<Task<'a>>
     ensures { IfSome result (Asks (codes "sim") matches.now) }
 {
-    Some(Task::Sim(source(matches, "IN")?, source(matches, "STIM")?))
+    Some(Task::Sim(Simulation {
+        input: source(matches, "IN")?,
+        stimuli: stimuli(matches)?,
+    }))
 }
 
 fn comparison<'a>(matches: &ArgMatches<'a>) -> Option<Task<'a>>
@@ -251,7 +279,7 @@ fn comparison<'a>(matches: &ArgMatches<'a>) -> Option<Task<'a>>
     Some(Task::Same(Comparison {
         first: source(matches, "A")?,
         second: source(matches, "B")?,
-        stimulus: source(matches, "STIM")?,
+        stimuli: stimuli(matches)?,
         json: json(matches),
     }))
 }

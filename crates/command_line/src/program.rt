@@ -56,7 +56,7 @@ fn certificates<'a>(alloc: Global) -> Arg<'a> {
         .long("cert")
         .value_name("FILE")
         .action(ArgAction::Set)
-        .help("Write a certificate of each frame to FILE, for 'verify'")
+        .help("Write a certificate of each frame to FILE")
 }
 
 fn map<'a>(alloc: Global) -> Result<Arg<'a>, AllocError> {
@@ -64,7 +64,7 @@ fn map<'a>(alloc: Global) -> Result<Arg<'a>, AllocError> {
         .long("map")
         .value_name("MAP")
         .action(ArgAction::Set)
-        .help("Write to MAP, as a circuit, how OUT's latches follow from IN's")
+        .help("Write how OUT's latches follow from IN's to MAP")
         .conflicts_with("merge")
 }
 
@@ -73,7 +73,7 @@ fn names<'a>(alloc: Global) -> Arg<'a> {
         .long("keep")
         .value_name("NAME")
         .action(ArgAction::Append)
-        .help("Hold each latch with this name; may be given more than once")
+        .help("Hold each latch with this name; may be repeated")
 }
 
 /// The file of names; the program puts in its names before the words are parsed.
@@ -218,7 +218,7 @@ fn with_limits<'a>(
     let command = with(command, workers(alloc, threads));
     let command = with(command, frames(alloc));
     let command = with(command, near(alloc));
-    let help = "Merge latches that always agree, before the first frame";
+    let help = "Merge latches that always agree, before any frame";
     with(command, merge(alloc, help))
 }
 
@@ -272,13 +272,63 @@ fn convert<'a>(alloc: Global) -> Result<Command<'a>, AllocError> {
     with_spelling(alloc, with_files(alloc, command))
 }
 
+/// The stimulus, which is given where no random sequences are asked for.
+fn stimulus<'a>(alloc: Global, help: &'a str) -> Result<Arg<'a>, AllocError> {
+    Arg::new(alloc, "STIM")
+        .help(help)
+        .required_unless_present("random")
+}
+
+fn random<'a>(alloc: Global) -> Result<Arg<'a>, AllocError> {
+    Arg::new(alloc, "random")
+        .long("random")
+        .value_name("n")
+        .value_parser(ValueParser::unsigned(1, 1 << 20))
+        .help("Take n random sequences in place of STIM")
+        .conflicts_with("STIM")
+}
+
+/// A number that is said of random sequences alone.
+fn of_random<'a>(
+    alloc: Global,
+    id: &'a str,
+    least: u64,
+    most: u64,
+    help: &'a str,
+) -> Result<Arg<'a>, AllocError> {
+    let number = Arg::new(alloc, id)
+        .long(id)
+        .value_name("n")
+        .value_parser(ValueParser::unsigned(least, most))
+        .help(help)
+        .conflicts_with("STIM");
+    match number {
+        Ok(number) => number.requires_arg("random"),
+        Err(error) => Err(error),
+    }
+}
+
+/// A command that takes a stimulus, or random sequences.
+fn with_stimuli<'a>(
+    alloc: Global,
+    command: Result<Command<'a>, AllocError>,
+    help: &'a str,
+) -> Result<Command<'a>, AllocError> {
+    let command = with_flag(command, stimulus(alloc, help));
+    let command = with_flag(command, random(alloc));
+    let steps = "The steps of each random sequence, else 100";
+    let command = with_flag(command, of_random(alloc, "steps", 1, 1 << 22, steps));
+    let seed = "What random digits follow from, else 0";
+    with_flag(command, of_random(alloc, "seed", 0, (1 << 32) - 1, seed))
+}
+
 fn sim<'a>(alloc: Global) -> Result<Command<'a>, AllocError> {
     let command = Command::new(alloc, "sim")
         .about("Prints the values of all properties under a stimulus")
         .after_help(texts::SIM_EXAMPLE)
         .arg_required_else_help(true)
         .arg(path(alloc, "IN", "The AIGER file to read"));
-    with(command, path(alloc, "STIM", "The stimulus"))
+    with_stimuli(alloc, command, "The stimulus")
 }
 
 fn same<'a>(alloc: Global) -> Result<Command<'a>, AllocError> {
@@ -288,10 +338,7 @@ fn same<'a>(alloc: Global) -> Result<Command<'a>, AllocError> {
         .arg_required_else_help(true)
         .arg(path(alloc, "A", "The first AIGER file"));
     let command = with(command, path(alloc, "B", "The second AIGER file"));
-    let command = with(
-        command,
-        path(alloc, "STIM", "The stimulus, with the widths of A"),
-    );
+    let command = with_stimuli(alloc, command, "The stimulus, with the widths of A");
     with(command, json(alloc))
 }
 

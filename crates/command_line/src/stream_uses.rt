@@ -3,10 +3,10 @@
 ghost use Rattle.std.specs.Prelude.{◌≡◌, ◌≤◌, IfNone};
 ghost use Rattle.std.specs.List.{count_by};
 ghost use Rattle.stream_paths.specs.Streams.{is_stdin, is_stdout};
-ghost use Rattle.command_line.specs.StreamUses.{UsesStreamsOnce, are_one_file, covers, covers_circuit, is_read_from, is_written_to, retiming_targets, sources_of, targets_of};
+ghost use Rattle.command_line.specs.StreamUses.{UsesStreamsOnce, are_one_file, covers, covers_circuit, is_read_from, is_written_to, retiming_targets, sources_of, sources_of_comparison, sources_of_simulation, targets_of};
 ghost use Rattle.command_line.specs.StreamUses as wanted;
 
-use crate::task::{Retiming, Task};
+use crate::task::{Comparison, Retiming, Simulation, Stimuli, Task};
 use stream_paths::{Source, Target};
 
 fn stdin_count(sources: &[Source<'_>]) -> usize
@@ -21,6 +21,26 @@ fn stdout_count(targets: &[Target<'_>]) -> usize
     targets.iter().filter(|target| target.is_stdout()).count()
 }
 
+/// How many of the circuit and the stimulus are standard input.
+fn stdin_uses_of_simulation(simulation: &Simulation<'_>) -> usize
+    ensures { result ≡ count_by is_stdin (sources_of_simulation simulation.now) }
+{
+    match simulation.stimuli {
+        Stimuli::Read(stimulus) => stdin_count(&[simulation.input, stimulus]),
+        Stimuli::Random(_) => stdin_count(&[simulation.input]),
+    }
+}
+
+/// How many of the circuits and the stimulus are standard input.
+fn stdin_uses_of_comparison(comparison: &Comparison<'_>) -> usize
+    ensures { result ≡ count_by is_stdin (sources_of_comparison comparison.now) }
+{
+    match comparison.stimuli {
+        Stimuli::Read(stimulus) => stdin_count(&[comparison.first, comparison.second, stimulus]),
+        Stimuli::Random(_) => stdin_count(&[comparison.first, comparison.second]),
+    }
+}
+
 /// How many of the things that a task reads are standard input.
 fn stdin_uses(task: &Task<'_>) -> usize
     ensures { result ≡ count_by is_stdin (sources_of task.now) }
@@ -30,12 +50,8 @@ fn stdin_uses(task: &Task<'_>) -> usize
         Task::Batch(batch) => stdin_count(&[batch.list]),
         Task::Stat(counting) => stdin_count(&[counting.input]),
         Task::Convert(input, _, _) => stdin_count(&[*input]),
-        Task::Sim(input, stimulus) => stdin_count(&[*input, *stimulus]),
-        Task::Same(comparison) => stdin_count(&[
-            comparison.first,
-            comparison.second,
-            comparison.stimulus,
-        ]),
+        Task::Sim(simulation) => stdin_uses_of_simulation(simulation),
+        Task::Same(comparison) => stdin_uses_of_comparison(comparison),
         Task::Witness(carrying) => {
             stdin_count(&[carrying.input, carrying.retimed, carrying.witness])
         }
@@ -69,7 +85,7 @@ fn stdout_uses(task: &Task<'_>) -> usize
         Task::Dot(drawing) => stdout_count(&[drawing.output]),
         Task::Batch(_)
         | Task::Stat(_)
-        | Task::Sim(_, _)
+        | Task::Sim(_)
         | Task::Same(_)
         | Task::Verify(_)
         | Task::Witness(_)
@@ -131,7 +147,7 @@ fn covers_circuit(task: &Task<'_>) -> bool
         Task::Batch(_)
         | Task::Stat(_)
         | Task::Convert(_, _, _)
-        | Task::Sim(_, _)
+        | Task::Sim(_)
         | Task::Same(_)
         | Task::Verify(_)
         | Task::Dot(_)

@@ -59,6 +59,35 @@ pub struct Verification<'a> {
     pub json: bool,
 }
 
+/// Which random sequences a circuit is simulated under.
+#[derive(Clone, Copy, Debug, PartialEq, Eq)]
+pub struct Sequences {
+    /// How many, from 1 to 2^20.
+    pub count: u32,
+    /// The steps of each, from 1 to 2^22.
+    pub steps: u32,
+    /// What their digits follow from.
+    pub seed: u32,
+}
+
+/// What circuits are simulated under.
+#[derive(Clone, Copy)]
+pub enum Stimuli<'a> {
+    /// The stimulus that is read.
+    Read(Source<'a>),
+    /// Random sequences.
+    Random(Sequences),
+}
+
+/// What `sim` is to do.
+#[derive(Clone, Copy)]
+pub struct Simulation<'a> {
+    /// The circuit.
+    pub input: Source<'a>,
+    /// What it is simulated under.
+    pub stimuli: Stimuli<'a>,
+}
+
 /// What `same` is to do.
 #[derive(Drop)]
 pub struct Comparison<'a> {
@@ -66,8 +95,8 @@ pub struct Comparison<'a> {
     pub first: Source<'a>,
     /// The second circuit.
     pub second: Source<'a>,
-    /// The stimulus, with the widths of the first.
-    pub stimulus: Source<'a>,
+    /// What both are simulated under, with the widths of the first.
+    pub stimuli: Stimuli<'a>,
     /// Whether an object of JSON is printed in place of the line.
     pub json: bool,
 }
@@ -157,7 +186,7 @@ pub enum Task<'a> {
     /// Write a circuit in a spelling; `None` is the one that wasn't read.
     Convert(Source<'a>, Target<'a>, Option<Spelling>),
     /// Simulate a circuit under a stimulus.
-    Sim(Source<'a>, Source<'a>),
+    Sim(Simulation<'a>),
     /// Compare two circuits under a stimulus.
     Same(Comparison<'a>),
     /// Check the certificates of a retiming.

@@ -153,15 +153,22 @@ pub(crate) const SIM_EXAMPLE: &str =
     "A stimulus is lines: '=' with a digit for each free latch begins a sequence, ':'
 with a digit for each input is its next step.
 
-Exit status: 0 done, 1 a file is refused, 2 command line, 3 device, 4 out of
-memory.";
+Without one at hand: --random 256 --steps 1000. The digits follow from the seed
+alone; more sequences, or longer ones, begin with these, and inputs are the same
+whatever latches are free.
+
+Exit status: 0 done, 1 a file is refused or so many steps take too much memory,
+2 command line, 3 device, 4 out of memory.";
 
 pub(crate) const SAME_EXAMPLE: &str =
     "It prints 'same', or the first sequence, step and place, from 0, at which the
 circuits differ.
 
-Exit status: 0 same, 1 a file is refused or shapes differ, 2 command line,
-3 device, 4 out of memory, 5 they differ.";
+Without a stimulus at hand: --random 256 --steps 1000. 'sim' with the same
+numbers takes the same sequences.
+
+Exit status: 0 same, 1 a file is refused, shapes differ or so many steps take
+too much memory, 2 command line, 3 device, 4 out of memory, 5 they differ.";
 
 pub(crate) const DOT_ABOUT: &str = "Writes a picture of a circuit, for Graphviz";
 
@@ -226,9 +233,9 @@ pub(crate) const EXPLAIN_EXAMPLE: &str = "Example:
 Faults of circuits, and some of them of other files too: BadHeader, TooLarge,
 MaxIndex, BadLine, BadLiteral, DefinedTwice, Undefined, Cycle, BadReset,
 BadDelta, Truncated, BadSymbol, Trailing. Of a stimulus or a witness: Width,
-TooMany, NoSuchProperty. Of names and pictures: NoSuchName, TooManyNodes. Of
-maps: NotAMap. Of certificates: NotClosed, BadRoute, UsedTwice, CountDiffers. Of
-a run: NoMemory, Device.
+TooMany, NoSuchProperty. Of random sequences: TooManySteps. Of names and
+pictures: NoSuchName, TooManyNodes. Of maps: NotAMap. Of certificates:
+NotClosed, BadRoute, UsedTwice, CountDiffers. Of a run: NoMemory, Device.
 
 Exit status: 0 done, 2 command line, or there is no such fault, 3 device, 4 out
 of memory.";

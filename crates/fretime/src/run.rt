@@ -56,7 +56,7 @@ fn run_task<
         Task::Convert(input, output, spelling) => {
             convert(rt, alloc, *input, *output, *spelling, stdin, out)
         }
-        Task::Sim(input, stimulus) => print_simulation(rt, alloc, *input, *stimulus, stdin, out),
+        Task::Sim(simulation) => print_simulation(rt, alloc, simulation, stdin, out),
         Task::Same(comparison) => print_comparison(rt, alloc, comparison, stdin, out),
         Task::Verify(verification) => print_verification(rt, alloc, verification, stdin, out),
         Task::Check(checking) => print_check(rt, alloc, checking, stdin, out),

@@ -11,12 +11,13 @@ use Rattle.json_reports.specs.Differences.{difference_data, shapes_data}
 use Rattle.json_reports.specs.Lines.{json_line}
 use Rattle.counted_io.specs.Input.{Input}
 use Rattle.counted_io.specs.Output.{Output}
-use Rattle.stream_paths.specs.declared.source.Source.{Source}
 use Rattle.command_line.specs.declared.task.Comparison.{Comparison}
+use Rattle.command_line.specs.declared.task.Stimuli.{Stimuli}
 use Rattle.circuit_files.specs.declared.outcome.Outcome.{Outcome}
 use Rattle.circuit_files.specs.declared.outcome.Outcome.TheVariants as ends
 use Rattle.command_endings.specs.Printing.{EndsWith}
-use Rattle.command_endings.specs.Sources.{IsCircuitAt, IsStimulusAt}
+use Rattle.command_endings.specs.Sources.{IsCircuitAt}
+use Rattle.simulation_commands.specs.Stimulating.{AreStimuliAt}
 use Rattle.simulation_commands.specs.declared.comparison.Finding.{Finding}
 use Rattle.simulation_commands.specs.declared.comparison.Finding.TheVariants.{Same, Differ, ShapesDiffer}
 
@@ -47,28 +48,28 @@ abbrev pub printed_finding : Bool → Finding → List ℕ
 printed_finding true finding = json_line (finding_object finding)
 printed_finding false finding = finding_text finding
 
--- what is found of two circuits under the stimulus that is read, which has the widths of the first
-pub record IsFindingUnder (c d : Netlist) (stimulus : Source) (before after : Input) (finding : Finding) : Type 0 where
+-- what is found of two circuits under what is asked for, with the widths of the first
+pub record IsFindingUnder (c d : Netlist) (stimuli : Stimuli) (before after : Input) (finding : Finding) : Type 0 where
   pub sequences : List InputSequence
-  pub read : IsStimulusAt stimulus c.aig before after sequences
+  pub under : AreStimuliAt stimuli c before after sequences
   pub is : IsFinding c d sequences finding
 
--- what is found of a circuit and the one that is read, under the stimulus that is read after it
-pub record IsFindingWith (c : Netlist) (second stimulus : Source) (before after : Input) (finding : Finding) : Type 0 where
+-- what is found of a circuit and the second one of the task, which is read, under what the task asks for
+pub record IsFindingWith (c : Netlist) (task : Comparison) (before after : Input) (finding : Finding) : Type 0 where
   pub spelt : SpeltCircuit
   pub between : Input
-  pub read : IsCircuitAt second before between spelt
-  pub found : IsFindingUnder c spelt.circuit stimulus between after finding
+  pub read : IsCircuitAt task.second before between spelt
+  pub found : IsFindingUnder c spelt.circuit task.stimuli between after finding
 
--- what is found of the circuits and the stimulus that are read in this order
-pub record IsFindingOf (first second stimulus : Source) (before after : Input) (finding : Finding) : Type 0 where
+-- what is found of the circuits of the task, which are read in their order, under what it asks for
+pub record IsFindingOf (task : Comparison) (before after : Input) (finding : Finding) : Type 0 where
   pub spelt : SpeltCircuit
   pub between : Input
-  pub read : IsCircuitAt first before between spelt
-  pub found : IsFindingWith spelt.circuit second stimulus between after finding
+  pub read : IsCircuitAt task.first before between spelt
+  pub found : IsFindingWith spelt.circuit task between after finding
 
 -- that was printed as the task asks, and the run ends by it
 pub record PrintsFinding (task : Comparison) (before after : Input) (old new : Output) (ended : Outcome) : Type 0 where
   pub finding : Finding
-  pub found : IsFindingOf task.first task.second task.stimulus before after finding
+  pub found : IsFindingOf task before after finding
   pub printed : EndsWith (outcome_of_finding finding) (printed_finding task.json finding) old new ended

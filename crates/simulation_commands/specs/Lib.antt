@@ -1,2 +1,3 @@
 pub mod Comparing
 pub mod Simulating
+pub mod Stimulating

@@ -4,8 +4,9 @@ ghost use Rattle.command_objects.specs.Objects.{EndsPrintingObject};
 ghost use Rattle.simulation_commands.specs.Comparing.{IsFinding, IsFindingOf, IsFindingUnder, IsFindingWith, PrintsFinding, finding_object, finding_text, outcome_of_finding, printed_finding};
 ghost use Rattle.command_endings.specs.Printing.{EndsPrinting, EndsWith, Prints, ending};
 
+use crate::stimuli::stimuli_for;
 use aig_graph::Circuit;
-use circuit_files::{Failure, Outcome, circuit_at, stimulus_at};
+use circuit_files::{Failure, Outcome, circuit_at};
 use command_endings::ended;
 use command_line::Comparison;
 use counted_io::{CountedRead, CountedWrite};
@@ -14,7 +15,6 @@ use reports::{print_difference, print_shapes_differ};
 use std::alloc::Global;
 use std::rt::Files;
 use std::thread::Threads;
-use stream_paths::Source;
 
 /// What comparing two circuits finds.
 #[derive(Clone, Copy)]
@@ -43,19 +43,19 @@ fn compare<'a, R: Threads + Sync>(
     }
 }
 
-/// Compares two circuits under the stimulus that is read.
+/// Compares two circuits under what the task asks for.
 fn compared_under<'a, R: Files + Threads + Sync, I: CountedRead>(
     rt: &R,
     alloc: Global,
     first: &Circuit,
     second: &Circuit,
-    stimulus: Source<'a>,
+    task: &Comparison<'a>,
     stdin: &mut I,
 ) -> Result<Finding, Failure<'a>>
-    ensures { IfOk result (IsFindingUnder first.now second.now stimulus.entry (I.input stdin.old)
-        (I.input stdin.new)) }
+    ensures { IfOk result (IsFindingUnder first.now second.now task.now.stimuli
+        (I.input stdin.old) (I.input stdin.new)) }
 {
-    match stimulus_at(rt, alloc, stimulus, first, stdin) {
+    match stimuli_for(rt, alloc, task.stimuli, first, task.first, stdin) {
         Ok(stimulus) => compare(rt, alloc, first, second, &stimulus),
         Err(failure) => Err(failure),
     }
@@ -66,16 +66,15 @@ fn compared_with<'a, R: Files + Threads + Sync, I: CountedRead>(
     rt: &R,
     alloc: Global,
     first: &Circuit,
-    second: Source<'a>,
-    stimulus: Source<'a>,
+    task: &Comparison<'a>,
     stdin: &mut I,
 ) -> Result<Finding, Failure<'a>>
-    ensures { IfOk result (IsFindingWith first.now second.entry stimulus.entry (I.input stdin.old)
+    ensures { IfOk result (IsFindingWith first.now task.now (I.input stdin.old)
         (I.input stdin.new)) }
 {
-    match circuit_at(rt, alloc, second, stdin) {
+    match circuit_at(rt, alloc, task.second, stdin) {
         Ok(second) => {
-            let found = compared_under(rt, alloc, first, &second.circuit, stimulus, stdin);
+            let found = compared_under(rt, alloc, first, &second.circuit, task, stdin);
             drop(second);
             found
         }
@@ -86,17 +85,14 @@ fn compared_with<'a, R: Files + Threads + Sync, I: CountedRead>(
 fn compared<'a, R: Files + Threads + Sync, I: CountedRead>(
     rt: &R,
     alloc: Global,
-    first: Source<'a>,
-    second: Source<'a>,
-    stimulus: Source<'a>,
+    task: &Comparison<'a>,
     stdin: &mut I,
 ) -> Result<Finding, Failure<'a>>
-    ensures { IfOk result (IsFindingOf first.entry second.entry stimulus.entry (I.input stdin.old)
-        (I.input stdin.new)) }
+    ensures { IfOk result (IsFindingOf task.now (I.input stdin.old) (I.input stdin.new)) }
 {
-    match circuit_at(rt, alloc, first, stdin) {
+    match circuit_at(rt, alloc, task.first, stdin) {
         Ok(first) => {
-            let found = compared_with(rt, alloc, &first.circuit, second, stimulus, stdin);
+            let found = compared_with(rt, alloc, &first.circuit, task, stdin);
             drop(first);
             found
         }
@@ -148,8 +144,8 @@ fn print_finding_as<'a, O: CountedWrite>(
     }
 }
 
-/// Reads two circuits and a stimulus, which has the widths of the first, in this order, and prints the first difference of the
-/// circuits under the stimulus, as an object of JSON or in a line.
+/// Reads two circuits, and then a stimulus where the task has no random sequences, and prints the first difference of the circuits
+/// under it, as an object of JSON or in a line. The widths of a stimulus are those of the first circuit.
 pub fn print_comparison<'a, R: Files + Threads + Sync, I: CountedRead, O: CountedWrite>(
     rt: &R,
     alloc: Global,
@@ -161,6 +157,6 @@ pub fn print_comparison<'a, R: Files + Threads + Sync, I: CountedRead, O: Counte
         (O.output out.old) (O.output out.new)) }
     ensures prints { Prints (ending result) (O.output out.old) (O.output out.new) }
 {
-    let found = compared(rt, alloc, task.first, task.second, task.stimulus, stdin)?;
+    let found = compared(rt, alloc, task, stdin)?;
     print_finding_as(alloc, found, task.json, out)
 }

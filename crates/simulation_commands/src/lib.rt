@@ -4,6 +4,7 @@
 
 mod comparison;
 mod simulation;
+mod stimuli;
 
 pub use comparison::print_comparison;
 pub use simulation::print_simulation;
