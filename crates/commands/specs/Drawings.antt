@@ -6,7 +6,7 @@ use Rattle.aig_graph.specs.Circuits.{Netlist}
 use Rattle.aig_graph.specs.Closed.{IsClosedSet}
 use Rattle.aig_graph.specs.Move.{move_of}
 use Rattle.aig_graph.specs.Border.{IsGreatestLeast, border_size}
-use Rattle.aig_graph.specs.Keep.{held_by}
+use Rattle.aig_graph.specs.Keep.{held_in}
 use Rattle.aig_binary.specs.declared.reading.SpeltCircuit.{SpeltCircuit}
 use Rattle.counted_io.specs.Input.{Input}
 use Rattle.counted_io.specs.Output.{Output, WritesAll}
@@ -27,6 +27,11 @@ use Rattle.pictures.specs.Pictures.{picture}
 use Rattle.command_line.specs.declared.task.Drawing.{Drawing}
 use Rattle.command_endings.specs.HeldNames.{OfSource}
 use Rattle.command_endings.specs.Sources.{IsCircuitAt}
+use Rattle.commands.specs.declared.scene.Scene.{Scene}
+
+-- the names of the latches that the task holds
+abbrev pub names_for : Drawing → List (List ℕ)
+names_for task = map (λ name. name.now) task.keep.items
 
 -- the neighbourhood of what the name names, or all variables
 abbrev pub shown : Netlist → Drawing → ℕ → Bool
@@ -53,46 +58,54 @@ IsSetFor true c held (Some set) = IsGreatestLeast c held set × (border_size (mo
 IsSetFor true c held None = (s : List ℕ) → IsClosedSet c.aig held s → known_latches c.aig ≤ border_size (move_of c held s)
 IsSetFor false c held set = set ≡ None
 
--- the circuit that is drawn: that, or where the next frame is asked for it cleaned and retimed by the options
-abbrev pub IsCircuitFor : Bool → Netlist → Options → Netlist → Type 0
-IsCircuitFor true c options d = (r : Retimed) × IsRetimedBy options c r × (d ≡ r.circuit)
-IsCircuitFor false c options d = d ≡ c
-
 -- the options of a retiming that takes no frame, which holds the latches that the task names
 pub record AreOptionsFor (task : Drawing) (options : Options) : Type 0 where
   pub frames : options.max_frames ≡ 0
   pub choice : options.choice ≡ Greatest
   pub certify : options.certify ≡ false
   pub merge : options.merge ≡ task.merge
-  pub names : names_in options ≡ map (λ name. name.now) task.keep.items
+  pub names : names_in options ≡ names_for task
 
--- the picture of a circuit with held latches, which can be drawn, was written, with a set where the next frame is asked for
-pub record Draws (frame : Bool) (c : Netlist) (held : List ℕ) (task : Drawing) (old new : Output) : Type 0 where
-  pub can : CanBeDrawn task.around c
-  pub set : Option (List ℕ)
-  pub is : IsSetFor frame c held set
-  pub writes : WritesAll old new (picture c held set (shown c task))
-
--- that of a circuit as it was read, or of what the options make of it
-pub record DrawsCircuit (c : Netlist) (options : Options) (task : Drawing) (old new : Output) : Type 0 where
-  pub drawn : Netlist
-  pub is : IsCircuitFor task.frame c options drawn
-  pub draws : Draws task.frame drawn (held_by (names_in options) drawn.symbols.latches) task old new
-
--- by the options of the task
-pub record DrawsBy (c : Netlist) (task : Drawing) (old new : Output) : Type 0 where
+-- d is c cleaned, and where the task asks for it merged, as before the first frame
+pub record IsCleanedFor (task : Drawing) (c d : Netlist) : Type 0 where
   pub options : Options
   pub are : AreOptionsFor task options
-  pub draws : DrawsCircuit c options task old new
+  pub retimed : Retimed
+  pub is : IsRetimedBy options c retimed
+  pub circuit : d ≡ retimed.circuit
 
--- that of the circuit that is read
-pub record DrawsInput (task : Drawing) (before after : Input) (old new : Output) : Type 0 where
+-- the circuit that is drawn: the one that is read, or where the next frame is asked for what that frame begins with
+abbrev pub IsCircuitFor : Bool → Drawing → Netlist → Netlist → Type 0
+IsCircuitFor true task c d = IsCleanedFor task c d
+IsCircuitFor false task c d = d ≡ c
+
+-- a scene of the circuit: the latches that the task names are held in it, it can be drawn, and where the next frame is asked for, a set is shown
+pub record IsScene (task : Drawing) (c : Netlist) (scene : Scene) : Type 0 where
+  pub circuit : scene.circuit ≡ c
+  pub held : scene.keep ≡ held_in (names_for task) c
+  pub can : CanBeDrawn task.around c
+  pub set : IsSetFor task.frame c scene.keep scene.set
+
+-- a scene of what the task shows of the circuit that is read
+pub record IsSceneOf (task : Drawing) (before after : Input) (scene : Scene) : Type 0 where
   pub spelt : SpeltCircuit
   pub read : IsCircuitAt task.input before after spelt
-  pub draws : DrawsBy spelt.circuit task old new
+  pub circuit : Netlist
+  pub shown : IsCircuitFor task.frame task spelt.circuit circuit
+  pub is : IsScene task circuit scene
+
+-- what is written of a scene
+abbrev pub picture_of : Drawing → Scene → List ℕ
+picture_of task scene = picture scene.circuit scene.keep scene.set (shown scene.circuit task)
+
+-- the picture of the scene of what is read was written
+pub record WritesScene (task : Drawing) (before after : Input) (old new : Output) : Type 0 where
+  pub scene : Scene
+  pub is : IsSceneOf task before after scene
+  pub writes : WritesAll old new (picture_of task scene)
 
 -- so where the task writes to standard output; where it writes to a file, standard output is given nothing
 pub record PrintsPicture (task : Drawing) (before after : Input) (old new : Output) (ended : Outcome) : Type 0 where
   pub ends : ended ≡ Done
-  pub stdout : is_stdout task.output ≡ true → DrawsInput task before after old new
+  pub stdout : is_stdout task.output ≡ true → WritesScene task before after old new
   pub file : is_stdout task.output ≡ false → new ≡ old

@@ -21,6 +21,7 @@ use Rattle.circuit_files.specs.declared.outcome.Outcome.{Outcome}
 use Rattle.circuit_files.specs.declared.outcome.Outcome.TheVariants as ends
 use Rattle.command_endings.specs.Printing.{EndsWith}
 use Rattle.command_endings.specs.Sources.{IsCircuitAt, IsWitnessAt}
+use Rattle.commands.specs.declared.witness.Case.{Case}
 use Rattle.commands.specs.declared.witness.Fate.{Fate}
 use Rattle.commands.specs.declared.witness.Fate.TheVariants.{Confirmed, Objected, ShapesDiffer}
 
@@ -84,25 +85,17 @@ abbrev pub IsFate : Bool → Netlist → Netlist → Witness → Fate → Type 0
 IsFate merge c d w ShapesDiffer = (have_same_widths c d ≡ false) ⊎ AreKept merge c d None
 IsFate merge c d w fate = IsJudgedBy merge c d w fate
 
--- of the witness that is read
-pub record IsFateUnder (task : Carrying) (c d : Netlist) (before after : Input) (fate : Fate) : Type 0 where
-  pub read_witness : Witness
-  pub read : IsWitnessAt task.witness d before after read_witness
-  pub is : IsFate task.merge c d read_witness fate
-
--- of the circuit that is read, and the witness that is read after it
-pub record IsFateWith (task : Carrying) (c : Netlist) (before after : Input) (fate : Fate) : Type 0 where
-  pub spelt : SpeltCircuit
-  pub between : Input
-  pub read : IsCircuitAt task.retimed before between spelt
-  pub found : IsFateUnder task c spelt.circuit between after fate
-
--- of all that is read, in this order
-pub record IsFateOf (task : Carrying) (before after : Input) (fate : Fate) : Type 0 where
-  pub spelt : SpeltCircuit
-  pub between : Input
-  pub read : IsCircuitAt task.input before between spelt
-  pub found : IsFateWith task spelt.circuit between after fate
+-- what is read, in this order: a circuit, the one that it was retimed to, and a witness for that one
+pub record IsCaseOf (task : Carrying) (before after : Input) (given : Case) : Type 0 where
+  pub first : SpeltCircuit
+  pub second : SpeltCircuit
+  pub after_first : Input
+  pub after_second : Input
+  pub read_first : IsCircuitAt task.input before after_first first
+  pub read_second : IsCircuitAt task.retimed after_first after_second second
+  pub read_witness : IsWitnessAt task.witness given.retimed after_second after given.witness
+  pub circuit : given.circuit ≡ first.circuit
+  pub retimed : given.retimed ≡ second.circuit
 
 abbrev pub fate_text : Fate → List ℕ
 fate_text (Confirmed confirmed) = whole_text confirmed.witness confirmed.reached
@@ -114,8 +107,10 @@ outcome_of_fate (Confirmed confirmed) = ends.Done
 outcome_of_fate (Objected objection) = ends.Unconfirmed
 outcome_of_fate ShapesDiffer = ends.ShapesDiffer
 
--- that was printed, and the run ends by it
+-- what becomes of the witness that is read was printed, and the run ends by it
 pub record PrintsFate (task : Carrying) (before after : Input) (old new : Output) (ended : Outcome) : Type 0 where
+  pub given : Case
+  pub read : IsCaseOf task before after given
   pub fate : Fate
-  pub found : IsFateOf task before after fate
+  pub is : IsFate task.merge given.circuit given.retimed given.witness fate
   pub printed : EndsWith (outcome_of_fate fate) (fate_text fate) old new ended

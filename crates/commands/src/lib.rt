@@ -4,8 +4,10 @@
 
 mod answer;
 mod conversion;
+mod drawable;
 mod drawing;
 mod retiming;
+mod scene;
 mod statistics;
 mod verification;
 mod witness;

@@ -1,12 +1,11 @@
 //! The command `verify`.
 ghost use Rattle.std.specs.Prelude.{◌≡◌, IfOk};
-ghost use Rattle.certificate_audits.specs.Audits.{IsAudit, IsMergedAudit};
 ghost use Rattle.aig_graph.specs.Keep.{names_of};
 ghost use Rattle.reports.specs.Audits.{audit_text};
 ghost use Rattle.command_endings.specs.Printing.{EndsPrinting, Prints, ending};
 ghost use Rattle.commands.specs.Verifying.{EndsWithAudit, IsAuditFor, PrintsAudit, PrintsAuditFor, PrintsAuditOf, held_names, outcome_of_end};
 
-use aig_graph::Circuit;
+use aig_graph::{Circuit, KeepError};
 use certificate_audits::{Audit, End, audit_blocks, audit_merged};
 use certificates::Certificate;
 use circuit_files::{Failure, Outcome, certificates_at, circuit_at};
@@ -17,35 +16,20 @@ use reports::print_audit;
 use std::alloc::Global;
 use std::rt::Files;
 
-/// The audit of certificates of a run that merged no latches, where those with these names are held.
-fn audited_as_is<'a>(
+/// The audit of certificates of a run that held the latches with these names, and merged others first where that is said.
+fn audit_of(
     alloc: Global,
     circuit: &Circuit,
     blocks: &[Certificate],
     names: &[Vec<u8>],
-    task: &Verification<'a>,
-) -> Result<Audit, Failure<'a>>
-    ensures { IfOk result (IsAudit (names_of names.now) circuit.now blocks.now) }
+    merge: bool,
+) -> Result<Audit, KeepError>
+    ensures { IfOk result (IsAuditFor merge (names_of names.now) circuit.now blocks.now) }
 {
-    match audit_blocks(alloc, circuit, blocks, names) {
-        Ok(audit) => Ok(audit),
-        Err(error) => Err(failure_of_names(error, task.input, task.keep.as_slice())),
-    }
-}
-
-/// The same of a run that merged latches first.
-fn audited_merged<'a>(
-    alloc: Global,
-    circuit: &Circuit,
-    blocks: &[Certificate],
-    names: &[Vec<u8>],
-    task: &Verification<'a>,
-) -> Result<Audit, Failure<'a>>
-    ensures { IfOk result (IsMergedAudit (names_of names.now) circuit.now blocks.now) }
-{
-    match audit_merged(alloc, circuit, blocks, names) {
-        Ok(audit) => Ok(audit),
-        Err(error) => Err(failure_of_names(error, task.input, task.keep.as_slice())),
+    if merge {
+        audit_merged(alloc, circuit, blocks, names)
+    } else {
+        audit_blocks(alloc, circuit, blocks, names)
     }
 }
 
@@ -60,10 +44,9 @@ fn audited_by<'a>(
     ensures { IfOk result (IsAuditFor task.now.merge (names_of names.now) circuit.now
         blocks.now) }
 {
-    if task.merge {
-        audited_merged(alloc, circuit, blocks, names, task)
-    } else {
-        audited_as_is(alloc, circuit, blocks, names, task)
+    match audit_of(alloc, circuit, blocks, names, task.merge) {
+        Ok(audit) => Ok(audit),
+        Err(error) => Err(failure_of_names(error, task.input, task.keep.as_slice())),
     }
 }
 

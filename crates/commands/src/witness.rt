@@ -3,8 +3,10 @@ ghost use Rattle.std.specs.Prelude.{◌≡◌, IfOk};
 ghost use Rattle.aig_graph.specs.Graph as graphs;
 ghost use Rattle.witnesses.specs.Texts.{whole_text};
 ghost use Rattle.circuit_files.specs.declared.outcome.Outcome.TheVariants.{Done};
-ghost use Rattle.commands.specs.Fates.{AreKept, AreLeft, AreLeftFor, AreLeftMerged, AreMergeOptions, IsFate, IsFateOf, IsFateUnder, IsFateWith, IsJudged, PrintsFate, fate_text, if_many, outcome_of_fate};
+ghost use Rattle.commands.specs.Fates.{AreKept, AreLeft, AreLeftFor, AreLeftMerged, AreMergeOptions, IsCaseOf, IsFate, IsJudged, PrintsFate, fate_text, if_many, outcome_of_fate};
 ghost use Rattle.commands.specs.Fates as wanted;
+ghost use Rattle.command_endings.specs.Sources.{IsCircuitAt};
+ghost use Rattle.aig_binary.specs.declared.reading.SpeltCircuit.{SpeltCircuit};
 ghost use Rattle.command_endings.specs.Printing.{EndsPrinting, Prints, ending};
 
 use aig_graph::{Circuit, Keep, NoMemory, Sequence};
@@ -19,8 +21,17 @@ use reports::print_shapes_differ;
 use std::alloc::Global;
 use std::rt::Files;
 use std::thread::Threads;
+use stream_paths::Source;
 use tidy::all_places;
 use witnesses::{Confirmed, Objection, Widths, Witness, confirm, print_objection, print_witness};
+
+/// A circuit, the one that it was retimed to, and a witness for that one.
+#[derive(Drop)]
+struct Case {
+    circuit: Circuit,
+    retimed: Circuit,
+    witness: Witness,
+}
 
 /// What becomes of a witness.
 #[derive(Drop)]
@@ -197,61 +208,59 @@ fn judged<'a, R: Threads + Sync>(
     }
 }
 
-/// What becomes of the witness that is read.
-fn fate_under<'a, R: Files + Threads + Sync, I: CountedRead>(
+/// What becomes of the witness of a case.
+fn fate_of<'a, R: Threads + Sync>(
     rt: &R,
     alloc: Global,
-    circuit: &Circuit,
-    retimed: &Circuit,
-    task: &Carrying<'a>,
-    stdin: &mut I,
+    given: Case,
+    merge: bool,
 ) -> Result<Fate, Failure<'a>>
-    ensures { IfOk result (IsFateUnder task.now circuit.now retimed.now (I.input stdin.old)
-        (I.input stdin.new)) }
+    ensures { IfOk result (IsFate merge given.circuit given.retimed given.witness) }
 {
-    match witness_at(rt, alloc, task.witness, retimed, stdin) {
-        Ok(witness) => judged(rt, alloc, circuit, retimed, task.merge, witness),
+    let Case {
+        circuit,
+        retimed,
+        witness,
+    } = given;
+    let fate = judged(rt, alloc, &circuit, &retimed, merge, witness);
+    drop(circuit);
+    drop(retimed);
+    fate
+}
+
+/// The circuit that is read.
+fn read_circuit<'a, R: Files, I: CountedRead>(
+    rt: &R,
+    alloc: Global,
+    source: Source<'a>,
+    stdin: &mut I,
+) -> Result<Circuit, Failure<'a>>
+    ensures { IfOk result (λ circuit. (spelt : SpeltCircuit) × (circuit ≡ spelt.circuit)
+        × IsCircuitAt source.entry (I.input stdin.old) (I.input stdin.new) spelt) }
+{
+    match circuit_at(rt, alloc, source, stdin) {
+        Ok(spelt) => Ok(spelt.circuit),
         Err(failure) => Err(failure),
     }
 }
 
-/// The same, where the retimed circuit is read too.
-fn fate_with<'a, R: Files + Threads + Sync, I: CountedRead>(
-    rt: &R,
-    alloc: Global,
-    circuit: &Circuit,
-    task: &Carrying<'a>,
-    stdin: &mut I,
-) -> Result<Fate, Failure<'a>>
-    ensures { IfOk result (IsFateWith task.now circuit.now (I.input stdin.old)
-        (I.input stdin.new)) }
-{
-    match circuit_at(rt, alloc, task.retimed, stdin) {
-        Ok(retimed) => {
-            let found = fate_under(rt, alloc, circuit, &retimed.circuit, task, stdin);
-            drop(retimed);
-            found
-        }
-        Err(failure) => Err(failure),
-    }
-}
-
-fn fate_of<'a, R: Files + Threads + Sync, I: CountedRead>(
+/// Reads a circuit, the one that it was retimed to, and a witness for that one, in this order.
+fn case_for<'a, R: Files, I: CountedRead>(
     rt: &R,
     alloc: Global,
     task: &Carrying<'a>,
     stdin: &mut I,
-) -> Result<Fate, Failure<'a>>
-    ensures { IfOk result (IsFateOf task.now (I.input stdin.old) (I.input stdin.new)) }
+) -> Result<Case, Failure<'a>>
+    ensures { IfOk result (IsCaseOf task.now (I.input stdin.old) (I.input stdin.new)) }
 {
-    match circuit_at(rt, alloc, task.input, stdin) {
-        Ok(circuit) => {
-            let found = fate_with(rt, alloc, &circuit.circuit, task, stdin);
-            drop(circuit);
-            found
-        }
-        Err(failure) => Err(failure),
-    }
+    let circuit = read_circuit(rt, alloc, task.input, stdin)?;
+    let retimed = read_circuit(rt, alloc, task.retimed, stdin)?;
+    let witness = witness_at(rt, alloc, task.witness, &retimed, stdin)?;
+    Ok(Case {
+        circuit,
+        retimed,
+        witness,
+    })
 }
 
 fn print_confirmed<'a, O: CountedWrite>(
@@ -288,7 +297,8 @@ pub fn print_witness_back<'a, R: Files + Threads + Sync, I: CountedRead, O: Coun
         (O.output out.old) (O.output out.new)) }
     ensures prints { Prints (ending result) (O.output out.old) (O.output out.new) }
 {
-    let fate = fate_of(rt, alloc, task, stdin)?;
+    let given = case_for(rt, alloc, task, stdin)?;
+    let fate = fate_of(rt, alloc, given, task.merge)?;
     let printed = print_fate(&fate, out);
     drop(fate);
     printed

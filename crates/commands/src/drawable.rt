@@ -1,0 +1,67 @@
+//! Whether a circuit can be drawn as it is asked for: around what has a name, or as a whole that isn't too large.
+ghost use Rattle.std.specs.Prelude.{◌≡◌, ◌<◌, ◌↔◌, IsTrue, None, Some, MatchOption, MatchResult};
+ghost use Rattle.commands.specs.Drawings.{CanBeDrawn, IsRefusal};
+ghost use Rattle.commands.specs.Drawings as wanted;
+
+use aig_graph::Circuit;
+use circuit_files::Failure;
+use command_line::Drawing;
+use pictures::has_name;
+
+/// The most nodes that a picture of a whole circuit has.
+const MOST_NODES: u128 = 2000;
+
+/// How many nodes a picture of the whole circuit has; lists of any lengths have a sum.
+fn nodes(circuit: &Circuit) -> u128
+    ensures { result ≡ wanted.nodes circuit.now }
+{
+    let props = circuit.props();
+    circuit.aig().variables() as u128
+        + props.outputs.len() as u128
+        + props.bad.len() as u128
+        + props.constraints.len() as u128
+        + props.justice.len() as u128
+        + props.fairness.len() as u128
+}
+
+/// Whether a picture of the whole circuit would have too many nodes.
+fn is_too_large(circuit: &Circuit) -> bool
+    ensures { IsTrue result ↔ 2000 < wanted.nodes circuit.now }
+{
+    nodes(circuit) > MOST_NODES
+}
+
+/// That something in the circuit has the name.
+fn check_name<'a>(circuit: &Circuit, task: &Drawing<'a>, name: &'a str) -> Result<(), Failure<'a>>
+    ensures { MatchResult result (λ _. CanBeDrawn (Some name.entry) circuit.now)
+        (IsRefusal (Some name.entry) circuit.now task.now.input) }
+{
+    if has_name(circuit, name.as_bytes()) {
+        Ok(())
+    } else {
+        Err(Failure::NoSuchName(task.input.name(), name))
+    }
+}
+
+/// That the circuit hasn't too many nodes.
+fn check_size<'a>(circuit: &Circuit, task: &Drawing<'a>) -> Result<(), Failure<'a>>
+    ensures { MatchResult result (λ _. CanBeDrawn None circuit.now)
+        (IsRefusal None circuit.now task.now.input) }
+{
+    if is_too_large(circuit) {
+        Err(Failure::TooManyNodes(task.input.name()))
+    } else {
+        Ok(())
+    }
+}
+
+/// That the circuit can be drawn as it is asked for.
+pub(crate) fn check_drawable<'a>(circuit: &Circuit, task: &Drawing<'a>) -> Result<(), Failure<'a>>
+    ensures { MatchResult result (λ _. CanBeDrawn task.now.around circuit.now)
+        (IsRefusal task.now.around circuit.now task.now.input) }
+{
+    match task.around {
+        Some(name) => check_name(circuit, task, name),
+        None => check_size(circuit, task),
+    }
+}
