@@ -25,6 +25,7 @@ failing (fails.NotAMap path) s = refl
 failing (fails.Device path) s = tt
 failing fails.Memory s = refl
 
+-- the same of a state that hasn't changed
 pub failing_after : (f : Failure) (old new : Output) → new ≡ old → Prints (outcome_of f) old new
 failing_after f old new same = subst (λ (s : Output). Prints (outcome_of f) old s) (sym same) (failing f old)
 
@@ -32,6 +33,7 @@ failing_after f old new same = subst (λ (s : Output). Prints (outcome_of f) old
 pub of_device : (f : Failure) (old new : Output) → outcome_of f ≡ Device → Prints (outcome_of f) old new
 of_device f old new is = subst (λ (e : Outcome). Prints e old new) (sym is) tt
 
+-- an object that wasn't printed: memory ran out before it, or the device failed
 pub failing_object : (f : Failure) (value : Data) (old new : Output) → FailsPrintingObject value old new f → Prints (outcome_of f) old new
 failing_object f value old new (inl memory) = subst (λ (e : Outcome). Prints e old new) (sym memory.0) memory.1
 failing_object f value old new (inr device) = of_device f old new device.0
@@ -54,6 +56,7 @@ pub ends_with_line : (outcome : Outcome) (text : List ℕ) (old new : Output) (r
 ends_with_line outcome text old new (Ok ended) p = record { ends = p.0; prints = p.1 }
 ends_with_line outcome text old new (Err failure) p = tt
 
+-- the same of an object
 pub ends_with_object_line : (outcome : Outcome) (value : Data) (old new : Output) (result : Result Outcome Failure)
     → EndsPrintingObject outcome value old new result → IfOk result (EndsWith outcome (json_line value) old new)
 ends_with_object_line outcome value old new (Ok ended) p = record { ends = p.0; prints = p.1 }

@@ -9,6 +9,7 @@ use Rattle.circuit_files.specs.declared.outcome.Outcome.{Outcome}
 use Rattle.circuit_files.specs.declared.outcome.Failure.{Failure}
 use Rattle.command_objects.specs.Objects.{EndsBy, EndsPrintingObject}
 
+-- all of the object is printed and the command ends so, or it fails by what stopped the printing
 pub object_ends : {T : Type 0} (printed : Result T PrintError) (outcome : Outcome) (value : Data) (old new : Output) (result : Result Outcome Failure)
     → EndsBy printed outcome result → PrintsLine value old new printed → EndsPrintingObject outcome value old new result
 object_ends (Ok x) outcome value old new result ends prints = subst (λ (r : Result Outcome Failure). EndsPrintingObject outcome value old new r) (sym ends) (refl, prints.0)

@@ -22,6 +22,7 @@ pub merged_audit : {E : Type 0} (merge : Bool) (names : List (List ℕ)) (c : Ne
     → merge ≡ true → IfOk r (IsMergedAudit names c blocks) → IfOk r (IsAuditFor merge names c blocks)
 merged_audit merge names c blocks r asked is = let P : Bool → Type 0 = λ m. IfOk r (IsAuditFor m names c blocks) in subst P (sym asked) is
 
+-- the same where no latches were merged
 pub plain_audit : {E : Type 0} (merge : Bool) (names : List (List ℕ)) (c : Netlist) (blocks : List Certificate) (r : Result Audit E)
     → merge ≡ false → IfOk r (IsAudit names c blocks) → IfOk r (IsAuditFor merge names c blocks)
 plain_audit merge names c blocks r unasked is = let P : Bool → Type 0 = λ m. IfOk r (IsAuditFor m names c blocks) in subst P (sym unasked) is
@@ -47,12 +48,14 @@ object_of_audit : (blocks : List Certificate) (audit : Audit) (old new : Output)
 object_of_audit blocks audit old new (Ok ended) p = record { prints = p.1; ends = p.0 }
 object_of_audit blocks audit old new (Err failure) p = tt
 
+-- the object was printed that was asked for, and the run ends by the audit
 pub ends_with_object : (json : Bool) (blocks : List Certificate) (audit : Audit) (outcome : Outcome) (old new : Output) (result : Result Outcome Failure)
     → json ≡ true → outcome ≡ outcome_of_end audit.end → EndsWithObject blocks audit outcome old new result → IfOk result (EndsWithAudit json blocks audit old new)
 ends_with_object json blocks audit outcome old new result asked is p =
     subst (λ (j : Bool). IfOk result (EndsWithAudit j blocks audit old new)) (sym asked)
     (object_of_audit blocks audit old new result (by_end blocks audit outcome old new result is p))
 
+-- so much of the object may have been printed
 pub audit_object_prints : (blocks : List Certificate) (audit : Audit) (outcome : Outcome) (old new : Output) (result : Result Outcome Failure)
     → outcome ≡ outcome_of_end audit.end → EndsWithObject blocks audit outcome old new result → Prints (ending result) old new
 audit_object_prints blocks audit outcome old new result is p =
@@ -63,11 +66,13 @@ lines_of_audit : (blocks : List Certificate) (audit : Audit) (old new : Output) 
 lines_of_audit blocks audit old new (Ok ended) p = record { prints = p.1; ends = p.0 }
 lines_of_audit blocks audit old new (Err failure) p = tt
 
+-- the lines were printed, and the run ends by the audit
 pub ends_with_lines : (json : Bool) (blocks : List Certificate) (audit : Audit) (old new : Output) (result : Result Outcome Failure)
     → json ≡ false → EndsPrinting (outcome_of_end audit.end) (audit_text blocks audit) old new result → IfOk result (EndsWithAudit json blocks audit old new)
 ends_with_lines json blocks audit old new result unasked p =
     subst (λ (j : Bool). IfOk result (EndsWithAudit j blocks audit old new)) (sym unasked) (lines_of_audit blocks audit old new result p)
 
+-- so much of the lines may have been printed
 pub audit_prints : (blocks : List Certificate) (audit : Audit) (old new : Output) (result : Result Outcome Failure)
     → EndsPrinting (outcome_of_end audit.end) (audit_text blocks audit) old new result → Prints (ending result) old new
 audit_prints blocks audit old new result p =

@@ -16,6 +16,7 @@ use Rattle.command_endings.proofs.PrintingLaws.{lines_print}
 pub left_merged : {E : Type 0} (merge : Bool) (c : Netlist) (free : ℕ) (r : Result (Option (List ℕ)) E) → merge ≡ true → IfOk r (AreLeftMerged c free) → IfOk r (AreLeftFor merge c free)
 left_merged merge c free r asked left = let P : Bool → Type 0 = λ m. IfOk r (AreLeftFor m c free) in subst P (sym asked) left
 
+-- the same where none are merged
 pub left_cleaned : {E : Type 0} (merge : Bool) (c : Netlist) (free : ℕ) (r : Result (Option (List ℕ)) E) → merge ≡ false → IfOk r (AreLeft c free) → IfOk r (AreLeftFor merge c free)
 left_cleaned merge c free r unasked left = let P : Bool → Type 0 = λ m. IfOk r (AreLeftFor m c free) in subst P (sym unasked) left
 
@@ -37,6 +38,7 @@ fate_may_be_printed (Confirmed confirmed) old new written = tt
 fate_may_be_printed (Objected objection) old new written = tt
 fate_may_be_printed ShapesDiffer old new written = inl written
 
+-- so much of its text may have been printed
 pub fate_prints : (fate : Fate) (old new : Output) (result : Result Outcome Failure)
     → EndsPrinting (outcome_of_fate fate) (fate_text fate) old new result → Prints (ending result) old new
 fate_prints fate old new result p = lines_print (outcome_of_fate fate) (fate_text fate) old new result (fate_may_be_printed fate old new) p

@@ -19,6 +19,7 @@ use Rattle.command_endings.proofs.PrintingLaws.{ends_with_line, ends_with_object
 abbrev EndsCounted : Bool → Netlist → Option MergeCounts → Output → Output → Result Outcome Failure → Type 0
 EndsCounted json c merged old new result = IfOk result (EndsWith Done (statistics_text json c merged) old new)
 
+-- as an object
 pub object_of_counts : (json : Bool) (c : Netlist) (s : Statistics) (merged : Option MergeCounts) (old new : Output) (result : Result Outcome Failure)
     → json ≡ true → s ≡ statistics c → EndsPrintingObject Done (statistics_data s merged) old new result → EndsCounted json c merged old new result
 object_of_counts json c s merged old new result asked is p =
@@ -26,6 +27,7 @@ object_of_counts json c s merged old new result asked is p =
     subst (λ (t : Statistics). EndsPrintingObject Done (statistics_data t merged) old new result) is p in
     subst (λ (j : Bool). EndsCounted j c merged old new result) (sym asked) (ends_with_object_line Done (statistics_data (statistics c) merged) old new result counted)
 
+-- in lines
 pub lines_of_counts : (json : Bool) (c : Netlist) (s : Statistics) (merged : Option MergeCounts) (old new : Output) (result : Result Outcome Failure)
     → json ≡ false → s ≡ statistics c → EndsPrinting Done (counts_text s merged) old new result → EndsCounted json c merged old new result
 lines_of_counts json c s merged old new result unasked is p =

@@ -49,6 +49,7 @@ listed json CommandLine files old new is p = is
 listed json Differ files old new is p = is
 listed json Unconfirmed files old new is p = is
 
+-- the files of a batch were printed, and the run ends by the worst of them
 pub of_files : (json : Bool) (ended : Outcome) (files : List JobReport) (old new : Output) → Printed json files ended old new → PrintsList json ended old new
 of_files json ended files old new p = listed json ended files old new (subst IsEnd (sym p.ends) (after_all files Done tt)) p
 

@@ -12,6 +12,7 @@ pub indented_byte-10 : (b : ℕ) → b ≡ 10 → codes "\n    " ≡ indented_by
 unfolding indented_byte
 indented_byte-10 b is = sym (ap indented_byte is)
 
+-- any other byte stands as it is
 pub indented_byte-other : (b : ℕ) → b ≢ 10 → b ∷ [] ≡ indented_byte b
 unfolding indented_byte
 indented_byte-other b isnt = rw (not_equal b 10 isnt) refl
@@ -22,6 +23,7 @@ unfolding file_part
 file_part-empty [] is = refl
 file_part-empty (b ∷ bs) is = absurd (false≢true (sym (eqb-suc-zero (length bs)) ∙ is))
 
+-- a file of some bytes is shown, indented
 pub file_part-some : (file : List ℕ) → (length file == 0) ≡ false → codes "A smallest file that has it:\n\n" ++ (indented file ++ 10 ∷ []) ≡ file_part file
 unfolding file_part
 file_part-some [] isnt = absurd (eqb-false 0 0 isnt refl)

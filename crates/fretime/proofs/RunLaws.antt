@@ -46,6 +46,7 @@ ended (Err failure) old mid new prints (inr p) = failed true failure old mid new
 pub by_report : (o : Outcome) (r : Result Outcome Failure) (old mid new : Output) → o ≡ ending r → MayGive r old mid → MayRefuse r mid new → MayPrint o old new
 by_report o r old mid new is gives p = subst (λ (e : Outcome). MayPrint e old new) (sym is) (ended r old mid new gives p)
 
+-- a batch, in either form
 pub by_batch : (json : Bool) (o : Outcome) (old new : Output) → PrintsList json o old new → MayPrint o old new
 by_batch true o old new p = inr (inr p)
 by_batch false o old new p = inr (inl p)
@@ -64,14 +65,17 @@ nothing_printed (fails.NotAMap path) s = refl
 nothing_printed (fails.Device path) s = tt
 nothing_printed fails.Memory s = refl
 
+-- a failure before any task
 pub by_failure : (o : Outcome) (f : Failure) (s : Output) → o ≡ outcome_of f → MayPrint o s s
 by_failure o f s is = subst (λ (e : Outcome). MayPrint e s s) (sym is) (inl (nothing_printed f s))
 
+-- help, the version, or a mistake in the arguments: nothing went to standard output
 pub of_usage : (o : Outcome) (s : Output) → (o ≡ Done) ⊎ (o ≡ CommandLine) ⊎ (o ≡ Memory) → MayPrint o s s
 of_usage o s which =
     let P : Outcome → Type 0 = λ e. Prints e s s in
     inl (⊎_elim (λ done. subst P (sym done) tt) (⊎_elim (λ line. subst P (sym line) refl) (λ memory. subst P (sym memory) refl)) which)
 
+-- what standard output has at status 1
 pub where_refused : (o : Outcome) (old new : Output) → MayPrint o old new → status_of o ≡ 1 → (new ≡ old) ⊎ PrintsShapes old new ⊎ PrintsFilesOrRefusal Refused old new
 where_refused Refused old new (inl same) is = inl same
 where_refused Refused old new (inr (inl (inl same))) is = inl same
@@ -88,6 +92,7 @@ where_refused Memory old new p is = absurd (omega (arith, is))
 where_refused Differ old new p is = absurd (omega (arith, is))
 where_refused Unconfirmed old new p is = absurd (omega (arith, is))
 
+-- at status 2
 pub where_unasked : (o : Outcome) (old new : Output) → MayPrint o old new → status_of o ≡ 2 → new ≡ old
 where_unasked CommandLine old new (inl same) is = same
 where_unasked CommandLine old new (inr (inl p)) is = absurd p
@@ -100,6 +105,7 @@ where_unasked Memory old new p is = absurd (omega (arith, is))
 where_unasked Differ old new p is = absurd (omega (arith, is))
 where_unasked Unconfirmed old new p is = absurd (omega (arith, is))
 
+-- at status 4
 pub where_memory_lacks : (o : Outcome) (old new : Output) → MayPrint o old new → status_of o ≡ 4 → (new ≡ old) ⊎ PrintsFilesOrRefusal Memory old new
 where_memory_lacks Memory old new (inl same) is = inl same
 where_memory_lacks Memory old new (inr (inl (inl same))) is = inl same

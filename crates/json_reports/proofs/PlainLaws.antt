@@ -84,14 +84,17 @@ plain-fault fault = plain-object (plain-member (plain-string _) (plain-member (p
 plain-circuit : {n : ℕ} (c : Counts) → Plain (suc n) (circuit_data c)
 plain-circuit c = record { whole = refl; nests = omega arith }
 
+-- each object is plain: of counts
 pub statistics : (s : Statistics) (merged : Option MergeCounts) → IsPlain (statistics_data s merged)
 statistics s None = record { whole = refl; nests = omega arith }
 statistics s (Some counts) = record { whole = refl; nests = omega arith }
 
+-- of a difference
 pub difference : (found : Option Place) → IsPlain (difference_data found)
 difference None = record { whole = refl; nests = omega arith }
 difference (Some place) = record { whole = refl; nests = omega arith }
 
+-- of circuits whose shapes differ
 pub shapes : IsPlain shapes_data
 shapes = record { whole = refl; nests = omega arith }
 
@@ -109,12 +112,14 @@ plain-merge counts = record { whole = refl; nests = omega arith }
 plain-map : (counts : MapCounts) → Plain 3 (map_data counts)
 plain-map counts = record { whole = refl; nests = omega arith }
 
+-- of a retiming
 pub retiming : (r : Retimed) (left : Remaining) (times : Option Times) (mapped : Option MapCounts) → IsPlain (retiming_data r left times mapped)
 retiming r left times mapped =
     is_plain {n = 4} (omega arith) (plain-object (plain-member (plain-circuit left.counts) (plain-member record { whole = refl; nests = omega arith }
     (plain-member (plain-string _) (plain-member (plain-array frame_data r.frames plain-frame) (plain-member (plain-array count r.kept_free plain-count) (plain-member record { whole = refl; nests = omega arith }
     (plain-member (plain-or_null map_data plain-map mapped) (plain-member (plain-or_null merge_data plain-merge r.merged) (plain-member (plain-or_null times_data plain-times times) (plain-member (plain-count 0) plain-none)))))))))))
 
+-- of an audit
 pub audit : (blocks : List Certificate) (a : Audit) (status : ℕ) → IsPlain (audit_data blocks a status)
 audit blocks a status =
     is_plain {n = 2} (omega arith) (plain-object (plain-member (plain-string _) (plain-member (plain-array block_data _ (λ b. plain-count b.count))
@@ -126,10 +131,12 @@ plain-job (Refused fault) = plain-object (plain-member (plain-fault (faults.Circ
 plain-job NoMemory = record { whole = refl; nests = omega arith }
 plain-job NoSuchName = record { whole = refl; nests = omega arith }
 
+-- of a batch
 pub batch : (reports : List JobReport) (status : ℕ) → IsPlain (batch_data reports status)
 batch reports status =
     is_plain {n = 4} (omega arith) (plain-object (plain-member (plain-string _) (plain-member (plain-array job_data reports plain-job) (plain-member (plain-count status) plain-none))))
 
+-- of a refusal
 pub refusal : (r : Refusal) → IsPlain (refusal_data r)
 refusal r =
     is_plain {n = 2} (omega arith) (plain-object (plain-member (plain-string _) (plain-member (plain-fault r.fault) (plain-member (plain-or_null (λ name. string name.now) (λ name. plain-string _) r.latch)

@@ -8,6 +8,7 @@ use Rattle.counted_io.proofs.BufferedLaws.{puts-numbered_next}
 use Rattle.certificates.specs.declared.certificate.Certificate.{Certificate}
 use Rattle.reports.specs.Audits.{block_line}
 
+-- one more block than before
 pub puts-next_block : {W : Type 0} {output : W → Output} {b c d : Buffered W} (blocks : List Certificate) (k : ℕ) (block : Certificate) → k < length blocks → block ≡ get_or blocks k block
     → Puts output b c (numbered_lines block_line 0 (take k blocks)) → Puts output c d (block_line k block) → Puts output b d (numbered_lines block_line 0 (take (k + 1) blocks))
 puts-next_block {output = output} {c = c} {d = d} blocks k block within there before line =

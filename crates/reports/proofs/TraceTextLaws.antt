@@ -14,6 +14,7 @@ then_or : {X : Type 0} (o : Option (List X)) (k : ℕ) (d : X) → unwrap_or (th
 then_or None k d = refl
 then_or (Some xs) k d = unwrap_or-slice_get xs k d
 
+-- the value of a property at a step of a sequence, false where the trace has none
 pub value_is : (t : List (List (List Bool))) (s k p : ℕ) → unwrap_or (at_place t s k p) false ≡ get_or (get_or (get_or t s []) k []) p false
 value_is t s k p =
     then_or (then_at (slice_get t s) k) p false

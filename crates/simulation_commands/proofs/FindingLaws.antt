@@ -21,10 +21,12 @@ object_may_be_printed Same old new written = tt
 object_may_be_printed (Differ place) old new written = tt
 object_may_be_printed ShapesDiffer old new written = inr written
 
+-- so much of its line may have been printed
 pub finding_prints : (f : Finding) (old new : Output) (result : Result Outcome Failure)
     → EndsPrinting (outcome_of_finding f) (finding_text f) old new result → Prints (ending result) old new
 finding_prints f old new result p = lines_print (outcome_of_finding f) (finding_text f) old new result (line_may_be_printed f old new) p
 
+-- so much of its object may have been printed
 pub finding_object_prints : (f : Finding) (old new : Output) (result : Result Outcome Failure)
     → EndsPrintingObject (outcome_of_finding f) (finding_object f) old new result → Prints (ending result) old new
 finding_object_prints f old new result p = object_prints (outcome_of_finding f) (finding_object f) old new result (object_may_be_printed f old new) p
@@ -33,11 +35,13 @@ finding_object_prints f old new result p = object_prints (outcome_of_finding f) 
 abbrev EndsWithFinding : Bool → Finding → Output → Output → Result Outcome Failure → Type 0
 EndsWithFinding json f old new result = IfOk result (EndsWith (outcome_of_finding f) (printed_finding json f) old new)
 
+-- as an object
 pub object_of_finding : (json : Bool) (f : Finding) (old new : Output) (result : Result Outcome Failure)
     → json ≡ true → EndsPrintingObject (outcome_of_finding f) (finding_object f) old new result → EndsWithFinding json f old new result
 object_of_finding json f old new result asked p =
     subst (λ (j : Bool). EndsWithFinding j f old new result) (sym asked) (ends_with_object_line (outcome_of_finding f) (finding_object f) old new result p)
 
+-- in a line
 pub line_of_finding : (json : Bool) (f : Finding) (old new : Output) (result : Result Outcome Failure)
     → json ≡ false → EndsPrinting (outcome_of_finding f) (finding_text f) old new result → EndsWithFinding json f old new result
 line_of_finding json f old new result unasked p =
