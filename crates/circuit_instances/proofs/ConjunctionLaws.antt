@@ -23,6 +23,15 @@ first-none g lits lit valid one =
       is = λ z u. (λ _ j less. absurd (omega (arith, less)), λ _. (within_laws g valid z u).negation 0 ∙ ap not (within_laws g valid z u).constant);
     })
 
+-- the constant 1 adds nothing
+pub conjunction-one : (g : Graph) → IsGraph g → (a b : ℕ) → IsLiteralOf g b → a ≡ 1 → IsConjunction g a b b
+conjunction-one g valid a b within one = record {
+  within = within;
+  is = λ z u.
+      let is_one : value_within g z u a ≡ true = ap (value_within g z u) one ∙ (within_laws g valid z u).negation 0 ∙ ap not (within_laws g valid z u).constant in
+      sym (ap (λ (t : Bool). t && value_within g z u b) is_one);
+}
+
 both : (a b : Bool) → (a && b) ≡ true → (a ≡ true) × (b ≡ true)
 both true b h = (refl, h)
 both false b h = absurd (cc)

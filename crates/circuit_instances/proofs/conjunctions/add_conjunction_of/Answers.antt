@@ -15,7 +15,7 @@ pub loop-lit-preserved : goal.loop-lit-preserved
 loop-lit-preserved c =
     let g : Graph = c.args.gates.now in
     let h : Graph = c.loop-lit.gates in
-    let i : Graph = c.add_conjunction.new.gates in
+    let i : Graph = c.add_both.new.gates in
     let lits : List ℕ = c.args.lits.now in
     let k : ℕ = c.loop-lit.lit-index in
     record {
@@ -28,11 +28,11 @@ pub returns-clause-all : goal.returns-clause-all
 returns-clause-all c =
     first-all c.loop-lit.gates c.args.lits.now c.loop-lit.lit-index c.loop-lit.all (omega (arith, c.loop-lit-test.false, c.loop-lit.auto.lit-index-end)) c.loop-lit.invariant.first
 
-pub add_conjunction-requires-clause-a : goal.add_conjunction-requires-clause-a
-add_conjunction-requires-clause-a c = c.loop-lit.invariant.first.within
+pub add_both-requires-clause-a : goal.add_both-requires-clause-a
+add_both-requires-clause-a c = c.loop-lit.invariant.first.within
 
-pub add_conjunction-requires-clause-b : goal.add_conjunction-requires-clause-b
-add_conjunction-requires-clause-b c =
+pub add_both-requires-clause-b : goal.add_both-requires-clause-b
+add_both-requires-clause-b c =
     let lits : List ℕ = c.args.lits.now in
     let k : ℕ = c.loop-lit.lit-index in
     let h : Graph = c.loop-lit.gates in
