@@ -1,0 +1,11 @@
+pub mod AgreeLaws
+pub mod PlaceLaws
+pub mod LiftLaws
+pub mod CountLaws
+pub mod SourceLaws
+pub mod ViewLaws
+pub mod LatchLaws
+pub mod PropertyLaws
+pub mod PartLaws
+pub mod BuildLaws
+pub mod FinishLaws

@@ -1,0 +1,6 @@
+pub mod Literals
+pub mod Latches
+pub mod Lifting
+pub mod Parts
+pub mod Built
+pub mod Laws

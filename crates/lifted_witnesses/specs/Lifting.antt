@@ -1,0 +1,54 @@
+-- A witness circuit of a mapped circuit, read through the map.
+use Rattle.std.specs.Prelude.{ℕ, ◌+◌, ◌*◌, ◌≡◌, ◌++◌, ◌↔◌, ◌⊎◌, Bool, List, [], ◌∷◌, length, map, slice_get, Some, None, codes, decimal}
+use Rattle.variable_tables.specs.Tables.{table}
+use Rattle.aig_graph.specs.declared.graph.Latch.{Latch}
+use Rattle.aig_graph.specs.declared.properties.Symbol.{Symbol}
+use Rattle.aig_graph.specs.Circuits.{Netlist}
+use Rattle.aig_graph.specs.Graph.{Graph, first_latch}
+use Rattle.aig_graph.specs.Value.{value_within}
+use Rattle.state_maps.specs.States.{Digits, IsAllowed, State}
+use Rattle.state_maps.specs.MapCircuits.{is_kept, mapped}
+use Rattle.witness_circuits.specs.declared.sharing.Sharing.{Sharing}
+use Rattle.witness_circuits.specs.Witnesses.{IsGood}
+use Rattle.witness_circuits.specs.Joining.{joined, own_at, own_count}
+
+-- what the witness's inputs and latches hold: what is shared comes from the circuit and through the map, and its own stand after the circuit's
+abbrev pub witness_digits : Netlist → Sharing → Digits → Digits
+witness_digits c k z = joined k.inputs z (λ i. z (own_at c.aig.inputs k.inputs i))
+
+abbrev pub witness_state : Netlist → Netlist → Sharing → State → State
+witness_state c m k u = joined k.latches (mapped m u) (λ j. u (own_at (length c.aig.latches) k.latches j))
+
+-- latch j of g has the reset of this one, and its next literal the value that this one's has by `own`
+pub record GoesAs (g : Graph) (j : ℕ) (latch : Latch) (own : Digits → State → ℕ → Bool) : Type 0 where
+  pub is : Latch
+  pub there : slice_get g.latches j ≡ Some is
+  pub reset : is.reset ≡ latch.reset
+  pub next : (z : Digits) (u : State) → value_within g z u is.next ≡ own z u latch.next
+
+abbrev pub in_circuit : Netlist → Digits → State → ℕ → Bool
+in_circuit c z u = value_within c.aig z u
+
+abbrev pub in_witness : Netlist → Netlist → Netlist → Sharing → Digits → State → ℕ → Bool
+in_witness c m w k z u = value_within w.aig (witness_digits c k z) (witness_state c m k u)
+
+-- a name that says the literal of a variable, and one for each of the first n
+abbrev pub literal_name : ℕ → ℕ → Symbol
+literal_name first i = record { position = i; name = codes "= " ++ decimal (2 * (first + i)) }
+
+abbrev pub literal_names : ℕ → ℕ → List Symbol
+literal_names first n = table 0 n (literal_name first)
+
+-- r has the inputs and latches of c, with c's resets and steps, and after them those of w that are its own, which read through the map what w
+-- shares. Its constraints are c's and, where w has any, w's and the map's; it is good where the map's constraints hold and w is.
+pub record IsLifted (c m w : Netlist) (k : Sharing) (r : Netlist) : Type 0 where
+  pub inputs : r.aig.inputs ≡ c.aig.inputs + own_count k.inputs
+  pub latches : length r.aig.latches ≡ length c.aig.latches + own_count k.latches
+  pub first : (j : ℕ) (latch : Latch) → slice_get c.aig.latches j ≡ Some latch → GoesAs r.aig j latch (in_circuit c)
+  pub own : (j : ℕ) (latch : Latch) → slice_get k.latches j ≡ Some None → slice_get w.aig.latches j ≡ Some latch
+      → GoesAs r.aig (own_at (length c.aig.latches) k.latches j) latch (in_witness c m w k)
+  pub allowed : (z : Digits) (u : State) → IsAllowed r z u
+      ↔ (IsAllowed c z u × IsAllowed w (witness_digits c k z) (witness_state c m k u) × ((w.props.constraints ≡ []) ⊎ is_kept m u))
+  pub good : (z : Digits) (u : State) → IsGood r z u ↔ (is_kept m u × IsGood w (witness_digits c k z) (witness_state c m k u))
+  pub input_names : r.symbols.inputs ≡ literal_names 1 c.aig.inputs
+  pub latch_names : r.symbols.latches ≡ literal_names (first_latch c.aig) (length c.aig.latches)

@@ -1,0 +1,16 @@
+//! Proofs that come back: a witness circuit of a circuit to which another one has a map, read through the map, is one of the other.
+#![tactic(auto)]
+
+mod building;
+mod errors;
+mod latches;
+mod laws;
+mod lifting;
+mod literals;
+mod names;
+mod parts;
+mod properties;
+
+pub use errors::LiftError;
+pub use laws::lift_law;
+pub use lifting::lifted_witness;

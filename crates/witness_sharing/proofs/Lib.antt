@@ -1,0 +1,2 @@
+pub mod NamingLaws
+pub mod FitLaws
