@@ -38,7 +38,7 @@ ANSWERS = {10: 'fails', 20: 'holds'}
 @dataclass
 class Circuit:
     """Latches are (literal, next literal, reset), where a free one has None as reset, and gates (literal, fan-in, fan-in), in an
-    order in which each comes after its fan-ins."""
+    order in which each comes after its fan-ins. The rest is what follows the gates in the file: names and comments."""
     inputs: list
     latches: list
     outputs: list
@@ -47,6 +47,7 @@ class Circuit:
     justice: list
     fairness: list
     gates: list
+    rest: bytes
 
     def properties(self):
         justice = [lit for lits in self.justice for lit in lits]
@@ -61,7 +62,7 @@ class Circuit:
 
 
 def read_circuit(data):
-    """The circuit of an AIGER file of either spelling, without its names."""
+    """The circuit of an AIGER file of either spelling."""
     text = Text(data)
     letters, *counts = text.line().split(b' ')
     is_ascii = {b'aag': True, b'aig': False}[letters]
@@ -82,7 +83,7 @@ def read_circuit(data):
     defined = variables + [row[0] for row in rows + triples]
     if len(set(defined)) < len(defined) or any(lit < 2 or lit & 1 for lit in defined):
         raise ValueError('a variable is defined twice')
-    return Circuit(variables, rows, *lists, triples)
+    return Circuit(variables, rows, *lists, triples, data[text.at :])
 
 
 # Gates over unknowns, as which the three circuits are put together.
