@@ -1,3 +1,5 @@
+//! What a flow of units does at a gate.
+
 /// What a flow did at a gate: whether a unit came from the output of a fan-in, for each of the two; whether one went through; and how
 /// many went on to before a fan-in that is a gate. The first fan-in is the one of the smaller variable.
 #[derive(Clone, Copy, Debug, PartialEq, Eq)]

@@ -1,3 +1,5 @@
+//! Which latches and inputs a witness circuit shares with its model: those that its names say, where any of them names one, else by
+//! places.
 ghost use Rattle.std.specs.Prelude.{IfOk};
 ghost use Rattle.witness_circuits.specs.Witnesses.{IsSharing};
 ghost use Rattle.witness_sharing.specs.Naming.{IsByNames, IsByPlaces, IsSharedBy};
