@@ -42,6 +42,7 @@ IsAbout name (fails.RefusedWitness path fault) = path.now ≡ name
 IsAbout name (fails.NoSuchName path latch) = path.now ≡ name
 IsAbout name (fails.TooManyNodes path) = path.now ≡ name
 IsAbout name (fails.TooManySteps path) = path.now ≡ name
+IsAbout name (fails.NotAMap path) = path.now ≡ name
 IsAbout name (fails.Device path) = path.now ≡ name
 IsAbout name fails.Memory = Unit {0}
 
