@@ -7,7 +7,6 @@ ghost use Rattle.chosen_cuts.specs.Certified.{AddsOne};
 ghost use Rattle.cut_cert.specs.Shown.{AreLeastRoutes};
 ghost use Rattle.frame_cuts.specs.Cuts.{IsNetworkOf};
 ghost use Rattle.least_sets.specs.Chosen.{IsChosen};
-ghost use Rattle.least_sets.specs.declared.choice.Choice.TheVariants.{Greatest};
 ghost use Rattle.pulse.specs.Conditions.{IsMaxPreflow};
 
 use crate::records::Records;
@@ -20,7 +19,7 @@ use pulse::{Crew, MOST_ARCS_KEPT, MaxPreflow, PhaseGate};
 use std::alloc::Global;
 use std::mem;
 use std::thread::Threads;
-use unit_pulses::greatest_least_brought;
+use unit_pulses::chosen_least_brought;
 
 /// From so many latches and gates on a crew of two or more looks at flows of units first.
 const MANY_PLACES: usize = 4096;
@@ -138,19 +137,12 @@ fn residuals_of(alloc: Global, net: &Net, preflow: MaxPreflow) -> Vec<u32> {
     preflow.into_residuals(alloc)
 }
 
-/// Whether flows of units are judged before a network is made: for the greatest set alone, where no certificate is wanted, and not for a crew of two
-/// or more on a small circuit, whose first pulses are large for it and are shared out.
-fn looks_at_units<G: PhaseGate>(
-    circuit: &Circuit,
-    choice: Choice,
-    crew: &Crew<G>,
-    records: &Records,
-) -> bool
-    ensures { IsTrue result → (choice ≡ Greatest) × (records.now.certify ≡ false) }
+/// Whether flows of units are judged before a network is made: where no certificate is wanted, and not for a crew of two or more on a small
+/// circuit, whose first pulses are large for it and are shared out.
+fn looks_at_units<G: PhaseGate>(circuit: &Circuit, crew: &Crew<G>, records: &Records) -> bool
+    ensures { IsTrue result → records.now.certify ≡ false }
 {
-    choice == Choice::Greatest
-        && !records.certify
-        && (crew.workers() < 2 || circuit.aig().latches_and_gates() >= MANY_PLACES)
+    !records.certify && (crew.workers() < 2 || circuit.aig().latches_and_gates() >= MANY_PLACES)
 }
 
 /// The chosen least set, where a flow of units is looked at and shows it. Nothing of the records changes but the flows.
@@ -167,8 +159,8 @@ fn shown_by_units<G: PhaseGate>(
     ensures certify { records.new.certify ≡ records.old.certify }
     ensures certificates { records.new.certificates.items ≡ records.old.certificates.items }
 {
-    if looks_at_units(circuit, choice, crew, records) {
-        greatest_least_brought(alloc, circuit, keep, &mut records.flows)
+    if looks_at_units(circuit, crew, records) {
+        chosen_least_brought(alloc, circuit, keep, choice, &mut records.flows)
     } else {
         Ok(None)
     }
@@ -207,7 +199,7 @@ fn chosen_by_flow<G: PhaseGate>(
 /// this flow did at the circuit's gates. They are hints: the set is the same whatever they say. Where the records want certificates, one
 /// of the set is added to them, which passes all tests of `certificates::check`.
 ///
-/// Where a flow of units shows the greatest set, no network is made. Else what is made on the way (the network, its flow, for the smallest set the
+/// Where a flow of units shows the set, no network is made. Else what is made on the way (the network, its flow, for the smallest set the
 /// routes of the flow) is dropped, but for the memory of a small network's tables by arc, of its flow's residuals and of its pushes, which the
 /// records keep for the next circuit.
 ///

@@ -1,6 +1,6 @@
 -- What the units of a balanced flow weigh on the far side of a closed set.
 use Rattle.std.proofs.Common.{◌≡◌, ℕ, suc, zero, ◌+◌, ◌-◌, ◌*◌, ◌<◌, ◌≤◌, ◌==◌, nat_lt, Bool, true, false, not, ◌&&◌, ◌||◌, List, length, slice_index, arith, refl, ap, ap₂, sym, ◌∙◌, inl, inr}
-use Rattle.std.proofs.lemmas.Bool.{cases_Bool, lt-ltb, le-ltb, eqb-true, eq-eqb, and_parts, cond-true, cond-false, or_left}
+use Rattle.std.proofs.lemmas.Bool.{cases_Bool, lt-ltb, le-ltb, eqb-true, eq-eqb, and_parts, cond-true, cond-false, or_left, not-true, false_from_ne_true}
 use Rattle.flow_theory.specs.Flow.{sum_below}
 use Rattle.flow_theory.proofs.SumLaws.{sum_below-add, sum_below-same, sum_below-le, rise-le}
 use Rattle.variable_tables.specs.Counting.{count_below}
@@ -15,6 +15,7 @@ use Rattle.aig_graph.proofs.ClosedBorderLaws.{closed-border_size}
 use Rattle.frame_net.specs.Capacity.{leaves}
 use Rattle.unit_flows.specs.declared.gate_flow.GateFlow.{GateFlow}
 use Rattle.unit_flows.specs.Units.{unit, nth_gate, nth_flow, ups, downs, comes_after, AreTallies, IsBalanced, arrives, arrivals}
+use Rattle.unit_flows.specs.Onward.{waits, IsFuller}
 use Rattle.unit_flows.proofs.SideLaws.{borders, far_after, far_before, far-outside, first-read, second-read, nth-at, leaves-far, reads-far, fan_in-far, outside-gate, holder-borders}
 use Rattle.unit_flows.proofs.GateSumLaws.{unit-true, unit-false, unit-le, IsSplit, comes, goes, comes-le}
 
@@ -146,15 +147,23 @@ module _ (c : Netlist) (held r : List ℕ) (flows : List GateFlow) (went came : 
       let comes_is : comes_after c.aig flows (length c.aig.latches + k) ≡ (nth_flow flows k).through = late ∙ ap (λ (i : ℕ). (nth_flow flows i).through) place in
       ap₂ (λ (b : Bool) (v : ℕ). unit b * weight_after v) comes_is there
 
-  after-sum : sum_below (length c.aig.gates) (λ k. ups weight_after (nth_gate c.aig k) (nth_flow flows k)) + arrivals c held flows went
+  abbrev after_goes : ℕ → ℕ
+  after_goes p = slice_index went p * weight_after (first_latch c.aig + p) + unit (arrives c held flows went p)
+
+  abbrev after_comes : ℕ → ℕ
+  after_comes p = unit (comes_after c.aig flows p) * weight_after (first_latch c.aig + p)
+
+  -- where so many fewer go on than come
+  after-less : (d : ℕ) → sum_below (latches_and_gates c.aig) after_goes + d ≤ sum_below (latches_and_gates c.aig) after_comes
+      → sum_below (length c.aig.gates) (λ k. ups weight_after (nth_gate c.aig k) (nth_flow flows k)) + arrivals c held flows went + d
       ≤ sum_below (length c.aig.latches) (λ j. unit (borders c held r (first_latch c.aig + j)))
       + sum_below (length c.aig.gates) (λ k. unit (nth_flow flows k).through * weight_after (first_gate c.aig + k))
-  after-sum = omega (
+  after-less d h = omega (
     arith,
+    h,
     tallies.ups weight_after,
     ap (λ (n : ℕ). sum_below n (λ p. slice_index went p * weight_after (first_latch c.aig + p))) tallies.as_long,
     sum_below-add (latches_and_gates c.aig) (λ p. slice_index went p * weight_after (first_latch c.aig + p)) (λ p. unit (arrives c held flows went p)),
-    sum_below-le (latches_and_gates c.aig) (λ p. slice_index went p * weight_after (first_latch c.aig + p) + unit (arrives c held flows went p)) (λ p. unit (comes_after c.aig flows p) * weight_after (first_latch c.aig + p)) after-entry,
     sum-split (length c.aig.latches) (length c.aig.gates) (λ p. unit (comes_after c.aig flows p) * weight_after (first_latch c.aig + p)),
     sum_below-le (length c.aig.latches) (λ j. unit (comes_after c.aig flows j) * weight_after (first_latch c.aig + j)) (λ j. unit (borders c held r (first_latch c.aig + j))) latch-entry,
     sum_below-same (length c.aig.gates) (λ k. unit (comes_after c.aig flows (length c.aig.latches + k)) * weight_after (first_latch c.aig + (length c.aig.latches + k))) (λ k. unit (nth_flow flows k).through * weight_after (first_gate c.aig + k)) (λ k h. gate-entry k),
@@ -179,19 +188,24 @@ module _ (c : Netlist) (held r : List ℕ) (flows : List GateFlow) (went came : 
         ap (λ (v : ℕ). slice_index came (length c.aig.latches + k) * weight_before v) there,
       )
 
-  before-sum : sum_below (length c.aig.gates) (λ k. weight_before (first_gate c.aig + k) * (unit (nth_flow flows k).through + (nth_flow flows k).first_down + (nth_flow flows k).second_down))
+  abbrev before_goes : ℕ → ℕ
+  before_goes k = weight_before (first_gate c.aig + k) * (unit (nth_flow flows k).through + (nth_flow flows k).first_down + (nth_flow flows k).second_down)
+
+  abbrev before_comes : ℕ → ℕ
+  before_comes k = weight_before (first_gate c.aig + k) * (unit (nth_flow flows k).first_up + unit (nth_flow flows k).second_up) + slice_index came (length c.aig.latches + k) * weight_before (first_latch c.aig + (length c.aig.latches + k))
+
+  before-less : (d : ℕ) → sum_below (length c.aig.gates) before_goes + d ≤ sum_below (length c.aig.gates) before_comes
+      → sum_below (length c.aig.gates) (λ k. weight_before (first_gate c.aig + k) * (unit (nth_flow flows k).through + (nth_flow flows k).first_down + (nth_flow flows k).second_down)) + d
       ≤ sum_below (length c.aig.gates) (λ k. weight_before (first_gate c.aig + k) * (unit (nth_flow flows k).first_up + unit (nth_flow flows k).second_up))
       + sum_below (length c.aig.gates) (λ k. downs weight_before (nth_gate c.aig k) (nth_flow flows k))
-  before-sum = omega (
+  before-less d h = omega (
     arith,
+    h,
     tallies.downs weight_before,
     ap (λ (n : ℕ). sum_below n (λ p. slice_index came p * weight_before (first_latch c.aig + p))) tallies.long,
     sum-split (length c.aig.latches) (length c.aig.gates) (λ p. slice_index came p * weight_before (first_latch c.aig + p)),
     sum_below-add (length c.aig.gates) (λ k. weight_before (first_gate c.aig + k) * (unit (nth_flow flows k).first_up + unit (nth_flow flows k).second_up))
         (λ k. slice_index came (length c.aig.latches + k) * weight_before (first_latch c.aig + (length c.aig.latches + k))),
-    sum_below-le (length c.aig.gates)
-        (λ k. weight_before (first_gate c.aig + k) * (unit (nth_flow flows k).through + (nth_flow flows k).first_down + (nth_flow flows k).second_down))
-        (λ k. weight_before (first_gate c.aig + k) * (unit (nth_flow flows k).first_up + unit (nth_flow flows k).second_up) + slice_index came (length c.aig.latches + k) * weight_before (first_latch c.aig + (length c.aig.latches + k))) before-entry,
   )
 
   -- ---- all of it
@@ -230,8 +244,19 @@ module _ (c : Netlist) (held r : List ℕ) (flows : List GateFlow) (went came : 
         (λ k. weight_before (first_gate c.aig + k) * (unit (nth_flow flows k).through + (nth_flow flows k).first_down + (nth_flow flows k).second_down)),
   )
 
+  -- where so many fewer go on from after variables than come there, and so many from before gates
+  total-less : (d e : ℕ) → sum_below (latches_and_gates c.aig) after_goes + d ≤ sum_below (latches_and_gates c.aig) after_comes → sum_below (length c.aig.gates) before_goes + e ≤ sum_below (length c.aig.gates) before_comes
+      → arrivals c held flows went + sum_below (length c.aig.gates) goes_at + (d + e) ≤ border_size (move_of c held r) + sum_below (length c.aig.gates) comes_at
+  total-less d e after before = omega (arith, after-less d after, before-less e before, border-sum, comes-sum, goes-sum)
+
+  after-all : sum_below (latches_and_gates c.aig) after_goes + 0 ≤ sum_below (latches_and_gates c.aig) after_comes
+  after-all = omega (arith, sum_below-le (latches_and_gates c.aig) after_goes after_comes after-entry)
+
+  before-all : sum_below (length c.aig.gates) before_goes + 0 ≤ sum_below (length c.aig.gates) before_comes
+  before-all = omega (arith, sum_below-le (length c.aig.gates) before_goes before_comes before-entry)
+
   total : arrivals c held flows went + sum_below (length c.aig.gates) goes_at ≤ border_size (move_of c held r) + sum_below (length c.aig.gates) comes_at
-  total = omega (arith, after-sum, before-sum, border-sum, comes-sum, goes-sum)
+  total = omega (arith, total-less 0 0 after-all before-all)
 
   each-le : (k : ℕ) → k < length c.aig.gates → comes_at k ≤ goes_at k
   each-le k h = comes-le (unit (nth_flow flows k).through) (unit (nth_flow flows k).first_up) (unit (nth_flow flows k).second_up) (nth_flow flows k).first_down (nth_flow flows k).second_down (unit-le (nth_flow flows k).through)
@@ -245,3 +270,38 @@ module _ (c : Netlist) (held r : List ℕ) (flows : List GateFlow) (went came : 
   -- where one is as small as that, as much goes on from far nodes at each gate as comes there
   pub full-at : border_size (move_of c held r) ≤ arrivals c held flows went → (k : ℕ) → k < length c.aig.gates → goes_at k ≤ comes_at k
   full-at least k h = omega (arith, least, total, rise-le (length c.aig.gates) k comes_at goes_at each-le h)
+
+  -- there nothing is left on the far side: after no variable ..
+  pub left_after-near : border_size (move_of c held r) ≤ arrivals c held flows went → (p : ℕ) → p < latches_and_gates c.aig → waits c held flows went p ≡ true → far_after c held r (first_latch c.aig + p) ≡ false
+  left_after-near least p h left = false_from_ne_true (far_after c held r (first_latch c.aig + p)) (λ far.
+      let parts = and_parts (not (leaves c.aig c.props held (first_latch c.aig + p)) && comes_after c.aig flows p) (slice_index went p == 0) left in
+      let first = and_parts (not (leaves c.aig c.props held (first_latch c.aig + p))) (comes_after c.aig flows p) parts.0 in
+      let stays : arrives c held flows went p ≡ false = ap (λ (b : Bool). (b && comes_after c.aig flows p) && (slice_index went p == 0)) (not-true (leaves c.aig c.props held (first_latch c.aig + p)) first.0) in
+      let goes : after_goes p ≡ 0 = omega (arith, ap (λ (n : ℕ). n * weight_after (first_latch c.aig + p)) (eqb-true (slice_index went p) 0 parts.1), unit-false _ stays) in
+      let comes : after_comes p ≡ 1 = ap₂ (λ (n m : ℕ). n * m) (unit-true _ first.1) (unit-true _ far) in
+      omega (
+        arith,
+        least,
+        goes,
+        comes,
+        rise-le (latches_and_gates c.aig) p after_goes after_comes after-entry h,
+        sum_below-le (length c.aig.gates) comes_at goes_at each-le,
+        total-less 1 0 (omega (arith, goes, comes, rise-le (latches_and_gates c.aig) p after_goes after_comes after-entry h)) before-all,
+      ))
+
+  -- .. and before no gate
+  pub left_before-near : border_size (move_of c held r) ≤ arrivals c held flows went → (k : ℕ) → k < length c.aig.gates → IsFuller (nth_flow flows k) (slice_index came (length c.aig.latches + k)) → far_before c r (first_gate c.aig + k) ≡ false
+  left_before-near least k h left = false_from_ne_true (far_before c r (first_gate c.aig + k)) (λ far.
+      let there : first_gate c.aig + k ≡ first_latch c.aig + (length c.aig.latches + k) = omega arith in
+      let goes : before_goes k ≡ unit (nth_flow flows k).through + (nth_flow flows k).first_down + (nth_flow flows k).second_down = omega (arith, ap (λ (n : ℕ). n * (unit (nth_flow flows k).through + (nth_flow flows k).first_down + (nth_flow flows k).second_down)) (unit-true _ far)) in
+      let comes : before_comes k ≡ unit (nth_flow flows k).first_up + unit (nth_flow flows k).second_up + slice_index came (length c.aig.latches + k) = omega (
+        arith,
+        ap (λ (n : ℕ). n * (unit (nth_flow flows k).first_up + unit (nth_flow flows k).second_up)) (unit-true _ far),
+        ap (λ (n : ℕ). slice_index came (length c.aig.latches + k) * n) (ap weight_before (sym there) ∙ unit-true _ far),
+      ) in
+      omega (
+        arith,
+        least,
+        sum_below-le (length c.aig.gates) comes_at goes_at each-le,
+        total-less 0 1 after-all (omega (arith, left, goes, comes, rise-le (length c.aig.gates) k before_goes before_comes before-entry h)),
+      ))

@@ -1,7 +1,7 @@
 -- Marks that stay within a set of nodes.
-use Rattle.std.proofs.Common.{◌≡◌, ◌⊎◌, ℕ, ◌+◌, ◌-◌, ◌≤◌, ◌==◌, nat_le, Bool, true, false, ◌&&◌, List, length, get_or, replicate, arith, ap, sym, ◌∙◌, subst, inl, inr}
-use Rattle.std.proofs.lemmas.Bool.{cases_lt, leb-true, eqb-true, or_cases, and_parts, and_right}
-use Rattle.std.proofs.lemmas.List.{get_or_past, get_or-replicate, length-replicate}
+use Rattle.std.proofs.Common.{◌≡◌, ◌⊎◌, ℕ, ◌+◌, ◌-◌, ◌<◌, ◌≤◌, ◌==◌, nat_le, Bool, true, false, not, ◌&&◌, List, length, map, get_or, replicate, arith, refl, ap, sym, ◌∙◌, subst, inl, inr}
+use Rattle.std.proofs.lemmas.Bool.{cases_lt, le-leb, leb-true, eqb-true, or_cases, and_parts, and_right}
+use Rattle.std.proofs.lemmas.List.{get_or_past, get_or-map, get_or-replicate, length-replicate}
 use Rattle.variable_tables.specs.Marking.{Marks, mark_at}
 use Rattle.variable_tables.specs.Tables.{table}
 use Rattle.variable_tables.proofs.MarkingLaws.{AreMarks-table}
@@ -11,6 +11,7 @@ use Rattle.aig_graph.specs.Circuits.{Netlist}
 use Rattle.frame_net.specs.Capacity.{leaves}
 use Rattle.unit_flows.specs.declared.gate_flow.GateFlow.{GateFlow}
 use Rattle.unit_flows.specs.Marks.{AreWithin, ReachSink}
+use Rattle.unit_flows.specs.Onward.{AreReachedFromLeft}
 
 -- a mark is an old one, or passes
 pub mark-new : (first : ℕ) (old new : List Bool) (p : ℕ → Bool) (v : ℕ) → Marks first old new p → mark_at first new v ≡ true → (mark_at first old v ≡ true) ⊎ (p v ≡ true)
@@ -49,23 +50,25 @@ within-after first var xs new ys wished b a within marks h = record {
   each_after = λ v e. elim (mark-new first xs new (λ v. wished && (var == v)) v marks e) [ inl old ↦ within.each_after v old | inr now ↦ one wished var v a h now ];
 }
 
+-- nothing is marked in a table of nothing
+nothing-marked : (first n v : ℕ) → mark_at first (replicate n false) v ≡ false
+unfolding mark_at
+nothing-marked first n v = and_right (nat_le first v) (get_or (replicate n false) (v - first) false) (elim (cases_lt (v - first) n) [
+  | inl below ↦ get_or-replicate n (v - first) false false below
+  | inr past ↦ get_or_past (replicate n false) (v - first) false (omega (arith, past, length-replicate n false))
+])
+
 -- before any sweep what leaves is marked after, and nothing before
 pub reach-first : (c : Netlist) (held : List ℕ) (flows : List GateFlow) (n : ℕ) (xs ys : List Bool) → xs ≡ replicate n false → ys ≡ table (first_latch c.aig) (latches_and_gates c.aig) (leaves c.aig c.props held)
     → ReachSink c held flows xs ys
 unfolding mark_at
 reach-first c held flows n xs ys none filled b a up = record {
-  each_before = λ v e. absurd (true_false (sym e ∙ ap (λ (zs : List Bool). mark_at (first_latch c.aig) zs v) none ∙ unmarked (first_latch c.aig) n v));
+  each_before = λ v e. absurd (true_false (sym e ∙ ap (λ (zs : List Bool). mark_at (first_latch c.aig) zs v) none ∙ nothing-marked (first_latch c.aig) n v));
   each_after = λ v e. up.sink v (leaving v e);
 }
   where
     true_false : true ≡ false → ⊥
     true_false e = absurd (cc)
-
-    unmarked : (first n v : ℕ) → mark_at first (replicate n false) v ≡ false
-    unmarked first n v = and_right (nat_le first v) (get_or (replicate n false) (v - first) false) (elim (cases_lt (v - first) n) [
-      | inl below ↦ get_or-replicate n (v - first) false false below
-      | inr past ↦ get_or_past (replicate n false) (v - first) false (omega (arith, past, length-replicate n false))
-    ])
 
     leaving : (v : ℕ) → mark_at (first_latch c.aig) ys v ≡ true → leaves c.aig c.props held v ≡ true
     leaving v e =
@@ -81,3 +84,42 @@ reach-first c held flows n xs ys none filled b a up = record {
 pub reach-same : (c : Netlist) (held : List ℕ) (flows : List GateFlow) (xs xs' ys ys' : List Bool) → xs' ≡ xs → ys' ≡ ys → ReachSink c held flows xs ys → ReachSink c held flows xs' ys'
 reach-same c held flows xs xs' ys ys' e f reach =
     subst (λ (zs : List Bool). ReachSink c held flows zs ys') (sym e) (subst (λ (zs : List Bool). ReachSink c held flows xs zs) (sym f) reach)
+
+-- the same, by numbers that are equal
+pub within-before_at : (first first' var var' : ℕ) (xs new ys : List Bool) (wished : Bool) (b a : ℕ → Bool) → first ≡ first' → var ≡ var' → AreWithin first' xs ys b a → Marks first xs new (λ v. wished && (var == v))
+    → (wished ≡ true → b var' ≡ true) → AreWithin first' new ys b a
+within-before_at first first' var var' xs new ys wished b a e f within marks h =
+    within-before first' var' xs new ys wished b a within (subst (λ (n : ℕ). Marks n xs new (λ v. wished && (var' == v))) e (subst (λ (n : ℕ). Marks first xs new (λ v. wished && (n == v))) f marks)) h
+
+pub within-after_at : (first first' var var' : ℕ) (xs new ys : List Bool) (wished : Bool) (b a : ℕ → Bool) → first ≡ first' → var ≡ var' → AreWithin first' ys xs b a → Marks first xs new (λ v. wished && (var == v))
+    → (wished ≡ true → a var' ≡ true) → AreWithin first' ys new b a
+within-after_at first first' var var' xs new ys wished b a e f within marks h =
+    within-after first' var' xs new ys wished b a within (subst (λ (n : ℕ). Marks n xs new (λ v. wished && (var' == v))) e (subst (λ (n : ℕ). Marks first xs new (λ v. wished && (n == v))) f marks)) h
+
+-- in tables of nothing nothing is marked
+pub left-first : (c : Netlist) (held : List ℕ) (flows : List GateFlow) (went came : List ℕ) (n m : ℕ) (xs ys : List Bool) → xs ≡ replicate n false → ys ≡ replicate m false → AreReachedFromLeft c held flows went came xs ys
+left-first c held flows went came n m xs ys none none' b a down = record {
+  each_before = λ v e. absurd (true_false' (sym e ∙ ap (λ (zs : List Bool). mark_at (first_latch c.aig) zs v) none ∙ nothing-marked (first_latch c.aig) n v));
+  each_after = λ v e. absurd (true_false' (sym e ∙ ap (λ (zs : List Bool). mark_at (first_latch c.aig) zs v) none' ∙ nothing-marked (first_latch c.aig) m v));
+}
+  where
+    true_false' : true ≡ false → ⊥
+    true_false' e = absurd (cc)
+
+pub left-same : (c : Netlist) (held : List ℕ) (flows : List GateFlow) (went came : List ℕ) (xs xs' ys ys' : List Bool) → xs' ≡ xs → ys' ≡ ys → AreReachedFromLeft c held flows went came xs ys → AreReachedFromLeft c held flows went came xs' ys'
+left-same c held flows went came xs xs' ys ys' e f reach =
+    subst (λ (zs : List Bool). AreReachedFromLeft c held flows went came zs ys') (sym e) (subst (λ (zs : List Bool). AreReachedFromLeft c held flows went came xs zs) (sym f) reach)
+
+-- what isn't marked where marks are turned is marked
+pub flipped-off : (first n : ℕ) (xs ys : List Bool) (v : ℕ) → ys ≡ map not xs → length xs ≡ n → first ≤ v → v < first + n → mark_at first ys v ≡ false → mark_at first xs v ≡ true
+unfolding mark_at
+flipped-off first n xs ys v turned long low high off =
+    let here : v - first < length xs = omega (arith, long, low, high) in
+    let other : get_or ys (v - first) false ≡ not (get_or xs (v - first) false) = ap (λ (zs : List Bool). get_or zs (v - first) false) turned ∙ get_or-map not xs (v - first) false false here in
+    let in_row : nat_le first v ≡ true = le-leb first v low in
+    let none : not (get_or xs (v - first) false) ≡ false = sym other ∙ sym (ap (λ (b : Bool). b && get_or ys (v - first) false) in_row) ∙ off in
+    ap (λ (b : Bool). b && get_or xs (v - first) false) in_row ∙ not-off (get_or xs (v - first) false) none
+  where
+    not-off : (b : Bool) → not b ≡ false → b ≡ true
+    not-off true e = refl
+    not-off false e = absurd (cc)

@@ -2,4 +2,5 @@ pub mod Units
 pub mod Marks
 pub mod Shown
 pub mod Passes
+pub mod Onward
 pub mod Laws

@@ -20,7 +20,7 @@ fn gate_number(aig: &Aig, var: u32) -> Option<usize> {
 
 /// Notes that a gate takes the unit after a variable, where no gate before it does.
 fn note_taker(takers: &mut [u32], first: u32, var: u32, gate: u32) {
-    if let Some(taker) = takers.get_mut(var.saturating_sub(first) as usize) {
+    if let Some(taker) = takers.get_mut(var.wrapping_sub(first) as usize) {
         if *taker == NOBODY {
             *taker = gate;
         }
@@ -93,7 +93,7 @@ fn is_taken(
     let literals = aig.gates().get(taker)?;
     let told = known.get(taker)?;
     let flow = flows.get_mut(taker)?;
-    let is_first = literals.rhs1.var().saturating_sub(aig.first_latch()) as usize == place;
+    let is_first = literals.rhs1.var().wrapping_sub(aig.first_latch()) as usize == place;
     flow.note_up(!(is_first && told.first_up));
     Some(taker)
 }

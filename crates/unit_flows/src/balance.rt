@@ -2,6 +2,7 @@
 ghost use Rattle.std.specs.Prelude.{◌≡◌, ◌<◌, IsTrue, length};
 ghost use Rattle.aig_graph.specs.Graph.{latches_and_gates};
 ghost use Rattle.unit_flows.specs.Units.{comes_after, IsBalancedBefore};
+ghost use Rattle.unit_flows.specs.Onward.{IsFuller};
 
 use crate::gate_flow::GateFlow;
 use crate::tallies::unit;
@@ -30,4 +31,15 @@ pub(crate) fn gives_no_more(flow: &GateFlow, came: u32) -> bool
         + u64::from(flow.second_down);
     let comes = u64::from(unit(flow.first_up)) + u64::from(unit(flow.second_up)) + u64::from(came);
     goes <= comes
+}
+
+/// Whether more units come to before a gate than go on from there, where so many come from gates that read it.
+pub(crate) fn is_fuller(flow: &GateFlow, came: u32) -> bool
+    ensures { IsTrue result → IsFuller flow.now came }
+{
+    let goes = u64::from(unit(flow.through))
+        + u64::from(flow.first_down)
+        + u64::from(flow.second_down);
+    let comes = u64::from(unit(flow.first_up)) + u64::from(unit(flow.second_up)) + u64::from(came);
+    goes < comes
 }

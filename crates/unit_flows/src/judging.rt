@@ -43,7 +43,7 @@ fn is_shown(
 }
 
 /// The passable gates that aren't marked before, rising.
-fn off_marks(alloc: Global, frame: &Frame, before: &[bool]) -> Result<Vec<u32>, NoMemory>
+pub(crate) fn off_marks(alloc: Global, frame: &Frame, before: &[bool]) -> Result<Vec<u32>, NoMemory>
     ensures { IfOk result (λ vars. vars.items ≡ places (is_off frame.now.circuit.now frame.now.keep.now
         (mark_at (first_latch frame.now.circuit.now.aig) before.now))
         (variables_end frame.now.circuit.now.aig)) }
@@ -66,7 +66,7 @@ fn off_marks(alloc: Global, frame: &Frame, before: &[bool]) -> Result<Vec<u32>, 
 /// # Errors
 ///
 /// `NoMemory` where a table is refused.
-pub fn shown_set(
+pub(crate) fn shown_set(
     alloc: Global,
     frame: &Frame,
     flows: &[GateFlow],

@@ -1,58 +1,87 @@
 //! The greatest least set of a circuit by a flow of units that a start made, where the judge says that it shows one.
 ghost use Rattle.std.specs.Prelude.{IfOk, IfSome};
-ghost use Rattle.aig_graph.specs.Border.{IsGreatestLeast};
+ghost use Rattle.aig_graph.specs.Border.{IsGreatestLeast, IsSmallestLeast};
+ghost use Rattle.least_sets.specs.Chosen.{IsChosen};
 
 use crate::along::flows_along;
 use crate::first_start::{put_start_down, put_start_up};
 use crate::frame::Frame;
 use crate::gate_flow::GateFlow;
 use crate::judging::shown_set;
+use crate::nearest::shown_smallest_set;
 use aig_graph::{Circuit, ClosedSet, Keep, NoMemory};
+use least_sets::Choice;
 use std::alloc::Global;
 
-/// By the start from the sink down, where it brings more units than the start up the gates did.
-fn shown_down(
+/// The chosen least set, where a flow shows it.
+///
+/// # Errors
+///
+/// `NoMemory` where a table is refused.
+pub fn shown_chosen(
     alloc: Global,
     frame: &Frame,
-    flows: &mut Vec<GateFlow>,
-    arrived: usize,
+    choice: Choice,
+    flows: &[GateFlow],
 ) -> Result<Option<ClosedSet>, NoMemory>
-    ensures { IfOk result (λ shown. IfSome shown (λ set. IsGreatestLeast
-        frame.now.circuit.now frame.now.keep.now set)) }
+    ensures { IfOk result (λ shown. IfSome shown (IsChosen choice frame.now.circuit.now
+        frame.now.keep.now)) }
 {
-    if !put_start_down(alloc, frame, flows, arrived)? {
-        return Ok(None);
+    match choice {
+        Choice::Greatest => shown_set(alloc, frame, flows),
+        Choice::Smallest => shown_smallest_set(alloc, frame, flows),
     }
-    shown_set(alloc, frame, flows.as_slice())
 }
 
-/// By a start for a circuit of whose gates no flow is known.
+/// By the start up the gates, for a circuit of whose gates no flow is known. Where it shows none, the start from the sink down takes its place if
+/// it brings more.
 fn shown_first(
     alloc: Global,
     frame: &Frame,
+    choice: Choice,
     flows: &mut Vec<GateFlow>,
 ) -> Result<Option<ClosedSet>, NoMemory>
-    ensures { IfOk result (λ shown. IfSome shown (λ set. IsGreatestLeast
-        frame.now.circuit.now frame.now.keep.now set)) }
+    ensures { IfOk result (λ shown. IfSome shown (IsChosen choice frame.now.circuit.now
+        frame.now.keep.now)) }
 {
     let arrived = put_start_up(alloc, frame, flows)?;
-    match shown_set(alloc, frame, flows.as_slice())? {
-        Some(set) => Ok(Some(set)),
-        None => shown_down(alloc, frame, flows, arrived),
+    let shown = shown_chosen(alloc, frame, choice, flows.as_slice())?;
+    if shown.is_none() {
+        put_start_down(alloc, frame, flows, arrived)?;
     }
+    Ok(shown)
 }
 
 /// By a start along the flows that are known.
 fn shown_next(
     alloc: Global,
     frame: &Frame,
+    choice: Choice,
     flows: &mut Vec<GateFlow>,
 ) -> Result<Option<ClosedSet>, NoMemory>
-    ensures { IfOk result (λ shown. IfSome shown (λ set. IsGreatestLeast
-        frame.now.circuit.now frame.now.keep.now set)) }
+    ensures { IfOk result (λ shown. IfSome shown (IsChosen choice frame.now.circuit.now
+        frame.now.keep.now)) }
 {
     *flows = flows_along(alloc, frame, flows.as_slice())?;
-    shown_set(alloc, frame, flows.as_slice())
+    shown_chosen(alloc, frame, choice, flows.as_slice())
+}
+
+/// By a start.
+fn shown_by_start(
+    alloc: Global,
+    circuit: &Circuit,
+    keep: &Keep,
+    choice: Choice,
+    flows: &mut Vec<GateFlow>,
+) -> Result<Option<ClosedSet>, NoMemory>
+    ensures { IfOk result (λ shown. IfSome shown (IsChosen choice circuit.now keep.now)) }
+{
+    let frame = Frame::new(alloc, circuit, keep)?;
+    if flows.is_empty() {
+        shown_first(alloc, &frame, choice, flows)
+    } else {
+        shown_next(alloc, &frame, choice, flows)
+    }
 }
 
 /// What the better of two starts does at the gates of a circuit: a hint, of which nothing is promised.
@@ -90,10 +119,22 @@ pub fn greatest_least_shown(
     ensures { IfOk result (λ shown. IfSome shown (λ set. IsGreatestLeast
         circuit.now keep.now set)) }
 {
-    let frame = Frame::new(alloc, circuit, keep)?;
-    if flows.is_empty() {
-        shown_first(alloc, &frame, flows)
-    } else {
-        shown_next(alloc, &frame, flows)
-    }
+    shown_by_start(alloc, circuit, keep, Choice::Greatest, flows)
+}
+
+/// The smallest one, in the same way.
+///
+/// # Errors
+///
+/// `NoMemory` where a table is refused; then `flows` may be those of before, or of a start.
+pub fn smallest_least_shown(
+    alloc: Global,
+    circuit: &Circuit,
+    keep: &Keep,
+    flows: &mut Vec<GateFlow>,
+) -> Result<Option<ClosedSet>, NoMemory>
+    ensures { IfOk result (λ shown. IfSome shown (λ set. IsSmallestLeast
+        circuit.now keep.now set)) }
+{
+    shown_by_start(alloc, circuit, keep, Choice::Smallest, flows)
 }

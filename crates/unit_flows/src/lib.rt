@@ -4,7 +4,7 @@
 //! lies off the marks (Hurst, Mishchenko and Brayton, 2007).
 #![tactic(auto)]
 
-ghost use Rattle.unit_flows.specs.Laws.{BorderLaw, ShownLaw};
+ghost use Rattle.unit_flows.specs.Laws.{BorderLaw, ShownLaw, ShownSmallestLaw};
 
 mod along;
 mod balance;
@@ -15,6 +15,9 @@ mod gate_flow;
 mod judging;
 mod least_set;
 mod marks;
+mod nearest;
+mod onward;
+mod onward_sweeps;
 mod passes;
 mod start;
 mod sweeps;
@@ -22,8 +25,7 @@ mod tallies;
 
 pub use frame::Frame;
 pub use gate_flow::GateFlow;
-pub use judging::shown_set;
-pub use least_set::{first_flows, greatest_least_shown};
+pub use least_set::{first_flows, greatest_least_shown, shown_chosen, smallest_least_shown};
 pub use sweeps::{NodeMarks, mark};
 
 /// The border of each closed set has at least as many variables as units come to the sink.
@@ -34,4 +36,9 @@ pub fn border_law()
 /// The passable gates off the marks of a full cut, all of whose marks reach the sink, are the greatest least set.
 pub fn shown_law()
     ensures { ShownLaw }
+{}
+
+/// The passable gates off the marks of a full cut, all of which are reached from where units are left, are the smallest least set.
+pub fn shown_smallest_law()
+    ensures { ShownSmallestLaw }
 {}

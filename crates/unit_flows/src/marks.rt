@@ -10,7 +10,7 @@ use aig_graph::Gate;
 use variable_tables::{mark_at, mark_variable};
 
 /// Marks a variable where it is wished. Whether it wasn't marked before.
-fn mark_if(marks: &mut [bool], first: u32, var: u32, wished: bool) -> bool
+pub(crate) fn mark_if(marks: &mut [bool], first: u32, var: u32, wished: bool) -> bool
     ensures { Marks first marks.old marks.new (λ v. wished && (var == v)) }
 {
     if !wished {

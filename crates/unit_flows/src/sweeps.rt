@@ -8,9 +8,10 @@ use crate::gate_flow::GateFlow;
 use crate::marks::see;
 use aig_graph::NoMemory;
 use std::alloc::Global;
+use variable_tables::mark_at;
 
 /// More rounds than these are never made: the judge says no to marks that aren't a full cut.
-const MOST_ROUNDS: u32 = 65_536;
+pub(crate) const MOST_ROUNDS: u32 = 65_536;
 
 /// Marks by variable, from the first latch on, of the nodes before and after each.
 #[derive(Drop)]
@@ -20,7 +21,13 @@ pub struct NodeMarks {
 }
 
 /// Sees the gates from the last to the first. Whether a node is newly marked.
-fn sweep_down(before: &mut [bool], after: &mut [bool], frame: &Frame, flows: &[GateFlow]) -> bool
+fn sweep_down(
+    before: &mut [bool],
+    after: &mut [bool],
+    open: &mut [bool],
+    frame: &Frame,
+    flows: &[GateFlow],
+) -> bool
     requires { length flows.now ≡ length frame.now.circuit.now.aig.gates }
     ensures reach { (held : List ℕ) → ReachSink frame.now.circuit.now held flows.now before.old after.old
         → ReachSink frame.now.circuit.now held flows.now before.new after.new }
@@ -34,15 +41,24 @@ fn sweep_down(before: &mut [bool], after: &mut [bool], frame: &Frame, flows: &[G
     let mut is_new = false;
     for k in (0..gates.len()).rev() {
         let var = first_gate + k as u32;
-        if frame.pass.has(var) {
-            is_new |= see(before, after, first, var, &gates[k], &flows[k]);
+        if let Some(is_open) = open.get_mut(k) {
+            if *is_open {
+                is_new |= see(before, after, first, var, &gates[k], &flows[k]);
+                *is_open = !mark_at(before, first, var);
+            }
         }
     }
     is_new
 }
 
 /// Sees the gates from the first to the last. Whether a node is newly marked.
-fn sweep_up(before: &mut [bool], after: &mut [bool], frame: &Frame, flows: &[GateFlow]) -> bool
+fn sweep_up(
+    before: &mut [bool],
+    after: &mut [bool],
+    open: &mut [bool],
+    frame: &Frame,
+    flows: &[GateFlow],
+) -> bool
     requires { length flows.now ≡ length frame.now.circuit.now.aig.gates }
     ensures reach { (held : List ℕ) → ReachSink frame.now.circuit.now held flows.now before.old after.old
         → ReachSink frame.now.circuit.now held flows.now before.new after.new }
@@ -56,15 +72,24 @@ fn sweep_up(before: &mut [bool], after: &mut [bool], frame: &Frame, flows: &[Gat
     let mut is_new = false;
     for k in 0..gates.len() {
         let var = first_gate + k as u32;
-        if frame.pass.has(var) {
-            is_new |= see(before, after, first, var, &gates[k], &flows[k]);
+        if let Some(is_open) = open.get_mut(k) {
+            if *is_open {
+                is_new |= see(before, after, first, var, &gates[k], &flows[k]);
+                *is_open = !mark_at(before, first, var);
+            }
         }
     }
     is_new
 }
 
 /// Sweeps until nothing is newly marked.
-fn settle(before: &mut [bool], after: &mut [bool], frame: &Frame, flows: &[GateFlow])
+fn settle(
+    before: &mut [bool],
+    after: &mut [bool],
+    open: &mut [bool],
+    frame: &Frame,
+    flows: &[GateFlow],
+)
     requires { length flows.now ≡ length frame.now.circuit.now.aig.gates }
     ensures reach { (held : List ℕ) → ReachSink frame.now.circuit.now held flows.now before.old after.old
         → ReachSink frame.now.circuit.now held flows.now before.new after.new }
@@ -72,10 +97,23 @@ fn settle(before: &mut [bool], after: &mut [bool], frame: &Frame, flows: &[GateF
     ensures after { length after.new ≡ length after.old }
 {
     for _ in 0..MOST_ROUNDS {
-        if !sweep_down(before, after, frame, flows) || !sweep_up(before, after, frame, flows) {
+        if !sweep_down(before, after, open, frame, flows)
+            || !sweep_up(before, after, open, frame, flows)
+        {
             return;
         }
     }
+}
+
+/// A mark for each passable gate.
+pub(crate) fn open_gates(alloc: Global, frame: &Frame) -> Result<Vec<bool>, NoMemory> {
+    let aig = frame.circuit.aig();
+    let first_gate = aig.first_gate();
+    let mut open = Vec::with_capacity(alloc, aig.gates().len())?;
+    for k in 0..aig.gates().len() {
+        open.push(frame.pass.has(first_gate + k as u32))?;
+    }
+    Ok(open)
 }
 
 /// A copy of the marks of what leaves.
@@ -103,6 +141,13 @@ pub fn mark(alloc: Global, frame: &Frame, flows: &[GateFlow]) -> Result<NodeMark
 {
     let mut before = vec![in alloc; false; frame.circuit.aig().latches_and_gates()]?;
     let mut after = leaving_of(alloc, frame)?;
-    settle(before.as_mut_slice(), after.as_mut_slice(), frame, flows);
+    let mut open = open_gates(alloc, frame)?;
+    settle(
+        before.as_mut_slice(),
+        after.as_mut_slice(),
+        open.as_mut_slice(),
+        frame,
+        flows,
+    );
     Ok(NodeMarks { before, after })
 }

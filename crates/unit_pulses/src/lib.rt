@@ -1,7 +1,7 @@
 //! Brings the units that a start leaves to the sink, by push-relabel in synchronous pulses over the gates of a circuit, without a network: arcs
 //! are computed from fan-ins and from lists of readers, which are made only where units are left.
 //!
-//! What is made here are hints. No clause speaks of a flow's values; the judge of `unit_flows` says whether one shows the greatest least set.
+//! What is made here are hints. No clause speaks of a flow's values; the judge of `unit_flows` says whether one shows the chosen least set.
 #![tactic(auto)]
 
 mod active;
@@ -16,4 +16,4 @@ mod readers;
 mod search;
 mod spots;
 
-pub use least_set::greatest_least_brought;
+pub use least_set::chosen_least_brought;

@@ -1,0 +1,122 @@
+//! Judges whether a flow shows the smallest least set: that of the gates that are reached from where units are left. Where no closed set has a
+//! smaller border than units arrive, all units that are left stand on the near side of each least set, and no residual arc leads from there to
+//! the far side.
+ghost use Rattle.std.specs.Prelude.{◌≡◌, IfOk, IfSome, IsTrue, length, map, not};
+ghost use Rattle.variable_tables.specs.Marking.{mark_at};
+ghost use Rattle.aig_graph.specs.Graph.{first_latch, latches_and_gates};
+ghost use Rattle.aig_graph.specs.Border.{IsSmallestLeast};
+ghost use Rattle.unit_flows.specs.Units.{AreTallies, IsBalanced};
+ghost use Rattle.unit_flows.specs.Shown.{IsFullCut};
+ghost use Rattle.unit_flows.specs.Onward.{AreFarFromLeft};
+
+use crate::frame::Frame;
+use crate::gate_flow::GateFlow;
+use crate::judging::off_marks;
+use crate::onward_sweeps::mark_onward;
+use crate::passes::{gates_hold, places_hold};
+use crate::sweeps::NodeMarks;
+use crate::tallies::tally;
+use aig_graph::{ClosedSet, NoMemory};
+use std::alloc::Global;
+
+/// The marks of all that isn't marked.
+fn flipped(alloc: Global, marks: &[bool]) -> Result<Vec<bool>, NoMemory>
+    ensures { IfOk result (λ others. others.items ≡ map not marks.now) }
+{
+    Ok(marks.iter().map(|mark| !*mark).collect(alloc)?)
+}
+
+/// The nodes that aren't reached from where units are left, where so many units go on and come.
+fn far_marks(
+    alloc: Global,
+    frame: &Frame,
+    flows: &[GateFlow],
+    went: &[u32],
+    came: &[u32],
+) -> Result<NodeMarks, NoMemory>
+    requires flows { length flows.now ≡ length frame.now.circuit.now.aig.gates }
+    requires went { length went.now ≡ latches_and_gates frame.now.circuit.now.aig }
+    requires came { length came.now ≡ latches_and_gates frame.now.circuit.now.aig }
+    ensures far { IfOk result (λ marks. AreFarFromLeft frame.now.circuit.now frame.now.keep.now
+        flows.now went.now came.now marks.before.items) }
+    ensures after { IfOk result (λ marks. length marks.after.items
+        ≡ latches_and_gates frame.now.circuit.now.aig) }
+{
+    let near = mark_onward(alloc, frame, flows, went, came)?;
+    let before = flipped(alloc, near.before.as_slice())?;
+    let after = flipped(alloc, near.after.as_slice())?;
+    Ok(NodeMarks { before, after })
+}
+
+/// Whether no node of a flow gives more than it gets, and the marks are a full cut for it, where so many units go on and come.
+fn is_full_cut(
+    frame: &Frame,
+    flows: &[GateFlow],
+    went: &[u32],
+    came: &[u32],
+    before: &[bool],
+    after: &[bool],
+) -> bool
+    requires flows { length flows.now ≡ length frame.now.circuit.now.aig.gates }
+    requires went { length went.now ≡ latches_and_gates frame.now.circuit.now.aig }
+    requires came { length came.now ≡ latches_and_gates frame.now.circuit.now.aig }
+    requires after { length after.now ≡ latches_and_gates frame.now.circuit.now.aig }
+    ensures balanced { IsTrue result → IsBalanced frame.now.circuit.now.aig flows.now went.now
+        came.now }
+    ensures cut { IsTrue result → IsFullCut frame.now.circuit.now frame.now.keep.now flows.now
+        went.now (mark_at (first_latch frame.now.circuit.now.aig) before.now)
+        (mark_at (first_latch frame.now.circuit.now.aig) after.now) }
+{
+    places_hold(frame, flows, went, before, after) && gates_hold(frame, flows, came, before, after)
+}
+
+/// The smallest least set, by the tallies of a flow, where it shows that.
+fn shown_by_tallies(
+    alloc: Global,
+    frame: &Frame,
+    flows: &[GateFlow],
+    went: &[u32],
+    came: &[u32],
+) -> Result<Option<ClosedSet>, NoMemory>
+    requires flows { length flows.now ≡ length frame.now.circuit.now.aig.gates }
+    requires tallies { AreTallies frame.now.circuit.now.aig flows.now
+        (length frame.now.circuit.now.aig.gates) went.now came.now }
+    ensures { IfOk result (λ shown. IfSome shown (λ set. IsSmallestLeast
+        frame.now.circuit.now frame.now.keep.now set)) }
+{
+    frame.circuit.aig().known();
+    let far = far_marks(alloc, frame, flows, went, came)?;
+    let (before, after) = (far.before.as_slice(), far.after.as_slice());
+    if !is_full_cut(frame, flows, went, came, before, after) {
+        return Ok(None);
+    }
+    let vars = off_marks(alloc, frame, before)?;
+    Ok(ClosedSet::new(vars))
+}
+
+/// The smallest least set, where a flow shows it: no node of the flow gives more than it gets, and what isn't reached from where units are left
+/// is a full cut. Nothing of the flow is trusted. It takes what `shown_set` does.
+///
+/// # Errors
+///
+/// `NoMemory` where a table is refused.
+pub(crate) fn shown_smallest_set(
+    alloc: Global,
+    frame: &Frame,
+    flows: &[GateFlow],
+) -> Result<Option<ClosedSet>, NoMemory>
+    ensures { IfOk result (λ shown. IfSome shown (λ set. IsSmallestLeast
+        frame.now.circuit.now frame.now.keep.now set)) }
+{
+    let aig = frame.circuit.aig();
+    if flows.len() != aig.gates().len() {
+        return Ok(None);
+    }
+    let entries = aig.latches_and_gates();
+    let mut went = vec![in alloc; 0u32; entries]?;
+    let mut came = vec![in alloc; 0u32; entries]?;
+    if !tally(went.as_mut_slice(), came.as_mut_slice(), aig, flows) {
+        return Ok(None);
+    }
+    shown_by_tallies(alloc, frame, flows, went.as_slice(), came.as_slice())
+}

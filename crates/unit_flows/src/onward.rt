@@ -1,0 +1,78 @@
+//! Marks of the nodes to which units that are left could go, by variable from the first latch on. Each is set by a residual arc from a marked
+//! node, so all that is marked is reached from where a unit is left.
+ghost use Rattle.std.specs.Prelude.{◌≡◌, ℕ, Bool, IsTrue, true, length};
+ghost use Rattle.unit_flows.specs.Marks.{AreWithin};
+ghost use Rattle.unit_flows.specs.Onward.{HoldsHeads};
+
+use crate::gate_flow::GateFlow;
+use crate::marks::mark_if;
+use aig_graph::Gate;
+use variable_tables::mark_at;
+
+/// Whether the node before a gate is marked, or a residual arc leads there from a marked node.
+fn is_entered(
+    before: &[bool],
+    after: &[bool],
+    first: u32,
+    var: u32,
+    gate: &Gate,
+    flow: &GateFlow,
+) -> bool
+    ensures { IsTrue result → (b a : ℕ → Bool) → HoldsHeads b a var gate.now flow.now
+        → AreWithin first before.now after.now b a → b var ≡ true }
+{
+    let (smaller, larger) = (gate.rhs1.var(), gate.rhs0.var());
+    mark_at(before, first, var)
+        || mark_at(after, first, smaller)
+        || mark_at(after, first, larger)
+        || (flow.through && mark_at(after, first, var))
+        || (flow.first_down > 0 && mark_at(before, first, smaller))
+        || (flow.second_down > 0 && mark_at(before, first, larger))
+}
+
+/// Marks the node before a gate, which is reached, and those to which residual arcs lead from there. Whether one wasn't marked before.
+fn mark_heads(
+    before: &mut [bool],
+    after: &mut [bool],
+    first: u32,
+    var: u32,
+    gate: &Gate,
+    flow: &GateFlow,
+) -> bool
+    requires { (b a : ℕ → Bool) → HoldsHeads b a var gate.now flow.now
+        → AreWithin first before.old after.old b a → b var ≡ true }
+    ensures within { (b a : ℕ → Bool) → HoldsHeads b a var gate.now flow.now
+        → AreWithin first before.old after.old b a → AreWithin first before.new after.new b a }
+    ensures before { length before.new ≡ length before.old }
+    ensures after { length after.new ≡ length after.old }
+{
+    let (smaller, larger) = (gate.rhs1.var(), gate.rhs0.var());
+    let own = mark_if(before, first, var, true);
+    let through = mark_if(after, first, var, !flow.through);
+    let smaller_before = mark_if(before, first, smaller, true);
+    let larger_before = mark_if(before, first, larger, true);
+    let smaller_after = mark_if(after, first, smaller, flow.first_up);
+    let larger_after = mark_if(after, first, larger, flow.second_up);
+    own | through | smaller_before | larger_before | smaller_after | larger_after
+}
+
+/// Marks what is reached from marked nodes by an arc at a gate. Whether a node wasn't marked before.
+pub(crate) fn go_on(
+    before: &mut [bool],
+    after: &mut [bool],
+    first: u32,
+    var: u32,
+    gate: &Gate,
+    flow: &GateFlow,
+) -> bool
+    ensures within { (b a : ℕ → Bool) → HoldsHeads b a var gate.now flow.now
+        → AreWithin first before.old after.old b a → AreWithin first before.new after.new b a }
+    ensures before { length before.new ≡ length before.old }
+    ensures after { length after.new ≡ length after.old }
+{
+    if is_entered(before, after, first, var, gate, flow) {
+        mark_heads(before, after, first, var, gate, flow)
+    } else {
+        false
+    }
+}

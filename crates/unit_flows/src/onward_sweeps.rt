@@ -1,0 +1,247 @@
+//! Marks where units are left, and then sweeps over the passable gates, up and down, until nothing is newly marked.
+ghost use Rattle.std.specs.Prelude.{◌≡◌, ◌≤◌, ◌+◌, ◌<◌, ℕ, Bool, List, IfOk, IsTrue, true, length, slice_index};
+ghost use Rattle.aig_graph.specs.Graph.{first_latch, first_gate, latches_and_gates};
+ghost use Rattle.unit_flows.specs.Units.{nth_flow};
+ghost use Rattle.unit_flows.specs.Marks.{AreWithin};
+ghost use Rattle.unit_flows.specs.Onward.{waits, IsFuller, AreReachedFromLeft};
+
+use crate::balance::{comes_after, is_fuller};
+use crate::frame::Frame;
+use crate::gate_flow::GateFlow;
+use crate::marks::mark_if;
+use crate::onward::go_on;
+use crate::sweeps::{MOST_ROUNDS, NodeMarks, open_gates};
+use aig_graph::NoMemory;
+use std::alloc::Global;
+use variable_tables::mark_at;
+
+/// Whether a unit is left after the variable at a place, and can't leave there.
+fn waits(frame: &Frame, flows: &[GateFlow], went: &[u32], place: usize) -> bool
+    requires flows { length flows.now ≡ length frame.now.circuit.now.aig.gates }
+    requires went { length went.now ≡ latches_and_gates frame.now.circuit.now.aig }
+    requires place { place < latches_and_gates frame.now.circuit.now.aig }
+    ensures { result ≡ waits frame.now.circuit.now frame.now.keep.now flows.now went.now place }
+{
+    let comes = comes_after(frame.circuit.aig(), flows, place);
+    let is_left = went[place] == 0;
+    !frame.leaving[place] & comes & is_left
+}
+
+/// Marks the node after the variable at a place, where a unit is left there.
+fn mark_after(after: &mut [bool], frame: &Frame, flows: &[GateFlow], went: &[u32], place: usize)
+    requires flows { length flows.now ≡ length frame.now.circuit.now.aig.gates }
+    requires went { length went.now ≡ latches_and_gates frame.now.circuit.now.aig }
+    requires place { place < latches_and_gates frame.now.circuit.now.aig }
+    ensures within { (b a : ℕ → Bool) (xs : List Bool)
+        → (waits frame.now.circuit.now frame.now.keep.now flows.now went.now place ≡ true
+        → a (first_latch frame.now.circuit.now.aig + place) ≡ true)
+        → AreWithin (first_latch frame.now.circuit.now.aig) xs after.old b a
+        → AreWithin (first_latch frame.now.circuit.now.aig) xs after.new b a }
+    ensures after { length after.new ≡ length after.old }
+{
+    let first = frame.circuit.aig().first_latch();
+    let is_left = waits(frame, flows, went, place);
+    mark_if(after, first, first + place as u32, is_left);
+}
+
+/// Marks the node before the k-th gate, where units are left there.
+fn mark_before(before: &mut [bool], frame: &Frame, flows: &[GateFlow], came: &[u32], k: usize)
+    requires flows { length flows.now ≡ length frame.now.circuit.now.aig.gates }
+    requires came { length came.now ≡ latches_and_gates frame.now.circuit.now.aig }
+    requires gate { k < length frame.now.circuit.now.aig.gates }
+    ensures within { (b a : ℕ → Bool) (ys : List Bool)
+        → (IsFuller (nth_flow flows.now k) (slice_index came.now
+        (length frame.now.circuit.now.aig.latches + k))
+        → b (first_gate frame.now.circuit.now.aig + k) ≡ true)
+        → AreWithin (first_latch frame.now.circuit.now.aig) before.old ys b a
+        → AreWithin (first_latch frame.now.circuit.now.aig) before.new ys b a }
+    ensures before { length before.new ≡ length before.old }
+{
+    let aig = frame.circuit.aig();
+    let is_left = is_fuller(&flows[k], came[aig.latches().len() + k]);
+    mark_if(
+        before,
+        aig.first_latch(),
+        aig.first_gate() + k as u32,
+        is_left,
+    );
+}
+
+/// Marks the nodes at which units are left.
+fn mark_left(
+    before: &mut [bool],
+    after: &mut [bool],
+    frame: &Frame,
+    flows: &[GateFlow],
+    went: &[u32],
+    came: &[u32],
+)
+    requires flows { length flows.now ≡ length frame.now.circuit.now.aig.gates }
+    requires went { length went.now ≡ latches_and_gates frame.now.circuit.now.aig }
+    requires came { length came.now ≡ latches_and_gates frame.now.circuit.now.aig }
+    ensures reach { AreReachedFromLeft frame.now.circuit.now frame.now.keep.now flows.now went.now
+        came.now before.old after.old
+        → AreReachedFromLeft frame.now.circuit.now frame.now.keep.now flows.now went.now
+        came.now before.new after.new }
+    ensures before { length before.new ≡ length before.old }
+    ensures after { length after.new ≡ length after.old }
+{
+    let aig = frame.circuit.aig();
+    for place in 0..aig.latches_and_gates() {
+        mark_after(after, frame, flows, went, place);
+    }
+    for k in 0..aig.gates().len() {
+        mark_before(before, frame, flows, came, k);
+    }
+}
+
+/// Goes on from the gates that are open, from the first to the last. A gate is open until the node before it was marked as it was looked at.
+/// Whether a node is newly marked.
+fn sweep_up(
+    before: &mut [bool],
+    after: &mut [bool],
+    open: &mut [bool],
+    frame: &Frame,
+    flows: &[GateFlow],
+) -> bool
+    requires { length flows.now ≡ length frame.now.circuit.now.aig.gates }
+    ensures reach { (held went came : List ℕ)
+        → AreReachedFromLeft frame.now.circuit.now held flows.now went came before.old after.old
+        → AreReachedFromLeft frame.now.circuit.now held flows.now went came before.new after.new }
+    ensures before { length before.new ≡ length before.old }
+    ensures after { length after.new ≡ length after.old }
+{
+    let aig = frame.circuit.aig();
+    let first = aig.first_latch();
+    let first_gate = aig.first_gate();
+    let gates = aig.gates();
+    let mut is_new = false;
+    for k in 0..gates.len() {
+        let var = first_gate + k as u32;
+        if let Some(is_open) = open.get_mut(k) {
+            if *is_open {
+                is_new |= go_on(before, after, first, var, &gates[k], &flows[k]);
+                *is_open = !mark_at(before, first, var);
+            }
+        }
+    }
+    is_new
+}
+
+/// The same from the last to the first.
+fn sweep_down(
+    before: &mut [bool],
+    after: &mut [bool],
+    open: &mut [bool],
+    frame: &Frame,
+    flows: &[GateFlow],
+) -> bool
+    requires { length flows.now ≡ length frame.now.circuit.now.aig.gates }
+    ensures reach { (held went came : List ℕ)
+        → AreReachedFromLeft frame.now.circuit.now held flows.now went came before.old after.old
+        → AreReachedFromLeft frame.now.circuit.now held flows.now went came before.new after.new }
+    ensures before { length before.new ≡ length before.old }
+    ensures after { length after.new ≡ length after.old }
+{
+    let aig = frame.circuit.aig();
+    let first = aig.first_latch();
+    let first_gate = aig.first_gate();
+    let gates = aig.gates();
+    let mut is_new = false;
+    for k in (0..gates.len()).rev() {
+        let var = first_gate + k as u32;
+        if let Some(is_open) = open.get_mut(k) {
+            if *is_open {
+                is_new |= go_on(before, after, first, var, &gates[k], &flows[k]);
+                *is_open = !mark_at(before, first, var);
+            }
+        }
+    }
+    is_new
+}
+
+/// Sweeps until nothing is newly marked.
+fn settle(
+    before: &mut [bool],
+    after: &mut [bool],
+    open: &mut [bool],
+    frame: &Frame,
+    flows: &[GateFlow],
+)
+    requires { length flows.now ≡ length frame.now.circuit.now.aig.gates }
+    ensures reach { (held went came : List ℕ)
+        → AreReachedFromLeft frame.now.circuit.now held flows.now went came before.old after.old
+        → AreReachedFromLeft frame.now.circuit.now held flows.now went came before.new after.new }
+    ensures before { length before.new ≡ length before.old }
+    ensures after { length after.new ≡ length after.old }
+{
+    for _ in 0..MOST_ROUNDS {
+        if !sweep_up(before, after, open, frame, flows)
+            || !sweep_down(before, after, open, frame, flows)
+        {
+            return;
+        }
+    }
+}
+
+/// Marks what is reached from where units are left, by the tallies of a flow.
+///
+/// # Errors
+///
+/// `NoMemory` where a table is refused.
+pub(crate) fn mark_onward(
+    alloc: Global,
+    frame: &Frame,
+    flows: &[GateFlow],
+    went: &[u32],
+    came: &[u32],
+) -> Result<NodeMarks, NoMemory>
+    requires flows { length flows.now ≡ length frame.now.circuit.now.aig.gates }
+    requires went { length went.now ≡ latches_and_gates frame.now.circuit.now.aig }
+    requires came { length came.now ≡ latches_and_gates frame.now.circuit.now.aig }
+    ensures reach { IfOk result (λ marks. AreReachedFromLeft frame.now.circuit.now
+        frame.now.keep.now flows.now went.now came.now marks.before.items marks.after.items) }
+    ensures before { IfOk result (λ marks. length marks.before.items
+        ≡ latches_and_gates frame.now.circuit.now.aig) }
+    ensures after { IfOk result (λ marks. length marks.after.items
+        ≡ latches_and_gates frame.now.circuit.now.aig) }
+{
+    let entries = frame.circuit.aig().latches_and_gates();
+    let mut before = vec![in alloc; false; entries]?;
+    let mut after = vec![in alloc; false; entries]?;
+    let mut open = open_gates(alloc, frame)?;
+    mark_from_left(
+        before.as_mut_slice(),
+        after.as_mut_slice(),
+        open.as_mut_slice(),
+        frame,
+        flows,
+        went,
+        came,
+    );
+    Ok(NodeMarks { before, after })
+}
+
+/// Marks where units are left, and all that is reached from there.
+fn mark_from_left(
+    before: &mut [bool],
+    after: &mut [bool],
+    open: &mut [bool],
+    frame: &Frame,
+    flows: &[GateFlow],
+    went: &[u32],
+    came: &[u32],
+)
+    requires flows { length flows.now ≡ length frame.now.circuit.now.aig.gates }
+    requires went { length went.now ≡ latches_and_gates frame.now.circuit.now.aig }
+    requires came { length came.now ≡ latches_and_gates frame.now.circuit.now.aig }
+    ensures reach { AreReachedFromLeft frame.now.circuit.now frame.now.keep.now flows.now went.now
+        came.now before.old after.old
+        → AreReachedFromLeft frame.now.circuit.now frame.now.keep.now flows.now went.now
+        came.now before.new after.new }
+    ensures before { length before.new ≡ length before.old }
+    ensures after { length after.new ≡ length after.old }
+{
+    mark_left(before, after, frame, flows, went, came);
+    settle(before, after, open, frame, flows);
+}
