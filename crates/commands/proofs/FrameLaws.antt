@@ -1,5 +1,5 @@
 -- How printing a retiming ends, by the form that is asked for.
-use Rattle.std.proofs.Common.{◌≡◌, ◌∙◌, ℕ, Bool, true, List, Option, Result, length, map, nat_lt, sym, subst, ap}
+use Rattle.std.proofs.Common.{◌≡◌, ◌∙◌, ℕ, Bool, true, false, refl, List, Option, Result, length, map, nat_lt, sym, subst, ap}
 use Rattle.std.specs.Borrow.{Bor}
 use Rattle.std.specs.Global.{Vec}
 use Rattle.aig_graph.specs.Keep.{names_of}
@@ -15,7 +15,9 @@ use Rattle.circuit_files.specs.declared.outcome.Failure.{Failure}
 use Rattle.command_objects.specs.Objects.{EndsPrintingObject}
 use Rattle.circuit_counts.specs.declared.remaining.Remaining.{Remaining}
 use Rattle.command_line.specs.declared.task.Retiming.{Retiming}
-use Rattle.commands.specs.RetimingTasks.{EndsPrintingFrames, remaining_of}
+use Rattle.reports.specs.Retimings.{retiming_text}
+use Rattle.command_endings.specs.Printing.{EndsPrinting}
+use Rattle.commands.specs.RetimingTasks.{EndsPrintingFrames, PrintsAlike, SaysFrames, remaining_of}
 
 -- an object where it was asked for
 pub frames_as_object : (json : Bool) (task : Retiming) (r : Retimed) (times : Option Times) (mapped : Option MapCounts) (old new : Output) (result : Result Outcome Failure)
@@ -38,3 +40,15 @@ remaining_is task r keep names read frames kept same alike many =
     ap names_of same ∙ alike ∙ ap (λ (xs : List (Bor (List ℕ))). map (λ name. name.now) xs) kept in
     ap (λ (xs : List (List ℕ)). remaining r.circuit xs (nat_lt frames task.frames)) texts
     ∙ ap (λ (n : ℕ). remaining r.circuit (map (λ name. name.now) task.keep.items) (nat_lt n task.frames)) many
+
+-- what is printed alike ends alike
+pub frames_alike : (json : Bool) (task : Retiming) (r s : Retimed) (times : Option Times) (mapped : Option MapCounts) (old new : Output) (result : Result Outcome Failure)
+    → PrintsAlike r s → EndsPrintingFrames json task r times mapped old new result → EndsPrintingFrames json task s times mapped old new result
+frames_alike true task r s times mapped old new result alike p = subst (λ value. EndsPrintingObject Done value old new result) (alike.1 task times mapped) p
+frames_alike false task r s times mapped old new result alike p = subst (λ (text : List ℕ). EndsPrinting Done text old new result) alike.0 p
+
+pub says_alike : (task : Retiming) (r s : Retimed) (times : Option Times) (mapped : Option MapCounts) (old new : Output) → PrintsAlike r s → SaysFrames task r times mapped old new → SaysFrames task s times mapped old new
+says_alike task r s times mapped old new alike p = record { ended = p.ended; prints = frames_alike task.json task r s times mapped old new p.ended alike p.prints }
+
+pub alike_itself : (r : Retimed) → PrintsAlike r r
+alike_itself r = (refl, λ task times mapped. refl)

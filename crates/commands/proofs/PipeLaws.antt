@@ -1,29 +1,38 @@
 -- What a retiming gives standard output, where that is what it writes to.
-use Rattle.std.proofs.Common.{◌≡◌, ◌||◌, Bool, true, false, Result, refl, sym, ap, ◌∙◌, subst}
+use Rattle.std.proofs.Common.{ℕ, ◌≡◌, ◌||◌, ◌⊎◌, inl, inr, Bool, List, true, false, Option, Some, None, Result, Ok, Err, refl, sym, ap, ◌∙◌, subst}
+use Rattle.std.specs.Borrow.{Bor}
+use Rattle.std.specs.Result.{IfErr, IfOk, IsErrAnd}
 use Rattle.std.proofs.Math.Bool.{true-or}
 use Rattle.std.proofs.lemmas.Bool.{or_parts}
 use Rattle.counted_io.specs.Input.{Input}
-use Rattle.counted_io.specs.Output.{Output}
+use Rattle.certificate_files.specs.Texts.{file_text}
+use Rattle.counted_io.specs.Output.{Output, WritesAll}
 use Rattle.retimed_circuits.specs.declared.report.Retimed.{Retimed}
 use Rattle.frames.specs.declared.errors.BytesError.{BytesError}
 use Rattle.frames.specs.declared.errors.BytesError.TheVariants.{Read, Retime, Write}
 use Rattle.frames.specs.declared.errors.RetimeError.TheVariants.{NoMemory, NoSuchName}
 use Rattle.frames.specs.declared.options.Options.{Options}
-use Rattle.frames.specs.Answering.{IsBytesError}
+use Rattle.frames.specs.Answering.{IsAnswered, IsBytesError}
 use Rattle.mapped_answers.specs.Mapping.{IsMappedError}
 use Rattle.mapped_answers.specs.declared.mapped.MappedError.{MappedError}
 use Rattle.mapped_answers.specs.declared.mapped.MappedError.TheVariants.{Answer, MapTooLarge}
-use Rattle.stream_paths.specs.Streams.{is_stdout}
+use Rattle.stream_paths.specs.Streams.{is_stdin, is_stdout}
+use Rattle.stream_paths.specs.declared.target.Target.{Target}
 use Rattle.command_line.specs.StreamUses.{takes_stdout, writes_stdout}
 use Rattle.command_line.specs.declared.task.Retiming.{Retiming}
 use Rattle.circuit_files.specs.Outcomes.{outcome_of}
 use Rattle.circuit_files.specs.declared.outcome.Outcome.{Outcome}
-use Rattle.circuit_files.specs.declared.outcome.Outcome.TheVariants.{Done}
+use Rattle.circuit_files.specs.declared.outcome.Outcome.TheVariants.{Device, Done}
 use Rattle.circuit_files.specs.declared.outcome.Failure.{Failure}
-use Rattle.commands.specs.Pipes.{AnswersPipe, IsPipe, WritesPipe}
+use Rattle.circuit_files.specs.declared.outcome.Failure.TheVariants as fails
+use Rattle.json_reports.specs.declared.times.Times.{Times}
+use Rattle.json_reports.specs.declared.counts.MapCounts.{MapCounts}
+use Rattle.commands.specs.declared.answer.Answer.{Answer as Answered}
+use Rattle.commands.specs.Pipes.{AnswersInput, AnswersPipe, IsPipe, IsToldOf, PrintsRetiming, WritesPipe}
 use Rattle.command_endings.specs.Printing.{EndsAside, Prints, ending}
-use Rattle.commands.specs.RetimingTasks.{IsFailureOf, IsMappedFailureOf}
+use Rattle.commands.specs.RetimingTasks.{AreOptionsOf, EndsPrintingFrames, HasFailed, IsFailureOf, IsMappedFailureOf, PrintsAlike, SaysFrames}
 use Rattle.command_endings.proofs.PrintingLaws.{failing_after, prints_after}
+use Rattle.commands.proofs.FrameLaws.{frames_alike, says_alike}
 
 -- why there is no whole answer, as the failure of the task
 pub stopped : (task : Retiming) (options : Options) (old new : Input) (before after : Output) (e : BytesError) (f : Failure)
@@ -39,12 +48,29 @@ pub stopped_mapped : (task : Retiming) (options : Options) (old new : Input) (be
 stopped_mapped task options old new before after (Answer e) f is p = stopped task options old new before after e f is p
 stopped_mapped task options old new before after MapTooLarge f is p = failing_after f before after p.1
 
--- nothing came after the answer
-pub still_answered : (task : Retiming) (input : Input) (old mid new : Output) (retimed : Retimed) → new ≡ mid → AnswersPipe task input old mid retimed → WritesPipe task input old new
-still_answered task input old mid new retimed same p = record { retimed = retimed; answers = subst (λ (s : Output). AnswersPipe task input old s retimed) (sym same) p }
+-- the answer of what was read, whatever it was written to
+pub answers_read : {E : Type 0} (task : Retiming) (options : Options) (input : Input) (before after : Output) (result : Result Answered E) → AreOptionsOf task options
+    → IfOk result (λ answer. is_stdin task.input ≡ true → IsAnswered input before after options answer.retimed)
+    → IfOk result (λ answer. is_stdin task.input ≡ true → AnswersInput task input answer.retimed)
+answers_read task options input before after (Ok answer) are answered = λ stdin. record { options = options; are_options = are; before = before; after = after; answered = answered stdin }
+answers_read task options input before after (Err e) are answered = tt
 
-pub still_written : (task : Retiming) (input : Input) (old mid new : Output) → new ≡ mid → WritesPipe task input old mid → WritesPipe task input old new
-still_written task input old mid new same p = subst (λ (s : Output). WritesPipe task input old s) (sym same) p
+-- the text of a retiming's certificates
+abbrev pub blocks_text : Retiming → Retimed → List ℕ
+blocks_text task r = file_text (record { choice = task.choice; blocks = r.certificates })
+
+-- what is written beside the answer changes nothing of what is told of it
+pub told_of : (task : Retiming) (input : Input) (old mid new : Output) (before after r : Retimed) → r ≡ after → PrintsAlike after before
+    → (is_stdin task.input ≡ true → AnswersInput task input before) → (IsPipe task → AnswersPipe task input old mid before)
+    → (writes_stdout task.map ≡ false → writes_stdout task.certificates ≡ false → new ≡ mid) → (is_stdout task.output ≡ false → mid ≡ old)
+    → (writes_stdout task.map ≡ false → writes_stdout task.certificates ≡ true → WritesAll mid new (blocks_text task before)) → IsToldOf task input old new r
+told_of task input old mid new before after r same alike read pipe quiet file certifies = record {
+  answer = before;
+  alike = subst (λ (x : Retimed). PrintsAlike x before) (sym same) alike;
+  read = read;
+  pipe = λ is. subst (λ (s : Output). AnswersPipe task input old s before) (sym (quiet is.map_aside is.alone)) (pipe is);
+  certificates = λ elsewhere map_aside asked. subst (λ (s : Output). WritesAll s new (blocks_text task before)) (file elsewhere) (certifies map_aside asked);
+}
 
 -- neither the circuit nor the map nor the certificates went to standard output
 pub kept : (task : Retiming) (old mid new : Output) → (is_stdout task.output ≡ false → mid ≡ old)
@@ -60,13 +86,49 @@ pipe_takes_stdout task pipe =
     ap (λ (b : Bool). b || writes_stdout task.certificates || writes_stdout task.map) pipe.stdout
     ∙ ap (λ (b : Bool). b || writes_stdout task.map) (true-or (writes_stdout task.certificates)) ∙ true-or (writes_stdout task.map)
 
+or-right : (b : Bool) → (b || true) ≡ true
+or-right true = refl
+or-right false = refl
+
+-- so it does where certificates are written to standard output
+pub certificates_take_stdout : (task : Retiming) → writes_stdout task.certificates ≡ true → takes_stdout task ≡ true
+certificates_take_stdout task asked =
+    ap (λ (b : Bool). is_stdout task.output || b || writes_stdout task.map) asked
+    ∙ ap (λ (b : Bool). b || writes_stdout task.map) (or-right (is_stdout task.output)) ∙ true-or (writes_stdout task.map)
+
 stays_quiet : (old mid new : Output) (result : Result Outcome Failure) → EndsAside Done mid new result → new ≡ mid
 stays_quiet old mid new result aside = aside.quiet
 
-pub piped : (task : Retiming) (input : Input) (old mid new : Output) (result : Result Outcome Failure)
-    → (takes_stdout task ≡ true → EndsAside Done mid new result) → (IsPipe task → WritesPipe task input old mid) → IsPipe task → WritesPipe task input old new
-piped task input old mid new result aside written pipe =
-    still_written task input old mid new (stays_quiet old mid new result (aside (pipe_takes_stdout task pipe))) (written pipe)
+-- what is told of it is printed
+pub prints_retiming : (task : Retiming) (is_terminal : Bool) (input : Input) (old mid new shown told said : Output) (r : Retimed) (times : Option Times) (mapped : Option MapCounts) (result : Result Outcome Failure)
+    → IsToldOf task input old mid r → (takes_stdout task ≡ false → mid ≡ old) → (takes_stdout task ≡ true → EndsAside Done mid new result)
+    → (takes_stdout task ≡ true → SaysFrames task r times mapped shown told) → (takes_stdout task ≡ false → EndsPrintingFrames task.json task r times mapped mid new result)
+    → (is_terminal ≡ false → said ≡ told) → PrintsRetiming task is_terminal input old new said result
+prints_retiming task is_terminal input old mid new shown told said r times mapped result of before aside says frames still = record {
+  retimed = of.answer;
+  times = times;
+  mapped = mapped;
+  read = of.read;
+  pipe = λ pipe. subst (λ (s : Output). AnswersPipe task input old s of.answer) (sym (stays_quiet mid mid new result (aside (pipe_takes_stdout task pipe)))) (of.pipe pipe);
+  certificates = λ elsewhere map_aside asked. subst (λ (s : Output). WritesAll old s (blocks_text task of.answer))
+      (sym (stays_quiet mid mid new result (aside (certificates_take_stdout task asked)))) (of.certificates elsewhere map_aside asked);
+  printed = λ free. subst (λ (s : Output). EndsPrintingFrames task.json task of.answer times mapped s new result) (before free)
+      (frames_alike task.json task r of.answer times mapped mid new result of.alike (frames free));
+  shown = shown;
+  aside = λ taken quiet. subst (SaysFrames task of.answer times mapped shown) (sym (still quiet)) (says_alike task r of.answer times mapped shown told of.alike (says taken));
+}
+
+pub if_done : {T E : Type 0} (result : Result T E) (P : Type 0) → P → IfOk result (λ x. P)
+if_done (Ok x) P p = p
+if_done (Err e) P p = tt
+
+-- so a pipe has its answer
+pub writes_pipe : {T E : Type 0} (task : Retiming) (input : Input) (old mid new : Output) (r : Retimed) (result : Result Outcome Failure) (ended : Result T E)
+    → IsToldOf task input old mid r → (takes_stdout task ≡ true → EndsAside Done mid new result) → IfOk ended (λ x. IsPipe task → WritesPipe task input old new)
+writes_pipe task input old mid new r result ended of aside =
+    let still : IsPipe task → new ≡ mid = λ pipe. stays_quiet mid mid new result (aside (pipe_takes_stdout task pipe)) in
+    if_done ended (IsPipe task → WritesPipe task input old new)
+    (λ pipe. record { retimed = of.answer; answers = subst (λ (s : Output). AnswersPipe task input old s of.answer) (sym (still pipe)) (of.pipe pipe) })
 
 ends_aside : (old mid new : Output) (result : Result Outcome Failure) → EndsAside Done mid new result → Prints (ending result) old new
 ends_aside old mid new result aside = subst (λ (e : Outcome). Prints e old new) (sym aside.ends) tt
@@ -80,3 +142,22 @@ by_stream false old mid new result before aside prints = prints_after (ending re
 pub prints_frames : (task : Retiming) (old mid new : Output) (result : Result Outcome Failure) → (takes_stdout task ≡ false → mid ≡ old)
     → (takes_stdout task ≡ true → EndsAside Done mid new result) → (takes_stdout task ≡ false → Prints (ending result) mid new) → Prints (ending result) old new
 prints_frames task old mid new result before aside prints = by_stream (takes_stdout task) old mid new result before aside prints
+
+-- what is written beside the circuit failed
+has_failed : (target : Option Target) (failure : Failure) → HasFailed target failure → outcome_of failure ≡ Device
+has_failed None failure failed = absurd failed
+has_failed (Some target) failure failed = failed.0
+
+fails_beside : (map certificates : Option Target) (failure : Failure) (old new : Output) → HasFailed map failure ⊎ HasFailed certificates failure → Prints (outcome_of failure) old new
+fails_beside map certificates failure old new (inl failed) = subst (λ (e : Outcome). Prints e old new) (sym (has_failed map failure failed)) tt
+fails_beside map certificates failure old new (inr failed) = subst (λ (e : Outcome). Prints e old new) (sym (has_failed certificates failure failed)) tt
+
+pub stops_beside : {T : Type 0} (map certificates : Option Target) (result : Result T Failure) (failure : Failure) (old new : Output) → IsErrAnd result (λ x. x ≡ failure)
+    → HasFailed map failure ⊎ HasFailed certificates failure → IfErr result (λ x. Prints (outcome_of x) old new)
+stops_beside map certificates (Ok x) failure old new is failed = tt
+stops_beside map certificates (Err e) failure old new is failed =
+    subst (λ (x : Failure). Prints (outcome_of x) old new) (sym is) (fails_beside map certificates failure old new failed)
+
+-- a file can't be opened
+pub unopened : (failure : Failure) (path : Bor (List ℕ)) (old new : Output) → failure ≡ fails.Device path → Prints (outcome_of failure) old new
+unopened failure path old new is = subst (λ (f : Failure). Prints (outcome_of f) old new) (sym is) tt

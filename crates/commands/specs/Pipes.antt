@@ -1,5 +1,5 @@
 -- From standard input to standard output.
-use Rattle.std.specs.Prelude.{◌≡◌, true, false, Option}
+use Rattle.std.specs.Prelude.{◌≡◌, Bool, true, false, Option, Result}
 use Rattle.counted_io.specs.Input.{Input}
 use Rattle.counted_io.specs.Output.{Output, WritesAll}
 use Rattle.aig_binary.specs.Spellings.{text_in}
@@ -10,10 +10,15 @@ use Rattle.retimed_circuits.specs.declared.report.Retimed.{Retimed}
 use Rattle.frames.specs.Answering.{IsAnswered}
 use Rattle.frames.specs.declared.options.Options.{Options}
 use Rattle.stream_paths.specs.Streams.{is_stdin, is_stdout}
-use Rattle.command_line.specs.StreamUses.{writes_stdout}
+use Rattle.command_line.specs.StreamUses.{takes_stdout, writes_stdout}
 use Rattle.command_line.specs.declared.task.Retiming.{Retiming}
 use Rattle.commands.specs.OtherSpelling.{spelling_for}
-use Rattle.commands.specs.RetimingTasks.{AreOptionsOf}
+use Rattle.certificate_files.specs.Texts.{file_text as certificates_text}
+use Rattle.json_reports.specs.declared.times.Times.{Times}
+use Rattle.json_reports.specs.declared.counts.MapCounts.{MapCounts}
+use Rattle.circuit_files.specs.declared.outcome.Outcome.{Outcome}
+use Rattle.circuit_files.specs.declared.outcome.Failure.{Failure}
+use Rattle.commands.specs.RetimingTasks.{AreOptionsOf, EndsPrintingFrames, PrintsAlike, SaysFrames}
 
 -- a retiming from standard input to standard output, which gets the circuit alone
 pub record IsPipe (task : Retiming) : Type 0 where
@@ -27,6 +32,41 @@ pub record AnswersPipe (task : Retiming) (input : Input) (old new : Output) (ret
   pub options : Options
   pub are_options : AreOptionsOf task options
   pub answered : IsAnswered input old new options retimed
+
+-- the answer by the options of the task, of the bytes that standard input had left, wherever it was written
+pub record AnswersInput (task : Retiming) (input : Input) (retimed : Retimed) : Type 0 where
+  pub options : Options
+  pub are_options : AreOptionsOf task options
+  pub before : Output
+  pub after : Output
+  pub answered : IsAnswered input before after options retimed
+
+-- where nothing but the certificates of r goes to standard output, it was given their text
+abbrev pub Certifies : Retiming → Retimed → Output → Output → Type 0
+Certifies task r old new =
+    is_stdout task.output ≡ false → writes_stdout task.map ≡ false → writes_stdout task.certificates ≡ true
+    → WritesAll old new (certificates_text (record { choice = task.choice; blocks = r.certificates }))
+
+-- what is told of r is told of the answer of what the task reads, which standard output was given where it gets the circuit alone
+pub record IsToldOf (task : Retiming) (input : Input) (old new : Output) (r : Retimed) : Type 0 where
+  pub answer : Retimed
+  pub alike : PrintsAlike r answer
+  pub read : is_stdin task.input ≡ true → AnswersInput task input answer
+  pub pipe : IsPipe task → AnswersPipe task input old new answer
+  pub certificates : Certifies task answer old new
+
+-- the retiming of what the task reads was printed: on standard output, or, where a circuit, a map or certificates went there, on standard
+-- error, of which a terminal is told more
+pub record PrintsRetiming (task : Retiming) (is_terminal : Bool) (input : Input) (old new said : Output) (result : Result Outcome Failure) : Type 0 where
+  pub retimed : Retimed
+  pub times : Option Times
+  pub mapped : Option MapCounts
+  pub read : is_stdin task.input ≡ true → AnswersInput task input retimed
+  pub pipe : IsPipe task → AnswersPipe task input old new retimed
+  pub certificates : Certifies task retimed old new
+  pub printed : takes_stdout task ≡ false → EndsPrintingFrames task.json task retimed times mapped old new result
+  pub shown : Output
+  pub aside : takes_stdout task ≡ true → is_terminal ≡ false → SaysFrames task retimed times mapped shown said
 
 -- that is so of some retiming
 pub record WritesPipe (task : Retiming) (input : Input) (old new : Output) : Type 0 where

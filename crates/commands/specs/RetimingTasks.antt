@@ -1,8 +1,9 @@
 -- What the task of a retiming makes of its options, of an error, and of a retiming.
-use Rattle.std.specs.Prelude.{ℕ, ◌≡◌, ◌||◌, Bool, true, false, List, Option, Some, Result, is_some, map, length, nat_lt, slice_get}
+use Rattle.std.specs.Prelude.{ℕ, ◌≡◌, ◌||◌, Bool, true, false, List, Option, Some, None, Result, is_some, map, length, nat_lt, slice_get}
 use Rattle.std.specs.Borrow.{Bor}
 use Rattle.aig_graph.specs.Circuits.{Netlist}
 use Rattle.stream_paths.specs.Streams.{target_name}
+use Rattle.stream_paths.specs.declared.target.Target.{Target}
 use Rattle.command_line.specs.declared.task.Retiming.{Retiming}
 use Rattle.frames.specs.declared.options.Options.{Options}
 use Rattle.frames.specs.declared.errors.BytesError.{BytesError}
@@ -18,9 +19,9 @@ use Rattle.json_reports.specs.declared.times.Times.{Times}
 use Rattle.json_reports.specs.declared.counts.MapCounts.{MapCounts}
 use Rattle.mapped_answers.specs.declared.mapped.MappedError.{MappedError}
 use Rattle.mapped_answers.specs.declared.mapped.MappedError.TheVariants.{Answer, MapTooLarge}
-use Rattle.circuit_files.specs.Outcomes.{failure_of_reading, outcome_of}
+use Rattle.circuit_files.specs.Outcomes.{IsAbout, failure_of_reading, outcome_of}
 use Rattle.circuit_files.specs.declared.outcome.Outcome.{Outcome}
-use Rattle.circuit_files.specs.declared.outcome.Outcome.TheVariants.{Done, Refused}
+use Rattle.circuit_files.specs.declared.outcome.Outcome.TheVariants.{Device, Done, Refused}
 use Rattle.circuit_files.specs.declared.outcome.Failure.{Failure}
 use Rattle.circuit_files.specs.declared.outcome.Failure.TheVariants as fails
 use Rattle.command_objects.specs.Objects.{EndsPrintingObject}
@@ -42,6 +43,11 @@ IsFailureOf task (Read error) failure = OfSource task.input (λ path. failure �
 IsFailureOf task (Retime NoMemory) failure = failure ≡ fails.Memory
 IsFailureOf task (Retime (NoSuchName place)) failure = (name : Bor (List ℕ)) → slice_get task.keep.items place ≡ Some name → OfSource task.input (λ path. failure ≡ fails.NoSuchName path name)
 IsFailureOf task (Write error) failure = (name : Bor (List ℕ)) × (name.now ≡ target_name task.output) × (failure ≡ fails.Device name)
+
+-- a device has failed, that of this target
+abbrev pub HasFailed : Option Target → Failure → Type 0
+HasFailed None failure = ⊥
+HasFailed (Some target) failure = (outcome_of failure ≡ Device) × IsAbout (target_name target) failure
 
 -- what the task's retiming leaves: the circuit, where its held latches stay; fewer frames than the limit end where no set leaves fewer
 abbrev pub remaining_of : Retiming → Retimed → Remaining

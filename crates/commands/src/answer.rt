@@ -6,10 +6,9 @@ ghost use Rattle.stream_paths.specs.Streams.{is_stdout};
 ghost use Rattle.frames.specs.Answering.{IsAnswered};
 ghost use Rattle.mapped_answers.specs.Mapping.{IsMapped, IsMappedError};
 ghost use Rattle.circuit_files.specs.Outcomes.{outcome_of};
-ghost use Rattle.circuit_files.specs.declared.outcome.Outcome.TheVariants.{Device};
 ghost use Rattle.command_line.specs.StreamUses.{writes_stdout};
 ghost use Rattle.command_endings.specs.Printing.{Prints};
-ghost use Rattle.commands.specs.RetimingTasks.{AreOptionsOf, IsFailureOf, IsMappedFailureOf, counts_of};
+ghost use Rattle.commands.specs.RetimingTasks.{AreOptionsOf, HasFailed, IsFailureOf, IsMappedFailureOf, counts_of};
 
 use aig_binary::{SpeltCircuit, write};
 use circuit_files::{Failure, LazyFile};
@@ -203,7 +202,7 @@ pub(crate) fn map_written<'a, R: Files, O: CountedWrite>(
     out: &mut O,
 ) -> Result<(), Failure<'a>>
     ensures file { writes_stdout task.now.map ≡ false → O.output out.new ≡ O.output out.old }
-    ensures err { IfErr result (λ failure. outcome_of failure ≡ Device) }
+    ensures err { IfErr result (HasFailed task.now.map) }
 {
     let Some(target) = task.map else {
         return Ok(());

@@ -2,7 +2,9 @@
 ghost use Rattle.std.specs.Prelude.{◌≡◌, true, false, IfErr, IfOk};
 ghost use Rattle.counted_io.specs.Output.{Writes};
 ghost use Rattle.aig_binary.specs.Spellings.{text_in};
-ghost use Rattle.stream_paths.specs.Streams.{is_stdin, is_stdout};
+ghost use Rattle.stream_paths.specs.Streams.{is_stdin, is_stdout, target_name};
+ghost use Rattle.circuit_files.specs.Outcomes.{IsAbout, outcome_of};
+ghost use Rattle.circuit_files.specs.declared.outcome.Outcome.TheVariants.{Device};
 ghost use Rattle.commands.specs.OtherSpelling.{other_spelling};
 ghost use Rattle.commands.specs.OtherSpelling as wanted;
 ghost use Rattle.commands.specs.Pipes.{ConvertsPipe};
@@ -11,7 +13,7 @@ ghost use Rattle.command_endings.specs.Printing.{Prints, ending};
 use aig_binary::{Spelling, write};
 use aig_graph::Circuit;
 use circuit_files::{Failure, LazyFile, Outcome, circuit_at};
-use counted_io::{Counted, CountedRead, CountedWrite, WriteError};
+use counted_io::{Counted, CountedRead, CountedWrite};
 use std::alloc::Global;
 use std::rt::Files;
 use stream_paths::{Source, Target};
@@ -32,24 +34,30 @@ fn spelling_for(read: Spelling, chosen: Option<Spelling>) -> Spelling
     chosen.unwrap_or(other(read))
 }
 
-/// Writes the circuit to a file or to standard output.
+/// Writes the circuit to a file or to standard output, of which one is named where that failed.
 fn write_circuit<'a, R: Files, O: CountedWrite>(
     rt: &R,
     circuit: &Circuit,
     spelling: Spelling,
     output: Target<'a>,
     out: &mut O,
-) -> Result<(), WriteError>
+) -> Result<(), Failure<'a>>
     ensures stdout { is_stdout output.entry ≡ true → Writes (O.output out.old)
         (O.output out.new) result (text_in spelling circuit.now) }
     ensures file { is_stdout output.entry ≡ false → O.output out.new ≡ O.output out.old }
+    ensures err { IfErr result (λ failure. (outcome_of failure ≡ Device)
+        × IsAbout (target_name output.entry) failure) }
 {
-    match output {
+    let written = match output {
         Target::Stdout => write(circuit, spelling, out),
         Target::File(path) => {
             let mut writer = Counted::new(LazyFile::new(rt, path));
             write(circuit, spelling, &mut writer)
         }
+    };
+    match written {
+        Ok(()) => Ok(()),
+        Err(_) => Err(Failure::Device(output.name())),
     }
 }
 
@@ -73,6 +81,6 @@ pub fn convert<'a, R: Files, I: CountedRead, O: CountedWrite>(
     drop(spelt);
     match written {
         Ok(()) => Ok(Outcome::Done),
-        Err(_) => Err(Failure::Device(output.name())),
+        Err(failure) => Err(failure),
     }
 }

@@ -1,22 +1,22 @@
 //! The command `retime`.
-ghost use Rattle.std.specs.Prelude.{◌≡◌, true, false, IfErr, IfOk, OnOk};
+ghost use Rattle.std.specs.Prelude.{◌≡◌, ◌⊎◌, true, false, IfErr, IfOk, OnOk};
 ghost use Rattle.counted_io.specs.Output.{Writes, WritesAll};
 ghost use Rattle.certificate_files.specs.Texts.{file_text};
 ghost use Rattle.frames.specs.Answering.{IsAnswered};
 ghost use Rattle.stream_paths.specs.Streams.{is_stdin, is_stdout};
 ghost use Rattle.command_line.specs.StreamUses.{takes_stdout, writes_stdout};
 ghost use Rattle.circuit_files.specs.Outcomes.{outcome_of};
-ghost use Rattle.circuit_files.specs.declared.outcome.Outcome.TheVariants.{Device, Done};
-ghost use Rattle.commands.specs.Pipes.{AnswersPipe, IsPipe, WritesPipe};
+ghost use Rattle.circuit_files.specs.declared.outcome.Outcome.TheVariants.{Done};
+ghost use Rattle.commands.specs.Pipes.{AnswersInput, AnswersPipe, IsPipe, IsToldOf, PrintsRetiming, WritesPipe};
 ghost use Rattle.command_endings.specs.Printing.{EndsAside, Prints, ending};
-ghost use Rattle.commands.specs.RetimingTasks.{AreOptionsOf, EndsPrintingFrames, PrintsAlike, SaysFrames, remaining_of};
+ghost use Rattle.commands.specs.RetimingTasks.{AreOptionsOf, EndsPrintingFrames, HasFailed, PrintsAlike, SaysFrames, remaining_of};
 
 use crate::answer::{Answer, map_counts, map_written, retime_between, retimed_of};
 use aig_graph::{NoMemory, Sequence};
 use certificate_files::{CertFile, Choice, write_cert};
 use certificates::Certificate;
 use circuit_counts::Remaining;
-use circuit_files::{Failure, LazyFile, Outcome};
+use circuit_files::{Failure, LazyFile, Outcome, opened};
 use command_endings::{bytes_of_names, ended};
 use command_line::{Retiming, Shown};
 use counted_io::{Counted, CountedRead, CountedWrite, WriteError};
@@ -25,7 +25,6 @@ use json_reports::{MapCounts, Times};
 use progress::Progress;
 use reports::{print_remaining, print_retiming};
 use std::alloc::{AllocError, Global};
-use std::fs::File;
 use std::mem;
 use std::rt::Files;
 use std::thread::Threads;
@@ -64,12 +63,12 @@ fn retime_input<'a, R: Files + Threads + Sync, I: CountedRead, W: CountedWrite, 
 {
     match task.input {
         Source::Stdin => retime_between(rt, alloc, task, options, stdin, writer, watcher),
-        Source::File(path) => match File::open(rt, path) {
+        Source::File(path) => match opened(rt, path) {
             Ok(file) => {
                 let mut reader = Counted::new(file);
                 retime_between(rt, alloc, task, options, &mut reader, writer, watcher)
             }
-            Err(_) => Err(Failure::Device(path)),
+            Err(failure) => Err(failure),
         },
     }
 }
@@ -88,6 +87,8 @@ fn retime_by<'a, R: Files + Threads + Sync, I: CountedRead, O: CountedWrite, V: 
     ensures answer { IfOk result (λ answer. IsPipe task.now
         → IsAnswered (I.input stdin.old) (O.output out.old)
         (O.output out.new) options.now answer.retimed) }
+    ensures read { IfOk result (λ answer. is_stdin task.now.input ≡ true
+        → AnswersInput task.now (I.input stdin.old) answer.retimed) }
     ensures file { is_stdout task.now.output ≡ false → O.output out.new ≡ O.output out.old }
     ensures prints { IfErr result (λ failure. Prints (outcome_of failure) (O.output out.old)
         (O.output out.new)) }
@@ -111,6 +112,8 @@ fn retimed<'a, R: Files + Threads + Sync, I: CountedRead, O: CountedWrite, V: Fr
 ) -> Result<Answer, Failure<'a>>
     ensures answer { IfOk result (λ answer. IsPipe task.now → AnswersPipe task.now
         (I.input stdin.old) (O.output out.old) (O.output out.new) answer.retimed) }
+    ensures read { IfOk result (λ answer. is_stdin task.now.input ≡ true
+        → AnswersInput task.now (I.input stdin.old) answer.retimed) }
     ensures file { is_stdout task.now.output ≡ false → O.output out.new ≡ O.output out.old }
     ensures prints { IfErr result (λ failure. Prints (outcome_of failure) (O.output out.old)
         (O.output out.new)) }
@@ -171,7 +174,7 @@ fn certify<'a, R: Files, O: CountedWrite>(
     ensures file { writes_stdout task.now.certificates ≡ false
         → O.output out.new ≡ O.output out.old }
     ensures frames { PrintsAlike retimed.new retimed.old }
-    ensures err { IfErr result (λ failure. outcome_of failure ≡ Device) }
+    ensures err { IfErr result (HasFailed task.now.certificates) }
 {
     let Some(target) = task.certificates else {
         return Ok(());
@@ -193,7 +196,13 @@ fn write_beside<'a, R: Files, O: CountedWrite>(
 ) -> Result<(), Failure<'a>>
     ensures file { writes_stdout task.now.map ≡ false → writes_stdout task.now.certificates
         ≡ false → O.output out.new ≡ O.output out.old }
-    ensures err { IfErr result (λ failure. outcome_of failure ≡ Device) }
+    ensures certificates { writes_stdout task.now.map ≡ false → writes_stdout task.now.certificates
+        ≡ true → OnOk result (WritesAll (O.output out.old) (O.output out.new) (file_text (record {
+          choice = task.now.choice;
+          blocks = answer.old.retimed.certificates;
+        }))) }
+    ensures frames { PrintsAlike answer.new.retimed answer.old.retimed }
+    ensures err { IfErr result (λ failure. HasFailed task.now.map failure ⊎ HasFailed task.now.certificates failure) }
 {
     map_written(rt, task, answer, out)?;
     certify(rt, alloc, task, &mut answer.retimed, out)
@@ -223,8 +232,8 @@ fn certified<
     out: &mut O,
     err: &mut E,
 ) -> Result<Timed, Failure<'a>>
-    ensures answer { IfOk result (λ _. IsPipe task.now
-        → WritesPipe task.now (I.input stdin.old) (O.output out.old) (O.output out.new)) }
+    ensures told { IfOk result (λ timed. IsToldOf task.now (I.input stdin.old)
+        (O.output out.old) (O.output out.new) timed.retimed) }
     ensures file { takes_stdout task.now ≡ false → O.output out.new ≡ O.output out.old }
     ensures prints { IfErr result (λ failure. Prints (outcome_of failure) (O.output out.old)
         (O.output out.new)) }
@@ -297,7 +306,9 @@ fn tell_remaining<E: CountedWrite>(
     retimed: &Retimed,
     is_terminal: bool,
     err: &mut E,
-) {
+)
+    ensures { is_terminal ≡ false → E.output err.new ≡ E.output err.old }
+{
     if is_terminal && !task.json && task.shown != Shown::Nothing {
         if let Ok(left) = remaining(alloc, task, retimed) {
             let _ = print_remaining(&left, err);
@@ -351,6 +362,8 @@ pub fn print_retimed<
     out: &mut O,
     err: &mut E,
 ) -> Result<Outcome, Failure<'a>>
+    ensures frames { IfOk result (λ _. PrintsRetiming task.now is_terminal (I.input stdin.old)
+        (O.output out.old) (O.output out.new) (E.output err.new) result) }
     ensures pipe { IfOk result (λ _. IsPipe task.now
         → WritesPipe task.now (I.input stdin.old) (O.output out.old) (O.output out.new)) }
     ensures prints { Prints (ending result) (O.output out.old) (O.output out.new) }

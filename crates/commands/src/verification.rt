@@ -4,6 +4,10 @@ ghost use Rattle.aig_graph.specs.Keep.{names_of};
 ghost use Rattle.reports.specs.Audits.{audit_text};
 ghost use Rattle.command_endings.specs.Printing.{EndsPrinting, Prints, ending};
 ghost use Rattle.commands.specs.Verifying.{EndsWithAudit, IsAuditFor, PrintsAudit, PrintsAuditFor, PrintsAuditOf, held_names, outcome_of_end};
+ghost use Rattle.std.specs.Prelude.{IfErr};
+ghost use Rattle.stream_paths.specs.Streams.{source_name};
+ghost use Rattle.circuit_files.specs.Outcomes.{IsAbout};
+ghost use Rattle.command_endings.specs.Sources.{AreCertificatesAt, IsCircuitAt};
 
 use aig_graph::{Circuit, KeepError};
 use certificate_audits::{Audit, End, audit_blocks, audit_merged};
@@ -122,6 +126,34 @@ fn print_blocks<'a, O: CountedWrite>(
     print_as(alloc, blocks, audit, task.json, out)
 }
 
+/// The circuit that the certificates are checked for.
+fn circuit_of<'a, R: Files, I: CountedRead>(
+    rt: &R,
+    alloc: Global,
+    task: &Verification<'a>,
+    stdin: &mut I,
+) -> Result<aig_binary::SpeltCircuit, Failure<'a>>
+    ensures circuit { IfOk result (IsCircuitAt task.now.input (I.input stdin.old)
+        (I.input stdin.new)) }
+    ensures named { IfErr result (IsAbout (source_name task.now.input)) }
+{
+    circuit_at(rt, alloc, task.input, stdin)
+}
+
+/// The certificates that are checked.
+fn certificates_of<'a, R: Files, I: CountedRead>(
+    rt: &R,
+    alloc: Global,
+    task: &Verification<'a>,
+    stdin: &mut I,
+) -> Result<certificate_files::CertFile, Failure<'a>>
+    ensures certificates { IfOk result (AreCertificatesAt task.now.certificates
+        (I.input stdin.old) (I.input stdin.new)) }
+    ensures named { IfErr result (IsAbout (source_name task.now.certificates)) }
+{
+    certificates_at(rt, alloc, task.certificates, stdin)
+}
+
 /// Prints the audit of the certificates that are read.
 fn print_file<'a, R: Files, I: CountedRead, O: CountedWrite>(
     rt: &R,
@@ -135,7 +167,7 @@ fn print_file<'a, R: Files, I: CountedRead, O: CountedWrite>(
         (I.input stdin.new) (O.output out.old) (O.output out.new)) }
     ensures prints { Prints (ending result) (O.output out.old) (O.output out.new) }
 {
-    match certificates_at(rt, alloc, task.certificates, stdin) {
+    match certificates_of(rt, alloc, task, stdin) {
         Ok(file) => {
             let printed = print_blocks(alloc, circuit, file.blocks.as_slice(), task, out);
             drop(file);
@@ -158,7 +190,7 @@ pub fn print_verification<'a, R: Files, I: CountedRead, O: CountedWrite>(
         (O.output out.old) (O.output out.new)) }
     ensures prints { Prints (ending result) (O.output out.old) (O.output out.new) }
 {
-    match circuit_at(rt, alloc, task.input, stdin) {
+    match circuit_of(rt, alloc, task, stdin) {
         Ok(spelt) => {
             let printed = print_file(rt, alloc, &spelt.circuit, task, stdin, out);
             drop(spelt);
