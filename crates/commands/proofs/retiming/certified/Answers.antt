@@ -17,3 +17,7 @@ returns-in_err-write_beside-clause-prints g c =
     let task = c.args.task.now in
     stops_beside task.map task.certificates c.from_residual-in_err-write_beside.result c.in_err-write_beside.field-0.0 _ _
     c.from_residual-in_err-write_beside.ensures.1 c.in_err-write_beside.ensures.err
+
+pub returns-clause-file : goal.returns-clause-file
+returns-clause-file g c =
+    kept c.args.task.now (g.O.CountedWrite.output c.args.out.now) (g.O.CountedWrite.output c.retimed-ended.new.out) (g.O.CountedWrite.output c.write_beside.new.out) c.retimed-ended.ensures.file c.write_beside.ensures.file
