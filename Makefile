@@ -43,7 +43,7 @@ version:
 install: all
 	install -d $(DESTDIR)$(PREFIX)/bin $(DESTDIR)$(MANDIR) $(DESTDIR)$(BASHDIR) $(DESTDIR)$(ZSHDIR) $(DESTDIR)$(FISHDIR) \
 		$(DESTDIR)$(DATADIR)
-	install -d $(addprefix $(DESTDIR)$(DOCDIR)/,docs/pictures tests $(addprefix examples/,cluster match verilog))
+	install -d $(addprefix $(DESTDIR)$(DOCDIR)/,docs/pictures tests $(addprefix examples/,cluster match proof verilog))
 	install -m 755 "$$(release/make --program)" $(DESTDIR)$(PREFIX)/bin/fretime
 	for name in $(COMMANDS); do $(FILLED) install/$$name.1 > $(DESTDIR)$(MANDIR)/$$name.1; done
 	chmod 644 $(addprefix $(DESTDIR)$(MANDIR)/,$(COMMANDS:=.1))
@@ -56,6 +56,7 @@ install: all
 	install -m 644 examples/*.aag examples/*.py $(DESTDIR)$(DOCDIR)/examples
 	install -m 755 examples/cluster/* $(DESTDIR)$(DOCDIR)/examples/cluster
 	install -m 644 examples/match/*.v examples/match/*.ys examples/match/*.stim $(DESTDIR)$(DOCDIR)/examples/match
+	install -m 644 examples/proof/*.aag examples/proof/*.py $(DESTDIR)$(DOCDIR)/examples/proof
 	install -m 644 examples/verilog/README.md examples/verilog/*.v $(DESTDIR)$(DOCDIR)/examples/verilog
 	install -m 644 examples/verilog/*.py $(DESTDIR)$(DATADIR)
 	install -m 755 examples/verilog/fretime_verilog $(DESTDIR)$(DATADIR)
