@@ -43,12 +43,17 @@ def a_node_frame(entry):
     return round(entry['instructions'] / entry['node_frames']) if both else None
 
 
+def ends_of(entry):
+    """A circuit's frames, and the latches that are left, where the program was run on it."""
+    return ['', ''] if entry['left'] is None else [len(entry['frames']), entry['left']]
+
+
 def cells(entry):
     """A circuit's row of the table."""
     one, four = entry['workers'].get('1', {}), entry['workers'].get('4', {})
     abc, plain = entry.get('abc', {}), entry.get('plain', {})
     pulses, blocking = plain.get('pulses', {}), plain.get('blocking', {})
-    return [entry['circuit'], entry['gates'], entry['latches'], len(entry['frames']), entry['left'], seconds_of(one),
+    return [entry['circuit'], entry['gates'], entry['latches'], *ends_of(entry), seconds_of(one),
             seconds_of(four), megabytes_of(one), millions_of(entry.get('instructions')), a_node_frame(entry) or '',
             abc.get('left', ''), seconds_of(abc), megabytes_of(abc), seconds_of(pulses), megabytes_of(pulses),
             millions_of(pulses.get('instructions')), seconds_of(blocking), megabytes_of(blocking)]
@@ -74,20 +79,28 @@ def span(values):
     return str(values[0]) if values[0] == values[-1] else f'{values[0]} to {values[-1]}'
 
 
+def priority(stored):
+    """That each time was taken at real-time priority, where it was."""
+    runs = [run for entry in stored['circuits'] for run in entry['workers'].values() if 'seconds' in run]
+    return ' at real-time priority' if runs and all(run.get('real_time') for run in runs) else ''
+
+
 def loads(stored):
     return [run['load'] for entry in stored['circuits'] for run in entry['workers'].values() if 'load' in run]
 
 
 def measured(stored):
     """Which program was measured, when and where, in a sentence."""
-    dates = span([entry['date'] for entry in stored['circuits']])
-    load = f', under a load of {span(loads(stored))} running processes' if loads(stored) else ''
+    dates = span([entry['date'] for entry in stored['circuits'] if entry['left'] is not None])
+    load = f',{priority(stored)} under a load of {span(loads(stored))} running processes' if loads(stored) else ''
     if is_of_release(stored):
         which = f'Of the program of `release/`, whose SHA-256 begins with {stored["program"][:12]}'
     else:
         which = ('**Not of the program of `release/`**, which wasn\'t measured yet, but of an earlier one, whose SHA-256 begins with '
                  f'{stored["program"][:12]}')
-    return f'{which}: measured on {dates}, on a machine of the kind {stored["machine"]}{load}.'
+    days = span([entry['abc']['date'] for entry in stored['circuits'] if 'date' in entry.get('abc', {})] or [dates])
+    other = '' if days == dates else f" ABC's times are of {days}."
+    return f'{which}: measured on {dates}, on a machine of the kind {stored["machine"]}{load}.{other}'
 
 
 def found(stored, name):

@@ -49,12 +49,22 @@ def sum_of(program):
         return hashlib.sha256(file.read()).hexdigest()
 
 
+def of_others(entry):
+    """What an entry has that isn't of the program: the circuit, and what others took on the same machine."""
+    others = {name: entry[name] for name in ('circuit', 'gates', 'latches', 'date', 'abc', 'plain') if name in entry}
+    if 'abc' in others:
+        others['abc'] = {'date': entry['date']} | others['abc']
+    return others | {'left': None, 'frames': [], 'workers': {}}
+
+
 def begun(path, program):
-    """What is stored of this program on this machine: nothing of another one stays beside it."""
+    """What is stored of this program on this machine. Of another program nothing stays beside it but what others took there."""
     head = {'machine': measure.kind(), 'program': sum_of(program)}
     stored = read(path) if os.path.exists(path) else {}
-    same = all(stored.get(name) == value for name, value in head.items())
-    return stored if same else head | {'circuits': [], 'tables': {}}
+    if all(stored.get(name) == value for name, value in head.items()):
+        return stored
+    others = map(of_others, stored['circuits']) if stored.get('machine') == head['machine'] else []
+    return head | {'circuits': list(others), 'tables': {}}
 
 
 def write(path, stored):
@@ -63,7 +73,7 @@ def write(path, stored):
 
 
 def put(path, program, found):
-    """Adds what was measured of a circuit. What was measured of another program or on another machine goes."""
+    """Adds what was measured of a circuit. What another program took goes, and all that was measured on another machine."""
     stored = begun(path, program)
     entries = {entry['circuit']: entry for entry in stored['circuits']}
     old = entries.get(found['circuit'])
