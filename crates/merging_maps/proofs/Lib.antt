@@ -1,0 +1,3 @@
+pub mod ReadsHoldLaws
+pub mod MergedStepLaws
+pub mod MergedRunMapLaws
