@@ -1,0 +1,3 @@
+pub mod SameRunLaws
+pub mod SameRoundLaws
+pub mod AgainLaws
