@@ -170,7 +170,7 @@ module _ (g : Graph) (held reads : List ℕ) (valid : IsGraph g) (kept : IsKept 
         (to-test (suc n) ls (λ k latch there. let place : n + suc k ≡ suc n + k = omega arith in subst (λ (j : ℕ). holds_at j ≡ s j) place (each (suc k) latch there)))
 
     -- what a latch reads as has its value whatever comes in
-    steady : (x : Digits) (j : ℕ) (latch : Latch) → slice_get g.latches j ≡ Some latch → value_within g x s (read reads j) ≡ holds_at j
+    pub steady : (x : Digits) (j : ℕ) (latch : Latch) → slice_get g.latches j ≡ Some latch → value_within g x s (read reads j) ≡ holds_at j
     steady x j latch there = by (read reads j) (kept.reading.each j latch there)
       where
         by : (lit : ℕ) → ReadsAs g held reads j latch lit → value_within g x s lit ≡ value_within g (λ i. false) s lit

@@ -1,0 +1,2 @@
+pub mod ReadsStandLaws
+pub mod MergeStepLaws
