@@ -1,6 +1,5 @@
 -- Words as they are drawn, and what is made of them.
-use Rattle.std.proofs.Common.{ℕ, suc, ◌+◌, ◌*◌, ◌/◌, ◌%◌, ◌^◌, ◌≡◌, ◌≢◌, ◌++◌, ◌∷◌, [], Bool, List, map, nat_eq, bit_and, arith, refl, sym, ap, ap₂, ◌∙◌}
-use Rattle.std.specs.List.{range_with_len}
+use Rattle.std.proofs.Common.{ℕ, suc, ◌+◌, ◌/◌, ◌%◌, ◌^◌, ◌≡◌, ◌≢◌, ◌++◌, ◌∷◌, [], Bool, List, nat_eq, bit_and, arith, refl, sym, ap, ap₂, ◌∙◌}
 use Rattle.std.proofs.lemmas.List.FromFn.{map-range_with_len_more}
 use Rattle.std.proofs.lemmas.Nat.Bits.{shr_and_one}
 use Rattle.rand_xoshiro.specs.SplitMix64.{mix_u64}
