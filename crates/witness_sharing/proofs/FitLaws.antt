@@ -1,11 +1,10 @@
 -- What is shared are inputs and latches that there are.
-use Rattle.std.proofs.Common.{inl, inr, ◌⊎◌, ℕ, ◌+◌, ◌<◌, ◌≡◌, length, get_or, slice_get, List, Option, Some, None, arith, ap, sym, ◌∙◌, subst, nat_lt}
+use Rattle.std.proofs.Common.{inl, inr, ℕ, ◌+◌, ◌<◌, ◌≡◌, length, slice_get, List, Option, Some, None, arith, ap, sym, ◌∙◌, nat_lt}
 use Rattle.std.proofs.lemmas.Bool.{ltb-true}
 use Rattle.std.proofs.lemmas.Option.{cond_some, get_or_from_slice_get, slice_get_within}
 use Rattle.variable_tables.specs.Tables.{table}
 use Rattle.variable_tables.proofs.TableLaws.{length-table, table-at}
 use Rattle.aig_graph.specs.Circuits.{Netlist}
-use Rattle.aig_graph.specs.Graph.{first_latch}
 use Rattle.witness_circuits.specs.declared.sharing.Sharing.{Sharing}
 use Rattle.witness_circuits.specs.Witnesses.{IsSharing}
 use Rattle.witness_sharing.specs.Naming.{IsByNames, IsByPlaces, IsSharedBy, place_below}

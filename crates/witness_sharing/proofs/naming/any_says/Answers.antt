@@ -1,4 +1,4 @@
-use Rattle.std.proofs.Common.{ℕ, Bool, ◌≡◌, ◌<◌, ◌∙◌, inl, inr, Some, arith, ap, sym, refl, subst, length, slice_get}
+use Rattle.std.proofs.Common.{ℕ, Bool, ◌≡◌, ◌∙◌, inl, inr, Some, arith, ap, sym, refl, subst, length, slice_get}
 use Rattle.std.proofs.lemmas.Bool.{cases_lt}
 use Rattle.std.proofs.lemmas.Option.{same_Some, slice_get_read, slice_get_within}
 use Rattle.aig_graph.specs.declared.properties.Symbol.{Symbol}

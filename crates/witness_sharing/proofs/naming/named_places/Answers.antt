@@ -1,5 +1,5 @@
-use Rattle.std.proofs.Common.{ℕ, ◌≡◌, ◌<◌, ◌∙◌, Some, arith, ap, sym, refl, subst, length, slice_get, get_or}
-use Rattle.std.proofs.lemmas.Option.{get_or_from_slice_get, slice_get_read}
+use Rattle.std.proofs.Common.{ℕ, ◌≡◌, ◌<◌, Some, arith, ap, refl, length, slice_get, get_or}
+use Rattle.std.proofs.lemmas.Option.{slice_get_read}
 use Rattle.aig_graph.specs.declared.properties.Symbol.{Symbol}
 use Rattle.witness_sharing.proofs.NamingLaws.{taken-all, taken-more, taken-none}
 use Rattle.witness_sharing.proofs.naming.named_places.Goals as goal

@@ -1,4 +1,4 @@
-use Rattle.std.proofs.Common.{ℕ, ◌≡◌, ◌∙◌, ◌+◌, arith, ap, sym, zero-add}
+use Rattle.std.proofs.Common.{ℕ, ◌∙◌, arith, ap, sym, zero-add}
 use Rattle.variable_tables.proofs.TableLaws.{entry, table-end, table-none}
 use Rattle.witness_sharing.specs.Naming.{place_below}
 use Rattle.witness_sharing.proofs.placing.first_places.Goals as goal
