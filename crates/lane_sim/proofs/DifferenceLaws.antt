@@ -1,10 +1,10 @@
 -- Laws of the first difference of two traces.
-use Rattle.std.proofs.Common.{ℕ, ◌+◌, ◌-◌, ◌*◌, ◌/◌, ◌<◌, ◌≤◌, ◌≡◌, inl, inr, ◌∷◌, [], suc, nat_lt, min, Bool, true, false, List, length, map, drop, get_or, slice_get, Option, Some, None, refl, arith, sym, ap, ap₂, ◌∙◌, subst}
+use Rattle.std.proofs.Common.{ℕ, ◌+◌, ◌-◌, ◌*◌, ◌/◌, ◌<◌, ◌≤◌, ◌≡◌, inl, inr, ◌∷◌, [], zero, suc, nat_lt, min, Bool, true, false, List, length, map, drop, get_or, slice_get, Option, Some, None, refl, arith, sym, ap, ap₂, ◌∙◌, subst}
 use Rattle.std.specs.Option.{option_map, IfNone, IfSome, IsSomeAnd, MatchOption}
 use Rattle.std.specs.List.{range_with_len, flat_map}
 use Rattle.std.proofs.Common.{length-append, ◌++◌}
 use Rattle.aig_graph.specs.declared.properties.Props.{Props}
-use Rattle.aig_graph.specs.Streams.{property_literals}
+use Rattle.aig_graph.specs.Streams.{SameShape, property_literals}
 use Rattle.lane_sim.proofs.TableLaws.{map-same}
 use Rattle.std.proofs.lemmas.Bool.{ltb-true, ltb-false}
 use Rattle.std.proofs.lemmas.List.{length-take, length-drop, length-map}
@@ -15,8 +15,9 @@ use Rattle.lane_sim.specs.declared.difference.Place.{Place}
 use Rattle.lane_sim.specs.declared.stimulus.InputSequence.{InputSequence}
 use Rattle.lane_sim.specs.Blocks.{in_lane, block_of}
 use Rattle.lane_sim.specs.Traces.{row_of, trace, then_at, at_place}
-use Rattle.lane_sim.specs.Comparing.{IsFoundIn, AreSame, IsFirstOf, Compares, rows_by, steps_of}
-use Rattle.lane_sim.specs.Differences.{HaveSameShape, IsBefore, IsFirstDifference, at}
+use Rattle.lane_sim.specs.Comparing.{AreAlike, HaveAsMany, IsFoundIn, AreSame, IsFirstOf, Compares, rows_by, steps_of}
+use Rattle.lane_sim.specs.Kept.{for_kept}
+use Rattle.lane_sim.specs.Differences.{IsBefore, IsFirstDifference, at}
 
 -- what a search says of an answer, by its parts
 pub where_none : {A : Type 0} (o : Option A) (P : Type 0) (Q : A → Type 0) → MatchOption o P Q → IfNone o P
@@ -70,9 +71,12 @@ some_within : {X : Type 0} (P : X → Type 0) (xs : List X) (i : ℕ) (o : Optio
 some_within P xs i None at h = absurd h
 some_within P xs i (Some x) at h = slice_get_within xs i x at
 
-map_at : {X Y : Type 0} (xs : List X) (f g : X → Y) → ((i : ℕ) (x : X) → slice_get xs i ≡ Some x → f x ≡ g x) → map f xs ≡ map g xs
-map_at [] f g same = refl
-map_at (x ∷ xs) f g same = ap₂ (λ y ys. y ∷ ys) (same 0 x refl) (map_at xs f g (λ i z at. same (suc i) z at))
+map_both : {X Y : Type 0} (xs ys : List X) (f g : X → Y) → length xs ≡ length ys → ((i : ℕ) (x y : X) → slice_get xs i ≡ Some x → slice_get ys i ≡ Some y → f x ≡ g y)
+    → map f xs ≡ map g ys
+map_both [] [] f g long same = refl
+map_both [] (y ∷ ys) f g long same = absurd (omega arith)
+map_both (x ∷ xs) [] f g long same = absurd (omega arith)
+map_both (x ∷ xs) (y ∷ ys) f g long same = ap₂ (λ z zs. z ∷ zs) (same 0 x y refl refl) (map_both xs ys f g (omega arith) (λ i w z at other. same (suc i) w z at other))
 
 total : List ℕ → ℕ
 total [] = 0
@@ -83,12 +87,12 @@ unfolding total
 pieces_long [] = refl
 pieces_long (xs ∷ xss) = length-append xs (flat_map (λ ys. ys) xss) ∙ ap (λ (n : ℕ). length xs + n) (pieces_long xss)
 
-pub as_many : (c d : Netlist) → HaveSameShape c d → length (property_literals d.props) ≡ length (property_literals c.props)
+pub as_many : (c d : Netlist) → SameShape c d → HaveAsMany c d
 as_many c d same =
     let p = c.props in
     let q = d.props in
-    let pieces : length (flat_map (λ xs. xs) q.justice) ≡ length (flat_map (λ xs. xs) p.justice) = pieces_long q.justice ∙ ap total same.shape.justice ∙ sym (pieces_long p.justice) in
-    long q ∙ omega (arith, same.shape.outputs, same.shape.bad, same.shape.constraints, same.shape.fairness, pieces) ∙ sym (long p)
+    let pieces : length (flat_map (λ xs. xs) q.justice) ≡ length (flat_map (λ xs. xs) p.justice) = pieces_long q.justice ∙ ap total same.justice ∙ sym (pieces_long p.justice) in
+    long q ∙ omega (arith, same.outputs, same.bad, same.constraints, same.fairness, pieces) ∙ sym (long p)
   where
     long : (p : Props) → length (property_literals p) ≡ length p.outputs + length p.bad + length p.constraints + length (flat_map (λ xs. xs) p.justice) + length p.fairness
     long p =
@@ -120,58 +124,79 @@ module _ (c : Netlist) (sequences : List InputSequence) where
       at_sequence s t p inside
       ∙ ap (λ o. then_at o p) (slice_get_past (map (rows_by c sequences s) (range_with_len 0 n)) t (omega (arith, length-map (range_with_len 0 n) (rows_by c sequences s), length-range_with_len 0 n)))
 
-module _ (c d : Netlist) (sequences : List InputSequence) where
-  pub traces_same : AreSame 0 (length sequences) (steps_of sequences) (rows_by c sequences) (rows_by d sequences) → trace c sequences ≡ trace d sequences
+module _ (c d : Netlist) (sequences others : List InputSequence) (alike : AreAlike sequences others) where
+  step_of_other : (s t : ℕ) → t < steps_of sequences s → t < steps_of others s
+  step_of_other s t step = omega (arith, step, alike.long s)
+
+  other_step : (s t p : ℕ) → s < length sequences → t < steps_of sequences s → at_place (trace d others) s t p ≡ slice_get (rows_by d others s t) p
+  other_step s t p inside step = at_step d others s t p (omega (arith, inside, alike.many)) (step_of_other s t step)
+
+  pub traces_same : AreSame 0 (length sequences) (steps_of sequences) (rows_by c sequences) (rows_by d others) → trace c sequences ≡ trace d others
   unfolding trace
-  traces_same same = map_at sequences (λ r. map (row_of c r) (range_with_len 0 (length r.steps))) (λ r. map (row_of d r) (range_with_len 0 (length r.steps))) (λ s r at.
+  traces_same same =
+      map_both sequences others (λ r. map (row_of c r) (range_with_len 0 (length r.steps))) (λ r. map (row_of d r) (range_with_len 0 (length r.steps))) (sym alike.many) (λ s r q at other.
       let here : in_lane sequences s ≡ r = get_or_from_slice_get sequences s r (record { choice = []; steps = [] }) at in
+      let there : in_lane others s ≡ q = get_or_from_slice_get others s q (record { choice = []; steps = [] }) other in
       let inside = slice_get_within sequences s r at in
-      subst (λ (q : InputSequence). map (row_of c q) (range_with_len 0 (length q.steps)) ≡ map (row_of d q) (range_with_len 0 (length q.steps))) here
-      (map-same (λ t. t < steps_of sequences s) (rows_by c sequences s) (rows_by d sequences s) (range_with_len 0 (steps_of sequences s))
+      subst (λ (z : InputSequence). map (row_of c z) (range_with_len 0 (length z.steps)) ≡ map (row_of d q) (range_with_len 0 (length q.steps))) here
+      (subst (λ (z : InputSequence). map (rows_by c sequences s) (range_with_len 0 (steps_of sequences s)) ≡ map (row_of d z) (range_with_len 0 (length z.steps))) there
+      (map-same (λ t. t < steps_of sequences s) (rows_by c sequences s) (rows_by d others s) (range_with_len 0 (steps_of sequences s))
       (λ k e h.
       let long = length-range_with_len 0 (steps_of sequences s) in
       let number = get_or-range_with_len 0 (steps_of sequences s) k e (omega (arith, h, long)) in omega (arith, number, h, long))
-      (λ t step. same s t (omega arith) inside step)))
+      (λ t step. same s t (omega arith) inside step)
+      ∙ ap (λ (n : ℕ). map (rows_by d others s) (range_with_len 0 n)) (sym (alike.long s)))))
 
-  agree : (s t p : ℕ) → s < length sequences → (t < steps_of sequences s → rows_by c sequences s t ≡ rows_by d sequences s t) → at_place (trace c sequences) s t p ≡ at_place (trace d sequences) s t p
+  agree : (s t p : ℕ) → s < length sequences → (t < steps_of sequences s → rows_by c sequences s t ≡ rows_by d others s t) → at_place (trace c sequences) s t p ≡ at_place (trace d others) s t p
   agree s t p inside same =
-      elim (nat_lt t (steps_of sequences s)) as (λ b. nat_lt t (steps_of sequences s) ≡ b → at_place (trace c sequences) s t p ≡ at_place (trace d sequences) s t p) [
+      elim (nat_lt t (steps_of sequences s)) as (λ b. nat_lt t (steps_of sequences s) ≡ b → at_place (trace c sequences) s t p ≡ at_place (trace d others) s t p) [
         | true ↦ λ e.
             let step = ltb-true t (steps_of sequences s) e in
-            at_step c sequences s t p inside step ∙ ap (λ row. slice_get row p) (same step) ∙ sym (at_step d sequences s t p inside step)
+            at_step c sequences s t p inside step ∙ ap (λ row. slice_get row p) (same step) ∙ sym (other_step s t p inside step)
         | false ↦ λ e.
             let past = ltb-false t (steps_of sequences s) e in
-            at_no_step c sequences s t p inside past ∙ sym (at_no_step d sequences s t p inside past)
+            at_no_step c sequences s t p inside past ∙ sym (at_no_step d others s t p (omega (arith, inside, alike.many)) (omega (arith, past, alike.long s)))
       ] refl
 
-  agree_before : (p q : Place) → IsFirstOf 0 (length sequences) (steps_of sequences) (rows_by c sequences) (rows_by d sequences) p → IsBefore q p
-      → at (trace c sequences) q ≡ at (trace d sequences) q
+  agree_before : (p q : Place) → IsFirstOf 0 (length sequences) (steps_of sequences) (rows_by c sequences) (rows_by d others) p → IsBefore q p
+      → at (trace c sequences) q ≡ at (trace d others) q
   agree_before p q h (inl earlier) =
       agree q.sequence q.step q.place (omega (arith, h.below_high)) (λ step. h.sequences_before q.sequence q.step (omega arith) earlier step)
   agree_before p q h (inr (same, inl earlier)) =
-      subst (λ s. at_place (trace c sequences) s q.step q.place ≡ at_place (trace d sequences) s q.step q.place) (sym same)
+      subst (λ s. at_place (trace c sequences) s q.step q.place ≡ at_place (trace d others) s q.step q.place) (sym same)
       (agree p.sequence q.step q.place h.below_high (λ step. h.steps_before q.step earlier))
   agree_before p q h (inr (same, inr (step, earlier))) =
-      subst (λ s. at_place (trace c sequences) s q.step q.place ≡ at_place (trace d sequences) s q.step q.place) (sym same)
-      (subst (λ t. at_place (trace c sequences) p.sequence t q.place ≡ at_place (trace d sequences) p.sequence t q.place) (sym step)
-      (at_step c sequences p.sequence p.step q.place h.below_high h.has_step ∙ h.here.before q.place earlier ∙ sym (at_step d sequences p.sequence p.step q.place h.below_high h.has_step)))
+      subst (λ s. at_place (trace c sequences) s q.step q.place ≡ at_place (trace d others) s q.step q.place) (sym same)
+      (subst (λ t. at_place (trace c sequences) p.sequence t q.place ≡ at_place (trace d others) p.sequence t q.place) (sym step)
+      (at_step c sequences p.sequence p.step q.place h.below_high h.has_step ∙ h.here.before q.place earlier ∙ sym (other_step p.sequence p.step q.place h.below_high h.has_step)))
 
-  pub difference : (p : Place) → IsFirstOf 0 (length sequences) (steps_of sequences) (rows_by c sequences) (rows_by d sequences) p
-      → IsFirstDifference (trace c sequences) (trace d sequences) p
+  pub difference : (p : Place) → IsFirstOf 0 (length sequences) (steps_of sequences) (rows_by c sequences) (rows_by d others) p
+      → IsFirstDifference (trace c sequences) (trace d others) p
   difference p h = record {
-    differs = λ same. h.here.differs (sym (at_step c sequences p.sequence p.step p.place h.below_high h.has_step) ∙ same ∙ at_step d sequences p.sequence p.step p.place h.below_high h.has_step);
+    differs = λ same. h.here.differs (sym (at_step c sequences p.sequence p.step p.place h.below_high h.has_step) ∙ same ∙ other_step p.sequence p.step p.place h.below_high h.has_step);
     first = λ q before. agree_before p q h before;
   }
 
   -- what the blocks give in all
   pub answered : (found : List (Option Place)) (result : Option Place)
-      → ((b : ℕ) → 256 * b < length sequences → IsSomeAnd (slice_get found b) (IsFoundIn c d sequences b))
+      → ((b : ℕ) → 256 * b < length sequences → IsSomeAnd (slice_get found b) (IsFoundIn c d sequences others b))
       → ((i : ℕ) → i < length found → 256 * i < length sequences)
       → MatchOption result ((i : ℕ) → i < length found → get_or found i None ≡ None)
       (λ p. (i : ℕ) × (i < length found) × (get_or found i None ≡ Some p) × ((j : ℕ) → j < i → get_or found j None ≡ None))
-      → MatchOption result (trace c sequences ≡ trace d sequences) (IsFirstDifference (trace c sequences) (trace d sequences))
+      → MatchOption result (trace c sequences ≡ trace d others) (IsFirstDifference (trace c sequences) (trace d others))
   unfolding IsFoundIn
   answered found None each all none =
-      traces_same (none_found sequences (rows_by c sequences) (rows_by d sequences) found each none (λ i h. some_within (IsFoundIn c d sequences i) found i (slice_get found i) refl (each i h)))
+      traces_same (none_found sequences (rows_by c sequences) (rows_by d others) found each none (λ i h. some_within (IsFoundIn c d sequences others i) found i (slice_get found i) refl (each i h)))
   answered found (Some p) each all first =
-      difference p (some_found sequences (rows_by c sequences) (rows_by d sequences) found each p first.0 (all first.0 first.1) first.2 first.3)
+      difference p (some_found sequences (rows_by c sequences) (rows_by d others) found each p first.0 (all first.0 first.1) first.2 first.3)
+
+-- the same sequences, and those for the free latches that were kept
+pub alike_itself : (sequences : List InputSequence) → AreAlike sequences sequences
+alike_itself sequences = record { many = refl; long = λ k. refl }
+
+pub alike_kept : (kept : List ℕ) (sequences : List InputSequence) → AreAlike sequences (map (for_kept kept) sequences)
+alike_kept kept sequences = record { many = length-map sequences (for_kept kept); long = long sequences } where
+  long : (runs : List InputSequence) (k : ℕ) → steps_of (map (for_kept kept) runs) k ≡ steps_of runs k
+  long [] k = refl
+  long (r ∷ runs) zero = refl
+  long (r ∷ runs) (suc k) = long runs k

@@ -4,5 +4,6 @@ pub mod TableLaws
 pub mod BlockLaws
 pub mod TraceLaws
 pub mod StimulusLaws
+pub mod KeptLaws
 pub mod ComparingLaws
 pub mod DifferenceLaws

@@ -49,13 +49,16 @@ pub record HaveRow (xs ys : List (List (List ℕ))) (t : ℕ) : Type 0 where
   pub second : t < length ys
   pub places : length (slice_index_or ys t []) ≡ length (slice_index_or xs t [])
 
--- what comparing a block of the sequences finds
-unfoldable pub IsFoundIn : Netlist → Netlist → List InputSequence → ℕ → Option Place → Type 0
-IsFoundIn c d sequences b found =
-    Compares (256 * b) (256 * b + length (block_of sequences b)) (steps_of sequences) (rows_by c sequences) (rows_by d sequences) found
+-- sequences of two circuits, as many and as long
+pub record AreAlike (sequences others : List InputSequence) : Type 0 where
+  pub many : length others ≡ length sequences
+  pub long : (k : ℕ) → steps_of others k ≡ steps_of sequences k
 
--- the property literals of two circuits, of which there are as many
-pub record AreLiterals (c d : Netlist) (ps qs : List ℕ) : Type 0 where
-  pub first : ps ≡ property_literals c.props
-  pub second : qs ≡ property_literals d.props
-  pub as_many : length (property_literals d.props) ≡ length (property_literals c.props)
+-- what comparing a block of the sequences finds, of two circuits under sequences of their own
+unfoldable pub IsFoundIn : Netlist → Netlist → List InputSequence → List InputSequence → ℕ → Option Place → Type 0
+IsFoundIn c d sequences others b found =
+    Compares (256 * b) (256 * b + length (block_of sequences b)) (steps_of sequences) (rows_by c sequences) (rows_by d others) found
+
+-- the circuits have as many property literals
+abbrev pub HaveAsMany : Netlist → Netlist → Type 0
+HaveAsMany c d = length (property_literals d.props) ≡ length (property_literals c.props)

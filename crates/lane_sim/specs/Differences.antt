@@ -1,5 +1,5 @@
 -- Where two circuits differ under a stimulus.
-use Rattle.std.specs.Prelude.{◌<◌, ◌≡◌, ◌≢◌, ◌⊎◌, Bool, List, Option}
+use Rattle.std.specs.Prelude.{ℕ, ◌<◌, ◌≡◌, ◌≢◌, ◌⊎◌, Bool, List, Option, length}
 use Rattle.aig_graph.specs.Circuits.{Netlist}
 use Rattle.aig_graph.specs.Graph.{free_latches}
 use Rattle.aig_graph.specs.Streams.{SameShape}
@@ -13,6 +13,14 @@ pub record HaveSameShape (c d : Netlist) : Type 0 where
 
 abbrev pub DifferInShape : Netlist → Netlist → Type 0
 DifferInShape c d = HaveSameShape c d → ⊥
+
+-- the same, where d has these free latches of c alone
+pub record HaveKeptShape (kept : List ℕ) (c d : Netlist) : Type 0 where
+  pub shape : SameShape c d
+  pub free : length kept ≡ free_latches d.aig
+
+abbrev pub DifferInKeptShape : List ℕ → Netlist → Netlist → Type 0
+DifferInKeptShape kept c d = HaveKeptShape kept c d → ⊥
 
 -- places by sequence, then by step, then by place in the row
 abbrev pub IsBefore : Place → Place → Type 0

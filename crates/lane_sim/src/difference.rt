@@ -1,21 +1,23 @@
 //! The first place where two circuits differ.
-ghost use Rattle.std.specs.Prelude.{ℕ, ◌≡◌, ◌≢◌, ◌+◌, ◌*◌, ◌^◌, ◌<◌, ◌≤◌, ◌↔◌, MatchOption, IfNone, IfSome, IsSomeAnd, IsErrOf, Some, None, IfOk, IsTrue, option_map, length, slice_get, All, OnOk};
+ghost use Rattle.std.specs.Prelude.{ℕ, ◌≡◌, ◌≢◌, ◌+◌, ◌*◌, ◌^◌, ◌<◌, ◌≤◌, ◌↔◌, MatchOption, IfNone, IfSome, IsSomeAnd, IsErrOf, Some, None, IfOk, IsTrue, option_map, length, map, slice_get, All, OnOk};
 ghost use Rattle.std.specs.List.{slice_index_or};
 ghost use Rattle.aig_graph.specs.Graph.{variable, variables_end};
-ghost use Rattle.aig_graph.specs.Streams.{property_literals};
+ghost use Rattle.aig_graph.specs.Streams.{SameShape, property_literals};
 ghost use Rattle.lane_sim.specs.Blocks.{row_in, block_of, IsBlock};
-ghost use Rattle.lane_sim.specs.Comparing.{IsFirstIn, Compares, HaveRow, IsFoundIn, AreLiterals, packed_rows, steps_of};
+ghost use Rattle.lane_sim.specs.Comparing.{AreAlike, HaveAsMany, IsFirstIn, Compares, HaveRow, IsFoundIn, packed_rows, steps_of};
 ghost use Rattle.lane_sim.specs.Traces.{trace};
-ghost use Rattle.lane_sim.specs.Differences.{HaveSameShape, DifferInShape, IsFirstDifference};
+ghost use Rattle.lane_sim.specs.Differences.{DifferInKeptShape, DifferInShape, HaveKeptShape, HaveSameShape, IsFirstDifference};
+ghost use Rattle.lane_sim.specs.Kept.{for_kept};
 ghost use Rattle.lane_sim.specs.declared.fault.SimError.TheVariants.{Shape};
 
 use crate::block::{Block, block, simulate_block};
 use crate::fault::SimError;
+use crate::kept::sequences_for_kept;
 use crate::lanes::{LANES, Lanes};
-use crate::shape::have_same_shape;
+use crate::shape::{have_kept_shape, have_same_shape};
 use crate::stimulus::{InputSequence, Stimulus};
 use crate::trace::collect_literals;
-use aig_graph::{Circuit, Lit, NoMemory, Sequence};
+use aig_graph::{Circuit, NoMemory, Sequence};
 use rayon::prelude::*;
 use std::alloc::Global;
 use std::thread::Threads;
@@ -94,34 +96,34 @@ fn block_difference(
 fn block_rows(
     alloc: Global,
     circuit: &Circuit,
-    literals: &[Lit],
     sequences: &[InputSequence],
     number: usize,
 ) -> Result<Block, NoMemory>
-    requires literals { literals.now ≡ property_literals circuit.now.props }
-    requires within { 256 * number ≤ length sequences.now }
+    requires { 256 * number ≤ length sequences.now }
     ensures { IfOk result (IsBlock circuit.now.aig (property_literals circuit.now.props)
         (block_of sequences.now number)) }
 {
-    simulate_block(alloc, circuit.aig(), literals, block(sequences, number))
+    let literals = collect_literals(alloc, circuit.props())?;
+    let part = block(sequences, number);
+    simulate_block(alloc, circuit.aig(), literals.as_slice(), part)
 }
 
-/// The first place where two circuits differ in a block of the sequences.
+/// The first place where two circuits differ in a block, each under its own sequences.
 fn compare_block(
     alloc: Global,
     a: &Circuit,
-    a_literals: &[Lit],
     b: &Circuit,
-    b_literals: &[Lit],
     sequences: &[InputSequence],
+    others: &[InputSequence],
     number: usize,
 ) -> Result<Option<Place>, NoMemory>
-    requires literals { AreLiterals a.now b.now a_literals.now b_literals.now }
+    requires literals { HaveAsMany a.now b.now }
+    requires alike { AreAlike sequences.now others.now }
     requires within { 256 * number ≤ length sequences.now }
-    ensures { IfOk result (IsFoundIn a.now b.now sequences.now number) }
+    ensures { IfOk result (IsFoundIn a.now b.now sequences.now others.now number) }
 {
-    let xs = block_rows(alloc, a, a_literals, sequences, number)?;
-    let ys = block_rows(alloc, b, b_literals, sequences, number)?;
+    let xs = block_rows(alloc, a, sequences, number)?;
+    let ys = block_rows(alloc, b, others, number)?;
     let part = block(sequences, number);
     let found = block_difference(xs.as_slice(), ys.as_slice(), part);
     Ok(after(found, LANES * number))
@@ -147,40 +149,20 @@ fn after(found: Option<Place>, first: usize) -> Option<Place>
     }
 }
 
-/// What comparing each block of the sequences finds, in parallel, in order.
+/// What comparing each block finds, in parallel, in order.
 fn compare_blocks(
     rt: &(impl Threads + Sync),
     alloc: Global,
     a: &Circuit,
     b: &Circuit,
     sequences: &[InputSequence],
+    others: &[InputSequence],
 ) -> Result<Vec<Option<Place>>, NoMemory>
-    requires { length (property_literals b.now.props) ≡ length (property_literals a.now.props) }
+    requires literals { HaveAsMany a.now b.now }
+    requires alike { AreAlike sequences.now others.now }
     ensures each { IfOk result (λ found. (i : ℕ) → 256 * i < length sequences.now
-        → IsSomeAnd (slice_get found.items i) (IsFoundIn a.now b.now sequences.now i)) }
-    ensures all { IfOk result (λ found. (i : ℕ) → i < length found.items
-        → 256 * i < length sequences.now) }
-{
-    let a_literals = collect_literals(alloc, a.props())?;
-    let b_literals = collect_literals(alloc, b.props())?;
-    let p = a_literals.as_slice();
-    let q = b_literals.as_slice();
-    compare_all(rt, alloc, a, p, b, q, sequences)
-}
-
-/// The same, with the property literals of each circuit.
-fn compare_all(
-    rt: &(impl Threads + Sync),
-    alloc: Global,
-    a: &Circuit,
-    p: &[Lit],
-    b: &Circuit,
-    q: &[Lit],
-    sequences: &[InputSequence],
-) -> Result<Vec<Option<Place>>, NoMemory>
-    requires { AreLiterals a.now b.now p.now q.now }
-    ensures each { IfOk result (λ found. (i : ℕ) → 256 * i < length sequences.now
-        → IsSomeAnd (slice_get found.items i) (IsFoundIn a.now b.now sequences.now i)) }
+        → IsSomeAnd (slice_get found.items i)
+        (IsFoundIn a.now b.now sequences.now others.now i)) }
     ensures all { IfOk result (λ found. (i : ℕ) → i < length found.items
         → 256 * i < length sequences.now) }
 {
@@ -190,10 +172,11 @@ fn compare_all(
         .map(
             |number: usize| -> Result<Option<Place>, NoMemory>
                 requires within { 256 * number ≤ length sequences.now }
-                requires literals { AreLiterals a.now b.now p.now q.now }
+                requires literals { HaveAsMany a.now b.now }
+                requires alike { AreAlike sequences.now others.now }
                 ensures { IfOk result (IsFoundIn a.entry.now b.entry.now
-                    sequences.entry.now number) }
-            { compare_block(alloc, a, p, b, q, sequences, number) },
+                    sequences.entry.now others.entry.now number) }
+            { compare_block(alloc, a, b, sequences, others, number) },
         )
         .collect(rt, alloc)?;
     found
@@ -212,6 +195,25 @@ fn first_found(found: &[Option<Place>]) -> Option<Place>
         }
     }
     None
+}
+
+/// The first place where the traces of two circuits differ, each under its own sequences.
+fn difference(
+    rt: &(impl Threads + Sync),
+    alloc: Global,
+    a: &Circuit,
+    b: &Circuit,
+    sequences: &[InputSequence],
+    others: &[InputSequence],
+) -> Result<Option<Place>, NoMemory>
+    requires shape { SameShape a.now b.now }
+    requires alike { AreAlike sequences.now others.now }
+    ensures { IfOk result (λ found. MatchOption found
+        (trace a.now sequences.now ≡ trace b.now others.now)
+        (IsFirstDifference (trace a.now sequences.now) (trace b.now others.now))) }
+{
+    let found = compare_blocks(rt, alloc, a, b, sequences, others)?;
+    Ok(first_found(found.as_slice()))
 }
 
 /// The first place, by sequence, then by step, then by place, where the traces of two circuits differ, and `None` where
@@ -234,6 +236,35 @@ pub fn first_difference(
     if !have_same_shape(a, b) {
         return Err(SimError::Shape);
     }
-    let found = compare_blocks(rt, alloc, a, b, stimulus.as_slice())?;
-    Ok(first_found(found.as_slice()))
+    let sequences = stimulus.as_slice();
+    let found = difference(rt, alloc, a, b, sequences, sequences)?;
+    Ok(found)
+}
+
+/// The same where the second circuit has these free latches of the first one's, each of which holds at step 0 what it holds there.
+/// `Shape` where the circuits differ in the number of inputs or properties of a kind, or in the size of a justice property, or the
+/// second one has another number of free latches. Takes room for the stimulus once more.
+pub fn first_difference_kept(
+    rt: &(impl Threads + Sync),
+    alloc: Global,
+    a: &Circuit,
+    b: &Circuit,
+    stimulus: &Stimulus,
+    kept: &[u32],
+) -> Result<Option<Place>, SimError>
+    ensures same_shape { OnOk result (HaveKeptShape kept.now a.now b.now) }
+    ensures none { IfOk result (λ found. IfNone found
+        (trace a.now stimulus.now ≡ trace b.now (map (for_kept kept.now) stimulus.now))) }
+    ensures first { IfOk result (λ found. IfSome found
+        (IsFirstDifference (trace a.now stimulus.now)
+        (trace b.now (map (for_kept kept.now) stimulus.now)))) }
+    ensures shape { IsErrOf result Shape → DifferInKeptShape kept.now a.now b.now }
+{
+    if !have_kept_shape(a, b, kept) {
+        return Err(SimError::Shape);
+    }
+    let sequences = stimulus.as_slice();
+    let others = sequences_for_kept(alloc, sequences, kept)?;
+    let found = difference(rt, alloc, a, b, sequences, others.as_slice())?;
+    Ok(found)
 }

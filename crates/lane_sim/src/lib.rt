@@ -4,6 +4,7 @@
 mod block;
 mod difference;
 mod fault;
+mod kept;
 mod kernel;
 mod lanes;
 mod read;
@@ -12,8 +13,9 @@ mod stimulus;
 mod table;
 mod trace;
 
-pub use difference::{Place, first_difference};
+pub use difference::{Place, first_difference, first_difference_kept};
 pub use fault::{SimError, StimError};
+pub use kept::read_kept;
 pub use kernel::and_lanes;
 pub use read::read_stimulus;
 pub use stimulus::{InputSequence, Stimulus};
