@@ -1,9 +1,9 @@
 -- What a literal is rests on the inputs, the latches and the gates alone.
-use Rattle.std.proofs.Common.{ℕ, suc, zero, ◌+◌, ◌*◌, ◌<◌, ◌≡◌, Bool, false, ◌&&◌, List, [], ◌∷◌, length, map, slice_get, Option, Some, None, refl, arith, ap, sym, ◌∙◌}
+use Rattle.std.proofs.Common.{ℕ, suc, zero, ◌+◌, ◌*◌, ◌<◌, ◌≡◌, Bool, ◌&&◌, List, length, map, slice_get, Option, Some, None, refl, arith, ap, sym, ◌∙◌}
 use Rattle.std.proofs.lemmas.Option.{slice_get_within}
 use Rattle.aig_graph.specs.declared.graph.Gate.{Gate}
 use Rattle.aig_graph.specs.declared.graph.Latch.{Latch}
-use Rattle.aig_graph.specs.Circuits.{AreLiteralsOf, Netlist, IsNetlist}
+use Rattle.aig_graph.specs.Circuits.{AreLiteralsOf}
 use Rattle.aig_graph.specs.Graph.{Graph, IsGraph, IsGateAt, IsLiteralOf, variable, first_gate, first_latch, gate_at, variables_end}
 use Rattle.aig_graph.specs.Value.{next_value, signed, value_within}
 use Rattle.aig_graph.proofs.FoldingLaws.{gate_at-first_gate, gate_at-is}

@@ -1,5 +1,5 @@
 -- The graph of a lifted witness, from the one without gates to the one whose latches go on.
-use Rattle.std.proofs.Common.{ℕ, ◌+◌, ◌<◌, ◌≤◌, ◌≡◌, Bool, true, false, List, [], ◌∷◌, ◌++◌, length, map, take, get_or, slice_get, Some, None, refl, arith, ap, sym, ◌∙◌, subst}
+use Rattle.std.proofs.Common.{ℕ, ◌+◌, ◌<◌, ◌≡◌, Bool, true, false, List, [], ◌∷◌, ◌++◌, length, map, take, slice_get, Some, None, refl, arith, ap, sym, ◌∙◌, subst}
 use Rattle.std.specs.List.{All}
 use Rattle.std.proofs.Math.Seq.{take-length}
 use Rattle.std.proofs.lemmas.List.{length-append, length-map}
@@ -12,8 +12,8 @@ use Rattle.aig_graph.specs.declared.graph.Reset.{Reset}
 use Rattle.aig_graph.specs.declared.literal.TheConstants.{MAX_VARIABLES}
 use Rattle.aig_graph.specs.declared.properties.Props.{Props}
 use Rattle.aig_graph.specs.Building.{without_gates}
-use Rattle.aig_graph.specs.Circuits.{AreLiteralsOf, ArePropsOf, Netlist}
-use Rattle.aig_graph.specs.Graph.{Graph, IsGraph, IsLiteralOf, variable, variables_end}
+use Rattle.aig_graph.specs.Circuits.{AreLiteralsOf, Netlist}
+use Rattle.aig_graph.specs.Graph.{Graph, IsGraph, IsLiteralOf}
 use Rattle.aig_graph.specs.Value.{value_within}
 use Rattle.aig_graph.proofs.GraphLaws.{all_from_slice_get}
 use Rattle.state_maps.specs.States.{Digits, State}
@@ -26,7 +26,7 @@ use Rattle.lifted_witnesses.specs.declared.parts.Parts.{Parts}
 use Rattle.lifted_witnesses.specs.Built.{IsFilled}
 use Rattle.lifted_witnesses.specs.Latches.{AreOwn, with_nexts}
 use Rattle.lifted_witnesses.specs.Lifting.{GoesAs, in_circuit, in_witness}
-use Rattle.lifted_witnesses.specs.Parts.{AreLiftedProps, AreParts, HasPlaces, both_nexts, both_resets}
+use Rattle.lifted_witnesses.specs.Parts.{AreLiftedProps, AreParts, both_nexts, both_resets}
 use Rattle.lifted_witnesses.proofs.AgreeLaws.{AreAlike, literal-alike, literals-alike}
 use Rattle.lifted_witnesses.proofs.LatchLaws.{length-with_nexts, next-read}
 

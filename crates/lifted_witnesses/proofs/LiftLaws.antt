@@ -1,5 +1,5 @@
 -- A witness circuit of a mapped circuit, read through the map, passes the five checks for the circuit.
-use Rattle.std.proofs.Common.{inl, inr, ◌⊎◌, ℕ, suc, zero, ◌+◌, ◌-◌, ◌<◌, ◌≤◌, ◌≡◌, Bool, true, false, List, [], ◌∷◌, length, map, take, count_by, get_or, slice_get, Option, Some, None, refl, arith, ap, sym, ◌∙◌, subst}
+use Rattle.std.proofs.Common.{inl, inr, ◌⊎◌, ℕ, suc, zero, ◌+◌, ◌<◌, ◌≤◌, ◌≡◌, Bool, true, false, List, [], ◌∷◌, length, map, take, count_by, get_or, slice_get, Some, None, refl, arith, ap, sym, ◌∙◌, subst}
 use Rattle.std.specs.List.{All}
 use Rattle.std.proofs.lemmas.Bool.{cases_Bool}
 use Rattle.std.proofs.lemmas.List.Sums.{count_by_more_no, count_by_more_yes}
@@ -8,14 +8,14 @@ use Rattle.aig_graph.specs.declared.graph.Latch.{Latch}
 use Rattle.aig_graph.specs.declared.graph.Reset.{Reset}
 use Rattle.aig_graph.specs.declared.graph.Reset.TheVariants.{Zero, One, Free}
 use Rattle.aig_graph.specs.Circuits.{AreLiteralsOf, Netlist, IsNetlist}
-use Rattle.aig_graph.specs.Graph.{Graph, IsGraph, free_before, is_free}
+use Rattle.aig_graph.specs.Graph.{IsGraph, free_before, is_free}
 use Rattle.aig_graph.specs.Streams.{chosen}
 use Rattle.aig_graph.specs.Value.{Choice, next_value, opening, opening_at, value_within}
 use Rattle.aig_graph.proofs.KindLaws.{element}
 use Rattle.state_maps.specs.States.{Digits, IsAllowed, State, after_step, opening_state}
 use Rattle.state_maps.specs.MapCircuits.{IsMapCircuit, image, is_kept, mapped}
 use Rattle.witness_circuits.specs.declared.sharing.Sharing.{Sharing}
-use Rattle.witness_circuits.specs.Joining.{joined, own_at}
+use Rattle.witness_circuits.specs.Joining.{own_at}
 use Rattle.witness_circuits.specs.Witnesses.{AreJoint, Agree, GoesOn, HasResets, IsGood, IsSharing, IsWitness, bad_or, bad_states}
 use Rattle.witness_circuits.proofs.JoiningLaws.{joined-agrees}
 use Rattle.witness_circuits.proofs.OpeningLaws.{held_choice, opening-twice}

@@ -1,10 +1,10 @@
 -- The three circuits in one graph.
-use Rattle.std.proofs.Common.{ℕ, ◌+◌, ◌<◌, ◌≤◌, ◌≡◌, Bool, false, List, length, map, get_or, refl, arith, ap, sym, ◌∙◌, subst}
-use Rattle.aig_graph.specs.Circuits.{AreLiteralsOf, IsNetlist, Netlist}
-use Rattle.aig_graph.specs.Graph.{Graph, IsGraph, variable, variables_end}
+use Rattle.std.proofs.Common.{ℕ, ◌≡◌, Bool, false, List, length, map, get_or, ap, ◌∙◌, subst}
+use Rattle.aig_graph.specs.Circuits.{IsNetlist, Netlist}
+use Rattle.aig_graph.specs.Graph.{Graph}
 use Rattle.aig_graph.specs.Value.{value_within}
 use Rattle.state_maps.specs.States.{Digits, State}
-use Rattle.state_maps.specs.MapCircuits.{image, mapped}
+use Rattle.state_maps.specs.MapCircuits.{mapped}
 use Rattle.map_circuits.specs.Growing.{Extends}
 use Rattle.map_circuits.proofs.GrowingLaws.{extends-transitive}
 use Rattle.witness_circuits.specs.declared.sharing.Sharing.{Sharing}

@@ -1,14 +1,14 @@
 -- What the constraints and the bad state say.
-use Rattle.std.proofs.Common.{inl, inr, ◌⊎◌, ℕ, ◌+◌, ◌*◌, ◌%◌, ◌<◌, ◌≡◌, ◌↔◌, Bool, true, false, not, List, [], ◌∷◌, ◌++◌, length, map, get_or, refl, arith, ap, sym, ◌∙◌, subst}
+use Rattle.std.proofs.Common.{inl, inr, ◌⊎◌, ℕ, ◌+◌, ◌<◌, ◌≡◌, ◌↔◌, Bool, true, false, not, List, [], ◌∷◌, ◌++◌, length, map, get_or, refl, arith, ap, sym, ◌∙◌, subst}
 use Rattle.std.specs.List.{All}
 use Rattle.std.proofs.Math.Bool.{not-not}
-use Rattle.std.proofs.lemmas.List.{get_or_append_left, get_or-append-add, get_or-map, get_or_default, length-append, length-map, map-append}
-use Rattle.std.proofs.lemmas.List.Elements.{All-append, All-head, All-map, All-nil, All-tail, All-cons}
+use Rattle.std.proofs.lemmas.List.{get_or_append_left, get_or-append-add, get_or-map, length-append, length-map, map-append}
+use Rattle.std.proofs.lemmas.List.Elements.{All-append, All-head, All-map, All-nil, All-cons}
 use Rattle.variable_tables.proofs.ListLaws.{map-map, map-same}
 use Rattle.aig_graph.specs.declared.properties.Props.{Props}
-use Rattle.aig_graph.specs.Circuits.{AreLiteralsOf, ArePropsOf, IsNetlist, Netlist}
-use Rattle.aig_graph.specs.Graph.{Graph, IsGraph, IsLiteralOf, variable, variables_end}
-use Rattle.aig_graph.specs.Value.{signed, value_within}
+use Rattle.aig_graph.specs.Circuits.{AreLiteralsOf, IsNetlist, Netlist}
+use Rattle.aig_graph.specs.Graph.{Graph, IsGraph, IsLiteralOf, variable}
+use Rattle.aig_graph.specs.Value.{value_within}
 use Rattle.aig_graph.proofs.SignLaws.{signed-odd, value_signed_as, variable-signed_as}
 use Rattle.state_maps.specs.States.{Digits, IsAllowed, State}
 use Rattle.state_maps.specs.MapCircuits.{is_kept}

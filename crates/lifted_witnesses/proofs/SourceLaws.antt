@@ -1,10 +1,10 @@
 -- Where a witness's inputs and latches come from.
-use Rattle.std.proofs.Common.{inl, inr, ℕ, ◌+◌, ◌*◌, ◌<◌, ◌≡◌, List, [], ◌∷◌, ◌++◌, length, take, get_or, slice_get, Option, Some, None, arith, ap, sym, ◌∙◌, subst}
+use Rattle.std.proofs.Common.{inl, inr, ℕ, ◌+◌, ◌<◌, ◌≡◌, List, [], ◌∷◌, ◌++◌, length, get_or, slice_get, Option, Some, None, arith, ap, sym, ◌∙◌, subst}
 use Rattle.std.proofs.lemmas.Bool.{cases_lt}
 use Rattle.std.proofs.lemmas.List.{get_or_append_left, get_or_push, length_push}
 use Rattle.std.proofs.lemmas.Option.{get_or_from_slice_get}
-use Rattle.witness_circuits.specs.Joining.{own_at, own_count}
-use Rattle.lifted_witnesses.specs.Literals.{AreSources, source_of}
+use Rattle.witness_circuits.specs.Joining.{own_at}
+use Rattle.lifted_witnesses.specs.Literals.{source_of}
 
 -- the first k of them
 pub record AreFirst (places : List (Option ℕ)) (shared : List ℕ) (own k next : ℕ) (lits : List ℕ) : Type 0 where

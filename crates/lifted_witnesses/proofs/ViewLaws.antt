@@ -1,13 +1,12 @@
 -- What stands for the literals of each circuit has their values.
-use Rattle.std.proofs.Common.{inl, inr, ℕ, suc, ◌+◌, ◌-◌, ◌*◌, ◌<◌, ◌≤◌, ◌≡◌, Bool, true, false, not, List, [], ◌∷◌, ◌++◌, length, map, take, get_or, slice_get, Option, Some, None, refl, arith, ap, sym, ◌∙◌, subst}
-use Rattle.std.specs.List.{All}
+use Rattle.std.proofs.Common.{inl, inr, ℕ, suc, ◌+◌, ◌-◌, ◌*◌, ◌<◌, ◌≤◌, ◌≡◌, Bool, false, List, [], ◌∷◌, ◌++◌, length, get_or, slice_get, Option, Some, None, refl, arith, ap, sym, ◌∙◌, subst}
 use Rattle.std.proofs.lemmas.Bool.{cases_eq, cases_lt}
 use Rattle.std.proofs.lemmas.List.{get_or_append_left, get_or-append_right, get_or-map, get_or_default, length-append}
 use Rattle.std.proofs.lemmas.Option.{get_or_from_slice_get}
 use Rattle.variable_tables.specs.Tables.{table}
 use Rattle.variable_tables.proofs.TableLaws.{length-table, table-at}
-use Rattle.aig_graph.specs.Circuits.{AreLiteralsOf, Netlist}
-use Rattle.aig_graph.specs.Graph.{Graph, IsGraph, IsLiteralOf, first_gate, first_latch, variable, variables_end}
+use Rattle.aig_graph.specs.Circuits.{AreLiteralsOf}
+use Rattle.aig_graph.specs.Graph.{Graph, IsGraph, IsLiteralOf, first_gate, first_latch, variables_end}
 use Rattle.aig_graph.specs.Value.{value_within}
 use Rattle.aig_graph.proofs.KindLaws.{element}
 use Rattle.state_maps.specs.States.{Digits, State}

@@ -1,10 +1,10 @@
 -- The graph of a lifted witness.
-use Rattle.std.specs.Prelude.{ℕ, ◌+◌, ◌≡◌, List, length, slice_get, Some, None}
+use Rattle.std.specs.Prelude.{ℕ, ◌≡◌, length, slice_get, Some, None}
 use Rattle.aig_graph.specs.declared.graph.Latch.{Latch}
 use Rattle.aig_graph.specs.declared.properties.Props.{Props}
 use Rattle.aig_graph.specs.declared.properties.Symbols.{Symbols}
 use Rattle.aig_graph.specs.Circuits.{Netlist}
-use Rattle.aig_graph.specs.Graph.{Graph, IsGraph}
+use Rattle.aig_graph.specs.Graph.{Graph}
 use Rattle.witness_circuits.specs.declared.sharing.Sharing.{Sharing}
 use Rattle.witness_circuits.specs.Joining.{own_at}
 use Rattle.lifted_witnesses.specs.declared.building.Built.{Built}

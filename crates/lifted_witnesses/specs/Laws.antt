@@ -1,5 +1,5 @@
 -- What a lifted witness is.
-use Rattle.std.specs.Prelude.{ℕ, ◌-◌, ◌≡◌, ◌++◌, List, length, map, replicate, Some, None, Option}
+use Rattle.std.specs.Prelude.{ℕ, ◌-◌, ◌++◌, List, length, map, replicate, Some, None, Option}
 use Rattle.std.specs.List.{range_with_len}
 use Rattle.aig_graph.specs.Circuits.{Netlist, IsNetlist}
 use Rattle.aig_graph.specs.Graph.{IsGraph}

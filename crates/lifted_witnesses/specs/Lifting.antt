@@ -1,5 +1,5 @@
 -- A witness circuit of a mapped circuit, read through the map.
-use Rattle.std.specs.Prelude.{ℕ, ◌+◌, ◌*◌, ◌≡◌, ◌++◌, ◌↔◌, ◌⊎◌, Bool, List, [], ◌∷◌, length, map, slice_get, Some, None, codes, decimal}
+use Rattle.std.specs.Prelude.{ℕ, ◌+◌, ◌*◌, ◌≡◌, ◌++◌, ◌↔◌, ◌⊎◌, Bool, List, [], length, slice_get, Some, None, codes, decimal}
 use Rattle.variable_tables.specs.Tables.{table}
 use Rattle.aig_graph.specs.declared.graph.Latch.{Latch}
 use Rattle.aig_graph.specs.declared.properties.Symbol.{Symbol}

@@ -1,10 +1,8 @@
-use Rattle.std.proofs.Common.{ℕ, List, ◌≡◌, ◌<◌, ◌≤◌, ◌∙◌, ◌+◌, arith, ap, sym, subst, length, map, Option}
-use Rattle.std.specs.List.{All}
+use Rattle.std.proofs.Common.{ℕ, List, ◌≡◌, ◌<◌, ◌∙◌, ◌+◌, arith, ap, sym, subst, length, Option}
 use Rattle.std.proofs.Math.Seq.{take-length}
 use Rattle.std.proofs.lemmas.List.{length-map}
 use Rattle.aig_graph.specs.declared.graph.Latch.{Latch}
 use Rattle.aig_graph.specs.declared.graph.Reset.{Reset}
-use Rattle.aig_graph.specs.declared.properties.Props.{Props}
 use Rattle.aig_graph.specs.Building.{without_gates}
 use Rattle.aig_graph.specs.Circuits.{AreLiteralsOf, Netlist}
 use Rattle.aig_graph.specs.Graph.{Graph, IsGraph, variable, variables_end}
@@ -15,7 +13,7 @@ use Rattle.witness_circuits.specs.Joining.{own_count}
 use Rattle.lifted_witnesses.specs.declared.parts.Parts.{Parts}
 use Rattle.lifted_witnesses.specs.Built.{IsFilled}
 use Rattle.lifted_witnesses.specs.Latches.{with_nexts}
-use Rattle.lifted_witnesses.specs.Parts.{AreParts, HasPlaces, both_nexts, both_resets}
+use Rattle.lifted_witnesses.specs.Parts.{AreParts, both_nexts, both_resets}
 use Rattle.lifted_witnesses.proofs.BuildLaws.{is-filled, length-both_resets, nexts-long, nexts-within}
 use Rattle.lifted_witnesses.proofs.PropertyLaws.{parts-grow}
 use Rattle.lifted_witnesses.proofs.building.filled.Goals as goal

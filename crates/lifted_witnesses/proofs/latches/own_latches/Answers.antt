@@ -1,4 +1,4 @@
-use Rattle.std.proofs.Common.{ℕ, ◌≡◌, ◌<◌, ◌∙◌, ◌+◌, List, Option, Some, None, arith, ap, sym, refl, subst, length, take, slice_get, get_or}
+use Rattle.std.proofs.Common.{ℕ, ◌≡◌, ◌∙◌, ◌+◌, List, Option, Some, None, arith, ap, sym, refl, subst, length, slice_get, get_or}
 use Rattle.std.proofs.lemmas.Option.{slice_get-get_or, slice_get_read}
 use Rattle.aig_graph.specs.declared.graph.Latch.{Latch}
 use Rattle.lifted_witnesses.specs.Latches.{AreOwn}

@@ -1,7 +1,7 @@
-use Rattle.std.proofs.Common.{ℕ, ◌≡◌, ◌<◌, ◌≤◌, ◌∙◌, ◌+◌, List, refl, arith, ap, sym, subst, length, take, get_or}
+use Rattle.std.proofs.Common.{ℕ, ◌≡◌, ◌≤◌, ◌∙◌, List, refl, arith, ap, sym, subst, length, take, get_or}
 use Rattle.std.proofs.lemmas.List.{length-take-le, take_all}
 use Rattle.aig_graph.specs.declared.graph.Latch.{Latch}
-use Rattle.aig_graph.specs.Building.{next_at, with_next}
+use Rattle.aig_graph.specs.Building.{with_next}
 use Rattle.aig_graph.specs.Graph.{Graph, IsGraph, IsLiteralOf}
 use Rattle.aig_graph.proofs.GraphLaws.{IsGraph-with_next}
 use Rattle.map_circuits.proofs.ConstrainingLaws.{read-entry}

@@ -1,4 +1,4 @@
-use Rattle.std.proofs.Common.{ℕ, ◌≡◌, ◌<◌, ◌∙◌, List, Option, arith, ap, sym, refl, length, take, get_or, None}
+use Rattle.std.proofs.Common.{ℕ, ◌∙◌, List, Option, arith, ap, get_or, None}
 use Rattle.std.proofs.lemmas.List.{take_all}
 use Rattle.std.proofs.lemmas.List.Sums.{count_by-le-length}
 use Rattle.std.proofs.lemmas.Option.{slice_get-get_or}

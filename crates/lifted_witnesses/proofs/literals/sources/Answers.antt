@@ -1,6 +1,6 @@
-use Rattle.std.proofs.Common.{ℕ, ◌≡◌, ◌<◌, ◌∙◌, ◌+◌, List, Option, Some, arith, ap, sym, refl, length, take, slice_get, get_or, None}
+use Rattle.std.proofs.Common.{ℕ, ◌≡◌, ◌∙◌, ◌+◌, List, Option, Some, arith, ap, refl, length, take, slice_get, get_or, None}
 use Rattle.std.proofs.lemmas.Option.{slice_get-get_or}
-use Rattle.witness_circuits.specs.Joining.{own_at, own_count}
+use Rattle.witness_circuits.specs.Joining.{own_count}
 use Rattle.lifted_witnesses.proofs.CountLaws.{count-lt, count-more, own-none}
 use Rattle.lifted_witnesses.proofs.SourceLaws.{first-more}
 use Rattle.lifted_witnesses.proofs.literals.sources.Goals as goal

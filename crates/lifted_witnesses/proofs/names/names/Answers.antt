@@ -1,4 +1,4 @@
-use Rattle.std.proofs.Common.{ℕ, ◌≡◌, ◌∙◌, ◌+◌, arith, ap, sym, zero-add}
+use Rattle.std.proofs.Common.{ℕ, ◌∙◌, arith, ap, sym, zero-add}
 use Rattle.variable_tables.proofs.TableLaws.{entry, table-end, table-none}
 use Rattle.lifted_witnesses.specs.Lifting.{literal_name}
 use Rattle.lifted_witnesses.proofs.names.names.Goals as goal

@@ -1,8 +1,8 @@
-use Rattle.std.proofs.Common.{ℕ, List, ◌≡◌, ◌≤◌, ◌∙◌, ◌+◌, arith, ap, sym, subst, length, map, false, Bool}
+use Rattle.std.proofs.Common.{ℕ, List, ◌≡◌, ◌∙◌, arith, ap, sym, subst, length}
 use Rattle.std.proofs.lemmas.List.{length-map}
 use Rattle.aig_graph.specs.declared.graph.Latch.{Latch}
 use Rattle.aig_graph.specs.Circuits.{AreLiteralsOf, Netlist}
-use Rattle.aig_graph.specs.Graph.{Graph, first_latch, variables_end}
+use Rattle.aig_graph.specs.Graph.{Graph, variables_end}
 use Rattle.aig_graph.specs.Value.{value_within}
 use Rattle.circuit_instances.specs.Instances.{stand}
 use Rattle.map_circuits.proofs.GrowingLaws.{extends-transitive}

@@ -1,5 +1,4 @@
-use Rattle.std.proofs.Common.{ℕ, Bool, List, ◌≡◌, ◌∙◌, ap, sym, subst, length}
-use Rattle.aig_graph.specs.Circuits.{AreLiteralsOf}
+use Rattle.std.proofs.Common.{length}
 use Rattle.aig_graph.specs.Graph.{Graph}
 use Rattle.witness_circuits.specs.declared.sharing.Sharing.{Sharing}
 use Rattle.witness_circuits.specs.Joining.{joined, own_at}

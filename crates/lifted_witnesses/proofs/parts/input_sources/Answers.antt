@@ -1,4 +1,4 @@
-use Rattle.std.proofs.Common.{ℕ, ◌≡◌, ◌<◌, ◌∙◌, ◌+◌, ◌*◌, List, Option, Some, arith, ap, sym, length, slice_get}
+use Rattle.std.proofs.Common.{ℕ, ◌≡◌, ◌<◌, ◌∙◌, ◌+◌, ◌*◌, List, Option, arith, ap, sym, length, slice_get}
 use Rattle.variable_tables.proofs.TableLaws.{length-table}
 use Rattle.lifted_witnesses.proofs.parts.input_sources.Goals as goal
 
