@@ -1,2 +1,3 @@
 pub mod NamingLaws
+mod RefusalLaws
 pub mod FitLaws

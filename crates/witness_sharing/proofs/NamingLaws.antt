@@ -31,6 +31,22 @@ no-place many i p e = elim (cases_lt i many) [
   | inr past ↦ none-some (Some p) (sym (slice_get_past (replicate {A = Option ℕ} many None) i (omega (arith, past, length-replicate {A = Option ℕ} many None))) ∙ e)
 ]
 
+no-mark : (count i : ℕ) → slice_get (replicate {A = Bool} count false) i ≡ Some true → ⊥
+no-mark count i e = elim (cases_lt i count) [
+  | inl less ↦ (
+      let there : slice_get (replicate {A = Bool} count false) i ≡ Some false =
+      slice_get-get_or (replicate count false) i false (omega (arith, less, length-replicate {A = Bool} count false)) ∙ ap (λ (b : Bool). Some b) (get_or-replicate count i false false less) in
+      false≢true (same_Some false true (sym there ∙ e)))
+  | inr past ↦ none-some true (sym (slice_get_past (replicate {A = Bool} count false) i (omega (arith, past, length-replicate {A = Bool} count false))) ∙ e)
+]
+
+-- one of the first n names says the literal of this place
+abbrev pub IsSaidBefore : ℕ → List Symbol → ℕ → ℕ → Type 0
+IsSaidBefore first names n place = (j : ℕ) × (name : Symbol) × (j < n) × (slice_get names j ≡ Some name) × Says name.name (2 * (first + place))
+
+said-more : (first : ℕ) (names : List Symbol) (n place : ℕ) → IsSaidBefore first names n place → IsSaidBefore first names (n + 1) place
+said-more first names n place said = (said.0, said.1, omega (arith, said.2), said.3, said.4)
+
 -- what the first n names say
 pub record AreTaken (first count : ℕ) (names : List Symbol) (many n : ℕ) (places : List (Option ℕ)) (taken : List Bool) : Type 0 where
   pub long : length places ≡ many
@@ -39,6 +55,7 @@ pub record AreTaken (first count : ℕ) (names : List Symbol) (many n : ℕ) (pl
   pub each : (j : ℕ) (name : Symbol) → j < n → slice_get names j ≡ Some name → IsSaying name.name → (place : ℕ) × (slice_get places name.position ≡ Some (Some place))
   pub once : (i j place : ℕ) → slice_get places i ≡ Some (Some place) → slice_get places j ≡ Some (Some place) → i ≡ j
   pub marks : (i place : ℕ) → slice_get places i ≡ Some (Some place) → slice_get taken place ≡ Some true
+  pub said : (place : ℕ) → slice_get taken place ≡ Some true → IsSaidBefore first names n place
 
 pub taken-none : (first count : ℕ) (names : List Symbol) (many : ℕ) (places : List (Option ℕ)) (taken : List Bool) → places ≡ replicate many None → taken ≡ replicate count false
     → AreTaken first count names many 0 places taken
@@ -51,6 +68,7 @@ taken-none first count names many places taken no_places no_marks =
       each = λ j name less. absurd (omega (arith, less));
       once = λ i j p e. absurd (never i p e);
       marks = λ i p e. absurd (never i p e);
+      said = λ place e. absurd (no-mark count place (ap (λ (ms : List Bool). slice_get ms place) (sym no_marks) ∙ e));
     }
 
 module _ (first count : ℕ) (names : List Symbol) (many n : ℕ) (places : List (Option ℕ)) (taken : List Bool) (name : Symbol) (there : slice_get names n ≡ Some name)
@@ -80,6 +98,7 @@ module _ (first count : ℕ) (names : List Symbol) (many n : ℕ) (places : List
     ];
     once = p.once;
     marks = p.marks;
+    said = λ place e. said-more first names n place (p.said place e);
   }
 
   module _ (place : ℕ) (below : place < length taken) (says : Says name.name (2 * (first + place))) (free : slice_get taken place ≡ Some false) where
@@ -139,6 +158,12 @@ module _ (first count : ℕ) (names : List Symbol) (many n : ℕ) (places : List
       marks = λ i q e. elim (read i q e) [
         | inl here ↦ ap (slice_get marked) here.1 ∙ set-same taken place true below
         | inr before ↦ set-other taken place q true (λ same. unlike i q before.1 (sym same)) ∙ p.marks i q before.1
+      ];
+      said = λ q e. elim (cases_eq place q) [
+        | inl same ↦ (n, name, omega arith, there, subst (λ (r : ℕ). Says name.name (2 * (first + r))) same says)
+        | inr other ↦ (
+            let apart_here : place ≡ q → ⊥ = λ e2. omega (arith, e2, other) in
+            said-more first names n q (p.said q (sym (set-other taken place q true apart_here) ∙ e)))
       ];
     }
 

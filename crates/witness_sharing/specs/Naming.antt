@@ -49,6 +49,10 @@ Takes first name places taken new marked =
     ⊎ ((place : ℕ) × (place < length taken) × Says name.name (2 * (first + place)) × (slice_get taken place ≡ Some false)
     × (new ≡ slice_set places name.position (Some place)) × (marked ≡ slice_set taken place true))
 
+-- a name begins with `= ` and says none of the model's that is left
+abbrev pub IsRefused : ℕ → Symbol → List Bool → Type 0
+IsRefused first name taken = IsSaying name.name × ((place : ℕ) → slice_get taken place ≡ Some false → Says name.name (2 * (first + place)) → ⊥)
+
 -- the model's with this number, if it has one
 abbrev pub place_below : ℕ → ℕ → Option ℕ
 place_below count place = if nat_lt place count then Some place else None

@@ -13,12 +13,22 @@ pub enum SharingError {
 }
 
 impl From<AllocError> for SharingError {
+    ghost use Rattle.std.specs.Prelude.{◌≡◌};
+    ghost use Rattle.witness_sharing.specs.declared.errors.SharingError.TheVariants.{NoMemory};
+
+    ghost from_gives = { λ _ e. e ≡ NoMemory };
+
     fn from(_error: AllocError) -> SharingError {
         SharingError::NoMemory
     }
 }
 
 impl<T: Drop> From<AllocFailed<T>> for SharingError {
+    ghost use Rattle.std.specs.Prelude.{◌≡◌};
+    ghost use Rattle.witness_sharing.specs.declared.errors.SharingError.TheVariants.{NoMemory};
+
+    ghost from_gives = { λ _ e. e ≡ NoMemory };
+
     fn from(_error: AllocFailed<T>) -> SharingError {
         SharingError::NoMemory
     }

@@ -1,9 +1,10 @@
 //! What names say. Names come by rising position, so a place is put once at each.
-ghost use Rattle.std.specs.Prelude.{ℕ, List, ◌≡◌, ◌+◌, ◌*◌, ◌<◌, ◌≤◌, ◌++◌, All, IfOk, MatchOption, OnOk, Some, None, codes, false, length, map, replicate};
+ghost use Rattle.std.specs.Prelude.{ℕ, List, ◌≡◌, ◌+◌, ◌*◌, ◌<◌, ◌≤◌, ◌++◌, All, IfErr, IfOk, IsErrOf, MatchOption, Option, OnOk, Some, None, codes, false, length, map, replicate};
 ghost use Rattle.std.specs.List.Sorted.{IsStrictlyIncreasing};
 ghost use Rattle.aig_graph.specs.declared.literal.TheConstants.{MAX_VARIABLES};
 ghost use Rattle.file_words.specs.Numbers.{number_of};
-ghost use Rattle.witness_sharing.specs.Naming.{AreNamed, Says, Takes, Tells, TellsWhether};
+ghost use Rattle.witness_sharing.specs.Naming.{AreNamed, IsRefused, Says, Takes, Tells, TellsWhether};
+ghost use Rattle.witness_sharing.specs.declared.errors.SharingError.TheVariants.{NoMemory, NoSuchLiteral};
 
 use crate::errors::SharingError;
 use aig_graph::Symbol;
@@ -75,6 +76,7 @@ impl NamedPlaces {
     fn none(alloc: Global, many: usize, count: usize) -> Result<NamedPlaces, SharingError>
         ensures places { IfOk result (λ named. named.places.items ≡ replicate many None) }
         ensures taken { IfOk result (λ named. named.taken.items ≡ replicate count false) }
+        ensures memory { IfErr result (λ error. error ≡ NoMemory) }
     {
         let places = vec![in alloc; None; many]?;
         let taken = vec![in alloc; false; count]?;
@@ -85,8 +87,9 @@ impl NamedPlaces {
     fn take(&mut self, first: u32, name: &Symbol) -> Result<(), SharingError>
         requires position { name.now.position < length self.old.places.items }
         requires few { length self.old.taken.items < MAX_VARIABLES }
-        ensures { OnOk result (Takes first name.now self.old.places.items self.old.taken.items
+        ensures takes { OnOk result (Takes first name.now self.old.places.items self.old.taken.items
             self.new.places.items self.new.taken.items) }
+        ensures refused { IfErr result (λ _. IsRefused first name.now self.old.taken.items) }
     {
         let Some(digits) = digits_of(name.name.as_slice()) else {
             return Ok(());
@@ -114,7 +117,9 @@ pub(crate) fn named_places(
     requires rising { IsStrictlyIncreasing (map (λ name. name.position) names.now) }
     requires below { All (λ name. name.position < many) names.now }
     requires few { count < MAX_VARIABLES }
-    ensures { IfOk result (λ places. AreNamed first count names.now many places.items) }
+    ensures named { IfOk result (λ places. AreNamed first count names.now many places.items) }
+    ensures refused { IsErrOf result NoSuchLiteral → (places : List (Option ℕ))
+        → AreNamed first count names.now many places → ⊥ }
 {
     let mut named = NamedPlaces::none(alloc, many, count)?;
     for name in names {

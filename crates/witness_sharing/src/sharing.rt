@@ -1,8 +1,10 @@
 //! Which latches and inputs a witness circuit shares with its model: those that its names say, where any of them names one, else by
 //! places.
-ghost use Rattle.std.specs.Prelude.{IfOk};
+ghost use Rattle.std.specs.Prelude.{◌≡◌, IfErr, IfOk, IsErrOf};
 ghost use Rattle.witness_circuits.specs.Witnesses.{IsSharing};
 ghost use Rattle.witness_sharing.specs.Naming.{IsByNames, IsByPlaces, IsSharedBy};
+ghost use Rattle.witness_circuits.specs.declared.sharing.Sharing.{Sharing as Shares};
+ghost use Rattle.witness_sharing.specs.declared.errors.SharingError.TheVariants.{NoMemory, NoSuchLiteral};
 
 use crate::errors::SharingError;
 use crate::naming::{any_says, named_places};
@@ -13,7 +15,8 @@ use witness_circuits::Sharing;
 
 /// As the names say.
 fn by_names(alloc: Global, model: &Circuit, witness: &Circuit) -> Result<Sharing, SharingError>
-    ensures { IfOk result (IsByNames model.now witness.now) }
+    ensures named { IfOk result (IsByNames model.now witness.now) }
+    ensures refused { IsErrOf result NoSuchLiteral → (k : Shares) → IsByNames model.now witness.now k → ⊥ }
 {
     model.known();
     witness.known();
@@ -42,7 +45,8 @@ fn by_names(alloc: Global, model: &Circuit, witness: &Circuit) -> Result<Sharing
 
 /// By their numbers.
 fn by_places(alloc: Global, model: &Circuit, witness: &Circuit) -> Result<Sharing, SharingError>
-    ensures { IfOk result (IsByPlaces model.now witness.now) }
+    ensures placed { IfOk result (IsByPlaces model.now witness.now) }
+    ensures memory { IfErr result (λ error. error ≡ NoMemory) }
 {
     model.known();
     witness.known();
@@ -62,7 +66,8 @@ fn by_places(alloc: Global, model: &Circuit, witness: &Circuit) -> Result<Sharin
 
 /// The same, by names where one says a literal.
 fn shared(alloc: Global, model: &Circuit, witness: &Circuit) -> Result<Sharing, SharingError>
-    ensures { IfOk result (IsSharedBy model.now witness.now) }
+    ensures shared { IfOk result (IsSharedBy model.now witness.now) }
+    ensures refused { IsErrOf result NoSuchLiteral → (k : Shares) → IsSharedBy model.now witness.now k → ⊥ }
 {
     let names = witness.symbols();
     if any_says(names.inputs.as_slice()) {
@@ -88,7 +93,7 @@ pub fn sharing_of(
 ) -> Result<Sharing, SharingError>
     ensures shared { IfOk result (IsSharedBy model.now witness.now) }
     ensures fits { IfOk result (IsSharing model.now witness.now) }
+    ensures refused { IsErrOf result NoSuchLiteral → (k : Shares) → IsSharedBy model.now witness.now k → ⊥ }
 {
-    let sharing = shared(alloc, model, witness)?;
-    Ok(sharing)
+    shared(alloc, model, witness)
 }

@@ -1,5 +1,6 @@
+use Rattle.std.proofs.lemmas.Result.{IfOk-weaker}
 use Rattle.witness_sharing.proofs.FitLaws.{shared-fits}
 use Rattle.witness_sharing.proofs.sharing.sharing_of.Goals as goal
 
 pub returns-clause-fits : goal.returns-clause-fits
-returns-clause-fits c = shared-fits c.args.model.now c.args.witness.now c.in_ok-sharing.sharing c.in_ok-sharing.ensures
+returns-clause-fits c = IfOk-weaker c.shared.result _ _ (λ k is. shared-fits c.args.model.now c.args.witness.now k is) c.shared.ensures.shared
