@@ -7,6 +7,8 @@ built=$top/crates/$crate/out/$crate
 release=$top/release/fretime-x86_64-linux
 record=$top/release/record
 known=$top/out/release.known
+listed=$top/out/release.paths
+lines=
 
 # The lines of crates.txt of the program and of all that it stands on: name, options and libraries, without comments.
 program_lines() {
@@ -36,17 +38,24 @@ source_folders() {
     done
 }
 
-lines=$(program_lines)
-folders=$(source_folders)
+# Sets `lines` and `folders`, once.
+name_sources() {
+    if [ -z "$lines" ]; then
+        lines=$(program_lines)
+        folders=$(source_folders)
+    fi
+}
 
 # A line for each source of the program, its SHA-256 and its path, by path.
 source_sums() {
+    name_sources
     (cd "$top" && find $folders ! -type d \( -name '*.rt' -o -name '*.antt' \) -print0 |
         LC_ALL=C sort -z | xargs -0 sha256sum)
 }
 
 # The digest of the sources: the SHA-256 of the program's lines of crates.txt and of the sums of its sources.
 sources_digest() {
+    name_sources
     sum=$({ echo "$lines"; source_sums; } | sha256sum)
     echo "${sum%% *}"
 }
@@ -59,12 +68,7 @@ recorded() {
 # There is a program that was built here, and none of its sources is newer, nor a folder of them, which changes with the names in
 # it.
 is_built() {
-    [ -x "$built" ] && [ -z "$(cd "$top" && find crates.txt $folders -newer "$built" -print -quit 2>&1)" ]
-}
-
-# This is a processor and a system that the release is for.
-is_for_this_system() {
-    [ "$(uname -sm)" = "Linux x86_64" ]
+    [ -x "$built" ] && name_sources && [ -z "$(cd "$top" && find crates.txt $folders -newer "$built" -print -quit 2>&1)" ]
 }
 
 # The release is of these sources.
@@ -77,19 +81,27 @@ is_as_recorded() {
     sum=$(sha256sum < "$release") && [ "$(recorded program)" = "${sum%% *}" ]
 }
 
-# The place on the disk, size and time of the last change of each source, of each folder of them and of each file of the release.
-file_states() {
-    (cd "$top" && find crates.txt release $folders -printf '%i %s %C@\n' 2> /dev/null)
+# The paths of each source, of each folder of them, of the crates' own folders, where others may come, and of each file of the release,
+# each ended by a byte 0.
+checked_paths() {
+    name_sources
+    (cd "$top" && find crates.txt release $folders -print0 && find $(echo "$folders" | sed 's|/[^/]*$||' | uniq) -prune -print0)
+}
+
+# The place on the disk, size and time of the last change of what has the paths of a list.
+states_of() {
+    (cd "$top" && xargs -0 stat -c '%i %s %.9Z' < "$1") 2> /dev/null
 }
 
 # The release is of these sources, as recorded, and runs here, or why not is in `why`. That it is gets remembered, where the folder
-# is the user's own, together with the states of all files, so that the next run reads none of them.
+# is the user's own, together with the paths and states of all files, so that the next run neither looks for them nor reads one.
 is_release_fit() {
-    if [ -s "$known" ] && file_states | cmp -s - "$known"; then return 0; fi
+    if [ -s "$known" ] && [ -s "$listed" ] && states_of "$listed" | cmp -s - "$known"; then return 0; fi
     states=$known.$$
+    paths=$listed.$$
     # (the owner's folder stays the owner's)
     if [ -O "$top" ] && mkdir -p "$top/out" 2> /dev/null; then
-        { file_states > "$states"; } 2> /dev/null || true
+        { checked_paths > "$paths" && states_of "$paths" > "$states"; } 2> /dev/null || true
     fi
     why=
     if ! [ -f "$release" ]; then
@@ -103,9 +115,9 @@ is_release_fit() {
     elif ! "$release" --version > /dev/null 2>&1; then
         why="the release doesn't run on this system (it needs glibc 2.34 or later)"
     elif [ -s "$states" ]; then
-        mv -f "$states" "$known"
+        mv -f "$paths" "$listed" && mv -f "$states" "$known"
     fi
-    rm -f "$states"
+    rm -f "$paths" "$states"
     [ -z "$why" ]
 }
 
@@ -114,6 +126,7 @@ choose_program() {
     program=$built
     if is_built; then return 0; fi
     program=$release
-    why="there is no release for $(uname -sm)"
-    is_for_this_system && is_release_fit
+    system=$(uname -sm)
+    why="there is no release for $system"
+    [ "$system" = "Linux x86_64" ] && is_release_fit
 }
