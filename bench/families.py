@@ -7,6 +7,7 @@ usage: bench/families.py [copies COUNT] FAMILY SIZE .. > FILE
 The same words give the same bytes. `copies COUNT` gives so many copies of the circuit side by side, each with its own inputs.
 """
 import inspect
+import os
 import math
 import random
 import re
@@ -390,8 +391,14 @@ def main(words):
     if len(family) - 1 != len(sizes) or not all(re.fullmatch('[0-9]+', word) for word in family[1:]):
         print(f'{family[0]} takes these numbers: {" ".join(sizes)}', file=sys.stderr)
         return 2
-    for piece in FAMILIES[family[0]](*map(int, family[1:])).pieces(int(count)):
-        sys.stdout.buffer.write(piece)
+    try:
+        for piece in FAMILIES[family[0]](*map(int, family[1:])).pieces(int(count)):
+            sys.stdout.buffer.write(piece)
+        sys.stdout.flush()
+    except BrokenPipeError:
+        # (nobody reads on; what is still kept must not be written at the end either)
+        os.dup2(os.open(os.devnull, os.O_WRONLY), sys.stdout.fileno())
+        return 1
     return 0
 
 
