@@ -67,6 +67,7 @@ complete -c fretime -n '__fish_seen_subcommand_from sim' -x -l seed -d 'What ran
 complete -c fretime -n '__fish_seen_subcommand_from same' -x -l random -d 'Take n random sequences in place of STIM'
 complete -c fretime -n '__fish_seen_subcommand_from same' -x -l steps -d 'The steps of each random sequence, else 100'
 complete -c fretime -n '__fish_seen_subcommand_from same' -x -l seed -d 'What random digits follow from, else 0'
+complete -c fretime -n '__fish_seen_subcommand_from same' -r -l kept -d 'B has the free latches of A in LIST alone'
 complete -c fretime -n '__fish_seen_subcommand_from same' -l json -d 'Print an object of JSON in place of the lines'
 
 complete -c fretime -n '__fish_seen_subcommand_from verify' -x -l keep -d 'Hold each latch with this name; may be repeated'

@@ -104,6 +104,14 @@ def random_sequences(rng):
     return words + rng.choice([[], ['--seed', str(rng.choice([1, 2**32 - 1, rng.randrange(2**32)]))]])
 
 
+def kept_latches(rng, c, d):
+    """A list of as many free latches of the first circuit as the second one has, which it may say wrongly."""
+    free = range(c.free_latches())
+    places = sorted(rng.sample(free, min(len(free), d.free_latches())))
+    text = b''.join(b'%d\n' % place for place in places)
+    return text if rng.random() < 0.8 or not text else random_files.damaged(rng, text)
+
+
 def both_least_sets_agree(c):
     """Every closed set tried, against augmenting paths."""
     held = set() if len(c.latches) % 2 else held_latches(c, list(c.symbols['l'].values())[:1])
@@ -130,6 +138,8 @@ def compare_small(rng, comparison):
     if retimed:
         comparison.run(['same', 'in', 'other', 'stim'], {'in': data, 'other': retimed, 'stim': stim})
         comparison.run(['same', 'in', 'other', *random_sequences(rng)], {'in': data, 'other': retimed})
+        kept = {'in': data, 'other': retimed, 'kept': kept_latches(rng, c, read(retimed)[0])}
+        comparison.run(['same', 'in', 'other', *random_sequences(rng), '--kept', 'kept'], kept)
         found = random_files.witness(rng, read(retimed)[0], rng.randint(0, 4))
         found = found if rng.random() < 0.8 else random_files.damaged(rng, found)
         comparison.run(['witness', 'in', 'other', 'wit', *set(words) & {'--merge'}], {'in': data, 'other': retimed, 'wit': found})

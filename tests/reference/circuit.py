@@ -55,10 +55,11 @@ class Circuit:
         justice = [lit for lits in self.justice for lit in lits]
         return self.outputs + self.bad + self.constraints + justice + self.fairness
 
-    def shape(self):
+    def shape(self, kept=None):
+        """What circuits that are compared have in common; of free latches those at these places alone, where there is a list."""
         sizes = [len(lits) for lits in self.justice]
         lists = (self.outputs, self.bad, self.constraints, self.fairness)
-        return self.inputs, self.free_latches(), sizes, [len(lits) for lits in lists]
+        return self.inputs, self.free_latches() if kept is None else len(kept), sizes, [len(lits) for lits in lists]
 
     def with_parts(self, latches, gates, mapped, latch_names):
         """The same inputs, properties and names over other latches and gates."""

@@ -10,7 +10,7 @@ from reference.merging import merge_counts
 from reference.pictures import MOST_NODES, has_name, neighbourhood, nodes, picture
 from reference.reading import Fault, read
 from reference.retiming import NoSuchName, frames_of, held_latches, passable, retimed
-from reference.simulation import difference_text, is_too_long, random_stimulus, read_stimulus, trace, trace_text
+from reference.simulation import difference_text, is_too_long, random_stimulus, read_kept, read_stimulus, trace, trace_text
 from reference.witnesses import carried_text
 
 PATHS = {'retime': 2, 'batch': 1, 'stat': 1, 'convert': 2, 'sim': 2, 'same': 3, 'verify': 2, 'check': 3, 'dot': 2, 'witness': 3}
@@ -19,11 +19,11 @@ OPTIONS = {'retime': {'--ascii', '--binary', '--workers', '--frames', '--near', 
            'verify': {'--keep', '--merge'}, 'dot': {'--frame', '--merge', '--keep', '--around', '--depth'},
            'batch': {'--ascii', '--binary', '--workers', '--frames', '--near', '--merge'}, 'convert': {'--ascii', '--binary'},
            'stat': {'--merge'}, 'witness': {'--merge'}, 'sim': {'--random', '--steps', '--seed'},
-           'same': {'--random', '--steps', '--seed'}}
+           'same': {'--random', '--steps', '--seed', '--kept'}}
 WRITING = {'retime', 'convert', 'dot'}
 GREATEST = {'--workers': 64, '--frames': 2**28, '--depth': 100, '--random': 2**20, '--steps': 2**22, '--seed': 2**32 - 1}
 LEAST = {'--seed': 0}
-VALUED = {'--workers', '--frames', '--keep', '--cert', '--map', '--around', '--depth', '--random', '--steps', '--seed'}
+VALUED = {'--workers', '--frames', '--keep', '--cert', '--map', '--around', '--depth', '--random', '--steps', '--seed', '--kept'}
 BESIDE = ('--map', '--cert')
 LINES = 2**20
 
@@ -92,7 +92,7 @@ def parsed(words):
     if {'--map', '--merge'} <= set(options):
         raise Ends(2, 'error: --map with --merge')
     outputs = paths[1:] if command in WRITING else []
-    if paths[:len(paths) - len(outputs)].count('-') > 1:
+    if (paths[:len(paths) - len(outputs)] + options.get('--kept', [])).count('-') > 1:
         raise Ends(2, 'error: standard input is read once')
     if (outputs + beside(options)).count('-') > 1:
         raise Ends(2, 'error: standard output is written once')
@@ -153,6 +153,17 @@ def stimulus_of(paths, options, c):
         return read_stimulus(bytes_of(paths[-1]), c.inputs, c.free_latches())
     except Fault as fault:
         raise Ends(1, f'{source_name(paths[-1])}: {fault}') from fault
+
+
+def kept_of(options, c, d):
+    """The places among the free latches of the first circuit of those of the second: of the list that is given, else all."""
+    if '--kept' not in options:
+        return None
+    path = options['--kept'][0]
+    try:
+        return read_kept(bytes_of(path), c.free_latches(), d.free_latches())
+    except Fault as fault:
+        raise Ends(1, f'{source_name(path)}: {fault}') from fault
 
 
 def write_file(path, data):
@@ -263,7 +274,8 @@ def sim(paths, options):
 
 def same(paths, options):
     c, d = circuit_of(paths[0])[0], circuit_of(paths[1])[0]
-    said = difference_text(c, d, stimulus_of(paths, options, c))
+    kept = kept_of(options, c, d)
+    said = difference_text(c, d, stimulus_of(paths, options, c), kept)
     return {'same\n': 0, 'shapes differ\n': 1}.get(said, 5), said
 
 

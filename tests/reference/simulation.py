@@ -29,6 +29,22 @@ def read_stimulus(data, inputs, free):
     return sequences
 
 
+def read_kept(data, free, count):
+    """Places among so many free latches, a line each."""
+    kept, offset = [], 0
+    lines = data.split(b'\n')
+    if lines[-1] == b'':
+        lines.pop()
+    for line in lines:
+        if not re.fullmatch(rb'[0-9]+', line) or int(line) not in range(kept[-1] + 1 if kept else 0, free):
+            raise Fault('BadLine', offset)
+        kept.append(int(line))
+        offset += len(line) + 1
+    if len(kept) != count:
+        raise Fault('Width', len(data))
+    return kept
+
+
 def words_of(seed):
     """The words of SplitMix64 from a seed."""
     while True:
@@ -92,10 +108,12 @@ def trace_text(rows_of_sequences):
     return ''.join(lines)
 
 
-def difference_text(c, d, sequences):
-    if c.shape() != d.shape():
+def difference_text(c, d, sequences, kept=None):
+    """Where two circuits differ first; the second has the free latches of the first at these places, else all."""
+    if c.shape(kept) != d.shape():
         return 'shapes differ\n'
-    for s, (one, other) in enumerate(zip(trace(c, sequences), trace(d, sequences))):
+    others = sequences if kept is None else [([choice[place] for place in kept], rows) for choice, rows in sequences]
+    for s, (one, other) in enumerate(zip(trace(c, sequences), trace(d, others))):
         for t, (row, another) in enumerate(zip(one, other)):
             for p, bits in enumerate(zip(row, another)):
                 if bits[0] != bits[1]:

@@ -38,6 +38,11 @@ pub record IsSource (matches : ArgMatches) (id : List ℕ) (source : Source) : T
   pub given : IsGiven matches id path
   pub stands_for : source ≡ source_of path
 
+-- so where the argument has a value, and none where it has none
+abbrev pub IsSomeSource : ArgMatches → List ℕ → Option Source → Type 0
+IsSomeSource matches id (Some source) = IsSource matches id source
+IsSomeSource matches id None = first_value (found_of matches) id ≡ None
+
 -- what is written is what the first value of the argument with this id stands for
 pub record IsTarget (matches : ArgMatches) (id : List ℕ) (target : Target) : Type 0 where
   pub path : Bor (List ℕ)
@@ -136,6 +141,7 @@ pub record IsSimulation (matches : ArgMatches) (simulation : Simulation) : Type 
 pub record IsComparison (matches : ArgMatches) (comparison : Comparison) : Type 0 where
   pub first : IsSource matches (codes "A") comparison.first
   pub second : IsSource matches (codes "B") comparison.second
+  pub kept : IsSomeSource matches (codes "kept") comparison.kept
   pub stimuli : AreStimuli matches comparison.stimuli
   pub json : IsFlag matches (codes "json") comparison.json
 

@@ -23,8 +23,13 @@ with_stimulus (Random sequences) = []
 abbrev pub sources_of_simulation : Simulation → List Source
 sources_of_simulation simulation = simulation.input ∷ with_stimulus simulation.stimuli
 
+-- a source more, where there is one
+abbrev pub with_source : Option Source → List Source → List Source
+with_source None sources = sources
+with_source (Some source) sources = source ∷ sources
+
 abbrev pub sources_of_comparison : Comparison → List Source
-sources_of_comparison comparison = comparison.first ∷ comparison.second ∷ with_stimulus comparison.stimuli
+sources_of_comparison comparison = comparison.first ∷ comparison.second ∷ with_source comparison.kept (with_stimulus comparison.stimuli)
 
 -- what a task reads
 abbrev pub sources_of : Task → List Source

@@ -2,7 +2,7 @@
 //! which argument it comes from; that the library matched the words as it should is only tested.
 ghost use Rattle.std.specs.Prelude.{◌≡◌, ◌^◌, IfOk, IfSome, MatchOption, None, codes, map};
 ghost use Rattle.clap.specs.Words.{first_value, found_of};
-ghost use Rattle.command_line.specs.Asking.{AreSequences, AreStimuli, Asks, AsksFor, IsChoice, IsFlag, IsNumber, IsShown, IsSomeTarget, IsSource, IsSpelling, values_of};
+ghost use Rattle.command_line.specs.Asking.{AreSequences, AreStimuli, Asks, AsksFor, IsChoice, IsFlag, IsNumber, IsShown, IsSomeSource, IsSomeTarget, IsSource, IsSpelling, values_of};
 ghost use Rattle.command_line.specs.StreamUses.{UsesStreamsOnce};
 ghost use Rattle.command_line.specs.declared.task.Task.TheVariants.{Dot, Retime, Verify};
 
@@ -22,6 +22,13 @@ use stream_paths::{Source, Target};
 /// What the argument with this id, a path that is read, stands for.
 fn source<'a>(matches: &ArgMatches<'a>, id: &str) -> Option<Source<'a>>
     ensures { IfSome result (IsSource matches.now id.now) }
+{
+    Some(Source::of(matches.get_str(id)?))
+}
+
+/// The same, where the argument is given.
+fn source_if_given<'a>(matches: &ArgMatches<'a>, id: &str) -> Option<Source<'a>>
+    ensures { IsSomeSource matches.now id.now result }
 {
     Some(Source::of(matches.get_str(id)?))
 }
@@ -279,6 +286,7 @@ fn comparison<'a>(matches: &ArgMatches<'a>) -> Option<Task<'a>>
     Some(Task::Same(Comparison {
         first: source(matches, "A")?,
         second: source(matches, "B")?,
+        kept: source_if_given(matches, "kept"),
         stimuli: stimuli(matches)?,
         json: json(matches),
     }))

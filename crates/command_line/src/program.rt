@@ -331,6 +331,15 @@ fn sim<'a>(alloc: Global) -> Result<Command<'a>, AllocError> {
     with_stimuli(alloc, command, "The stimulus")
 }
 
+/// The list of the free latches that retiming kept.
+fn kept<'a>(alloc: Global) -> Arg<'a> {
+    Arg::new(alloc, "kept")
+        .long("kept")
+        .value_name("LIST")
+        .action(ArgAction::Set)
+        .help("B has the free latches of A in LIST alone")
+}
+
 fn same<'a>(alloc: Global) -> Result<Command<'a>, AllocError> {
     let command = Command::new(alloc, "same")
         .about("Finds the first difference of two circuits under a stimulus")
@@ -339,6 +348,7 @@ fn same<'a>(alloc: Global) -> Result<Command<'a>, AllocError> {
         .arg(path(alloc, "A", "The first AIGER file"));
     let command = with(command, path(alloc, "B", "The second AIGER file"));
     let command = with_stimuli(alloc, command, "The stimulus, with the widths of A");
+    let command = with(command, kept(alloc));
     with(command, json(alloc))
 }
 

@@ -31,13 +31,16 @@ fn stdin_uses_of_simulation(simulation: &Simulation<'_>) -> usize
     }
 }
 
-/// How many of the circuits and the stimulus are standard input.
+/// How many of the circuits, the list and the stimulus are standard input.
 fn stdin_uses_of_comparison(comparison: &Comparison<'_>) -> usize
     ensures { result ≡ count_by is_stdin (sources_of_comparison comparison.now) }
 {
-    match comparison.stimuli {
-        Stimuli::Read(stimulus) => stdin_count(&[comparison.first, comparison.second, stimulus]),
-        Stimuli::Random(_) => stdin_count(&[comparison.first, comparison.second]),
+    let (first, second) = (comparison.first, comparison.second);
+    match (comparison.kept, comparison.stimuli) {
+        (Some(kept), Stimuli::Read(stimulus)) => stdin_count(&[first, second, kept, stimulus]),
+        (Some(kept), Stimuli::Random(_)) => stdin_count(&[first, second, kept]),
+        (None, Stimuli::Read(stimulus)) => stdin_count(&[first, second, stimulus]),
+        (None, Stimuli::Random(_)) => stdin_count(&[first, second]),
     }
 }
 

@@ -95,6 +95,8 @@ pub struct Comparison<'a> {
     pub first: Source<'a>,
     /// The second circuit.
     pub second: Source<'a>,
+    /// The list of the free latches of the first that the second has; `None` where it has each.
+    pub kept: Option<Source<'a>>,
     /// What both are simulated under, with the widths of the first.
     pub stimuli: Stimuli<'a>,
     /// Whether an object of JSON is printed in place of the line.

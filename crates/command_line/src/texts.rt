@@ -167,6 +167,11 @@ circuits differ.
 Without a stimulus at hand: --random 256 --steps 1000. 'sim' with the same
 numbers takes the same sequences.
 
+Where 'retime' left free latches out, B has fewer. LIST has the place of each of
+B's among those of A, from 0, a line each, in order:
+  fretime retime a.aag b.aag --json | jq '.free_kept[]' > kept
+  fretime same a.aag b.aag --kept kept --random 256
+
 Exit status: 0 same, 1 a file is refused, shapes differ or so many steps take
 too much memory, 2 command line, 3 device, 4 out of memory, 5 they differ.";
 

@@ -38,8 +38,8 @@ pub const BAD_LINE: Page = Page {
 space at either end: a literal for an input or a property, two or three numbers
 for a latch, three for a gate. No empty line stands between. A line of a
 stimulus begins with '=' or ':', and then has digits 0 and 1; one of a batch's
-list is UTF-8 with one tab; docs/FORMAT.md has those of certificates and
-witnesses.",
+list is UTF-8 with one tab; one of a list of kept latches is a place above those
+before it; docs/FORMAT.md has those of certificates and witnesses.",
     advice: "Look at the line that begins at the offset. Where each line ends with a
 carriage return, drop them: tr -d '\\r' < in.aag > unix.aag",
 };

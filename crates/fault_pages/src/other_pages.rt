@@ -2,10 +2,11 @@
 use crate::page::Page;
 
 pub const WIDTH: Page = Page {
-    meaning: "A line has another number of values than there are latches or inputs.",
+    meaning: "There are more or fewer values than latches or inputs.",
     rule: "In a stimulus a line '=' has a digit for each free latch, and a line ':' one
 for each input, of A where two circuits are compared. The second line of values
-of a witness has one for each latch, each further line one for each input.",
+of a witness has one for each latch, each further line one for each input. A
+list of kept latches has a line for each free latch of B.",
     advice: "Ask 'fretime stat IN' for the number of inputs and of free latches.",
 };
 

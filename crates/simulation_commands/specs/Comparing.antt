@@ -3,7 +3,7 @@ use Rattle.std.specs.Prelude.{ℕ, ◌≡◌, Bool, true, false, List, Some, Non
 use Rattle.aig_graph.specs.Circuits.{Netlist}
 use Rattle.aig_binary.specs.declared.reading.SpeltCircuit.{SpeltCircuit}
 use Rattle.lane_sim.specs.Traces.{trace}
-use Rattle.lane_sim.specs.Differences.{HaveSameShape, DifferInShape, IsFirstDifference}
+use Rattle.lane_sim.specs.Differences.{IsFirstDifference}
 use Rattle.lane_sim.specs.declared.stimulus.InputSequence.{InputSequence}
 use Rattle.reports.specs.Differences.{difference_text, shapes_text}
 use Rattle.serde_json.specs.Data.{Data}
@@ -17,15 +17,17 @@ use Rattle.circuit_files.specs.declared.outcome.Outcome.{Outcome}
 use Rattle.circuit_files.specs.declared.outcome.Outcome.TheVariants as ends
 use Rattle.command_endings.specs.Printing.{EndsWith}
 use Rattle.command_endings.specs.Sources.{IsCircuitAt}
+use Rattle.simulation_commands.specs.Keeping.{AreSharedAt, HaveShape, sequences_for}
 use Rattle.simulation_commands.specs.Stimulating.{AreStimuliAt}
+use Rattle.simulation_commands.specs.declared.kept.Shared.{Shared}
 use Rattle.simulation_commands.specs.declared.comparison.Finding.{Finding}
 use Rattle.simulation_commands.specs.declared.comparison.Finding.TheVariants.{Same, Differ, ShapesDiffer}
 
--- what is found of two circuits under a stimulus
-abbrev pub IsFinding : Netlist → Netlist → List InputSequence → Finding → Type 0
-IsFinding c d stimulus Same = HaveSameShape c d × (trace c stimulus ≡ trace d stimulus)
-IsFinding c d stimulus (Differ place) = HaveSameShape c d × IsFirstDifference (trace c stimulus) (trace d stimulus) place
-IsFinding c d stimulus ShapesDiffer = DifferInShape c d
+-- what is found of two circuits, the second of which has these free latches of the first, under a stimulus of the first
+abbrev pub IsFinding : Shared → Netlist → Netlist → List InputSequence → Finding → Type 0
+IsFinding shared c d stimulus Same = HaveShape shared c d × (trace c stimulus ≡ trace d (sequences_for shared stimulus))
+IsFinding shared c d stimulus (Differ place) = HaveShape shared c d × IsFirstDifference (trace c stimulus) (trace d (sequences_for shared stimulus)) place
+IsFinding shared c d stimulus ShapesDiffer = HaveShape shared c d → ⊥
 
 -- what is printed of it, in a line or for other programs, and how the run ends
 abbrev pub finding_text : Finding → List ℕ
@@ -48,18 +50,25 @@ abbrev pub printed_finding : Bool → Finding → List ℕ
 printed_finding true finding = json_line (finding_object finding)
 printed_finding false finding = finding_text finding
 
--- what is found of two circuits under what is asked for, with the widths of the first
-pub record IsFindingUnder (c d : Netlist) (stimuli : Stimuli) (before after : Input) (finding : Finding) : Type 0 where
+-- what is found of them under what is asked for, with the widths of the first
+pub record IsFindingBy (shared : Shared) (c d : Netlist) (stimuli : Stimuli) (before after : Input) (finding : Finding) : Type 0 where
   pub sequences : List InputSequence
   pub under : AreStimuliAt stimuli c before after sequences
-  pub is : IsFinding c d sequences finding
+  pub is : IsFinding shared c d sequences finding
+
+-- the same by the free latches of the task's list, which is read first
+pub record IsFindingUnder (c d : Netlist) (task : Comparison) (before after : Input) (finding : Finding) : Type 0 where
+  pub shared : Shared
+  pub between : Input
+  pub are : AreSharedAt task.kept c d before between shared
+  pub found : IsFindingBy shared c d task.stimuli between after finding
 
 -- what is found of a circuit and the second one of the task, which is read, under what the task asks for
 pub record IsFindingWith (c : Netlist) (task : Comparison) (before after : Input) (finding : Finding) : Type 0 where
   pub spelt : SpeltCircuit
   pub between : Input
   pub read : IsCircuitAt task.second before between spelt
-  pub found : IsFindingUnder c spelt.circuit task.stimuli between after finding
+  pub found : IsFindingUnder c spelt.circuit task between after finding
 
 -- what is found of the circuits of the task, which are read in their order, under what it asks for
 pub record IsFindingOf (task : Comparison) (before after : Input) (finding : Finding) : Type 0 where

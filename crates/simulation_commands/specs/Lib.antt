@@ -1,3 +1,4 @@
 pub mod Comparing
+pub mod Keeping
 pub mod Simulating
 pub mod Stimulating

@@ -1,16 +1,18 @@
 //! The command `same`.
 ghost use Rattle.std.specs.Prelude.{◌≡◌, IfOk};
 ghost use Rattle.command_objects.specs.Objects.{EndsPrintingObject};
-ghost use Rattle.simulation_commands.specs.Comparing.{IsFinding, IsFindingOf, IsFindingUnder, IsFindingWith, PrintsFinding, finding_object, finding_text, outcome_of_finding, printed_finding};
+ghost use Rattle.simulation_commands.specs.Comparing.{IsFinding, IsFindingBy, IsFindingOf, IsFindingUnder, IsFindingWith, PrintsFinding, finding_object, finding_text, outcome_of_finding, printed_finding};
+ghost use Rattle.simulation_commands.specs.declared.kept.Shared.TheVariants.{Each, Kept};
 ghost use Rattle.command_endings.specs.Printing.{EndsPrinting, EndsWith, Prints, ending};
 
+use crate::kept::{Shared, shared_by};
 use crate::stimuli::stimuli_for;
-use aig_graph::Circuit;
+use aig_graph::{Circuit, Sequence};
 use circuit_files::{Failure, Outcome, circuit_at};
 use command_endings::ended;
 use command_line::Comparison;
 use counted_io::{CountedRead, CountedWrite};
-use lane_sim::{Place, SimError, Stimulus, first_difference};
+use lane_sim::{Place, SimError, Stimulus, first_difference, first_difference_kept};
 use reports::{print_difference, print_shapes_differ};
 use std::alloc::Global;
 use std::rt::Files;
@@ -33,13 +35,67 @@ fn compare<'a, R: Threads + Sync>(
     second: &Circuit,
     stimulus: &Stimulus,
 ) -> Result<Finding, Failure<'a>>
-    ensures { IfOk result (IsFinding first.now second.now stimulus.now) }
+    ensures { IfOk result (IsFinding Each first.now second.now stimulus.now) }
 {
     match first_difference(rt, alloc, first, second, stimulus) {
         Ok(None) => Ok(Finding::Same),
         Ok(Some(place)) => Ok(Finding::Differ(place)),
         Err(SimError::Shape) => Ok(Finding::ShapesDiffer),
         Err(SimError::NoMemory) => Err(Failure::Memory),
+    }
+}
+
+/// Compares two circuits, the second of which has the free latches of the first at these places.
+fn compare_kept<'a, R: Threads + Sync>(
+    rt: &R,
+    alloc: Global,
+    first: &Circuit,
+    second: &Circuit,
+    kept: &Sequence<u32>,
+    stimulus: &Stimulus,
+) -> Result<Finding, Failure<'a>>
+    ensures { IfOk result (IsFinding (Kept kept.now) first.now second.now stimulus.now) }
+{
+    match first_difference_kept(rt, alloc, first, second, stimulus, kept.as_slice()) {
+        Ok(None) => Ok(Finding::Same),
+        Ok(Some(place)) => Ok(Finding::Differ(place)),
+        Err(SimError::Shape) => Ok(Finding::ShapesDiffer),
+        Err(SimError::NoMemory) => Err(Failure::Memory),
+    }
+}
+
+fn compare_shared<'a, R: Threads + Sync>(
+    rt: &R,
+    alloc: Global,
+    first: &Circuit,
+    second: &Circuit,
+    shared: &Shared,
+    stimulus: &Stimulus,
+) -> Result<Finding, Failure<'a>>
+    ensures { IfOk result (IsFinding shared.now first.now second.now stimulus.now) }
+{
+    match shared {
+        Shared::Each => compare(rt, alloc, first, second, stimulus),
+        Shared::Kept(kept) => compare_kept(rt, alloc, first, second, kept, stimulus),
+    }
+}
+
+/// Compares two circuits, the second of which has these free latches of the first, under what the task asks for.
+fn compared_by<'a, R: Files + Threads + Sync, I: CountedRead>(
+    rt: &R,
+    alloc: Global,
+    first: &Circuit,
+    second: &Circuit,
+    shared: &Shared,
+    task: &Comparison<'a>,
+    stdin: &mut I,
+) -> Result<Finding, Failure<'a>>
+    ensures { IfOk result (IsFindingBy shared.now first.now second.now task.now.stimuli
+        (I.input stdin.old) (I.input stdin.new)) }
+{
+    match stimuli_for(rt, alloc, task.stimuli, first, task.first, stdin) {
+        Ok(stimulus) => compare_shared(rt, alloc, first, second, shared, &stimulus),
+        Err(failure) => Err(failure),
     }
 }
 
@@ -52,11 +108,15 @@ fn compared_under<'a, R: Files + Threads + Sync, I: CountedRead>(
     task: &Comparison<'a>,
     stdin: &mut I,
 ) -> Result<Finding, Failure<'a>>
-    ensures { IfOk result (IsFindingUnder first.now second.now task.now.stimuli
-        (I.input stdin.old) (I.input stdin.new)) }
+    ensures { IfOk result (IsFindingUnder first.now second.now task.now (I.input stdin.old)
+        (I.input stdin.new)) }
 {
-    match stimuli_for(rt, alloc, task.stimuli, first, task.first, stdin) {
-        Ok(stimulus) => compare(rt, alloc, first, second, &stimulus),
+    match shared_by(rt, alloc, task.kept, first, second, stdin) {
+        Ok(shared) => {
+            let found = compared_by(rt, alloc, first, second, &shared, task, stdin);
+            drop(shared);
+            found
+        }
         Err(failure) => Err(failure),
     }
 }
@@ -144,8 +204,9 @@ fn print_finding_as<'a, O: CountedWrite>(
     }
 }
 
-/// Reads two circuits, and then a stimulus where the task has no random sequences, and prints the first difference of the circuits
-/// under it, as an object of JSON or in a line. The widths of a stimulus are those of the first circuit.
+/// Reads two circuits, then the list of kept free latches where the task has one, and then a stimulus where it has no random
+/// sequences, and prints the first difference of the circuits under it, as an object of JSON or in a line. The widths of a stimulus
+/// are those of the first circuit.
 pub fn print_comparison<'a, R: Files + Threads + Sync, I: CountedRead, O: CountedWrite>(
     rt: &R,
     alloc: Global,

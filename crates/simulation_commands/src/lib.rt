@@ -3,6 +3,7 @@
 #![tactic(auto)]
 
 mod comparison;
+mod kept;
 mod simulation;
 mod stimuli;
 
