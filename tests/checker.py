@@ -398,6 +398,8 @@ def main(words):
         hold(given.circuit, c, name_of, names)
         c = merged(cleaned(c)) if given.merge else c
         lines, status = verify(c, blocks)
+        if not blocks:
+            print(f'{given.certificates}: no certificate: nothing was checked', file=sys.stderr)
     except Refused as fault:
         lines, status = [], 1
         print(fault, file=sys.stderr)

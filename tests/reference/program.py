@@ -289,7 +289,8 @@ def verify(paths, options):
         lines, status = audit(c, [os.fsencode(name) for name in options.get('--keep', [])], blocks, '--merge' in options)
     except NoSuchName as missing:
         raise no_such_name(paths[0], c, missing.args[0]) from missing
-    return status, ''.join(f'{line}\n' for line in lines)
+    told = '' if blocks else f'{source_name(paths[1])}: no certificate: nothing was checked\n'
+    return status, ''.join(f'{line}\n' for line in lines), told
 
 
 def check(paths, _):
@@ -346,8 +347,8 @@ def run(words):
     """The status, and the texts of standard output and standard error."""
     try:
         command, paths, options = parsed(words)
-        status, said = COMMANDS[command](paths, options)
+        status, said, *told = COMMANDS[command](paths, options)
         takes_stdout = command in WRITING and '-' in paths[1:] + beside(options)
-        return (status, '', said) if takes_stdout else (status, said, '')
+        return (status, '', said) if takes_stdout else (status, said, ''.join(told))
     except Ends as end:
         return end.args[0], '', end.args[1] + '\n'

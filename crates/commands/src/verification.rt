@@ -15,7 +15,7 @@ use certificates::Certificate;
 use circuit_files::{Failure, Outcome, certificates_at, circuit_at};
 use command_endings::{bytes_of_names, ended, failure_of_names};
 use command_line::Verification;
-use counted_io::{CountedRead, CountedWrite};
+use counted_io::{Buffered, CountedRead, CountedWrite};
 use reports::print_audit;
 use std::alloc::Global;
 use std::rt::Files;
@@ -154,14 +154,23 @@ fn certificates_of<'a, R: Files, I: CountedRead>(
     certificates_at(rt, alloc, task.certificates, stdin)
 }
 
-/// Prints the audit of the certificates that are read.
-fn print_file<'a, R: Files, I: CountedRead, O: CountedWrite>(
+/// Says that a file has no certificate. A failed write changes nothing.
+fn tell_of_none<E: CountedWrite>(path: &str, err: &mut E) {
+    let mut out = Buffered::new(err);
+    out.put(path.as_bytes());
+    out.put(b": no certificate: nothing was checked\n");
+    let _ = out.flush();
+}
+
+/// Prints the audit of the certificates that are read. Where there is none, standard error is told so once that is done.
+fn print_file<'a, R: Files, I: CountedRead, O: CountedWrite, E: CountedWrite>(
     rt: &R,
     alloc: Global,
     circuit: &Circuit,
     task: &Verification<'a>,
     stdin: &mut I,
     out: &mut O,
+    err: &mut E,
 ) -> Result<Outcome, Failure<'a>>
     ensures audit { IfOk result (PrintsAuditFor task.now circuit.now (I.input stdin.old)
         (I.input stdin.new) (O.output out.old) (O.output out.new)) }
@@ -170,6 +179,9 @@ fn print_file<'a, R: Files, I: CountedRead, O: CountedWrite>(
     match certificates_of(rt, alloc, task, stdin) {
         Ok(file) => {
             let printed = print_blocks(alloc, circuit, file.blocks.as_slice(), task, out);
+            if printed.is_ok() && file.blocks.is_empty() {
+                tell_of_none(task.certificates.name(), err);
+            }
             drop(file);
             printed
         }
@@ -178,13 +190,15 @@ fn print_file<'a, R: Files, I: CountedRead, O: CountedWrite>(
 }
 
 /// Reads a circuit, and then certificates, and prints whether each is confirmed, as an object of JSON or in lines. Whether a name
-/// is that of no latch shows once both were read.
-pub fn print_verification<'a, R: Files, I: CountedRead, O: CountedWrite>(
+/// is that of no latch shows once both were read. Where there is no certificate, standard error is told so; a failed write there
+/// changes nothing.
+pub fn print_verification<'a, R: Files, I: CountedRead, O: CountedWrite, E: CountedWrite>(
     rt: &R,
     alloc: Global,
     task: &Verification<'a>,
     stdin: &mut I,
     out: &mut O,
+    err: &mut E,
 ) -> Result<Outcome, Failure<'a>>
     ensures audit { IfOk result (PrintsAuditOf task.now (I.input stdin.old) (I.input stdin.new)
         (O.output out.old) (O.output out.new)) }
@@ -192,7 +206,7 @@ pub fn print_verification<'a, R: Files, I: CountedRead, O: CountedWrite>(
 {
     match circuit_of(rt, alloc, task, stdin) {
         Ok(spelt) => {
-            let printed = print_file(rt, alloc, &spelt.circuit, task, stdin, out);
+            let printed = print_file(rt, alloc, &spelt.circuit, task, stdin, out, err);
             drop(spelt);
             printed
         }

@@ -58,7 +58,7 @@ fn run_task<
         }
         Task::Sim(simulation) => print_simulation(rt, alloc, simulation, stdin, out),
         Task::Same(comparison) => print_comparison(rt, alloc, comparison, stdin, out),
-        Task::Verify(verification) => print_verification(rt, alloc, verification, stdin, out),
+        Task::Verify(verification) => print_verification(rt, alloc, verification, stdin, out, err),
         Task::Check(checking) => print_check(rt, alloc, checking, stdin, out),
         Task::Dot(drawing) => write_picture(rt, alloc, drawing, stdin, out),
         Task::Witness(carrying) => print_witness_back(rt, alloc, carrying, stdin, out),
