@@ -24,13 +24,14 @@ complete -c fretime -n __fish_use_subcommand -f -a sim -d 'Prints the values of 
 complete -c fretime -n __fish_use_subcommand -f -a same -d 'Finds the first difference of two circuits under a stimulus'
 complete -c fretime -n __fish_use_subcommand -f -a verify -d 'Checks the certificates that \'retime --cert\' wrote'
 complete -c fretime -n __fish_use_subcommand -f -a check -d 'Checks by a map of states that a circuit is a retiming of another'
+complete -c fretime -n __fish_use_subcommand -f -a lift -d 'Carries a proof of a retimed circuit back to what it was made of'
 complete -c fretime -n __fish_use_subcommand -f -a dot -d 'Writes a picture of a circuit, for Graphviz'
 complete -c fretime -n __fish_use_subcommand -f -a witness -d 'Carries a witness of a retimed circuit back to what it was made of'
 complete -c fretime -n __fish_use_subcommand -f -a explain -d 'Says what a fault is, and what to do'
 complete -c fretime -n __fish_use_subcommand -f -a help -d 'Print this message or the help of the given subcommand(s)'
 complete -c fretime -n __fish_use_subcommand -s V -l version -d 'Print version'
 complete -c fretime -n 'not __fish_seen_subcommand_from help' -s h -l help -d 'Print help'
-complete -c fretime -n '__fish_seen_subcommand_from help' -f -a 'retime batch stat convert sim same verify check dot witness explain help'
+complete -c fretime -n '__fish_seen_subcommand_from help' -f -a 'retime batch stat convert sim same verify check lift dot witness explain help'
 
 complete -c fretime -n '__fish_seen_subcommand_from retime' -l ascii -d 'Write ASCII'
 complete -c fretime -n '__fish_seen_subcommand_from retime' -l binary -d 'Write binary'
@@ -75,6 +76,9 @@ complete -c fretime -n '__fish_seen_subcommand_from verify' -r -l keep-from -d '
 complete -c fretime -n '__fish_seen_subcommand_from verify' -l merge -d 'IN was retimed with --merge'
 complete -c fretime -n '__fish_seen_subcommand_from verify' -l json -d 'Print an object of JSON in place of the lines'
 
+complete -c fretime -n '__fish_seen_subcommand_from lift' -l ascii -d 'Write ASCII'
+complete -c fretime -n '__fish_seen_subcommand_from lift' -l binary -d 'Write binary'
+
 complete -c fretime -n '__fish_seen_subcommand_from dot' -l frame -d 'Show over which gates latches move next'
 complete -c fretime -n '__fish_seen_subcommand_from dot' -l merge -d 'Merge latches that always agree first'
 complete -c fretime -n '__fish_seen_subcommand_from dot' -x -l keep -d 'Hold each latch with this name; may be repeated'
@@ -89,4 +93,4 @@ complete -c fretime -n '__fish_seen_subcommand_from retime verify dot' -x -l kee
 complete -c fretime -n '__fish_seen_subcommand_from dot' -x -l around -a '(__fretime_names ilobcjf)' \
     -d 'Draw the neighbourhood of what has this name alone'
 
-complete -c fretime -n '__fish_seen_subcommand_from explain' -f -a 'BadHeader TooLarge MaxIndex BadLine BadLiteral DefinedTwice Undefined Cycle BadReset BadDelta Truncated BadSymbol Trailing Width TooMany NoSuchProperty TooManySteps NoSuchName TooManyNodes NotAMap NotClosed BadRoute UsedTwice CountDiffers NoMemory Device'
+complete -c fretime -n '__fish_seen_subcommand_from explain' -f -a 'BadHeader TooLarge MaxIndex BadLine BadLiteral DefinedTwice Undefined Cycle BadReset BadDelta Truncated BadSymbol Trailing Width TooMany NoSuchProperty TooManySteps NoSuchName TooManyNodes NotAMap NoSuchLiteral NotClosed BadRoute UsedTwice CountDiffers NoMemory Device'

@@ -174,6 +174,7 @@ def compare_maps(rng, comparison):
     parts = [map_checker.read_circuit(part) for part in (data, retimed, maps[1])]
     comparison.count(map_checker.Judge().shows(*parts), f'the checker of maps refuses {words} on {data}\n{maps[1]}')
     compare_checks(rng, comparison, data, retimed, maps[1])
+    compare_lifts(rng, comparison, data, retimed, maps[1])
 
 
 def changed(rng, c):
@@ -203,6 +204,27 @@ def compare_checks(rng, comparison, data, retimed, map_data):
     for _ in range(4):
         worse = [changed(rng, part) if k == chosen else part for chosen in [rng.choice([0, 1, 1, 2, 2])] for k, part in enumerate(parts)]
         comparison.run(['check', 'in', 'other', 'map'], dict(zip(('in', 'other', 'map'), (text(part, rng.choice(['aag', 'aig'])) for part in worse))))
+
+
+def named(rng, c, d):
+    """The circuit with names of inputs and latches, most of which say literals of another one."""
+    symbols = {**c.symbols, 'i': {}, 'l': {}}
+    for kind, many, first, count in (('i', c.inputs, 1, d.inputs), ('l', len(c.latches), d.first_latch(), len(d.latches))):
+        chosen = rng.sample(range(many), min(many, rng.choice([0, count, many])))
+        for position, place in zip(sorted(chosen), rng.sample(range(count), min(count, len(chosen)))):
+            symbols[kind][position] = b'= %d' % (2 * (first + place) + (rng.random() < 0.02))
+    return dataclasses.replace(c, symbols=symbols)
+
+
+def compare_lifts(rng, comparison, data, retimed, map_data):
+    """What `lift` writes of the retimed circuit as its own witness circuit, of any circuit as one, with and without names, and of
+    files in another order."""
+    d = read(retimed)[0]
+    files = {'in': data, 'other': retimed, 'map': map_data}
+    for witness in (d, named(rng, d, d), *(named(rng, random_files.circuit(rng, 3, 5, 9), d) for _ in range(2))):
+        words = rng.choice([[], ['--ascii'], ['--binary']])
+        comparison.run(['lift', 'in', 'other', 'map', 'own', 'OUT', *words], {**files, 'own': text(witness, rng.choice(['aag', 'aig']))})
+    comparison.run(['lift', *rng.sample(['in', 'other', 'map', 'own'], 4), 'OUT'], {})
 
 
 def compare_judges(comparison, certificates, held, data):

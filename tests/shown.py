@@ -16,6 +16,7 @@ from tree import TOP
 
 OWN = ('./fretime', 'fretime')
 OTHERS = ('yosys', 'berkeley-abc', 'sed', 'python3', 'fretime_verilog')
+SOLVERS = ('cadical', 'minisat')
 
 
 @dataclasses.dataclass
@@ -142,7 +143,10 @@ def folder_of(path):
     """A copy of the files that a document's commands work on."""
     folder = pathlib.Path(tempfile.mkdtemp())
     if path.name == 'TUTORIAL.md':
-        copy(TOP / 'examples' / 'match', folder)
+        for name in ('match', 'proof'):
+            copy(TOP / 'examples' / name, folder / 'examples' / name)
+        (folder / 'tests').symlink_to(TOP / 'tests')
+        folder = folder / 'examples' / 'match'
         if shutil.which('yosys'):
             write_variants(folder)
     else:
@@ -155,11 +159,13 @@ def can_run(command, folder):
     command = command.split('    #')[0]
     name = command.split()[0]
     written = re.findall(r'(?:write_aiger|retime \S+) (\S+?)[;"]', command)
-    circuits = [it for it in re.findall(r'\b[\w./]+\.a[ai]g\b', command) if it not in written]
+    circuits = [it for it in re.findall(r'(?<![\w./])[\w./]+\.a[ai]g\b', command) if it not in written]
     if name in OWN:
-        return all((folder / circuit).exists() for circuit in circuits[:1])
+        return all((folder / circuit).exists() for circuit in circuits[:-1 if ' lift ' in command else 1])
     files = circuits if name == 'berkeley-abc' else re.findall(r'(\S+) >', command) if name == 'sed' else []
     needed = ('yosys', 'berkeley-abc') if name == 'fretime_verilog' else (name,)
+    if 'witness_checker' in command and not any(map(shutil.which, SOLVERS)):
+        return False
     return all(shutil.which(it) for it in needed) and all((folder / file).exists() for file in files)
 
 
@@ -221,7 +227,7 @@ def faults_of_commands(program):
         for saying in SAYINGS:
             if TOP / saying.document == path:
                 yield from faults_of_saying(program, saying, path, folder)
-        shutil.rmtree(folder)
+        shutil.rmtree(folder.parents[1] if path.name == 'TUTORIAL.md' else folder)
 
 
 def program_of(path):

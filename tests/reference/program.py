@@ -3,8 +3,9 @@ import os
 import sys
 
 from reference.certificates import audit, certificates, read_blocks, written
-from reference.checks import checked, is_map
+from reference.checks import are_fitting, checked, is_map
 from reference.circuit import text
+from reference.lifts import NoSuchLiteral, lifted
 from reference.maps import state_map
 from reference.merging import merge_counts
 from reference.pictures import MOST_NODES, has_name, neighbourhood, nodes, picture
@@ -13,14 +14,15 @@ from reference.retiming import NoSuchName, frames_of, held_latches, passable, re
 from reference.simulation import difference_text, is_too_long, random_stimulus, read_kept, read_stimulus, trace, trace_text
 from reference.witnesses import carried_text
 
-PATHS = {'retime': 2, 'batch': 1, 'stat': 1, 'convert': 2, 'sim': 2, 'same': 3, 'verify': 2, 'check': 3, 'dot': 2, 'witness': 3}
+PATHS = {'retime': 2, 'batch': 1, 'stat': 1, 'convert': 2, 'sim': 2, 'same': 3, 'verify': 2, 'check': 3, 'lift': 5, 'dot': 2,
+         'witness': 3}
 OPTIONS = {'retime': {'--ascii', '--binary', '--workers', '--frames', '--near', '--merge', '--keep', '--cert', '--map', '--progress',
                       '--quiet'},
            'verify': {'--keep', '--merge'}, 'dot': {'--frame', '--merge', '--keep', '--around', '--depth'},
            'batch': {'--ascii', '--binary', '--workers', '--frames', '--near', '--merge'}, 'convert': {'--ascii', '--binary'},
-           'stat': {'--merge'}, 'witness': {'--merge'}, 'sim': {'--random', '--steps', '--seed'},
+           'lift': {'--ascii', '--binary'}, 'stat': {'--merge'}, 'witness': {'--merge'}, 'sim': {'--random', '--steps', '--seed'},
            'same': {'--random', '--steps', '--seed', '--kept'}}
-WRITING = {'retime', 'convert', 'dot'}
+WRITING = {'retime', 'convert', 'dot', 'lift'}
 GREATEST = {'--workers': 64, '--frames': 2**28, '--depth': 100, '--random': 2**20, '--steps': 2**22, '--seed': 2**32 - 1}
 LEAST = {'--seed': 0}
 VALUED = {'--workers', '--frames', '--keep', '--cert', '--map', '--around', '--depth', '--random', '--steps', '--seed', '--kept'}
@@ -91,7 +93,7 @@ def parsed(words):
         raise Ends(2, 'error: --merge without --frame')
     if {'--map', '--merge'} <= set(options):
         raise Ends(2, 'error: --map with --merge')
-    outputs = paths[1:] if command in WRITING else []
+    outputs = paths[-1:] if command in WRITING else []
     if (paths[:len(paths) - len(outputs)] + options.get('--kept', [])).count('-') > 1:
         raise Ends(2, 'error: standard input is read once')
     if (outputs + beside(options)).count('-') > 1:
@@ -301,6 +303,20 @@ def check(paths, _):
     return status, said
 
 
+def lift(paths, options):
+    c, d, m, w = (circuit_of(path) for path in paths[:4])
+    if not is_map(m[0]):
+        raise Ends(1, f'{source_name(paths[2])}: NotAMap')
+    if not are_fitting(c[0], d[0], m[0]):
+        return 1, 'shapes differ\n'
+    try:
+        found = lifted(c[0], d[0], m[0], w[0])
+    except NoSuchLiteral as missing:
+        raise Ends(1, f'{source_name(paths[3])}: NoSuchLiteral') from missing
+    write(paths[4], text(found, letters_of(options, w[1])))
+    return 0, ''
+
+
 def drawn_circuit(c, path, options):
     """What a picture shows: the circuit, its held latches and a set. With --frame the circuit is cleaned, and the set is the one that
     its next frame takes."""
@@ -340,7 +356,7 @@ def witness(paths, options):
 
 
 COMMANDS = {'retime': retime, 'batch': batch, 'stat': stat, 'convert': convert, 'sim': sim, 'same': same, 'verify': verify,
-            'check': check, 'dot': dot, 'witness': witness}
+            'check': check, 'lift': lift, 'dot': dot, 'witness': witness}
 
 
 def run(words):
@@ -348,7 +364,7 @@ def run(words):
     try:
         command, paths, options = parsed(words)
         status, said, *told = COMMANDS[command](paths, options)
-        takes_stdout = command in WRITING and '-' in paths[1:] + beside(options)
+        takes_stdout = command == 'retime' and '-' in paths[1:] + beside(options)
         return (status, '', said) if takes_stdout else (status, said, ''.join(told))
     except Ends as end:
         return end.args[0], '', end.args[1] + '\n'

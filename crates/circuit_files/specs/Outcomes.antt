@@ -29,6 +29,7 @@ outcome_of (fails.NoSuchName path name) = ends.Refused
 outcome_of (fails.TooManyNodes path) = ends.Refused
 outcome_of (fails.TooManySteps path) = ends.Refused
 outcome_of (fails.NotAMap path) = ends.Refused
+outcome_of (fails.NoSuchLiteral path) = ends.Refused
 outcome_of (fails.Device path) = ends.Device
 outcome_of fails.Memory = ends.Memory
 
@@ -43,6 +44,7 @@ IsAbout name (fails.NoSuchName path latch) = path.now ≡ name
 IsAbout name (fails.TooManyNodes path) = path.now ≡ name
 IsAbout name (fails.TooManySteps path) = path.now ≡ name
 IsAbout name (fails.NotAMap path) = path.now ≡ name
+IsAbout name (fails.NoSuchLiteral path) = path.now ≡ name
 IsAbout name (fails.Device path) = path.now ≡ name
 IsAbout name fails.Memory = Unit {0}
 

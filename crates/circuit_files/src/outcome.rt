@@ -81,6 +81,9 @@ pub enum Failure<'a> {
     /// The circuit of a map has a latch, a bad state, a justice property or a fairness constraint.
     #[error("{0}: NotAMap")]
     NotAMap(&'a str),
+    /// A name of a witness circuit says a literal that its circuit hasn't, or one that another name says.
+    #[error("{0}: NoSuchLiteral")]
+    NoSuchLiteral(&'a str),
     /// The file couldn't be opened, created, read or written.
     #[error("{0}: device")]
     Device(&'a str),
@@ -164,7 +167,8 @@ impl<'a> Failure<'a> {
             | Failure::NoSuchName(_, _)
             | Failure::TooManyNodes(_)
             | Failure::TooManySteps(_)
-            | Failure::NotAMap(_) => Outcome::Refused,
+            | Failure::NotAMap(_)
+            | Failure::NoSuchLiteral(_) => Outcome::Refused,
             Failure::Device(_) => Outcome::Device,
             Failure::Memory => Outcome::Memory,
         }

@@ -22,6 +22,7 @@ failing (fails.NoSuchName path name) s = refl
 failing (fails.TooManyNodes path) s = refl
 failing (fails.TooManySteps path) s = refl
 failing (fails.NotAMap path) s = refl
+failing (fails.NoSuchLiteral path) s = refl
 failing (fails.Device path) s = tt
 failing fails.Memory s = refl
 

@@ -25,8 +25,9 @@ use Rattle.command_line.specs.declared.task.Drawing.{Drawing}
 use Rattle.command_line.specs.declared.task.Counting.{Counting}
 use Rattle.command_line.specs.declared.task.Carrying.{Carrying}
 use Rattle.command_line.specs.declared.task.Checking.{Checking}
+use Rattle.command_line.specs.declared.task.Lifting.{Lifting}
 use Rattle.command_line.specs.declared.task.Task.{Task}
-use Rattle.command_line.specs.declared.task.Task.TheVariants.{Retime, Batch, Stat, Convert, Sim, Same, Verify, Check, Dot, Witness, Explain}
+use Rattle.command_line.specs.declared.task.Task.TheVariants.{Retime, Batch, Stat, Convert, Sim, Same, Verify, Check, Lift, Dot, Witness, Explain}
 
 -- the text is the first value of the argument with this id
 abbrev pub IsGiven : ArgMatches → List ℕ → Bor (List ℕ) → Type 0
@@ -174,6 +175,15 @@ pub record IsChecking (matches : ArgMatches) (checking : Checking) : Type 0 wher
   pub retimed : IsSource matches (codes "OUT") checking.retimed
   pub mapping : IsSource matches (codes "MAP") checking.map
 
+-- the paths of the files that a witness circuit is lifted by, and the flags of what is written, are the values of their own arguments
+pub record IsLifting (matches : ArgMatches) (lifting : Lifting) : Type 0 where
+  pub input : IsSource matches (codes "IN") lifting.input
+  pub retimed : IsSource matches (codes "OUT") lifting.retimed
+  pub mapping : IsSource matches (codes "MAP") lifting.map
+  pub witness : IsSource matches (codes "CERT") lifting.witness
+  pub output : IsTarget matches (codes "RESULT") lifting.output
+  pub spelling : IsSpelling matches lifting.spelling
+
 -- each path of the task, and the name of a fault, is the value of its own argument, so that no file is written that was to be read
 abbrev pub AsksFor : ArgMatches → Task → Type 0
 AsksFor matches (Retime retiming) = IsRetiming matches retiming
@@ -184,6 +194,7 @@ AsksFor matches (Sim simulation) = IsSimulation matches simulation
 AsksFor matches (Same comparison) = IsComparison matches comparison
 AsksFor matches (Verify verification) = IsVerification matches verification
 AsksFor matches (Check checking) = IsChecking matches checking
+AsksFor matches (Lift lifting) = IsLifting matches lifting
 AsksFor matches (Dot drawing) = IsDrawing matches drawing
 AsksFor matches (Witness carrying) = IsCarrying matches carrying
 AsksFor matches (Explain name) = IsGiven matches (codes "FAULT") name
@@ -198,6 +209,7 @@ command_of (Sim simulation) = codes "sim"
 command_of (Same comparison) = codes "same"
 command_of (Verify verification) = codes "verify"
 command_of (Check checking) = codes "check"
+command_of (Lift lifting) = codes "lift"
 command_of (Dot drawing) = codes "dot"
 command_of (Witness carrying) = codes "witness"
 command_of (Explain name) = codes "explain"

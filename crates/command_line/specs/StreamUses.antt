@@ -8,12 +8,13 @@ use Rattle.stream_paths.specs.declared.source.Source.TheVariants as sources
 use Rattle.stream_paths.specs.declared.target.Target.{Target}
 use Rattle.stream_paths.specs.declared.target.Target.TheVariants as targets
 use Rattle.command_line.specs.declared.task.Comparison.{Comparison}
+use Rattle.command_line.specs.declared.task.Lifting.{Lifting}
 use Rattle.command_line.specs.declared.task.Retiming.{Retiming}
 use Rattle.command_line.specs.declared.task.Simulation.{Simulation}
 use Rattle.command_line.specs.declared.task.Stimuli.{Stimuli}
 use Rattle.command_line.specs.declared.task.Stimuli.TheVariants.{Read, Random}
 use Rattle.command_line.specs.declared.task.Task.{Task}
-use Rattle.command_line.specs.declared.task.Task.TheVariants.{Retime, Batch, Stat, Convert, Sim, Same, Verify, Check, Dot, Witness, Explain}
+use Rattle.command_line.specs.declared.task.Task.TheVariants.{Retime, Batch, Stat, Convert, Sim, Same, Verify, Check, Lift, Dot, Witness, Explain}
 
 -- what follows what else is read: a stimulus, unless it is made of random sequences
 abbrev pub with_stimulus : Stimuli → List Source
@@ -31,6 +32,9 @@ with_source (Some source) sources = source ∷ sources
 abbrev pub sources_of_comparison : Comparison → List Source
 sources_of_comparison comparison = comparison.first ∷ comparison.second ∷ with_source comparison.kept (with_stimulus comparison.stimuli)
 
+abbrev pub sources_of_lifting : Lifting → List Source
+sources_of_lifting lifting = lifting.input ∷ lifting.retimed ∷ lifting.map ∷ lifting.witness ∷ []
+
 -- what a task reads
 abbrev pub sources_of : Task → List Source
 sources_of (Retime retiming) = retiming.input ∷ []
@@ -41,6 +45,7 @@ sources_of (Sim simulation) = sources_of_simulation simulation
 sources_of (Same comparison) = sources_of_comparison comparison
 sources_of (Verify verification) = verification.input ∷ verification.certificates ∷ []
 sources_of (Check checking) = checking.input ∷ checking.retimed ∷ checking.map ∷ []
+sources_of (Lift lifting) = sources_of_lifting lifting
 sources_of (Dot drawing) = drawing.input ∷ []
 sources_of (Witness carrying) = carrying.input ∷ carrying.retimed ∷ carrying.witness ∷ []
 sources_of (Explain name) = []
@@ -64,6 +69,7 @@ targets_of (Sim simulation) = []
 targets_of (Same comparison) = []
 targets_of (Verify verification) = []
 targets_of (Check checking) = []
+targets_of (Lift lifting) = lifting.output ∷ []
 targets_of (Dot drawing) = drawing.output ∷ []
 targets_of (Witness carrying) = []
 targets_of (Explain name) = []
@@ -101,6 +107,7 @@ covers_circuit (Sim simulation) = false
 covers_circuit (Same comparison) = false
 covers_circuit (Verify verification) = false
 covers_circuit (Check checking) = false
+covers_circuit (Lift lifting) = false
 covers_circuit (Dot drawing) = false
 covers_circuit (Witness carrying) = false
 covers_circuit (Explain name) = false

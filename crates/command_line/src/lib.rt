@@ -1,6 +1,7 @@
 //! What the words of a command line ask for, read by `clap`.
 #![tactic(auto)]
 
+mod map_program;
 mod parse;
 mod program;
 mod stream_uses;
@@ -9,6 +10,6 @@ mod texts;
 
 pub use parse::parse_arguments;
 pub use task::{
-    Batch, Carrying, Checking, Comparison, Counting, Drawing, Retiming, Sequences, Shown,
+    Batch, Carrying, Checking, Comparison, Counting, Drawing, Lifting, Retiming, Sequences, Shown,
     Simulation, Stimuli, Task, Verification,
 };

@@ -9,7 +9,7 @@ ghost use Rattle.command_line.specs.declared.task.Task.TheVariants.{Dot, Retime,
 use crate::program::program;
 use crate::stream_uses::stream_conflict;
 use crate::task::{
-    Batch, Carrying, Checking, Comparison, Counting, Drawing, Retiming, Sequences, Shown,
+    Batch, Carrying, Checking, Comparison, Counting, Drawing, Lifting, Retiming, Sequences, Shown,
     Simulation, Stimuli, Task, Verification,
 };
 use clap::error::ErrorKind;
@@ -313,6 +313,19 @@ fn check<'a>(matches: &ArgMatches<'a>) -> Option<Task<'a>>
     }))
 }
 
+fn lifting<'a>(matches: &ArgMatches<'a>) -> Option<Task<'a>>
+    ensures { IfSome result (Asks (codes "lift") matches.now) }
+{
+    Some(Task::Lift(Lifting {
+        input: source(matches, "IN")?,
+        retimed: source(matches, "OUT")?,
+        map: source(matches, "MAP")?,
+        witness: source(matches, "CERT")?,
+        output: target(matches, "RESULT")?,
+        spelling: spelling(matches),
+    }))
+}
+
 fn explanation<'a>(matches: &ArgMatches<'a>) -> Option<Task<'a>>
     ensures { IfSome result (Asks (codes "explain") matches.now) }
 {
@@ -331,6 +344,7 @@ fn task_without_names<'a>(name: &str, matches: &ArgMatches<'a>) -> Option<Task<'
         "same" => comparison(matches),
         "witness" => witness(matches),
         "check" => check(matches),
+        "lift" => lifting(matches),
         "explain" => explanation(matches),
         _ => None,
     }

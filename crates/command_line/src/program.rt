@@ -1,12 +1,13 @@
 //! The commands with their options, as the command-line library wants them. Each of its calls returns a command or a refusal of
 //! memory, so a step takes what the one before returned.
+use crate::map_program::{check, lift};
 use crate::texts;
 use clap::builder::ValueParser;
 use clap::{Arg, ArgAction, Command};
 use std::alloc::{AllocError, Global};
 
 /// A path that has to be given.
-fn path<'a>(alloc: Global, id: &'a str, help: &'a str) -> Arg<'a> {
+pub(crate) fn path<'a>(alloc: Global, id: &'a str, help: &'a str) -> Arg<'a> {
     Arg::new(alloc, id).required(true).help(help)
 }
 
@@ -100,7 +101,7 @@ fn json<'a>(alloc: Global) -> Arg<'a> {
 }
 
 /// A command with one more argument, where there was memory for the command.
-fn with<'a>(
+pub(crate) fn with<'a>(
     command: Result<Command<'a>, AllocError>,
     argument: Arg<'a>,
 ) -> Result<Command<'a>, AllocError> {
@@ -156,7 +157,7 @@ fn with_flag<'a>(
 }
 
 /// A command whose help says this, which is shown where the command is given nothing.
-fn command<'a>(
+pub(crate) fn command<'a>(
     alloc: Global,
     name: &'a str,
     about: &'a str,
@@ -180,7 +181,7 @@ fn ascii<'a>(alloc: Global) -> Result<Arg<'a>, AllocError> {
     flag(alloc, "ascii", "Write ASCII").conflicts_with("binary")
 }
 
-fn with_spelling<'a>(
+pub(crate) fn with_spelling<'a>(
     alloc: Global,
     command: Result<Command<'a>, AllocError>,
 ) -> Result<Command<'a>, AllocError> {
@@ -368,21 +369,8 @@ fn verify<'a>(alloc: Global) -> Result<Command<'a>, AllocError> {
 }
 
 /// The circuit that was made of IN, in a command that reads both.
-fn retimed<'a>(alloc: Global) -> Arg<'a> {
+pub(crate) fn retimed<'a>(alloc: Global) -> Arg<'a> {
     path(alloc, "OUT", "The AIGER file that was written")
-}
-
-fn check<'a>(alloc: Global) -> Result<Command<'a>, AllocError> {
-    let command = command(
-        alloc,
-        "check",
-        texts::CHECK_ABOUT,
-        texts::CHECK_LONG_ABOUT,
-        texts::CHECK_EXAMPLE,
-    );
-    let command = command.arg(path(alloc, "IN", "The AIGER file that was retimed"));
-    let command = with(command, retimed(alloc));
-    with(command, path(alloc, "MAP", "The map of states"))
 }
 
 fn around<'a>(alloc: Global) -> Arg<'a> {
@@ -489,6 +477,7 @@ fn with_inquiries<'a>(
 ) -> Result<Command<'a>, AllocError> {
     let program = with_command(program, verify(alloc));
     let program = with_command(program, check(alloc));
+    let program = with_command(program, lift(alloc));
     let program = with_command(program, dot(alloc));
     let program = with_command(program, witness(alloc));
     with_command(program, explain(alloc))

@@ -3,10 +3,10 @@
 ghost use Rattle.std.specs.Prelude.{◌≡◌, ◌≤◌, IfNone};
 ghost use Rattle.std.specs.List.{count_by};
 ghost use Rattle.stream_paths.specs.Streams.{is_stdin, is_stdout};
-ghost use Rattle.command_line.specs.StreamUses.{UsesStreamsOnce, are_one_file, covers, covers_circuit, is_read_from, is_written_to, retiming_targets, sources_of, sources_of_comparison, sources_of_simulation, targets_of};
+ghost use Rattle.command_line.specs.StreamUses.{UsesStreamsOnce, are_one_file, covers, covers_circuit, is_read_from, is_written_to, retiming_targets, sources_of, sources_of_comparison, sources_of_lifting, sources_of_simulation, targets_of};
 ghost use Rattle.command_line.specs.StreamUses as wanted;
 
-use crate::task::{Comparison, Retiming, Simulation, Stimuli, Task};
+use crate::task::{Comparison, Lifting, Retiming, Simulation, Stimuli, Task};
 use stream_paths::{Source, Target};
 
 fn stdin_count(sources: &[Source<'_>]) -> usize
@@ -44,6 +44,13 @@ fn stdin_uses_of_comparison(comparison: &Comparison<'_>) -> usize
     }
 }
 
+/// How many of the circuits, the map and the witness circuit are standard input.
+fn stdin_uses_of_lifting(lifting: &Lifting<'_>) -> usize
+    ensures { result ≡ count_by is_stdin (sources_of_lifting lifting.now) }
+{
+    stdin_count(&[lifting.input, lifting.retimed, lifting.map, lifting.witness])
+}
+
 /// How many of the things that a task reads are standard input.
 fn stdin_uses(task: &Task<'_>) -> usize
     ensures { result ≡ count_by is_stdin (sources_of task.now) }
@@ -60,6 +67,7 @@ fn stdin_uses(task: &Task<'_>) -> usize
         }
         Task::Verify(verification) => stdin_count(&[verification.input, verification.certificates]),
         Task::Check(checking) => stdin_count(&[checking.input, checking.retimed, checking.map]),
+        Task::Lift(lifting) => stdin_uses_of_lifting(lifting),
         Task::Dot(drawing) => stdin_count(&[drawing.input]),
         Task::Explain(_) => 0,
     }
@@ -86,6 +94,7 @@ fn stdout_uses(task: &Task<'_>) -> usize
         Task::Retime(retiming) => stdout_uses_of(retiming),
         Task::Convert(_, output, _) => stdout_count(&[*output]),
         Task::Dot(drawing) => stdout_count(&[drawing.output]),
+        Task::Lift(lifting) => stdout_count(&[lifting.output]),
         Task::Batch(_)
         | Task::Stat(_)
         | Task::Sim(_)
@@ -156,6 +165,7 @@ fn covers_circuit(task: &Task<'_>) -> bool
         | Task::Dot(_)
         | Task::Witness(_)
         | Task::Check(_)
+        | Task::Lift(_)
         | Task::Explain(_) => false,
     }
 }

@@ -176,6 +176,23 @@ pub struct Checking<'a> {
     pub map: Source<'a>,
 }
 
+/// What `lift` is to do.
+#[derive(Clone, Copy)]
+pub struct Lifting<'a> {
+    /// The circuit.
+    pub input: Source<'a>,
+    /// The circuit that was made of it.
+    pub retimed: Source<'a>,
+    /// The map of the states of the one to those of the other.
+    pub map: Source<'a>,
+    /// The witness circuit for the one that was made.
+    pub witness: Source<'a>,
+    /// What the witness circuit for the first one is written to.
+    pub output: Target<'a>,
+    /// The spelling of the written file; `None` is that of the witness circuit that is read.
+    pub spelling: Option<Spelling>,
+}
+
 /// What a command line asks for.
 #[derive(Drop)]
 pub enum Task<'a> {
@@ -195,6 +212,8 @@ pub enum Task<'a> {
     Verify(Verification<'a>),
     /// Check by a map of states that a circuit is a retiming of another.
     Check(Checking<'a>),
+    /// Write a witness circuit for a circuit, of one for the circuit that was made of it.
+    Lift(Lifting<'a>),
     /// Write a picture of a circuit.
     Dot(Drawing<'a>),
     /// Carry a witness of a retimed circuit back to the one that it was made of.

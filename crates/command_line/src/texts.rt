@@ -138,6 +138,36 @@ bad, constraint, justice or fairness of OUT ('read').
 Exit status: 0 a retiming, 1 a file is refused, MAP is no map, or shapes differ,
 2 command line, 3 device, 4 out of memory, 5 not shown.";
 
+pub(crate) const LIFT_ABOUT: &str =
+    "Carries a proof of a retimed circuit back to what it was made of";
+
+pub(crate) const LIFT_LONG_ABOUT: &str =
+    "Reads a circuit, the circuit that was made of it, a map of the states of the one
+to those of the other, as 'retime --map' writes it, and a witness circuit for
+the second: what a model checker hands in to show that no bad state is reached.
+It writes the witness circuit for the first, in the spelling of CERT where none
+is chosen.
+
+A witness circuit is a certificate of the hardware model checking competition. A
+name '= 12' of an input or a latch says that it is the one of OUT with the
+literal 12; where no name says so, the first ones are those of OUT, in order.
+RESULT has the inputs and latches of IN, and then CERT's own. Literals are those
+of binary files: 'convert' gives IN these, where another tool wrote it in ASCII.
+
+Where MAP is a map and CERT passes the five checks for OUT, RESULT passes them
+for IN, as any SAT solver can find; neither is checked here. 'check' checks the
+map.";
+
+pub(crate) const LIFT_EXAMPLE: &str = "Example:
+  fretime retime ring.aag less.aag --map ring.map
+  fretime lift ring.aag less.aag ring.map less.cert ring.cert
+
+RESULT is made at its first byte: where something is refused, it stays as it
+was. 'shapes differ' is printed where IN, OUT and MAP don't fit together.
+
+Exit status: 0 done, 1 a file is refused, MAP is no map, CERT names what OUT
+hasn't, or shapes differ, 2 command line, 3 device, 4 out of memory.";
+
 pub(crate) const STAT_EXAMPLE: &str =
     "Latches are free where they have no known reset; free latches never move.
 
@@ -239,8 +269,9 @@ Faults of circuits, and some of them of other files too: BadHeader, TooLarge,
 MaxIndex, BadLine, BadLiteral, DefinedTwice, Undefined, Cycle, BadReset,
 BadDelta, Truncated, BadSymbol, Trailing. Of a stimulus or a witness: Width,
 TooMany, NoSuchProperty. Of random sequences: TooManySteps. Of names and
-pictures: NoSuchName, TooManyNodes. Of maps: NotAMap. Of certificates:
-NotClosed, BadRoute, UsedTwice, CountDiffers. Of a run: NoMemory, Device.
+pictures: NoSuchName, TooManyNodes. Of maps and witness circuits: NotAMap,
+NoSuchLiteral. Of certificates: NotClosed, BadRoute, UsedTwice, CountDiffers. Of
+a run: NoMemory, Device.
 
 Exit status: 0 done, 2 command line, or there is no such fault, 3 device, 4 out
 of memory.";

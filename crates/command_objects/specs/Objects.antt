@@ -51,6 +51,7 @@ fault_of (fails.NoSuchName path name) = faults.NoSuchName
 fault_of (fails.TooManyNodes path) = faults.TooManyNodes
 fault_of (fails.TooManySteps path) = faults.TooManySteps
 fault_of (fails.NotAMap path) = faults.NotAMap
+fault_of (fails.NoSuchLiteral path) = faults.NoSuchLiteral
 fault_of (fails.Device path) = faults.Device
 fault_of fails.Memory = faults.Circuit reading.NoMemory
 
@@ -65,6 +66,7 @@ name_of (fails.RefusedWitness path fault) = None
 name_of (fails.TooManyNodes path) = None
 name_of (fails.TooManySteps path) = None
 name_of (fails.NotAMap path) = None
+name_of (fails.NoSuchLiteral path) = None
 name_of (fails.Device path) = None
 name_of fails.Memory = None
 
@@ -79,6 +81,7 @@ path_of (fails.NoSuchName path name) = Some path
 path_of (fails.TooManyNodes path) = Some path
 path_of (fails.TooManySteps path) = Some path
 path_of (fails.NotAMap path) = Some path
+path_of (fails.NoSuchLiteral path) = Some path
 path_of (fails.Device path) = Some path
 path_of fails.Memory = None
 

@@ -25,6 +25,7 @@ fn fault_of(failure: Failure<'_>) -> Fault
         Failure::TooManyNodes(_) => Fault::TooManyNodes,
         Failure::TooManySteps(_) => Fault::TooManySteps,
         Failure::NotAMap(_) => Fault::NotAMap,
+        Failure::NoSuchLiteral(_) => Fault::NoSuchLiteral,
         Failure::Device(_) => Fault::Device,
         Failure::Memory => Fault::Circuit(ReadError::NoMemory),
     }
@@ -54,6 +55,7 @@ fn path_of<'a>(failure: Failure<'a>) -> Option<&'a str>
         | Failure::TooManyNodes(path)
         | Failure::TooManySteps(path)
         | Failure::NotAMap(path)
+        | Failure::NoSuchLiteral(path)
         | Failure::Device(path) => Some(path),
         Failure::Memory => None,
     }

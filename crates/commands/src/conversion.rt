@@ -1,19 +1,15 @@
 //! The command `convert`.
-ghost use Rattle.std.specs.Prelude.{◌≡◌, true, false, IfErr, IfOk};
-ghost use Rattle.counted_io.specs.Output.{Writes};
-ghost use Rattle.aig_binary.specs.Spellings.{text_in};
-ghost use Rattle.stream_paths.specs.Streams.{is_stdin, is_stdout, target_name};
-ghost use Rattle.circuit_files.specs.Outcomes.{IsAbout, outcome_of};
-ghost use Rattle.circuit_files.specs.declared.outcome.Outcome.TheVariants.{Device};
+ghost use Rattle.std.specs.Prelude.{◌≡◌, true, IfOk};
+ghost use Rattle.stream_paths.specs.Streams.{is_stdin, is_stdout};
 ghost use Rattle.commands.specs.OtherSpelling.{other_spelling};
 ghost use Rattle.commands.specs.OtherSpelling as wanted;
 ghost use Rattle.commands.specs.Pipes.{ConvertsPipe};
 ghost use Rattle.command_endings.specs.Printing.{Prints, ending};
 
-use aig_binary::{Spelling, write};
-use aig_graph::Circuit;
-use circuit_files::{Failure, LazyFile, Outcome, circuit_at};
-use counted_io::{Counted, CountedRead, CountedWrite};
+use aig_binary::Spelling;
+use circuit_files::{Failure, Outcome, circuit_at};
+use command_endings::write_circuit;
+use counted_io::{CountedRead, CountedWrite};
 use std::alloc::Global;
 use std::rt::Files;
 use stream_paths::{Source, Target};
@@ -32,33 +28,6 @@ fn spelling_for(read: Spelling, chosen: Option<Spelling>) -> Spelling
     ensures { result ≡ wanted.spelling_for read chosen }
 {
     chosen.unwrap_or(other(read))
-}
-
-/// Writes the circuit to a file or to standard output, of which one is named where that failed.
-fn write_circuit<'a, R: Files, O: CountedWrite>(
-    rt: &R,
-    circuit: &Circuit,
-    spelling: Spelling,
-    output: Target<'a>,
-    out: &mut O,
-) -> Result<(), Failure<'a>>
-    ensures stdout { is_stdout output.entry ≡ true → Writes (O.output out.old)
-        (O.output out.new) result (text_in spelling circuit.now) }
-    ensures file { is_stdout output.entry ≡ false → O.output out.new ≡ O.output out.old }
-    ensures err { IfErr result (λ failure. (outcome_of failure ≡ Device)
-        × IsAbout (target_name output.entry) failure) }
-{
-    let written = match output {
-        Target::Stdout => write(circuit, spelling, out),
-        Target::File(path) => {
-            let mut writer = Counted::new(LazyFile::new(rt, path));
-            write(circuit, spelling, &mut writer)
-        }
-    };
-    match written {
-        Ok(()) => Ok(()),
-        Err(_) => Err(Failure::Device(output.name())),
-    }
 }
 
 /// Reads a circuit, and writes it in the chosen spelling, else in the one that wasn't read.

@@ -1,7 +1,7 @@
 -- The texts of the page of each fault.
 use Rattle.std.specs.Prelude.{ℕ, List, codes}
 use Rattle.fault_pages.specs.declared.fault.Fault.{Fault}
-use Rattle.fault_pages.specs.declared.fault.Fault.TheVariants.{BadHeader, TooLarge, MaxIndex, BadLine, BadLiteral, DefinedTwice, Undefined, Cycle, BadReset, BadDelta, Truncated, BadSymbol, Trailing, Width, TooMany, NoSuchName, NoSuchProperty, TooManyNodes, TooManySteps, NotAMap, NotClosed, BadRoute, UsedTwice, CountDiffers, NoMemory, Device}
+use Rattle.fault_pages.specs.declared.fault.Fault.TheVariants.{BadHeader, TooLarge, MaxIndex, BadLine, BadLiteral, DefinedTwice, Undefined, Cycle, BadReset, BadDelta, Truncated, BadSymbol, Trailing, Width, TooMany, NoSuchName, NoSuchProperty, TooManyNodes, TooManySteps, NotAMap, NoSuchLiteral, NotClosed, BadRoute, UsedTwice, CountDiffers, NoMemory, Device}
 
 -- what the fault is
 abbrev pub meaning_of : Fault → List ℕ
@@ -25,6 +25,7 @@ meaning_of NoSuchProperty = codes "A witness names a property that the circuit d
 meaning_of TooManyNodes = codes "A circuit of over 2000 nodes makes no picture that can be read."
 meaning_of TooManySteps = codes "So many random sequences, of so many steps, take too much memory."
 meaning_of NotAMap = codes "The circuit of a map of states has more than gates, outputs and constraints."
+meaning_of NoSuchLiteral = codes "A name of a witness circuit says a literal that OUT hasn't, or one twice."
 meaning_of NotClosed = codes "The set of gates of a certificate isn't closed."
 meaning_of BadRoute = codes "A list of points of a certificate is no route."
 meaning_of UsedTwice = codes "Two routes of a certificate pass one variable."
@@ -54,6 +55,7 @@ rule_of NoSuchProperty = codes "The second line of a witness names bad states, b
 rule_of TooManyNodes = codes "Inputs, latches, gates and properties are nodes."
 rule_of TooManySteps = codes "All steps take 2^28 bytes at most, each 64 and one for each input; the choices\nfor free latches 2^28, one each; the trace 2^31 bits, one for each literal of a\nproperty and each step, for 256 sequences at least."
 rule_of NotAMap = codes "A map has no latch, bad state, justice property or fairness constraint. Its\ninputs are the latches of IN, its outputs those of OUT."
+rule_of NoSuchLiteral = codes "A name '= 12' of an input of CERT says the literal 12 of an input of OUT, one of\na latch that of a latch, and no two say the same. Literals are those of OUT in a\nbinary file."
 rule_of NotClosed = codes "Its gates rise strictly. Each is a gate that latches may pass, and each gate\nthat it reads is one of the set."
 rule_of BadRoute = codes "A route goes from a known latch through gates that latches may pass to what no\nmove passes, by the steps of docs/CERTIFICATES.md."
 rule_of UsedTwice = codes "Over all routes no point v+ stands twice."
@@ -83,6 +85,7 @@ advice_of NoSuchProperty = codes "See that the witness is one of this circuit: '
 advice_of TooManyNodes = codes "Draw a neighbourhood: 'fretime dot IN OUT --around NAME --depth 3'."
 advice_of TooManySteps = codes "Take fewer steps or sequences. For more of them run again with another --seed."
 advice_of NotAMap = codes "See that IN, OUT and MAP are given in this order: 'fretime retime IN OUT --map\nMAP' writes MAP."
+advice_of NoSuchLiteral = codes "See that CERT is a witness circuit for OUT, not for IN nor of another run."
 advice_of NotClosed = codes "See that the certificates are of this IN, and give each --keep that 'retime'\ngot. Else they are wrong: 'fretime retime IN OUT --cert FILE' writes others."
 advice_of BadRoute = codes "See that the certificates are of this IN, and give each --keep that 'retime'\ngot. Else they are wrong: 'fretime retime IN OUT --cert FILE' writes others."
 advice_of UsedTwice = codes "See that the certificates are of this IN, and give each --keep that 'retime'\ngot. Else they are wrong: 'fretime retime IN OUT --cert FILE' writes others."

@@ -26,6 +26,7 @@ pub enum Fault {
     TooManyNodes,
     TooManySteps,
     NotAMap,
+    NoSuchLiteral,
     NotClosed,
     BadRoute,
     UsedTwice,
@@ -34,7 +35,7 @@ pub enum Fault {
     Device,
 }
 
-const FAULTS: [Fault; 26] = [
+const FAULTS: [Fault; 27] = [
     Fault::BadHeader,
     Fault::TooLarge,
     Fault::MaxIndex,
@@ -55,6 +56,7 @@ const FAULTS: [Fault; 26] = [
     Fault::TooManyNodes,
     Fault::TooManySteps,
     Fault::NotAMap,
+    Fault::NoSuchLiteral,
     Fault::NotClosed,
     Fault::BadRoute,
     Fault::UsedTwice,
@@ -97,6 +99,7 @@ impl Fault {
             Fault::TooManyNodes => "TooManyNodes",
             Fault::TooManySteps => "TooManySteps",
             Fault::NotAMap => "NotAMap",
+            Fault::NoSuchLiteral => "NoSuchLiteral",
             Fault::NotClosed => "NotClosed",
             Fault::BadRoute => "BadRoute",
             Fault::UsedTwice => "UsedTwice",

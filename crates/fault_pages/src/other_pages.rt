@@ -46,6 +46,14 @@ inputs are the latches of IN, its outputs those of OUT.",
 MAP' writes MAP.",
 };
 
+pub const NO_SUCH_LITERAL: Page = Page {
+    meaning: "A name of a witness circuit says a literal that OUT hasn't, or one twice.",
+    rule: "A name '= 12' of an input of CERT says the literal 12 of an input of OUT, one of
+a latch that of a latch, and no two say the same. Literals are those of OUT in a
+binary file.",
+    advice: "See that CERT is a witness circuit for OUT, not for IN nor of another run.",
+};
+
 pub const TOO_MANY_STEPS: Page = Page {
     meaning: "So many random sequences, of so many steps, take too much memory.",
     rule: "All steps take 2^28 bytes at most, each 64 and one for each input; the choices

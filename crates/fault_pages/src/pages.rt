@@ -33,6 +33,7 @@ impl Fault {
             Fault::TooManyNodes => others::TOO_MANY_NODES,
             Fault::TooManySteps => others::TOO_MANY_STEPS,
             Fault::NotAMap => others::NOT_A_MAP,
+            Fault::NoSuchLiteral => others::NO_SUCH_LITERAL,
             Fault::NotClosed => others::NOT_CLOSED,
             Fault::BadRoute => others::BAD_ROUTE,
             Fault::UsedTwice => others::USED_TWICE,

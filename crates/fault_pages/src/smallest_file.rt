@@ -29,6 +29,7 @@ impl Fault {
             | Fault::TooManyNodes
             | Fault::TooManySteps
             | Fault::NotAMap
+            | Fault::NoSuchLiteral
             | Fault::NotClosed
             | Fault::BadRoute
             | Fault::UsedTwice

@@ -64,6 +64,7 @@ refused json (fails.NoSuchName path name) old new p = inl p
 refused json (fails.TooManyNodes path) old new p = inl p
 refused json (fails.TooManySteps path) old new p = inl p
 refused json (fails.NotAMap path) old new p = inl p
+refused json (fails.NoSuchLiteral path) old new p = inl p
 refused json (fails.Device path) old new p = tt
 refused json fails.Memory old new p = inl p
 

@@ -33,6 +33,7 @@ failed json (fails.NoSuchName path name) old mid new same p = printed json Refus
 failed json (fails.TooManyNodes path) old mid new same p = printed json Refused old mid new same (λ j q. inl q) refl p
 failed json (fails.TooManySteps path) old mid new same p = printed json Refused old mid new same (λ j q. inl q) refl p
 failed json (fails.NotAMap path) old mid new same p = printed json Refused old mid new same (λ j q. inl q) refl p
+failed json (fails.NoSuchLiteral path) old mid new same p = printed json Refused old mid new same (λ j q. inl q) refl p
 failed json (fails.Device path) old mid new before p = inl tt
 failed json fails.Memory old mid new same p = printed json Memory old mid new same (λ j q. inl q) refl p
 
@@ -62,6 +63,7 @@ nothing_printed (fails.NoSuchName path name) s = refl
 nothing_printed (fails.TooManyNodes path) s = refl
 nothing_printed (fails.TooManySteps path) s = refl
 nothing_printed (fails.NotAMap path) s = refl
+nothing_printed (fails.NoSuchLiteral path) s = refl
 nothing_printed (fails.Device path) s = tt
 nothing_printed fails.Memory s = refl
 

@@ -8,7 +8,7 @@ use Rattle.witnesses.specs.Codes as witnesses
 use Rattle.serde_json.specs.Data.{Data, string, object, member, no_members}
 use Rattle.json_reports.specs.Members.{count, or_null}
 use Rattle.json_reports.specs.declared.fault.Fault.{Fault}
-use Rattle.json_reports.specs.declared.fault.Fault.TheVariants.{Circuit, Stimulus, FileList, Certificates, Witness, NoSuchName, TooManyNodes, TooManySteps, NotAMap, Device}
+use Rattle.json_reports.specs.declared.fault.Fault.TheVariants.{Circuit, Stimulus, FileList, Certificates, Witness, NoSuchName, TooManyNodes, TooManySteps, NotAMap, NoSuchLiteral, Device}
 
 abbrev pub fault_name : Fault → List ℕ
 fault_name (Circuit fault) = circuits.name_of fault
@@ -20,6 +20,7 @@ fault_name NoSuchName = codes "NoSuchName"
 fault_name TooManyNodes = codes "TooManyNodes"
 fault_name TooManySteps = codes "TooManySteps"
 fault_name NotAMap = codes "NotAMap"
+fault_name NoSuchLiteral = codes "NoSuchLiteral"
 fault_name Device = codes "Device"
 
 abbrev pub fault_offset : Fault → Option ℕ
@@ -32,6 +33,7 @@ fault_offset NoSuchName = None
 fault_offset TooManyNodes = None
 fault_offset TooManySteps = None
 fault_offset NotAMap = None
+fault_offset NoSuchLiteral = None
 fault_offset Device = None
 
 abbrev pub fault_data : Fault → Data

@@ -33,6 +33,8 @@ pub enum Fault {
     TooManySteps,
     /// A circuit of a map has a latch, a bad state, a justice property or a fairness constraint.
     NotAMap,
+    /// A name of a witness circuit says a literal that its circuit hasn't, or one that another name says.
+    NoSuchLiteral,
     /// A file couldn't be opened, created, read or written.
     Device,
 }
@@ -54,6 +56,7 @@ impl Fault {
             Fault::TooManyNodes => "TooManyNodes",
             Fault::TooManySteps => "TooManySteps",
             Fault::NotAMap => "NotAMap",
+            Fault::NoSuchLiteral => "NoSuchLiteral",
             Fault::Device => "Device",
         }
     }
@@ -72,6 +75,7 @@ impl Fault {
             | Fault::TooManyNodes
             | Fault::TooManySteps
             | Fault::NotAMap
+            | Fault::NoSuchLiteral
             | Fault::Device => None,
         }
     }

@@ -20,3 +20,4 @@ mod starting;
 pub use answer::{Answer, Doubt};
 pub use checking::check_map;
 pub use errors::CheckError;
+pub use shapes::{are_fitting, is_map};

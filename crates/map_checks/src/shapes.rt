@@ -6,7 +6,7 @@ ghost use Rattle.map_checks.specs.Answers.{AreFitting, IsMap};
 use aig_graph::{Circuit, Lit, Sequence};
 
 /// Whether the circuit is a map: without latches, with outputs and constraints alone.
-pub(crate) fn is_map(map: &Circuit) -> bool
+pub fn is_map(map: &Circuit) -> bool
     ensures { IsTrue result ↔ IsMap map.now }
 {
     let props = map.props();
@@ -46,7 +46,7 @@ fn have_same_shape(first: &Circuit, second: &Circuit) -> bool
 }
 
 /// Whether the circuits have the same shape, and the map an input for each latch of the first and an output for each of the second.
-pub(crate) fn are_fitting(first: &Circuit, second: &Circuit, map: &Circuit) -> bool
+pub fn are_fitting(first: &Circuit, second: &Circuit, map: &Circuit) -> bool
     ensures { IsTrue result ↔ AreFitting first.now second.now map.now }
 {
     have_same_shape(first, second)

@@ -1,1 +1,2 @@
 mod CheckLaws
+mod LiftLaws

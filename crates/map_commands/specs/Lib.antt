@@ -1,2 +1,3 @@
 pub mod Doubts
 pub mod Checking
+pub mod Lifted

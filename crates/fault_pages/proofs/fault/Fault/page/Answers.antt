@@ -62,6 +62,9 @@ returns-in-TooManySteps c = record { meaning = sym (ap meaning_of c.in-TooManySt
 pub returns-in-NotAMap : goal.returns-in-NotAMap
 returns-in-NotAMap c = record { meaning = sym (ap meaning_of c.in-NotAMap.is); rule = sym (ap rule_of c.in-NotAMap.is); advice = sym (ap advice_of c.in-NotAMap.is) }
 
+pub returns-in-NoSuchLiteral : goal.returns-in-NoSuchLiteral
+returns-in-NoSuchLiteral c = record { meaning = sym (ap meaning_of c.in-NoSuchLiteral.is); rule = sym (ap rule_of c.in-NoSuchLiteral.is); advice = sym (ap advice_of c.in-NoSuchLiteral.is) }
+
 pub returns-in-NotClosed : goal.returns-in-NotClosed
 returns-in-NotClosed c = record { meaning = sym (ap meaning_of c.in-NotClosed.is); rule = sym (ap rule_of c.in-NotClosed.is); advice = sym (ap advice_of c.in-NotClosed.is) }
 

@@ -1,0 +1,8 @@
+use Rattle.map_commands.proofs.LiftLaws.{lifted-of}
+use Rattle.map_commands.specs.declared.given.Given.{Given}
+use Rattle.map_commands.proofs.lift.lifted_of.Goals as goal
+
+pub returns-in-Ok-clause-lifted : goal.returns-in-Ok-clause-lifted
+returns-in-Ok-clause-lifted c =
+    let given : Given = c.args.given.now in
+    lifted-of given.pair.first.circuit given.pair.second.circuit given.map.circuit given.witness.circuit c.in-Ok.sharing c.lifted_by.result c.in-Ok.ensures.shared c.lifted_by.ensures.lifted

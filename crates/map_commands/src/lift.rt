@@ -1,0 +1,162 @@
+//! The command `lift`.
+ghost use Rattle.std.specs.Prelude.{◌≡◌, IfErr, IfOk, Err};
+ghost use Rattle.lifted_witnesses.specs.Parts.{IsLiftable};
+ghost use Rattle.witness_circuits.specs.Witnesses.{IsSharing};
+ghost use Rattle.witness_sharing.specs.Naming.{IsSharedBy};
+ghost use Rattle.map_checks.specs.Answers.{AreFitting, IsMap};
+ghost use Rattle.circuit_files.specs.declared.outcome.Failure.TheVariants.{NotAMap};
+ghost use Rattle.command_endings.specs.HeldNames.{OfSource};
+ghost use Rattle.command_endings.specs.Printing.{Prints, ending};
+ghost use Rattle.map_commands.specs.Lifted.{EndsLifting, IsFailureToLift, IsLiftOf, IsLiftedBy, IsLiftedOf, PrintsLift};
+
+use crate::given::{Given, given_for};
+use aig_binary::Spelling;
+use aig_graph::Circuit;
+use circuit_files::{Failure, Outcome};
+use command_endings::{ended, write_circuit};
+use command_line::Lifting;
+use counted_io::{CountedRead, CountedWrite};
+use file_words::ReadError;
+use lifted_witnesses::{LiftError, lift_law, lifted_witness};
+use map_checks::{are_fitting, is_map};
+use reports::print_shapes_differ;
+use std::alloc::Global;
+use std::rt::Files;
+use stream_paths::Target;
+use witness_circuits::Sharing;
+use witness_sharing::{SharingError, sharing_of};
+
+/// What is made of a witness circuit.
+#[derive(Drop)]
+enum Lifted {
+    /// The witness circuit for the first circuit.
+    Witness(Circuit),
+    /// The circuits and the map don't fit together.
+    ShapesDiffer,
+}
+
+/// The witness circuit for the first circuit, where it is known what the one for the second shares with that.
+fn lifted_by<'a>(
+    alloc: Global,
+    given: &Given,
+    sharing: &Sharing,
+    task: &Lifting<'a>,
+) -> Result<Circuit, Failure<'a>>
+    requires map { IsMap given.now.map.circuit }
+    requires fitting { AreFitting given.now.pair.first.circuit given.now.pair.second.circuit
+        given.now.map.circuit }
+    requires shares { IsSharing given.now.pair.second.circuit given.now.witness.circuit
+        sharing.now }
+    ensures lifted { IfOk result (IsLiftedBy given.now.pair.first.circuit
+        given.now.pair.second.circuit given.now.map.circuit given.now.witness.circuit
+        sharing.now) }
+    ensures failed { IfErr result (IsFailureToLift task.now given.now) }
+{
+    lift_law();
+    let first = &given.pair.first.circuit;
+    first.known();
+    match lifted_witness(
+        alloc,
+        first,
+        &given.map.circuit,
+        &given.witness.circuit,
+        sharing,
+    ) {
+        Ok(lifted) => {
+            lifted.known();
+            Ok(lifted)
+        }
+        Err(LiftError::NoMemory) => Err(Failure::Memory),
+        Err(LiftError::TooLarge) => {
+            Err(Failure::Refused(task.output.name(), ReadError::TooLarge(0)))
+        }
+    }
+}
+
+/// The witness circuit for the first circuit, of circuits and a map that fit together.
+fn lifted_of<'a>(alloc: Global, given: &Given, task: &Lifting<'a>) -> Result<Circuit, Failure<'a>>
+    requires map { IsMap given.now.map.circuit }
+    requires fitting { AreFitting given.now.pair.first.circuit given.now.pair.second.circuit
+        given.now.map.circuit }
+    ensures lifted { IfOk result (IsLiftOf given.now.pair.first.circuit
+        given.now.pair.second.circuit given.now.map.circuit given.now.witness.circuit) }
+    ensures failed { IfErr result (IsFailureToLift task.now given.now) }
+{
+    match sharing_of(alloc, &given.pair.second.circuit, &given.witness.circuit) {
+        Ok(sharing) => {
+            let lifted = lifted_by(alloc, given, &sharing, task);
+            drop(sharing);
+            lifted
+        }
+        Err(SharingError::NoMemory) => Err(Failure::Memory),
+        Err(SharingError::NoSuchLiteral) => Err(Failure::NoSuchLiteral(task.witness.name())),
+    }
+}
+
+/// What is made of the witness circuit that is read. That the map isn't one is found first, then that it doesn't fit the circuits.
+fn lifted_for<'a>(alloc: Global, given: &Given, task: &Lifting<'a>) -> Result<Lifted, Failure<'a>>
+    ensures lifted { IfOk result (IsLiftedOf given.now) }
+    ensures failed { IfErr result (IsFailureToLift task.now given.now) }
+    ensures not_a_map { (IsMap given.now.map.circuit → ⊥) → OfSource task.now.map
+        (λ path. result ≡ Err (NotAMap path)) }
+{
+    let map = &given.map.circuit;
+    if !is_map(map) {
+        return Err(Failure::NotAMap(task.map.name()));
+    }
+    if !are_fitting(&given.pair.first.circuit, &given.pair.second.circuit, map) {
+        return Ok(Lifted::ShapesDiffer);
+    }
+    match lifted_of(alloc, given, task) {
+        Ok(circuit) => Ok(Lifted::Witness(circuit)),
+        Err(failure) => Err(failure),
+    }
+}
+
+/// Writes what is made of a witness circuit, or prints that the circuits and the map don't fit together.
+fn write_result<'a, R: Files, O: CountedWrite>(
+    rt: &R,
+    lifted: &Lifted,
+    spelling: Spelling,
+    output: Target<'a>,
+    out: &mut O,
+) -> Result<Outcome, Failure<'a>>
+    ensures written { IfOk result (EndsLifting lifted.now spelling output.entry
+        (O.output out.old) (O.output out.new)) }
+    ensures prints { Prints (ending result) (O.output out.old) (O.output out.new) }
+{
+    match lifted {
+        Lifted::Witness(circuit) => match write_circuit(rt, circuit, spelling, output, out) {
+            Ok(()) => Ok(Outcome::Done),
+            Err(failure) => Err(failure),
+        },
+        Lifted::ShapesDiffer => ended(print_shapes_differ(out), Outcome::ShapesDiffer),
+    }
+}
+
+/// Reads a circuit, the one that was made of it, a map of the states of the first to those of the second, and a witness circuit for the
+/// second, in this order, and writes the witness circuit for the first. A file is made once all that can be refused was found right.
+pub fn write_lifted<'a, R: Files, I: CountedRead, O: CountedWrite>(
+    rt: &R,
+    alloc: Global,
+    task: &Lifting<'a>,
+    stdin: &mut I,
+    out: &mut O,
+) -> Result<Outcome, Failure<'a>>
+    ensures lift { IfOk result (PrintsLift task.now (I.input stdin.old) (I.input stdin.new)
+        (O.output out.old) (O.output out.new)) }
+    ensures prints { Prints (ending result) (O.output out.old) (O.output out.new) }
+{
+    let given = given_for(rt, alloc, task, stdin)?;
+    let spelling = task.spelling.unwrap_or(given.witness.spelling);
+    let found = lifted_for(alloc, &given, task);
+    drop(given);
+    match found {
+        Ok(lifted) => {
+            let written = write_result(rt, &lifted, spelling, task.output, out);
+            drop(lifted);
+            written
+        }
+        Err(failure) => Err(failure),
+    }
+}
