@@ -94,7 +94,8 @@ def picture_options(rng, c):
         c.symbols['l'].values(), [name for names in c.symbols.values() for name in names.values()]))
     words = rng.choice([[], ['--frame'], ['--frame', '--merge']]) + [f'--keep={name}' for name in rng.sample(latches, min(len(latches), rng.randint(0, 1)))]
     if rng.random() < 0.5:
-        words += [f'--around={rng.choice([*names, "nothing"])}'] + rng.choice([[], [f'--depth={rng.randint(1, 4)}']])
+        shown = [f'{rng.choice("ilobcjf")}{rng.randint(0, 2)}', str(rng.randint(0, 12)), 'nothing']
+        words += [f'--around={rng.choice([*names, *shown])}'] + rng.choice([[], [f'--depth={rng.randint(1, 4)}']])
     return words
 
 

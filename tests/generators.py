@@ -76,6 +76,7 @@ CAPTION = 'labeljust=l;\nfontsize=10;\nlabel="' + ''.join(line + '\\l' for line 
     'box: latch and its reset; dashed box: without one; double box: held',
     'circle: gate, by its literal; gray: no latch can move over it',
     'blue: latches move over it next; bold: holds a latch afterwards',
+    'red: what was asked for, or what that reads',
 )) + '";\n'
 
 

@@ -54,8 +54,29 @@ def has_name(c, name):
     return any(name in names.values() for names in c.symbols.values())
 
 
-def neighbourhood(c, name, depth):
-    near = named(c, name)
+def called(c, word):
+    """The variables that a picture calls so, or that the property reads which it calls so; None where it calls nothing so."""
+    if word.isdigit():
+        lit = int(word)
+        return {lit // 2} if lit % 2 == 0 and c.first_gate() <= lit // 2 < c.end() else None
+    letter, position = word[:1].decode('latin-1'), word[1:]
+    if not position.isdigit():
+        return None
+    k = int(position)
+    if letter == 'i':
+        return {1 + k} if k < c.inputs else None
+    if letter == 'l':
+        return {c.first_latch() + k} if k < len(c.latches) else None
+    properties = of_kinds(c).get(letter, [])
+    return {lit // 2 for lit in properties[k]} if k < len(properties) else None
+
+
+def middle(c, name):
+    """What a neighbourhood is around: what has the name, else what a picture calls so; None where there is nothing."""
+    return named(c, name) if has_name(c, name) else called(c, name)
+
+
+def neighbourhood(c, near, depth):
     for _ in range(depth):
         ends = [(lit // 2, reader) for reader, lits in edges(c) for lit in lits]
         near = near | {a for a, b in ends if b in near} | {b for a, b in ends if a in near and a != 0}
@@ -69,11 +90,12 @@ def edge_lines(lits, to, drawn):
 LEGEND = ['labeljust=l;', 'fontsize=10;', 'label="' + ''.join(line + r'\l' for line in (
     "dot: negated; dashed arrow: from a literal that isn't drawn", 'box: latch and its reset; dashed box: without one; double box: held',
     'circle: gate, by its literal; gray: no latch can move over it', 'blue: latches move over it next; bold: holds a latch afterwards',
+    'red: what was asked for, or what that reads',
 )) + '";']
 
 
-def picture(c, held, members, drawn):
-    """The lines of a picture; `members` is the set that is shown, or None."""
+def picture(c, held, members, drawn, centre=()):
+    """The lines of a picture; `members` is the set that is shown, or None, and `centre` what is in the middle."""
     bold = set() if members is None else set(border(c, members, held))
     passing, lines = set(passable(c, held)), ['digraph circuit {', 'rankdir=LR;', 'node [shape=plaintext];', *LEGEND]
     lines += [f'{2 * v} [shape=cds,label=i{v - 1}];' for v in range(1, 1 + c.inputs) if v in drawn]
@@ -95,5 +117,6 @@ def picture(c, held, members, drawn):
             if all(lit // 2 in drawn for lit in lits):
                 lines += [f'{letter}{k} [shape=note];', *edge_lines(lits, f'{letter}{k}', drawn)]
                 names += [(f'{letter}{k}', name) for name in [c.symbols[letter].get(k)] if name is not None]
+    lines += [f'{2 * v} [color=red];' for v in sorted(centre)]
     text = ''.join(line + '\n' for line in lines).encode()
     return text + b''.join(b'%s [label="%s"];\n' % (str(node).encode(), label(name)) for node, name in names) + b'}\n'

@@ -8,7 +8,7 @@ from reference.circuit import text
 from reference.lifts import NoSuchLiteral, lifted
 from reference.maps import state_map
 from reference.merging import merge_counts
-from reference.pictures import MOST_NODES, has_name, neighbourhood, nodes, picture
+from reference.pictures import MOST_NODES, middle, neighbourhood, nodes, picture
 from reference.reading import Fault, read
 from reference.retiming import NoSuchName, frames_of, held_latches, passable, retimed
 from reference.simulation import difference_text, is_too_long, random_stimulus, read_kept, read_stimulus, trace, trace_text
@@ -334,15 +334,16 @@ def drawn_circuit(c, path, options):
 def dot(paths, options):
     whole, _ = circuit_of(paths[0])
     c, held, members = drawn_circuit(whole, paths[0], options)
-    around, drawn = options.get('--around'), range(c.end())
+    around, drawn, centre = options.get('--around'), range(c.end()), ()
     if around:
         name = os.fsencode(around[0])
-        if not has_name(c, name):
+        centre = middle(c, name)
+        if centre is None:
             raise no_such_name(paths[0], whole, name)
-        drawn = neighbourhood(c, name, int(options.get('--depth', ['2'])[0]))
+        drawn = neighbourhood(c, centre, int(options.get('--depth', ['2'])[0]))
     elif nodes(c) > MOST_NODES:
         raise Ends(1, f'{source_name(paths[0])}: TooManyNodes, over 2000: --around NAME draws a neighbourhood')
-    write(paths[1], picture(c, held, members, drawn))
+    write(paths[1], picture(c, held, members, drawn, centre))
     return 0, ''
 
 

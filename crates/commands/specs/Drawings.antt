@@ -1,5 +1,5 @@
 -- What a picture shows.
-use Rattle.std.specs.Prelude.{ℕ, ◌≡◌, ◌<◌, ◌≤◌, ◌+◌, Bool, true, false, List, length, map, Option, Some, None}
+use Rattle.std.specs.Prelude.{ℕ, ◌≡◌, ◌<◌, ◌≤◌, ◌+◌, Bool, true, false, List, length, map, Option, Some, None, option_map}
 use Rattle.std.specs.Borrow.{Bor}
 use Rattle.aig_graph.specs.Graph.{known_latches, variables_end}
 use Rattle.aig_graph.specs.Circuits.{Netlist}
@@ -22,7 +22,7 @@ use Rattle.frames.specs.Named.{names_in}
 use Rattle.frames.specs.Retiming.{IsRetimedBy}
 use Rattle.frames.specs.declared.options.Options.{Options}
 use Rattle.pictures.specs.Looks.{everything}
-use Rattle.pictures.specs.Near.{is_name_of, is_near}
+use Rattle.pictures.specs.Near.{has_node, is_centre, is_near}
 use Rattle.pictures.specs.Pictures.{picture}
 use Rattle.command_line.specs.declared.task.Drawing.{Drawing}
 use Rattle.command_endings.specs.HeldNames.{OfSource}
@@ -37,18 +37,22 @@ names_for task = map (λ name. name.now) task.keep.items
 abbrev pub shown : Netlist → Drawing → ℕ → Bool
 shown c task = elim task.around [ None ↦ everything | Some name ↦ is_near c name.now task.depth ]
 
+-- what is in the middle of the neighbourhood, where one is asked for
+abbrev pub middle : Netlist → Drawing → Option (ℕ → Bool)
+middle c task = option_map (λ name. is_centre c name.now) task.around
+
 -- the nodes of a picture of all of a circuit: its variables and its properties
 abbrev pub nodes : Netlist → ℕ
 nodes c = variables_end c.aig + length c.props.outputs + length c.props.bad + length c.props.constraints + length c.props.justice + length c.props.fairness
 
--- a circuit can be drawn around what has this name, or where none is given as a whole, if that has no more than 2000 nodes
+-- a circuit can be drawn around what has this name, or what a picture calls so, or where none is given as a whole, if that has no more than 2000 nodes
 abbrev pub CanBeDrawn : Option (Bor (List ℕ)) → Netlist → Type 0
-CanBeDrawn (Some name) c = is_name_of c.symbols name.now ≡ true
+CanBeDrawn (Some name) c = has_node c name.now ≡ true
 CanBeDrawn None c = nodes c ≤ 2000
 
 -- why it can't
 abbrev pub IsRefusal : Option (Bor (List ℕ)) → Netlist → Source → Failure → Type 0
-IsRefusal (Some name) c input failure = (is_name_of c.symbols name.now ≡ false) × OfSource input (λ path. failure ≡ fails.NoSuchName path name)
+IsRefusal (Some name) c input failure = (has_node c name.now ≡ false) × OfSource input (λ path. failure ≡ fails.NoSuchName path name)
 IsRefusal None c input failure = (2000 < nodes c) × OfSource input (λ path. failure ≡ fails.TooManyNodes path)
 
 -- the set that is shown: where the next frame is asked for the greatest least set, if it leaves fewer known latches than there are,
@@ -96,7 +100,7 @@ pub record IsSceneOf (task : Drawing) (before after : Input) (scene : Scene) : T
 
 -- what is written of a scene
 abbrev pub picture_of : Drawing → Scene → List ℕ
-picture_of task scene = picture scene.circuit scene.keep scene.set (shown scene.circuit task)
+picture_of task scene = picture scene.circuit scene.keep scene.set (shown scene.circuit task) (middle scene.circuit task)
 
 -- the picture of the scene of what is read was written
 pub record WritesScene (task : Drawing) (before after : Input) (old new : Output) : Type 0 where

@@ -6,7 +6,7 @@ ghost use Rattle.commands.specs.Drawings as wanted;
 use aig_graph::Circuit;
 use circuit_files::Failure;
 use command_line::Drawing;
-use pictures::has_name;
+use pictures::has_node;
 
 /// The most nodes that a picture of a whole circuit has.
 const MOST_NODES: u128 = 2000;
@@ -31,12 +31,12 @@ fn is_too_large(circuit: &Circuit) -> bool
     nodes(circuit) > MOST_NODES
 }
 
-/// That something in the circuit has the name.
+/// That something in the circuit has the name, or a picture calls something so.
 fn check_name<'a>(circuit: &Circuit, task: &Drawing<'a>, name: &'a str) -> Result<(), Failure<'a>>
     ensures { MatchResult result (λ _. CanBeDrawn (Some name.entry) circuit.now)
         (IsRefusal (Some name.entry) circuit.now task.now.input) }
 {
-    if has_name(circuit, name.as_bytes()) {
+    if has_node(circuit, name.as_bytes()) {
         Ok(())
     } else {
         Err(Failure::NoSuchName(task.input.name(), name))

@@ -5,7 +5,7 @@ ghost use Rattle.pictures.specs.Looks.{IsViewOf};
 ghost use Rattle.stream_paths.specs.Streams.{is_stdout};
 ghost use Rattle.circuit_files.specs.Outcomes.{outcome_of};
 ghost use Rattle.circuit_files.specs.declared.outcome.Outcome.TheVariants.{Device};
-ghost use Rattle.commands.specs.Drawings.{PrintsPicture, picture_of, shown};
+ghost use Rattle.commands.specs.Drawings.{PrintsPicture, middle, picture_of, shown};
 ghost use Rattle.command_endings.specs.Printing.{Prints, ending};
 
 use crate::scene::{Scene, scene_for};
@@ -22,7 +22,7 @@ use stream_paths::Target;
 /// The view of a scene that is asked for: of a neighbourhood, or of the whole circuit.
 fn view(alloc: Global, scene: &Scene, task: &Drawing<'_>) -> Result<View, NoMemory>
     ensures { IfOk result (IsViewOf scene.now.circuit scene.now.keep scene.now.set
-        (shown scene.now.circuit task.now)) }
+        (shown scene.now.circuit task.now) (middle scene.now.circuit task.now)) }
 {
     let Scene { circuit, keep, set } = scene;
     match task.around {
@@ -45,7 +45,7 @@ fn write_view<'a, W: CountedWrite>(
     writer: &mut W,
 ) -> Result<(), Failure<'a>>
     requires { IsViewOf scene.now.circuit scene.now.keep scene.now.set
-        (shown scene.now.circuit task.now) view.now }
+        (shown scene.now.circuit task.now) (middle scene.now.circuit task.now) view.now }
     ensures picture { OnOk result (WritesAll (W.output writer.old) (W.output writer.new)
         (picture_of task.now scene.now)) }
     ensures err { IfErr result (λ failure. outcome_of failure ≡ Device) }

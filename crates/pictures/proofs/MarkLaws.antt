@@ -8,7 +8,7 @@ use Rattle.variable_tables.proofs.MarkingLaws.{Marks-none, AreMarks-table, mark_
 use Rattle.variable_tables.proofs.TableLaws.{table-same, table-from, length-table}
 use Rattle.aig_graph.specs.Graph.{Graph, variables_end}
 use Rattle.aig_graph.specs.Circuits.{Netlist}
-use Rattle.pictures.specs.Near.{is_named, is_near, is_next}
+use Rattle.pictures.specs.Near.{is_centre, is_near, is_next}
 
 pub marks-where : (old new : List Bool) (p : ℕ → Bool) (holds test : Bool) → test ≡ holds → test ≡ true → Marks 0 old new p → Marks 0 old new (λ v. holds && p v)
 marks-where old new p holds test same passes marks = subst (λ (b : Bool). Marks 0 old new (λ v. b && p v)) (sym passes ∙ same) marks
@@ -21,20 +21,20 @@ funext f g h = λ i. λ x. h x i
 
 near-past : (c : Netlist) (name : List ℕ) (depth v : ℕ) → variables_end c.aig ≤ v → is_near c name depth v ≡ false
 unfolding is_near
-near-past c name zero v h = ap (λ (b : Bool). b && is_named c name v) (le-ltb v (variables_end c.aig) h)
+near-past c name zero v h = ap (λ (b : Bool). b && is_centre c name v) (le-ltb v (variables_end c.aig) h)
 near-past c name (suc depth) v h =
     ap (λ (b : Bool). b && (is_near c name depth v || is_next c.aig (is_near c name depth) v)) (le-ltb v (variables_end c.aig) h)
 
-near-start : (c : Netlist) (name : List ℕ) (v : ℕ) → v < variables_end c.aig → is_named c name v ≡ is_near c name 0 v
+near-start : (c : Netlist) (name : List ℕ) (v : ℕ) → v < variables_end c.aig → is_centre c name v ≡ is_near c name 0 v
 unfolding is_near
-near-start c name v h = sym (ap (λ (b : Bool). b && is_named c name v) (lt-ltb v (variables_end c.aig) h))
+near-start c name v h = sym (ap (λ (b : Bool). b && is_centre c name v) (lt-ltb v (variables_end c.aig) h))
 
 near-next : (c : Netlist) (name : List ℕ) (depth v : ℕ) → v < variables_end c.aig
     → (is_near c name depth v || is_next c.aig (is_near c name depth) v) ≡ is_near c name (suc depth) v
 unfolding is_near
 near-next c name depth v h = sym (ap (λ (b : Bool). b && (is_near c name depth v || is_next c.aig (is_near c name depth) v)) (lt-ltb v (variables_end c.aig) h))
 
-pub near-none : (c : Netlist) (name : List ℕ) (marks : List Bool) → marks ≡ table 0 (variables_end c.aig) (is_named c name)
+pub near-none : (c : Netlist) (name : List ℕ) (marks : List Bool) → marks ≡ table 0 (variables_end c.aig) (is_centre c name)
     → marks ≡ table 0 (variables_end c.aig) (is_near c name 0)
 near-none c name marks filled = filled ∙ table-same 0 (variables_end c.aig) _ _ false (λ v low high. near-start c name v (omega (arith, high)))
 

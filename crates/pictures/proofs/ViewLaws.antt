@@ -69,16 +69,16 @@ module _ (c : Netlist) (held : List ℕ) (set : Option (List ℕ)) (first : ℕ)
     | inr low ↦ ap (λ (b : Bool). cond b (get_or looks (v - first) plain) plain) (le-leb first v (omega (arith, same, low))) ∙ entry_is v low
   ]
 
-looks_are : (c : Netlist) (held : List ℕ) (set : Option (List ℕ)) (shown : ℕ → Bool) (view : View) → IsViewOf c held set shown view
-    → (v : ℕ) → look_in view v ≡ look_of c held set v
-unfolding look_in
-looks_are c held set shown view is v = look_is c held set view.first view.looks.items is.first is.looks v
+module _ (c : Netlist) (held : List ℕ) (set : Option (List ℕ)) (shown : ℕ → Bool) (centre : Option (ℕ → Bool)) (view : View) (is : IsViewOf c held set shown centre view) where
+  looks_are : (v : ℕ) → look_in view v ≡ look_of c held set v
+  unfolding look_in
+  looks_are v = look_is c held set view.first view.looks.items is.first is.looks v
 
-pub picture_is : (c : Netlist) (held : List ℕ) (set : Option (List ℕ)) (shown : ℕ → Bool) (view : View) → IsViewOf c held set shown view
-    → dot_text (look_in view) (drawn_in view) c ≡ picture c held set shown
-picture_is c held set shown view is =
-    ap₂ (λ (look : ℕ → Look) (drawn : ℕ → Bool). dot_text look drawn c)
-    (funext (look_in view) (look_of c held set) (looks_are c held set shown view is)) (funext (drawn_in view) shown is.draws)
+  pub picture_is : dot_text (look_in view) (drawn_in view) view.centre c ≡ picture c held set shown centre
+  picture_is =
+      ap₂ (λ (look : ℕ → Look) (drawn : ℕ → Bool). dot_text look drawn view.centre c)
+      (funext (look_in view) (look_of c held set) looks_are) (funext (drawn_in view) shown is.draws)
+      ∙ ap (λ (marks : Option (List Bool)). dot_text (look_of c held set) shown marks c) is.middle
 
 -- a view that names no variables
 pub all_drawn : (view : View) → view.drawn ≡ None → (v : ℕ) → drawn_in view v ≡ true

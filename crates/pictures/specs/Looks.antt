@@ -1,8 +1,8 @@
 -- How each variable of a circuit looks.
-use Rattle.std.specs.Prelude.{ℕ, ◌≡◌, ◌||◌, ◌&&◌, Bool, true, false, not, List, Option, Some, None}
+use Rattle.std.specs.Prelude.{ℕ, ◌≡◌, ◌||◌, ◌&&◌, Bool, true, false, not, List, Option, Some, None, option_map}
 use Rattle.variable_tables.specs.Marking.{mark_at}
 use Rattle.variable_tables.specs.Tables.{table}
-use Rattle.aig_graph.specs.Graph.{Graph, first_latch, latches_and_gates, latch_at, is_known}
+use Rattle.aig_graph.specs.Graph.{Graph, first_latch, latches_and_gates, variables_end, latch_at, is_known}
 use Rattle.aig_graph.specs.Circuits.{Netlist}
 use Rattle.aig_graph.specs.Closed.{is_held}
 use Rattle.aig_graph.specs.Move.{move_of}
@@ -34,11 +34,16 @@ look_of c held set v = record {
 abbrev pub looks_by : Graph → (ℕ → Look) → List Look
 looks_by g look = table (first_latch g) (latches_and_gates g) look
 
--- the looks of a circuit, its held latches and a set, and which variables are shown
-pub record IsViewOf (c : Netlist) (held : List ℕ) (set : Option (List ℕ)) (shown : ℕ → Bool) (view : View) : Type 0 where
+-- marks by variable of what is in the middle, if there is one
+abbrev pub centre_marks : Netlist → Option (ℕ → Bool) → Option (List Bool)
+centre_marks c centre = option_map (table 0 (variables_end c.aig)) centre
+
+-- the looks of a circuit, its held latches and a set, which variables are shown, and which are in the middle
+pub record IsViewOf (c : Netlist) (held : List ℕ) (set : Option (List ℕ)) (shown : ℕ → Bool) (centre : Option (ℕ → Bool)) (view : View) : Type 0 where
   pub first : view.first ≡ first_latch c.aig
   pub looks : view.looks.items ≡ looks_by c.aig (look_of c held set)
   pub draws : (v : ℕ) → drawn_in view v ≡ shown v
+  pub middle : view.centre ≡ centre_marks c centre
 
 abbrev pub everything : ℕ → Bool
 everything v = true

@@ -1,5 +1,5 @@
 -- The neighbourhood of what a name names: the variables that are at most so many edges away.
-use Rattle.std.specs.Prelude.{ℕ, ◌+◌, ◌==◌, ◌||◌, ◌&&◌, nat_lt, Bool, false, not, suc, zero, List, slice_get, Some, None, bytes_eq}
+use Rattle.std.specs.Prelude.{ℕ, ◌+◌, ◌==◌, ◌||◌, ◌&&◌, nat_lt, Bool, false, not, suc, zero, List, Some, None, is_some, bytes_eq, if◌then◌else◌}
 use Rattle.std.specs.List.{list_any, enumerate_from}
 use Rattle.aig_graph.specs.declared.graph.Gate.{Gate}
 use Rattle.aig_graph.specs.declared.graph.Latch.{Latch}
@@ -8,8 +8,8 @@ use Rattle.aig_graph.specs.declared.properties.Symbol.{Symbol}
 use Rattle.aig_graph.specs.declared.properties.Symbols.{Symbols}
 use Rattle.aig_graph.specs.Graph.{Graph, variable, first_latch, first_gate, variables_end}
 use Rattle.aig_graph.specs.Circuits.{Netlist}
-use Rattle.aig_graph.specs.Border.{reads}
 use Rattle.aig_graph.specs.Keep.{has_name}
+use Rattle.pictures.specs.Places.{is_at, is_justice_read, is_single_read, place_of}
 
 -- whether a property, and whether anything, has the name
 unfoldable pub is_property_name : Symbols → List ℕ → Bool
@@ -18,16 +18,13 @@ is_property_name s name = has_name s.outputs name || (has_name s.bad name || (ha
 unfoldable pub is_name_of : Symbols → List ℕ → Bool
 is_name_of s name = has_name s.inputs name || (has_name s.latches name || is_property_name s name)
 
+-- whether the circuit has what the name names, or what a picture calls so
+abbrev pub has_node : Netlist → List ℕ → Bool
+has_node c name = is_name_of c.symbols name || is_some (place_of c name)
+
 -- whether the symbol has the name and is that of the variable, where its kind begins at `first`
 unfoldable pub names_variable : ℕ → List ℕ → ℕ → Symbol → Bool
 names_variable first name v symbol = bytes_eq symbol.name name && (first + symbol.position == v)
-
--- whether the property at a position reads the variable
-abbrev pub is_single_read : List ℕ → ℕ → ℕ → Bool
-is_single_read lits position v = elim (slice_get lits position) [ None ↦ false | Some lit ↦ reads v lit ]
-
-abbrev pub is_justice_read : List (List ℕ) → ℕ → ℕ → Bool
-is_justice_read justice position v = elim (slice_get justice position) [ None ↦ false | Some lits ↦ list_any (reads v) lits ]
 
 -- whether the symbol has the name and is that of a property that reads the variable
 unfoldable pub names_single : List ℕ → List ℕ → ℕ → Symbol → Bool
@@ -48,6 +45,14 @@ unfoldable pub is_named : Netlist → List ℕ → ℕ → Bool
 is_named c name v =
     (list_any (names_variable 1 name v) c.symbols.inputs || list_any (names_variable (first_latch c.aig) name v) c.symbols.latches)
     || is_property_named c.props c.symbols name v
+
+-- whether the variable is what the word calls, or the property that the word calls reads it
+abbrev pub is_word_of : Netlist → List ℕ → ℕ → Bool
+is_word_of c word v = elim (place_of c word) [ None ↦ false | Some node ↦ is_at c.props node v ]
+
+-- whether the variable is in the middle of the neighbourhood of the name: what has it, or where nothing has it, what a picture calls so
+unfoldable pub is_centre : Netlist → List ℕ → ℕ → Bool
+is_centre c name v = if is_name_of c.symbols name then is_named c name v else is_word_of c name v
 
 -- whether a way goes on from the variable: it is reached, and isn't the constant
 unfoldable pub goes_on : (ℕ → Bool) → ℕ → Bool
@@ -70,5 +75,5 @@ is_next g near v =
 
 -- whether the variable is at most so many edges away from what the name names
 unfoldable pub is_near : Netlist → List ℕ → ℕ → ℕ → Bool
-is_near c name zero v = nat_lt v (variables_end c.aig) && is_named c name v
+is_near c name zero v = nat_lt v (variables_end c.aig) && is_centre c name v
 is_near c name (suc depth) v = nat_lt v (variables_end c.aig) && (is_near c name depth v || is_next c.aig (is_near c name depth) v)

@@ -1,5 +1,5 @@
 -- A circuit as text in DOT, the language of Graphviz.
-use Rattle.std.specs.Prelude.{ℕ, ◌+◌, Bool, false, List, [], ◌∷◌, ◌++◌, slice_get, Option, Some, None, codes}
+use Rattle.std.specs.Prelude.{ℕ, ◌+◌, ◌*◌, Bool, false, List, [], ◌∷◌, ◌++◌, decimal, slice_get, Option, Some, None, codes}
 use Rattle.std.specs.Str.{byte}
 use Rattle.std.specs.List.{flat_map, list_all, range_with_len}
 use Rattle.counted_io.specs.Line.{numbered_lines}
@@ -14,7 +14,7 @@ use Rattle.pictures.specs.declared.look.Look.{Look}
 use Rattle.pictures.specs.declared.node.Node.{Node}
 use Rattle.pictures.specs.declared.node.Node.TheVariants.{Variable, Property}
 use Rattle.pictures.specs.Labels.{label}
-use Rattle.pictures.specs.Looks.{look_of}
+use Rattle.pictures.specs.Looks.{centre_marks, look_of}
 use Rattle.pictures.specs.Nodes.{only_if, node_name, edges, input_line, latch_line, gate_line, property_line}
 
 -- what the forms mean, as the caption
@@ -23,11 +23,24 @@ legend =
     codes "labeljust=l;\nfontsize=10;\nlabel=\"dot: negated; dashed arrow: from a literal that isn't drawn\\l"
     ++ (codes "box: latch and its reset; dashed box: without one; double box: held\\l"
     ++ (codes "circle: gate, by its literal; gray: no latch can move over it\\l"
-    ++ (codes "blue: latches move over it next; bold: holds a latch afterwards\\l\";\n")))
+    ++ (codes "blue: latches move over it next; bold: holds a latch afterwards\\l"
+    ++ codes "red: what was asked for, or what that reads\\l\";\n")))
 
 -- a name in place of a node's position
 unfoldable pub name_line : Node → List ℕ → List ℕ
 name_line node name = node_name node ++ (codes " [label=\"" ++ (label name ++ codes "\"];\n"))
+
+-- what is in the middle of a neighbourhood has a red line
+unfoldable pub red_line : ℕ → List ℕ
+red_line v = decimal (2 * v) ++ codes " [color=red];\n"
+
+unfoldable pub centre_line : ℕ → Bool → List ℕ
+centre_line v is_centre = only_if is_centre (red_line v)
+
+-- the lines of all variables, by their marks; a picture of the whole circuit has none
+unfoldable pub centre_lines : Option (List Bool) → List ℕ
+centre_lines None = []
+centre_lines (Some marks) = numbered_lines centre_line 0 marks
 
 -- by how each variable looks, and which are drawn
 module _ (look : ℕ → Look) (drawn : ℕ → Bool) where
@@ -94,12 +107,12 @@ module _ (look : ℕ → Look) (drawn : ℕ → Bool) where
       flat_map (variable_name 1) c.symbols.inputs ++ (flat_map (variable_name (first_latch c.aig)) c.symbols.latches
       ++ property_names c.props c.symbols)
 
-  -- the picture: its caption, nodes with the edges to them, and then the names
-  unfoldable pub dot_text : Netlist → List ℕ
-  dot_text c =
+  -- the picture: its caption, nodes with the edges to them, then what is in the middle, and then the names
+  unfoldable pub dot_text : Option (List Bool) → Netlist → List ℕ
+  dot_text centre c =
       codes "digraph circuit {\nrankdir=LR;\nnode [shape=plaintext];\n"
-      ++ (legend ++ (graph_lines c.aig ++ (all_properties c.props ++ (all_names c ++ codes "}\n"))))
+      ++ (legend ++ (graph_lines c.aig ++ (all_properties c.props ++ (centre_lines centre ++ (all_names c ++ codes "}\n")))))
 
--- the picture of a circuit with its held latches, a set or none, and the variables that are shown
-abbrev pub picture : Netlist → List ℕ → Option (List ℕ) → (ℕ → Bool) → List ℕ
-picture c held set shown = dot_text (look_of c held set) shown c
+-- the picture of a circuit with its held latches, a set or none, the variables that are shown, and those in the middle, if there is one
+abbrev pub picture : Netlist → List ℕ → Option (List ℕ) → (ℕ → Bool) → Option (ℕ → Bool) → List ℕ
+picture c held set shown centre = dot_text (look_of c held set) shown (centre_marks c centre) c

@@ -7,6 +7,7 @@ ghost use Rattle.pictures.specs.Views.{drawn_in, look_in};
 
 use crate::graph::put_graph;
 use crate::look::View;
+use crate::middle::put_centre;
 use crate::names::put_names;
 use crate::properties::put_properties;
 use aig_graph::Circuit;
@@ -23,17 +24,19 @@ fn put_legend<W: CountedWrite>(out: &mut Buffered<'_, W>)
     );
     out.put(b"box: latch and its reset; dashed box: without one; double box: held\\l");
     out.put(b"circle: gate, by its literal; gray: no latch can move over it\\l");
-    out.put(b"blue: latches move over it next; bold: holds a latch afterwards\\l\";\n");
+    out.put(b"blue: latches move over it next; bold: holds a latch afterwards\\l");
+    out.put(b"red: what was asked for, or what that reads\\l\";\n");
 }
 
 fn put_dot<W: CountedWrite>(out: &mut Buffered<'_, W>, circuit: &Circuit, view: &View)
     ensures { Puts W.output out.old out.new (dot_text (look_in view.now)
-        (drawn_in view.now) circuit.now) }
+        (drawn_in view.now) view.now.centre circuit.now) }
 {
     out.put(HEAD);
     put_legend(out);
     put_graph(out, view, circuit.aig());
     put_properties(out, view, circuit.props());
+    put_centre(out, view);
     put_names(out, view, circuit);
     out.put(b"}\n");
 }
@@ -52,9 +55,9 @@ pub fn write_dot<W: CountedWrite>(
     writer: &mut W,
 ) -> Result<(), WriteError>
     ensures { (held : List ℕ) (set : Option (List ℕ)) (shown : ℕ → Bool)
-        → IsViewOf circuit.now held set shown view.now
+        (centre : Option (ℕ → Bool)) → IsViewOf circuit.now held set shown centre view.now
         → Writes (W.output writer.old) (W.output writer.new) result
-        (picture circuit.now held set shown) }
+        (picture circuit.now held set shown centre) }
 {
     let mut out = Buffered::new(writer);
     put_dot(&mut out, circuit, view);

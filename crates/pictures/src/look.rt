@@ -1,6 +1,6 @@
 //! Looks begin at the first latch, and marks of what is drawn are there only where something isn't: a header alone may announce
 //! 2^28 inputs, which take no room in a picture of the whole circuit.
-ghost use Rattle.std.specs.Prelude.{◌≡◌, None, Some};
+ghost use Rattle.std.specs.Prelude.{◌≡◌, None, Some, option_map};
 ghost use Rattle.pictures.specs.Views.{drawn_in, look_in, plain};
 
 use aig_graph::Sequence;
@@ -19,12 +19,14 @@ pub struct Look {
     pub border: bool,
 }
 
-/// What a picture shows: how each latch and gate looks, and which variables are drawn. `View::new` makes the view of a circuit.
+/// What a picture shows: how each latch and gate looks, which variables are drawn, and which are in the middle. `View::new` makes the
+/// view of a circuit.
 #[derive(Drop)]
 pub struct View {
     first: u32,
     looks: Vec<Look>,
     drawn: Option<Sequence<bool>>,
+    centre: Option<Sequence<bool>>,
 }
 
 /// What is neither a latch nor a gate.
@@ -36,16 +38,23 @@ const PLAIN: Look = Look {
 };
 
 impl View {
-    /// The view of these variables, with looks for those from the first latch on.
-    pub(crate) fn of_marked(first: u32, looks: Vec<Look>, marks: Vec<bool>) -> View
+    /// The view of these variables, with looks for those from the first latch on, and what is in the middle.
+    pub(crate) fn of_marked(
+        first: u32,
+        looks: Vec<Look>,
+        marks: Vec<bool>,
+        centre: Vec<bool>,
+    ) -> View
         ensures first { result.first ≡ first }
         ensures looks { result.looks.items ≡ looks.items }
         ensures drawn { result.drawn ≡ Some marks.items }
+        ensures centre { result.centre ≡ Some centre.items }
     {
         View {
             first,
             looks,
             drawn: Some(Sequence::from_vec(marks)),
+            centre: Some(Sequence::from_vec(centre)),
         }
     }
 
@@ -54,11 +63,13 @@ impl View {
         ensures first { result.first ≡ first }
         ensures looks { result.looks.items ≡ looks.items }
         ensures drawn { result.drawn ≡ None }
+        ensures centre { result.centre ≡ None }
     {
         View {
             first,
             looks,
             drawn: None,
+            centre: None,
         }
     }
 
@@ -83,6 +94,16 @@ impl View {
         match &self.drawn {
             Some(marks) => mark_at(marks.as_slice(), 0, var),
             None => true,
+        }
+    }
+
+    /// The marks by variable of what is in the middle, where there is one.
+    pub(crate) fn centre(&self) -> Option<&[bool]>
+        ensures { option_map (λ marks. marks.now) result ≡ self.now.centre }
+    {
+        match &self.centre {
+            Some(marks) => Some(marks.as_slice()),
+            None => None,
         }
     }
 }

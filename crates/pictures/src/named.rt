@@ -1,16 +1,14 @@
 //! What a name names.
-ghost use Rattle.std.specs.Prelude.{◌≡◌, ◌+◌, ◌<◌, ◌==◌, ◌||◌, ◌&&◌, All, IfOk, bytes_eq};
+ghost use Rattle.std.specs.Prelude.{◌≡◌, ◌+◌, ◌<◌, ◌==◌, ◌||◌, ◌&&◌, All, bytes_eq};
 ghost use Rattle.std.specs.List.{list_any};
 ghost use Rattle.aig_graph.specs.declared.literal.TheConstants.{MAX_VARIABLES};
 ghost use Rattle.aig_graph.specs.Border.{reads};
-ghost use Rattle.aig_graph.specs.Graph.{variables_end};
 ghost use Rattle.aig_graph.specs.Keep.{has_name};
-ghost use Rattle.pictures.specs.Near.{is_justice_read, is_name_of, is_named, is_property_name, is_property_named, is_single_read, names_justice, names_single, names_variable};
+ghost use Rattle.pictures.specs.Near.{is_name_of, is_named, is_property_name, is_property_named, names_justice, names_single, names_variable};
+ghost use Rattle.pictures.specs.Places.{is_justice_read, is_single_read};
 ghost use Rattle.variable_tables.specs.Marking.{Marks};
-ghost use Rattle.variable_tables.specs.Tables.{table};
 
-use aig_graph::{Circuit, Lit, MAX_VARIABLES, NoMemory, Props, Sequence, Symbol, Symbols};
-use std::alloc::Global;
+use aig_graph::{Circuit, Lit, MAX_VARIABLES, Props, Sequence, Symbol, Symbols};
 use variable_tables::mark_variable;
 
 fn is_called(symbol: &Symbol, name: &[u8]) -> bool
@@ -27,7 +25,7 @@ fn is_among(symbols: &[Symbol], name: &[u8]) -> bool
 
 /// Whether an input, a latch or a property of the circuit has the name.
 #[tactic(auto, unfolding(crate::specs::Near::is_name_of))]
-pub fn has_name(circuit: &Circuit, name: &[u8]) -> bool
+pub(crate) fn has_name(circuit: &Circuit, name: &[u8]) -> bool
     ensures { result ≡ is_name_of circuit.now.symbols name.now }
 {
     let symbols = circuit.symbols();
@@ -76,10 +74,10 @@ fn mark_variables_named(marks: &mut [bool], first: u32, symbols: &[Symbol], name
 }
 
 /// Marks the variable of the literal at a position, where there is one.
-fn mark_single(marks: &mut [bool], lits: &[Lit], position: u32)
+pub(crate) fn mark_single(marks: &mut [bool], lits: &[Lit], position: usize)
     ensures { Marks 0 marks.old marks.new (λ v. is_single_read lits.now position v) }
 {
-    if let Some(lit) = lits.get(position as usize) {
+    if let Some(lit) = lits.get(position) {
         mark_variable(marks, 0, lit.var());
     }
 }
@@ -89,7 +87,7 @@ fn mark_single_named(marks: &mut [bool], lits: &[Lit], symbol: &Symbol, name: &[
     ensures { Marks 0 marks.old marks.new (λ v. names_single lits.now name.now v symbol.now) }
 {
     if is_called(symbol, name) {
-        mark_single(marks, lits, symbol.position);
+        mark_single(marks, lits, symbol.position as usize);
     }
 }
 
@@ -112,10 +110,10 @@ fn mark_literals(marks: &mut [bool], lits: &[Lit])
 }
 
 /// Marks the variables of the literals at a position, where there are some.
-fn mark_justice(marks: &mut [bool], justice: &[Sequence<Lit>], position: u32)
+pub(crate) fn mark_justice(marks: &mut [bool], justice: &[Sequence<Lit>], position: usize)
     ensures { Marks 0 marks.old marks.new (λ v. is_justice_read justice.now position v) }
 {
-    if let Some(lits) = justice.get(position as usize) {
+    if let Some(lits) = justice.get(position) {
         mark_literals(marks, lits.as_slice());
     }
 }
@@ -130,7 +128,7 @@ fn mark_justice_property(
     ensures { Marks 0 marks.old marks.new (λ v. names_justice justice.now name.now v symbol.now) }
 {
     if is_called(symbol, name) {
-        mark_justice(marks, justice, symbol.position);
+        mark_justice(marks, justice, symbol.position as usize);
     }
 }
 
@@ -180,7 +178,8 @@ fn mark_properties_named(marks: &mut [bool], props: &Props, symbols: &Symbols, n
     );
 }
 
-fn mark_named(marks: &mut [bool], circuit: &Circuit, name: &[u8])
+/// Marks what has the name, and what the properties with it read.
+pub(crate) fn mark_named(marks: &mut [bool], circuit: &Circuit, name: &[u8])
     ensures { Marks 0 marks.old marks.new (is_named circuit.now name.now) }
 {
     let aig = circuit.aig();
@@ -188,14 +187,4 @@ fn mark_named(marks: &mut [bool], circuit: &Circuit, name: &[u8])
     mark_variables_named(marks, 1, symbols.inputs.as_slice(), name);
     mark_variables_named(marks, aig.first_latch(), symbols.latches.as_slice(), name);
     mark_properties_named(marks, circuit.props(), symbols, name);
-}
-
-/// Marks by variable what has the name, and what the properties with it read.
-pub(crate) fn named(alloc: Global, circuit: &Circuit, name: &[u8]) -> Result<Vec<bool>, NoMemory>
-    ensures { IfOk result (λ marks. marks.items ≡ table 0 (variables_end circuit.now.aig)
-        (is_named circuit.now name.now)) }
-{
-    let mut marks = vec![in alloc; false; circuit.aig().variables()]?;
-    mark_named(marks.as_mut_slice(), circuit, name);
-    Ok(marks)
 }

@@ -7,7 +7,8 @@ ghost use Rattle.pictures.specs.Near.{gate_meets, goes_on, is_near, is_next, lat
 ghost use Rattle.variable_tables.specs.Marking.{Marks, mark_at};
 ghost use Rattle.variable_tables.specs.Tables.{table};
 
-use crate::named::{mark_where, named};
+use crate::centre::centre;
+use crate::named::mark_where;
 use aig_graph::{Aig, Circuit, Gate, Latch, MAX_VARIABLES, NoMemory};
 use std::alloc::Global;
 use variable_tables::mark_at;
@@ -88,7 +89,7 @@ pub(crate) fn near(
     ensures { IfOk result (λ marks. marks.items ≡ table 0 (variables_end circuit.now.aig)
         (is_near circuit.now name.now depth)) }
 {
-    let mut marks = named(alloc, circuit, name)?;
+    let mut marks = centre(alloc, circuit, name)?;
     for _ in 0..depth {
         marks = spread(alloc, circuit.aig(), marks.as_slice())?;
     }

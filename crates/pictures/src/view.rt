@@ -7,6 +7,7 @@ ghost use Rattle.pictures.specs.Looks.{look_alone, look_of, look_with, looks_by}
 ghost use Rattle.variable_tables.specs.Marking.{mark_at};
 ghost use Rattle.variable_tables.specs.Tables.{table};
 
+use crate::centre::centre;
 use crate::look::{Look, View};
 use crate::near::near;
 use aig_graph::{Aig, Circuit, ClosedSet, Keep, NoMemory, mark_read};
@@ -154,7 +155,7 @@ fn looks(
 
 impl View {
     ghost use Rattle.pictures.specs.Looks.{IsViewOf, everything};
-    ghost use Rattle.pictures.specs.Near.{is_near};
+    ghost use Rattle.pictures.specs.Near.{is_centre, is_near};
 
     /// The view of a whole circuit with these latches held. Where a set is given, it is shown with its border. A latch or a gate takes four
     /// bytes, an input none.
@@ -169,14 +170,14 @@ impl View {
         set: Option<&ClosedSet>,
     ) -> Result<View, NoMemory>
         ensures { IfOk result (IsViewOf circuit.now keep.now
-            (option_map (λ s. s.now) set.entry) everything) }
+            (option_map (λ s. s.now) set.entry) everything None) }
     {
         let looks = looks(alloc, circuit, keep, set)?;
         Ok(View::of_looks(circuit.aig().first_latch(), looks))
     }
 
-    /// The view of what is at most so many edges away from the inputs, latches and properties with a name; no way goes on from the constant.
-    /// An input takes a byte. Linear in the circuit for each edge.
+    /// The view of what is at most so many edges away from the inputs, latches and properties with a name, or where nothing has it, from
+    /// what a picture calls so; no way goes on from the constant. A variable takes two bytes. Linear in the circuit for each edge.
     ///
     /// # Errors
     ///
@@ -190,10 +191,12 @@ impl View {
         depth: u32,
     ) -> Result<View, NoMemory>
         ensures { IfOk result (IsViewOf circuit.now keep.now (option_map (λ s. s.now) set.entry)
-            (is_near circuit.now name.now depth)) }
+            (is_near circuit.now name.now depth) (Some (is_centre circuit.now name.now))) }
     {
+        let centre = centre(alloc, circuit, name)?;
         let marks = near(alloc, circuit, name, depth)?;
         let looks = looks(alloc, circuit, keep, set)?;
-        Ok(View::of_marked(circuit.aig().first_latch(), looks, marks))
+        let first = circuit.aig().first_latch();
+        Ok(View::of_marked(first, looks, marks, centre))
     }
 }

@@ -7,4 +7,4 @@ unfolding dot_text
 returns g c =
     rw (c.aig.ensures.value, c.props.ensures.value) at
     (puts-then c.put.ensures (puts-then c.put_legend.ensures (puts-then c.put_graph.ensures (puts-then c.put_properties.ensures
-    (puts-then c.put_names.ensures c.put-2.ensures)))))
+    (puts-then c.put_centre.ensures (puts-then c.put_names.ensures c.put-2.ensures))))))

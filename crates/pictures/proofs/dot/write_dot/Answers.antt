@@ -4,5 +4,5 @@ use Rattle.pictures.proofs.ViewLaws.{picture_is}
 use Rattle.pictures.proofs.dot.write_dot.Goals as goal
 
 pub returns : goal.returns
-returns g c = λ held set shown view.
-    writes-whole c.new-out.ensures (rw (picture_is c.args.circuit.now held set shown c.args.view.now view) at c.put_dot.ensures) c.flush.ensures (search rules)
+returns g c = λ held set shown centre view.
+    writes-whole c.new-out.ensures (rw (picture_is c.args.circuit.now held set shown centre c.args.view.now view) at c.put_dot.ensures) c.flush.ensures (search rules)

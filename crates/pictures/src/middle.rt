@@ -1,0 +1,44 @@
+//! What is in the middle of a neighbourhood has a red line.
+ghost use Rattle.std.specs.Prelude.{◌<◌, ◌*◌, ◌^◌};
+ghost use Rattle.counted_io.specs.Buffered.{Puts};
+ghost use Rattle.counted_io.specs.Line.{numbered_lines};
+ghost use Rattle.pictures.specs.Pictures.{centre_line, centre_lines, red_line};
+
+use crate::look::View;
+use counted_io::{Buffered, CountedWrite};
+
+fn put_red<W: CountedWrite>(out: &mut Buffered<'_, W>, var: usize)
+    requires { 2 * var < 2 ^ 64 }
+    ensures { Puts W.output out.old out.new (red_line var) }
+{
+    out.put_number(2 * var as u64);
+    out.put(b" [color=red];\n");
+}
+
+fn put_line<W: CountedWrite>(out: &mut Buffered<'_, W>, var: usize, is_centre: bool)
+    requires { 2 * var < 2 ^ 64 }
+    ensures { Puts W.output out.old out.new (centre_line var is_centre) }
+{
+    if is_centre {
+        put_red(out, var);
+    }
+}
+
+/// Puts the lines of the variables with a mark.
+fn put_marked<W: CountedWrite>(out: &mut Buffered<'_, W>, marks: &[bool])
+    ensures { Puts W.output out.old out.new (numbered_lines centre_line 0 marks.now) }
+{
+    for (k, is_centre) in marks.iter().enumerate() {
+        put_line(out, k, *is_centre);
+    }
+}
+
+/// Puts what is in the middle, where there is one.
+#[tactic(auto, unfolding(crate::specs::Pictures::centre_lines))]
+pub(crate) fn put_centre<W: CountedWrite>(out: &mut Buffered<'_, W>, view: &View)
+    ensures { Puts W.output out.old out.new (centre_lines view.now.centre) }
+{
+    if let Some(marks) = view.centre() {
+        put_marked(out, marks);
+    }
+}
