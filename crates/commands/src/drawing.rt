@@ -12,12 +12,15 @@ use crate::scene::{Scene, scene_for};
 use aig_graph::NoMemory;
 use circuit_files::{Failure, LazyFile, Outcome};
 use command_line::Drawing;
-use counted_io::{Counted, CountedRead, CountedWrite};
+use counted_io::{Counted, CountedRead, CountedWrite, write_all};
 use pictures::{View, write_dot};
 use std::alloc::Global;
 use std::rt::Files;
 use std::thread::Threads;
 use stream_paths::Target;
+
+/// What a terminal is told where the next frame was to be shown and there is none.
+const NO_FRAME: &[u8] = b"no set of gates leaves fewer latches, so no frame is shown\n";
 
 /// The view of a scene that is asked for: of a neighbourhood, or of the whole circuit.
 fn view(alloc: Global, scene: &Scene, task: &Drawing<'_>) -> Result<View, NoMemory>
@@ -99,13 +102,31 @@ fn draw_to<'a, R: Files, O: CountedWrite>(
     }
 }
 
-/// Reads a circuit, and writes its picture. A file is made once all that can be refused was found right.
-pub fn write_picture<'a, R: Files + Threads + Sync, I: CountedRead, O: CountedWrite>(
+/// Tells on a terminal that the next frame moves no latches, where it was to be shown. A write that fails changes nothing.
+fn tell_no_frame<E: CountedWrite>(scene: &Scene, task: &Drawing<'_>, is_terminal: bool, err: &mut E)
+    ensures { is_terminal ≡ false → E.output err.new ≡ E.output err.old }
+{
+    if is_terminal && task.frame && scene.set.is_none() {
+        let _ = write_all(err, NO_FRAME);
+    }
+}
+
+/// Reads a circuit, and writes its picture. A file is made once all that can be refused was found right. Where `is_terminal`, that
+/// standard error is a terminal, it is told there that no frame helps, if one was to be shown.
+pub fn write_picture<
+    'a,
+    R: Files + Threads + Sync,
+    I: CountedRead,
+    O: CountedWrite,
+    E: CountedWrite,
+>(
     rt: &R,
     alloc: Global,
     task: &Drawing<'a>,
+    is_terminal: bool,
     stdin: &mut I,
     out: &mut O,
+    err: &mut E,
 ) -> Result<Outcome, Failure<'a>>
     ensures picture { IfOk result (PrintsPicture task.now (I.input stdin.old) (I.input stdin.new)
         (O.output out.old) (O.output out.new)) }
@@ -114,6 +135,7 @@ pub fn write_picture<'a, R: Files + Threads + Sync, I: CountedRead, O: CountedWr
 {
     let scene = scene_for(rt, alloc, task, stdin)?;
     let drawn = draw_to(rt, alloc, &scene, task, out);
+    tell_no_frame(&scene, task, is_terminal, err);
     drop(scene);
     match drawn {
         Ok(()) => Ok(Outcome::Done),

@@ -1,5 +1,5 @@
--- The line that names the nearest latch, as a terminal is shown it.
-use Rattle.std.specs.Prelude.{ℕ, List, [], ◌∷◌, ◌++◌, codes}
+-- The line that has the nearest name, as a terminal is shown it.
+use Rattle.std.specs.Prelude.{ℕ, Bool, List, [], ◌∷◌, ◌++◌, codes, if◌then◌else◌}
 use Rattle.std.specs.List.{flat_map}
 use Rattle.fault_pages.specs.Lines.{printable}
 
@@ -7,5 +7,9 @@ use Rattle.fault_pages.specs.Lines.{printable}
 abbrev pub shown_byte : ℕ → List ℕ
 shown_byte b = printable b ∷ []
 
-unfoldable pub nearest_line : List ℕ → List ℕ
-nearest_line name = codes "the nearest name of a latch is " ++ flat_map shown_byte name ++ 10 ∷ []
+-- what the line begins with, by whether names of all kinds were looked at, or those of latches
+abbrev pub lead : Bool → List ℕ
+lead of_all = if of_all then codes "the nearest name is " else codes "the nearest name of a latch is "
+
+unfoldable pub nearest_line : Bool → List ℕ → List ℕ
+nearest_line of_all name = lead of_all ++ flat_map shown_byte name ++ 10 ∷ []

@@ -2,10 +2,10 @@
 //! and a failed write leave it out.
 ghost use Rattle.std.specs.List.{flat_map};
 ghost use Rattle.counted_io.specs.Buffered.{Puts};
-ghost use Rattle.failure_hints.specs.Lines.{nearest_line, shown_byte};
+ghost use Rattle.failure_hints.specs.Lines.{lead, nearest_line, shown_byte};
 
 use crate::line::{line_number, line_of_file};
-use aig_graph::Circuit;
+use aig_graph::{Circuit, Symbol, Symbols};
 use circuit_files::{Failure, circuit_at};
 use counted_io::{Buffered, Counted, CountedWrite};
 use fault_pages::{Fault, nearest, printable};
@@ -17,7 +17,7 @@ use stream_paths::Source;
 
 /// Whether what a failure names is a file that can be read again: not standard input, whose name is `stdin`, and no pipe, since
 /// opening one again would wait for a writer.
-fn can_be_read_again<R: Files>(rt: &R, name: &str) -> bool {
+pub(crate) fn can_be_read_again<R: Files>(rt: &R, name: &str) -> bool {
     if name == "stdin" {
         return false;
     }
@@ -77,10 +77,21 @@ fn put_printable<W: CountedWrite>(out: &mut Buffered<'_, W>, name: &[u8])
     }
 }
 
-fn put_found<W: CountedWrite>(name: &[u8], out: &mut Buffered<'_, W>)
-    ensures { Puts W.output out.old out.new (nearest_line name.now) }
+/// What the line of the nearest name begins with.
+fn lead(of_all: bool) -> &'static [u8]
+    ensures { result.now ≡ lead of_all }
 {
-    out.put(b"the nearest name of a latch is ");
+    if of_all {
+        b"the nearest name is "
+    } else {
+        b"the nearest name of a latch is "
+    }
+}
+
+fn put_found<W: CountedWrite>(name: &[u8], of_all: bool, out: &mut Buffered<'_, W>)
+    ensures { Puts W.output out.old out.new (nearest_line of_all name.now) }
+{
+    out.put(lead(of_all));
     put_printable(out, name);
     out.put_byte(b'\n');
 }
@@ -105,49 +116,71 @@ fn with_word(names: &[&[u8]], word: &[u8]) -> Option<usize> {
     None
 }
 
-/// Puts the name of a latch that has this one as a word, else the nearest one, if one is near.
+/// Appends the names of symbols.
+fn push_names<'a>(symbols: &'a [Symbol], names: &mut Vec<&'a [u8]>) -> Result<(), AllocError> {
+    for symbol in symbols {
+        names.push(symbol.name.as_slice())?;
+    }
+    Ok(())
+}
+
+/// Appends the names of what isn't a latch.
+fn push_others<'a>(symbols: &'a Symbols, names: &mut Vec<&'a [u8]>) -> Result<(), AllocError> {
+    push_names(symbols.inputs.as_slice(), names)?;
+    push_names(symbols.outputs.as_slice(), names)?;
+    push_names(symbols.bad.as_slice(), names)?;
+    push_names(symbols.constraints.as_slice(), names)?;
+    push_names(symbols.justice.as_slice(), names)?;
+    push_names(symbols.fairness.as_slice(), names)
+}
+
+/// Puts the name of a latch, or of anything, that has this one as a word, else the nearest one, if one is near.
 fn put_nearest<W: CountedWrite>(
     alloc: Global,
     circuit: &Circuit,
     name: &str,
+    of_all: bool,
     out: &mut Buffered<'_, W>,
 ) -> Result<(), AllocError> {
     let mut names = Vec::new(alloc);
-    for symbol in circuit.symbols().latches.as_slice() {
-        names.push(symbol.name.as_slice())?;
+    push_names(circuit.symbols().latches.as_slice(), &mut names)?;
+    if of_all {
+        push_others(circuit.symbols(), &mut names)?;
     }
     let near = match with_word(names.as_slice(), name.as_bytes()) {
         Some(place) => Some(place),
         None => nearest(alloc, name.as_bytes(), names.as_slice())?,
     };
     if let Some(place) = near {
-        put_found(names.get(place).copied().unwrap_or(b""), out);
+        put_found(names.get(place).copied().unwrap_or(b""), of_all, out);
     }
     Ok(())
 }
 
-/// Reads the circuit of a file again, for the names of its latches.
+/// Reads the circuit of a file again, for its names.
 fn put_name<R: Files, W: CountedWrite>(
     rt: &R,
     alloc: Global,
     path: &str,
     name: &str,
+    of_all: bool,
     out: &mut Buffered<'_, W>,
 ) {
     let mut nothing = Counted::new(io::empty());
     if let Ok(spelt) = circuit_at(rt, alloc, Source::File(path), &mut nothing) {
-        let _ = put_nearest(alloc, &spelt.circuit, name, out);
+        let _ = put_nearest(alloc, &spelt.circuit, name, of_all, out);
         drop(spelt);
     }
 }
 
 /// Says more of a failure on standard error, where that is a terminal: the line at fault of a refused ASCII circuit, and what the
-/// fault is; the nearest name to one that no latch has. Elsewhere a program may compare what is said, and it is the fixed text alone.
+/// fault is; the nearest name to one that no latch has, or where `of_all` nothing. Elsewhere a program may compare what is said, and it is the fixed text alone.
 /// Only a regular file is read again, and none of the name `stdin`.
 pub fn give_hint<R: Files, E: CountedWrite>(
     rt: &R,
     alloc: Global,
     failure: Failure<'_>,
+    of_all: bool,
     is_terminal: bool,
     err: &mut E,
 ) {
@@ -159,7 +192,7 @@ pub fn give_hint<R: Files, E: CountedWrite>(
         Failure::Refused(path, error) => put_fault(rt, alloc, path, error, &mut out),
         Failure::NoSuchName(path, name) => {
             if can_be_read_again(rt, path) {
-                put_name(rt, alloc, path, name, &mut out);
+                put_name(rt, alloc, path, name, of_all, &mut out);
             }
         }
         _ => {}

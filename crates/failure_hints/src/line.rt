@@ -11,7 +11,7 @@ use std::rt::Files;
 const PIECE: usize = 4096;
 
 /// Reads bytes of a file, from an offset on, as many as one read gives; none where that fails.
-fn read_piece<R: Files>(rt: &R, path: &str, from: u64, piece: &mut [u8]) -> usize
+pub(crate) fn read_piece<R: Files>(rt: &R, path: &str, from: u64, piece: &mut [u8]) -> usize
     ensures { result ≤ length piece.new }
 {
     let Ok(mut file) = File::open(rt, path) else {

@@ -50,7 +50,7 @@ rule_of BadSymbol = codes "After the gates come symbols, a line each: one of the
 rule_of Trailing = codes "After the gates of a circuit come symbols, and a comment, whose first line is\n'c'. After the last line '.' of a witness come comments only."
 rule_of Width = codes "In a stimulus a line '=' has a digit for each free latch, and a line ':' one\nfor each input, of A where two circuits are compared. The second line of values\nof a witness has one for each latch, each further line one for each input. A\nlist of kept latches has a line for each free latch of B."
 rule_of TooMany = codes "A line '=' begins a sequence."
-rule_of NoSuchName = codes "Names are those of the symbols of the file, compared byte by byte: --keep takes\nthose of latches, 'l', and --around of 'dot' those of all kinds."
+rule_of NoSuchName = codes "Names are those of the symbols of the file, compared byte by byte: --keep takes\nthose of latches, 'l', and --around of 'dot' those of all kinds. Where nothing\nhas the name, --around takes what a picture calls it: l3 is the latch at\nposition 3, from 0, i3 such an input, o3, b3, c3, j3 or f3 such a property, and\n14 the gate with that literal."
 rule_of NoSuchProperty = codes "The second line of a witness names bad states, b0 on, and justice properties,\nj0 on, by their positions."
 rule_of TooManyNodes = codes "Inputs, latches, gates and properties are nodes."
 rule_of TooManySteps = codes "All steps take 2^28 bytes at most, each 64 and one for each input; the choices\nfor free latches 2^28, one each; the trace 2^31 bits, one for each literal of a\nproperty and each step, for 256 sequences at least."

@@ -19,7 +19,10 @@ pub const TOO_MANY: Page = Page {
 pub const NO_SUCH_NAME: Page = Page {
     meaning: "The circuit has no latch, or for --around nothing, of this name.",
     rule: "Names are those of the symbols of the file, compared byte by byte: --keep takes
-those of latches, 'l', and --around of 'dot' those of all kinds.",
+those of latches, 'l', and --around of 'dot' those of all kinds. Where nothing
+has the name, --around takes what a picture calls it: l3 is the latch at
+position 3, from 0, i3 such an input, o3, b3, c3, j3 or f3 such a property, and
+14 the gate with that literal.",
     advice: "List those of latches: grep -a '^l[0-9]' IN. A file without names gets them
 where it is written, as by Yosys' write_aiger -symbols.",
 };

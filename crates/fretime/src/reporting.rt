@@ -9,7 +9,7 @@ use circuit_files::{Failure, Outcome};
 use command_line::Task;
 use command_objects::print_failure;
 use counted_io::{Buffered, CountedWrite};
-use failure_hints::give_hint;
+use failure_hints::{give_hint, tell_returns};
 use std::alloc::Global;
 use std::fmt::Write;
 use std::rt::Files;
@@ -108,6 +108,26 @@ fn print_object<O: CountedWrite, E: CountedWrite>(
     }
 }
 
+/// Whether the name that a failure is about may be that of anything, and not of a latch alone.
+fn is_of_all(task: &Task<'_>, failure: Failure<'_>) -> bool {
+    match (task, failure) {
+        (Task::Dot(drawing), Failure::NoSuchName(_, name)) => drawing.around == Some(name),
+        _ => false,
+    }
+}
+
+/// Tells on a terminal where the lines of a batch's list end with carriage returns.
+fn tell_of_list<R: Files, E: CountedWrite>(
+    rt: &R,
+    task: &Task<'_>,
+    is_terminal: bool,
+    err: &mut E,
+) {
+    if let Task::Batch(batch) = task {
+        tell_returns(rt, batch.list, is_terminal, err);
+    }
+}
+
 /// How a task ends. Where it failed, reports why: as an object too where the task asks for objects, and with a hint on standard
 /// error.
 pub fn reported<'a, R: Files, O: CountedWrite, E: CountedWrite>(
@@ -124,12 +144,14 @@ pub fn reported<'a, R: Files, O: CountedWrite, E: CountedWrite>(
     ensures says { IfErr ended.entry (λ failure. SaysWhy task.now failure (O.output out.old)
         (O.output out.new)) }
 {
+    tell_of_list(rt, task, is_terminal, err);
     match ended {
         Ok(outcome) => outcome,
         Err(failure) => {
             print_object(alloc, task, failure, out, err);
             let outcome = report_failure(failure, err);
-            give_hint(rt, alloc, failure, is_terminal, err);
+            let of_all = is_of_all(task, failure);
+            give_hint(rt, alloc, failure, of_all, is_terminal, err);
             outcome
         }
     }

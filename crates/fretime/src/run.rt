@@ -61,7 +61,7 @@ fn run_task<
         Task::Verify(verification) => print_verification(rt, alloc, verification, stdin, out, err),
         Task::Check(checking) => print_check(rt, alloc, checking, stdin, out),
         Task::Lift(lifting) => write_lifted(rt, alloc, lifting, stdin, out),
-        Task::Dot(drawing) => write_picture(rt, alloc, drawing, stdin, out),
+        Task::Dot(drawing) => { write_picture(rt, alloc, drawing, is_terminal, stdin, out, err) }
         Task::Witness(carrying) => print_witness_back(rt, alloc, carrying, stdin, out),
         Task::Explain(name) => explain(alloc, *name, out, err),
     }
@@ -125,6 +125,14 @@ fn run_named<R: Files + Threads + Sync + Clock, I: CountedRead, O: CountedWrite,
     }
 }
 
+/// The words, but for a flag that asks for the help of `help`, which is that of the program.
+fn without_flag_of_help(words: &[String]) -> &[String] {
+    let is_flag = words.len() == 3
+        && words[1].as_str() == "help"
+        && (words[2].as_str() == "--help" || words[2].as_str() == "-h");
+    if is_flag { &words[..2] } else { words }
+}
+
 /// Does what the arguments ask for, and returns how the run ends.
 fn run_command<R: Files + Threads + Sync + Clock, I: CountedRead, O: CountedWrite, E: CountedWrite>(
     rt: &R,
@@ -137,6 +145,7 @@ fn run_command<R: Files + Threads + Sync + Clock, I: CountedRead, O: CountedWrit
 ) -> Outcome
     ensures { MayPrint result (O.output out.old) (O.output out.new) }
 {
+    let words = without_flag_of_help(words);
     match words_with_names(rt, alloc, words) {
         Ok(None) => run_named(rt, alloc, words, is_terminal, stdin, out, err),
         Ok(Some(all)) => {

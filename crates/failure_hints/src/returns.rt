@@ -1,0 +1,44 @@
+//! A list whose lines end with carriage returns names files that end so.
+use crate::hints::can_be_read_again;
+use crate::line::read_piece;
+use counted_io::{CountedWrite, write_all};
+use std::rt::Files;
+use stream_paths::Source;
+
+/// How many bytes of a list are looked at.
+const PIECE: usize = 4096;
+
+/// What a terminal is told of such a list.
+const RETURNS: &[u8] =
+    b"the first line of the list ends with a carriage return, and so does the name of what it wrote\n";
+
+/// Whether the first line ends with a carriage return.
+fn has_return(bytes: &[u8]) -> bool {
+    for k in 1..bytes.len() {
+        if bytes[k] == b'\n' {
+            return bytes[k - 1] == b'\r';
+        }
+    }
+    false
+}
+
+/// Says on standard error, where that is a terminal, that the lines of a list end with carriage returns. Only a regular file is read
+/// again. A write that fails changes nothing.
+pub fn tell_returns<R: Files, E: CountedWrite>(
+    rt: &R,
+    list: Source<'_>,
+    is_terminal: bool,
+    err: &mut E,
+) {
+    let Source::File(path) = list else {
+        return;
+    };
+    if !is_terminal || !can_be_read_again(rt, path) {
+        return;
+    }
+    let mut piece = [0u8; PIECE];
+    let count = read_piece(rt, path, 0, &mut piece);
+    if has_return(&piece[..count]) {
+        let _ = write_all(err, RETURNS);
+    }
+}
