@@ -1,6 +1,8 @@
 //! All of a run but the process: streams, files, clock and threads are the caller's, so that clauses can say what a run leaves in
 //! them.
 ghost use Rattle.std.specs.Prelude.{◌≡◌, ◌≢◌, ◌⊎◌, ◌≤◌, IfOk};
+ghost use Rattle.std.specs.IoError.{error_kind};
+ghost use Rattle.std.specs.declared.io.ErrorKind.TheVariants as kinds;
 ghost use Rattle.clap.specs.Values.{kind_of};
 ghost use Rattle.clap.specs.declared.error.kind.ErrorKind.TheVariants.{DisplayHelp, DisplayVersion, OutOfMemory};
 ghost use Rattle.circuit_files.specs.declared.outcome.Outcome.TheVariants.{Done, Refused, CommandLine, Memory};
@@ -93,7 +95,8 @@ fn report_usage<E: CountedWrite>(error: &Error, err: &mut E) -> Outcome
 /// Reports that the command-line arguments can't be read (out of memory, or not UTF-8), and returns the exit status. A
 /// failed write changes nothing.
 pub fn report_unreadable_arguments<E: CountedWrite>(error: &io::Error, err: &mut E) -> u8
-    ensures { (result ≡ 2) ⊎ (result ≡ 4) }
+    ensures memory { error_kind error.now ≡ kinds.OutOfMemory → result ≡ 4 }
+    ensures mistake { error_kind error.now ≢ kinds.OutOfMemory → result ≡ 2 }
 {
     if error.kind() == io::ErrorKind::OutOfMemory {
         return report_failure(Failure::Memory, err).status();
