@@ -4,11 +4,12 @@ use Rattle.std.proofs.lemmas.List.{take_more, length-take-le, length-map}
 use Rattle.counted_io.specs.Line.{numbered_lines}
 use Rattle.counted_io.specs.Output.{Output, WritesAll}
 use Rattle.counted_io.proofs.OutputLaws.{all-then}
-use Rattle.batch_pool.specs.declared.job.Outcome.{Outcome as JobOutcome}
 use Rattle.reports.specs.Batches.{job_line, job_lines}
 use Rattle.reports.specs.declared.batch.JobReport.{JobReport}
 use Rattle.circuit_files.specs.declared.outcome.Outcome.{Outcome}
-use Rattle.fretime.specs.Batches.{Printed, report_of, after}
+use Rattle.fretime.specs.declared.answers.Answer.{Answer}
+use Rattle.fretime.specs.Answers.{report_at}
+use Rattle.fretime.specs.Batches.{Printed, after}
 
 lines_more : (first : ℕ) (files : List JobReport) (r : JobReport)
     → numbered_lines job_line first (files ++ r ∷ []) ≡ numbered_lines job_line first files ++ job_line (first + length files) r
@@ -22,9 +23,9 @@ ends_more : (ended : Outcome) (files : List JobReport) (r : JobReport) → fold 
 ends_more ended [] r = refl
 ends_more ended (x ∷ xs) r = ends_more (after ended x) xs r
 
-reports_more : (outcomes : List JobOutcome) (o : JobOutcome) → map report_of (outcomes ++ o ∷ []) ≡ map report_of outcomes ++ report_of o ∷ []
-reports_more [] o = refl
-reports_more (x ∷ xs) o = ap (λ rs. report_of x ∷ rs) (reports_more xs o)
+reports_more : (answers : List Answer) (a : Answer) → map report_at (answers ++ a ∷ []) ≡ map report_at answers ++ report_at a ∷ []
+reports_more [] a = refl
+reports_more (x ∷ xs) a = ap (λ rs. report_at x ∷ rs) (reports_more xs a)
 
 one_more_file : (files : List JobReport) (ended : Outcome) (r : JobReport) (old mid new : Output)
     → Printed false files ended old mid → WritesAll mid new (job_line (1 + length files) r) → Printed false (files ++ r ∷ []) (after ended r) old new
@@ -34,14 +35,14 @@ one_more_file files ended r old mid new p line = record {
 }
 
 -- the file whose number is k, from 0
-pub file_done : (outcomes : List JobOutcome) (k : ℕ) (o : JobOutcome) (ended then : Outcome) (r : JobReport) (old mid new : Output)
-    → k < length outcomes → o ≡ get_or outcomes k o → r ≡ report_of o → then ≡ after ended r
-    → Printed false (map report_of (take k outcomes)) ended old mid → WritesAll mid new (job_line (1 + k) r) → Printed false (map report_of (take (k + 1) outcomes)) then old new
-file_done outcomes k o ended then r old mid new within there is next p line =
-    let long : length (map report_of (take k outcomes)) ≡ k = length-map (take k outcomes) report_of ∙ length-take-le k outcomes (omega arith) in
-    let more : map report_of (take k outcomes) ++ r ∷ [] ≡ map report_of (take (k + 1) outcomes) =
-    ap (λ (x : JobReport). map report_of (take k outcomes) ++ x ∷ []) is ∙ sym (reports_more (take k outcomes) o)
-    ∙ ap (map report_of) (sym (take_more outcomes k o within ∙ ap (λ (y : JobOutcome). take k outcomes ++ y ∷ []) (sym there))) in
-    subst (λ (e : Outcome). Printed false (map report_of (take (k + 1) outcomes)) e old new) (sym next)
+pub file_done : (answers : List Answer) (k : ℕ) (a : Answer) (ended then : Outcome) (r : JobReport) (old mid new : Output)
+    → k < length answers → a ≡ get_or answers k a → r ≡ report_at a → then ≡ after ended r
+    → Printed false (map report_at (take k answers)) ended old mid → WritesAll mid new (job_line (1 + k) r) → Printed false (map report_at (take (k + 1) answers)) then old new
+file_done answers k a ended then r old mid new within there is next p line =
+    let long : length (map report_at (take k answers)) ≡ k = length-map (take k answers) report_at ∙ length-take-le k answers (omega arith) in
+    let more : map report_at (take k answers) ++ r ∷ [] ≡ map report_at (take (k + 1) answers) =
+    ap (λ (x : JobReport). map report_at (take k answers) ++ x ∷ []) is ∙ sym (reports_more (take k answers) a)
+    ∙ ap (map report_at) (sym (take_more answers k a within ∙ ap (λ (y : Answer). take k answers ++ y ∷ []) (sym there))) in
+    subst (λ (e : Outcome). Printed false (map report_at (take (k + 1) answers)) e old new) (sym next)
     (subst (λ (files : List JobReport). Printed false files (after ended r) old new) more
-    (one_more_file (map report_of (take k outcomes)) ended r old mid new p (subst (λ (n : ℕ). WritesAll mid new (job_line (1 + n) r)) (sym long) line)))
+    (one_more_file (map report_at (take k answers)) ended r old mid new p (subst (λ (n : ℕ). WritesAll mid new (job_line (1 + n) r)) (sym long) line)))

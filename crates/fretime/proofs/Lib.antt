@@ -1,3 +1,4 @@
+pub mod AnswerLaws
 pub mod BatchLaws
 pub mod EndLaws
 pub mod ExplainingLaws

@@ -1,4 +1,5 @@
 pub mod Reporting
 pub mod Batches
+pub mod Answers
 pub mod Runs
 pub mod Explaining

@@ -1,20 +1,22 @@
 //! The command `batch`.
-ghost use Rattle.std.specs.Prelude.{◌≡◌, ◌<◌, ◌≤◌, ◌⊎◌, ◌+◌, false, IfErr, IfOk, MatchResult, OnOk, codes, length, map};
+ghost use Rattle.std.specs.Prelude.{◌≡◌, ◌<◌, ◌≤◌, ◌⊎◌, ◌+◌, All, false, IfErr, IfOk, MatchResult, OnOk, codes, length, map};
 ghost use Rattle.counted_io.specs.Output.{WritesAll};
 ghost use Rattle.reports.specs.Batches.{job_line};
 ghost use Rattle.circuit_files.specs.Outcomes.{outcome_of};
 ghost use Rattle.circuit_files.specs.declared.outcome.Outcome.TheVariants.{Device, Memory};
+ghost use Rattle.fretime.specs.Answers.{FailsAt, IsOfInput, IsOfOutputs, IsWritten, NamesFile, report_at};
 ghost use Rattle.fretime.specs.Reporting.{PrintsFailure, SaysFailureBy};
 ghost use Rattle.fretime.specs.Batches.{AreBatchOptions, AreOutcomesFor, Printed, PrintsList};
 ghost use Rattle.fretime.specs.Batches as wanted;
 
+use crate::answers::{Answer, answers_of, write_answer};
 use crate::batch_object::finish_as_object;
 use crate::reporting::report_failure_as;
 use batch_lists::{Entry, read_list};
 use batch_pool::{Job, run_batch};
-use circuit_files::{Failure, LazyFile, Outcome, bytes_at, bytes_of_file};
+use circuit_files::{Failure, Outcome, bytes_at, bytes_of_file};
 use command_line::Batch;
-use counted_io::{Counted, CountedRead, CountedWrite, write_all};
+use counted_io::{CountedRead, CountedWrite};
 use frames::Options;
 use pulse::{Crew, OpenGate};
 use reports::{JobReport, print_job};
@@ -25,12 +27,22 @@ use std::thread::Threads;
 /// The most workers of a crew.
 const MOST_WORKERS: u32 = 64;
 
-fn add_job<'a>(jobs: &mut Vec<Job>, job: Job) -> Result<(), Failure<'a>>
-    ensures { OnOk result (length jobs.new.items ≡ length jobs.old.items + 1) }
+/// Reads the file of an entry, for one more job.
+fn read_job<'a, R: Files>(
+    rt: &R,
+    alloc: Global,
+    entry: &Entry<'a>,
+    jobs: &mut Vec<Job>,
+) -> Result<(), Failure<'a>>
+    ensures ok { OnOk result (length jobs.new.items ≡ length jobs.old.items + 1) }
+    ensures named { IfErr result (NamesFile entry.now.input.now) }
 {
-    match jobs.push(job) {
-        Ok(()) => Ok(()),
-        Err(_) => Err(Failure::Memory),
+    match bytes_of_file(rt, alloc, entry.input) {
+        Ok(bytes) => match jobs.push(Job { bytes }) {
+            Ok(()) => Ok(()),
+            Err(_) => Err(Failure::Memory),
+        },
+        Err(failure) => Err(failure),
     }
 }
 
@@ -40,12 +52,12 @@ fn read_jobs<'a, R: Files>(
     alloc: Global,
     entries: &[Entry<'a>],
 ) -> Result<Vec<Job>, Failure<'a>>
-    ensures { IfOk result (λ jobs. length jobs.items ≡ length entries.now) }
+    ensures ok { IfOk result (λ jobs. length jobs.items ≡ length entries.now) }
+    ensures named { IfErr result (IsOfInput entries.now) }
 {
     let mut jobs = Vec::new(alloc);
     for entry in entries {
-        let bytes = bytes_of_file(rt, alloc, entry.input)?;
-        add_job(&mut jobs, Job { bytes })?;
+        read_job(rt, alloc, entry, &mut jobs)?;
     }
     Ok(jobs)
 }
@@ -115,37 +127,13 @@ pub(crate) fn report_of(outcome: &batch_pool::Outcome) -> JobReport
     }
 }
 
-fn write_file<'a, R: Files>(rt: &R, output: &'a str, bytes: &[u8]) -> Result<(), Failure<'a>>
-    ensures { IfErr result (λ failure. outcome_of failure ≡ Device) }
-{
-    let mut writer = Counted::new(LazyFile::new(rt, output));
-    match write_all(&mut writer, bytes) {
-        Ok(()) => Ok(()),
-        Err(_) => Err(Failure::Device(output)),
-    }
-}
-
-/// Writes the circuit of a job, where it was retimed.
-pub(crate) fn write_answer<'a, R: Files>(
-    rt: &R,
-    output: &'a str,
-    outcome: &batch_pool::Outcome,
-) -> Result<(), Failure<'a>>
-    ensures { IfErr result (λ failure. outcome_of failure ≡ Device) }
-{
-    match outcome {
-        batch_pool::Outcome::Done { bytes, .. } => write_file(rt, output, bytes.as_slice()),
-        _ => Ok(()),
-    }
-}
-
 fn print_report<'a, O: CountedWrite>(
     number: u64,
     report: JobReport,
     out: &mut O,
 ) -> Result<(), Failure<'a>>
     ensures { MatchResult result (λ _. WritesAll (O.output out.old) (O.output out.new)
-        (job_line number report)) (λ failure. outcome_of failure ≡ Device) }
+        (job_line number report)) (FailsAt (codes "stdout")) }
 {
     match print_job(number, report, out) {
         Ok(()) => Ok(()),
@@ -156,17 +144,18 @@ fn print_report<'a, O: CountedWrite>(
 /// Writes the circuit of a job, and then prints its line.
 fn finish_job<'a, R: Files, O: CountedWrite>(
     rt: &R,
-    output: &'a str,
-    outcome: &batch_pool::Outcome,
+    answer: &Answer<'a>,
     number: u64,
     out: &mut O,
 ) -> Result<JobReport, Failure<'a>>
-    ensures ok { IfOk result (λ report. (report ≡ wanted.report_of outcome.now)
+    ensures ok { IfOk result (λ report. (report ≡ report_at answer.now)
         × WritesAll (O.output out.old) (O.output out.new) (job_line number report)) }
-    ensures err { IfErr result (λ failure. outcome_of failure ≡ Device) }
+    ensures written { OnOk result (IsWritten R.File.contents answer.now.outcome.now) }
+    ensures named { IfErr result (λ failure. FailsAt answer.now.output.now failure
+        ⊎ FailsAt (codes "stdout") failure) }
 {
-    write_answer(rt, output, outcome)?;
-    let report = report_of(outcome);
+    write_answer(rt, answer)?;
+    let report = report_of(answer.outcome);
     print_report(number, report, out)?;
     Ok(report)
 }
@@ -188,18 +177,18 @@ pub(crate) fn after(ended: Outcome, report: JobReport) -> Outcome
 /// Writes the circuits and prints the lines of all jobs in their order, and returns how the batch ends.
 fn finish_jobs<'a, R: Files, O: CountedWrite>(
     rt: &R,
-    entries: &[Entry<'a>],
-    outcomes: &[batch_pool::Outcome],
+    answers: &[Answer<'a>],
     out: &mut O,
 ) -> Result<Outcome, Failure<'a>>
-    requires { length outcomes.now ≡ length entries.now }
-    ensures ok { IfOk result (λ ended. Printed false (map wanted.report_of outcomes.now) ended
+    ensures ok { IfOk result (λ ended. Printed false (map report_at answers.now) ended
         (O.output out.old) (O.output out.new)) }
-    ensures err { IfErr result (λ failure. outcome_of failure ≡ Device) }
+    ensures written { OnOk result (All (λ answer. IsWritten R.File.contents answer.outcome.now)
+        answers.now) }
+    ensures named { IfErr result (IsOfOutputs answers.now) }
 {
     let mut ended = Outcome::Done;
-    for (k, outcome) in outcomes.iter().enumerate() {
-        let report = finish_job(rt, entries[k].output, outcome, 1 + k as u64, out)?;
+    for (k, answer) in answers.iter().enumerate() {
+        let report = finish_job(rt, answer, 1 + k as u64, out)?;
         ended = after(ended, report);
     }
     Ok(ended)
@@ -209,21 +198,47 @@ fn finish_jobs<'a, R: Files, O: CountedWrite>(
 fn finish<'a, R: Files, O: CountedWrite>(
     rt: &R,
     alloc: Global,
-    entries: &[Entry<'a>],
-    outcomes: &[batch_pool::Outcome],
+    answers: &[Answer<'a>],
+    json: bool,
+    out: &mut O,
+) -> Result<Outcome, Failure<'a>>
+    ensures ok { IfOk result (λ ended. Printed json (map report_at answers.now) ended
+        (O.output out.old) (O.output out.new)) }
+    ensures written { OnOk result (All (λ answer. IsWritten R.File.contents answer.outcome.now)
+        answers.now) }
+    ensures err { IfErr result (λ failure. (outcome_of failure ≡ Device)
+        ⊎ ((outcome_of failure ≡ Memory) × (O.output out.new ≡ O.output out.old))) }
+{
+    if json {
+        finish_as_object(rt, alloc, answers, out)
+    } else {
+        finish_jobs(rt, answers, out)
+    }
+}
+
+/// Writes and prints what became of the files of the entries, and returns how the batch ends.
+fn finish_entries<'a, R: Files, O: CountedWrite>(
+    rt: &R,
+    alloc: Global,
+    entries: &'a [Entry<'a>],
+    outcomes: &'a [batch_pool::Outcome],
     json: bool,
     out: &mut O,
 ) -> Result<Outcome, Failure<'a>>
     requires { length outcomes.now ≡ length entries.now }
     ensures ok { IfOk result (λ ended. Printed json (map wanted.report_of outcomes.now) ended
         (O.output out.old) (O.output out.new)) }
+    ensures written { OnOk result (All (IsWritten R.File.contents) outcomes.now) }
     ensures err { IfErr result (λ failure. (outcome_of failure ≡ Device)
         ⊎ ((outcome_of failure ≡ Memory) × (O.output out.new ≡ O.output out.old))) }
 {
-    if json {
-        finish_as_object(rt, alloc, entries, outcomes, out)
-    } else {
-        finish_jobs(rt, entries, outcomes, out)
+    match answers_of(alloc, entries, outcomes) {
+        Ok(answers) => {
+            let finished = finish(rt, alloc, answers.as_slice(), json, out);
+            drop(answers);
+            finished
+        }
+        Err(_) => Err(Failure::Memory),
     }
 }
 
@@ -256,7 +271,14 @@ fn retime_entries<R: Files + Threads + Sync, O: CountedWrite, E: CountedWrite>(
     ensures { PrintsList task.now.json result (O.output out.old) (O.output out.new) }
 {
     match outcomes(rt, alloc, entries, task) {
-        Ok(outcomes) => match finish(rt, alloc, entries, outcomes.as_slice(), task.json, out) {
+        Ok(outcomes) => match finish_entries(
+            rt,
+            alloc,
+            entries,
+            outcomes.as_slice(),
+            task.json,
+            out,
+        ) {
             Ok(ended) => ended,
             Err(failure) => refuse(alloc, task, failure, out, err),
         },

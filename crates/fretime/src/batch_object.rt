@@ -1,12 +1,13 @@
 //! The files of a batch as an object of JSON.
-ghost use Rattle.std.specs.Prelude.{◌≡◌, ◌⊎◌, IfErr, IfOk, true, fold, length, map};
+ghost use Rattle.std.specs.Prelude.{◌≡◌, ◌⊎◌, All, IfErr, IfOk, OnOk, true, fold, map};
 ghost use Rattle.circuit_files.specs.Outcomes.{outcome_of};
 ghost use Rattle.circuit_files.specs.declared.outcome.Outcome.TheVariants.{Device, Done, Memory};
+ghost use Rattle.fretime.specs.Answers.{IsWritten, report_at};
 ghost use Rattle.fretime.specs.Batches.{Printed};
 ghost use Rattle.fretime.specs.Batches as wanted;
 
-use crate::batch::{after, report_of, write_answer};
-use batch_lists::Entry;
+use crate::answers::{Answer, write_answers};
+use crate::batch::{after, report_of};
 use circuit_files::{Failure, Outcome};
 use command_objects::print_batch;
 use counted_io::CountedWrite;
@@ -14,30 +15,15 @@ use reports::JobReport;
 use std::alloc::{AllocError, Global};
 use std::rt::Files;
 
-/// What is printed of the outcomes.
-fn reports_of(alloc: Global, outcomes: &[batch_pool::Outcome]) -> Result<Vec<JobReport>, AllocError>
-    ensures { IfOk result (λ reports. reports.items ≡ map wanted.report_of outcomes.now) }
+/// What is printed of the files.
+fn reports_of(alloc: Global, answers: &[Answer<'_>]) -> Result<Vec<JobReport>, AllocError>
+    ensures { IfOk result (λ reports. reports.items ≡ map report_at answers.now) }
 {
     let mut reports = Vec::new(alloc);
-    for outcome in outcomes {
-        reports.push(report_of(outcome))?;
+    for answer in answers {
+        reports.push(report_of(answer.outcome))?;
     }
     Ok(reports)
-}
-
-/// Writes the circuits of all jobs in their order.
-fn write_answers<'a, R: Files>(
-    rt: &R,
-    entries: &[Entry<'a>],
-    outcomes: &[batch_pool::Outcome],
-) -> Result<(), Failure<'a>>
-    requires { length outcomes.now ≡ length entries.now }
-    ensures { IfErr result (λ failure. outcome_of failure ≡ Device) }
-{
-    for (k, outcome) in outcomes.iter().enumerate() {
-        write_answer(rt, entries[k].output, outcome)?;
-    }
-    Ok(())
 }
 
 /// How the batch of these files ends.
@@ -70,18 +56,18 @@ fn print_files<'a, O: CountedWrite>(
 pub fn finish_as_object<'a, R: Files, O: CountedWrite>(
     rt: &R,
     alloc: Global,
-    entries: &[Entry<'a>],
-    outcomes: &[batch_pool::Outcome],
+    answers: &[Answer<'a>],
     out: &mut O,
 ) -> Result<Outcome, Failure<'a>>
-    requires { length outcomes.now ≡ length entries.now }
-    ensures ok { IfOk result (λ ended. Printed true (map wanted.report_of outcomes.now) ended
+    ensures ok { IfOk result (λ ended. Printed true (map report_at answers.now) ended
         (O.output out.old) (O.output out.new)) }
+    ensures written { OnOk result (All (λ answer. IsWritten R.File.contents answer.outcome.now)
+        answers.now) }
     ensures err { IfErr result (λ failure. (outcome_of failure ≡ Device)
         ⊎ ((outcome_of failure ≡ Memory) × (O.output out.new ≡ O.output out.old))) }
 {
-    write_answers(rt, entries, outcomes)?;
-    match reports_of(alloc, outcomes) {
+    write_answers(rt, answers)?;
+    match reports_of(alloc, answers) {
         Ok(reports) => print_files(alloc, reports.as_slice(), out),
         Err(_) => Err(Failure::Memory),
     }

@@ -2,6 +2,7 @@
 //! many at once, checks certificates, carries witnesses back, simulates, compares and converts.
 #![tactic(auto)]
 
+mod answers;
 mod batch;
 mod batch_object;
 mod explaining;

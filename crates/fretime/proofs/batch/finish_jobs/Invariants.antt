@@ -1,6 +1,9 @@
-use Rattle.std.proofs.Common.{false, map, take}
-use Rattle.fretime.specs.Batches.{Printed, report_of}
+use Rattle.std.proofs.Common.{false, All, map, take}
+use Rattle.fretime.specs.Answers.{IsWritten, report_at}
+use Rattle.fretime.specs.Batches.{Printed}
 use Rattle.fretime.proofs.batch.finish_jobs.Given as goal
 
 abbrev pub invariant-loop-k : goal.invariant-loop-k
-invariant-loop-k g l = Printed false (map report_of (take l.k l.outcomes)) l.ended (g.O.CountedWrite.output l.fn.out) (g.O.CountedWrite.output l.out)
+invariant-loop-k g l =
+    Printed false (map report_at (take l.k l.answers)) l.ended (g.O.CountedWrite.output l.fn.out) (g.O.CountedWrite.output l.out)
+    × All (λ answer. IsWritten g.R.File.Write.contents answer.outcome.now) (take l.k l.answers)
