@@ -23,11 +23,15 @@ use retimed_circuits::FrameReport;
 use std::alloc::Global;
 use std::thread::Threads;
 
-/// The circuit that a frame makes, and its report.
+/// The circuit that a frame makes, its report, and the set that latches moved over.
 #[derive(Drop)]
-pub(crate) struct Frame {
+pub struct Frame {
+    /// The circuit with its latches moved, cleaned.
     pub cleaned: Cleaned,
+    /// What the frame is reported as.
     pub report: FrameReport,
+    /// The chosen least set of the circuit before.
+    pub set: ClosedSet,
 }
 
 /// The circuit with its latches moved over the set, cleaned.
@@ -83,8 +87,13 @@ fn carry(
     }
 }
 
-/// The frame of a circuit, where one makes fewer latches.
-pub(crate) fn next_frame<G: PhaseGate, V: FrameWatcher>(
+/// The frame of a cleaned circuit, where one makes fewer latches: its chosen least set, and what is left of it after its latches have
+/// moved over that and it is cleaned. A watcher is told of the move. Where the records want certificates, they get one of the circuit.
+///
+/// # Errors
+///
+/// `NoMemory` where memory is refused.
+pub fn next_frame<G: PhaseGate, V: FrameWatcher>(
     rt: &(impl Threads + Sync),
     alloc: Global,
     circuit: &Circuit,
@@ -115,6 +124,7 @@ pub(crate) fn next_frame<G: PhaseGate, V: FrameWatcher>(
             Ok(Some(Frame {
                 cleaned,
                 report: found.report,
+                set: found.set,
             }))
         }
         None => Ok(None),

@@ -17,11 +17,14 @@ mod watcher;
 
 pub use bytes::{retime_bytes, retime_bytes_watched};
 pub use certificates::Certificate;
+pub use chosen_cuts::Records;
 pub use errors::{BytesError, RetimeError};
+pub use frame::{Frame, next_frame};
 pub use laws::answer_law;
 pub use least_sets::Choice;
 pub use merged_latches::MergeCounts;
 pub use options::Options;
 pub use retimed_circuits::{FrameReport, Retimed};
+pub use retiming::{after_frame, begun, enter_looking, with_certificates};
 pub use runs::{retime, retime_watched};
 pub use watcher::{FrameWatcher, NoWatcher, Stage};

@@ -22,8 +22,8 @@ use retimed_circuits::Retimed;
 use std::alloc::Global;
 use std::thread::Threads;
 
-/// A cleaned circuit before any frame.
-fn begun(alloc: Global, start: Cleaned, read_latches: u32) -> Retimed
+/// A cleaned circuit before any frame. Of the circuit that was read, so many latches are told.
+pub fn begun(alloc: Global, start: Cleaned, read_latches: u32) -> Retimed
     ensures circuit { result.circuit ≡ start.circuit }
     ensures kept_free { result.kept_free ≡ start.kept_free }
     ensures read_latches { result.read_latches ≡ read_latches }
@@ -78,8 +78,12 @@ pub(crate) fn begun_over(
     start
 }
 
-/// What one more frame makes of a retimed circuit.
-fn after_frame(
+/// What one more frame makes of a retimed circuit, which is dropped, and with it the frame's set.
+///
+/// # Errors
+///
+/// `NoMemory` where memory is refused.
+pub fn after_frame(
     alloc: Global,
     retimed: Retimed,
     frame: Frame,
@@ -92,7 +96,12 @@ fn after_frame(
         → IsUnderway options.now c (suc n) after) }
     ensures frames { IfOk result (λ after. after.frames ≡ retimed.frames ++ frame.report ∷ []) }
 {
-    let Frame { cleaned, report } = frame;
+    let Frame {
+        cleaned,
+        report,
+        set,
+    } = frame;
+    drop(set);
     let places = cleaned.kept_free.as_slice();
     match with_frame(alloc, history_of(retimed), places, report) {
         Ok(after) => Ok(Retimed {
@@ -111,7 +120,7 @@ fn after_frame(
 }
 
 /// Tells a watcher that the set of the next frame is looked for.
-fn enter_looking<V: FrameWatcher>(retimed: &Retimed, watcher: &mut V)
+pub fn enter_looking<V: FrameWatcher>(retimed: &Retimed, watcher: &mut V)
     ensures { Tells V.was_told watcher.old watcher.new
         (Looking (length retimed.now.frames) (known_latches retimed.now.circuit.aig) ∷ []) }
 {
@@ -156,8 +165,8 @@ fn all_frames<G: PhaseGate, V: FrameWatcher>(
     Ok(retimed)
 }
 
-/// The retimed circuit with the certificates that were recorded.
-fn with_certificates(retimed: Retimed, records: Records) -> Retimed
+/// The retimed circuit with the certificates that were recorded. Takes no memory.
+pub fn with_certificates(retimed: Retimed, records: Records) -> Retimed
     ensures circuit { result.circuit ≡ retimed.circuit }
     ensures kept_free { result.kept_free ≡ retimed.kept_free }
     ensures read_latches { result.read_latches ≡ retimed.read_latches }

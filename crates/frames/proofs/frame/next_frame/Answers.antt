@@ -44,6 +44,8 @@ returns-in-Some-clause-found g c =
     let helps : Helps options before c.in-Some.found = subst P c.in-Some.is c.in_ok-found.ensures.found in
     let d = c.in_ok-cleaned-in-Some.ensures in
     record {
+      set = helps.set;
+      cleaned = d.cleaned;
       moves = record { set = c.in-Some.found.set; helps = helps.set; cleaned = d.cleaned; reported = helps.report };
       keeps = d.keeps;
     }
