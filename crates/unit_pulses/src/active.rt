@@ -2,25 +2,24 @@
 
 use crate::nodes::Nodes;
 use crate::search::Search;
+use crate::spots::FAR;
 use aig_graph::NoMemory;
 use std::alloc::Global;
-use unit_flows::NodeMarks;
 
 impl<'a> Search<'a> {
-    /// The marked nodes at which units are left.
+    /// The labelled nodes at which units are left.
     ///
     /// # Errors
     ///
     /// `NoMemory` where a list is refused.
-    pub fn actives(&self, alloc: Global, marks: &NodeMarks) -> Result<Nodes, NoMemory> {
+    pub fn actives(&self, alloc: Global) -> Result<Nodes, NoMemory> {
         let mut actives = Nodes::none(alloc);
-        let sides = marks.before.iter().zip(marks.after.iter());
         let mut place = 0u32;
-        for (spot, (before, after)) in self.spots.iter().zip(sides) {
-            if *before && spot.excess > 0 {
+        for (spot, labels) in self.spots.iter().zip(self.labels.iter()) {
+            if labels.before < FAR && spot.excess > 0 {
                 actives.before.push(place)?;
             }
-            if *after && spot.waits {
+            if labels.after < FAR && spot.waits {
                 actives.after.push(place)?;
             }
             place = place.wrapping_add(1);

@@ -1,4 +1,4 @@
-//! Rounds of exact labels and pulses, until no unit that is left can come to the sink.
+//! Rounds of new labels and pulses, until no unit that is left can come to the sink.
 
 use crate::nodes::Nodes;
 use crate::pulse::Pulse;
@@ -6,16 +6,16 @@ use crate::search::Search;
 use aig_graph::NoMemory;
 use std::alloc::Global;
 use std::mem;
-use unit_flows::{Frame, GateFlow, mark};
+use unit_flows::{Frame, GateFlow};
 
 /// After so many rounds what is left is left to the network.
 const MOST_ROUNDS: u32 = 1024;
 
-/// Pulses look at so many arcs a place before labels are made exact again.
-const WORK_A_PLACE: usize = 4;
+/// Pulses look at so many arcs a place before labels are made anew, which take about as long, and units that can't come to the sink are left.
+const WORK_A_PLACE: usize = 1;
 
 impl<'a> Search<'a> {
-    /// Pulses until no node is active, or labels are to be made exact again. Whether none is active.
+    /// Pulses until no node is active, or labels are to be made anew. Whether none is active.
     fn pulses(&mut self, actives: &mut Nodes, pulse: &mut Pulse) -> Result<bool, NoMemory> {
         let most = self.spots.len().saturating_mul(WORK_A_PLACE);
         pulse.work = 0;
@@ -31,19 +31,14 @@ impl<'a> Search<'a> {
         Ok(false)
     }
 
-    /// Exact labels, and pulses as long as these are good. Whether no unit that is left can come to the sink.
+    /// New labels, and pulses as long as these are good. Whether no unit that is left can come to the sink.
     fn round(&mut self, alloc: Global, frame: &Frame, pulse: &mut Pulse) -> Result<bool, NoMemory> {
-        if self.flows.len() != frame.circuit.aig().gates().len() {
-            return Ok(true);
-        }
-        let marks = mark(alloc, frame, self.flows.as_slice())?;
-        let mut actives = self.actives(alloc, &marks)?;
+        self.label();
+        let mut actives = self.actives(alloc)?;
         if actives.is_empty() {
             return Ok(true);
         }
         self.list_readers(alloc, frame)?;
-        self.label_exactly(alloc, &marks, &actives)?;
-        drop(marks);
         self.pulses(&mut actives, pulse)
     }
 

@@ -1,219 +1,150 @@
-//! Exact labels, by a walk back from the sink, level by level. It ends as soon as each active node has a label: all other nodes from which units
-//! could come to the sink are at least as far as the next level.
+//! Labels of all nodes from which units could come to the sink, by sweeps over the gates, down and up. Each label is the length of a way there
+//! over residual arcs. In the first two sweeps all gates are seen, so that nearly all of the ways are shortest ones; those that follow see the
+//! gates alone whose nodes have no label yet. Sweeps go through memory in order, where a walk back from the sink jumps.
 
-use crate::nodes::Nodes;
-use crate::search::Search;
-use crate::spots::{FAR, Labels, label_after, label_before};
-use aig_graph::NoMemory;
-use std::alloc::Global;
-use std::mem;
-use unit_flows::NodeMarks;
+use crate::search::{FanIns, Search};
+use crate::spots::{FAR, Labels, label_before, labels_at};
+use unit_flows::GateFlow;
 
-/// Labels the node before a place, where it has no label, and lists it.
-fn reach_before(
-    labels: &mut [Labels],
-    place: u32,
-    label: u32,
-    next: &mut Nodes,
-) -> Result<(), NoMemory> {
-    if let Some(labels) = labels.get_mut(place as usize) {
-        if labels.before == FAR {
-            labels.before = label;
-            next.before.push(place)?;
-        }
-    }
-    Ok(())
+/// More sweeps than these are never made. Nodes without a label are left to the network.
+const MOST_ROUNDS: u32 = 65_536;
+
+/// Which gates a sweep sees: all that hold, or those of them without a label before.
+#[derive(Clone, Copy, Debug, PartialEq, Eq)]
+enum Seen {
+    All,
+    Open,
 }
 
-/// Labels the node after a place, where it has no label, and lists it.
-fn reach_after(
-    labels: &mut [Labels],
-    place: u32,
-    label: u32,
-    next: &mut Nodes,
-) -> Result<(), NoMemory> {
-    if let Some(labels) = labels.get_mut(place as usize) {
-        if labels.after == FAR {
-            labels.after = label;
-            next.after.push(place)?;
-        }
-    }
-    Ok(())
+/// A way to the sink from the node before a place. Whether it is the first.
+fn lower_before(labels: &mut [Labels], place: u32, label: u32) -> bool {
+    let Some(labels) = labels.get_mut(place as usize) else {
+        return false;
+    };
+    let is_new = labels.before == FAR;
+    labels.before = labels.before.min(label);
+    is_new
 }
 
-/// How many of the active nodes, from the first on, may be without a label.
-#[derive(Clone, Copy, Debug)]
-struct Open {
-    before: usize,
-    after: usize,
+/// A way to the sink from the node after a place. Whether it is the first.
+fn lower_after(labels: &mut [Labels], place: u32, label: u32) -> bool {
+    let Some(labels) = labels.get_mut(place as usize) else {
+        return false;
+    };
+    let is_new = labels.after == FAR;
+    labels.after = labels.after.min(label);
+    is_new
 }
 
-impl Open {
-    /// All of them.
-    fn all(actives: &Nodes) -> Open {
-        Open {
-            before: actives.before.len(),
-            after: actives.after.len(),
-        }
+/// The label before a gate, by those of the nodes to which an arc leads from there.
+fn found_before(labels: &[Labels], place: u32, fan_ins: &FanIns, flow: &GateFlow) -> u32 {
+    let own = labels_at(labels, place);
+    let smaller = labels_at(labels, fan_ins.smaller);
+    let larger = labels_at(labels, fan_ins.larger);
+    let mut least = smaller.before.min(larger.before);
+    if !flow.through {
+        least = least.min(own.after);
     }
-
-    /// Without those at the end that have a label.
-    fn shortened(&self, labels: &[Labels], actives: &Nodes) -> Open {
-        Open {
-            before: open_before(labels, actives.before.as_slice(), self.before),
-            after: open_after(labels, actives.after.as_slice(), self.after),
-        }
+    if flow.first_up {
+        least = least.min(smaller.after);
     }
-
-    fn is_empty(&self) -> bool {
-        self.before == 0 && self.after == 0
+    if flow.second_up {
+        least = least.min(larger.after);
     }
+    own.before.min(least.saturating_add(1))
 }
 
-/// Of the first so many places those up to the last before which there is no label.
-fn open_before(labels: &[Labels], places: &[u32], many: usize) -> usize {
-    for k in (0..many).rev() {
-        if let Some(place) = places.get(k) {
-            if label_before(labels, *place) == FAR {
-                return k + 1;
-            }
-        }
+/// Labels the node before a gate, and those from which an arc leads there. Whether one had no label.
+fn see(labels: &mut [Labels], place: u32, fan_ins: &FanIns, flow: &GateFlow) -> bool {
+    let before = found_before(labels, place, fan_ins, flow);
+    if before == FAR {
+        return false;
     }
-    0
-}
-
-/// Of the first so many places those up to the last after which there is no label.
-fn open_after(labels: &[Labels], places: &[u32], many: usize) -> usize {
-    for k in (0..many).rev() {
-        if let Some(place) = places.get(k) {
-            if label_after(labels, *place) == FAR {
-                return k + 1;
-            }
-        }
+    let next = before.saturating_add(1);
+    let mut is_new = lower_before(labels, place, before);
+    is_new |= lower_after(labels, fan_ins.smaller, next);
+    is_new |= lower_after(labels, fan_ins.larger, next);
+    if flow.through {
+        is_new |= lower_after(labels, place, next);
     }
-    0
+    if flow.first_down > 0 {
+        is_new |= lower_before(labels, fan_ins.smaller, next);
+    }
+    if flow.second_down > 0 {
+        is_new |= lower_before(labels, fan_ins.larger, next);
+    }
+    is_new
 }
 
 impl<'a> Search<'a> {
-    /// The gate that took the unit after a place.
-    fn taker(&self, place: u32) -> Option<u32> {
-        for reader in self.readers.at(place) {
-            if let Some(fan_ins) = self.fan_ins(*reader) {
-                if self.flow(*reader).up(fan_ins.is_second(place)) {
-                    return Some(*reader);
-                }
-            }
-        }
-        None
+    /// Whether a sweep sees a place.
+    fn is_seen(&self, place: u32, seen: Seen) -> bool {
+        self.spots
+            .get(place as usize)
+            .is_some_and(|it| it.is_open || (it.holds && seen == Seen::All))
     }
 
-    /// Labels the nodes from which an arc leads to the node after a place.
-    fn walk_after(&mut self, place: u32, label: u32, next: &mut Nodes) -> Result<(), NoMemory> {
-        let Some(spot) = self.spots.get(place as usize).copied() else {
-            return Ok(());
-        };
-        if self.fan_ins(place).is_some() && !self.flow(place).through {
-            if spot.holds {
-                reach_before(self.labels.as_mut_slice(), place, label, next)?;
-            }
-            return Ok(());
+    /// Sees the gate at a place, if the sweep does. Whether a node is newly labelled.
+    fn see(&mut self, place: u32, seen: Seen) -> bool {
+        if !self.is_seen(place, seen) {
+            return false;
         }
-        if !(spot.waits || spot.leaves) {
-            if let Some(taker) = self.taker(place) {
-                reach_before(self.labels.as_mut_slice(), taker, label, next)?;
-            }
-        }
-        Ok(())
-    }
-
-    /// Labels the nodes from which an arc leads to the node before a gate.
-    fn walk_before(&mut self, place: u32, label: u32, next: &mut Nodes) -> Result<(), NoMemory> {
         let Some(fan_ins) = self.fan_ins(place) else {
-            return Ok(());
+            return false;
         };
         let flow = self.flow(place);
-        let Search {
-            readers,
-            labels,
-            ..
-        } = &mut *self;
-        let labels = labels.as_mut_slice();
-        for second in [false, true] {
-            let fan_in = fan_ins.at(second);
-            reach_after(labels, fan_in, label, next)?;
-            if flow.down(second) > 0 {
-                reach_before(labels, fan_in, label, next)?;
-            }
+        let labels = self.labels.as_mut_slice();
+        let is_new = see(labels, place, &fan_ins, &flow);
+        let is_open = label_before(labels, place) == FAR;
+        if let Some(spot) = self.spots.get_mut(place as usize) {
+            spot.is_open = is_open;
         }
-        if flow.through {
-            reach_after(labels, place, label, next)?;
-        }
-        for reader in readers.at(place) {
-            reach_before(labels, *reader, label, next)?;
-        }
-        Ok(())
+        is_new
     }
 
-    /// The nodes from which an arc leads to the sink, which get the first label; all others lose theirs.
-    fn first_level(&mut self, alloc: Global) -> Result<Nodes, NoMemory> {
-        let mut front = Nodes::none(alloc);
-        let mut place = 0u32;
-        for (labels, spot) in self.labels.iter_mut().zip(self.spots.iter()) {
+    /// Sees the gates below a place from the last to the first. Whether a node is newly labelled.
+    fn sweep_down(&mut self, end: u32, seen: Seen) -> bool {
+        let mut is_new = false;
+        for place in (self.latches..end).rev() {
+            is_new |= self.see(place, seen);
+        }
+        is_new
+    }
+
+    /// Sees the gates below a place from the first to the last. Whether a node is newly labelled.
+    fn sweep_up(&mut self, end: u32, seen: Seen) -> bool {
+        let mut is_new = false;
+        for place in self.latches..end {
+            is_new |= self.see(place, seen);
+        }
+        is_new
+    }
+
+    /// The nodes from which an arc leads to the sink have the first label, no other has one, and all that hold are open. The
+    /// end of all places.
+    fn begin(&mut self) -> u32 {
+        let mut end = 0u32;
+        for (labels, spot) in self.labels.iter_mut().zip(self.spots.iter_mut()) {
             *labels = Labels::NONE;
             if spot.holds && spot.leaves {
                 labels.after = 1;
-                front.after.push(place)?;
             }
-            place = place.wrapping_add(1);
+            spot.is_open = spot.holds;
+            end = end.wrapping_add(1);
         }
-        Ok(front)
+        end
     }
 
-    /// Labels the marked nodes that have no label.
-    fn label_others(&mut self, marks: &NodeMarks, label: u32) {
-        let sides = marks.before.iter().zip(marks.after.iter());
-        for (labels, (before, after)) in self.labels.iter_mut().zip(sides) {
-            if *before && labels.before == FAR {
-                labels.before = label;
-            }
-            if *after && labels.after == FAR {
-                labels.after = label;
+    /// Labels each node from which units could come to the sink with the length of a way there, nearly always of a shortest one; all others
+    /// lose their labels.
+    pub fn label(&mut self) {
+        let end = self.begin();
+        self.sweep_down(end, Seen::All);
+        self.sweep_up(end, Seen::All);
+        for _ in 0..MOST_ROUNDS {
+            if !self.sweep_down(end, Seen::Open) || !self.sweep_up(end, Seen::Open) {
+                return;
             }
         }
-    }
-
-    /// Labels each marked node with its distance to the sink or, where that is farther than all active nodes are, at most with that.
-    ///
-    /// # Errors
-    ///
-    /// `NoMemory` where a list is refused.
-    pub fn label_exactly(
-        &mut self,
-        alloc: Global,
-        marks: &NodeMarks,
-        actives: &Nodes,
-    ) -> Result<(), NoMemory> {
-        let mut front = self.first_level(alloc)?;
-        let mut next = Nodes::none(alloc);
-        let mut open = Open::all(actives);
-        for label in 2..FAR {
-            open = open.shortened(self.labels.as_slice(), actives);
-            if open.is_empty() {
-                self.label_others(marks, label);
-                return Ok(());
-            }
-            if front.is_empty() {
-                return Ok(());
-            }
-            next.clear();
-            for place in &front.after {
-                self.walk_after(*place, label, &mut next)?;
-            }
-            for place in &front.before {
-                self.walk_before(*place, label, &mut next)?;
-            }
-            mem::swap(&mut front, &mut next);
-        }
-        Ok(())
     }
 }

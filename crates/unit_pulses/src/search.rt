@@ -30,7 +30,8 @@ impl FanIns {
 pub(crate) struct Search<'a> {
     gates: &'a [Gate],
     first: u32,
-    latches: u32,
+    /// How many latches there are, the place of the first gate.
+    pub latches: u32,
     /// As many units as an arc without a bound carries at most.
     pub most: u32,
     pub readers: Readers,
@@ -52,13 +53,14 @@ impl<'a> Search<'a> {
     ) -> Result<Search<'a>, NoMemory> {
         let aig = frame.circuit.aig();
         let spots = spots_of(alloc, frame)?;
+        let labels = vec![in alloc; Labels::NONE; spots.len()]?;
         let mut search = Search {
             gates: aig.gates(),
             first: aig.first_latch(),
             latches: aig.first_gate().wrapping_sub(aig.first_latch()),
             most: aig.known_latches().saturating_add(1),
             readers: Readers::none(alloc),
-            labels: Vec::new(alloc),
+            labels,
             spots,
             flows,
         };
@@ -71,15 +73,14 @@ impl<'a> Search<'a> {
         Ok(search)
     }
 
-    /// Makes lists of readers and labels, where there are none.
+    /// Makes lists of readers, where there are none.
     ///
     /// # Errors
     ///
     /// `NoMemory` where a table is refused.
     pub fn list_readers(&mut self, alloc: Global, frame: &Frame) -> Result<(), NoMemory> {
-        if self.labels.is_empty() {
+        if self.readers.are_none() {
             self.readers = Readers::of(alloc, frame)?;
-            self.labels = vec![in alloc; Labels::NONE; self.spots.len()]?;
         }
         Ok(())
     }
@@ -176,6 +177,7 @@ fn spots_of(alloc: Global, frame: &Frame) -> Result<Vec<Spot>, NoMemory> {
             holds,
             leaves,
             waits: holds && !leaves,
+            is_open: false,
         })?;
     }
     Ok(spots)

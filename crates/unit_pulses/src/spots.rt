@@ -3,7 +3,7 @@
 /// The label of a node from which no unit can come to the sink.
 pub(crate) const FAR: u32 = u32::MAX;
 
-/// How many arcs lead to the sink from the node before a place and from that after it, at least.
+/// How many arcs a way to the sink has from the node before a place, and from that after it.
 #[derive(Clone, Copy, Debug)]
 pub(crate) struct Labels {
     pub before: u32,
@@ -26,6 +26,16 @@ pub(crate) struct Spot {
     /// Whether an arc leads from after it to the sink.
     pub leaves: bool,
     pub waits: bool,
+    /// Whether it holds, and the node before it had no label as it was last seen.
+    pub is_open: bool,
+}
+
+/// The labels at a place.
+pub(crate) fn labels_at(labels: &[Labels], place: u32) -> Labels {
+    match labels.get(place as usize) {
+        Some(labels) => *labels,
+        None => Labels::NONE,
+    }
 }
 
 /// The label of the node before a place.
