@@ -1,4 +1,5 @@
-//! The chosen least set of a circuit, by a maximum flow of its network: the greatest one by the far side of the flow, the smallest one
+//! The chosen least set of a circuit. Flows of units over its gates are asked first, but for a certificate and for a crew of two or more on a small
+//! circuit; where they show no set, a maximum flow of the circuit's network has it: the greatest one by the far side, the smallest one
 //! by the near side. Where it is wanted, with a certificate of that set.
 #![tactic(auto)]
 
