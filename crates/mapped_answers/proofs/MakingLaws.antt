@@ -1,25 +1,30 @@
 -- Why there is no retiming with a map.
-use Rattle.std.proofs.Common.{ℕ, ◌≡◌, ◌∙◌, ◌++◌, ◌∷◌, [], List, inl, inr, refl, sym, subst}
+use Rattle.std.proofs.Common.{ℕ, ◌≡◌, ◌∙◌, ◌++◌, ◌∷◌, [], Bool, false, List, inl, inr, Result, refl, sym, subst}
 use Rattle.aig_graph.specs.Circuits.{Netlist}
+use Rattle.aig_graph.specs.declared.holding.KeepError.{KeepError}
+use Rattle.aig_graph.specs.declared.holding.KeepError.TheVariants as keeping
 use Rattle.counted_io.specs.Input.{Input}
 use Rattle.counted_io.specs.Output.{Output, WritesAll, WritesPart}
 use Rattle.aig_binary.specs.declared.reading.SpeltCircuit.{SpeltCircuit}
 use Rattle.aig_binary.specs.Ending.{ReadsToEnd, Spells}
 use Rattle.frames.specs.declared.errors.BytesError.TheVariants.{Read, Retime, Write}
-use Rattle.frames.specs.declared.errors.RetimeError.{RetimeError}
 use Rattle.frames.specs.declared.errors.RetimeError.TheVariants.{NoMemory, NoSuchName}
 use Rattle.frames.specs.declared.options.Options.{Options}
 use Rattle.frames.specs.Answering.{IsWritten}
+use Rattle.frames.specs.Codes.{of_keep_error}
+use Rattle.frames.specs.Retiming.{IsRetimedAsIs, IsRetimedBy}
 use Rattle.frames.specs.Named.{IsFirstMissingBy, names_in}
-use Rattle.frames.specs.Stages.{Tells, Told, Writing, stages_of}
-use Rattle.frames.proofs.StageLaws.{tells-then}
+use Rattle.frames.specs.Stages.{Cleaning, Tells, Told, Writing, looks_of, stages_of}
+use Rattle.frames.proofs.StageLaws.{all-told, tells-then}
 use Rattle.frames.proofs.StopLaws.{stops-answering}
 use Rattle.std.specs.Option.{unwrap_or}
+use Rattle.std.specs.Result.{IfOk}
 use Rattle.file_words.specs.declared.spelling.Spelling.{Spelling}
 use Rattle.aig_binary.specs.Spellings.{text_in}
 use Rattle.aig_binary.proofs.LimitLaws.{reads-within}
 use Rattle.aig_binary.proofs.SpellingLaws.{the_spelling_law}
 use Rattle.retimed_circuits.specs.declared.report.Retimed.{Retimed}
+use Rattle.retimed_circuits.specs.Retiming.{IsRetimedWith}
 use Rattle.retimed_circuits.proofs.LimitLaws.{stays-within}
 use Rattle.state_maps.specs.MapCircuits.{IsMapCircuit}
 use Rattle.mapped_answers.specs.declared.making.Made.{Made}
@@ -33,10 +38,16 @@ pub unmapped : (options : Options) (c : Netlist) (e : MappedError) → IsMapErro
 unmapped options c e (inl memory) = subst (IsMakingError options c) (sym memory) tt
 unmapped options c e (inr large) = subst (IsMakingError options c) (sym large) tt
 
--- no retiming
-pub unretimed : (options : Options) (c : Netlist) (e : RetimeError) → ((place : ℕ) → e ≡ NoSuchName place → IsFirstMissingBy options c place) → IsMakingError options c (Answer (Retime e))
-unretimed options c NoMemory missing = tt
-unretimed options c (NoSuchName place) missing = missing place refl
+-- a name that no latch has
+pub unnamed : (options : Options) (c : Netlist) (e : KeepError) → ((place : ℕ) → e ≡ keeping.NoSuchName place → IsFirstMissingBy options c place) → IsMakingError options c (Answer (Retime (of_keep_error e)))
+unnamed options c keeping.NoMemory missing = tt
+unnamed options c (keeping.NoSuchName place) missing = missing place refl
+
+-- no latches are merged
+pub as-it-is : (options : Options) (c : Netlist) (r : Retimed) → options.merge ≡ false → IsRetimedAsIs options c r → IsRetimedBy options c r
+as-it-is options c r unasked is =
+    let P : Bool → Type 0 = λ merge. IsRetimedWith merge options.choice c (names_in options) options.max_frames options.certify r in
+    subst P (sym unasked) is
 
 -- nothing is written then
 pub makes-nothing : (options : Options) (spelt : SpeltCircuit) (out : Output) (e : MappedError) → IsMakingError options spelt.circuit e → IsMappingStop options spelt out out e
@@ -96,3 +107,8 @@ pub told-answer : {W : Type 0} (was_told : W → List Told → Type 0) (limit : 
     → Tells was_told a b (stages_of limit made.retimed) → Tells was_told b c (Writing ∷ []) → Tells was_told a c (stages_of limit m.retimed ++ Writing ∷ [])
 told-answer was_told limit a b c made m same stages writing =
     subst (λ (r : Retimed). Tells was_told a c (stages_of limit r ++ Writing ∷ [])) (sym same) (tells-then was_told a b c (stages_of limit made.retimed) (Writing ∷ []) stages writing)
+
+-- the stages of a run that makes a map
+pub all-made : {W E : Type 0} (was_told : W → List Told → Type 0) (limit : ℕ) (r : Result Made E) (a b c : W) → Tells was_told a b (Cleaning ∷ []) → IfOk r (λ made. Tells was_told b c (looks_of limit made.retimed))
+    → IfOk r (λ made. Tells was_told a c (stages_of limit made.retimed))
+all-made was_told limit r a b c first next = all-told was_told r a b c (Cleaning ∷ []) (λ made. looks_of limit made.retimed) first next

@@ -2,8 +2,11 @@
 #![tactic(auto)]
 
 mod bytes;
+mod following;
 mod making;
 mod mapped;
+mod starting;
+mod underway;
 
 pub use bytes::retime_bytes_mapped;
 pub use mapped::{Mapped, MappedError};

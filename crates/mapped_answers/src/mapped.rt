@@ -1,5 +1,8 @@
+ghost use Rattle.mapped_answers.specs.Mapping.{IsMapError};
+
 use aig_binary::SpeltCircuit;
-use frames::{BytesError, Retimed};
+use frames::{BytesError, RetimeError, Retimed};
+use retiming_maps::MapError;
 use thiserror::Error;
 
 /// A retiming, with its map in the spelling that the circuit is written in.
@@ -20,4 +23,14 @@ pub enum MappedError {
     /// The map would have more variables than a circuit may have.
     #[error("the map has too many variables")]
     MapTooLarge,
+}
+
+/// The error that one of making a map is.
+pub(crate) fn map_error(error: MapError) -> MappedError
+    ensures { IsMapError result }
+{
+    match error {
+        MapError::NoMemory => MappedError::Answer(BytesError::Retime(RetimeError::NoMemory)),
+        MapError::TooLarge => MappedError::MapTooLarge,
+    }
 }

@@ -1,5 +1,6 @@
+pub mod WholeLaws
 pub mod StartLaws
 pub mod StandsLaws
 pub mod StepLaws
-pub mod FollowingLaws
+pub mod FrameLaws
 pub mod FinishingLaws

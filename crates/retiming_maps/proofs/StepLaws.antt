@@ -79,7 +79,7 @@ module _ (c d e : Netlist) (held kept second still : List ℕ) (g h : Graph) (fu
           ∙ sym (ap (λ (js : List ℕ). λ (k : ℕ). held_by (state_of g functions s) (slice_get js k)) (pass-places d held r)))
 
 -- all places, composed with a list, are the list
-composed-all : (n : ℕ) (kept : List ℕ) → length kept ≡ n → composed kept (range_with_len 0 n) ≡ kept
+pub composed-all : (n : ℕ) (kept : List ℕ) → length kept ≡ n → composed kept (range_with_len 0 n) ≡ kept
 unfolding table
 composed-all n kept many = sym (table-from 0 n (λ i. get_or kept i 0) kept 0 many (λ k less. ap (λ (i : ℕ). get_or kept i 0) (sym (zero-add k))))
 

@@ -1,18 +1,13 @@
 -- A map of states that grows with a retiming.
-use Rattle.std.specs.Prelude.{ℕ, ◌≡◌, true, List, [], length, slice_get, Some}
+use Rattle.std.specs.Prelude.{ℕ, ◌≡◌, List, [], length}
 use Rattle.aig_graph.specs.Circuits.{AreLiteralsOf, Netlist}
 use Rattle.aig_graph.specs.declared.properties.Symbols.{Symbols}
 use Rattle.aig_graph.specs.Graph.{Graph, IsGraph, free_latches}
 use Rattle.aig_graph.specs.Laws.{composed}
-use Rattle.certificates.specs.declared.certificate.Certificate.{Certificate}
+use Rattle.clean.specs.declared.cleaning.Cleaned.{Cleaned}
 use Rattle.clean.specs.declared.tracing.TracedPass.{TracedPass}
 use Rattle.cleaned_circuits.specs.Cleaned.{Cleans, IsPass}
-use Rattle.least_sets.specs.declared.choice.Choice.{Choice}
-use Rattle.retimed_circuits.specs.declared.report.FrameReport.{FrameReport}
-use Rattle.retimed_circuits.specs.declared.report.Retimed.{Retimed}
-use Rattle.retimed_circuits.specs.Retiming.{IsRetimed}
-use Rattle.retimed_circuits.specs.Frames.{AfterFrames, CleansIn, moved_in}
-use Rattle.retimed_circuits.specs.Names.{held_latches}
+use Rattle.retimed_circuits.specs.Frames.{CleansIn, moved_in}
 use Rattle.map_circuits.specs.Constraining.{AreOne}
 use Rattle.map_circuits.specs.Following.{state_of}
 use Rattle.state_maps.specs.States.{IsStateMap}
@@ -58,38 +53,17 @@ pub record IsNextAlong (last : TracedPass) (old new : MapParts) (t : TracedPass)
   pub leads : LeadsOn last.circuit old t.circuit second new
 
 -- a cleaning that the map follows
-pub record IsCleanedAlong (held : List ℕ) (c : Netlist) (old new : MapParts) (d : Netlist) : Type 0 where
-  pub kept : List ℕ
-  pub cleaned : Cleans d held c kept
-  pub leads : LeadsOn c old d kept new
+pub record IsCleanedAlong (held : List ℕ) (c : Netlist) (old new : MapParts) (d : Cleaned) : Type 0 where
+  pub cleaned : Cleans d.circuit held c d.kept_free
+  pub leads : LeadsOn c old d.circuit d.kept_free new
 
--- a move over the set and a cleaning that the map follows
-pub record IsFrameAlong (names : List (List ℕ)) (c : Netlist) (set : List ℕ) (old new : MapParts) (d : Netlist) : Type 0 where
-  pub kept : List ℕ
-  pub cleaned : CleansIn names (moved_in names c set) d kept
-  pub held : held_latches names d ≡ held_latches names c
-  pub leads : LeadsOn c old d kept new
+-- what was a map to c before is one to whatever c is cleaned to, where these latches are held
+abbrev pub LeadsClean : List ℕ → Netlist → MapParts → MapParts → Type 0
+LeadsClean held c old new = (d : Netlist) (kept : List ℕ) → Cleans d held c kept → LeadsOn c old d kept new
 
--- r is c retimed, with certificates, by some choice and limit of frames
-pub record IsRetimedIn (c : Netlist) (names : List (List ℕ)) (r : Retimed) : Type 0 where
-  pub choice : Choice
-  pub max_frames : ℕ
-  pub is : IsRetimed choice c names max_frames true r
-
--- the gates of the certificate at this place
-pub record IsGatesAt (blocks : List Certificate) (place : ℕ) (gates : List ℕ) : Type 0 where
-  pub block : Certificate
-  pub there : slice_get blocks place ≡ Some block
-  pub same : gates ≡ block.gates
-
--- what the first n frames of a retiming of c make, with a map to it
-pub record IsFollowed (names : List (List ℕ)) (c : Netlist) (r : Retimed) (n : ℕ) (d : Netlist) (m : MapParts) : Type 0 where
-  pub retimed : IsRetimedIn c names r
-  pub kept : List ℕ
-  pub reports : List FrameReport
-  pub frames : AfterFrames retimed.choice names c n d kept reports
-  pub held : held_latches names d ≡ held_latches names c
-  pub map : IsMapTo c d kept m
+-- what was a map to c before is one to d, where that is c with its latches moved over the set, and cleaned
+abbrev pub LeadsFrame : List (List ℕ) → Netlist → List ℕ → Netlist → MapParts → MapParts → Type 0
+LeadsFrame names c set d old new = (kept : List ℕ) → CleansIn names (moved_in names c set) d kept → LeadsOn c old d kept new
 
 -- the names of a map: those of the latches of both circuits
 abbrev pub map_symbols : Netlist → Netlist → Symbols

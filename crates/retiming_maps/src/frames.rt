@@ -1,116 +1,83 @@
-//! A map that follows the frames of a retiming: each moves latches over a set and cleans.
-ghost use Rattle.std.specs.Prelude.{◌≡◌, ◌<◌, IfOk};
-ghost use Rattle.std.specs.List.Sorted.{IsStrictlyIncreasing};
+//! A map that follows the frames of a retiming, whose circuits are there: each moves latches over a set and cleans. Mostly nothing is to
+//! clean; where something is, the moved circuit is made and cleaned once more, which tells what became of each latch.
+ghost use Rattle.std.specs.Prelude.{◌≡◌, ◌<◌, OnOk, length, true};
 ghost use Rattle.aig_graph.specs.Closed.{IsClosedSet};
 ghost use Rattle.aig_graph.specs.Graph.{known_latches};
 ghost use Rattle.aig_graph.specs.Keep.{NoneMissing, held_in, names_of};
-ghost use Rattle.retimed_circuits.specs.Frames.{count_in, moved_in};
-ghost use Rattle.retiming_maps.specs.Mapping.{IsCleanedAlong, IsFrameAlong, IsSomeMapTo, LeadsWhole};
+ghost use Rattle.retimed_circuits.specs.Frames.{count_in};
+ghost use Rattle.retiming_maps.specs.Mapping.{IsSomeMapTo, LeadsClean, LeadsFrame};
 
-use crate::moves::moved_along;
+use crate::moves::follow_move;
 use crate::parts::MapParts;
 use crate::passes::cleaned_along;
-use aig_graph::{Circuit, ClosedSet, NoMemory, keep_by_names};
+use aig_graph::{Circuit, ClosedSet, keep_by_names};
 use map_circuits::MapError;
+use rebuild::moved;
 use std::alloc::Global;
 
-/// The circuit, cleaned, where the latches stay that the names hold.
-pub(crate) fn cleaned_by_names(
+/// Whether the circuit after a frame has a latch for each function, and as many gates as the circuit before. Then nothing was cleaned after
+/// the move.
+fn is_whole(parts: &MapParts, circuit: &Circuit, after: &Circuit) -> bool
+    ensures latches { result ≡ true → length after.now.aig.latches
+        ≡ length parts.now.functions.items }
+    ensures gates { result ≡ true → length after.now.aig.gates ≡ length circuit.now.aig.gates }
+{
+    after.aig().latches().len() == parts.functions.len()
+        && after.aig().gates().len() == circuit.aig().gates().len()
+}
+
+/// Follows the cleaning of a circuit, where the latches stay that the names hold.
+fn follow_cleaning(
     alloc: Global,
     parts: &mut MapParts,
     circuit: &Circuit,
     names: &[Vec<u8>],
-) -> Result<Circuit, MapError>
+) -> Result<(), MapError>
     requires map { IsSomeMapTo circuit.now parts.old }
     requires names { NoneMissing (names_of names.now) circuit.now }
-    ensures { IfOk result (IsCleanedAlong (held_in (names_of names.now) circuit.now)
-        circuit.now parts.old parts.new) }
+    ensures { OnOk result (LeadsClean (held_in (names_of names.now) circuit.now) circuit.now
+        parts.old parts.new) }
 {
     // That the held latches are among the circuit's is what its readers ensure.
     circuit.known();
     let keep = keep_by_names(alloc, circuit, names)?;
-    cleaned_along(alloc, parts, circuit, &keep)
+    let cleaned = cleaned_along(alloc, parts, circuit, &keep)?;
+    drop(cleaned);
+    Ok(())
 }
 
-/// The set of gates that rise.
-fn set_of(alloc: Global, gates: &[u32]) -> Result<ClosedSet, NoMemory>
-    requires { IsStrictlyIncreasing gates.now }
-    ensures { IfOk result (λ set. set ≡ gates.now) }
-{
-    let mut vars = Vec::with_capacity(alloc, gates.len())?;
-    vars.extend_from_slice(gates)?;
-    match ClosedSet::new(vars) {
-        Some(set) => Ok(set),
-        None => unreachable!(),
-    }
-}
-
-/// The circuit with its latches moved over the gates.
-fn moved_over(
+/// Follows a frame: the latches of a circuit move over a closed set, and what that leaves is cleaned, where the latches stay that the names
+/// hold. `after` is what the frame makes. Linear in the circuit where nothing was to clean; else the move and the cleaning are made
+/// once more.
+///
+/// # Errors
+///
+/// `NoMemory` where memory is refused, `TooLarge` where the map would have more variables than a graph may have.
+pub fn follow_frame(
     alloc: Global,
     parts: &mut MapParts,
     circuit: &Circuit,
-    gates: &[u32],
+    set: &ClosedSet,
+    after: &Circuit,
     names: &[Vec<u8>],
-) -> Result<Circuit, MapError>
+) -> Result<(), MapError>
     requires map { IsSomeMapTo circuit.now parts.old }
     requires names { NoneMissing (names_of names.now) circuit.now }
     requires closed { IsClosedSet circuit.now.aig (held_in (names_of names.now) circuit.now)
-        gates.now }
-    requires fewer { count_in (names_of names.now) circuit.now gates.now
+        set.now }
+    requires fewer { count_in (names_of names.now) circuit.now set.now
         < known_latches circuit.now.aig }
-    ensures value { IfOk result (λ after. after ≡ moved_in (names_of names.now) circuit.now
-        gates.now) }
-    ensures leads { IfOk result (λ after. LeadsWhole circuit.now parts.old after parts.new) }
+    ensures { OnOk result (LeadsFrame (names_of names.now) circuit.now set.now after.now
+        parts.old parts.new) }
 {
-    // That the circuit is a graph is what its readers ensure.
     circuit.known();
     let keep = keep_by_names(alloc, circuit, names)?;
-    let set = set_of(alloc, gates)?;
-    moved_along(alloc, parts, circuit, &set, &keep)
-}
-
-/// What a frame over the gates makes of a circuit.
-fn after_frame(
-    alloc: Global,
-    parts: &mut MapParts,
-    circuit: &Circuit,
-    gates: &[u32],
-    names: &[Vec<u8>],
-) -> Result<Circuit, MapError>
-    requires map { IsSomeMapTo circuit.now parts.old }
-    requires names { NoneMissing (names_of names.now) circuit.now }
-    requires closed { IsClosedSet circuit.now.aig (held_in (names_of names.now) circuit.now)
-        gates.now }
-    requires fewer { count_in (names_of names.now) circuit.now gates.now
-        < known_latches circuit.now.aig }
-    ensures { IfOk result (IsFrameAlong (names_of names.now) circuit.now gates.now
-        parts.old parts.new) }
-{
-    circuit.known();
-    let after = moved_over(alloc, parts, circuit, gates, names)?;
-    after.known();
-    let cleaned = cleaned_by_names(alloc, parts, &after, names);
-    drop(after);
-    cleaned
-}
-
-/// The same of a circuit that isn't needed any more.
-pub(crate) fn next_frame(
-    alloc: Global,
-    parts: &mut MapParts,
-    circuit: Circuit,
-    gates: &[u32],
-    names: &[Vec<u8>],
-) -> Result<Circuit, MapError>
-    requires map { IsSomeMapTo circuit parts.old }
-    requires names { NoneMissing (names_of names.now) circuit }
-    requires closed { IsClosedSet circuit.aig (held_in (names_of names.now) circuit) gates.now }
-    requires fewer { count_in (names_of names.now) circuit gates.now < known_latches circuit.aig }
-    ensures { IfOk result (IsFrameAlong (names_of names.now) circuit gates.now
-        parts.old parts.new) }
-{
-    let next = after_frame(alloc, parts, &circuit, gates, names);
-    drop(circuit);
-    next
+    follow_move(alloc, parts, circuit, set, &keep)?;
+    if is_whole(parts, circuit, after) {
+        return Ok(());
+    }
+    let moved = moved(alloc, circuit, set, &keep)?;
+    let followed = follow_cleaning(alloc, parts, &moved, names);
+    drop(moved);
+    followed
 }

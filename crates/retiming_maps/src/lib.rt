@@ -9,5 +9,9 @@ mod parts;
 mod passes;
 mod start;
 
+pub use frames::follow_frame;
 pub use map_circuits::MapError;
 pub use maps::state_map;
+pub use parts::MapParts;
+pub use passes::cleaned_along;
+pub use start::identity;

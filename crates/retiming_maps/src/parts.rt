@@ -1,8 +1,8 @@
 use aig_graph::{AigBuilder, Lit};
 
-/// A map of states, as far as it has come.
+/// A map of states, as far as it has come. It is made by [`identity`](crate::identity), and follows a circuit by what the other functions do.
 #[derive(Drop)]
-pub(crate) struct MapParts {
+pub struct MapParts {
     /// Gates over an input for each latch of the circuit that was read.
     pub gates: AigBuilder,
     /// What each latch of the circuit that the run has come to holds.

@@ -5,8 +5,8 @@ ghost use Rattle.clean.specs.Tracing.{IsTraced};
 ghost use Rattle.retiming_maps.specs.Mapping.{IsCleanedAlong, IsNextAlong, IsPassAlong, IsSomeMapTo, LeadsOn};
 
 use crate::parts::MapParts;
-use aig_graph::{Circuit, Keep};
-use clean::{TracedPass, composed, traced_pass};
+use aig_graph::{Circuit, Keep, Sequence};
+use clean::{Cleaned, TracedPass, composed, traced_pass};
 use map_circuits::{MapError, add_constraints, passed_functions};
 use std::alloc::Global;
 
@@ -93,12 +93,21 @@ fn next_pass(alloc: Global, parts: &mut MapParts, last: TracedPass) -> Result<Tr
     next
 }
 
-/// What the last pass leaves.
-fn circuit_of(last: TracedPass) -> Circuit
-    ensures { result ≡ last.circuit }
+/// What the last pass leaves. The gates that stay aren't listed.
+fn cleaned_by(alloc: Global, last: TracedPass) -> Cleaned
+    ensures circuit { result.circuit ≡ last.circuit }
+    ensures kept_free { result.kept_free ≡ last.kept_free.items }
 {
-    let TracedPass { circuit, .. } = last;
-    circuit
+    let TracedPass {
+        circuit,
+        kept_free,
+        ..
+    } = last;
+    Cleaned {
+        circuit,
+        kept_free: Sequence::from_vec(kept_free),
+        kept_gates: Vec::new(alloc),
+    }
 }
 
 /// Whether a pass left fewer latches or gates than there were before it. One that leaves as many has changed nothing.
@@ -109,13 +118,18 @@ fn leaves_fewer(last: &TracedPass, before: usize) -> bool
     last.circuit.aig().latches_and_gates() < before
 }
 
-/// The circuit, cleaned pass after pass until one changes nothing.
-pub(crate) fn cleaned_along(
+/// The circuit, cleaned pass after pass until one changes nothing, as [`clean::clean`] does it, and the map with it. Its `kept_gates` are
+/// none.
+///
+/// # Errors
+///
+/// `NoMemory` where memory is refused, `TooLarge` where the map would have more variables than a graph may have.
+pub fn cleaned_along(
     alloc: Global,
     parts: &mut MapParts,
     circuit: &Circuit,
     keep: &Keep,
-) -> Result<Circuit, MapError>
+) -> Result<Cleaned, MapError>
     requires map { IsSomeMapTo circuit.now parts.old }
     requires in_range { All (λ j. j < length circuit.now.aig.latches) keep.now }
     ensures { IfOk result (IsCleanedAlong keep.now circuit.now parts.old parts.new) }
@@ -126,5 +140,5 @@ pub(crate) fn cleaned_along(
         before = last.circuit.aig().latches_and_gates();
         last = next_pass(alloc, parts, last)?;
     }
-    Ok(circuit_of(last))
+    Ok(cleaned_by(alloc, last))
 }

@@ -22,8 +22,12 @@ fn input_literals(alloc: Global, count: u32) -> Result<Vec<Lit>, NoMemory>
     Ok(literals)
 }
 
-/// The map of a circuit's states to themselves.
-pub(crate) fn identity(alloc: Global, circuit: &Circuit) -> Result<MapParts, MapError>
+/// The map of a circuit's states to themselves. Linear in the latches.
+///
+/// # Errors
+///
+/// `NoMemory` where memory is refused.
+pub fn identity(alloc: Global, circuit: &Circuit) -> Result<MapParts, MapError>
     ensures { IfOk result (IsMapTo circuit.now circuit.now (all_free circuit.now.aig)) }
 {
     circuit.known();

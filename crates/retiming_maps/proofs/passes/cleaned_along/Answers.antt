@@ -1,10 +1,11 @@
 use Rattle.std.proofs.Common.{◌≡◌, ◌<◌, ◌∙◌, ap, sym, subst, ℕ, List}
+use Rattle.aig_graph.specs.Circuits.{Netlist}
 use Rattle.aig_graph.specs.Graph.{Graph, latches_and_gates}
 use Rattle.aig_graph.specs.Laws.{composed}
-use Rattle.cleaned_circuits.specs.Cleaned.{IsPass}
+use Rattle.cleaned_circuits.specs.Cleaned.{Cleans, IsPass}
 use Rattle.cleaned_circuits.proofs.PassLaws.{IsCircuit}
 use Rattle.clean.proofs.CleaningLaws.{Passed, passed-start, passed-in_range, passed-more, passed-end, kept-long, next-below}
-use Rattle.retiming_maps.specs.Mapping.{IsCleanedAlong}
+use Rattle.retiming_maps.specs.Mapping.{LeadsOn}
 use Rattle.retiming_maps.proofs.StepLaws.{leads-more}
 use Rattle.retiming_maps.proofs.passes.cleaned_along.Goals as goal
 
@@ -53,9 +54,13 @@ loop-before-preserved c =
 
 pub returns : goal.returns
 returns c =
+    let before = c.args.circuit.now in
     let last = c.loop-before.last in
-    subst (λ d. IsCleanedAlong c.args.keep.now c.args.circuit.now c.args.parts.now c.loop-before.parts d) (sym c.circuit_of.ensures) (record {
-      kept = last.kept_free.items;
-      cleaned = passed-end c.args.keep.now c.args.circuit.now c.loop-before.before last.circuit last.kept_free.items last.held.items c.loop-before.invariant.passed (c.leaves_fewer.ensures.done c.loop-before-test.false);
-      leads = c.loop-before.invariant.leads;
-    })
+    let made = c.cleaned_by.result in
+    let P : Netlist → List ℕ → Type 0 = λ d js. Cleans d c.args.keep.now before js × LeadsOn before c.args.parts.now d js c.loop-before.parts in
+    let both : P last.circuit last.kept_free.items = (
+      passed-end c.args.keep.now before c.loop-before.before last.circuit last.kept_free.items last.held.items c.loop-before.invariant.passed (c.leaves_fewer.ensures.done c.loop-before-test.false),
+      c.loop-before.invariant.leads,
+    ) in
+    let same : P made.circuit made.kept_free = subst (λ (d : Netlist). P d made.kept_free) (sym c.cleaned_by.ensures.circuit) (subst (P last.circuit) (sym c.cleaned_by.ensures.kept_free) both) in
+    record { cleaned = same.0; leads = same.1 }
