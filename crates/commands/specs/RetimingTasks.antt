@@ -33,7 +33,7 @@ pub record AreOptionsOf (task : Retiming) (options : Options) : Type 0 where
   pub spelling : options.spelling ≡ task.spelling
   pub frames : options.max_frames ≡ task.frames
   pub choice : options.choice ≡ task.choice
-  pub certify : options.certify ≡ is_some task.certificates || is_some task.map
+  pub certify : options.certify ≡ is_some task.certificates
   pub merge : options.merge ≡ task.merge
   pub names : map (λ name. name.items) options.keep.items ≡ map (λ name. name.now) task.keep.items
 

@@ -97,7 +97,6 @@ fn mapped_between<R: Threads + Sync, I: CountedRead, W: CountedWrite, V: FrameWa
     writer: &mut W,
     watcher: &mut V,
 ) -> Result<Mapped, MappedError>
-    requires certify { options.now.certify ≡ true }
     requires merge { options.now.merge ≡ false }
     ensures ok { IfOk result (IsMapped (I.input reader.old) (W.output writer.old)
         (W.output writer.new) options.now) }

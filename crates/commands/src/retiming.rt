@@ -38,7 +38,7 @@ fn options(alloc: Global, task: &Retiming<'_>) -> Result<Options, AllocError>
         spelling: task.spelling,
         max_frames: task.frames,
         choice: task.choice,
-        certify: task.certificates.is_some() || task.map.is_some(),
+        certify: task.certificates.is_some(),
         keep: bytes_of_names(alloc, task.keep.as_slice())?,
         merge: task.merge,
     })
