@@ -1,5 +1,6 @@
 //! Nothing that is told beside the fixed text of a failure changes how the run ends: a file that can't be read again, want of memory
 //! and a failed write leave it out.
+ghost use Rattle.std.specs.Prelude.{◌≡◌};
 ghost use Rattle.std.specs.List.{flat_map};
 ghost use Rattle.counted_io.specs.Buffered.{Puts};
 ghost use Rattle.failure_hints.specs.Lines.{lead, nearest_line, shown_byte};
