@@ -1,5 +1,5 @@
 -- What is lifted, of circuits and a map that fit together.
-use Rattle.std.proofs.Common.{ℕ, ◌<◌, ◌≡◌, List, IfOk, Result, arith}
+use Rattle.std.proofs.Common.{ℕ, ◌≡◌, List, IfOk, Result, arith, subst, unwrap_or}
 use Rattle.std.proofs.lemmas.Result.{IfOk-weaker}
 use Rattle.aig_graph.specs.Circuits.{IsNetlist, Netlist}
 use Rattle.aig_graph.specs.Graph.{IsGraph}
@@ -10,9 +10,17 @@ use Rattle.lifted_witnesses.specs.Laws.{LiftsWitnesses}
 use Rattle.lifted_witnesses.specs.Lifting.{IsLifted}
 use Rattle.lifted_witnesses.specs.Parts.{IsLiftable}
 use Rattle.map_checks.specs.Answers.{AreFitting, IsMap}
+use Rattle.file_words.specs.declared.spelling.Spelling.{Spelling}
+use Rattle.counted_io.specs.Input.{Input}
+use Rattle.counted_io.specs.Output.{Output}
+use Rattle.command_line.specs.declared.task.Lifting.{Lifting}
+use Rattle.circuit_files.specs.declared.outcome.Outcome.{Outcome}
 use Rattle.circuit_files.specs.declared.outcome.Failure.{Failure}
-use Rattle.map_commands.specs.Lifted.{IsLiftedBy, IsLiftOf}
+use Rattle.map_commands.specs.declared.given.Given.{Given}
+use Rattle.map_commands.specs.declared.lift.Lifted.{Lifted}
+use Rattle.map_commands.specs.Lifted.{AreGiven, EndsLifting, IsLiftedBy, IsLiftedOf, IsLiftOf, PrintsLift}
 
+-- where the map fits both circuits and the witness shares with the second, it can be lifted
 pub liftable : (c d m w : Netlist) (k : Sharing) → IsMap m → AreFitting c d m → IsSharing d w k → IsLiftable c m w k
 liftable c d m w k is fits shares = record {
   map_inputs = fits.inputs;
@@ -25,6 +33,7 @@ liftable c d m w k is fits shares = record {
   };
 }
 
+-- what is lifted is a witness circuit for the first where it was one for the second
 pub lifted-by : (c d m w : Netlist) (k : Sharing) (r : Netlist) → ((kept : List ℕ) → LiftsWitnesses c d kept m w k r) → IsGraph c.aig → IsNetlist c → IsGraph r.aig → IsSharing d w k
     → IsLifted c m w k r → IsLiftedBy c d m w k r
 lifted-by c d m w k r law graph netlist lifted_graph shares lifted = record {
@@ -32,5 +41,14 @@ lifted-by c d m w k r law graph netlist lifted_graph shares lifted = record {
   shows = λ kept maps passes. law kept graph netlist lifted_graph maps shares passes lifted;
 }
 
+-- the same of what the names of the witness say
 pub lifted-of : (c d m w : Netlist) (k : Sharing) (result : Result Netlist Failure) → IsSharedBy d w k → IfOk result (IsLiftedBy c d m w k) → IfOk result (IsLiftOf c d m w)
 lifted-of c d m w k result shared by = IfOk-weaker result _ _ (λ r is. record { sharing = k; shared = shared; lifted = is }) by
+
+-- what is made of what was read is written, in the spelling that is chosen
+pub prints-lift : {before after : Input} (old new : Output) (task : Lifting) (given : Given) (lifted : Lifted) (spelling : Spelling) (result : Result Outcome Failure)
+    → AreGiven task before after given → IsLiftedOf given lifted → spelling ≡ unwrap_or task.spelling given.witness.spelling
+    → IfOk result (EndsLifting lifted spelling task.output old new) → IfOk result (PrintsLift task before after old new)
+prints-lift {before} {after} old new task given lifted spelling result read is chosen printed =
+    let P : Spelling → Type 0 = λ s. IfOk result (EndsLifting lifted s task.output old new) in
+    IfOk-weaker result _ _ (λ ended ends. record { given = given; read = read; lifted = lifted; is = is; printed = ends }) (subst P chosen printed)

@@ -12,4 +12,4 @@ returns-in-Ok-clause-lifted c =
     let given : Given = c.args.given.now in
     lifted-by given.pair.first.circuit given.pair.second.circuit given.map.circuit given.witness.circuit c.args.sharing.now c.in-Ok.lifted
     (λ kept. c.lift_law.ensures given.pair.first.circuit given.pair.second.circuit kept given.map.circuit given.witness.circuit c.args.sharing.now c.in-Ok.lifted)
-    c.known.ensures.graph c.known.ensures.netlist c.known-2.ensures.graph c.requires.shares c.in-Ok.ensures
+    c.known.ensures.graph c.known.ensures.netlist c.known-in-Ok.ensures.graph c.requires.shares c.in-Ok.ensures

@@ -1,0 +1,8 @@
+use Rattle.map_commands.proofs.given.pair_for.Goals as goal
+
+pub returns : goal.returns
+returns g c = record {
+  between = g.I.CountedRead.input c.circuit_at.new.stdin;
+  first = record { stdin = c.in_ok-first.ensures.stdin; file = c.in_ok-first.ensures.file };
+  second = record { stdin = c.in_ok-second.ensures.stdin; file = c.in_ok-second.ensures.file };
+}
