@@ -3,11 +3,13 @@ use Rattle.std.proofs.Common.{◌≡◌, ℕ, ◌+◌, ◌<◌, ◌==◌, ◌&&�
 use Rattle.std.proofs.lemmas.Bool.{false≢true, ne_eqb}
 use Rattle.arc_rows.specs.Rows.{row_admissible, node_admissible, IsRowOfPushes}
 
+-- of an active node, the pushes that its label admits are the row of what it may push
 pub on_row : (b : Bool) (hs rs ls : List ℕ) (label excess : ℕ) (row : List ℕ) → IsRowOfPushes (row_admissible hs rs ls label) excess row → b ≡ true
     → IsRowOfPushes (node_admissible b hs rs ls label) excess row
 on_row true hs rs ls label excess row h e = h
 on_row false hs rs ls label excess row h e = absurd (false≢true e)
 
+-- of an inactive node, a row of zeros is the row of what it may push
 pub off_row : (b : Bool) (hs rs ls : List ℕ) (label excess : ℕ) (row : List ℕ) → ((k : ℕ) → k < length row → slice_index row k ≡ 0) → b ≡ false
     → IsRowOfPushes (node_admissible b hs rs ls label) excess row
 off_row false hs rs ls label excess row h e = λ k l. omega (arith, h k l)
@@ -17,6 +19,7 @@ no_admissible : (b : Bool) (x r : ℕ) → cond (b && (x + 1 == 0)) r 0 ≡ 0
 no_admissible true x r = ap (λ (t : Bool). cond t r 0) (ne_eqb (x + 1) 0 (λ e. omega arith))
 no_admissible false x r = refl
 
+-- of a node with label 0, a row of zeros is the row of what it may push
 pub low_row : (b : Bool) (hs rs ls : List ℕ) (label excess : ℕ) (row : List ℕ) → ((k : ℕ) → k < length row → slice_index row k ≡ 0) → label ≡ 0
     → IsRowOfPushes (node_admissible b hs rs ls label) excess row
 low_row b hs rs ls label excess row h e = λ k l. omega (arith, h k l, zero_admissible k)

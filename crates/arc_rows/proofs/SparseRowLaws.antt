@@ -53,6 +53,7 @@ sparse-sum m len c h f =
     ∙ sum_below-same len (λ j. sum_below m (λ w. cond (h j == w) (cond (c (h j)) (f j) 0) 0)) (λ j. cond (nat_lt (h j) m) (cond (c (h j)) (f j) 0) 0)
     (λ j k. sum_hit m (h j) (cond (c (h j)) (f j) 0)))
 
+-- at the head of an arc of a row with rising heads, the row's function has the value of that arc
 pub sparse-at : (len : ℕ) (h f : ℕ → ℕ) (k : ℕ) → Rises len h → k < len → sparse len h f (h k) ≡ f k
 sparse-at len h f k up l =
     sum_one len k (λ j. cond (h j == h k) (f j) 0) l (λ i a d. ap (λ (b : Bool). cond b (f i) 0) (ne_eqb (h i) (h k) (λ q. apart i a d q)))
@@ -64,9 +65,11 @@ sparse-at len h f k up l =
       | inr r ↦ elim r [ inl lt ↦ omega (arith, up i k lt l) | inr gt ↦ omega (arith, up k i gt a) ]
     ]
 
+-- where no arc of the row has this head, the row's function is 0
 pub sparse-none : (len : ℕ) (h f : ℕ → ℕ) (w : ℕ) → ((k : ℕ) → k < len → h k ≡ w → ⊥) → sparse len h f w ≡ 0
 sparse-none len h f w none = all_zero len (λ j. cond (h j == w) (f j) 0) (λ j l. ap (λ (b : Bool). cond b (f j) 0) (ne_eqb (h j) w (none j l)))
 
+-- a number is the head of some arc of the row, or of none
 pub find_head : (len : ℕ) (h : ℕ → ℕ) (w : ℕ) → ((k : ℕ) × ((k < len) × (h k ≡ w))) ⊎ ((k : ℕ) → k < len → h k ≡ w → ⊥)
 find_head zero h w = inr (λ k l e. omega arith)
 find_head (suc len) h w = elim (cases_eq (h len) w) [
@@ -172,6 +175,7 @@ sparse-total n len h q within =
     sparse-sum n len (λ x. true) h q
     ∙ sum_below-same len (λ j. cond (nat_lt (h j) n) (q j) 0) q (λ j a. ap (λ (b : Bool). cond b (q j) 0) (lt-ltb (h j) n (within j a)))
 
+-- rows with equal values on all arcs have equal values at each head
 pub sparse-same : (len : ℕ) (h f g : ℕ → ℕ) (w : ℕ) → ((k : ℕ) → k < len → f k ≡ g k) → sparse len h f w ≡ sparse len h g w
 sparse-same len h f g w e = sum_below-same len (λ j. cond (h j == w) (f j) 0) (λ j. cond (h j == w) (g j) 0) (λ j l. ap (λ (x : ℕ). cond (h j == w) x 0) (e j l))
 

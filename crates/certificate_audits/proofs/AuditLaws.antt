@@ -15,6 +15,7 @@ use Rattle.certificate_audits.specs.Audits.{Audits, IsVerdictIn, SavesNone, IsNe
 use Rattle.certificate_audits.specs.Findings.{GoesOn}
 use Rattle.certificate_audits.specs.Laws.{IsLeastIn, AreLeast, IsCertified, last, move}
 
+-- a list whose length isn't 0 isn't empty
 pub not-empty : {X : Type 0} (xs : List X) → nat_eq (length xs) 0 ≡ false → xs ≢ []
 not-empty xs some none = let clash : nat_eq (length xs) 0 ≡ true = ap (λ (ys : List _). nat_eq (length ys) 0) none in absurd (cc)
 
@@ -33,10 +34,14 @@ audits-within names _ _ _ _ (goes_on c d block rest n end saves follows next mor
 
 -- the blocks below k are confirmed and saved latches, and this is the circuit of the k-th one; where there are blocks, there is a k-th
 pub record LeadsTo (names : List (List ℕ)) (first : Netlist) (blocks : List Certificate) (k : ℕ) (circuit : Netlist) : Type 0 where
+  -- the audit of the blocks from k on is, with k more confirmed, that of all blocks
   pub onward : (n : ℕ) (end : End) → Audits names circuit (drop k blocks) n end → Audits names first blocks (k + n) end
+  -- this circuit has the held latches of the first one
   pub held : held_latches names circuit ≡ held_latches names first
+  -- where there are blocks, there is one at place k
   pub another : 0 < length blocks → k < length blocks
 
+-- no block leads to the first circuit itself
 pub leads-first : (names : List (List ℕ)) (first : Netlist) (blocks : List Certificate) → LeadsTo names first blocks 0 first
 leads-first names first blocks = record {
   onward = λ n end audits. let same : n ≡ 0 + n = omega arith in subst (λ (m : ℕ). Audits names first blocks m end) same audits;
@@ -48,6 +53,7 @@ leads-first names first blocks = record {
 here : (blocks : List Certificate) (k : ℕ) (block : Certificate) → k < length blocks → block ≡ get_or blocks k block → drop k blocks ≡ block ∷ drop (k + 1) blocks
 here blocks k block within there = drop_more blocks k block within ∙ ap (λ (b : Certificate). b ∷ drop (k + 1) blocks) (sym there)
 
+-- a block that saves latches, and that others follow, leads on to the circuit that its move makes
 pub leads-next : (names : List (List ℕ)) (first circuit d : Netlist) (blocks : List Certificate) (k : ℕ) (block : Certificate) → k < length blocks → block ≡ get_or blocks k block
     → GoesOn names circuit block (drop (k + 1) blocks) → IsNext names circuit block d → held_latches names d ≡ held_latches names circuit
     → LeadsTo names first blocks k circuit → LeadsTo names first blocks (k + 1) d
@@ -62,6 +68,7 @@ leads-next names first circuit d blocks k block within there goes next held lead
   another = λ some. omega (arith, filled (drop (k + 1) blocks) goes.follows, length-drop (k + 1) blocks);
 }
 
+-- what the audit finds from this block on ends, with k more confirmed, the audit of all blocks
 pub ends-at : (names : List (List ℕ)) (first circuit : Netlist) (blocks : List Certificate) (k : ℕ) (block : Certificate) (n : ℕ) (end : End) → k < length blocks
     → block ≡ get_or blocks k block → Audits names circuit (block ∷ drop (k + 1) blocks) n end → LeadsTo names first blocks k circuit → Audits names first blocks (k + n) end
 ends-at names first circuit blocks k block n end within there audits leads =
@@ -91,6 +98,7 @@ certified names _ _ _ _ (past_end c block rest none follows) e = absurd (cc)
 certified names _ _ _ _ (goes_on c d block rest n end saves follows next more) e =
     let after = certified names d rest n end more e in (ap suc after.0, move c d block rest (least-in names c block saves.confirmed) saves.fewer next after.1)
 
+-- an audit that ends certified has confirmed all blocks, each with a least set, of which the last saves no latch
 pub certified-law : (names : List (List ℕ)) (c : Netlist) (blocks : List Certificate) (audit : Audit) → IsAudit names c blocks audit → audit.end ≡ Certified → IsCertified names c blocks audit
 certified-law names c blocks audit is e =
     let shown = certified names is.first blocks audit.confirmed audit.end is.audits e in

@@ -146,6 +146,7 @@ audits-one names [] c n m e f p q = let one = viewed names c [] n e p in let oth
 audits-one names (block ∷ rest) c n m e f p q =
     found-one names c block rest n m e f (λ d i j a b before after. audits-one names rest d i j a b before after) (viewed names c (block ∷ rest) n e p) (viewed names c (block ∷ rest) m f q)
 
+-- two audits of the same blocks for one circuit are the same
 pub audit-one : (names : List (List ℕ)) (c : Netlist) (blocks : List Certificate) (a b : Audit) → IsAudit names c blocks a → IsAudit names c blocks b → a ≡ b
 audit-one names c blocks a b p q =
     let same = cleans-one p.first (held_in names c) c p.kept p.cleaned q.first q.kept q.cleaned in

@@ -9,10 +9,12 @@ use Rattle.variable_tables.proofs.ListLaws.{count_by-cons}
 true_false : true ≡ false → ⊥
 true_false e = absurd (cc)
 
+-- where what passes one test passes one of two others, it counts at most as many numbers as these two together
 pub count-le : (p q r : ℕ → Bool) → ((v : ℕ) → cond {A = ℕ} (p v) 1 0 ≤ cond (q v) 1 0 + cond (r v) 1 0) → (xs : List ℕ) → count_by p xs ≤ count_by q xs + count_by r xs
 count-le p q r h [] = omega arith
 count-le p q r h (x ∷ xs) = omega (arith, h x, count-le p q r h xs, count_by-cons p x xs, count_by-cons q x xs, count_by-cons r x xs)
 
+-- a test that nothing passes counts none of a list
 pub count-none : (p : ℕ → Bool) → ((v : ℕ) → p v ≡ false) → (xs : List ℕ) → count_by p xs ≡ 0
 count-none p h [] = refl
 count-none p h (x ∷ xs) = omega (arith, count_by-cons p x xs, cond-false {A = ℕ} (p x) 1 0 (h x), count-none p h xs)
@@ -89,6 +91,7 @@ count-distinct p xs d (suc n) = elim (cases_Bool (p n)) [
       | inr no' ↦ omega (arith, less b v n (λ e. false_true (sym no' ∙ eq-eqb v n e)))
     ]
 
+-- of two lists that are joined, those that pass are counted in each
 pub count-append : (p : ℕ → Bool) (xs ys : List ℕ) → count_by p (xs ++ ys) ≡ count_by p xs + count_by p ys
 count-append p [] ys = omega arith
 count-append p (x ∷ xs) ys = omega (arith, count_by-cons p x (xs ++ ys), count_by-cons p x xs, count-append p xs ys)

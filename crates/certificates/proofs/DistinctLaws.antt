@@ -17,6 +17,7 @@ all-mid : (P : ℕ → Type 0) (xs ys : List ℕ) (x : ℕ) → AllByRecursion P
 all-mid P [] ys x all = all.0
 all-mid P (y ∷ xs) ys x all = all-mid P xs ys x all.1
 
+-- a list of different numbers stays one with a number at its end that it didn't have
 pub distinct-push : (xs : List ℕ) (x : ℕ) → IsDistinct (λ v w. v == w) xs → has xs x ≡ false → IsDistinct (λ v w. v == w) (xs ++ x ∷ [])
 unfolding IsDistinct
 distinct-push [] x d absent = (tt, tt)
@@ -24,6 +25,7 @@ distinct-push (y ∷ xs) x d absent =
     let parts = or_parts (y == x) (has xs x) absent in
     (all-push (λ v. (y == v) ≡ false) xs x d.0 parts.0, distinct-push xs x d.1 parts.1)
 
+-- where a number comes again that stands before, the numbers of a list aren't all different
 pub distinct-not : (xs ys : List ℕ) (x : ℕ) → has xs x ≡ true → IsDistinct (λ v w. v == w) (xs ++ x ∷ ys) → ⊥
 unfolding IsDistinct
 distinct-not [] ys x h d = absurd (cc)
@@ -57,6 +59,7 @@ mark-more first old new x v marks low high =
     ∙ ap (λ (n : ℕ). slice_index_or old (v - first) false || (x == n)) here
     ∙ ap (λ (b : Bool). (b && slice_index_or old (v - first) false) || (x == v)) (sym (le-leb first v low))
 
+-- the empty list has no two equal numbers
 pub distinct-none : IsDistinct (λ v w. v == w) []
 unfolding IsDistinct
 distinct-none = tt
@@ -67,6 +70,7 @@ distinct-seen vars k d h seen all =
     let parts : vars ≡ take k vars ++ slice_index_or vars k d ∷ drop (suc k) vars = sym (take-append-drop k vars) ∙ ap (λ (xs : List ℕ). take k vars ++ xs) (drop-cons vars k d h) in
     distinct-not (take k vars) (drop (suc k) vars) (slice_index_or vars k d) seen (subst (λ (xs : List ℕ). IsDistinct (λ v w. v == w) xs) parts all)
 
+-- where the first k variables are different and the next isn't among them, the first k + 1 are
 pub distinct-more : (vars : List ℕ) (k d : ℕ) → k < length vars → IsDistinct (λ v w. v == w) (take k vars) → has (take k vars) (slice_index_or vars k d) ≡ false
     → IsDistinct (λ v w. v == w) (take (k + 1) vars)
 distinct-more vars k d h all absent =

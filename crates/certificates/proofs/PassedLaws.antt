@@ -19,6 +19,7 @@ unfolding all_passed
 all-append [] ys = refl
 all-append (r ∷ xs) ys = ap (λ (vs : List ℕ). passed r ++ vs) (all-append xs ys) ∙ sym (append_assoc (passed r) (all_passed xs) (all_passed ys))
 
+-- the first k elements and the one after them are the first k + 1
 pub next : {A : Type 0} (xs : List A) (k : ℕ) (d : A) → k < length xs → take (k + 1) xs ≡ take k xs ++ slice_index_or xs k d ∷ []
 next xs k d h =
     let same : k + 1 ≡ suc k = omega arith in
@@ -32,6 +33,7 @@ passed-more route k d h behind =
     ap passed (next route k d h) ∙ passed-append (take k route) (slice_index_or route k d ∷ [])
     ∙ ap (λ (vs : List ℕ). passed (take k route) ++ vs) (passed-behind (slice_index_or route k d) [] behind)
 
+-- a point before its variable adds none to those that a route passes
 pub passed-same : (route : List Point) (k : ℕ) (d : Point) → k < length route → (slice_index_or route k d).behind ≡ false → passed (take (k + 1) route) ≡ passed (take k route)
 unfolding passed
 passed-same route k d h before =
@@ -45,10 +47,12 @@ all-more routes k d h =
     ap all_passed (next routes k d h) ∙ all-append (take k routes) (slice_index_or routes k d ∷ [])
     ∙ ap (λ (vs : List ℕ). all_passed (take k routes) ++ vs) (append-nil (passed (slice_index_or routes k d)))
 
+-- a route without points passes no variable
 pub passed-none : passed [] ≡ []
 unfolding passed
 passed-none = refl
 
+-- where there is no route, no variable is passed
 pub all-none : all_passed [] ≡ []
 unfolding all_passed
 all-none = refl

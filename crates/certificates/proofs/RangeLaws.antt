@@ -38,6 +38,7 @@ module _ (c : Netlist) (held : List ℕ) where
       let at = and_parts p.behind (is_known (latch_at c.aig p.var)) parts.0 in
       walk-in p rest (or_left (is_known (latch_at c.aig p.var)) _ at.1) parts.1
 
+  -- each variable that a route passes is from the first latch on and below the variables' end
   pub routes-in : (routes : List (List Point)) → AreRoutes c held routes → All (IsIn c.aig) (all_passed routes)
   unfolding all_passed
   routes-in [] all = All-nil (IsIn c.aig)

@@ -33,6 +33,7 @@ true_false e = absurd (cc)
 abbrev pub Four : (a b c d : Bool) → Type 0
 Four a b c d = (a ≡ true) × (b ≡ true) × (c ≡ true) × (d ≡ true)
 
+-- where a conjunction of four holds, each of the four does
 pub four_parts : (a b c d : Bool) → (a && b && c && d) ≡ true → Four a b c d
 four_parts a b c d e =
     let x = and_parts (a && b && c) d e in
@@ -45,6 +46,7 @@ pub passed-behind : (p : Point) (rest : List Point) → p.behind ≡ true → pa
 unfolding passed
 passed-behind p rest e = cond-true p.behind (p.var ∷ passed rest) (passed rest) e
 
+-- from a point before its variable on, a route passes what the points after it pass
 pub passed-before : (p : Point) (rest : List Point) → p.behind ≡ false → passed (p ∷ rest) ≡ passed rest
 unfolding passed
 passed-before p rest e = cond-false p.behind (p.var ∷ passed rest) (passed rest) e
@@ -205,12 +207,14 @@ module _ (c : Netlist) (held t : List ℕ) (set : IsClosedSet c.aig held t) wher
       in_range v true h = omega (arith, cond-true {A = ℕ} (true && nat_lt v (variables_end c.aig)) 1 0 (and_from true (nat_lt v (variables_end c.aig)) refl (lt-ltb v (variables_end c.aig) (h refl))))
       in_range v false h = omega arith
 
+-- a closed set is least where as many routes, apart from one another, are right as its border has variables
 pub least-law : LeastLaw
 least-law c held gates routes shows = record {
   closed = shows.closed;
   least = λ r set. omega (arith, shows.count, border-of-routes c held r set routes shows.right shows.apart);
 }
 
+-- a certificate that passes all tests has a least set, and the size of its border as its count
 pub yes-law : YesLaw
 yes-law c held cert yes' =
     let count : border_size (move_of c held cert.gates) ≡ length cert.routes = omega (arith, yes'.3.of_border, yes'.3.of_routes) in

@@ -41,6 +41,7 @@ step-on g held p q e = elim (or_cases (passes g held p q) (enters g held p q || 
   ]
 ]
 
+-- a known latch or a gate is from the first latch on and below the variables' end
 pub on-range : (g : Graph) (v : ℕ) → is_on g v ≡ true → (first_latch g ≤ v) × (v < variables_end g)
 on-range g v on = elim (or_cases (is_known (latch_at g v)) (is_some (gate_at g v)) on) [
   | inl known ↦ of_latch (latch_at g v) refl known
@@ -76,11 +77,13 @@ goes-step c held p rest k d h steps =
     ap (λ (xs : List Point). goes_on c held p xs) (from rest k d h)
     ∙ ap (λ (b : Bool). b && goes_on c held (slice_index_or rest k d) (drop (k + 1) rest)) steps
 
+-- a walk whose next point may not follow doesn't go on
 pub goes-not : (c : Netlist) (held : List ℕ) (p : Point) (rest : List Point) (k : ℕ) (d : Point) → k < length rest → may_step c.aig held p (slice_index_or rest k d) ≡ false → goes_on c held p (drop k rest) ≡ false
 unfolding goes_on
 goes-not c held p rest k d h stops =
     ap (λ (xs : List Point). goes_on c held p xs) (from rest k d h) ∙ and_left (may_step c.aig held p (slice_index_or rest k d)) _ stops
 
+-- an answer on a step that is right by a graph equal to the circuit's is right by the circuit's
 pub step-is : (g h : Graph) (held : List ℕ) (pass : PassSet) (r : Bool) (p q : Point) → h ≡ g → ((held : List ℕ) → IsPassSet h held pass → r ≡ may_step h held p q) → IsPassSet g held pass
     → r ≡ may_step g held p q
 step-is g h held pass r p q same is of = subst (λ (f : Graph). IsPassSet f held pass → r ≡ may_step f held p q) same (is held) of

@@ -29,6 +29,7 @@ moves-early g held v h = ap (λ (o : Option Latch). not (is_held g held v) && is
 pub held-start : (g : Graph) (held : List ℕ) (n : ℕ) → n ≡ first_latch g → 0 ≡ count_below (is_known_held g held) n
 held-start g held n same = sym (count-none (is_known_held g held) n (λ v h. held-early g held v (omega (arith, h, same))))
 
+-- no marked latch that may move stands before the first latch
 pub marked-start : (g : Graph) (held : List ℕ) (marks : List Bool) (n : ℕ) → n ≡ first_latch g → 0 ≡ count_below (is_marked_latch g held marks) n
 marked-start g held marks n same =
     sym (count-none (is_marked_latch g held marks) n (λ v h. ap (λ (b : Bool). b && mark_at (first_latch g) marks v) (moves-early g held v (omega (arith, h, same)))))

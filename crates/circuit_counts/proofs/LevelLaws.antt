@@ -36,10 +36,12 @@ pub level-bound : (g : Graph) (v : ℕ) → level g v ≤ suc v
 unfolding level fold_gates
 level-bound g v = depth-bound g (suc v) v
 
+-- what is no gate has level 0
 pub level-no_gate : (g : Graph) (v : ℕ) → gate_at g v ≡ None → level g v ≡ 0
 unfolding level
 level-no_gate g v e = fold_gates-leaf g ground_level one_above v e
 
+-- a gate is one level above the higher of its fan-ins
 pub level-gate : (g : Graph) → IsGraph g → (v : ℕ) (gate : Gate) → gate_at g v ≡ Some gate
     → level g v ≡ suc (max (level g (variable gate.rhs0)) (level g (variable gate.rhs1)))
 unfolding level
@@ -100,6 +102,7 @@ next-at g k gate gates same h there =
     let within : k < length g.gates = omega (arith, h, ap (λ (xs : List Gate). length xs) same) in
     gate_at-first_gate g k ∙ slice_get-get_or g.gates k gate within ∙ ap (λ (x : Gate). Some x) (sym (there ∙ ap (λ (xs : List Gate). get_or xs k gate) same))
 
+-- the gate at place k is well formed at the variable of the table's next entry
 pub next-gate : (g : Graph) (k n : ℕ) (gate : Gate) (gates : List Gate) → IsGraph g → gates ≡ g.gates → k < length gates → gate ≡ get_or gates k gate → n ≡ k → IsGateAt (first_gate g + n) gate
 next-gate g k n gate gates valid same h there size =
     subst (λ (m : ℕ). IsGateAt (first_gate g + m) gate) (sym size) (gate_at-is g valid (first_gate g + k) gate (next-at g k gate gates same h there))

@@ -9,14 +9,17 @@ use Rattle.circuit_counts.specs.declared.held_back.HeldBack.{HeldBack}
 use Rattle.circuit_counts.specs.declared.remaining.Remaining.{Remaining}
 use Rattle.circuit_counts.specs.declared.statistics.Counts.{Counts}
 
+-- where each name is that of a latch, the latches with these names are those that the names hold
 pub none-missing : (names : List (List ℕ)) (c : Netlist) (held : List ℕ) → held ≡ held_in names c → NoneMissing names c → held ≡ held_latches names c
 unfolding held_latches
 none-missing names c held is none = is ∙ sym (ap (λ (o : Option ℕ). cond (is_some o) [] (held_in names c)) none)
 
+-- where a name is that of no latch, the names hold none
 pub one-missing : (names : List (List ℕ)) (c : Netlist) (held : List ℕ) (place : ℕ) → held ≡ [] → IsFirstMissing names c place → held ≡ held_latches names c
 unfolding held_latches
 one-missing names c held place is missing = is ∙ sym (ap (λ (o : Option ℕ). cond (is_some o) [] (held_in names c)) missing)
 
+-- the counts and what holds latches back, where the names hold theirs, are what a retiming leaves
 pub remaining-is : (c : Netlist) (names : List (List ℕ)) (is_least : Bool) (n : Counts) (h : HeldBack) (held : List ℕ) → n ≡ counts c → held ≡ held_latches names c → h ≡ held_back c held
     → record { counts = n; held_back = h; is_least = is_least } ≡ remaining c names is_least
 unfolding remaining

@@ -39,21 +39,27 @@ about_witness fault path = refl
 
 -- the failure that an error is
 module _ (failure : Failure) (path : Bor (List ℕ)) where
+  -- a failure to read the bytes of a file is about its path
   pub of_bytes : (error : ReadAllError) → failure ≡ failure_of_bytes error path → IsAbout path.now failure
   of_bytes error is = subst (IsAbout path.now) (sym is) (about_bytes error path)
 
+  -- a failure to read a circuit is about the path of its file
   pub of_reading : (error : ReadError) → failure ≡ failure_of_reading error path → IsAbout path.now failure
   of_reading error is = subst (IsAbout path.now) (sym is) (about_reading error path)
 
+  -- a failure to read a stimulus is about the path of its file
   pub of_stimulus : (error : StimError) → failure ≡ failure_of_stimulus error path → IsAbout path.now failure
   of_stimulus error is = subst (IsAbout path.now) (sym is) (about_stimulus error path)
 
+  -- a failure to read certificates is about the path of their file
   pub of_certificates : (error : CertError) → failure ≡ failure_of_certificates error path → IsAbout path.now failure
   of_certificates error is = subst (IsAbout path.now) (sym is) (about_certificates error path)
 
+  -- a failure to read a witness is about the path of its file
   pub of_witness : (error : WitnessError) → failure ≡ failure_of_witness error path → IsAbout path.now failure
   of_witness error is = subst (IsAbout path.now) (sym is) (about_witness error path)
 
+  -- a failure of the device is about the path that was read
   pub of_device : failure ≡ fails.Device path → IsAbout path.now failure
   of_device is = subst (IsAbout path.now) (sym is) refl
 

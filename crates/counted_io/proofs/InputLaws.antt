@@ -6,9 +6,12 @@ use Rattle.counted_io.specs.Input.{Input, ReadsAll, ReadsPart}
 
 -- these bytes have been read, and no read has failed
 pub record ReadsFirst (old new : Input) (read : List ℕ) : Type 0 where
+  -- these bytes were taken from the front of what was left
   pub bytes : Consumes old.bytes new.bytes read
+  -- no read has failed since
   pub failures : new.failures ≡ old.failures
 
+-- a reader of which nothing was read yet has given no byte
 pub first-nothing : (s : Input) → ReadsFirst s s []
 first-nothing s = record { bytes = Consumes-nil s.bytes; failures = refl }
 

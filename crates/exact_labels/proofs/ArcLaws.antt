@@ -7,9 +7,11 @@ use Rattle.flow_part.specs.Delivering.{back}
 use Rattle.flow_whole.proofs.MateLaws.{rises, from_mates}
 
 module _ (net : FlowNet) (ok : IsFlowNet net) where
+  -- each arc of a node's row is among all arcs
   pub arc-in : (w k : ℕ) → w < node_count net → k < row_len net w → start net w + k < length net.heads
   arc-in w k h l = omega (arith, h, l, ok.rows (w + 1) (node_count net) (omega (arith, h)) (omega arith), ok.last)
 
+  -- the mate of each arc of a node's row is among all arcs
   pub mate-in : (w k : ℕ) → w < node_count net → k < row_len net w → mate net w k < length net.heads
   mate-in w k h l = let m : HasMate net w k = ok.meets w k h l in omega (arith, m.arc, arc-in (head net w k) m.place (ok.heads_in w k h l) m.inside)
 

@@ -36,6 +36,7 @@ module _ (n : ℕ) (s : State) where
   length_of : ℕ → ℕ → ℕ
   length_of v k = cond (reaches_in n s k v) k n
 
+  -- what is computed is the residual distance to the sink
   pub distance_is : IsDistance n s (distance n s)
   distance_is = record {
     small = λ v h. least_below-le_start n (λ k. cond (reaches_in n s k v) k n) n;
@@ -75,6 +76,7 @@ walk_same n s t e zero v h way = way
 walk_same n s t e (suc k) v h way =
     (way.0, (way.1.0, (subst (λ (x : ℕ). 0 < x) (e v way.0 h way.1.0) way.1.1.0, walk_same n s t e k way.0 way.1.0 way.1.1.1)))
 
+-- a distance of one state is one of each state with the same residuals
 pub distance_same : (n : ℕ) (s t : State) → ((v w : ℕ) → v < n → w < n → s.res v w ≡ t.res v w) → (d : ℕ → ℕ) → IsDistance n s d → IsDistance n t d
 distance_same n s t e d p = record {
   small = p.small;

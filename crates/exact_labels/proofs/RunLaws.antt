@@ -16,6 +16,7 @@ use Rattle.exact_labels.proofs.DistanceLaws.{distance_is, exact_same}
 
 -- ---- one state
 
+-- exact labels keep a sound state sound
 pub exact_sound : (net : FlowNet) (s : State) → IsFlowNet net → IsSound net s → IsSound net (exact (node_count net) s)
 exact_sound net s ok h = record {
   preflow = record { paired = h.preflow.paired; conserved = h.preflow.conserved };
@@ -32,6 +33,7 @@ exact_active net s h on =
     any_from n (is_active n s) v.0 v.1.0
     (is_active-true n s v.0 late.inner late.has_excess (omega (arith, late.below, exact-rises n s (distance n s) h.valid (distance_is n s) v.0 v.1.0)))
 
+-- exact labels leave no more to do than the state's own
 pub exact_work : (net : FlowNet) (s : State) → IsSound net s → work (node_count net) (exact (node_count net) s) ≤ work (node_count net) s
 exact_work net s h = elim (cases_Bool (any_active (node_count net) (exact (node_count net) s))) [
   | inl on ↦ omega (
@@ -45,10 +47,12 @@ exact_work net s h = elim (cases_Bool (any_active (node_count net) (exact (node_
 
 -- ---- what a pulse's end makes of the state
 
+-- after a pulse whose number is a multiple of n, and that leaves a node active, the labels become exact
 pub after-due : (n k : ℕ) (s : State) → (k % n == 0) && any_active n s ≡ true → after_pulse n k s ≡ exact n s
 unfolding after_pulse
 after-due n k s e = cond-true ((k % n == 0) && any_active n s) (exact n s) s e
 
+-- after any other pulse the state stays as it is
 pub after-not : (n k : ℕ) (s : State) → (k % n == 0) && any_active n s ≡ false → after_pulse n k s ≡ s
 unfolding after_pulse
 after-not n k s e = cond-false ((k % n == 0) && any_active n s) (exact n s) s e
@@ -65,6 +69,7 @@ after_work net k s h = elim (cases_Bool ((k % node_count net == 0) && any_active
   | inr not_due ↦ subst (λ (t : State). work (node_count net) t ≤ work (node_count net) s) (sym (after-not (node_count net) k s not_due)) (omega arith)
 ]
 
+-- states that agree still agree after what follows a pulse
 pub after_same : (n k : ℕ) (s t : State) → Agree n s t → Agree n (after_pulse n k s) (after_pulse n k t)
 after_same n k s t a =
     let same : (k % n == 0) && any_active n s ≡ (k % n == 0) && any_active n t = ap (λ (b : Bool). (k % n == 0) && b) (any_active_same n s t a) in
@@ -81,12 +86,18 @@ after_same n k s t a =
 
 -- a run that has made k pulses, from s to t
 pub record Running (net : FlowNet) (k : ℕ) (s t : State) : Type 0 where
+  -- the state now is sound
   pub sound : IsSound net t
+  -- it agrees with the state that k pulses of the run lead to
   pub state : Agree (node_count net) (run_state (node_count net) k s) t
+  -- before each of these pulses some node was active
   pub not_before : (j : ℕ) → j < k → any_active (node_count net) (run_state (node_count net) j s) ≡ true
+  -- pulses made and what is left to do are at most what there was to do at the start
   pub paid : k + work (node_count net) t ≤ work (node_count net) s
+  -- at the start there was at most twice the square of the number of nodes to do
   pub limit : work (node_count net) s ≤ 2 * (node_count net * node_count net)
 
+-- a sound state has made no pulse of its run
 pub running_none : (net : FlowNet) (s t : State) → IsFlowNet net → Agree (node_count net) s t → IsSound net t → Running net 0 s t
 running_none net s t ok agree sound = record {
   sound = sound;
@@ -109,6 +120,7 @@ pulsed_work net k t u x ok sound on agree after =
       work_same n (after_pulse n k u) x after,
     )
 
+-- a pulse from a state with an active node, and what follows it, are one pulse more of the run
 pub running_more : (net : FlowNet) (k : ℕ) (s t u x : State) → IsFlowNet net → Running net k s t → any_active (node_count net) t ≡ true → Agree (node_count net) (pulse (node_count net) t) u
     → Agree (node_count net) (after_pulse (node_count net) (k + 1) u) x → Running net (k + 1) s x
 running_more net k s t u x ok r on agree after =
@@ -129,6 +141,7 @@ running_more net k s t u x ok r on agree after =
       limit = r.limit;
     }
 
+-- a pulse from a state with an active node, and what follows it, leave less to do
 pub running_falls : (net : FlowNet) (k : ℕ) (t u x : State) → IsFlowNet net → IsSound net t → any_active (node_count net) t ≡ true → Agree (node_count net) (pulse (node_count net) t) u
     → Agree (node_count net) (after_pulse (node_count net) k u) x → work (node_count net) x < work (node_count net) t
 running_falls net k t u x ok sound on agree after = pulsed_work net k t u x ok sound on agree after
@@ -140,9 +153,11 @@ pulses_fit net k ok few =
     let square : node_count net * node_count net ≤ node_count net * 2 ^ 31 = mul-le-mul_left (node_count net) small in
     omega (arith, few, square, small)
 
+-- the number of the next pulse of a run fits a word of 64 bits
 pub running_fits : (net : FlowNet) (k : ℕ) (s t : State) → IsFlowNet net → Running net k s t → k + 1 < 2 ^ 64
 running_fits net k s t ok r = pulses_fit net k ok (omega (arith, r.paid, r.limit))
 
+-- a run that has come to a state without an active node has ended
 pub running_done : (net : FlowNet) (k : ℕ) (s t : State) → Running net k s t → any_active (node_count net) t ≡ false → IsRun net k s t
 running_done net k s t r off = record {
   state = r.state;
@@ -157,6 +172,7 @@ agree_run : (n k : ℕ) (s t : State) → Agree n s t → Agree n (run_state n k
 agree_run n zero s t a = a
 agree_run n (suc k) s t a = after_same n (suc k) (pulse n (run_state n k s)) (pulse n (run_state n k t)) (agree_pulse n (run_state n k s) (run_state n k t) (agree_run n k s t a))
 
+-- what a run from one state ends in is what a run from each state that agrees with it ends in
 pub run_from : (net : FlowNet) (k : ℕ) (r s t : State) → Agree (node_count net) r s → IsRun net k s t → IsRun net k r t
 run_from net k r s t a run = record {
   state = agree_then (node_count net) (run_state (node_count net) k r) (run_state (node_count net) k s) t (agree_run (node_count net) k r s a) run.state;
@@ -170,23 +186,29 @@ run_from net k r s t a run = record {
 
 -- k pulses, and so much left to do that no more than the bound are made in all
 pub record Paid (net : FlowNet) (k : ℕ) (t : State) : Type 0 where
+  -- the state now is sound
   pub sound : IsSound net t
+  -- pulses made and what is left to do are at most twice the square of the number of nodes
   pub bounded : k + work (node_count net) t ≤ 2 * (node_count net * node_count net)
 
+-- a sound state that has made no pulse is within the bound
 pub paid_none : (net : FlowNet) (t : State) → IsFlowNet net → IsSound net t → Paid net 0 t
 paid_none net t ok sound = record { sound = sound; bounded = omega (arith, work_bound (node_count net) t (omega (arith, ok.two)) sound.valid) }
 
+-- a pulse from a state with an active node stays within the bound
 pub paid_pulse : (net : FlowNet) (k : ℕ) (t u : State) → IsFlowNet net → Paid net k t → any_active (node_count net) t ≡ true → Agree (node_count net) (pulse (node_count net) t) u → Paid net (k + 1) u
 paid_pulse net k t u ok p on agree = record {
   sound = sound_same net (pulse (node_count net) t) u ok agree (sound_pulse net t p.sound);
   bounded = omega (arith, p.bounded, work_falls (node_count net) t p.sound.valid on, work_same (node_count net) (pulse (node_count net) t) u agree);
 }
 
+-- making the labels exact stays within the bound
 pub paid_exact : (net : FlowNet) (k : ℕ) (t u : State) → IsFlowNet net → Paid net k t → Agree (node_count net) (exact (node_count net) t) u → Paid net k u
 paid_exact net k t u ok p agree = record {
   sound = sound_same net (exact (node_count net) t) u ok agree (exact_sound net t ok p.sound);
   bounded = omega (arith, p.bounded, exact_work net t p.sound, work_same (node_count net) (exact (node_count net) t) u agree);
 }
 
+-- a state with exact labels in place of another's has no more to do
 pub exact_falls : (net : FlowNet) (t u : State) → IsSound net t → Agree (node_count net) (exact (node_count net) t) u → work (node_count net) u ≤ work (node_count net) t
 exact_falls net t u sound agree = omega (arith, exact_work net t sound, work_same (node_count net) (exact (node_count net) t) u agree)

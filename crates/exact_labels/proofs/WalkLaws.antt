@@ -93,6 +93,7 @@ module _ (n : ℕ) (s : State) where
       let few : sum_below n (λ u. cond (nat_lt (d u) n) 1 0) < n = few_sum n v (λ u. cond (nat_lt (d u) n) 1 0) h (has_few n d) (has_no n d v (omega (arith, e))) in
       omega (arith, few, w.counted)
 
+  -- no more nodes are queued than there are
   pub sweeps_few : (d q : ℕ → ℕ) (count place : ℕ) → Sweeps n s d q count place → count ≤ n
   sweeps_few d q count place w = omega (arith, sum_below-le_const n 1 (λ u. cond (nat_lt (d u) n) 1 0) (λ i l. has_few n d i), w.counted)
 
@@ -211,13 +212,19 @@ module _ (n : ℕ) (s : State) where
 
 -- the node w at `place` is read: its first k arcs have been
 pub record Reading (net : FlowNet) (c : Cells) (d q : ℕ → ℕ) (count place w label k : ℕ) : Type 0 where
+  -- the walk backward has come to this place of the queue
   pub sweeps : Sweeps (node_count net) (pairs net c []) d q count place
+  -- the place is that of a queued node
   pub now : place < count
+  -- the node that is read stands there
   pub here : q place ≡ w
+  -- a label for its neighbours is one more than its own
   pub labelled : d w + 1 ≡ label
+  -- of the first k arcs, where the mate has a residual, the head has at most that label
   pub arcs : (j : ℕ) → j < k → 0 < slice_index c.residuals (mate net w j) → d (head net w j) ≤ label
 
 module _ (net : FlowNet) (ok : IsFlowNet net) (c : Cells) where
+  -- before its first arc, the reading of a queued node has only to have its label
   pub reading_start : (d q : ℕ → ℕ) (count place w label : ℕ) → Sweeps (node_count net) (pairs net c []) d q count place → place < count → q place ≡ w → d w + 1 ≡ label
       → Reading net c d q count place w label 0
   reading_start d q count place w label sweeps now here labelled = record {
@@ -289,6 +296,7 @@ module _ (net : FlowNet) (ok : IsFlowNet net) (c : Cells) where
 
   -- ---- the same over the lists
 
+  -- where an arc leads to a node without a label, the queue has room for it
   pub room_for : (labels queue : List ℕ) (count place w label k v nodes : ℕ) → Reading net c (slice_index labels) (slice_index queue) count place w label k → w < node_count net → k < row_len net w
       → v ≡ head net w k → slice_index labels v ≡ nodes → nodes ≡ node_count net → count < node_count net
   room_for labels queue count place w label k v nodes r h l is none all =

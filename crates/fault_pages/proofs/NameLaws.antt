@@ -40,6 +40,7 @@ not_both : (test : Bool) → test ≡ true → test ≡ false → ⊥
 not_both true yes_it_is no_it_is = cc
 not_both false yes_it_is no_it_is = cc
 
+-- what was found among all faults has the name, and where none was found no fault has it
 pub named_of : (name : List ℕ) (found : Option Fault) → MatchOption found (HaveOtherNames all_faults name) (λ fault. has_name name fault ≡ true)
     → MatchOption found (IsNoName name) (λ fault. name_of fault ≡ name)
 named_of name None others = λ fault same.

@@ -17,12 +17,14 @@ use Rattle.file_words.specs.Cuts.{lacks}
 digits_model : IsNumeralModel (λ ds. list_all is_ascii_digit ds ≡ true) digits_value
 digits_model = numerals_by_fold (λ ds. list_all is_ascii_digit ds ≡ true) (search rules) (λ n ds. fold (λ value digit. 10 * value + (digit - 48)) n ds) (search rules)
 
+-- the digits of a number below 2^64 are a number
 pub decimal-is_number : (n : ℕ) → n < 2 ^ 64 → is_number (decimal n) ≡ true
 decimal-is_number n small =
     and_from (not (nat_eq (length (decimal n)) 0)) (list_all is_ascii_digit (decimal n))
     (not_from_false (nat_eq (length (decimal n)) 0) (ne_eqb (length (decimal n)) 0 (λ e. absurd (omega (arith, decimal_nonempty n small)))))
     (digits_decimal digits_model n small)
 
+-- the digits of a number below 2^64 spell it
 pub decimal-value : (n : ℕ) → n < 2 ^ 64 → digits_value (decimal n) ≡ n
 decimal-value n small = digits_value-decimal digits_model n small
 
@@ -43,6 +45,7 @@ pub decimal-lacks : (b n : ℕ) → b < 48 → lacks b (decimal n) ≡ true
 unfolding digits
 decimal-lacks b n low = digits_onto-lacks b 64 n [] low refl
 
+-- bytes that lack a mark lack it joined with others that do
 pub lacks-append : (b : ℕ) (xs ys : List ℕ) → lacks b xs ≡ true → lacks b ys ≡ true → lacks b (xs ++ ys) ≡ true
 lacks-append b xs ys front back = list_all-append (λ c. not (nat_eq c b)) xs ys ∙ and_from (lacks b xs) (lacks b ys) front back
 
@@ -53,6 +56,7 @@ abbrev pub row_line : List ℕ → List ℕ
 row_line [] = []
 row_line (n ∷ ns) = decimal n ++ flat_map spaced ns
 
+-- a written row is the row without its newline, and a newline
 pub row-is_line : (ns : List ℕ) → line ns ≡ row_line ns ++ 10 ∷ []
 unfolding line
 row-is_line [] = refl
@@ -64,6 +68,7 @@ unfolding spaced
 spaced-lacks_newline [] = refl
 spaced-lacks_newline (n ∷ ns) = lacks-append 10 (decimal n) (flat_map spaced ns) (decimal-lacks 10 n (omega arith)) (spaced-lacks_newline ns)
 
+-- a row without its newline has none at all
 pub row_line-lacks_newline : (ns : List ℕ) → lacks 10 (row_line ns) ≡ true
 row_line-lacks_newline [] = refl
 row_line-lacks_newline (n ∷ ns) = lacks-append 10 (decimal n) (flat_map spaced ns) (decimal-lacks 10 n (omega arith)) (spaced-lacks_newline ns)
@@ -77,6 +82,7 @@ pieces-at_space (b ∷ piece) rest clean =
     cond-false (nat_eq b 32) ([] ∷ pieces (piece ++ 32 ∷ rest)) (with_front b (pieces (piece ++ 32 ∷ rest))) (not-true (nat_eq b 32) parts.0)
     ∙ ap (with_front b) (pieces-at_space piece rest parts.1)
 
+-- a line without a space is one piece
 pub pieces-at_end : (piece : List ℕ) → lacks 32 piece ≡ true → pieces piece ≡ piece ∷ []
 unfolding pieces
 pieces-at_end [] clean = refl
@@ -130,6 +136,7 @@ lines-row ns rest =
     ap (λ (text : List ℕ). lines (text ++ rest)) (row-is_line ns) ∙ ap lines (append_assoc (row_line ns) (10 ∷ []) rest)
     ∙ lines-at_newline (row_line ns) rest (row_line-lacks_newline ns)
 
+-- the lines of a text that begins with rows are these rows, and then the lines of the rest
 pub lines-rows : {X : Type 0} (numbers : X → List ℕ) (xs : List X) (rest : List ℕ) → lines (flat_map (λ x. line (numbers x)) xs ++ rest) ≡ map (λ x. row_line (numbers x)) xs ++ lines rest
 lines-rows numbers [] rest = refl
 lines-rows numbers (x ∷ xs) rest =

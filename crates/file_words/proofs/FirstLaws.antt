@@ -20,6 +20,7 @@ no_lines : lines [] ≡ []
 unfolding lines
 no_lines = refl
 
+-- what stands before the first newline is the text's first line, and what stands after it follows
 pub first_cut : (text line more : List ℕ) → Cuts 10 text line more → IsFirst text line more
 first_cut text line more cuts =
     let long : length text ≡ length line + 1 + length more = ap length cuts.whole ∙ length-append line (10 ∷ more) ∙ omega arith in
@@ -29,6 +30,7 @@ first_cut text line more cuts =
       starts = inr long;
     }
 
+-- a text without a newline, if not empty, is its own first line, which nothing follows
 pub first_only : (text more : List ℕ) → 0 < length text → lacks 10 text ≡ true → more ≡ [] → IsFirst text text more
 first_only [] more some clean none = absurd (omega arith)
 first_only (b ∷ text) more some clean none = record {

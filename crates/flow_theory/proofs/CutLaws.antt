@@ -9,6 +9,7 @@ use Rattle.flow_theory.proofs.PushLaws.{is_active-true}
 
 -- ---- sums over pairs
 
+-- functions that agree on pairs of nodes have the same sum between two sets
 pub between-same : (n : ℕ) (a b : ℕ → Bool) (f g : ℕ → ℕ → ℕ) → ((v w : ℕ) → v < n → w < n → f v w ≡ g v w) → between n a b f ≡ between n a b g
 between-same n a b f g e = sum_below-same n (λ v. sum_below n (λ w. cond (a v && b w) (f v w) 0)) (λ v. sum_below n (λ w. cond (a v && b w) (g v w) 0))
     (λ v h. sum_below-same n (λ w. cond (a v && b w) (f v w) 0) (λ w. cond (a v && b w) (g v w) 0) (λ w k. ap (λ (x : ℕ). cond (a v && b w) x 0) (e v w h k)))
@@ -17,6 +18,7 @@ cond-add : (t : Bool) (x y : ℕ) → cond t (x + y) 0 ≡ cond t x 0 + cond t y
 cond-add true x y = refl
 cond-add false x y = refl
 
+-- the sum of two functions between two sets is the sum of their sums
 pub between-add : (n : ℕ) (a b : ℕ → Bool) (f g : ℕ → ℕ → ℕ) → between n a b (λ v w. f v w + g v w) ≡ between n a b f + between n a b g
 between-add n a b f g =
     sum_below-same n (λ v. sum_below n (λ w. cond (a v && b w) (f v w + g v w) 0)) (λ v. sum_below n (λ w. cond (a v && b w) (f v w) 0) + sum_below n (λ w. cond (a v && b w) (g v w) 0))
@@ -24,6 +26,7 @@ between-add n a b f g =
     ∙ sum_below-add n (λ w. cond (a v && b w) (f v w) 0) (λ w. cond (a v && b w) (g v w) 0))
     ∙ sum_below-add n (λ v. sum_below n (λ w. cond (a v && b w) (f v w) 0)) (λ v. sum_below n (λ w. cond (a v && b w) (g v w) 0))
 
+-- the sum between two sets of what each pair has the other way round is the sum between the sets in the other order
 pub between-swap : (n : ℕ) (a b : ℕ → Bool) (f : ℕ → ℕ → ℕ) → between n a b (λ v w. f w v) ≡ between n b a f
 between-swap n a b f =
     sum_below-swap n n (λ v w. cond (a v && b w) (f w v) 0)
@@ -80,6 +83,7 @@ both_ways n cap s a b p =
     let e : between n a b (λ v w. s.res v w + s.res w v) ≡ between n a b (λ v w. cap v w + cap w v) = between-same n a b (λ v w. s.res v w + s.res w v) (λ v w. cap v w + cap w v) (λ v w h k. p.paired v w h k) in
     omega (arith, e, between-add n a b s.res (λ v w. s.res w v), between-add n a b cap (λ v w. cap w v), between-swap n a b s.res, between-swap n a b cap)
 
+-- the excess that the nodes off a set with the source hold, and the residual that leaves the set, make up its cut
 pub cut_identity : (n : ℕ) (cap : ℕ → ℕ → ℕ) (s : State) (side : ℕ → Bool) → IsPreflow n cap s → side 0 ≡ true
     → held_off n s side + between n side (λ w. not (side w)) s.res ≡ cut_value n cap side
 cut_identity n cap s side p src =
@@ -119,15 +123,18 @@ hits_once x (suc m) = elim (cases_Bool (x == m)) [
   | inr other ↦ rw other (omega (arith, hits_once x m))
 ]
 
+-- n terms of at least 1 sum to at least n
 pub sum_of_ones : (n : ℕ) (f : ℕ → ℕ) → ((i : ℕ) → i < n → 1 ≤ f i) → n ≤ sum_below n f
 sum_of_ones zero f e = omega arith
 sum_of_ones (suc n) f e = omega (arith, sum_of_ones n f (λ i h. e i (omega arith)), e n (omega arith))
 
+-- a number that is some term's value is met at least once
 pub met_once : (n : ℕ) (f : ℕ → ℕ) (w j : ℕ) → w < n → f w ≡ j → 1 ≤ sum_below n (λ x. cond (f x == j) 1 0)
 met_once n f w j h e =
     let one : cond (f w == j) 1 0 ≡ suc zero = ap (λ (b : Bool). cond b 1 0) (eq-eqb (f w) j e) in
     omega (arith, one, term-le-sum_below n w (λ x. cond (f x == j) 1 0) h)
 
+-- a node with the label n can't reach the sink
 pub far_label : (n : ℕ) (s : State) → IsValid n s → 1 < n → (v : ℕ) → v < n → s.label v ≡ n → Reaches n s v → ⊥
 far_label n s ok big v h top r =
     let many : suc n ≤ sum_below (suc n) (λ j. sum_below n (λ w. cond (s.label w == j) 1 0)) =
@@ -148,9 +155,11 @@ zero_or_residual n s side far v w h k sv sw = elim (cases_lt 0 (s.res v w)) [
       absurd (false≢true (sym ((far v h).1 here) ∙ sv))
 ]
 
+-- a sum whose terms are all 0 is 0
 pub sum_all_zero : (n : ℕ) (f : ℕ → ℕ) → ((i : ℕ) → i < n → f i ≡ 0) → sum_below n f ≡ 0
 sum_all_zero n f e = sum_below-same n f (λ i. 0) e ∙ sum_below-zero n
 
+-- what is 0 wherever the first test holds and the second doesn't is 0 under both conditions
 pub cond_zero : (x y : Bool) (m : ℕ) → (x ≡ true → y ≡ false → m ≡ 0) → cond (x && not y) m 0 ≡ 0
 cond_zero true true m h = refl
 cond_zero true false m h = h refl refl
@@ -229,6 +238,7 @@ stays_inside : (n : ℕ) (s : State) (other : ℕ → Bool) → between n other 
 stays_inside n s other z off zero v h on e = false≢true (sym off ∙ (sym (ap other e) ∙ on))
 stays_inside n s other z off (suc k) v h on walk = stays_inside n s other z off k walk.0 walk.1.0 (closed_cut n s other z v walk.0 h walk.1.0 on walk.1.1.0) walk.1.1.1
 
+-- where no node is active, the nodes that can't reach the sink are the greatest least cut
 pub source_side_greatest : (n : ℕ) (cap : ℕ → ℕ → ℕ) (s : State) (side : ℕ → Bool) → 1 < n → IsPreflow n cap s → IsValid n s
     → ((v : ℕ) → v < n → is_active n s v ≡ false) → IsSourceSide n s side → IsGreatestLeastCut n cap side
 source_side_greatest n cap s side big p ok quiet far =

@@ -12,12 +12,14 @@ label-le-walk : (n : ℕ) (s : State) → IsValid n s → (k v : ℕ) → v < n 
 label-le-walk n s ok zero v h e = omega (arith, ap s.label e, ok.sink)
 label-le-walk n s ok (suc k) v h walk = omega (arith, ok.steps v walk.0 h walk.1.0 walk.1.1.0, label-le-walk n s ok k walk.0 walk.1.0 walk.1.1.1)
 
+-- a valid label is at most the residual distance to the sink
 pub exact-rises : (n : ℕ) (s : State) (d : ℕ → ℕ) → IsValid n s → IsDistance n s d → (v : ℕ) → v < n → s.label v ≤ d v
 exact-rises n s d ok e v h = elim (cases_lt (d v) n) [
   | inl near ↦ label-le-walk n s ok (d v) v h (e.walk v h near)
   | inr far ↦ omega (arith, ok.small v h, far)
 ]
 
+-- the residual distances to the sink are valid labels
 pub exact-valid : (n : ℕ) (s : State) (d : ℕ → ℕ) → 1 < n → IsValid n s → IsDistance n s d → IsValid n (record s { label = d })
 exact-valid n s d big ok e = record {
   source = omega (arith, exact-rises n s d ok e 0 (omega arith), ok.source, e.small 0 (omega arith));
@@ -29,6 +31,7 @@ exact-valid n s d big ok e = record {
   ];
 }
 
+-- with the residual distances as labels the potential is no greater than with valid ones
 pub exact-potential : (n : ℕ) (s : State) (d : ℕ → ℕ) → IsValid n s → IsDistance n s d → potential n (record s { label = d }) ≤ potential n s
 exact-potential n s d ok e =
     let up : sum_below n s.label ≤ sum_below n d = sum_below-le n s.label d (exact-rises n s d ok e) in

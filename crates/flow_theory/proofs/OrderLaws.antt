@@ -24,6 +24,7 @@ or_true : (a b : Bool) → a ≡ false → (a || b) ≡ true → b ≡ true
 or_true true b e h = absurd (false≢true (sym e))
 or_true false b e h = h
 
+-- deliveries leave all pushes as they are
 pub deliver_keep : (n : ℕ) (t : Moment) (vs : List ℕ) (u w : ℕ) → (deliver_all n t vs).pushes u w ≡ t.pushes u w
 deliver_keep n t [] u w = refl
 deliver_keep n t (v ∷ vs) u w = deliver_keep n (deliver_at n t v) vs u w
@@ -69,6 +70,7 @@ deliver_here n t (v ∷ vs) u d on = elim (cases_Bool (u == v)) [
       }
 ]
 
+-- functions that agree below n have the same least value there
 pub least_below-same : (n : ℕ) (f g : ℕ → ℕ) (m : ℕ) → ((i : ℕ) → i < n → f i ≡ g i) → least_below n f m ≡ least_below n g m
 least_below-same zero f g m e = refl
 least_below-same (suc n) f g m e = let a = least_below-same n f g m (λ i h. e i (omega arith)) in let b = e n (omega arith) in cc
@@ -76,6 +78,7 @@ least_below-same (suc n) f g m e = let a = least_below-same n f g m (λ i h. e i
 same_choice : (a a' b b' : Bool) (x x' y y' : ℕ) → a ≡ a' → b ≡ b' → x ≡ x' → y ≡ y' → cond (a && b) x y ≡ cond (a' && b') x' y'
 same_choice a a' b b' x x' y y' p q r e = cc
 
+-- all reads of a pulse in any order, and then all deliveries in any order, leave the state after the pulse
 pub any_order : (n : ℕ) (t : Moment) (rs ds : List ℕ) → EachOnce n rs → EachOnce n ds → IsAfterPulse n (state_of t) (deliver_all n (read_all n t rs) ds)
 any_order n t rs ds er ed =
     let r : Moment = read_all n t rs in

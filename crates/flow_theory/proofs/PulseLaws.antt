@@ -18,6 +18,7 @@ next_conserved n s v c e =
     let a : sum_below n (λ w. next_res n s v w + push n s v w) ≡ sum_below n (λ w. s.res v w + push n s w v) = sum_below-same n (λ w. next_res n s v w + push n s v w) (λ w. s.res v w + push n s w v) (λ w h. next_res-sum n s v w) in
     omega (arith, a, sum_below-add n (next_res n s v) (push n s v), sum_below-add n (s.res v) (λ w. push n s w v), outflow-le-excess n s v)
 
+-- a pulse keeps a preflow one
 pub next_preflow : (n : ℕ) (cap : ℕ → ℕ → ℕ) (s : State) → IsPreflow n cap s → IsPreflow n cap (pulse n s)
 next_preflow n cap s p = record {
   paired = λ v w a b. next_paired n s v w (cap v w + cap w v) (p.paired v w a b);
@@ -27,9 +28,12 @@ next_preflow n cap s p = record {
 -- ---- labels stay valid
 
 pub record Stuck (n : ℕ) (s : State) (v : ℕ) : Type 0 where
+  -- the node is active
   pub is_on : is_active n s v ≡ true
+  -- its pushes sum to less than its excess
   pub keeps : outflow n s v < s.excess v
 
+-- a node that keeps some of its excess is active, and its pushes sum to less than it
 pub stuck : (n : ℕ) (s : State) (v : ℕ) → keeps_excess n s v ≡ true → Stuck n s v
 stuck n s v e = let p = and_parts (is_active n s v) (nat_lt (outflow n s v) (s.excess v)) e in
     record { is_on = p.0; keeps = ltb-true (outflow n s v) (s.excess v) p.1 }
@@ -63,21 +67,25 @@ lifted-le-head n s v w b r =
     let l : relabelled n s v ≤ cond (nat_lt 0 (next_res n s v w)) (s.label w + 1) n = least_below-le n w (λ x. cond (nat_lt 0 (next_res n s v x)) (s.label x + 1) n) n b in
     rw t at l
 
+-- no label falls in a pulse
 pub next_label-ge : (n : ℕ) (s : State) → IsValid n s → (v : ℕ) → v < n → s.label v ≤ next_label n s v
 next_label-ge n s ok v a = elim (cases_Bool (keeps_excess n s v)) [
   | inl t ↦ rw t (omega (arith, lifted-rises n s ok v a (stuck n s v t)))
   | inr f ↦ rw f (omega arith)
 ]
 
+-- no label rises above the number of nodes in a pulse
 pub next_label-le : (n : ℕ) (s : State) → IsValid n s → (v : ℕ) → v < n → next_label n s v ≤ n
 next_label-le n s ok v a = elim (cases_Bool (keeps_excess n s v)) [
   | inl t ↦ rw t (least_below-le_start n (λ w. cond (nat_lt 0 (next_res n s v w)) (s.label w + 1) n) n)
   | inr f ↦ rw f (ok.small v a)
 ]
 
+-- an active node whose pushes sum to less than its excess keeps some of it
 pub is_stuck-true : (n : ℕ) (s : State) (v : ℕ) → is_active n s v ≡ true → outflow n s v < s.excess v → keeps_excess n s v ≡ true
 is_stuck-true n s v on k = and_from (is_active n s v) (nat_lt (outflow n s v) (s.excess v)) on (lt-ltb (outflow n s v) (s.excess v) k)
 
+-- the label of a node that keeps some of its excess rises
 pub stuck-rises : (n : ℕ) (s : State) → IsValid n s → (v : ℕ) → v < n → keeps_excess n s v ≡ true → s.label v < next_label n s v
 stuck-rises n s ok v a t = rw t (lifted-rises n s ok v a (stuck n s v t))
 
@@ -101,6 +109,7 @@ end_stays n s v h = elim (cases_Bool (keeps_excess n s v)) [
   | inr f ↦ rw f refl
 ]
 
+-- a pulse keeps the labels valid
 pub next_valid : (n : ℕ) (s : State) → IsValid n s → IsValid n (pulse n s)
 next_valid n s ok = record {
   source = end_stays n s 0 (omega arith) ∙ ok.source;

@@ -29,6 +29,7 @@ sum_at_zero (suc n) g h = elim (cases_eq n 0) [
   | inr later ↦ omega (arith, sum_at_zero n g (omega (arith, later)), pick_off n (g n) 0 later)
 ]
 
+-- the start of a flow is a preflow with valid labels
 pub start_sound : (n : ℕ) (cap : ℕ → ℕ → ℕ) → 1 < n → cap 0 0 ≡ 0 → IsPreflow n cap (started n cap) × IsValid n (started n cap)
 start_sound n cap two loop = (
   record { paired = paired; conserved = conserved },

@@ -25,6 +25,7 @@ total_kept n s =
     one : (v : ℕ) → next_excess n s v + outflow n s v ≡ s.excess v + inflow n s v
     one v = omega (arith, outflow-le-excess n s v)
 
+-- what a node has and gets is at most what all nodes have and what it gives
 pub excess-le-total : (n : ℕ) (s : State) (v : ℕ) → v < n → s.excess v + inflow n s v ≤ sum_below n s.excess + outflow n s v
 excess-le-total n s v h =
     let l : next_excess n s v ≤ sum_below n (next_excess n s) = term-le-sum_below n v (next_excess n s) h in

@@ -25,6 +25,7 @@ use Rattle.frame_net.proofs.ArcLaws.{cap-at}
 use Rattle.frame_cuts.proofs.ReadLaws.{read-split}
 use Rattle.frame_cuts.proofs.CutSumLaws.{crosses, crosses-latch, crosses-gate, cut-counted}
 
+-- true isn't false
 pub true_false : true ≡ false → ⊥
 true_false e = absurd (cc)
 
@@ -40,6 +41,7 @@ count-next p v = elim (cases_Bool (p v)) [
   | inr no' ↦ omega (arith, count-fail p v no', cond-false {A = ℕ} (p v) 1 0 no')
 ]
 
+-- where each number that passes one test passes another, the other counts no fewer
 pub count-more : (p q : ℕ → Bool) (n : ℕ) → ((v : ℕ) → v < n → p v ≡ true → q v ≡ true) → count_below p n ≤ count_below q n
 count-more p q zero h = omega (arith, count-zero p, count-zero q)
 count-more p q (suc n) h = omega (arith, count-next p n, count-next q n, count-more p q n (λ v k. h v (omega (arith, k))), one_more (p n) (q n) (h n (omega arith)))
@@ -111,6 +113,7 @@ module _ (g : Graph) (props : Props) (held : List ℕ) (valid : IsGraph g) (side
       known false true e q = absurd (true_false q)
       known false false e q = e
 
+  -- the border of the gates of a cut that no great arc leaves has at most as many variables as the cut's value
   pub border-below : count_below (λ v. (is_known (latch_at g v) || has s v) && (is_held g held v || is_read_outside g props (has s) v)) (variables_end g)
       ≤ cut_value (node_total g held) (capacity g props held) side
   border-below = omega (
@@ -147,6 +150,7 @@ module _ (g : Graph) (props : Props) (held : List ℕ) (valid : IsGraph g) (side
       latch-there None e = absurd (true_false (sym e))
       latch-there (Some latch) e = (latch, refl)
 
+  -- the gates of a cut that no great arc leaves are a closed set
   pub closed : IsClosed g held s
   closed = record {
     passable = λ v member. (passable-means g held v).0 (subst (λ (b : Bool). IsTrue b) (sym (gates v (in-list v member)).0) refl);

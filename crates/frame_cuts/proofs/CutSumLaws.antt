@@ -31,11 +31,17 @@ free-high g held v h = cond-false (nat_lt v (first_gate g)) _ _ (le-ltb v (first
 
 -- what each node adds, by its variable
 pub record Shares (g : Graph) (held : List ℕ) (share : ℕ → ℕ) (q : ℕ → Bool) : Type 0 where
+  -- the source adds nothing
   pub at_source : share 0 ≡ 0
+  -- the sink adds nothing
   pub at_sink : share 1 ≡ 0
+  -- a variable without a node isn't counted
   pub none : (v : ℕ) → has_node g held v ≡ false → q v ≡ false
+  -- the node after a known latch adds 1 where the latch is counted
   pub latch : (v : ℕ) → has_node g held v ≡ true → v < first_gate g → share (latch_number g held v) ≡ cond (q v) 1 0
+  -- the node before a passable gate adds 1 where the gate is counted
   pub gate : (v : ℕ) → has_node g held v ≡ true → first_gate g ≤ v → v < variables_end g → share (before_number g held v) ≡ cond (q v) 1 0
+  -- the node after a passable gate adds nothing
   pub past : (v : ℕ) → has_node g held v ≡ true → first_gate g ≤ v → v < variables_end g → share (after_number g held v) ≡ 0
 
 count-step : (p : ℕ → Bool) (v : ℕ) → count_below p (suc v) ≡ count_below p v + cond (p v) 1 0
@@ -91,6 +97,7 @@ module _ (g : Graph) (held : List ℕ) (share : ℕ → ℕ) (q : ℕ → Bool) 
     | inr no' ↦ step-none v no' (shares-to v (omega (arith, h)))
   ]
 
+  -- what all nodes add is how many variables are counted
   pub shares-all : sum_below (node_total g held) share ≡ count_below q (variables_end g)
   shares-all =
       let end' : first_free g held (variables_end g) ≡ node_total g held = free-high g held (variables_end g) (omega arith) ∙ omega (arith, length-places (has_node g held) (variables_end g)) in
@@ -102,16 +109,19 @@ module _ (g : Graph) (held : List ℕ) (share : ℕ → ℕ) (q : ℕ → Bool) 
 pub crosses : Graph → List ℕ → (ℕ → Bool) → ℕ → Bool
 crosses g held side v = has_node g held v && cond (nat_lt v (first_gate g)) (not (side (latch_number g held v))) (side (before_number g held v) && not (side (after_number g held v)))
 
+-- a variable without a node adds nothing to the cut
 pub crosses-none : (g : Graph) (held : List ℕ) (side : ℕ → Bool) (v : ℕ) → has_node g held v ≡ false → crosses g held side v ≡ false
 unfolding crosses
 crosses-none g held side v p = ap (λ (b : Bool). b && cond (nat_lt v (first_gate g)) (not (side (latch_number g held v))) (side (before_number g held v) && not (side (after_number g held v)))) p
 
+-- a known latch adds to the cut where the node after it isn't in the set
 pub crosses-latch : (g : Graph) (held : List ℕ) (side : ℕ → Bool) (v : ℕ) → has_node g held v ≡ true → v < first_gate g → crosses g held side v ≡ not (side (latch_number g held v))
 unfolding crosses
 crosses-latch g held side v p h =
     ap (λ (b : Bool). b && cond (nat_lt v (first_gate g)) (not (side (latch_number g held v))) (side (before_number g held v) && not (side (after_number g held v)))) p
     ∙ cond-true (nat_lt v (first_gate g)) _ _ (lt-ltb v (first_gate g) h)
 
+-- a passable gate adds to the cut where the node before it is in the set and the one after it isn't
 pub crosses-gate : (g : Graph) (held : List ℕ) (side : ℕ → Bool) (v : ℕ) → has_node g held v ≡ true → first_gate g ≤ v → crosses g held side v ≡ (side (before_number g held v) && not (side (after_number g held v)))
 unfolding crosses
 crosses-gate g held side v p h =
@@ -186,6 +196,7 @@ module _ (g : Graph) (props : Props) (held : List ℕ) (valid : IsGraph g) (side
       ∙ ap (λ (m : ℕ). cond (side (before_number g held u) && not (side (after_number g held u))) m 0)
       (cap-at g props held valid (before_number g held u) (after_number g held u) (before u) (after u) (at-before g held u p from below) (at-after g held u p from below) ∙ cond-true (u == u) 1 0 (eq-eqb u u refl))
 
+  -- what a node adds to the cut, where an arc from the source is told of its head
   pub share : ℕ → ℕ
   share x = cond (x == 0) 0 (sum_below (node_total g held) (λ y. cond (side x && not (side y)) (capacity g props held x y) 0)) + cond (side 0 && not (side x)) (capacity g props held 0 x) 0
 
@@ -199,6 +210,7 @@ module _ (g : Graph) (props : Props) (held : List ℕ) (valid : IsGraph g) (side
   to : (x : ℕ) (b : Node) → node_at (latch_count g held) (node_variables g held) x ≡ b → capacity g props held 0 x ≡ arc_capacity g props held source b
   to x b at = cap-at g props held valid 0 x source b refl at
 
+  -- these are shares of nodes by what variables add to the cut
   pub are-shares : Shares g held share (crosses g held side)
   unfolding share
   are-shares = record {

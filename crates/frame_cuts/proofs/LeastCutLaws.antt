@@ -78,6 +78,7 @@ module _ (c : Netlist) (held : List ℕ) (net : FlowNet) (side : ℕ → Bool) (
     least = λ r set. let t = closed_sets_are_cuts-law c held net r is set in omega (arith, found.1, least.least t.0 t.1.is_cut, t.1.count);
   }
 
+  -- the gates of the greatest least cut of the network are the greatest least set of its circuit
   pub greatest-set : IsGreatestLeast c held s
   greatest-set = record {
     least = is-least;
@@ -92,5 +93,6 @@ module _ (c : Netlist) (held : List ℕ) (net : FlowNet) (side : ℕ → Bool) (
       is_true true t = refl
       is_true false t = absurd (cc)
 
+-- of each circuit's network the gates of the greatest least cut are the greatest least set
 pub greatest_cut_is_greatest_set-law : GreatestCutIsGreatestSet
 greatest_cut_is_greatest_set-law c held net side s is least gates = greatest-set c held net side s is least gates

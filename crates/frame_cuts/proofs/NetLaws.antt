@@ -21,6 +21,7 @@ use Rattle.frame_cuts.specs.Cuts.{NoGreatLeaves, AreGatesOf, IsNetworkOf, leavin
 use Rattle.aig_graph.proofs.KindLaws.{GatePlace, gate_place}
 use Rattle.frame_cuts.proofs.CutLaws.{closed, border-below}
 
+-- a passable gate is a variable among the gates
 pub gate-range : (g : Graph) (held : List ℕ) (v : ℕ) → is_passable g held v ≡ true → (first_gate g ≤ v) × (v < variables_end g)
 gate-range g held v passes =
     let t = (passable-means g held v).0 (subst (λ (b : Bool). IsTrue b) (sym passes) refl) in
@@ -28,17 +29,21 @@ gate-range g held v passes =
     (place.from, place.below)
 
 module _ (c : Netlist) (held : List ℕ) (net : FlowNet) (is : IsNetworkOf c held net) where
+  -- the network has as many nodes as the circuit gives it
   pub nodes : node_count net ≡ node_total c.aig held
   nodes = omega (arith, is.points.each, is.points.among, is.is_net.latches, ap (λ (xs : List ℕ). length xs) is.is_net.variables)
 
+  -- a number stands in the network for the node that it stands for by the circuit
   pub node-is : (n : ℕ) → node_at net.latches net.variables n ≡ node_at (latch_count c.aig held) (node_variables c.aig held) n
   node-is n = ap₂ (λ (k : ℕ) (xs : List ℕ). node_at k xs n) is.is_net.latches is.is_net.variables
 
+  -- what leaves a set of nodes in the network is the cut's value by the circuit's capacities
   pub leaving-is : (side : ℕ → Bool) → leaving net side ≡ cut_value (node_total c.aig held) (capacity c.aig c.props held) side
   leaving-is side =
       between-same (node_count net) side (λ w. not (side w)) (capacity_between net) (capacity c.aig c.props held) (λ v w h k. is.is_net.capacities v w h k)
       ∙ ap (λ (n : ℕ). cut_value n (capacity c.aig c.props held) side) nodes
 
+  -- a node at the point before a variable is the node before it, and the variable is a passable gate
   pub point-before : (n v : ℕ) → View c.aig held n → point_of net n ≡ Some (record { var = v; behind = false }) → (is_passable c.aig held v ≡ true) × (n ≡ before_number c.aig held v)
   point-before n v (the_source e) p = absurd (none-some _ (sym (ap (λ (k : ℕ). point_of net k) e) ∙ p))
   point-before n v (the_sink e) p = absurd (none-some _ (sym (ap (λ (k : ℕ). point_of net k) e) ∙ p))
@@ -62,6 +67,7 @@ module _ (c : Netlist) (held : List ℕ) (net : FlowNet) (is : IsNetworkOf c hel
           true_not : true ≡ false → ⊥
           true_not e = absurd (cc)
 
+  -- the node before a passable gate is at the point before the gate
   pub point-of-before : (v : ℕ) → has_node c.aig held v ≡ true → first_gate c.aig ≤ v → v < variables_end c.aig → point_of net (before_number c.aig held v) ≡ Some (record { var = v; behind = false })
   point-of-before v q from below = ap (λ (x : Node). node_point x) (node-is (before_number c.aig held v) ∙ at-before c.aig held v q from below)
 
@@ -88,11 +94,13 @@ module _ (c : Netlist) (held : List ℕ) (net : FlowNet) (is : IsNetworkOf c hel
     closed-gates : IsClosedSet c.aig held s
     closed-gates = record { rising = gates.rising; closed = closed c.aig c.props held is.valid side cut no-great s members members' }
 
+    -- the gates of a cut that no great arc leaves are a closed set, whose border is no larger than what leaves the cut
     pub cut-closed : IsClosedSet c.aig held s × (border_size (move_of c held s) ≤ leaving net side)
     cut-closed = (
       closed-gates,
       omega (arith, closed-border_size c held s closed-gates, border-below c.aig c.props held is.valid side cut no-great s members members', leaving-is side),
     )
 
+-- in each circuit's network the cuts that no great arc leaves are closed sets
 pub cuts_are_closed-law : CutsAreClosed
 cuts_are_closed-law c held net side s is cut no_great gates = cut-closed c held net is side cut no_great s gates

@@ -154,12 +154,14 @@ module _ (g : Graph) (props : Props) (held : List ℕ) (valid : IsGraph g) (s : 
   arc-small (after v) source ia ib x y = omega arith
   arc-small (after v) (after w) ia ib x y = omega arith
 
+  -- no great arc leaves the cut of a closed set
   pub side-small : (x y : ℕ) → x < node_total g held → y < node_total g held → side_at g props held s x ≡ true → side_at g props held s y ≡ false → capacity g props held x y < great g held
   side-small x y h k a b =
       subst (λ (m : ℕ). m < great g held)
       (sym (cap-at g props held valid x y (node_at (latch_count g held) (node_variables g held) x) (node_at (latch_count g held) (node_variables g held) y) refl refl))
       (arc-small (node_at (latch_count g held) (node_variables g held) x) (node_at (latch_count g held) (node_variables g held) y) (node-of g held x (view g held x h)) (node-of g held y (view g held y k)) a b)
 
+  -- the variables that add to the cut of a closed set are those of its border
   pub crosses-border : (v : ℕ) → v < variables_end g → crosses g held (side_at g props held s) v ≡ at_border g props held s v
   crosses-border v h = elim (cases_lt v (first_gate g)) [
     | inl low ↦ (
@@ -204,14 +206,17 @@ module _ (g : Graph) (props : Props) (held : List ℕ) (valid : IsGraph g) (s : 
       neither false true r p q = absurd (true_false q)
       neither true m r p q = absurd (true_false p)
 
+  -- the cut of a closed set has the source and not the sink
   pub side-cut : IsCut (side_at g props held s)
   side-cut = record { with_source = refl; without_sink = refl }
 
+  -- the cut of a closed set has as its value how many variables the set's border has
   pub side-counts : cut_value (node_total g held) (capacity g props held) (side_at g props held s) ≡ count_below (at_border g props held s) (variables_end g)
   side-counts =
       cut-counted g props held valid (side_at g props held s) side-cut side-small
       ∙ count_below-same (crosses g held (side_at g props held s)) (at_border g props held s) (variables_end g) crosses-border
 
+-- in each circuit's network each closed set has a cut, whose value is the size of the set's border
 pub closed_sets_are_cuts-law : ClosedSetsAreCuts
 closed_sets_are_cuts-law c held net s is set = (
   side_at c.aig c.props held s,

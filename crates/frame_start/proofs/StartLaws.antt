@@ -38,6 +38,7 @@ streams-both c d e kept first second =
     subst (λ (places : List ℕ). SameStreams c e places) (composed-every kept (free_latches d.aig) first.places.each) (same_streams-transitive c d e kept (all_free d.aig) first second)
 
 module _ {E : Type 0} (names : List (List ℕ)) (c : Netlist) (d : Cleaned) where
+  -- what merging the cleaned circuit returned is what the circuit is cleaned and merged to, with its kept free latches and counts
   pub merges-by : (r : Result MergedStart E) → CleansIn names c d.circuit d.kept_free → IfOk r (λ m. IsMerged (held_in names d.circuit) d.circuit m.circuit)
       → IfOk r (λ m. AreCounts d.circuit.aig (held_in names d.circuit) m.counts) → IfOk r (λ m. m.kept_free ≡ d.kept_free)
       → IfOk r (λ m. MergesIn names c m.circuit m.kept_free m.counts)
@@ -49,11 +50,13 @@ module _ {E : Type 0} (names : List (List ℕ)) (c : Netlist) (d : Cleaned) wher
   }
   merges-by (Err e) cleans merged counted kept = tt
 
+  -- what merging the cleaned circuit returned has the streams of the circuit before cleaning, under its kept free latches
   pub streams-by : (r : Result MergedStart E) → SameStreams c d.circuit d.kept_free → IfOk r (λ m. SameStreams d.circuit m.circuit (all_free d.circuit.aig))
       → IfOk r (λ m. m.kept_free ≡ d.kept_free) → IfOk r (λ m. SameStreams c m.circuit m.kept_free)
   streams-by (Ok m) first second kept = subst (λ (places : List ℕ). SameStreams c m.circuit places) (sym kept) (streams-both c d.circuit m.circuit d.kept_free first second)
   streams-by (Err e) first second kept = tt
 
+  -- in what merging the cleaned circuit returned, the names hold the latches that they hold in the circuit before cleaning
   pub held-by : (r : Result MergedStart E) → IsCircuit c → CleansIn names c d.circuit d.kept_free → IfOk r (λ m. IsMerged (held_in names d.circuit) d.circuit m.circuit)
       → IfOk r (λ m. held_latches names m.circuit ≡ held_latches names c)
   held-by (Ok m) valid cleans merged = merging-keeps names d.circuit m.circuit (held_in names d.circuit) merged ∙ cleaning-keeps names c d.circuit d.kept_free valid cleans

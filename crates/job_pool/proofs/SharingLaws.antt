@@ -45,11 +45,13 @@ module _ {X : Type 0} where
       let l : times k (numbers left) ≡ times k (numbers rest ++ n.number ∷ []) = ap (times k) (ap numbers is ∙ numbers_snoc rest n) in
       let a = weigh_snoc (is_it k) (numbers rest) n.number in let z = is_it_else k n.number (λ same. apart (sym same)) in omega (arith, e, l, a, z, f, some_there))
 
+-- within a list the element at a place is the same whatever stands for none
 pub same_at : {A : Type 0} (l : List A) (k : ℕ) (d e : A) → k < length l → get_or l k d ≡ get_or l k e
 same_at [] k d e lt = absurd (omega arith)
 same_at (x ∷ xs) zero d e lt = refl
 same_at (x ∷ xs) (suc k) d e lt = same_at xs k d e (omega (arith, lt))
 
+-- what holds of all elements and of one more holds of all of the longer list
 pub all_snoc : {A : Type 0} (P : A → Type 0) (xs : List A) (x : A) → All P xs → P x → All P (xs ++ x ∷ [])
 all_snoc P [] x h p zero d lt = p
 all_snoc P [] x h p (suc k) d lt = absurd (omega (arith, lt))
@@ -86,12 +88,14 @@ module _ {X : Type 0} where
       (λ here. puts k (omega (arith, here)))
       (λ none. puts k (omega (arith, was k lt (omega (arith, m, t, e, none, some_there)))))
 
+-- where each slot of a list counts as filled, all are filled
 pub all_filled : {X : Type 0} (slots : List (Option X)) → ((k : ℕ) → k < length slots → 0 < filled slots k) → All IsFilled slots
 all_filled slots h k d lt = subst IsFilled (same_at slots k None d lt) (h k lt)
 
 no_outcome : {X : Type 0} (x : X) → None ≡ Some x → ⊥
 no_outcome x e = cc
 
+-- empty slots have no outcome of another job
 pub empty_are_slots : {X : Type 0} (gives : ℕ → X → Type 0) (slots : List (Option X)) → ((k : ℕ) → get_or slots k None ≡ None) → AreSlots gives slots
 empty_are_slots gives slots none k x e = absurd (no_outcome x (sym (none k) ∙ e))
 
@@ -122,6 +126,7 @@ value_at {X} values slots jobs k x is len lt =
     let same : length (map Some values) ≡ length slots = ap length is in
     ap (λ (s : List (Option X)). get_or s k None) (sym is) ∙ get_or-map Some values k x None (omega (arith, lt, len, same, length-map values Some))
 
+-- what was taken out of a slot for each job has an outcome for each job
 pub ordered_len : {X V E : Type 0} (items : V → List X) (slots : List (Option X)) (jobs : ℕ) (r : Result V E) → length slots ≡ jobs
     → IfOk r (λ v. map Some (items v) ≡ slots) → IfOk r (λ v. length (items v) ≡ jobs)
 ordered_len items slots jobs r len was =

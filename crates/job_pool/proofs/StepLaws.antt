@@ -30,6 +30,7 @@ fits_snoc : (jobs : ℕ) (views : List Hand) (w : Hand) → ((j : ℕ) (u : Hand
     → (j : ℕ) (u : Hand) → get_elem? (views ++ w ∷ []) j ≡ some u → Fits jobs u
 fits_snoc jobs views w each mine j u e = ⊎_elim (λ was. each j u was) (λ same. subst (Fits jobs) same mine) (at_snoc views w u j e)
 
+-- a draw keeps the rule, for a seat with fewer numbers past the jobs than the drawers that it stands for
 pub draws : (p : Plan) (slots id : ℕ) (me : Me (Unit {0}) Hand) → p.jobs + p.drawers < 2 ^ 63 → past p.jobs me.0.drawn + 1 ≤ me.0.parts
     → Allows (IsGiven p) slots id me 0 (λ n. (n + 1) % 2 ^ 64) (Drew (step slots 0 1 0 none) me)
 draws p slots id me few room s r _ at _ =
@@ -58,6 +59,7 @@ draws p slots id me few room s r _ at _ =
       (refl, refl, (let f : Hand → ℕ = λ v. past n v.drawn in let has = total_has f s.views id me.0 at in let d = r.drawn (is_past n) ∙ past_below n n in omega (arith, has, d))),
     )
 
+-- a seat that has drawn nothing may give the share of one drawer to a new seat
 pub deals : (p : Plan) (id : ℕ) (v : Hand) → 1 ≤ v.parts → v.drawn ≡ [] → Splits (IsGiven p) id v (dealt v) (one_drawer v)
 deals p id v some_left none_drawn s r at =
     let l : Hand = dealt v in let w : Hand = one_drawer v in
@@ -68,6 +70,7 @@ deals p id v some_left none_drawn s r at =
       each = fits_snoc p.jobs (set s.views id l) w (fits_set p.jobs s.views id l r.each (subst (λ (xs : List ℕ). Fits p.jobs (hand (v.parts - 1) xs)) (sym none_drawn) (omega arith, λ _. refl))) (omega arith, λ _. refl);
     }
 
+-- a seat may take the share and the numbers of another one over
 pub collects : (p : Plan) (id : ℕ) (v : Hand) (other : ℕ) (w : Hand) → Joins (IsGiven p) id v other w (together v w) (hand 0 [])
 collects p id v other w s r at apart there =
     let b : Hand = together v w in
@@ -86,6 +89,7 @@ collects p id v other w s r at apart there =
       )) (omega arith, λ _. refl);
     }
 
+-- a seat that stands for all drawers holds, by weight, the numbers below the word that it reads
 pub tallies : (p : Plan) (slots id : ℕ) (me : Me (Unit {0}) Hand) → me.0.parts ≡ p.drawers → Allows (IsGiven p) slots id me 0 (λ n. n) (Tallied (step slots 0 0 0 none) me)
 tallies p slots id me all s r _ at _ =
     let n : ℕ = get_or s.words 0 0 in (

@@ -23,10 +23,12 @@ pub label_byte-34 : (utf8 : Bool) (b : ℕ) → b ≡ 34 → codes "\\\"" ≡ la
 unfolding label_byte
 label_byte-34 utf8 b is = sym (ap (label_byte utf8) is)
 
+-- a backslash is written twice
 pub label_byte-92 : (utf8 : Bool) (b : ℕ) → b ≡ 92 → codes "\\\\" ≡ label_byte utf8 b
 unfolding label_byte
 label_byte-92 utf8 b is = sym (ap (label_byte utf8) is)
 
+-- an ampersand is written as its entity
 pub label_byte-38 : (utf8 : Bool) (b : ℕ) → b ≡ 38 → codes "&amp;" ≡ label_byte utf8 b
 unfolding label_byte
 label_byte-38 utf8 b is = sym (ap (label_byte utf8) is)

@@ -8,9 +8,11 @@ use Rattle.counted_io.proofs.BufferedLaws.{puts-nothing, puts-numbered_next}
 use Rattle.pictures.specs.Nodes.{only_if}
 
 module _ {W : Type 0} {output : W → Output} where
+  -- a text that was put where its condition holds is what stands there under the condition
   pub puts-drawn : {b c : Buffered W} {holds test : Bool} {text : List ℕ} → test ≡ holds → test ≡ true → Puts output b c text → Puts output b c (only_if holds text)
   puts-drawn {b} {c} {text = text} same true_test puts = subst (λ (x : Bool). Puts output b c (only_if x text)) (sym true_test ∙ same) puts
 
+  -- where the condition of a text doesn't hold, nothing has to be put for it
   pub puts-undrawn : {b : Buffered W} {holds test : Bool} (text : List ℕ) → test ≡ holds → test ≡ false → Puts output b b (only_if holds text)
   puts-undrawn {b} text same false_test = subst (λ (x : Bool). Puts output b b (only_if x text)) (sym false_test ∙ same) (puts-nothing b)
 

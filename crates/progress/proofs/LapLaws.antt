@@ -32,12 +32,15 @@ frames-step lap laps = refl
 
 -- the lap at a place, and those after it
 module _ (laps : List Lap) (i : ℕ) (none : Lap) (within : i < length laps) where
+  -- where the lap at a place is of the part, its time is that of the part in the laps from there on
   pub time-at : (part : Part) → is_part (get_or laps i none).part part ≡ true → time_in part (drop i laps) ≡ (get_or laps i none).microseconds
   time-at part is = at_drop_more (time_in part) laps i none within ∙ time-here part (get_or laps i none) (drop (i + 1) laps) is
 
+  -- a lap of another part leaves the part's time to the laps after it
   pub time-past : (part : Part) → is_part (get_or laps i none).part part ≡ false → time_in part (drop i laps) ≡ time_in part (drop (i + 1) laps)
   time-past part isnt = at_drop_more (time_in part) laps i none within ∙ time-later part (get_or laps i none) (drop (i + 1) laps) isnt
 
+  -- the times so far, with those of a look at this lap, if it is one, are those of all frames with what the laps after it have
   pub frame-more : (done more : List FrameTimes) (times : Option FrameTimes) → done ++ frames_in (drop i laps) ≡ frames_in laps → more ≡ done ++ option_to_list times
       → times ≡ look_of (get_or laps i none) (drop (i + 1) laps) → more ++ frames_in (drop (i + 1) laps) ≡ frames_in laps
   frame-more done more times so_far added is =
@@ -51,6 +54,7 @@ module _ (laps : List Lap) (i : ℕ) (none : Lap) (within : i < length laps) whe
 pub time-end : (part : Part) (laps : List Lap) (i : ℕ) → length laps ≤ i → time_in part (drop i laps) ≡ 0
 time-end part laps i past = at_drop_all (time_in part) laps i past ∙ time-none part
 
+-- past the last lap the times so far are those of all frames
 pub frames-end : (done : List FrameTimes) (laps : List Lap) (i : ℕ) → length laps ≤ i → done ++ frames_in (drop i laps) ≡ frames_in laps → done ≡ frames_in laps
 frames-end done laps i past so_far =
     sym (ap (λ (frames : List FrameTimes). done ++ frames) (at_drop_all frames_in laps i past ∙ frames-none) ∙ append-nil done) ∙ so_far
@@ -59,5 +63,6 @@ frames-end done laps i past so_far =
 pub moving-some : (laps : List Lap) (first : Option (Bor Lap)) (lap : Bor Lap) → first ≡ Some lap → option_copied first ≡ slice_get laps 0 → moving_in lap.now ≡ moving_first laps
 moving-some laps first lap is value = ap moving_of (subst (λ (o : Option (Bor Lap)). option_copied o ≡ slice_get laps 0) is value)
 
+-- where there is no lap, latches moved for no time
 pub moving-none : (laps : List Lap) (first : Option (Bor Lap)) → first ≡ None → option_copied first ≡ slice_get laps 0 → 0 ≡ moving_first laps
 moving-none laps first is value = ap moving_of (subst (λ (o : Option (Bor Lap)). option_copied o ≡ slice_get laps 0) is value)

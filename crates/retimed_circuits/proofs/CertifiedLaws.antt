@@ -17,11 +17,16 @@ use Rattle.retimed_circuits.specs.Certified.{IsCertificate, AreCertified, SameBu
 
 -- a circuit that fewer frames make
 pub record Reached (choice : Choice) (names : List (List ℕ)) (c : Netlist) (i : ℕ) : Type 0 where
+  -- the circuit that the first i frames make
   pub circuit : Netlist
+  -- the places of its free latches among those of c
   pub kept : List ℕ
+  -- the reports of these frames
   pub reports : List FrameReport
+  -- the first i frames of c lead to this circuit
   pub run : AfterFrames choice names c i circuit kept reports
 
+-- a run of frames passes a circuit after each smaller number of frames
 pub after-before : (choice : Choice) (names : List (List ℕ)) (c : Netlist) (n : ℕ) (d : Netlist) (kept : List ℕ) (r : List FrameReport) → AfterFrames choice names c n d kept r
     → (i : ℕ) → i ≤ n → Reached choice names c i
 after-before choice names c _ _ _ _ (cleaned d kept cleans) i within =
@@ -65,6 +70,7 @@ as-many choice c names max_frames true r s p q within same = elim (cases_order (
   | inr (inr past) ↦ absurd (omega (arith, past, within))
 ]
 
+-- two lists of certificates of one circuit's frames, of runs with as many frames, are the same but for their routes
 pub same-certificates : (choice : Choice) (c : Netlist) (names : List (List ℕ)) (max_frames : ℕ) (certify : Bool) (r s : Retimed)
     → AfterFrames choice names c (length r.frames) r.circuit r.kept_free r.frames → AreCertified choice c names max_frames certify r
     → AreCertified choice c names max_frames certify s → length r.frames ≤ max_frames → length r.frames ≡ length s.frames → SameButRoutes r.certificates s.certificates

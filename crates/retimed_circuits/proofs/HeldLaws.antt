@@ -74,7 +74,9 @@ latch_there g j h =
 
 -- what a pass makes of the held latches
 pub record PassKeeps (names : List (List ℕ)) (c d : Netlist) (still_held : List ℕ) : Type 0 where
+  -- the held latches are those of the circuit before
   pub held : held_latches names d ≡ held_latches names c
+  -- the positions that stay held are those of the latches that the names hold
   pub positions : still_held ≡ held_in names d
 
 module _ (names : List (List ℕ)) (c : Netlist) (valid : IsCircuit c) (s : ℕ → Bool) (reached : AreReached (merged_of (held_in names c) c).aig (merged_of (held_in names c) c).props (held_in names c) s) where
@@ -118,6 +120,7 @@ module _ (names : List (List ℕ)) (c : Netlist) (valid : IsCircuit c) (s : ℕ 
       ∙ sym (kept-entries position_of (λ x. new_position m.aig s x.position) (is_named names) keeps (new_name m.aig s) is_reached (length c.aig.latches) (λ x. refl)
       (λ x low here. (here, refl)) c.symbols.latches valid.netlist.symbols.latches.below all-reached)
 
+-- a pass of cleaning keeps the latches that the names hold, and knows their positions
 pub pass-keeps : (names : List (List ℕ)) (c d : Netlist) (kept still_held : List ℕ) → IsCircuit c → IsPass (held_in names c) c d kept still_held → PassKeeps names c d still_held
 pass-keeps names c d kept still_held valid pass =
     let P : Netlist → Type 0 = λ e. PassKeeps names c e still_held in
@@ -133,6 +136,7 @@ cleans-keep names d _ _ _ (after_pass held c e first second still_held pass diff
     let one = pass-keeps names c e first still_held valid (subst P start pass) in
     cleans-keep names d still_held e second rest one.positions (IsCircuit-pass held c e first still_held valid pass) ∙ one.held
 
+-- cleaning keeps the latches that the names hold
 pub cleaning-keeps : (names : List (List ℕ)) (c d : Netlist) (kept : List ℕ) → IsCircuit c → CleansIn names c d kept → held_latches names d ≡ held_latches names c
 cleaning-keeps names c d kept valid cleans = cleans-keep names d (held_in names c) c kept cleans refl valid
 
@@ -178,6 +182,7 @@ module _ (names : List (List ℕ)) (c : Netlist) (set : List ℕ) (netlist : IsN
       let reset : Some (latch_for move v).reset ≡ Some found.0.reset = ap (λ (o : Option Latch). Some (latch_from move v o).reset) at in
       (kept, λ i. record { name = x.name; reset = (ap reset_of read ∙ reset ∙ sym (ap reset_of found.1)) i })
 
+  -- moving latches over a set keeps the latches that the names hold
   pub moving-keeps : held_latches names (moved_in names c set) ≡ held_latches names c
   unfolding held_latches moved_symbols
   moving-keeps = kept-entries (held_latch (moved_graph move)) (held_latch c.aig) (is_named names) (stays move) (moved_name move) holds (length c.aig.latches) (λ x. refl)

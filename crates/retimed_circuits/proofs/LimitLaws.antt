@@ -65,6 +65,7 @@ merged-names : (names : List (List ℕ)) (c d : Netlist) (kept : List ℕ) (coun
 merged-names names c d kept counts merges all =
     subst HasOneLineNames (sym merges.merged.circuit) (cleans-names merges.clean (held_in names c) c kept merges.cleaned all)
 
+-- what a circuit within the limits of a header is retimed to is within them
 pub stays-within : (merge : Bool) (choice : Choice) (c : Netlist) (names : List (List ℕ)) (max_frames : ℕ) (certify : Bool) → StaysWithin merge choice c names max_frames certify
 stays-within false choice c names max_frames certify r retimed within =
     let all = recursion_from_All IsOneLine (all_names c.symbols) within.names in

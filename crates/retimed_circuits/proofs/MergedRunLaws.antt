@@ -40,6 +40,7 @@ replaced-held names stands c =
     let same : (x : Symbol) → held_latch (replaced_graph stands c.aig) x ≡ held_latch c.aig x = λ x. λ i. record { name = x.name; reset = replaced-reset stands c.aig.latches x.position i } in
     ap (λ (f : Symbol → _). map f (filter (is_named names) c.symbols.latches)) (λ i. λ x. same x i)
 
+-- merging keeps the latches that the names hold
 pub merging-keeps : (names : List (List ℕ)) (c d : Netlist) (held : List ℕ) → IsMerged held c d → held_latches names d ≡ held_latches names c
 merging-keeps names c d held merged = ap (held_latches names) merged.circuit ∙ replaced-held names (stands_by c.aig merged.reads) c
 
@@ -74,6 +75,7 @@ merged-one-run choice c names max_frames certify other r s p q =
     } in
     subst (λ (x : Retimed). W x s) (sym p.whole) (subst (λ (y : Retimed). W (since_merged (length c.aig.latches) p.kept p.counts p.from_start) y) (sym q.whole) whole)
 
+-- a circuit is retimed to one result, with latches merged first or not, but for certificates that are wanted of one alone and routes
 pub retiming-with-one : (merge : Bool) (choice : Choice) (c : Netlist) (names : List (List ℕ)) (max_frames : ℕ) (certify other : Bool) (r s : Retimed)
     → IsRetimedWith merge choice c names max_frames certify r → IsRetimedWith merge choice c names max_frames other s → IsSameRetiming certify other r s
 retiming-with-one false choice c names max_frames certify other r s p q = retiming-one choice c names max_frames certify other r s p q

@@ -41,6 +41,7 @@ named-holder names c k h =
     list_any-map (held_latch c.aig) (λ latch. bytes_eq name latch.name) (filter (is_named names) c.symbols.latches)
     ∙ any-filter_same test (is_named names) true (λ s e. list_any_at (λ other. bytes_eq s.name other) names k [] h (bytes_eq-sym name s.name e)) c.symbols.latches
 
+-- where the same latches are held, no name is missing that wasn't missing before
 pub names-stay : (names : List (List ℕ)) (c d : Netlist) → held_latches names d ≡ held_latches names c → first_missing c.symbols.latches names ≡ None → first_missing d.symbols.latches names ≡ None
 unfolding holder
 names-stay names c d same none =

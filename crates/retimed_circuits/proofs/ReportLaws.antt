@@ -17,12 +17,19 @@ use Rattle.retimed_circuits.proofs.RunLaws.{after-length}
 
 -- the circuit that frame i is taken of, and the set that it moves latches over
 record FrameAt (choice : Choice) (names : List (List ℕ)) (c : Netlist) (i : ℕ) (report : FrameReport) : Type 0 where
+  -- the circuit that frame i is taken of
   pub circuit : Netlist
+  -- the places of its free latches among those of c
   pub kept : List ℕ
+  -- the reports of the frames before
   pub reports : List FrameReport
+  -- the frames before lead to this circuit
   pub run : AfterFrames choice names c i circuit kept reports
+  -- the set that latches are moved over
   pub set : List ℕ
+  -- it is the chosen least set of this circuit
   pub chosen : IsChosen choice circuit (held_in names circuit) set
+  -- the report is that of this circuit and this set
   pub reported : report ≡ report_in names circuit set
 
 frame-at : (choice : Choice) (names : List (List ℕ)) (c : Netlist) (n : ℕ) (d : Netlist) (kept : List ℕ) (reports : List FrameReport) → AfterFrames choice names c n d kept reports
@@ -57,6 +64,7 @@ one-reported choice names c cert set report is chosen reported =
       moved = ap (λ (gates : List ℕ). length gates) same ∙ sym moved;
     }
 
+-- certificates of the circuits that frames are taken of have the counts and as many gates as the frames' reports
 pub all-reported : (choice : Choice) (names : List (List ℕ)) (c : Netlist) (n : ℕ) (d : Netlist) (kept : List ℕ) (reports : List FrameReport) (certs : List Certificate)
     → AfterFrames choice names c n d kept reports → AreOfFrames choice names c certs → AreReported certs reports
 all-reported choice names c n d kept reports certs run each i cert report at reported =

@@ -18,10 +18,14 @@ use Rattle.retimed_circuits.proofs.CertifiedLaws.{same-certificates}
 
 -- one circuit, one list of free latches, and the same reports
 pub record SameEnd {A : Type 0} (d e : Netlist) (kept left : List ℕ) (r s : A) : Type 0 where
+  -- the circuits are the same
   pub circuit : d ≡ e
+  -- the places of free latches are the same
   pub free : kept ≡ left
+  -- the reports are the same
   pub reports : r ≡ s
 
+-- two frames of one circuit, by one choice, end the same
 pub frame-one : (choice : Choice) (names : List (List ℕ)) (c d e : Netlist) (kept left : List ℕ) (r s : FrameReport) → IsFrame choice names c d kept r → IsFrame choice names c e left s → SameEnd d e kept left r s
 frame-one choice names c d e kept left r s p q =
     let same : p.set ≡ q.set = chosen-one choice c (held_in names c) p.set q.set p.helps.chosen q.helps.chosen in
@@ -30,6 +34,7 @@ frame-one choice names c d e kept left r s p q =
     let both = cleans-one d (held_in names (moved_in names c p.set)) (moved_in names c p.set) kept p.cleaned e left other in
     record { circuit = both.0; free = both.1; reports = p.reported ∙ ap (report_in names c) same ∙ sym q.reported }
 
+-- two runs of as many frames from one circuit, by one choice, end the same
 pub after-one : (choice : Choice) (names : List (List ℕ)) (c : Netlist) (n : ℕ) (d : Netlist) (kept : List ℕ) (r : List FrameReport) → AfterFrames choice names c n d kept r
     → (e : Netlist) (left : List ℕ) (s : List FrameReport) → AfterFrames choice names c n e left s → SameEnd d e kept left r s
 after-one choice names c _ _ _ _ (cleaned d kept cleans) e left s other = from_start choice names c _ d e kept left s cleans refl other
@@ -57,6 +62,7 @@ after-one choice names c _ _ _ _ (frame n a d kept more reports report run last)
           reports = ap₂ (λ (xs : List FrameReport) (x : FrameReport). xs ++ x ∷ []) same.reports ends.reports;
         }
 
+-- a run has a report for each frame
 pub after-length : (choice : Choice) (names : List (List ℕ)) (c : Netlist) (n : ℕ) (d : Netlist) (kept : List ℕ) (r : List FrameReport) → AfterFrames choice names c n d kept r → length r ≡ n
 after-length choice names c _ _ _ _ (cleaned d kept cleans) = refl
 after-length choice names c _ _ _ _ (frame n d e kept left reports report run last) =
@@ -83,6 +89,7 @@ shorter choice c names max_frames certify other r s p q less =
     let none : known_latches r.circuit.aig ≤ count_in names r.circuit more.0 = p.last (omega (arith, less, q.within)) more.0 (chosen-least choice r.circuit (held_in names r.circuit) more.0 more.1.chosen).closed in
     omega (arith, none, more.1.fewer)
 
+-- a circuit is retimed to one result without merging, but for certificates that are wanted of one alone and routes
 pub retiming-one : (choice : Choice) (c : Netlist) (names : List (List ℕ)) (max_frames : ℕ) (certify other : Bool) (r s : Retimed) → IsRetimed choice c names max_frames certify r → IsRetimed choice c names max_frames other s → IsSameRetiming certify other r s
 retiming-one choice c names max_frames certify other r s p q = elim (cases_order (length r.frames) (length s.frames)) [
   | inl here ↦ (

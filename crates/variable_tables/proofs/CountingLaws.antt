@@ -6,6 +6,7 @@ use Rattle.std.proofs.lemmas.List.Sums.{sum_by_push}
 use Rattle.variable_tables.specs.Counting.{count_below, places}
 use Rattle.variable_tables.proofs.PlacesLaws.{places-pass, places-fail, places-zero, count-pass, count-fail, count-zero}
 
+-- tests that agree below n count as many numbers there
 pub count_below-same : (p q : ℕ → Bool) (n : ℕ) → ((v : ℕ) → v < n → p v ≡ q v) → count_below p n ≡ count_below q n
 unfolding count_below
 count_below-same p q zero same = refl
@@ -14,14 +15,17 @@ count_below-same p q (suc n) same =
     let before : count_below p n ≡ count_below q n = count_below-same p q n (λ v h. same v (omega arith)) in
     rw (here, before)
 
+-- a test that no number below n passes counts none there
 pub count-none : (p : ℕ → Bool) (n : ℕ) → ((v : ℕ) → v < n → p v ≡ false) → count_below p n ≡ 0
 count-none p zero none = count-zero p
 count-none p (suc n) none = count-fail p n (none n (omega arith)) ∙ count-none p n (λ v h. none v (omega arith))
 
+-- a test that no number below n passes has no places there
 pub places-none : (p : ℕ → Bool) (n : ℕ) → ((v : ℕ) → v < n → p v ≡ false) → places p n ≡ []
 places-none p zero none = places-zero p
 places-none p (suc n) none = places-fail p n (none n (omega arith)) ∙ places-none p n (λ v h. none v (omega arith))
 
+-- tests that agree below n have the same places there
 pub places-same : (p q : ℕ → Bool) (n : ℕ) → ((v : ℕ) → v < n → p v ≡ q v) → places p n ≡ places q n
 unfolding places
 places-same p q zero same = refl

@@ -12,6 +12,7 @@ use Rattle.variable_tables.specs.Tables.{table}
 use Rattle.variable_tables.proofs.CountingLaws.{count-none, places-none}
 use Rattle.variable_tables.proofs.TableLaws.{table-from, table-at, length-table}
 
+-- marks of one test and then of another are marks of what passes either
 pub Marks-then : (first : ℕ) (xs ys zs : List Bool) (p q : ℕ → Bool) → Marks first xs ys p → Marks first ys zs q → Marks first xs zs (λ v. p v || q v)
 Marks-then first xs ys zs p q before after = record {
   as_long = after.as_long ∙ before.as_long;
@@ -26,9 +27,11 @@ Marks-alike first xs ys p q marks same = record {
   each = λ k h. marks.each k h ∙ ap (λ (b : Bool). get_or xs k false || b) (same (first + k) (omega arith) (omega arith));
 }
 
+-- tests that agree everywhere have the same marks
 pub Marks-same : (first : ℕ) (xs ys : List Bool) (p q : ℕ → Bool) → Marks first xs ys p → ((v : ℕ) → p v ≡ q v) → Marks first xs ys q
 Marks-same first xs ys p q marks same = Marks-alike first xs ys p q marks (λ v low high. same v)
 
+-- marks that stay as they are are those of a test that nothing passes
 pub Marks-none : (first : ℕ) (xs : List Bool) → Marks first xs xs (λ v. false)
 Marks-none first xs = record { as_long = refl; each = λ k h. sym (or-false (get_or xs k false)) }
 
@@ -69,16 +72,19 @@ AreMarks-from_none first n old new p fresh marks k h =
     let unmarked : get_or old k false ≡ false = ap (λ (xs : List Bool). get_or xs k false) fresh ∙ get_or-replicate n k false false (omega arith) in
     marks.each k (omega (arith, marks.as_long)) ∙ ap (λ (b : Bool). b || p (first + k)) unmarked
 
+-- a table of no marks that gets those of a test is the test's table
 pub table-marks : (first n : ℕ) (old new : List Bool) (p : ℕ → Bool) → old ≡ replicate n false → Marks first old new p → new ≡ table first n p
 table-marks first n old new p fresh marks =
     let long : length old ≡ n = ap length fresh ∙ length-replicate n false in
     table-from first n p new false (marks.as_long ∙ long) (λ k h. AreMarks-from_none first n old new p fresh marks k (omega (arith, marks.as_long)))
 
+-- a test's table has the marks of the test
 pub AreMarks-table : (first n : ℕ) (marks : List Bool) (p : ℕ → Bool) → marks ≡ table first n p → AreMarks first marks p
 AreMarks-table first n marks p filled k h =
     let long : length marks ≡ n = ap length filled ∙ length-table first n p in
     ap (λ (xs : List Bool). get_or xs k false) filled ∙ table-at first n p k false (omega arith)
 
+-- a test's table has all its marks, where no variable before the table passes
 pub AreAllMarks-table : (first n : ℕ) (marks : List Bool) (p : ℕ → Bool) → marks ≡ table first n p → ((v : ℕ) → v < first → p v ≡ false) → AreAllMarks first marks p
 AreAllMarks-table first n marks p filled before = record { before = before; each = AreMarks-table first n marks p filled }
 
@@ -100,6 +106,7 @@ mark_at-all first marks p v all high = elim (cases_lt v first) [
 pub count-start : (first : ℕ) (marks : List Bool) (p : ℕ → Bool) → AreAllMarks first marks p → count_below p (first + 0) ≡ 0
 count-start first marks p all = count-none p (first + 0) (λ v h. all.before v (omega arith))
 
+-- one entry further the count has grown by one where the entry is marked
 pub count-entry : (first : ℕ) (marks : List Bool) (p : ℕ → Bool) (i : ℕ) → AreAllMarks first marks p → i < length marks
     → count_below p (first + (i + 1)) ≡ count_below p (first + i) + cond (get_or marks i false) 1 0
 unfolding count_below
@@ -107,9 +114,11 @@ count-entry first marks p i all h =
     let next : first + (i + 1) ≡ suc (first + i) = omega arith in
     ap (count_below p) next ∙ ap (λ (b : Bool). count_below p (first + i) + cond b 1 0) (sym (all.each i h))
 
+-- at the start of a loop over marks no variable has been listed
 pub places-start : (first : ℕ) (marks : List Bool) (p : ℕ → Bool) → AreAllMarks first marks p → places p (first + 0) ≡ []
 places-start first marks p all = places-none p (first + 0) (λ v h. all.before v (omega arith))
 
+-- one entry further the variables that pass have got the next one where the entry is marked
 pub places-entry : (first : ℕ) (marks : List Bool) (p : ℕ → Bool) (i : ℕ) → AreAllMarks first marks p → i < length marks
     → places p (first + (i + 1)) ≡ places p (first + i) ++ cond (get_or marks i false) ((first + i) ∷ []) []
 unfolding places
@@ -121,5 +130,6 @@ places-entry first marks p i all h =
 pub count-end : (first n m : ℕ) (p : ℕ → Bool) (k : ℕ) → n ≤ m → m ≤ n → k ≡ count_below p (first + n) → k ≡ count_below p (first + m)
 count-end first n m p k h l counted = let same : n ≡ m = omega arith in counted ∙ ap (λ (i : ℕ). count_below p (first + i)) same
 
+-- at the end of a loop the variables listed are those of the whole table that pass
 pub places-end : (first n m : ℕ) (p : ℕ → Bool) (vars : List ℕ) → n ≤ m → m ≤ n → vars ≡ places p (first + n) → vars ≡ places p (first + m)
 places-end first n m p vars h l listed = let same : n ≡ m = omega arith in listed ∙ ap (λ (i : ℕ). places p (first + i)) same

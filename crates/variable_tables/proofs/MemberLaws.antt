@@ -63,5 +63,6 @@ unfolding places
 places-front s rising zero = sym (front-none 0 s (λ k d h. omega arith))
 places-front s rising (suc n) = ap (λ (xs : List ℕ). xs ++ cond (has s n) (n ∷ []) []) (places-front s rising n) ∙ sym (front-more n s rising)
 
+-- a strictly rising list of numbers below n is the list of the places of its members
 pub places-members : (s : List ℕ) (n : ℕ) → IsStrictlyIncreasing s → All (λ v. v < n) s → places (has s) n ≡ s
 places-members s n rising below = places-front s rising n ∙ front-all n s below

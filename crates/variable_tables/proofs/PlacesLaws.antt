@@ -5,30 +5,37 @@ use Rattle.std.proofs.lemmas.Option.{none-some, same_Some}
 use Rattle.std.proofs.lemmas.List.{append-nil, take_all, take-append-le, length_push}
 use Rattle.variable_tables.specs.Counting.{count_below, places}
 
+-- a number that passes stands last in the list of those up to it
 pub places-pass : (p : ℕ → Bool) (n : ℕ) → p n ≡ true → places p (suc n) ≡ places p n ++ n ∷ []
 unfolding places
 places-pass p n e = ap (λ (b : Bool). places p n ++ cond b (n ∷ []) []) e
 
+-- a number that doesn't pass leaves the list of places as it is
 pub places-fail : (p : ℕ → Bool) (n : ℕ) → p n ≡ false → places p (suc n) ≡ places p n
 unfolding places
 places-fail p n e = ap (λ (b : Bool). places p n ++ cond b (n ∷ []) []) e ∙ append-nil (places p n)
 
+-- a number that passes adds one to the count
 pub count-pass : (p : ℕ → Bool) (n : ℕ) → p n ≡ true → count_below p (suc n) ≡ count_below p n + 1
 unfolding count_below
 count-pass p n e = ap (λ (b : Bool). count_below p n + cond b 1 0) e
 
+-- a number that doesn't pass leaves the count as it is
 pub count-fail : (p : ℕ → Bool) (n : ℕ) → p n ≡ false → count_below p (suc n) ≡ count_below p n
 unfolding count_below
 count-fail p n e = ap (λ (b : Bool). count_below p n + cond b 1 0) e ∙ add-zero (count_below p n)
 
+-- below 0 no number passes
 pub count-zero : (p : ℕ → Bool) → count_below p 0 ≡ 0
 unfolding count_below
 count-zero p = refl
 
+-- below 0 there are no places
 pub places-zero : (p : ℕ → Bool) → places p 0 ≡ []
 unfolding places
 places-zero p = refl
 
+-- there are as many places as numbers that pass
 pub length-places : (p : ℕ → Bool) (n : ℕ) → length (places p n) ≡ count_below p n
 length-places p zero = rw (places-zero p, count-zero p)
 length-places p (suc n) = elim (cases_Bool (p n)) [
@@ -49,12 +56,14 @@ count-le p v (suc n) h = elim (cases_eq v (suc n)) [
       ])
 ]
 
+-- a number that passes has a rank below the count of all
 pub count-lt : (p : ℕ → Bool) (v n : ℕ) → v < n → p v ≡ true → count_below p v < count_below p n
 count-lt p v n h good =
     let step : count_below p (suc v) ≡ count_below p v + 1 = count-pass p v good in
     let rest : count_below p (suc v) ≤ count_below p n = count-le p (suc v) n (omega arith) in
     omega arith
 
+-- at most n numbers below n pass
 pub count-bound : (p : ℕ → Bool) (n : ℕ) → count_below p n ≤ n
 count-bound p zero = rw (count-zero p) (omega arith)
 count-bound p (suc n) =
@@ -72,11 +81,13 @@ slice_get_push [] y (suc k) x e = absurd (none-some x e)
 slice_get_push (z ∷ zs) y zero x e = inl e
 slice_get_push (z ∷ zs) y (suc k) x e = elim (slice_get_push zs y k x e) [ inl h ↦ inl h | inr h ↦ inr (ap suc h.0, h.1) ]
 
+-- what a list has at a place it has there with another list behind it
 pub slice_get-append_left : {A : Type 0} (xs ys : List A) (k : ℕ) (x : A) → slice_get xs k ≡ Some x → slice_get (xs ++ ys) k ≡ Some x
 slice_get-append_left [] ys k x e = absurd (none-some x e)
 slice_get-append_left (z ∷ zs) ys zero x e = e
 slice_get-append_left (z ∷ zs) ys (suc k) x e = slice_get-append_left zs ys k x e
 
+-- past the first of two joined lists stands what the second one has
 pub slice_get-append_right : {A : Type 0} (xs ys : List A) (k : ℕ) → slice_get (xs ++ ys) (length xs + k) ≡ slice_get ys k
 slice_get-append_right [] ys k = ap (λ (n : ℕ). slice_get ys n) (omega arith)
 slice_get-append_right (z ∷ zs) ys k =
@@ -101,10 +112,14 @@ at_rank p (suc n) v h good = elim (cases_eq v n) [
 
 -- what stands at a place passes, and the place is its rank
 pub record Ranks (p : ℕ → Bool) (n k v : ℕ) : Type 0 where
+  -- the number is below n
   pub below : v < n
+  -- the number passes
   pub passes : p v ≡ true
+  -- the place is how many smaller numbers pass
   pub rank : count_below p v ≡ k
 
+-- what stands at a place of the list passes, and the place is its rank
 pub rank_at : (p : ℕ → Bool) (n k v : ℕ) → slice_get (places p n) k ≡ Some v → Ranks p n k v
 rank_at p zero k v e = let none : slice_get (places p 0) k ≡ None = rw (places-zero p) in absurd (none-some v (sym none ∙ e))
 rank_at p (suc n) k v e = elim (cases_Bool (p n)) [

@@ -17,36 +17,47 @@ use Rattle.warm_start.proofs.UnitLaws.{IsSending, sent, sent_excess, sent_preflo
 abbrev pub moved : List ℕ → ℕ → ℕ → List ℕ
 moved xs a b = slice_set (slice_set xs a (slice_index xs a - 1)) b (slice_index (slice_set xs a (slice_index xs a - 1)) b + 1)
 
+-- the place that gives has one less
 pub moved-from : (xs : List ℕ) (a b : ℕ) → a ≢ b → a < length xs → slice_index (moved xs a b) a ≡ slice_index xs a - 1
 moved-from xs a b d l = get_or-set_other (slice_set xs a (slice_index xs a - 1)) b a (slice_index (slice_set xs a (slice_index xs a - 1)) b + 1) 0 d ∙ get_or-set_same xs a (slice_index xs a - 1) 0 l
 
 between_is : (xs : List ℕ) (a b : ℕ) → a ≢ b → slice_index (slice_set xs a (slice_index xs a - 1)) b ≡ slice_index xs b
 between_is xs a b d = get_or-set_other xs a b (slice_index xs a - 1) 0 (λ q. d (sym q))
 
+-- the place that gets has one more
 pub moved-to : (xs : List ℕ) (a b : ℕ) → a ≢ b → b < length xs → slice_index (moved xs a b) b ≡ slice_index xs b + 1
 moved-to xs a b d l =
     get_or-set_same (slice_set xs a (slice_index xs a - 1)) b (slice_index (slice_set xs a (slice_index xs a - 1)) b + 1) 0 (omega (arith, l, length-set xs a (slice_index xs a - 1)))
     ∙ ap (λ (x : ℕ). x + 1) (between_is xs a b d)
 
+-- any other place stays as it is
 pub moved-else : (xs : List ℕ) (a b i : ℕ) → i ≢ a → i ≢ b → slice_index (moved xs a b) i ≡ slice_index xs i
 moved-else xs a b i da db =
     get_or-set_other (slice_set xs a (slice_index xs a - 1)) b i (slice_index (slice_set xs a (slice_index xs a - 1)) b + 1) 0 db ∙ get_or-set_other xs a i (slice_index xs a - 1) 0 da
 
+-- the list stays as long
 pub moved-length : (xs : List ℕ) (a b : ℕ) → length (moved xs a b) ≡ length xs
 moved-length xs a b = length-set (slice_set xs a (slice_index xs a - 1)) b (slice_index (slice_set xs a (slice_index xs a - 1)) b + 1) ∙ length-set xs a (slice_index xs a - 1)
 
 -- what a unit over the k-th arc of v's row needs
 pub record IsReady (net : FlowNet) (labels rs es : List ℕ) (v k : ℕ) : Type 0 where
+  -- the network is one of a flow
   pub ok : IsFlowNet net
+  -- the residuals, the excess and the labels are those of a sound state
   pub held : IsHeld net labels rs es
+  -- the unit goes from a node of the network
   pub node : v < node_count net
+  -- the node has an excess
   pub some : 0 < slice_index es v
+  -- a unit can go over the arc
   pub can : CanSend net labels rs v k
 
 module _ (net : FlowNet) (ok : IsFlowNet net) where
+  -- each arc of a node's row is among all arcs
   pub arc-in : (w k : ℕ) → w < node_count net → k < row_len net w → start net w + k < length net.heads
   arc-in w k h l = omega (arith, h, l, ok.rows (w + 1) (node_count net) (omega (arith, h)) (omega arith), ok.last)
 
+  -- the mate of each arc of a node's row is among all arcs
   pub mate-in : (w k : ℕ) → w < node_count net → k < row_len net w → mate net w k < length net.heads
   mate-in w k h l = let m : HasMate net w k = ok.meets w k h l in omega (arith, m.arc, arc-in (head net w k) m.place (ok.heads_in w k h l) m.inside)
 
@@ -69,9 +80,11 @@ module _ (net : FlowNet) (ok : IsFlowNet net) where
     ]
   ]
 
+  -- the value of a pair of nodes that an arc joins is that of the arc
   pub own-pair : (xs : List ℕ) (v k : ℕ) → v < node_count net → k < row_len net v → pair net xs v (head net v k) ≡ slice_index xs (start net v + k)
   own-pair xs v k vn l = sparse-at (row_len net v) (head net v) (λ j. slice_index xs (start net v + j)) k (rises net ok v vn) l
 
+  -- the value of the pair the other way round is that of the arc's mate
   pub mate-pair : (xs : List ℕ) (v k : ℕ) → v < node_count net → k < row_len net v → pair net xs (head net v k) v ≡ slice_index xs (mate net v k)
   mate-pair xs v k vn l =
       let m : HasMate net v k = ok.meets v k vn l in
@@ -234,6 +247,7 @@ module _ (net : FlowNet) (labels rs es : List ℕ) (v k : ℕ) (r : IsReady net 
     total = omega (arith, sent_total (node_count net) s (unit v w) sends, r.held.sound.total);
   }
 
+  -- a unit that goes over the arc leaves a sound state
   pub held-sent : IsHeld net labels (moved rs a b) (moved es v w)
   held-sent = record {
     arcs = moved-length rs a b ∙ r.held.arcs;
@@ -242,6 +256,7 @@ module _ (net : FlowNet) (labels rs es : List ℕ) (v k : ℕ) (r : IsReady net 
     sound = sound_same net (sent (node_count net) s (unit v w)) (state_by net (moved rs a b) (moved es v w) labels) r.ok agrees sent_sound;
   }
 
+  -- the arc's head then has an excess
   pub head-holds : 0 < slice_index (moved es v w) w
   head-holds = omega (arith, moved-to es v w nodes_apart head_fits)
 
@@ -252,6 +267,7 @@ module _ (net : FlowNet) (labels rs es : List ℕ) (v k : ℕ) (r : IsReady net 
   pub mate-room : slice_index (slice_set rs a (slice_index rs a - 1)) b + 1 < 2 ^ 32
   mate-room = omega (arith, between_is rs a b arcs_apart, mate-pair net r.ok rs v k r.node r.can.inside, residual, r.held.sound.preflow.paired v w r.node wn, caps_pair)
 
+  -- the excess of the head, with the unit, fits a word
   pub head-room : slice_index (slice_set es v (slice_index es v - 1)) w + 1 < 2 ^ 32
   head-room =
       omega (
@@ -264,22 +280,30 @@ module _ (net : FlowNet) (labels rs es : List ℕ) (v k : ℕ) (r : IsReady net 
         r.held.sound.total,
       )
 
+  -- the arc has a residual in the list
   pub arc-place : a < length rs
   arc-place = arc_fits
 
+  -- the arc's mate has a residual in the list
   pub mate-place : b < length rs
   mate-place = mate_fits
 
+  -- the arc's head has an excess in the list
   pub head-place : w < length es
   head-place = head_fits
 
 -- what a unit leaves, by the numbers that were read
 pub record IsSent (net : FlowNet) (labels rs es : List ℕ) (v from to head : ℕ) : Type 0 where
+  -- residuals and excess with the unit moved are those of a sound state
   pub held : IsHeld net labels (moved rs from to) (moved es v head)
+  -- the arc's mate has a residual in the list
   pub mate_in : to < length rs
+  -- the residual of the mate, with the unit, fits a word
   pub mate_room : slice_index (slice_set rs from (slice_index rs from - 1)) to + 1 < 2 ^ 32
+  -- the excess of the head, with the unit, fits a word
   pub head_room : slice_index (slice_set es v (slice_index es v - 1)) head + 1 < 2 ^ 32
 
+-- where a unit is ready to go, the arc, its mate and its head by the network are those that it goes over
 pub is-sent : (net : FlowNet) (labels rs es : List ℕ) (v k : ℕ) → IsReady net labels rs es v k → (from to end : ℕ) → from ≡ start net v + k → to ≡ mate net v k → end ≡ head net v k → IsSent net labels rs es v from to end
 is-sent net labels rs es v k r from to end p q h =
     subst (λ (x : ℕ). IsSent net labels rs es v x to end) (sym p)

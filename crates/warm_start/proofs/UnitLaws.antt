@@ -7,8 +7,11 @@ use Rattle.arc_rows.proofs.SparseRowLaws.{sum_one}
 
 -- pushes within the residuals and the excess, none to a label more than one higher
 pub record IsSending (n : ℕ) (s : State) (p : ℕ → ℕ → ℕ) : Type 0 where
+  -- each push is within the residual of its pair
   pub within : (v w : ℕ) → v < n → w < n → p v w ≤ s.res v w
+  -- what a node pushes in all is within its excess
   pub covered : (v : ℕ) → v < n → sum_below n (p v) ≤ s.excess v
+  -- no push goes to a label more than one higher
   pub near : (v w : ℕ) → v < n → w < n → 0 < p v w → s.label w ≤ s.label v + 1
 
 abbrev pub sent_res : State → (ℕ → ℕ → ℕ) → ℕ → ℕ → ℕ
@@ -29,12 +32,14 @@ sent_conserved n s p ok v c vn e =
     let a : sum_below n (λ w. sent_res s p v w + p v w) ≡ sum_below n (λ w. s.res v w + p w v) = sum_below-same n (λ w. sent_res s p v w + p v w) (λ w. s.res v w + p w v) (λ w h. sent_sum n s p ok v w vn h) in
     omega (arith, a, sum_below-add n (sent_res s p v) (p v), sum_below-add n (s.res v) (λ w. p w v), ok.covered v vn, e)
 
+-- such pushes keep a preflow one
 pub sent_preflow : (n : ℕ) (cs : ℕ → ℕ → ℕ) (s : State) (p : ℕ → ℕ → ℕ) → IsSending n s p → IsPreflow n cs s → IsPreflow n cs (sent n s p)
 sent_preflow n cs s p ok pre = record {
   paired = λ v w a b. omega (arith, ok.within v w a b, ok.within w v b a, pre.paired v w a b);
   conserved = λ v a b. sent_conserved n s p ok v (sum_below n (cs v)) b (pre.conserved v a b);
 }
 
+-- such pushes keep the labels valid
 pub sent_valid : (n : ℕ) (s : State) (p : ℕ → ℕ → ℕ) → IsSending n s p → IsValid n s → IsValid n (sent n s p)
 sent_valid n s p ok valid = record {
   source = valid.source;
@@ -46,6 +51,7 @@ sent_valid n s p ok valid = record {
   ];
 }
 
+-- such pushes keep the excess of all nodes together
 pub sent_total : (n : ℕ) (s : State) (p : ℕ → ℕ → ℕ) → IsSending n s p → sum_below n (sent_excess n s p) ≡ sum_below n s.excess
 sent_total n s p ok =
     let each : sum_below n (λ v. sent_excess n s p v + sum_below n (p v)) ≡ sum_below n (λ v. s.excess v + sum_below n (λ w. p w v)) =
@@ -57,12 +63,15 @@ sent_total n s p ok =
 abbrev pub unit : ℕ → ℕ → ℕ → ℕ → ℕ
 unit v w x y = cond (x == v && y == w) 1 0
 
+-- from v to w goes one unit
 pub unit-on : (v w x y : ℕ) → x ≡ v → y ≡ w → unit v w x y ≡ 1
 unit-on v w x y p q = ap (λ (b : Bool). cond {A = ℕ} b 1 0) (and_from (x == v) (y == w) (eq-eqb x v p) (eq-eqb y w q))
 
+-- from a node other than v goes no unit
 pub unit-off_tail : (v w x y : ℕ) → (x ≡ v → ⊥) → unit v w x y ≡ 0
 unit-off_tail v w x y d = ap (λ (b : Bool). cond {A = ℕ} b 1 0) (and_left (x == v) (y == w) (ne_eqb x v d))
 
+-- to a node other than w goes no unit
 pub unit-off_head : (v w x y : ℕ) → (y ≡ w → ⊥) → unit v w x y ≡ 0
 unit-off_head v w x y d = ap (λ (b : Bool). cond {A = ℕ} b 1 0) (and_right (x == v) (y == w) (ne_eqb y w d))
 
@@ -70,15 +79,19 @@ unit-off_head v w x y d = ap (λ (b : Bool). cond {A = ℕ} b 1 0) (and_right (x
 pub unit-row : (n v w : ℕ) → w < n → sum_below n (unit v w v) ≡ 1
 unit-row n v w wn = sum_one n w (unit v w v) wn (λ i h d. unit-off_head v w v i d) ∙ unit-on v w v w refl refl
 
+-- a node other than v sends nothing in all
 pub unit-row_off : (n v w x : ℕ) → (x ≡ v → ⊥) → sum_below n (unit v w x) ≡ 0
 unit-row_off n v w x d = sum_below-same n (unit v w x) (λ i. 0) (λ i h. unit-off_tail v w x i d) ∙ sum_below-zero n
 
+-- w gets one unit in all
 pub unit-column : (n v w : ℕ) → v < n → sum_below n (λ x. unit v w x w) ≡ 1
 unit-column n v w vn = sum_one n v (λ x. unit v w x w) vn (λ i h d. unit-off_tail v w i w d) ∙ unit-on v w v w refl refl
 
+-- a node other than w gets nothing in all
 pub unit-column_off : (n v w y : ℕ) → (y ≡ w → ⊥) → sum_below n (λ x. unit v w x y) ≡ 0
 unit-column_off n v w y d = sum_below-same n (λ x. unit v w x y) (λ i. 0) (λ i h. unit-off_head v w i y d) ∙ sum_below-zero n
 
+-- a unit may go over a residual pair, from a node with an excess, to a label at most one higher
 pub unit_sends : (n : ℕ) (s : State) (v w : ℕ) → w < n → 0 < s.res v w → 0 < s.excess v → s.label w ≤ s.label v + 1 → IsSending n s (unit v w)
 unit_sends n s v w wn r e l = record {
   within = λ x y a b. elim (cases_eq x v) [
@@ -102,6 +115,7 @@ unit_sends n s v w wn r e l = record {
   ];
 }
 
+-- between nodes other than v and w goes no unit
 pub unit-off : (v w x y : ℕ) → (x ≡ v → y ≡ w → ⊥) → unit v w x y ≡ 0
 unit-off v w x y d = elim (cases_eq x v) [
   | inl ex ↦ unit-off_head v w x y (d ex)
