@@ -18,6 +18,7 @@ use Rattle.aig_binary.specs.Fed.{ascii_fed, binary_fed, fed_in, fed_any}
 use Rattle.ascii_file.proofs.AnsweringLaws.{Fails-bind}
 use Rattle.aig_binary.proofs.LetterLaws.{none_short}
 
+-- a reading without a fault is none where its value is dropped
 pub ok_then : {X : Type 0} (read : Result X ReadError) → IsOk read → ◌≡◌ {A = Result (Unit {0}) ReadError} (read >>= λ x. Ok tt) (Ok tt)
 ok_then (Ok x) is = refl
 ok_then (Err e) is = absurd cc
@@ -37,6 +38,7 @@ pub binary_gives : (result : Result (Unit {0}) ReadError) (bytes : List ℕ) →
 binary_gives (Ok u) bytes answers = ap (λ (r : Result State ReadError). r >>= λ state. Ok tt) answers.1
 binary_gives (Err fault) bytes answers = Fails-bind fault (feed (AtHeader []) bytes) (λ state. Ok tt) answers
 
+-- bytes are read by the spelling that their first three name
 pub read_by_spelling : (bytes : List ℕ) (spelling : Option Spelling) → spelling_of bytes ≡ spelling → read_any bytes ≡ read_in spelling bytes
 unfolding read_any
 read_by_spelling bytes spelling named = ap (λ (s : Option Spelling). read_in s bytes) named
@@ -45,6 +47,7 @@ read_by_spelling bytes spelling named = ap (λ (s : Option Spelling). read_in s 
 pub fed_short : (bytes : List ℕ) → length bytes < 3 → fed_any bytes ≡ Ok tt
 fed_short bytes few = by_spelling bytes None (none_short bytes few) ∙ cond-true (nat_lt (length bytes) 3) (Ok tt) (Err (BadHeader 0)) (lt-ltb (length bytes) 3 few)
 
+-- three bytes and more that name no spelling are a bad header
 pub fed_neither : (bytes : List ℕ) → spelling_of bytes ≡ None → 2 < length bytes → fed_any bytes ≡ Err (BadHeader 0)
 fed_neither bytes neither many = by_spelling bytes None neither ∙ cond-false (nat_lt (length bytes) 3) (Ok tt) (Err (BadHeader 0)) (le-ltb (length bytes) 3 (omega (arith, many)))
 
@@ -52,11 +55,14 @@ fed_neither bytes neither many = by_spelling bytes None neither ∙ cond-false (
 pub fed_ascii : (result : Result (Unit {0}) ReadError) (bytes : List ℕ) → spelling_of bytes ≡ Some Ascii → Follows (IsOk (fed bytes)) result (fed bytes) → Gives (λ u. u) result (fed_any bytes)
 fed_ascii result bytes spelt follows = subst (λ (read : Result (Unit {0}) ReadError). Gives (λ u. u) result read) (sym (by_spelling bytes (Some Ascii) spelt)) (ascii_gives result bytes follows)
 
+-- what the binary reader answers to bytes of its spelling is what feeding them gives
 pub fed_binary : (result : Result (Unit {0}) ReadError) (bytes : List ℕ) → spelling_of bytes ≡ Some Binary → Answers result bytes → Gives (λ u. u) result (fed_any bytes)
 fed_binary result bytes spelt answers = subst (λ (read : Result (Unit {0}) ReadError). Gives (λ u. u) result read) (sym (by_spelling bytes (Some Binary) spelt)) (binary_gives result bytes answers)
 
+-- what the ASCII reader reads of bytes of its spelling is what reading them gives
 pub read_ascii : (result : Result Netlist ReadError) (bytes : List ℕ) → spelling_of bytes ≡ Some Ascii → Gives (λ c. c) result (read_bytes bytes) → Gives (λ c. c) result (read_any bytes)
 read_ascii result bytes spelt gives = subst (λ (read : Result Netlist ReadError). Gives (λ c. c) result read) (sym (read_by_spelling bytes (Some Ascii) spelt)) gives
 
+-- what the binary reader reads of bytes of its spelling is what reading them gives
 pub read_of_binary : (result : Result Netlist ReadError) (bytes : List ℕ) → spelling_of bytes ≡ Some Binary → Gives (λ c. c) result (read_binary bytes) → Gives (λ c. c) result (read_any bytes)
 read_of_binary result bytes spelt gives = subst (λ (read : Result Netlist ReadError). Gives (λ c. c) result read) (sym (read_by_spelling bytes (Some Binary) spelt)) gives

@@ -20,6 +20,7 @@ left-after None t read left p e = absurd (none-some left e)
 left-after (Some xs) None read left p e = absurd p
 left-after (Some xs) (Some ys) read left p e = (ys, refl, sym (same_Some xs left e) ∙ p)
 
+-- what was read in part, and then to its end, was read to its end
 pub then-to-end : (s t u : Input) (read : List ℕ) → ReadsFirst s t read → ReadsToEnd t u → ReadsToEnd s u
 then-to-end s t u read before rest = record {
   bytes = λ left e. let after = left-after s.bytes t.bytes read left before.bytes e in rest.bytes after.0 after.1;
@@ -34,9 +35,11 @@ fault-of-bytes s t u read e before fails rest = record {
   of_bytes = fails.of_bytes;
 }
 
+-- where all bytes that were left were read, the reader was read to its end
 pub all-to-end : (s u : Input) (read : List ℕ) → ReadsAll s u read → ReadsToEnd s u
 all-to-end s u read all = record { bytes = λ left e. (all.bytes left e).1; failures = all.failures }
 
+-- an error at the end of all bytes is memory's, or the fault of all bytes that were left
 pub finish-error : (s u : Input) (read : List ℕ) (e : ReadError) → ReadsAll s u read → IsFinishError read e → IsReadError s u e
 finish-error s u read e all (inl none) = inr (inl (record { error = none; failures = all.failures }))
 finish-error s u read e all (inr fails) = inr (inr (record {
@@ -45,6 +48,7 @@ finish-error s u read e all (inr fails) = inr (inr (record {
   of_bytes = fails.of_bytes;
 }))
 
+-- the circuit of all bytes that were read, with their spelling, is what the bytes that were left spell
 pub spelt-all : (s u : Input) (read : List ℕ) (spelt : SpeltCircuit) → ReadsAll s u read → read_any read ≡ Ok spelt.circuit → spelling_of read ≡ Some spelt.spelling → Spells s spelt
 spelt-all s u read spelt all circuit spelling = record {
   circuit = record { bytes = λ left h. ap read_any (sym (all.bytes left h).0) ∙ circuit };
@@ -56,6 +60,7 @@ pub stops-later : (s t u : Input) (read : List ℕ) (e : ReadError) → ReadsFir
 stops-later s t u read e before (inl failed) = inl (record { error = failed.error; failures = failed.failures ∙ ap one_more before.failures })
 stops-later s t u read e before (inr refused) = inr (record { error = refused.error; failures = refused.failures ∙ before.failures })
 
+-- what stops the reading is a reason why there is no circuit
 pub stops-error : (s u : Input) (e : ReadError) → StopsReading s u e → IsReadError s u e
 stops-error s u e (inl failed) = inl failed
 stops-error s u e (inr refused) = inr (inl refused)

@@ -55,6 +55,7 @@ module _ (bytes rest : List ℕ) (e : ReadError) where
   by_name (Some Ascii) named is = read_by_spelling (bytes ++ rest) (Some Ascii) (named_stays bytes rest Ascii named) ∙ ascii_fault (sym (by_spelling bytes (Some Ascii) named) ∙ is)
   by_name (Some Binary) named is = read_by_spelling (bytes ++ rest) (Some Binary) (named_stays bytes rest Binary named) ∙ binary_fault (sym (by_spelling bytes (Some Binary) named) ∙ is)
 
+  -- a fault of the bytes so far is the fault of these with any bytes after them
   pub fault_stays : fed_any bytes ≡ Err e → read_any (bytes ++ rest) ≡ Err e
   fault_stays is = by_name (spelling_of bytes) refl is
 
@@ -77,10 +78,12 @@ finish_fails : (bytes : List ℕ) (e : ReadError) → Fails e (read_any bytes) �
 finish_fails bytes NoMemory fails = inl refl
 finish_fails bytes e fails = inr (record { of_bytes = fault_of_bytes bytes e fails; fault = fails })
 
+-- an error that feeding gives is memory's, or a fault of the bytes whatever follows
 pub feed_error : (result : Result (Unit {0}) ReadError) (bytes : List ℕ) → Gives (λ u. u) result (fed_any bytes) → IfErr result (IsFeedError bytes)
 feed_error (Ok u) bytes gives = tt
 feed_error (Err e) bytes gives = feed_fails bytes e gives
 
+-- an error that finishing gives is memory's, or a fault of the bytes where nothing follows
 pub finish_error : (result : Result Netlist ReadError) (bytes : List ℕ) → Gives (λ c. c) result (read_any bytes) → IfErr result (IsFinishError bytes)
 finish_error (Ok c) bytes gives = tt
 finish_error (Err e) bytes gives = finish_fails bytes e gives

@@ -21,6 +21,7 @@ module _ (h : Header) (X : Type 0) (section : Section) (count : ℕ) (make : X �
     (here : (xs : List X) → length xs < count → next_section h (state xs) ≡ section)
     (grows : (xs : List X) (x : X) → with_item (state xs) (make x) ≡ state (xs ++ x ∷ []))
     (one : (xs : List X) (x : X) (rest : List ℕ) → next_section h (state xs) ≡ section → Fit xs x → IsItem h (state xs) (make x) (bytes_of x ++ rest) rest) where
+  -- where each item of a section fits after those before it, the section's bytes spell the items
   pub section_spelt : (ys xs : List X) (items : List Item) (rest : List ℕ) → length xs + length ys ≤ count → AllFollow Fit xs ys → AreItems h (state (xs ++ ys)) items rest
       → AreItems h (state xs) (map make ys ++ items) (flat_map bytes_of ys ++ rest)
   section_spelt [] xs items rest room fit later = subst (λ (zs : List X). AreItems h (state zs) items rest) (append-nil xs) later
@@ -52,6 +53,7 @@ pub part_of : {X : Type 0} (P : Item → Type 0) (make : X → Item) (ys : List 
 part_of P make [] items all = (tt, all)
 part_of P make (y ∷ ys) items all = let later = part_of P make ys items all.1 in ((all.0, later.0), later.1)
 
+-- what holds of all items of a last section holds of what they are made of
 pub last_part : {X : Type 0} (P : Item → Type 0) (make : X → Item) (ys : List X) → AllByRecursion P (map make ys) → AllByRecursion (λ y. P (make y)) ys
 last_part P make [] all = tt
 last_part P make (y ∷ ys) all = (all.0, last_part P make ys all.1)

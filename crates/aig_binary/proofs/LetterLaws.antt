@@ -35,12 +35,14 @@ letters_begin (a ∷ b ∷ []) few = refl
 letters_begin (a ∷ b ∷ d ∷ []) few = refl
 letters_begin (a ∷ b ∷ d ∷ e ∷ xs) few = absurd (omega (arith, few))
 
+-- the first three bytes are at most three
 pub three_at_most : (xs : List ℕ) → length (take 3 xs) ≤ 3
 three_at_most [] = omega arith
 three_at_most (a ∷ []) = omega arith
 three_at_most (a ∷ b ∷ []) = omega arith
 three_at_most (a ∷ b ∷ d ∷ xs) = omega arith
 
+-- where the first three bytes are three, there are more than two
 pub three_many : (xs : List ℕ) → 3 ≤ length (take 3 xs) → 2 < length xs
 three_many [] many = absurd (omega (arith, many))
 three_many (a ∷ []) many = absurd (omega (arith, many))
@@ -91,6 +93,7 @@ letters_stay (a ∷ []) more many = absurd (omega (arith, many))
 letters_stay (a ∷ b ∷ []) more many = absurd (omega (arith, many))
 letters_stay (a ∷ b ∷ d ∷ xs) more many = refl
 
+-- bytes that name a spelling are more than two
 pub named_long : (xs : List ℕ) (spelling : Spelling) → spelling_of xs ≡ Some spelling → 2 < length xs
 named_long xs spelling named = elim (cases_lt (length xs) 3) [
   | inl few ↦ absurd (none_some (sym (none_short xs few) ∙ named))
@@ -100,5 +103,6 @@ named_long xs spelling named = elim (cases_lt (length xs) 3) [
     none_some : ◌≡◌ {A = Option Spelling} None (Some spelling) → ⊥
     none_some e = cc
 
+-- bytes that name a spelling name it whatever follows them
 pub named_stays : (xs more : List ℕ) (spelling : Spelling) → spelling_of xs ≡ Some spelling → spelling_of (xs ++ more) ≡ Some spelling
 named_stays xs more spelling named = letters_stay xs more (named_long xs spelling named) ∙ named

@@ -101,6 +101,7 @@ binary-within bytes c e =
 
 -- ---- either spelling
 
+-- a circuit that is read in either spelling is within the limits of a header
 pub reads-within : (bytes : List ℕ) → ReadsWithin bytes
 unfolding read_any
 reads-within bytes c e = by_spelling (spelling_of bytes) e

@@ -30,6 +30,7 @@ first_line-is (b ∷ l) rest clean =
     cond-false (nat_eq b 10) [] (b ∷ first_line (l ++ 10 ∷ rest)) (not-true (nat_eq b 10) parts.0)
     ∙ ap (λ (more : List ℕ). b ∷ more) (first_line-is l rest parts.1)
 
+-- after the line that a newline ends stands what follows the newline
 pub after_line-is : (l rest : List ℕ) → lacks 10 l ≡ true → after_line (l ++ 10 ∷ rest) ≡ rest
 unfolding after_line
 after_line-is [] rest clean = refl
@@ -66,9 +67,13 @@ latch_bytes latch = line (latch_numbers latch)
 
 -- a latch that may come next
 pub record IsNextLatch (h : Header) (raw : Raw) (latch : RawLatch) : Type 0 where
+  -- its literal is the next one of a latch
   pub current : latch.current ≡ next_latch h raw
+  -- its next literal is within the header's range
   pub next : IsWithin h latch.next
+  -- its reset is 0, 1 or its own literal
   pub has_reset : HasReset latch
+  -- its numbers fit 64 bits
   pub small : (latch.next < 2 ^ 64) × (latch.reset < 2 ^ 64)
 
 zero_of : (n : ℕ) → nat_eq n 0 ≡ true → n ≡ 0
@@ -82,6 +87,7 @@ latch_spelt latch true is small =
     ∙ ap (λ (n : ℕ). Some (LatchItem (record { current = latch.current; next = latch.next; reset = n }))) (sym none)
 latch_spelt latch false is small = ap (option_and_then (latch_in latch.current)) (numbers_of-row_line latch.next (latch.reset ∷ []) (small.0, (small.1, tt)))
 
+-- the bytes of a latch that may come next are the line of that latch
 pub latch_is : (h : Header) (raw : Raw) (latch : RawLatch) (rest : List ℕ) → next_section h raw ≡ Latches → IsNextLatch h raw latch → IsLine h raw (LatchItem latch) (latch_bytes latch ++ rest) rest
 latch_is h raw latch rest here is =
     line_is h raw (LatchItem latch) (row_line (latch_numbers latch)) rest (latch_bytes latch ++ rest) (row_then (latch_numbers latch) rest) (row_line-lacks_newline (latch_numbers latch))
@@ -97,9 +103,13 @@ gate_bytes gate = delta_of (gate.lhs - gate.rhs0) ++ delta_of (gate.rhs0 - gate.
 
 -- a gate that may come next
 pub record IsNextGate (h : Header) (raw : Raw) (gate : RawGate) : Type 0 where
+  -- its literal is the next one of a gate
   pub lhs : gate.lhs ≡ next_gate h raw
+  -- the larger fan-in is below it
   pub falls : gate.rhs0 < gate.lhs
+  -- the larger fan-in is first
   pub ordered : gate.rhs1 ≤ gate.rhs0
+  -- its literal is below 2^35
   pub small : gate.lhs < 2 ^ 35
 
 -- so many bytes at most
@@ -115,6 +125,7 @@ length-within (suc more) n = by_test (nat_lt n 128) (length-within more (n / 128
 is_shortest : (n : ℕ) → n < 2 ^ 35 → IsDelta (delta_of n)
 is_shortest n small = ((delta_laws n small).form, length-within 4 n)
 
+-- the bytes of a gate that may come next are the deltas of that gate
 pub gate_is : (h : Header) (raw : Raw) (gate : RawGate) (rest : List ℕ) → next_section h raw ≡ Gates → IsNextGate h raw gate → IsGate h raw gate (gate_bytes gate ++ rest) rest
 gate_is h raw gate rest here is =
     let few : gate.lhs < 2 ^ 35 = is.small in

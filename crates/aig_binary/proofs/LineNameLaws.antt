@@ -28,12 +28,14 @@ in_front : (b : ℕ) (ls : List (List ℕ)) → b ≢ 10 → AllByRecursion IsLi
 in_front b [] other all = ((other, tt), tt)
 in_front b (l ∷ ls) other all = ((other, all.0), all.1)
 
+-- no line of some bytes has a newline
 pub lines-are : (bytes : List ℕ) → AllByRecursion IsLine (lines bytes)
 unfolding lines
 lines-are [] = tt
 lines-are (b ∷ bytes) =
     cond_both (nat_eq b 10) ([] ∷ lines bytes) (with_front b (lines bytes)) (AllByRecursion IsLine) (λ e. (tt, lines-are bytes)) (λ e. in_front b (lines bytes) (eqb-false b 10 e) (lines-are bytes))
 
+-- the first line of some bytes has no newline
 pub first_line-is : (bytes : List ℕ) → IsLine (first_line bytes)
 unfolding first_line
 first_line-is [] = tt
@@ -73,6 +75,7 @@ symbol-is (letter ∷ bytes) line = by_kind (kind_of letter)
     by_kind None = tt
     by_kind (Some kind) = by_cut kind (cut_at_space bytes) (cut-is bytes line.1)
 
+-- the name of a symbol that a line without a newline spells has none
 pub named-symbol : (line : List ℕ) (symbol : RawSymbol) → IsLine line → symbol_of line ≡ Some (SymbolItem symbol) → IsLine symbol.name
 named-symbol line symbol is e = subst (λ (o : Option Item). IfSome o IsNamed) e (symbol-is line is)
 
@@ -101,6 +104,7 @@ last_symbols : (symbols : List RawSymbol) → AllByRecursion IsNamed (map Symbol
 last_symbols [] all = tt
 last_symbols (x ∷ symbols) all = (all.0, last_symbols symbols all.1)
 
+-- the names of an ASCII file's symbols have no newline
 pub raw-named : (raw : Raw) (ls : List (List ℕ)) → AllByRecursion IsLine ls → AllZip Spells ls (items_of raw) → AreLineNames raw.symbols
 raw-named raw ls are spelt =
     let all = items-named ls (items_of raw) are spelt in
@@ -113,6 +117,7 @@ raw-named raw ls are spelt =
 
 -- ---- binary files
 
+-- the name of a symbol that a line of a binary file spells has no newline
 pub line-named : (h : Header) (raw : Raw) (section : Section) (line : List ℕ) (symbol : RawSymbol) → IsLine line → item_in h raw section line ≡ Some (SymbolItem symbol) → IsLine symbol.name
 unfolding item_of
 line-named h raw Inputs line symbol is e = absurd cc
@@ -137,6 +142,7 @@ names-are kind (x ∷ symbols) names all named =
     names-are kind symbols (with_symbol kind names x) all.1
     (cond_both (nat_eq (kind_number x.kind) (kind_number kind)) (with_name names own) names AreOneLine (λ e. with_name-is names own named (All-from_recursion (λ b. b ≢ 10) x.name all.0)) (λ e. named))
 
+-- where no symbol's name has a newline, no name of the circuit has one
 pub symbols-are : (symbols : List RawSymbol) → AreLineNames symbols → AreOneLine (all_names (symbols_of symbols))
 unfolding symbols_of
 symbols-are symbols all =

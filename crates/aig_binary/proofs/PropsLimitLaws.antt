@@ -22,21 +22,33 @@ split-sum (n ∷ sizes) xs =
 
 -- the limits of a header, of properties
 pub record ArePropsWithin (p : Props) : Type 0 where
+  -- at most 2^24 outputs
   pub outputs : length p.outputs ≤ 2 ^ 24
+  -- at most 2^24 bad states
   pub bad : length p.bad ≤ 2 ^ 24
+  -- at most 2^24 constraints
   pub constraints : length p.constraints ≤ 2 ^ 24
+  -- at most 2^24 justice properties
   pub justice : length p.justice ≤ 2 ^ 24
+  -- at most 2^24 literals of justice properties
   pub justice_literals : sum (map length p.justice) ≤ 2 ^ 24
+  -- at most 2^24 fairness literals
   pub fairness : length p.fairness ≤ 2 ^ 24
 
 -- what a header says of properties is within its limits
 pub record IsSmall (h : Header) : Type 0 where
+  -- it says of outputs at most 2^24
   pub outputs : h.outputs ≤ 2 ^ 24
+  -- it says of bad states at most 2^24
   pub bad : h.bad ≤ 2 ^ 24
+  -- it says of constraints at most 2^24
   pub constraints : h.constraints ≤ 2 ^ 24
+  -- it says of justice properties at most 2^24
   pub justice : h.justice ≤ 2 ^ 24
+  -- it says of fairness literals at most 2^24
   pub fairness : h.fairness ≤ 2 ^ 24
 
+-- properties that are as many as a header within its limits says are within them
 pub props-within : (h : Header) (safety sizes liveness : List ℕ) → IsSmall h → length safety ≡ safety_count h → length sizes ≡ h.justice → length liveness ≡ sum sizes + h.fairness → sum sizes ≤ 2 ^ 24
     → ArePropsWithin (props_of h safety sizes liveness)
 unfolding props_of

@@ -102,6 +102,7 @@ circuit_again c netlist =
     (graph_is c.aig _ _ _ refl (latches_again (λ lit. lit) c.aig.latches (first_latch c.aig) (omega arith) (λ k latch there. refl)) (gates_again c.aig.gates (first_gate c.aig)))
     (props_again c) (symbols_again c netlist)
 
+-- the binary text of a circuit within the limits is read as that circuit
 pub the_round_trip_law : (c : Netlist) → RoundTripLaw c
 the_round_trip_law c graph netlist within =
     (the_reading_law (text_binary c)).file (written_header c) (listed c) (text-file c graph netlist within) ∙ ap Ok (circuit_again c netlist)

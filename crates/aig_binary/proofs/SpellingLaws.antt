@@ -22,6 +22,7 @@ by_own : (bytes : List ℕ) (spelling : Option Spelling) → spelling_of bytes �
 unfolding read_any
 by_own bytes spelling is = ap (λ (s : Option Spelling). read_in s bytes) is
 
+-- the text of a circuit in a spelling names that spelling, and is read as the circuit
 pub the_spelling_law : (spelling : Spelling) (c : Netlist) → SpellingLaw spelling c
 the_spelling_law Ascii c = record {
   spelt = ascii_letters c;

@@ -34,6 +34,7 @@ use Rattle.aig_binary.proofs.ItemLaws.{section_spelt, numbered_follow, follow_we
 abbrev pub listed : Netlist → Raw
 listed c = record (written c) { inputs = [] }
 
+-- what the text lists are as many items of each section as its header says, but no inputs
 pub listed-counted : (c : Netlist) → IsCountedBy (record (written_header c) { inputs = 0 }) (listed c)
 listed-counted c =
     let all = written-counted c in

@@ -115,5 +115,6 @@ counted h (SymbolItem x ∷ items) raw bytes (rest, is, are) w = counted h items
 nothing_within : (h : Header) → IsWithin h nothing_yet
 nothing_within h = record { inputs = omega arith; latches = omega arith; safety = omega arith; sizes = omega arith; liveness = omega arith; gates = omega arith }
 
+-- a binary file has as many items of each section as its header says
 pub the_counts_law : (bytes : List ℕ) → CountsLaw bytes
 the_counts_law bytes h raw file = subst (IsCountedBy (record h { inputs = 0 })) file.all (counted h file.items nothing_yet _ file.spelt (nothing_within h))

@@ -6,10 +6,12 @@ use Rattle.binary_file.specs.Deltas.{delta_value, is_delta, bytes_within, delta_
 use Rattle.std.specs.List.{IsFirstAndRest}
 use Rattle.binary_file.specs.Laws.{DeltaLaws, EndsOnce}
 
+-- one byte spells its low seven bits
 pub value-last : (last : ℕ) → delta_value (last ∷ []) ≡ last % 128
 unfolding delta_value
 value-last last = omega arith
 
+-- a byte before others spells its low seven bits, and 128 times what the others do
 pub value-next : (byte : ℕ) (rest : List ℕ) → delta_value (byte ∷ rest) ≡ byte % 128 + 128 * delta_value rest
 unfolding delta_value
 value-next byte rest = refl
@@ -29,14 +31,17 @@ fewer k n h =
     let low : n < 128 ^ k * 128 = rw (sym grown) h in
     (div-lt_iff_lt-mul {k = 128} {x = n} {y = 128 ^ k} (omega arith)).1 low
 
+-- a last byte with none before it spells its low seven bits
 pub value-none : (xs : List ℕ) (last : ℕ) → length xs ≡ 0 → delta_value (xs ++ last ∷ []) ≡ last % 128
 value-none [] last e = value-last last
 value-none (x ∷ xs) last e = absurd (omega arith)
 
+-- the first of some bytes before a last one spells its low seven bits, and 128 times what the rest do
 pub value-split : (xs rest : List ℕ) (byte last : ℕ) → IsFirstAndRest xs byte rest
     → delta_value (xs ++ last ∷ []) ≡ byte % 128 + 128 * delta_value (rest ++ last ∷ [])
 value-split xs rest byte last e = rw e.0 (value-next byte (rest ++ last ∷ []))
 
+-- at most four bytes have fewer than four after the first
 pub rest-few : {xs rest : List ℕ} {byte : ℕ} → IsFirstAndRest xs byte rest → length xs ≤ 4 → length rest < 4
 rest-few e few = let longer = e.1 in omega arith
 
@@ -84,6 +89,7 @@ unfolding bytes_within
 bytes-low zero n low = refl
 bytes-low (suc more) n low = let test : nat_lt n 128 ≡ true = lt-ltb n 128 low in rw test refl
 
+-- a number from 128 on is its low seven bits with the top bit set, and then the bytes of the rest
 pub bytes-high : (more n : ℕ) → 128 ≤ n → bytes_within (suc more) n ≡ (n % 128 + 128) ∷ bytes_within more (n / 128)
 unfolding bytes_within
 bytes-high more n high = let test : nat_lt n 128 ≡ false = le-ltb n 128 high in rw test refl
@@ -122,6 +128,7 @@ bytes-shortest (suc more) n (byte ∷ next ∷ bytes) ends spelled = elim (cases
       rw (bytes-high more n high) (omega arith))
 ]
 
+-- the shortest delta of a number below 2^35 spells it, is a delta, and no delta that spells it is shorter
 pub delta_laws : (n : ℕ) → n < 2 ^ 35 → DeltaLaws n
 delta_laws n small = record {
   value = bytes-value 4 n (omega arith);
@@ -139,6 +146,7 @@ rest-same e = ap rest_of e
     rest_of [] = []
     rest_of (x ∷ xs) = xs
 
+-- two deltas that begin the same bytes are the same
 pub ends_once : (first second rest other : List ℕ) → EndsOnce first second rest other
 ends_once [] second rest other ends1 ends2 e = absurd (let some = not-empty [] ends1 in omega arith)
 ends_once (a ∷ xs) [] rest other ends1 ends2 e = absurd (let some = not-empty [] ends2 in omega arith)
@@ -162,6 +170,7 @@ abbrev pub Spells : List ℕ → ℕ → ℕ → ℕ → Type 0
 Spells items counter rest number =
     (length items ≡ counter) × (rest < 128 ^ (5 - counter)) × (items ++ bytes_within (4 - counter) rest ≡ delta_of number)
 
+-- one byte more, with the top bit set, leaves the number without these seven bits to spell
 pub Spells-more : (items more : List ℕ) (counter rest number : ℕ) → counter < 4 → 128 ≤ rest → Spells items counter rest number
     → more ≡ items ++ (rest % 128 + 128) ∷ [] → Spells more (counter + 1) (rest / 128) number
 Spells-more items more counter rest number turn high h pushed =
@@ -182,6 +191,7 @@ Spells-more items more counter rest number turn high h pushed =
           ∙ append_assoc items ((rest % 128 + 128) ∷ []) (bytes_within (3 - counter) (rest / 128)) ∙ opened),
     )
 
+-- with what is left as its last byte, the number's shortest delta stands
 pub Spells-end : (items : List ℕ) (counter rest number : ℕ) → counter ≤ 4 → (4 ≤ counter) ⊎ (rest < 128) → Spells items counter rest number
     → items ++ rest ∷ [] ≡ delta_of number
 unfolding bytes_within
@@ -191,6 +201,7 @@ Spells-end items counter rest number within (inl done) h =
 Spells-end items counter rest number within (inr low) h =
     sym (ap (λ l. items ++ l) (bytes-low (4 - counter) rest low)) ∙ h.2
 
+-- bytes with the top bit set, and one without it, are a delta
 pub is_delta-ended : (bytes : List ℕ) (last : ℕ) → All (λ byte. 127 < byte) bytes → last < 128 → IsTrue (is_delta (bytes ++ last ∷ []))
 is_delta-ended [] last high low = is_delta-last last low
 is_delta-ended (byte ∷ bytes) last high low = is_delta-cons byte (bytes ++ last ∷ []) (high 0 0 (omega arith))

@@ -98,5 +98,6 @@ given bytes =
     in_turn (feed (AtHeader []) bytes >>= finish (length bytes)) (λ all. Ok (circuit_of all.0 all.1))
     (in_turn (feed (AtHeader []) bytes) (finish (length bytes)) (fed bytes (AtHeader [])) (finished (length bytes))) (λ all. tt)
 
+-- a fault that reading gives is one of the bytes, not of memory or of a reader
 pub fault_of_bytes : (bytes : List ℕ) (e : ReadError) → read_binary bytes ≡ Err e → is_fault_of_bytes e ≡ true
 fault_of_bytes bytes e was = subst (λ (answer : Result Netlist ReadError). IsFaultOrOk answer) was (given bytes)

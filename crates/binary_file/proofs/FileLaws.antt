@@ -105,6 +105,7 @@ items_taken h end (SizeItem x ∷ items) raw at bytes (rest, is, are) = let take
 items_taken h end (LivenessItem x ∷ items) raw at bytes (rest, is, are) = let taken = line_taken h raw at end (LivenessItem x) bytes rest is in taken.1 ∙ items_taken h end items (with_item raw (LivenessItem x)) taken.0 rest are
 items_taken h end (SymbolItem x ∷ items) raw at bytes (rest, is, are) = let taken = line_taken h raw at end (SymbolItem x) bytes rest is in taken.1 ∙ items_taken h end items (with_item raw (SymbolItem x)) taken.0 rest are
 
+-- a binary file of a raw circuit is read as that circuit
 pub file_read : (bytes : List ℕ) (h : Header) (raw : Raw) → IsBinaryFile bytes h raw → read_raw bytes ≡ Ok (h, raw)
 unfolding read_raw
 file_read bytes h raw file =
@@ -238,6 +239,7 @@ circuit_was_read bytes c e =
     let found = bind_ok (read_raw bytes) (λ all. Ok (circuit_of all.0 all.1)) c e in
     (found.0.0, found.0.1, file_was_read bytes found.0 found.1, sym (same_ok (circuit_of found.0.0 found.0.1) c found.2))
 
+-- bytes are read as a circuit exactly where they are a binary file of one, else there is a fault of the bytes
 pub the_reading_law : (bytes : List ℕ) → ReadingLaw bytes
 the_reading_law bytes = record {
   file = circuit_read bytes;

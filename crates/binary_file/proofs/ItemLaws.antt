@@ -52,10 +52,12 @@ header_within h (greatest, (outputs, (bad, (constraints, (justice, (fairness, (t
   total = eqb-true (h.inputs + h.latches + h.gates) h.greatest (not-false (nat_eq (h.inputs + h.latches + h.gates) h.greatest) total);
 }
 
+-- a line that spells a header within the limits is read as that header
 pub header_read : (line : List ℕ) (h : Header) → header_of line ≡ Some h → IsHeaderWithin h → read_header line ≡ Ok h
 unfolding read_header
 header_read line h spelt within = ap checked_header spelt ∙ unless_passes (header_checks h) (Ok h) (header_passes h within)
 
+-- a header that is read is within the limits, and the line spells it
 pub header_was_read : (line : List ℕ) (h : Header) → read_header line ≡ Ok h → (header_of line ≡ Some h) × IsHeaderWithin h
 unfolding read_header
 header_was_read line h e = by_found (header_of line) refl e
@@ -96,6 +98,7 @@ fits_where_passes h raw at (SymbolItem symbol) has passes = ascii.fits_where_pas
 same_some : (a b : Item) → ◌≡◌ {A = Option Item} (Some a) (Some b) → a ≡ b
 same_some a b e = cc
 
+-- an item that is made of a latch's numbers belongs to the section of latches
 pub latch_section : (current : ℕ) (found : Option (List ℕ)) (item : Item) → option_and_then (latch_in current) found ≡ Some item → section_of item ≡ Latches
 latch_section current None item e = absurd cc
 latch_section current (Some []) item e = absurd cc
@@ -135,6 +138,7 @@ unfolding read_line
 line_read h raw at line item spelt fits =
     ap (take_item h raw at (malformed (next_section h raw) at line)) spelt ∙ unless_passes (line_checks h raw at item) (Ok (with_item raw item)) (passes_where_fits h raw at item fits)
 
+-- a line that spells an item which fits leads on to the next item
 pub item_ended : (h : Header) (raw : Raw) (at : ℕ) (line : List ℕ) (item : Item) → item_in h raw (next_section h raw) line ≡ Some item → Fits h raw item
     → end_line h raw at line ≡ Ok (before_item h (with_item raw item) (at + length line + 1))
 unfolding end_line
@@ -145,11 +149,16 @@ item_ended h raw at line item spelt fits =
 
 -- what was read of a line
 pub record LineRead (h : Header) (raw : Raw) (line : List ℕ) (more : Raw) : Type 0 where
+  -- the item
   pub item : Item
+  -- the line spells it, in the section that is due
   pub spelt : item_in h raw (next_section h raw) line ≡ Some item
+  -- it fits what stands before it
   pub fits : Fits h raw item
+  -- with it the raw circuit is the one that was read
   pub grown : with_item raw item ≡ more
 
+-- a line that is read spells an item which fits
 pub line_was_read : (h : Header) (raw more : Raw) (at : ℕ) (line : List ℕ) → read_line h raw at line ≡ Ok more → LineRead h raw line more
 unfolding read_line
 line_was_read h raw more at line e = by_item (item_in h raw (next_section h raw) line) refl e

@@ -13,6 +13,7 @@ use Rattle.ascii_file.proofs.StepLaws.{bind_ok}
 use Rattle.binary_file.specs.Items.{next_section, first_line, after_line}
 use Rattle.binary_file.specs.Reading.{State, AtHeader, InLine, InFirst, InComment, is_gates, before_item, end_header, read_header, read_line, end_line, delta_step, step, feed, complete, finish}
 
+-- of three steps that may fail it doesn't matter which two are taken together
 pub bind_assoc : {A B C : Type 0} (r : Result A ReadError) (f : A → Result B ReadError) (g : B → Result C ReadError) → ((r >>= f) >>= g) ≡ (r >>= λ x. f x >>= g)
 bind_assoc (Ok x) f g = refl
 bind_assoc (Err e) f g = refl
@@ -94,6 +95,7 @@ after_shorter (b ∷ bytes) = by_test (nat_eq b 10) (after_shorter bytes)
     by_test true later = omega arith
     by_test false later = omega (arith, later)
 
+-- what follows the first line of some bytes is at least a byte shorter than they are
 pub after_line_shorter : (b : ℕ) (bytes : List ℕ) → length (after_line (b ∷ bytes)) ≤ length bytes
 unfolding after_line
 after_line_shorter b bytes = by_test (nat_eq b 10)
@@ -118,17 +120,26 @@ one_byte b e = e
 
 -- how the bytes begin with a delta
 pub record DeltaRead (state : List ℕ → State) (end_delta : List ℕ → Result State ReadError) (end : ℕ) (begun bytes : List ℕ) (all : Header × Raw) : Type 0 where
+  -- the delta
   pub delta : List ℕ
+  -- the bytes after it
   pub rest : List ℕ
+  -- the bytes are these two
   pub parts : bytes ≡ delta ++ rest
+  -- the delta is one
   pub form : is_delta delta ≡ true
+  -- with what had begun it is at most five bytes
   pub few : length begun + length delta ≤ 5
+  -- the state after it
   pub next : State
+  -- its end leads to that state
   pub ended : end_delta (begun ++ delta) ≡ Ok next
+  -- reading on from there gives what was read
   pub read : (feed next rest >>= finish end) ≡ Ok all
 
 -- a state in which a delta at an offset is read, and what its last byte brings
 module _ (at : ℕ) (state : List ℕ → State) (end_delta : List ℕ → Result State ReadError) (steps : (delta : List ℕ) (b : ℕ) → step (state delta) b ≡ delta_step at delta b (state (delta ++ b ∷ [])) end_delta) where
+  -- a delta of at most five bytes leads where its end does, and the rest is read from there
   pub delta_fed : (delta begun rest : List ℕ) → is_delta delta ≡ true → length begun + length delta ≤ 5 → feed (state begun) (delta ++ rest) ≡ (end_delta (begun ++ delta) >>= λ s. feed s rest)
   unfolding feed is_delta
   delta_fed [] begun rest form few = absurd cc
@@ -144,6 +155,7 @@ module _ (at : ℕ) (state : List ℕ → State) (end_delta : List ℕ → Resul
       ∙ ap (λ (d : List ℕ). end_delta d >>= λ s. feed s rest) (append_assoc begun (b ∷ []) (c ∷ delta))
 
   module _ (end : ℕ) (all : Header × Raw) (unfinished : (delta : List ℕ) → finish end (state delta) ≡ Ok all → ⊥) where
+    -- what is read where a delta has begun begins with the rest of it
     pub delta_was_fed : (bytes begun : List ℕ) → length begun ≤ 4 → (feed (state begun) bytes >>= finish end) ≡ Ok all → DeltaRead state end_delta end begun bytes all
     unfolding feed
     delta_was_fed [] begun few e = absurd (unfinished begun e)

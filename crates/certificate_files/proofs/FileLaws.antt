@@ -27,21 +27,25 @@ no_first = refl
 
 -- ---- the second line
 
+-- a file of the second version without a second line is truncated
 pub second_missing : (at end : ℕ) (rest : List ℕ) → rest ≡ [] → read_second at end (lines rest) ≡ Err (Truncated end)
 second_missing at end rest none = ap (read_second at end) (ap lines none ∙ no_first)
 
+-- a second line that names a choice gives the file this choice, and the blocks follow
 pub second_chosen : (at end : ℕ) (text line more : List ℕ) (choice : Choice) → IsFirst text line more → length text ≤ end → at ≡ end - length text → choice_of line ≡ Some choice
     → read_second at end (lines text) ≡ with_choice choice (read_rest end more nothing_read)
 second_chosen at end text line more choice first within here is =
     ap (read_second at end) first.whole ∙ ap (λ (o : Option Choice). read_chosen at end o (lines more) (length line)) is
     ∙ ap (with_choice choice) (same_start (at + length line + 1) end more nothing_read (behind end text line more at first within here))
 
+-- a second line that names no choice is a fault of that line
 pub second_other : (at end : ℕ) (text line more : List ℕ) → IsFirst text line more → choice_of line ≡ None → read_second at end (lines text) ≡ Err (BadLine at)
 second_other at end text line more first is =
     ap (read_second at end) first.whole ∙ ap (λ (o : Option Choice). read_chosen at end o (lines more) (length line)) is
 
 -- ---- the first line
 
+-- a file without a line has a bad header
 pub first_missing : (end : ℕ) (rest : List ℕ) → rest ≡ [] → read_file end (lines rest) ≡ Err (BadHeader 0)
 first_missing end rest none = ap (read_file end) (ap lines none ∙ no_first)
 
@@ -54,6 +58,7 @@ by_words one two end rest = cond one (with_choice Greatest (read_blocks 15 end n
 by_first : (end : ℕ) (text line more : List ℕ) → IsFirst text line more → read_file end (lines text) ≡ by_words (is_word line (codes "fretime-cert 1")) (is_word line (codes "fretime-cert 2")) end (lines more)
 by_first end text line more first = ap (read_file end) first.whole
 
+-- after the line of the first version the blocks follow, of greatest sets
 pub first_version : (end : ℕ) (text line more : List ℕ) → IsFirst text line more → length text ≡ end → is_word line (codes "fretime-cert 1") ≡ true
     → read_file end (lines text) ≡ with_choice Greatest (read_rest end more nothing_read)
 first_version end text line more first whole is =
@@ -67,6 +72,7 @@ first_version end text line more first whole is =
     start : (more ≡ []) ⊎ (15 ≡ end - length more)
     start = subst (λ (n : ℕ). (more ≡ []) ⊎ (n ≡ end - length more)) (omega (arith, long)) (behind end text line more 0 first (omega (arith, whole)) (omega (arith, whole)))
 
+-- after the line of the second version the line of the choice follows
 pub second_version : (end : ℕ) (text line more : List ℕ) → IsFirst text line more → is_word line (codes "fretime-cert 1") ≡ false → is_word line (codes "fretime-cert 2") ≡ true
     → read_file end (lines text) ≡ read_second 15 end (lines more)
 second_version end text line more first differs is =
@@ -74,6 +80,7 @@ second_version end text line more first differs is =
     ∙ ap (λ (one : Bool). by_words one (is_word line (codes "fretime-cert 2")) end (lines more)) differs
     ∙ ap (λ (two : Bool). by_words false two end (lines more)) is
 
+-- after the line of the second version the next line, if there is one, begins at offset 15
 pub second_start : (end : ℕ) (text line more : List ℕ) → IsFirst text line more → length text ≡ end → is_word line (codes "fretime-cert 2") ≡ true
     → (more ≡ []) ⊎ (15 ≡ end - length more)
 second_start end text line more first whole is =
@@ -82,6 +89,7 @@ second_start end text line more first whole is =
     long : 14 ≡ length line
     long = word_length line (codes "fretime-cert 2") is
 
+-- a first line of neither version is a bad header
 pub no_version : (end : ℕ) (text line more : List ℕ) → IsFirst text line more → is_word line (codes "fretime-cert 1") ≡ false → is_word line (codes "fretime-cert 2") ≡ false
     → read_file end (lines text) ≡ Err (BadHeader 0)
 no_version end text line more first differs other =
@@ -91,16 +99,20 @@ no_version end text line more first differs other =
 
 -- ---- the whole file
 
+-- blocks that are read make, with the choice, the file
 pub with_blocks : (choice : Choice) (r : Result (List Certificate) CertError) (blocks : List Certificate) → r ≡ Ok blocks → with_choice choice r ≡ Ok (record { choice = choice; blocks = blocks })
 with_blocks choice r blocks is = ap (with_choice choice) is
 
+-- a fault of the blocks is that of the file
 pub with_fault : (choice : Choice) (r : Result (List Certificate) CertError) (e : CertError) → r ≡ Err e → with_choice choice r ≡ Err e
 with_fault choice r e is = ap (with_choice choice) is
 
+-- what is read of the lines of the whole text is what is read of the text
 pub text_read : (end : ℕ) (rest bytes : List ℕ) → rest ≡ bytes → end ≡ length bytes → read_file end (lines rest) ≡ read_text bytes
 unfolding read_text
 text_read end rest bytes is long = ap₂ (λ (n : ℕ) (bs : List ℕ). read_file n (lines bs)) long is
 
+-- an offset that is right unless the text is empty is right for a text with a first line
 pub start_of : (text line more : List ℕ) (a b : ℕ) → IsFirst text line more → (text ≡ []) ⊎ (a ≡ b) → a ≡ b
 start_of text line more a b first (inl none) = absurd (omega (arith, first.shorter, ap length none))
 start_of text line more a b first (inr here) = here

@@ -74,6 +74,7 @@ routed-gate at (Some []) = refl
 routed-gate at (Some (v ∷ [])) = refl
 routed-gate at (Some (v ∷ w ∷ ns)) = refl
 
+-- where a block's first line is due, a line that doesn't begin with its word is a fault
 pub framed_other : (at : ℕ) (line : List ℕ) → ((rest : List ℕ) → line ≡ codes "frame " ++ rest → ⊥) → framed at (saying_of line) ≡ Err (BadLine at)
 framed_other at line never =
     ap (framed at) (said_by line ∙ ap (λ (b : Bool). said b (begins_with (codes "g ") line) (begins_with (codes "r ") line) line) (begins_not (codes "frame ") line never))
@@ -84,6 +85,7 @@ framed_other at line never =
     by_tests false true = framed-route at (pieces (drop 2 line))
     by_tests false false = refl
 
+-- where a gate is due, a line that doesn't begin with its letter is a fault
 pub gated_other : (at : ℕ) (line : List ℕ) → ((rest : List ℕ) → line ≡ codes "g " ++ rest → ⊥) → gated at (saying_of line) ≡ Err (BadLine at)
 gated_other at line never =
     ap (gated at) (said_by line ∙ ap (λ (b : Bool). said (begins_with (codes "frame ") line) b (begins_with (codes "r ") line) line) (begins_not (codes "g ") line never))
@@ -94,6 +96,7 @@ gated_other at line never =
     by_tests false true = gated-route at (pieces (drop 2 line))
     by_tests false false = refl
 
+-- where a route is due, a line that doesn't begin with its letter is a fault
 pub routed_other : (at : ℕ) (line : List ℕ) → ((rest : List ℕ) → line ≡ codes "r " ++ rest → ⊥) → routed at (saying_of line) ≡ Err (BadLine at)
 routed_other at line never =
     ap (routed at) (said_by line ∙ ap (λ (b : Bool). said (begins_with (codes "frame ") line) (begins_with (codes "g ") line) b line) (begins_not (codes "r ") line never))
@@ -109,10 +112,12 @@ pub saying-frame : (line rest : List ℕ) → line ≡ codes "frame " ++ rest �
 unfolding saying_of
 saying-frame line rest is = ap saying_of is
 
+-- a line that begins with the letter of a gate says the gate that its number is
 pub saying-gate : (line rest : List ℕ) → line ≡ codes "g " ++ rest → saying_of line ≡ gate_of (numbers_of rest)
 unfolding saying_of
 saying-gate line rest is = ap saying_of is
 
+-- a line that begins with the letter of a route says the route that its words are
 pub saying-route : (line rest : List ℕ) → line ≡ codes "r " ++ rest → saying_of line ≡ route_of (pieces rest)
 unfolding saying_of
 saying-route line rest is = ap saying_of is
@@ -127,6 +132,7 @@ small_same n = by_test (is_small n) refl
     by_test true is = let within = leb-true n (2 ^ 28 - 1) is in le-leb (clamped n) (2 ^ 28 - 1) (omega (arith, within))
     by_test false is = let past = leb-false n (2 ^ 28 - 1) is in lt-leb (clamped n) (2 ^ 28 - 1) (omega (arith, past))
 
+-- a number within the limit stays as it is when it is cut to 32 bits
 pub small_is : (n : ℕ) → is_small n ≡ true → clamped n ≡ n
 small_is n is = let within = leb-true n (2 ^ 28 - 1) is in omega (arith, within)
 
@@ -191,8 +197,10 @@ gated-cut at (Some []) = refl
 gated-cut at (Some (a ∷ [])) = gated-one at a
 gated-cut at (Some (a ∷ b ∷ ns)) = gated-many at (clamped a) (clamped b) (map clamped ns)
 
+-- a block's first line says by its numbers cut to 32 bits what it says by its numbers
 pub framed-row : (at : ℕ) (line rest : List ℕ) → line ≡ codes "frame " ++ rest → framed at (frame_of (row_of rest)) ≡ framed at (saying_of line)
 framed-row at line rest is = ap (λ (o : Option (List ℕ)). framed at (frame_of o)) (row_cut rest) ∙ framed-cut at (numbers_of rest) ∙ ap (framed at) (sym (saying-frame line rest is))
 
+-- the line of a gate says by its number cut to 32 bits what it says by its number
 pub gated-row : (at : ℕ) (line rest : List ℕ) → line ≡ codes "g " ++ rest → gated at (gate_of (row_of rest)) ≡ gated at (saying_of line)
 gated-row at line rest is = ap (λ (o : Option (List ℕ)). gated at (gate_of o)) (row_cut rest) ∙ gated-cut at (numbers_of rest) ∙ ap (gated at) (sym (saying-gate line rest is))

@@ -211,6 +211,7 @@ text_good : (bytes : List ℕ) → IfOk (read_text bytes) IsWritable
 unfolding read_text
 text_good bytes = file_good (length bytes) (lines bytes)
 
+-- a file that was read can be written, and is then read again as that file
 pub the_rereading_law : (bytes : List ℕ) (f : CertFile) → read_text bytes ≡ Ok f → RereadingLaw f
 the_rereading_law bytes f is =
     let writable = subst (λ (r : Result CertFile CertError). IfOk r IsWritable) is (text_good bytes) in

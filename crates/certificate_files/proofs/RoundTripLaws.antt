@@ -267,6 +267,7 @@ file-chosen : (end : ℕ) (choice : Choice) (rest : List (List ℕ)) → read_fi
 file-chosen end Greatest rest = refl
 file-chosen end Smallest rest = refl
 
+-- what is written of a file that can be written is read as that file
 pub the_round_trip_law : (f : CertFile) → RoundTripLaw f
 unfolding read_text
 the_round_trip_law f writable =

@@ -41,6 +41,7 @@ starts_at end text line more first within = by_case first.starts
     by_case (inl none) = inl none
     by_case (inr long) = inr (omega (arith, long, within))
 
+-- what is left of a text is read by its first line, and then what follows that
 pub read_line : (end : ℕ) (text line more : List ℕ) (p : Progress) → IsFirst text line more → length text ≤ end
     → read_rest end text p ≡ (taken (end - length text) p (saying_of line) >>= read_rest end more)
 read_line end text line more p first within =
@@ -55,14 +56,17 @@ read_nothing : (end : ℕ) (p : Progress) → read_rest end [] p ≡ ended end p
 unfolding read_blocks lines
 read_nothing end p = refl
 
+-- where no block is open at the end of the text, the blocks have been read
 pub ends_closed : (end : ℕ) (rest : List ℕ) (blocks : List Certificate) → rest ≡ [] → read_rest end rest (closed blocks) ≡ Ok blocks
 ends_closed end rest blocks none = ap (λ (bytes : List ℕ). read_rest end bytes (closed blocks)) none ∙ read_nothing end (closed blocks)
 
+-- a text that ends where gates are lacking is truncated
 pub ends_in_gates : (end : ℕ) (rest : List ℕ) (blocks : List Certificate) (block : Certificate) (gates routes : ℕ) → rest ≡ []
     → read_rest end rest (settled blocks block (suc gates) routes) ≡ Err (Truncated end)
 ends_in_gates end rest blocks block gates routes none =
     ap (λ (bytes : List ℕ). read_rest end bytes (settled blocks block (suc gates) routes)) none ∙ read_nothing end (settled blocks block (suc gates) routes)
 
+-- a text that ends where routes are lacking is truncated
 pub ends_in_routes : (end : ℕ) (rest : List ℕ) (blocks : List Certificate) (block : Certificate) (routes : ℕ) → rest ≡ []
     → read_rest end rest (settled blocks block 0 (suc routes)) ≡ Err (Truncated end)
 ends_in_routes end rest blocks block routes none =
@@ -78,6 +82,7 @@ sized_next : {A : Type 0} (small : Bool) (x : A) (next : A → Progress) (fault 
 sized_next true x next fault = refl
 sized_next false x next fault = refl
 
+-- where gates are lacking, a line has to be that of one, which the block then has
 pub gate_next : (at : ℕ) (blocks : List Certificate) (block : Certificate) (gates routes : ℕ) (said : Option Saying)
     → taken at (settled blocks block (suc gates) routes) said ≡ next_by (λ v. settled blocks (with_gate block v) gates routes) (gated at said)
 gate_next at blocks block gates routes None = refl
@@ -85,6 +90,7 @@ gate_next at blocks block gates routes (Some (Frame a b c)) = refl
 gate_next at blocks block gates routes (Some (Gate v)) = sized_next (is_small v) v (λ w. settled blocks (with_gate block w) gates routes) (TooLarge at)
 gate_next at blocks block gates routes (Some (Route points)) = refl
 
+-- where routes alone are lacking, a line has to be that of one, which the block then has
 pub route_next : (at : ℕ) (blocks : List Certificate) (block : Certificate) (routes : ℕ) (said : Option Saying)
     → taken at (settled blocks block 0 (suc routes)) said ≡ next_by (λ points. settled blocks (with_route block points) 0 routes) (routed at said)
 route_next at blocks block routes None = refl
@@ -95,6 +101,7 @@ route_next at blocks block routes (Some (Route points)) =
     ap (λ (n : ℕ). cond (are_small points) (Ok (settled blocks (with_route block points) 0 n)) (Err (TooLarge at))) one_less
     ∙ sized_next (are_small points) points (λ ps. settled blocks (with_route block ps) 0 routes) (TooLarge at)
 
+-- where no block is open, a line has to be the first one of a block
 pub frame_next : (at : ℕ) (blocks : List Certificate) (said : Option Saying)
     → taken at (closed blocks) said ≡ next_by (λ (f : FrameLine). settled blocks (block_of f.count [] []) f.gates f.routes) (framed at said)
 frame_next at blocks None = refl
@@ -109,6 +116,7 @@ leads_given : {A B : Type 0} (next : A → Progress) (go : Progress → Result B
 leads_given next go (Ok x) s read is given = is ∙ ap (λ (t : Result _ CertError). next_by next t >>= go) given
 leads_given next go (Err e) s read is given = Fails-where e s read (λ fault. is ∙ ap (λ (t : Result _ CertError). next_by next t >>= go) fault) given
 
+-- reading goes on with the gate that a line gives, or ends with its fault
 pub gate_leads : (end : ℕ) (text line more : List ℕ) (blocks : List Certificate) (block : Certificate) (gates routes : ℕ) (r : Result ℕ CertError)
     → IsFirst text line more → length text ≤ end → Gives NoMemory (λ v. v) r (gated (end - length text) (saying_of line))
     → Leads NoMemory (λ v. read_rest end more (settled blocks (with_gate block v) gates routes)) r (read_rest end text (settled blocks block (suc gates) routes))
@@ -117,6 +125,7 @@ gate_leads end text line more blocks block gates routes r first within given =
     (read_line end text line more (settled blocks block (suc gates) routes) first within ∙ ap (λ (t : Result Progress CertError). t >>= read_rest end more) (gate_next (end - length text) blocks block gates routes (saying_of line)))
     given
 
+-- reading goes on with the route that a line gives, or ends with its fault
 pub route_leads : (end : ℕ) (text line more : List ℕ) (blocks : List Certificate) (block : Certificate) (routes : ℕ) (r : Result (List Point) CertError)
     → IsFirst text line more → length text ≤ end → Gives NoMemory (λ ps. ps) r (routed (end - length text) (saying_of line))
     → Leads NoMemory (λ ps. read_rest end more (settled blocks (with_route block ps) 0 routes)) r (read_rest end text (settled blocks block 0 (suc routes)))
@@ -125,6 +134,7 @@ route_leads end text line more blocks block routes r first within given =
     (read_line end text line more (settled blocks block 0 (suc routes)) first within ∙ ap (λ (t : Result Progress CertError). t >>= read_rest end more) (route_next (end - length text) blocks block routes (saying_of line)))
     given
 
+-- reading goes on with the block that a line begins, or ends with its fault
 pub frame_leads : (end : ℕ) (text line more : List ℕ) (blocks : List Certificate) (r : Result FrameLine CertError)
     → IsFirst text line more → length text ≤ end → Gives NoMemory (λ f. f) r (framed (end - length text) (saying_of line))
     → Leads NoMemory (λ (f : FrameLine). read_rest end more (settled blocks (block_of f.count [] []) f.gates f.routes)) r (read_rest end text (closed blocks))
@@ -133,6 +143,7 @@ frame_leads end text line more blocks r first within given =
     (read_line end text line more (closed blocks) first within ∙ ap (λ (t : Result Progress CertError). t >>= read_rest end more) (frame_next (end - length text) blocks (saying_of line)))
     given
 
+-- of a text whose rest has length 0 nothing is left
 pub nothing_left : (rest : List ℕ) → (length rest == 0) ≡ true → rest ≡ []
 nothing_left [] none = refl
 nothing_left (b ∷ rest) none = absurd (omega (arith, eqb-true (length (b ∷ rest)) 0 none))

@@ -16,6 +16,7 @@ use Rattle.certificate_files.proofs.FormLaws.{small_same, small_is}
 
 -- ---- words
 
+-- where the first space cuts a text, its first word is before it, and the other words are those after it
 pub pieces_cut : (text word rest : List ℕ) → Cuts 32 text word rest → pieces text ≡ word ∷ pieces rest
 pieces_cut text word rest cuts = ap pieces cuts.whole ∙ pieces-at_space word rest cuts.clean
 
@@ -26,10 +27,12 @@ abbrev joined : Option ℕ → Option Bool → Option Point
 joined (Some v) (Some b) = Some (record { var = v; behind = b })
 joined a b = None
 
+-- the byte after all digits of a word is its sign
 pub last_of : (digits : List ℕ) (sign : ℕ) → get_or (digits ++ sign ∷ []) (length digits) 0 ≡ sign
 last_of [] sign = refl
 last_of (d ∷ digits) sign = last_of digits sign
 
+-- a word that is digits and a sign spells the point of their number and side
 pub spelt_joined : (word digits : List ℕ) (sign : ℕ) → word ≡ digits ++ sign ∷ [] → spelt_point word ≡ joined (number_of digits) (side_of sign)
 spelt_joined word digits sign is =
     ap spelt_point is ∙ ap₂ made front last ∙ by_tests (is_number digits) (sign == 43) (sign == 45)
@@ -58,6 +61,7 @@ spelt_joined word digits sign is =
     by_tests false false true = refl
     by_tests false false false = refl
 
+-- an empty word spells no point
 pub no_digits : spelt_point [] ≡ None
 no_digits = refl
 
@@ -66,6 +70,7 @@ no_digits = refl
 abbrev cut_point : List ℕ → Point
 cut_point w = clamped_point (point_of w)
 
+-- a word that spells a point adds it to those read before
 pub point_pushed : (at : ℕ) (points : List Point) (word : List ℕ) (words : List (List ℕ)) (p : Point) → spelt_point word ≡ Some p
     → onto points (spelt_at at (word ∷ words)) ≡ onto (points ++ p ∷ []) (spelt_at at words)
 point_pushed at points word words p is = by_tests (is_point word) is (list_all is_point words)
@@ -78,6 +83,7 @@ point_pushed at points word words p is = by_tests (is_point word) is (list_all i
         let same : cut_point word ≡ p = cc in
         ap (λ (q : Point). Ok (points ++ q ∷ map cut_point words)) same ∙ ap (λ (ps : List Point). Ok ps) (sym (append_assoc points (p ∷ []) (map cut_point words)))
 
+-- a word that spells no point is a fault of the line
 pub point_refused : (at : ℕ) (points : List Point) (word : List ℕ) (words : List (List ℕ)) → spelt_point word ≡ None
     → onto points (spelt_at at (word ∷ words)) ≡ Err (BadLine at)
 point_refused at points word words is = by_test (is_point word) is
@@ -87,6 +93,7 @@ point_refused at points word words is = by_test (is_point word) is
     by_test true e = absurd (cc)
     by_test false e = refl
 
+-- what is read after no points is what is read
 pub onto_nothing : (r : Result (List Point) CertError) → onto [] r ≡ r
 onto_nothing (Ok ps) = refl
 onto_nothing (Err e) = refl
@@ -119,8 +126,10 @@ routed_sized at ws = by_test (list_all is_point ws)
     by_test true = by_size (are_small (map point_of ws)) refl
         ∙ ap (λ (s : Bool). cond s (Ok (map cut_point ws)) (Err (TooLarge at))) (sym (small_cut ws))
 
+-- a route whose words all spell points is these, where their numbers are small
 pub routed_points : (at : ℕ) (ws : List (List ℕ)) (points : List Point) → spelt_at at ws ≡ Ok points → routed at (route_of ws) ≡ sized_points at points
 routed_points at ws points is = routed_sized at ws ∙ ap (sized at) is
 
+-- a fault of the words of a route is that of its line
 pub routed_fault : (at : ℕ) (ws : List (List ℕ)) (e : CertError) → spelt_at at ws ≡ Err e → routed at (route_of ws) ≡ Err e
 routed_fault at ws e is = routed_sized at ws ∙ ap (sized at) is

@@ -34,10 +34,12 @@ times-push g x xs ys moved =
     let sums = sum_by_pushed (λ (y : Reverse ℕ). cond (nat_eq g y.0) 1 0) x xs ys moved in
     omega (arith, sums)
 
+-- a pop makes the heap have the popped number once less, and any other as often
 pub times-pop : (g : ℕ) (x : Reverse ℕ) (xs ys : List (Reverse ℕ)) → IsPermutation xs (x ∷ ys) → times g ys + number (nat_eq g x.0) ≡ times g xs
 unfolding times
 times-pop g x xs ys moved = sum_by_popped (λ (y : Reverse ℕ). cond (nat_eq g y.0) 1 0) x xs ys moved
 
+-- an empty heap has no number
 pub times-nil : (g : ℕ) → times g [] ≡ 0
 unfolding times
 times-nil g = refl
@@ -46,9 +48,11 @@ times-cons : (g : ℕ) (x : Reverse ℕ) (xs : List (Reverse ℕ)) → times g (
 unfolding times
 times-cons g x xs = sum_by-cons (λ (y : Reverse ℕ). cond (nat_eq g y.0) 1 0) x xs
 
+-- a test that passes counts 1
 pub number-true : (b : Bool) → b ≡ true → number b ≡ 1
 number-true b e = ap number e
 
+-- a test that fails counts 0
 pub number-false : (b : Bool) → b ≡ false → number b ≡ 0
 number-false b e = ap number e
 
@@ -63,6 +67,7 @@ not_below x y e = elim (cases_lt y x) [
   | inr above ↦ above
 ]
 
+-- no number of the heap is smaller than the one on its top
 pub top_is_first : (x : Reverse ℕ) (xs : List (Reverse ℕ)) → IsUpperBound (λ a b. nat_cmp b.0 a.0) x xs → (g : ℕ) → 0 < times g xs → x.0 ≤ g
 top_is_first x [] bound g some = absurd (omega (arith, times-nil g))
 top_is_first x (y ∷ ys) bound g some = elim (cases_eq g y.0) [
@@ -74,9 +79,11 @@ top_is_first x (y ∷ ys) bound g some = elim (cases_eq g y.0) [
 pub Gains-none : (test : ℕ → Bool) (xs : List (Reverse ℕ)) → ((g : ℕ) → test g ≡ false) → Gains test xs xs
 Gains-none test xs fails = record { each = λ g. omega (arith, number-false (test g) (fails g)) }
 
+-- a heap gains the same by a test that agrees everywhere
 pub Gains-same : (test other : ℕ → Bool) (old new : List (Reverse ℕ)) → ((g : ℕ) → other g ≡ test g) → Gains test old new → Gains other old new
 Gains-same test other old new same gains = record { each = λ g. gains.each g ∙ ap (λ (b : Bool). times g old + number b) (sym (same g)) }
 
+-- with a number pushed after them a heap gains the numbers that pass, and this one, which didn't
 pub Gains-push : (test other : ℕ → Bool) (old mid new : List (Reverse ℕ)) (x : Reverse ℕ) → ((g : ℕ) → number (other g) ≡ number (test g) + number (nat_eq g x.0))
     → Gains test old mid → IsPermutation (x ∷ mid) new → Gains other old new
 Gains-push test other old mid new x more gains moved = record { each = λ g. omega (arith, gains.each g, times-push g x mid new moved, more g) }
@@ -92,6 +99,7 @@ from-below : (c g : ℕ) (test : ℕ → Bool) → g < c → from c test g ≡ f
 from-below c g test below = and_left (nat_le c g) (test g) (lt-leb c g below)
 
 module _ (c r : ℕ) (test : ℕ → Bool) (within : c ≤ r) (gap : (g : ℕ) → c ≤ g → g < r → test g ≡ false) where
+  -- where the number past a gap doesn't pass, those that pass from the gap on are those past it
   pub from_skip : test r ≡ false → (g : ℕ) → from c test g ≡ from (r + 1) test g
   from_skip fails g = elim (cases_lt r g) [
     | inl above ↦ from-at c g test (omega arith) ∙ sym (from-at (r + 1) g test (omega arith))
@@ -104,6 +112,7 @@ module _ (c r : ℕ) (test : ℕ → Bool) (within : c ≤ r) (gap : (g : ℕ) �
     ]
   ]
 
+  -- where the number past a gap passes, it is one of those that pass from the gap on, and the others are past it
   pub from_push : test r ≡ true → (g : ℕ) → number (from c test g) ≡ number (from (r + 1) test g) + number (nat_eq g r)
   from_push passes g = elim (cases_eq g r) [
     | inl same ↦ omega (
@@ -133,9 +142,11 @@ before-at c g test below = ap (λ (b : Bool). b && test g) (lt-ltb g c below)
 before-past : (c g : ℕ) (test : ℕ → Bool) → c ≤ g → before c test g ≡ false
 before-past c g test past = and_left (nat_lt g c) (test g) (le-ltb g c past)
 
+-- no number below 0 passes
 pub before_none : (test : ℕ → Bool) (g : ℕ) → before 0 test g ≡ false
 before_none test g = before-past 0 g test (omega arith)
 
+-- a number that doesn't pass adds none to those below it that do
 pub before_skip : (r : ℕ) (test : ℕ → Bool) → test r ≡ false → (g : ℕ) → before (r + 1) test g ≡ before r test g
 before_skip r test fails g = elim (cases_lt g r) [
   | inl less ↦ before-at (r + 1) g test (omega arith) ∙ sym (before-at r g test less)
@@ -145,6 +156,7 @@ before_skip r test fails g = elim (cases_lt g r) [
   ]
 ]
 
+-- a number that passes comes to those below it that do
 pub before_push : (r : ℕ) (test : ℕ → Bool) → test r ≡ true → (g : ℕ) → number (before (r + 1) test g) ≡ number (before r test g) + number (nat_eq g r)
 before_push r test passes g = elim (cases_lt g r) [
   | inl less ↦ omega (arith, ap number (before-at (r + 1) g test (omega arith)), ap number (before-at r g test less), number-false (nat_eq g r) (ne_eqb g r (λ same. omega arith)))
@@ -164,6 +176,7 @@ before_push r test passes g = elim (cases_lt g r) [
   ]
 ]
 
+-- where nothing passes from n on, all that pass are below n
 pub before_all : (n : ℕ) (test : ℕ → Bool) → ((g : ℕ) → n ≤ g → test g ≡ false) → (g : ℕ) → test g ≡ before n test g
 before_all n test past g = elim (cases_lt g n) [
   | inl less ↦ sym (before-at n g test less)
@@ -175,11 +188,13 @@ pub may_follow-start : (gates : List Reads) (g : ℕ) (reads : Reads) → slice_
 unfolding may_follow
 may_follow-start gates g reads e = ap (λ (o : Option Reads). are_met (has []) o && not (has [] g)) e ∙ and-true (are_met (λ h. false) (Some reads))
 
+-- past the file's last gate no gate may follow
 pub may_follow-past : (gates : List Reads) (placed : List ℕ) (g : ℕ) → length gates ≤ g → may_follow gates placed g ≡ false
 may_follow-past gates placed g past = false_from_ne_true (may_follow gates placed g) (λ e.
     let f = follows_where_true gates placed g e in
     omega (arith, f.below))
 
+-- the numbers below n and n itself are those below n + 1
 pub range-push : (n : ℕ) → range_with_len 0 (n + 1) ≡ range_with_len 0 n ++ n ∷ []
 range-push n = sym (map-id (range_with_len 0 (n + 1))) ∙ map-range_with_len_more (λ (x : ℕ). x) 0 n n (omega arith) ∙ ap (λ (xs : List ℕ). xs ++ n ∷ []) (map-id (range_with_len 0 n))
 
@@ -197,10 +212,12 @@ released-unread gates side marks p g other =
     and_left (is_gate (read_by side gates g) p) (are_met (mark_of marks) (slice_get gates g))
     (false_from_ne_true (is_gate (read_by side gates g) p) (λ e. other (is_gate-some (read_by side gates g) p e)))
 
+-- between the link to a reader and that reader no gate is released
 pub released-gap : (gates : List Reads) (side : Side) (marks : List Bool) (p r c : ℕ) → IsLast (read_by side gates) p r c
     → (g : ℕ) → c ≤ g → g < r → is_released gates side marks p g ≡ false
 released-gap gates side marks p r c last g above below = released-unread gates side marks p g (last.none g above below)
 
+-- from the last link on no gate is released
 pub released-none : (gates : List Reads) (side : Side) (marks : List Bool) (p c : ℕ) → IsLast (read_by side gates) p (length gates) c
     → (g : ℕ) → from c (is_released gates side marks p) g ≡ false
 released-none gates side marks p c last g = elim (cases_lt g c) [
@@ -211,12 +228,14 @@ released-none gates side marks p c last g = elim (cases_lt g c) [
   ])
 ]
 
+-- a reader of the placed gate is released where all its fan-ins are marked
 pub released-at : (gates : List Reads) (side : Side) (marks : List Bool) (p r : ℕ) (reads : Reads) → read_by side gates r ≡ Some p → slice_get gates r ≡ Some reads
     → is_released gates side marks p r ≡ are_met (mark_of marks) (Some reads)
 unfolding is_released
 released-at gates side marks p r reads reader there =
     ap (λ (b : Bool). b && are_met (mark_of marks) (slice_get gates r)) (is_gate-at (read_by side gates r) p reader) ∙ ap (are_met (mark_of marks)) there
 
+-- what passes from 0 on is all that passes
 pub from-all : (test : ℕ → Bool) (g : ℕ) → test g ≡ from 0 test g
 from-all test g = sym (from-at 0 g test (omega arith))
 
@@ -370,6 +389,7 @@ pub popped_follows : (gates : List Reads) (placed : List ℕ) (marks : List Bool
 popped_follows gates placed marks ready rest x state moved =
     number_true (may_follow gates placed x.0) (omega (arith, times-pop x.0 x ready rest moved, number-true (nat_eq x.0 x.0) (eq-eqb x.0 x.0 refl), state.each x.0))
 
+-- what comes off the heap's top is the next gate of the order
 pub popped_next : (gates : List Reads) (placed : List ℕ) (marks : List Bool) (ready rest : List (Reverse ℕ)) (x : Reverse ℕ) → IsState gates placed marks ready
     → IsPermutation ready (x ∷ rest) → IsUpperBound (λ a b. nat_cmp b.0 a.0) x ready → IsNext gates placed x.0
 popped_next gates placed marks ready rest x state moved bound = record {
@@ -414,11 +434,13 @@ rest_then gates placed more g next =
     let f = follows_where_true gates placed g next.follows in
     order_from-more gates placed more (Some g) (first_below_is (may_follow gates placed) (length gates) g (record { below = f.below; passes = next.follows; least = next.first }))
 
+-- where the heap is empty and a gate is still wanted, there is no order
 pub rest_none : (gates : List Reads) (placed : List ℕ) (marks : List Bool) (more : ℕ) → IsState gates placed marks [] → order_from gates placed (suc more) ≡ None
 rest_none gates placed marks more state =
     order_from-more gates placed more None (first_below_none (may_follow gates placed) (length gates) (λ h less.
     false_from_ne_true (may_follow gates placed h) (λ may. omega (arith, state.each h, times-nil h, number-true (may_follow gates placed h) may))))
 
+-- a table of no marks marks no gate
 pub unmarked : (n : ℕ) (marks : List Bool) → marks ≡ replicate n false → (h : ℕ) → mark_of marks h ≡ false
 unmarked n marks same h = ap (λ (xs : List Bool). mark_of xs h) same ∙ elim (cases_lt h n) [
   | inl inside ↦ get_or-replicate n h false false inside

@@ -47,6 +47,7 @@ module _ {B : Type 0} (E : Type 0) (P : ℕ → B → Type 0) where
 pub in_blocks : (n b : ℕ) → 256 * b < n → b < n / 256 + min 1 (n % 256)
 in_blocks n b h = omega arith
 
+-- a block below the number of blocks begins at the sequences' end at the latest
 pub of_blocks : (n b : ℕ) → b < n / 256 + min 1 (n % 256) → 256 * b ≤ n
 of_blocks n b h = omega arith
 
@@ -73,5 +74,6 @@ pushed P xs x n long before last t h =
           (subst (P n) (sym (ap (slice_get (xs ++ x ∷ [])) (sym long) ∙ slice_get-last xs x)) last)
     ] refl
 
+-- a block below the number of blocks begins at a sequence
 pub inside_blocks : (n b : ℕ) → b < n / 256 + min 1 (n % 256) → 256 * b < n
 inside_blocks n b h = omega arith

@@ -15,6 +15,7 @@ use Rattle.lane_sim.specs.Blocks.{in_lane, row_in, block_of, IsBlock}
 use Rattle.lane_sim.specs.Traces.{value_in, row_of}
 use Rattle.lane_sim.specs.Comparing.{AreAlike, HaveAsMany, IsFirstIn, AreSame, Compares, HaveRow, packed_rows, rows_by, steps_of}
 
+-- as many lists, each as long as the one at its place, have the same lengths
 pub same_sizes : {X : Type 0} (xs ys : List (List X)) → length xs ≡ length ys → ((i : ℕ) → i < length xs → length (get_or xs i []) ≡ length (get_or ys i []))
     → map length xs ≡ map length ys
 same_sizes [] [] long each = refl
@@ -22,6 +23,7 @@ same_sizes [] (y ∷ ys) long each = absurd (omega arith)
 same_sizes (x ∷ xs) [] long each = absurd (omega arith)
 same_sizes (x ∷ xs) (y ∷ ys) long each = ap₂ (λ (n : ℕ) ns. n ∷ ns) (each 0 (omega arith)) (same_sizes xs ys (omega arith) (λ i h. each (suc i) (omega arith)))
 
+-- the length at a place is that of the list at that place
 pub size_at : {X : Type 0} (xs : List (List X)) (k : ℕ) → get_or (map length xs) k 0 ≡ length (get_or xs k [])
 size_at [] k = refl
 size_at (x ∷ xs) zero = refl
@@ -37,6 +39,7 @@ rows_same k (x ∷ xs) (y ∷ ys) long each = ap₂ (λ (b : Bool) bs. b ∷ bs)
 row_at : (k : ℕ) (xs : List (List ℕ)) (q : ℕ) → q < length xs → slice_get (row_in k xs) q ≡ Some (lane (get_or xs q []) k)
 row_at k xs q h = slice_get-map (λ lanes. lane lanes k) xs q ∙ ap (λ o. elim o [ None ↦ None | Some lanes ↦ Some (lane lanes k) ]) (slice_get-get_or xs q [] h)
 
+-- where lanes differ at a place, and are the same before it, rows in that lane first differ there
 pub first_in_row : (k : ℕ) (xs ys : List (List ℕ)) (p : ℕ) → length ys ≡ length xs → p < length xs
     → lane (get_or xs p []) k ≢ lane (get_or ys p []) k → ((q : ℕ) → q < p → lane (get_or xs q []) k ≡ lane (get_or ys q []) k)
     → IsFirstIn (row_in k xs) (row_in k ys) p
@@ -45,6 +48,7 @@ first_in_row k xs ys p long within differs before = record {
   before = λ q h. row_at k xs q (omega arith) ∙ ap Some (before q h) ∙ sym (row_at k ys q (omega arith));
 }
 
+-- two bits that aren't equal by the test differ
 pub beq_apart : (a b : Bool) → not (beq a b) ≡ true → a ≢ b
 beq_apart true true differs same = false≢true differs
 beq_apart true false differs same = false≢true (sym same)
@@ -118,6 +122,7 @@ module _ (c d : Netlist) (sequences others : List InputSequence) (b : ℕ) (xs y
       subst (λ w. t < steps_of sequences w → rows_by c sequences w t ≡ rows_by d others w t) place
       (λ l. same_at (s - 256 * b) t inside l (same (s - 256 * b) t (omega arith) (omega arith) (omega (arith, l, steps_same sequences (s - 256 * b) (omega (arith, inside, short))))))
 
+  -- what comparing the rows of two blocks finds is what comparing their sequences finds, numbered from the block's first on
   pub compared : (found : Option Place) → Compares 0 (length (block_of sequences b)) (steps_of (block_of sequences b)) (packed_rows xs) (packed_rows ys) found
       → Compares (256 * b) (256 * b + length (block_of sequences b)) (steps_of sequences) (rows_by c sequences) (rows_by d others)
       (option_map (λ p. record { sequence = 256 * b + p.sequence; step = p.step; place = p.place }) found)

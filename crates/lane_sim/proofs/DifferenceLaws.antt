@@ -24,6 +24,7 @@ pub where_none : {A : Type 0} (o : Option A) (P : Type 0) (Q : A → Type 0) →
 where_none None P Q all = all
 where_none (Some x) P Q all = tt
 
+-- an answer that is one has what a search says of one
 pub where_some : {A : Type 0} (o : Option A) (P : Type 0) (Q : A → Type 0) → MatchOption o P Q → IfSome o Q
 where_some None P Q all = tt
 where_some (Some x) P Q all = all
@@ -45,10 +46,12 @@ module _ (sequences : List InputSequence) (f g : ℕ → ℕ → List Bool) (fou
   same_where_none s t inside step none =
       in_block (s / 256) None none (omega arith) s t (omega arith) (omega (arith, part_end (s / 256))) step
 
+  -- where no block has a difference, all sequences have the same rows
   pub none_found : ((i : ℕ) → i < length found → get_or found i None ≡ None) → ((i : ℕ) → 256 * i < length sequences → i < length found)
       → AreSame 0 (length sequences) (steps_of sequences) f g
   none_found none all s t low high step = same_where_none s t high step (none (s / 256) (all (s / 256) (omega arith)))
 
+  -- where no block before has a difference, that of the next block is the first of all sequences
   pub some_found : (p : Place) (i : ℕ) → 256 * i < length sequences → get_or found i None ≡ Some p → ((j : ℕ) → j < i → get_or found j None ≡ None)
       → IsFirstOf 0 (length sequences) (steps_of sequences) f g p
   some_found p i inside here before =
@@ -109,6 +112,7 @@ module _ (c : Netlist) (sequences : List InputSequence) where
       ap (λ o. then_at (then_at o t) p) (slice_get-map (λ r. map (row_of c r) (range_with_len 0 (length r.steps))) sequences s
       ∙ ap (option_map (λ r. map (row_of c r) (range_with_len 0 (length r.steps)))) (slice_get-get_or sequences s (record { choice = []; steps = [] }) inside))
 
+  -- at a step that a sequence has, the trace has the circuit's row
   pub at_step : (s t p : ℕ) → s < length sequences → t < steps_of sequences s → at_place (trace c sequences) s t p ≡ slice_get (rows_by c sequences s t) p
   at_step s t p inside step =
       let n = steps_of sequences s in
@@ -118,6 +122,7 @@ module _ (c : Netlist) (sequences : List InputSequence) where
       ∙ ap (λ o. then_at o p) (slice_get-map (rows_by c sequences s) (range_with_len 0 n) t
       ∙ ap (option_map (rows_by c sequences s)) (slice_get-get_or (range_with_len 0 n) t 0 (omega arith) ∙ ap Some number))
 
+  -- at a step that a sequence doesn't have, the trace has nothing
   pub at_no_step : (s t p : ℕ) → s < length sequences → steps_of sequences s ≤ t → at_place (trace c sequences) s t p ≡ None
   at_no_step s t p inside past =
       let n = steps_of sequences s in

@@ -38,22 +38,26 @@ and_bit neg_a neg_b a b i small_a small_b within =
     ∙ one_of_min (bit_at (negated_if neg_a a) i) (bit_at (negated_if neg_b b) i) (bit_at-lt (negated_if neg_a a) i) (bit_at-lt (negated_if neg_b b) i)
     ∙ ap₂ (λ p q. p && q) (negated_bit neg_a a i small_a within) (negated_bit neg_b b i small_b within)
 
+-- in words of zeros each lane is 0
 pub lane-none : (k : ℕ) → k < 256 → lane (replicate 4 0) k ≡ false
 unfolding lane
 lane-none k h =
     let word : get_or (replicate 4 0) (k / 64) 0 ≡ 0 = get_or-replicate 4 (k / 64) 0 0 (omega arith) in
     ap (λ w. bit_at w (k % 64) == 1) word ∙ ap (λ x. x == 1) (bit_at-zero (k % 64))
 
+-- in words of ones each lane is 1
 pub lane-all : (k : ℕ) → k < 256 → lane (replicate 4 18446744073709551615) k ≡ true
 unfolding lane
 lane-all k h =
     let word : get_or (replicate 4 18446744073709551615) (k / 64) 0 ≡ 18446744073709551615 = get_or-replicate 4 (k / 64) 18446744073709551615 0 (omega arith) in
     ap (λ w. bit_at w (k % 64) == 1) word ∙ ap (λ x. x == 1) (bit_at_ones 64 (k % 64) (omega arith))
 
+-- the bit that is read from a word by shifting is the lane's
 pub lane-get : (words : List ℕ) (k : ℕ) → nat_eq (bit_and (get_or words (k / 64) 0 / 2 ^ (k % 64)) 1) 1 ≡ lane words k
 unfolding lane
 lane-get words k = ap (λ x. nat_eq x 1) (shr_and_one (get_or words (k / 64) 0) (k % 64))
 
+-- a lane of the AND of words, each perhaps negated, is the AND of their lanes
 pub lane-and : (neg_a neg_b : Bool) (out a b : List ℕ) (k : ℕ) → k < 256
     → get_or out (k / 64) 0 ≡ and_words neg_a neg_b (get_or a (k / 64) 0) (get_or b (k / 64) 0)
     → get_or a (k / 64) 0 < 2 ^ 64 → get_or b (k / 64) 0 < 2 ^ 64
@@ -103,6 +107,7 @@ with_value word value i = bit_or word (bool_byte value * 2 ^ i % 184467440737095
 with-false : (word i : ℕ) → with_value word false i ≡ word
 with-false word i = let none : 0 * 2 ^ i % 18446744073709551616 ≡ 0 = omega arith in ap (bit_or word) none ∙ or_zero_r word
 
+-- words with one lane's bit set to a value that is 1 have it in that lane alone, beside what they had
 pub lane-with : (words : List ℕ) (p k : ℕ) (value : Bool) → length words ≡ 4 → p < 256 → k < 256
     → lane (set words (p / 64) (with_value (get_or words (p / 64) 0) value (p % 64))) k ≡ (((k == p) && value) || lane words k)
 lane-with words p k true four inside within =
@@ -126,6 +131,7 @@ small_everywhere words small i =
       | false ↦ λ e. let past : get_or words i 0 ≡ 0 = get_or_past words i 0 (ltb-false i (length words) e) in omega (arith, past)
     ] refl
 
+-- four words of 64 bits that are equal are words of lanes
 pub AreLanes-replicate : (word : ℕ) → word < 2 ^ 64 → AreLanes (replicate 4 word)
 AreLanes-replicate word small = record {
   four = length-replicate 4 word;
@@ -134,6 +140,7 @@ AreLanes-replicate word small = record {
       let same : get_or (replicate 4 word) i 0 ≡ word = get_or-replicate 4 i word 0 (omega arith) in omega arith);
 }
 
+-- the AND of words of lanes, each perhaps negated, are words of lanes
 pub AreLanes-and : (neg_a neg_b : Bool) (out a b : List ℕ) → length out ≡ 4 → AreLanes a
     → ((i : ℕ) → i < length out → get_or out i 0 ≡ and_words neg_a neg_b (get_or a i 0) (get_or b i 0)) → AreLanes out
 AreLanes-and neg_a neg_b out a b four lanes each = record {
@@ -154,6 +161,7 @@ AreLanes-with_one words q i within lanes = record {
   ] refl;
 }
 
+-- words of lanes with one bit set, or none, are words of lanes
 pub AreLanes-with : (words : List ℕ) (q i : ℕ) (value : Bool) → q < 4 → AreLanes words → AreLanes (set words q (with_value (get_or words q 0) value i))
 AreLanes-with words q i true within lanes = AreLanes-with_one words q i within lanes
 AreLanes-with words q i false within lanes =

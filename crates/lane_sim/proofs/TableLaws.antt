@@ -24,6 +24,7 @@ no_latch = record { next = 0; reset = Zero }
 pub free_before-yes : (g : Graph) (j : ℕ) (latch : Latch) → slice_get g.latches j ≡ Some latch → is_free latch ≡ true → free_before g (j + 1) ≡ free_before g j + 1
 free_before-yes g j latch at free = count_by_more_yes is_free g.latches j latch (slice_get_within g.latches j latch at) (ap is_free (get_or_from_slice_get g.latches j latch latch at) ∙ free)
 
+-- past a known latch there are as many free latches as before it
 pub free_before-no : (g : Graph) (j : ℕ) (latch : Latch) → slice_get g.latches j ≡ Some latch → is_free latch ≡ false → free_before g (j + 1) ≡ free_before g j
 free_before-no g j latch at known = count_by_more_no is_free g.latches j latch (slice_get_within g.latches j latch at) (ap is_free (get_or_from_slice_get g.latches j latch latch at) ∙ known)
 
@@ -143,9 +144,11 @@ known_reset Zero h = refl
 known_reset One h = refl
 known_reset Free h = absurd (h refl)
 
+-- a latch whose reset isn't that of a free one is known
 pub known_unless_free : (latch : Latch) → latch.reset ≢ Free → is_free latch ≡ false
 known_unless_free latch h = known_reset latch.reset h
 
+-- a latch whose reset is that of a free one is free
 pub free_where_free : (latch : Latch) → latch.reset ≡ Free → is_free latch ≡ true
 free_where_free latch h = ap (λ (r : Reset). elim r as (λ _. Bool) [ Zero ↦ false | One ↦ false | Free ↦ true ]) h
 

@@ -60,6 +60,7 @@ module _ (c : Netlist) (sequences : List InputSequence) (blocks : List (List (Li
       (subst (λ (r : InputSequence). t < length r.steps → IsSomeAnd (slice_get rows t) (λ row. row_in (s % 256) row ≡ row_of c r t)) here
       (h.each (s % 256) t long) within))
 
+  -- what the blocks hold of all sequences is the circuit's trace
   pub recorded-trace : (steps : List ℕ) → steps ≡ map (λ r. length r.steps) sequences → recorded steps blocks ≡ trace c sequences
   unfolding recorded trace
   recorded-trace steps lengths =
@@ -75,6 +76,7 @@ all_of_lists : (P : ℕ → Type 0) (xss : List (List ℕ)) → All (All P) xss 
 all_of_lists P [] each = λ k d h. absurd (omega arith)
 all_of_lists P (xs ∷ xss) each = All-append P xs (flat_map (λ ys. ys) xss) (each 0 xs (omega arith)) (all_of_lists P xss (λ k d h. each (suc k) d (omega arith)))
 
+-- the literals of a circuit's properties are the graph's
 pub property_literals-in : (c : Netlist) → IsNetlist c → AreLiteralsOf c.aig (property_literals c.props)
 property_literals-in c valid =
     let p = c.props in
@@ -97,6 +99,7 @@ pub no_step : (k n t p : ℕ) (rows : List (List (List ℕ))) → min n (length 
 no_step k n t p rows past =
     ap (λ o. then_at o p) (slice_get_past (map (row_in k) (take n rows)) t (omega (arith, length-map (take n rows) (row_in k), length-take n rows)))
 
+-- what a sequence's row has at a place is the lane of the block's row there
 pub in_step : (k n t p : ℕ) (rows : List (List (List ℕ))) (row : List (List ℕ)) → t < n → slice_get rows t ≡ Some row
     → then_at (slice_get (map (row_in k) (take n rows)) t) p ≡ option_map (λ lanes. lane lanes k) (slice_get row p)
 in_step k n t p rows row within at =
@@ -111,6 +114,7 @@ recorded_from blocks a (n ∷ steps) (suc s) =
     let place : a + 1 + s ≡ a + suc s = omega arith in
     recorded_from blocks (a + 1) steps s ∙ ap (λ (w : ℕ). option_map (λ m. steps_in blocks w m) (slice_get steps s)) place
 
+-- what is recorded of a sequence are its steps from the blocks
 pub recorded-at : (steps : List ℕ) (blocks : List (List (List (List ℕ)))) (s : ℕ)
     → slice_get (recorded steps blocks) s ≡ option_map (λ n. steps_in blocks s n) (slice_get steps s)
 unfolding recorded
@@ -120,6 +124,7 @@ recorded-at steps blocks s =
 
 -- ---- the sizes of a trace
 
+-- each sequence is recorded once
 pub recorded-length : (steps : List ℕ) (blocks : List (List (List (List ℕ)))) → length (recorded steps blocks) ≡ length steps
 unfolding recorded
 recorded-length steps blocks = length-map (enumerate_from 0 steps) (λ e. steps_in blocks e.0 e.1) ∙ length-enumerate_from 0 steps
@@ -136,15 +141,19 @@ recorded-none steps blocks s none =
     sym (unwrap_or-slice_get (recorded steps blocks) s [])
     ∙ ap (λ o. unwrap_or o []) (recorded-at steps blocks s ∙ ap (option_map (λ m. steps_in blocks s m)) none)
 
+-- of a sequence that there isn't no step is recorded
 pub recorded-past : (steps : List ℕ) (blocks : List (List (List (List ℕ)))) (s : ℕ) → length steps ≤ s → get_or (recorded steps blocks) s [] ≡ []
 recorded-past steps blocks s past = recorded-none steps blocks s (slice_get_past steps s past)
 
+-- of a sequence as many steps come from its block as it has, and no more than the block has
 pub steps_in-length : (blocks : List (List (List (List ℕ)))) (s n : ℕ) → length (steps_in blocks s n) ≡ min n (length (get_or blocks (s / 256) []))
 steps_in-length blocks s n = length-map (take n (get_or blocks (s / 256) [])) (row_in (s % 256)) ∙ length-take n (get_or blocks (s / 256) [])
 
 -- a step that a sequence has, in its block
 pub record InBlock (blocks : List (List (List (List ℕ)))) (s t : ℕ) (row : List Bool) : Type 0 where
+  -- the block has the step
   pub within : t < length (get_or blocks (s / 256) [])
+  -- the row is the sequence's lane of the block's
   pub row_is : row ≡ row_in (s % 256) (get_or (get_or blocks (s / 256) []) t [])
 
 in_block : (blocks : List (List (List (List ℕ)))) (s t n : ℕ) → t < length (steps_in blocks s n) → InBlock blocks s t (get_or (steps_in blocks s n) t [])
@@ -164,6 +173,7 @@ in_block_of steps blocks s t (Some n) at h =
     let here = recorded-steps steps blocks s n at in
     subst (λ (rows : List (List Bool)). InBlock blocks s t (get_or rows t [])) (sym here) (in_block blocks s t n (omega (arith, h, ap length here)))
 
+-- a step that is recorded of a sequence is in the sequence's block, in its lane
 pub recorded-row : (steps : List ℕ) (blocks : List (List (List (List ℕ)))) (s t : ℕ) → t < length (get_or (recorded steps blocks) s [])
     → InBlock blocks s t (get_or (get_or (recorded steps blocks) s []) t [])
 recorded-row steps blocks s t h = in_block_of steps blocks s t (slice_get steps s) refl h

@@ -21,6 +21,7 @@ pub xor_flip : (negated : Bool) (x : ℕ) → x < 2 ^ 64 → bit_xor x (cond neg
 xor_flip true x small = xor_ones x small
 xor_flip false x small = xor_zero_r x
 
+-- the AND of words XORed with ones where they are to be negated is that of the words, each perhaps negated
 pub and_flips : (neg_a neg_b : Bool) (a b : ℕ) → a < 2 ^ 64 → b < 2 ^ 64
     → bit_and (bit_xor a (cond neg_a 18446744073709551615 0)) (bit_xor b (cond neg_b 18446744073709551615 0)) ≡ and_words neg_a neg_b a b
 and_flips neg_a neg_b a b small_a small_b = ap₂ bit_and (xor_flip neg_a a small_a) (xor_flip neg_b b small_b)
@@ -43,6 +44,7 @@ xor_length xs at flip room =
 abbrev pub and_vectors : List ℕ → List ℕ → ℕ → ℕ → ℕ → List ℕ
 and_vectors xs ys at p q = zip2 bit_and (zip2 bit_xor (chunk at 4 xs) (replicate 4 p)) (zip2 bit_xor (chunk at 4 ys) (replicate 4 q))
 
+-- each word of the AND of four words is the AND of the two words there, each XORed with its own
 pub and_vectors-lane : (xs ys : List ℕ) (at p q j : ℕ) → at + 4 ≤ length xs → at + 4 ≤ length ys → j < 4
     → get_or (and_vectors xs ys at p q) j 0 ≡ bit_and (bit_xor (get_or xs (at + j) 0) p) (bit_xor (get_or ys (at + j) 0) q)
 and_vectors-lane xs ys at p q j room_x room_y within =
@@ -51,6 +53,7 @@ and_vectors-lane xs ys at p q j room_x room_y within =
     get_or-zip2 bit_and (zip2 bit_xor (chunk at 4 xs) (replicate 4 p)) (zip2 bit_xor (chunk at 4 ys) (replicate 4 q)) j 0 0 0 (omega arith) (omega arith)
     ∙ ap₂ bit_and (xor_lane xs at p j room_x within) (xor_lane ys at q j room_y within)
 
+-- the AND of four words is four words
 pub and_vectors-length : (xs ys : List ℕ) (at p q : ℕ) → at + 4 ≤ length xs → at + 4 ≤ length ys → length (and_vectors xs ys at p q) ≡ 4
 and_vectors-length xs ys at p q room_x room_y =
     length-zip2 bit_and _ _ (xor_length xs at p room_x ∙ sym (xor_length ys at q room_y)) ∙ xor_length xs at p room_x

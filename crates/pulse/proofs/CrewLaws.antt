@@ -28,6 +28,7 @@ all_read net labels qs ps was rs now ok ew en cut len reads =
     subst (λ (x : List PushPart). AreRead net labels qs x) (sym en)
     (ready net (node_count net) labels qs was rs ok refl (subst (λ (x : List PushPart). ArePushParts net 0 x) (sym ew) cut) len (wholes_read net labels (cells_of qs) was rs reads))
 
+-- together the workers of a whole Read walk as many rows as there are active nodes
 pub all_walked : (net : FlowNet) (labels : List ℕ) (qs : List FlowPart) (ps was rs now : List PushPart) → was ≡ ps → now ≡ rs
     → ArePushParts net 0 ps → length rs ≡ length was → WholesRead net labels (cells_of qs) was rs → rows_walked now ≡ active_below net labels (cells_of qs) (node_count net)
 all_walked net labels qs ps was rs now ew en cut len reads =
@@ -41,33 +42,40 @@ all_numbered net labels qs ps was rs now ew en len reads n =
     subst (λ (x : List PushPart). PushesNumbered x) (sym en)
     (numbered_read net labels 0 (node_count net) (cells_of qs) was rs len (wholes_read net labels (cells_of qs) was rs reads) (subst (λ (x : List PushPart). PushesNumbered x) (sym ew) n))
 
+-- after a whole Read each part can be delivered, with no number leaving its type
 pub all_safe : (net : FlowNet) (m : ℕ) (labels : List ℕ) (qs was : List FlowPart) (rs : List PushPart) → IsFlowNet net → m ≡ node_count net → was ≡ qs → AreFlowParts net 0 qs → IsSound net (pairs net (cells_of qs) labels)
     → AreRead net labels qs rs → PartsSafe net (values_of rs) 0 m was
 all_safe net m labels qs was rs ok em ew cut sound r =
     subst (λ (x : List FlowPart). PartsSafe net (values_of rs) 0 m x) (sym ew) (ready_safe net m labels qs rs ok em cut sound r)
 
+-- a delivery over the elements of vectors is one over the parts that they are
 pub all_delivered : (net : FlowNet) (labels xs : List ℕ) (qs was us now : List FlowPart) → was ≡ qs → now ≡ us → WholesDelivered net labels xs was us → WholesDelivered net labels xs qs now
 all_delivered net labels xs qs was us now ew en gives =
     subst (λ (x : List FlowPart). WholesDelivered net labels xs qs x) (sym en) (subst (λ (x : List FlowPart). WholesDelivered net labels xs x us) ew gives)
 
+-- parts that were delivered whole were delivered from node 0 up to the last one
 pub parts_delivered : (net : FlowNet) (labels xs : List ℕ) (qs us : List FlowPart) → WholesDelivered net labels xs qs us → PartsDelivered net labels xs 0 (node_count net) qs us
 parts_delivered net labels xs qs us gives i d h = (gives i d h).is_delivered
 
 -- ---- a delivery over parts that were cut anew
 
+-- a sound state stays sound in parts that were cut anew
 pub sound_anew : (net : FlowNet) (labels : List ℕ) (qs us : List FlowPart) → IsFlowNet net → Agree (node_count net) (pairs net (cells_of qs) labels) (pairs net (cells_of us) labels)
     → IsSound net (pairs net (cells_of qs) labels) → IsSound net (pairs net (cells_of us) labels)
 sound_anew net labels qs us ok agree sound = sound_same net (pairs net (cells_of qs) labels) (pairs net (cells_of us) labels) ok agree sound
 
+-- pushes that were read before the parts were cut anew are right for the new parts
 pub read_anew : (net : FlowNet) (labels : List ℕ) (qs us : List FlowPart) (rs : List PushPart) → IsFlowNet net → Agree (node_count net) (pairs net (cells_of qs) labels) (pairs net (cells_of us) labels)
     → AreRead net labels qs rs → AreRead net labels us rs
 read_anew net labels qs us rs ok agree r = record { cut = r.cut; holds = hold_same net (cells_of qs) (cells_of us) labels (values_of rs) ok agree r.holds }
 
+-- after a whole delivery the parts hold a new label for each node
 pub labels_ready : (net : FlowNet) (n : ℕ) (labels xs : List ℕ) (qs us seen : List FlowPart) → n ≡ node_count net → AreFlowParts net 0 qs → length us ≡ length qs
     → WholesDelivered net labels xs qs us → seen ≡ us → AreLabelled n 0 seen
 labels_ready net n labels xs qs us seen en cut len gives es =
     subst (λ (x : List FlowPart). AreLabelled n 0 x) (sym es) (labelled_parts net n us en (cut_after_give net labels xs 0 (node_count net) 0 qs us cut len (parts_delivered net labels xs qs us gives)))
 
+-- after a whole Read, a whole delivery and the turn of the labels, the parts hold the state after the pulse
 pub all_pulsed : (net : FlowNet) (labels next : List ℕ) (qs ms us seen : List FlowPart) (rs : List PushPart) → IsFlowNet net → AreFlowParts net 0 ms → Agree (node_count net) (pairs net (cells_of qs) labels) (pairs net (cells_of ms) labels)
     → IsSound net (pairs net (cells_of qs) labels) → AreRead net labels qs rs → length us ≡ length ms → WholesDelivered net labels (values_of rs) ms us → seen ≡ us
     → length labels ≡ node_count net → length next ≡ length labels → ((v : ℕ) → v < length labels → slice_index next v ≡ slice_index (cells_of seen).next v)

@@ -15,6 +15,7 @@ use Rattle.pulse.specs.Conditions.{IsFlowOf, ArePushesOf, is_marked}
 use Rattle.pulse.specs.Phases.{RangeRead, RangeDelivered}
 use Rattle.pulse.proofs.FlowLaws.{parts_of, flow_with, pushes_with}
 
+-- parts read over a range of nodes are the pushes of a flow read over that range
 pub range_read : (net : FlowNet) (first end : ℕ) (qs seen : List FlowPart) (ls lseen : List ℕ) (ds : List Bool) (cs : List ℕ) (b : Bool) (ps was rs now : List PushPart) (s : Bool) → IsFlowNet net
     → seen ≡ qs → lseen ≡ ls → was ≡ ps → now ≡ rs → s ≡ false → ArePushParts net 0 ps → length rs ≡ length was → first ≤ end → end ≤ node_count net → PartsReadOn net lseen first end (cells_of seen) was rs
     → RangeRead net (flow_state qs ls ds cs b) first end (push_state ps s) (push_state now s)
@@ -49,6 +50,7 @@ range_safe net first end qs seen ls ds cs b ps pseen s ok eq ep cut none mid =
     subst (λ (x : List PushPart). PartsSafe net (values_of x) first end seen) (sym ep)
     (subst (λ (x : List FlowPart). PartsSafe net (values_of ps) first end x) (sym eq) (give_safe net ls (values_of ps) (is_marked (flow_state qs ls ds cs b)) first end qs ok cut none mid))
 
+-- parts delivered over a range of nodes, and marks of that range, are a flow delivered over it
 pub range_delivered : (net : FlowNet) (first end : ℕ) (qs seen us now : List FlowPart) (ls lseen : List ℕ) (ds dseen es dnow : List Bool) (cs : List ℕ) (b : Bool) (ps pseen : List PushPart) (s : Bool) → IsFlowNet net
     → seen ≡ qs → lseen ≡ ls → pseen ≡ ps → now ≡ us → dseen ≡ ds → dnow ≡ es → b ≡ false → IsFlowOf net (flow_state qs ls ds cs b) → NoneMarked (is_marked (flow_state qs ls ds cs b)) first end
     → length us ≡ length seen → PartsDelivered net lseen (values_of pseen) first end seen us

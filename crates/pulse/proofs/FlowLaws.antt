@@ -14,6 +14,7 @@ use Rattle.pulse.proofs.RangeLaws.{flow_parts, flow_ranges, push_parts, push_ran
 pub parts_of : (net : FlowNet) (f : FlowState) (qs : List FlowPart) (ls : List ℕ) (ds : List Bool) (cs : List ℕ) (b : Bool) → flow_state qs ls ds cs b ≡ f → b ≡ false → IsFlowOf net f → AreFlowParts net 0 qs
 parts_of net f qs ls ds cs b e eb fits = flow_parts net 0 qs ((subst (λ (g : FlowState). IsFlowOf net g) (sym e) fits).ranges eb)
 
+-- unspent pushes of the network have parts that hold its rows, end to end
 pub rows_of : (net : FlowNet) (p : PushState) (ps : List PushPart) (b : Bool) → push_state ps b ≡ p → b ≡ false → ArePushesOf net p → ArePushParts net 0 ps
 rows_of net p ps b e eb fits = push_parts net 0 ps ((subst (λ (g : PushState). ArePushesOf net g) (sym e) fits).ranges eb)
 
@@ -21,12 +22,15 @@ rows_of net p ps b e eb fits = push_parts net 0 ps ((subst (λ (g : PushState). 
 pub parts_seen : (net : FlowNet) (f : FlowState) (qs seen : List FlowPart) (ls : List ℕ) (ds : List Bool) (cs : List ℕ) (b : Bool) → flow_state qs ls ds cs b ≡ f → seen ≡ qs → b ≡ false → IsFlowOf net f → AreFlowParts net 0 seen
 parts_seen net f qs seen ls ds cs b e es eb fits = subst (λ (x : List FlowPart). AreFlowParts net 0 x) (sym es) (parts_of net f qs ls ds cs b e eb fits)
 
+-- so they have by a slice of their parts
 pub rows_seen : (net : FlowNet) (p : PushState) (ps seen : List PushPart) (b : Bool) → push_state ps b ≡ p → seen ≡ ps → b ≡ false → ArePushesOf net p → ArePushParts net 0 seen
 rows_seen net p ps seen b e es eb fits = subst (λ (x : List PushPart). ArePushParts net 0 x) (sym es) (rows_of net p ps b e eb fits)
 
+-- a flow that isn't spent by what is seen of it isn't by its field
 pub flow_unspent : (f : FlowState) (qs : List FlowPart) (ls : List ℕ) (ds : List Bool) (cs : List ℕ) (b : Bool) → flow_state qs ls ds cs b ≡ f → f.spent ≡ false → b ≡ false
 flow_unspent f qs ls ds cs b e h = ap (λ (g : FlowState). g.spent) e ∙ h
 
+-- pushes that aren't spent by what is seen of them aren't by their field
 pub pushes_unspent : (p : PushState) (ps : List PushPart) (b : Bool) → push_state ps b ≡ p → p.spent ≡ false → b ≡ false
 pushes_unspent p ps b e h = ap (λ (g : PushState). g.spent) e ∙ h
 
@@ -53,8 +57,10 @@ flow_spent net f qs ls fits labelled = record {
   caps = fits.caps;
 }
 
+-- parts that hold the network's rows, end to end, are pushes of it
 pub pushes_with : (net : FlowNet) (ps : List PushPart) → IsFlowNet net → ArePushParts net 0 ps → ArePushesOf net (push_state ps false)
 pushes_with net ps ok cut = record { ranges = λ h. push_ranges net 0 ps cut; sized = λ h. push_size net ps ok cut }
 
+-- spent pushes are pushes of any network
 pub pushes_spent : (net : FlowNet) (ps : List PushPart) → ArePushesOf net (push_state ps true)
 pushes_spent net ps = record { ranges = λ h. absurd (false≢true (sym h)); sized = λ h. absurd (false≢true (sym h)) }

@@ -4,12 +4,15 @@ use Rattle.std.proofs.Math.Bool.{and-false, or-false, or-true}
 use Rattle.std.proofs.lemmas.Bool.{cases_lt, cases_eq, lt-ltb, le-leb, le-ltb, lt-leb}
 use Rattle.flow_whole.specs.Marks.{and_range}
 
+-- a node of the range is marked
 pub range_in : (marks : ℕ → Bool) (first end v : ℕ) → first ≤ v → v < end → and_range marks first end v ≡ true
 range_in marks first end v lo hi = rw (le-leb first v lo, lt-ltb v end hi) (or-true (marks v))
 
+-- a node past the range has the mark that it had
 pub range_out : (marks : ℕ → Bool) (first end v : ℕ) → end ≤ v → and_range marks first end v ≡ marks v
 range_out marks first end v hi = rw (le-ltb v end hi, and-false (nat_le first v)) (or-false (marks v))
 
+-- a node before the range has the mark that it had
 pub range_below : (marks : ℕ → Bool) (first end v : ℕ) → v < first → and_range marks first end v ≡ marks v
 range_below marks first end v lo = rw (lt-leb first v lo) (or-false (marks v))
 

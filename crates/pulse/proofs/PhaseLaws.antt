@@ -15,6 +15,7 @@ use Rattle.pulse.proofs.FlowLaws.{flow_spent, pushes_with}
 use Rattle.pulse.proofs.RangeLaws.{push_parts}
 use Rattle.pulse.proofs.TurnLaws.{after_pulse}
 
+-- pushes of parts that were all read are pushes of the network
 pub read_fits : (net : FlowNet) (labels : List ℕ) (qs : List FlowPart) (rs : List PushPart) (s : Bool) → IsFlowNet net → s ≡ false → AreRead net labels qs rs → ArePushesOf net (push_state rs s)
 read_fits net labels qs rs s ok es r = subst (λ (x : Bool). ArePushesOf net (push_state rs x)) (sym es) (pushes_with net rs ok r.cut)
 
@@ -46,6 +47,7 @@ phase_read net f p qs ls lseen ds cs b ps seen s ef ep el es eb fits r =
     subst (λ (x : List PushPart). AreRead net lseen qs x) (sym es) (subst (λ (x : List ℕ). AreRead net x qs ps) (sym el)
     record { cut = push_parts net 0 ps ((subst (λ (q : PushState). ArePushesOf net q) (sym ep) fits).ranges eb); holds = (fields net f p qs ls ds cs b ps s ef ep r).holds })
 
+-- a delivery phase over the pushes of a read phase leaves the flow after a pulse
 pub phase_delivered : (net : FlowNet) (f : FlowState) (p : PushState) (qs us : List FlowPart) (ls lseen next lnow : List ℕ) (ds : List Bool) (cs : List ℕ) (b : Bool) (ps : List PushPart) (s : Bool) → IsFlowNet net
     → flow_state qs ls ds cs b ≡ f → push_state ps s ≡ p → b ≡ false → s ≡ false → IsReadPhase net f p → lseen ≡ ls → lnow ≡ next → ArePulsed net lseen next qs us
     → AfterDelivery net f (flow_state us lnow ds cs b) p

@@ -23,7 +23,9 @@ use Rattle.pulse.proofs.FlowLaws.{parts_of, flow_unspent, flow_with}
 
 -- a flow whose labels have become exact
 pub record IsRelabelled (net : FlowNet) (old new : FlowState) : Type 0 where
+  -- the flow is between two pulses
   pub between : IsBetween net new
+  -- its state is the one before, with exact labels
   pub agree : Agree (node_count net) (exact (node_count net) (state_of net old)) (state_of net new)
 
 relabelled_of : (net : FlowNet) (qs : List FlowPart) (ls next : List ℕ) (ds : List Bool) (cs : List ℕ) → IsFlowNet net → IsBetween net (flow_state qs ls ds cs false) → length next ≡ length ls
@@ -42,6 +44,7 @@ relabelled_of net qs ls next ds cs ok old size far = record {
     agree : Agree (node_count net) (exact (node_count net) (pairs net (cells_of qs) ls)) (pairs net (cells_of qs) next)
     agree = exact_is (node_count net) (pairs net (cells_of qs) ls) (pairs net (cells_of qs) next) (λ v w h l. refl) (λ v h. refl) far
 
+-- a flow whose labels become the residual distances to the sink has become exact
 pub relabelled : (net : FlowNet) (f : FlowState) (qs seen : List FlowPart) (ls lseen next lnow : List ℕ) (ds : List Bool) (cs : List ℕ) (b : Bool) → IsFlowNet net → flow_state qs ls ds cs b ≡ f
     → seen ≡ qs → lseen ≡ ls → lnow ≡ next → length next ≡ length lseen → IsBetween net f
     → IsDistance (node_count net) (pairs net (cells_of seen) lseen) (slice_index next) → IsRelabelled net f (flow_state qs lnow ds cs b)
@@ -73,16 +76,19 @@ labels_exact n s t agree = record {
 
 -- ---- whether exact labels are due
 
+-- after each N-th pulse that leaves a node active, exact labels are what the run asks
 pub when_due : (n k m : ℕ) (s t : State) → m ≡ n → k % m ≡ 0 → true ≡ any_active n s → Agree n (exact n s) t → Agree n (after_pulse n k s) t
 when_due n k m s t em due on agree =
     let e : k % n == 0 ≡ true = eq-eqb (k % n) 0 (ap (λ (x : ℕ). k % x) (sym em) ∙ due) in
     subst (λ (x : State). Agree n x t) (sym (after-due n k s (and_from (k % n == 0) (any_active n s) e (sym on)))) agree
 
+-- after a pulse that is no N-th one the run asks no other labels
 pub when_not_due : (n k m : ℕ) (s : State) → m ≡ n → (k % m ≡ 0 → ⊥) → Agree n (after_pulse n k s) s
 when_not_due n k m s em other =
     let e : k % n == 0 ≡ false = ne_eqb (k % n) 0 (λ h. other (ap (λ (x : ℕ). k % x) em ∙ h)) in
     subst (λ (x : State). Agree n x s) (sym (after-not n k s (and_left (k % n == 0) (any_active n s) e))) (agree_self n s)
 
+-- after a pulse that leaves no node active the run asks no other labels
 pub when_ended : (n k : ℕ) (s : State) → false ≡ any_active n s → Agree n (after_pulse n k s) s
 when_ended n k s off =
     subst (λ (x : State). Agree n x s) (sym (after-not n k s (and_right (k % n == 0) (any_active n s) (sym off)))) (agree_self n s)
@@ -106,6 +112,7 @@ held_flow net f labels ls qs us ds cs b ok len h r =
       agree = subst (λ (s : State). Agree (node_count net) (exact (node_count net) (state_of net f)) s) (sym same) r.agree;
     }
 
+-- parts that hold labels by slices hold them by the vectors that these are of
 pub holds_seen : (labels lseen : List ℕ) (qs seen us new : List FlowPart) → lseen ≡ labels → seen ≡ qs → us ≡ new → HoldLabels lseen seen new → HoldLabels labels qs us
 holds_seen labels lseen qs seen us new el es eu h =
     subst (λ (x : List FlowPart). HoldLabels labels qs x) (sym eu) (subst (λ (x : List FlowPart). HoldLabels labels x new) es (subst (λ (x : List ℕ). HoldLabels x seen new) el h))

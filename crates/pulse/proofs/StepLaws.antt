@@ -23,6 +23,7 @@ whole_read net f end old new ok all r =
     read_whole net f.labels (λ v. true) f.cells new.values ok (λ v h. refl)
     record { rows = λ v k h m l. r.done v k h (omega arith) (omega (arith, h, all)) l }
 
+-- between two pulses no node has been delivered
 pub none_so_far : (net : FlowNet) (f : FlowState) (values : List ℕ) → IsBetween net f → DeliveredSoFar net f.labels values (is_marked f) f.cells f.cells
 none_so_far net f values between = record {
   given = λ v h m. absurd (false≢true (sym (between.none v h) ∙ m));
@@ -39,6 +40,7 @@ paid_labels net k f g ok p e = elim e [
   | inr agree ↦ paid_exact net k (state_of net f) (state_of net g) ok p agree
 ]
 
+-- labels that stay, or become exact, leave no more to do
 pub labels_left : (net : FlowNet) (f g : FlowState) → IsSound net (state_of net f)
     → (g ≡ f) ⊎ Agree (node_count net) (exact (node_count net) (state_of net f)) (state_of net g) → work (node_count net) (state_of net g) ≤ work (node_count net) (state_of net f)
 labels_left net f g sound e = elim e [

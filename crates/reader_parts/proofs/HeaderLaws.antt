@@ -65,7 +65,9 @@ formed is_off (Some h) = unless (limits h) (unless ((is_off h, MaxIndex 0) ∷ [
 
 -- the relation bounds what is counted by the greatest variable, and cutting changes nothing about it
 pub record IsCuttable (is_off : Relation) : Type 0 where
+  -- where the relation is right, inputs, latches and gates come to at most the greatest variable
   pub bounds : (h : Header) → is_off h ≡ false → h.inputs + h.latches + h.gates ≤ h.greatest
+  -- where the greatest variable is within its limit, cutting the numbers doesn't change whether the relation is right
   pub cuts : (h : Header) → h.greatest ≤ 2 ^ 28 - 1 → is_off (cut h) ≡ is_off h
 
 clamped-small : (n : ℕ) → n < 2 ^ 32 → clamped n ≡ n
@@ -170,6 +172,7 @@ past-cuttable = record {
   ];
 }
 
+-- the header of an ASCII line by its numbers cut to 32 bits is the header that reading gives
 pub read-header : (row : Option (List ℕ)) (line : List ℕ) → row ≡ header_row (codes "aag ") line
     → (limited (option_and_then header_in row) >>= λ h. unless ((is_past h, MaxIndex 0) ∷ []) (Ok h)) ≡ read_header line
 unfolding read_header header_of

@@ -38,13 +38,16 @@ found p (e ∷ es) = by_test (nat_eq p e.0) (has_position (symbols_in es) p) e.1
     by_test true rest name found h = refl
     by_test false rest name found h = h
 
+-- a position is taken among names exactly where the map that they are of has it
 pub taken : (names : List Symbol) (p : ℕ) (es : List (ℕ × List ℕ)) (result : Bool) → symbols_in es ≡ names → result ≡ is_some (lookup (is_at (nat_cmp p)) es) → has_position names p ≡ result
 taken names p es result seen is = ap (λ (ns : List Symbol). has_position ns p) (sym seen) ∙ found p es ∙ sym is
 
+-- where neither of two holds, the first doesn't
 pub or_first : (a b : Bool) → (a || b) ≡ false → a ≡ false
 or_first true b h = h
 or_first false b h = refl
 
+-- where neither of two holds, the second doesn't
 pub or_second : (a b : Bool) → (a || b) ≡ false → b ≡ false
 or_second true b h = absurd (cc)
 or_second false b h = h
@@ -77,6 +80,7 @@ position_or : (less : Bool) (p : ℕ) (xs ys : List Symbol) → has_position (co
 position_or true p xs ys = refl
 position_or false p xs ys = refl
 
+-- among names with one more a position is taken that was taken before, or is the new name's
 pub position-with_name : (p : ℕ) (names : List Symbol) (s : Symbol) → has_position (with_name names s) p ≡ (has_position names p || (p == s.position))
 position-with_name p [] s = or_comm (p == s.position) false
 position-with_name p (x ∷ names) s =
@@ -124,6 +128,7 @@ pub appended : (symbols : List RawSymbol) (s : RawSymbol) → symbols_of (symbol
 unfolding symbols_of
 appended symbols s = ap of_kinds (λ i. λ kind. fold-append (with_symbol kind) [] symbols (s ∷ []) i)
 
+-- the names of a kind among all are the names of the symbols of that kind
 pub names_in_kind : (kind : SymbolKind) (symbols : List RawSymbol) → names_in (symbols_of symbols) kind ≡ names_of kind symbols
 unfolding symbols_of
 names_in_kind Input symbols = refl
@@ -134,6 +139,7 @@ names_in_kind Constraint symbols = refl
 names_in_kind Justice symbols = refl
 names_in_kind Fairness symbols = refl
 
+-- no names are those of no symbols
 pub nothing_named : AreNamesOf (record { inputs = []; latches = []; outputs = []; bad = []; constraints = []; justice = []; fairness = [] }) []
 unfolding symbols_of
 nothing_named = refl

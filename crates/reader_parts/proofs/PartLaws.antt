@@ -184,14 +184,22 @@ names_at n count same ns are = subst (λ (m : ℕ). AreNamesBelow m ns) same are
 
 -- parts in range, whatever the names are of
 pub record AreInRange (h : Header) (g : Graph) (l : Lists) : Type 0 where
+  -- as many inputs as the header says
   pub inputs : g.inputs ≡ h.inputs
+  -- as many latches as the header says
   pub latches : length g.latches ≡ h.latches
+  -- as many outputs, bad states and constraints as the header says
   pub safety : length l.safety ≡ safety_count h
+  -- as many justice properties as the header says
   pub sizes : length l.sizes ≡ h.justice
+  -- as many literals of justice properties as their sizes come to, and as many fairness literals as the header says
   pub liveness : length l.liveness ≡ sum l.sizes + h.fairness
+  -- the literals of outputs, bad states and constraints are the graph's
   pub safety_literals : AreLiteralsOf g l.safety
+  -- the literals of justice and fairness are the graph's
   pub liveness_literals : AreLiteralsOf g l.liveness
 
+-- parts in range, with names by rising position below the header's counts, make a circuit
 pub netlist_within : (h : Header) (g : Graph) (l : Lists) (names : Symbols) → AreInRange h g l → AreNamesWithin h names → IsNetlist (record { aig = g; props = props_of h l.safety l.sizes l.liveness; symbols = names })
 unfolding props_of
 netlist_within h g l names parts are = record {
@@ -213,6 +221,7 @@ netlist_within h g l names parts are = record {
   };
 }
 
+-- the parts of a circuit make one
 pub netlist : (h : Header) (g : Graph) (symbols : List RawSymbol) (l : Lists) → NetlistLaw h g symbols l
 netlist h g symbols l parts =
     netlist_within h g l (symbols_of symbols) (record {

@@ -34,6 +34,7 @@ continued-some v (b ∷ bytes) = by_digit (is_ascii_digit b) (continued-some (st
     by_digit true e = e
     by_digit false e = refl
 
+-- where no number was begun, a piece is the number that its digits spell
 pub continued-none : (p : List ℕ) → continued None p ≡ cond (is_number p) (Some (digits_value p)) None
 continued-none [] = refl
 continued-none (b ∷ bytes) =
@@ -94,6 +95,7 @@ numbers_of-read_on line =
     let parts = split line in
     ap numbers_in parts.2 ∙ sym (after-none parts.0 parts.1) ∙ sym (ap (after None) parts.2) ∙ after-pieces None line
 
+-- one digit more of a cut number is, cut, one digit more of the number
 pub clamped-digit : (number : Option ℕ) (b : ℕ) → clamped (next_digit (option_map clamped number) b) ≡ clamped (next_digit number b)
 clamped-digit None b = refl
 clamped-digit (Some n) b = omega arith
@@ -116,6 +118,7 @@ unfolding read_on
 read_on-clamped number [] = in_front-map number (Some [])
 read_on-clamped number (b ∷ bytes) = clamped-more number b bytes (λ n. read_on-clamped n bytes) (b == 32) (is_ascii_digit b)
 
+-- read from the start of a line, numbers are those of the whole line
 pub finished-start : (line : List ℕ) → finished [] (read_on clamped None line) ≡ row_of line
 unfolding row_of
 finished-start line = sym (ap (finished []) (read_on-clamped None line)) ∙ by_option (read_on (λ n. n) None line) ∙ ap (option_and_then (λ ns. up_to_nine (map clamped ns))) (sym (numbers_of-read_on line))
@@ -126,14 +129,17 @@ finished-start line = sym (ap (finished []) (read_on-clamped None line)) ∙ by_
 
 -- ---- one byte more
 
+-- a space ends the number that was begun
 pub at_space : (number : Option ℕ) (rest : List ℕ) → read_on clamped number (32 ∷ rest) ≡ in_front number (read_on clamped None rest)
 unfolding read_on
 at_space number rest = refl
 
+-- a digit is one more of the number that was begun, or its first
 pub at_digit : (number : Option ℕ) (b : ℕ) (rest : List ℕ) → (b ≡ 32 → ⊥) → is_ascii_digit b ≡ true → read_on clamped number (b ∷ rest) ≡ read_on clamped (Some (clamped (next_digit number b))) rest
 unfolding read_on
 at_digit number b rest no_space digit = cond-false _ _ _ (ne_eqb b 32 no_space) ∙ cond-true _ _ _ digit
 
+-- a byte that is neither a space nor a digit leaves no numbers
 pub at_other : (number : Option ℕ) (b : ℕ) (rest : List ℕ) → (b ≡ 32 → ⊥) → is_ascii_digit b ≡ false → read_on clamped number (b ∷ rest) ≡ None
 unfolding read_on
 at_other number b rest no_space no_digit = cond-false _ _ _ (ne_eqb b 32 no_space) ∙ cond-false _ _ _ no_digit
@@ -143,10 +149,12 @@ pub with_room : (ns : List ℕ) (n : ℕ) (more : Option (List ℕ)) → finishe
 with_room ns n None = refl
 with_room ns n (Some more) = ap up_to_nine (append_assoc ns (n ∷ []) more)
 
+-- a tenth number leaves no numbers
 pub without_room : (ns : List ℕ) (n : ℕ) (more : Option (List ℕ)) → length ns ≡ 9 → finished ns (in_front (Some n) more) ≡ None
 without_room ns n None full = refl
 without_room ns n (Some more) full = cond-false _ _ _ (lt-leb (length (ns ++ n ∷ more)) 9 (omega (arith, full, length-append ns (n ∷ more))))
 
+-- where a number ends that wasn't begun, there are no numbers
 pub no_number : (ns : List ℕ) (more : Option (List ℕ)) → finished ns (in_front None more) ≡ None
 no_number ns more = refl
 
@@ -155,6 +163,7 @@ pub at_end : (number : Option ℕ) → read_on clamped number [] ≡ in_front nu
 unfolding read_on
 at_end number = refl
 
+-- up to nine numbers that nothing follows are the line's
 pub all_numbers : (ns : List ℕ) → length ns ≤ 9 → finished ns (Some []) ≡ Some ns
 all_numbers ns short = ap up_to_nine (append-nil ns) ∙ cond-true _ _ _ (le-leb (length ns) 9 short)
 

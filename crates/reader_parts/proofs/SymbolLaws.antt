@@ -15,15 +15,18 @@ use Rattle.reader_parts.proofs.RowLaws.{continued, continued-none, clamped-digit
 
 -- ---- one byte of a position
 
+-- a space ends the position, and the name follows
 pub at_space : (kind : SymbolKind) (number : Option ℕ) (b : ℕ) (rest : List ℕ) → b ≡ 32 → named_at kind number rest ≡ position_with kind number (b ∷ rest)
 unfolding position_with
 at_space kind number b rest e = sym (cond-true (nat_eq b 32) (named_at kind number rest) _ (eq-eqb b 32 e))
 
+-- a digit is one more of the position, or its first
 pub at_digit : (kind : SymbolKind) (number : Option ℕ) (b : ℕ) (rest : List ℕ) → (b ≡ 32 → ⊥) → is_ascii_digit b ≡ true
     → position_with kind (Some (clamped (next_digit number b))) rest ≡ position_with kind number (b ∷ rest)
 unfolding position_with
 at_digit kind number b rest no_space digit = sym (cond-false (nat_eq b 32) (named_at kind number rest) _ (ne_eqb b 32 no_space) ∙ cond-true (is_ascii_digit b) _ Malformed digit)
 
+-- a byte in a position that is neither a space nor a digit is no symbol's
 pub at_other : (kind : SymbolKind) (number : Option ℕ) (b : ℕ) (rest : List ℕ) → (b ≡ 32 → ⊥) → is_ascii_digit b ≡ false → Malformed ≡ position_with kind number (b ∷ rest)
 unfolding position_with
 at_other kind number b rest no_space no_digit = sym (cond-false (nat_eq b 32) (named_at kind number rest) _ (ne_eqb b 32 no_space) ∙ cond-false (is_ascii_digit b) _ Malformed no_digit)
@@ -100,6 +103,7 @@ module _ (letter : ℕ) (kind : SymbolKind) where
       none : ◌≡◌ {A = Option SymbolKind} None (Some kind) → ⊥
       none e = cc
 
+-- after the letter of a kind the rest makes of the line what the whole line is
 pub after_letter : (letter : ℕ) (kind : SymbolKind) (rest : List ℕ) → kind_of letter ≡ Some kind → letter_with kind rest ≡ text_of (letter ∷ rest)
 unfolding text_of begins_comment position_with
 after_letter letter kind [] is =
@@ -119,6 +123,7 @@ no_c letter is = by_test (nat_eq letter 99) refl
         some : ◌≡◌ {A = Option SymbolKind} (Some Constraint) None → ⊥
         some same = cc
 
+-- a line that begins with the letter of no kind is no symbol
 pub no_letter : (letter : ℕ) (rest : List ℕ) → kind_of letter ≡ None → NoSymbol ≡ text_of (letter ∷ rest)
 unfolding text_of begins_comment
 no_letter letter rest is = sym (by_comment rest ∙ without)

@@ -29,6 +29,7 @@ limited_itself (Some g) h e =
     let is : g ≡ h = same_ok g h (unless_ok (limits g) (Ok g) h e).1 in
     subst (λ (x : Header). unless (limits x) (Ok x) ≡ Ok x) is (subst (λ (x : Header). unless (limits g) (Ok g) ≡ Ok x) (sym is) e)
 
+-- a header whose single numbers and their relation pass the checks is within the limits
 pub within : (o : Option Header) (h : Header) → limited o ≡ Ok h → (r : Result Header ReadError) → r ≡ unless ((is_past h, MaxIndex 0) ∷ []) (Ok h) → IfOk r (λ header. IsHeaderWithin header)
 within o h e r is = by_test (is_past h) refl is
   where

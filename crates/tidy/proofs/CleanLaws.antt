@@ -79,11 +79,13 @@ lookup-none test (e0 ∷ es) gate v e = elim (cases_Bool (test e0.0)) [
       (cond-false (test e0.0) (Some e0.1) (lookup test es) fails ∙ rest.0, rest.1))
 ]
 
+-- a gate has its own literals
 pub is_gate-self : (gate : Gate) → is_gate gate gate ≡ true
 is_gate-self gate = and_from (nat_eq gate.rhs0 gate.rhs0) (nat_eq gate.rhs1 gate.rhs1) (eq-eqb gate.rhs0 gate.rhs0 refl) (eq-eqb gate.rhs1 gate.rhs1 refl)
 
 -- where each latch stands for itself, none that isn't held is stuck or like an earlier one
 module _ (g : Graph) (held : List ℕ) (own : (j : ℕ) (latch : Latch) → slice_get g.latches j ≡ Some latch → latch_stand g held j (Some latch) ≡ 2 * (first_latch g + j)) where
+  -- where each latch stands for itself, none is stuck
   pub latches-moving : (j : ℕ) (latch : Latch) → slice_get g.latches j ≡ Some latch → is_stuck g held j latch ≡ false
   latches-moving j latch e = elim (stands_for g held j latch) [
     | by_constant stuck there ↦ absurd (omega (arith, own j latch e, there, constant-even latch.reset))
@@ -91,6 +93,7 @@ module _ (g : Graph) (held : List ℕ) (own : (j : ℕ) (latch : Latch) → slic
     | by_earlier i less first like known apart there ↦ absurd (omega (arith, own j latch e, there, less))
   ]
 
+  -- where each latch stands for itself, a known latch like an earlier one is held
   pub latches-single : (i j : ℕ) (latch : Latch) → i < j → slice_get g.latches i ≡ Some latch → slice_get g.latches j ≡ Some latch → is_free latch ≡ false → has held j ≡ true
   latches-single i j latch less e f known = elim (cases_Bool (has held j)) [
     | inl held_is ↦ held_is
@@ -203,9 +206,11 @@ module _ (g : Graph) (held : List ℕ) (valid : IsGraph g) where
     unfolding stands_of
     within k gate e = omega (arith, slice_get_within g.gates k gate e, length-stands_of g held)
 
+    -- where each variable stands for itself, each gate is plain
     pub own-plain : (k : ℕ) (gate : Gate) → slice_get g.gates k ≡ Some gate → IsPlain gate
     own-plain k gate e = facts.plain k gate e (within k gate e)
 
+    -- where each variable stands for itself, no two gates have the same literals
     pub own-pairs : (i k : ℕ) (gate : Gate) → slice_get g.gates i ≡ Some gate → slice_get g.gates k ≡ Some gate → i ≡ k
     own-pairs i k gate e f = elim (cases_lt i k) [
       | inl less ↦ absurd (facts.pairs i k gate e f less (within k gate f))
@@ -215,11 +220,13 @@ module _ (g : Graph) (held : List ℕ) (valid : IsGraph g) where
       ]
     ]
 
+    -- where each variable stands for itself, so does each latch
     pub stand-own : (j : ℕ) (latch : Latch) → slice_get g.latches j ≡ Some latch → latch_stand g held j (Some latch) ≡ 2 * (first_latch g + j)
     stand-own j latch e =
         let low : j < length g.latches = slice_get_within g.latches j latch e in
         sym (leaf-latch g held j latch e) ∙ sym (stands-leaf g held (first_latch g + j) (omega (arith, low))) ∙ own (first_latch g + j) (omega (arith, low))
 
+-- a circuit that a pass of cleaning leaves unchanged is tidy
 pub clean-tidy : (held : List ℕ) (c : Netlist) (kept : List ℕ) → IsCircuit c → All (λ j. j < length c.aig.latches) held → IsPass held c c kept held → IsTidy held c
 clean-tidy held c kept valid in_range pass = record {
   reached = λ r holds v past less.

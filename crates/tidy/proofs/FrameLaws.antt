@@ -74,6 +74,7 @@ tidy-moved names d s first valid tidy set copies lows =
 pub tidy-cleaned : (names : List (List ℕ)) (c : Netlist) → IsCircuit c → IsTidyIn names c → CleansIn names c c (all_free c.aig)
 tidy-cleaned names c valid tidy = tidy-cleans (held_in names c) c valid (held-below names c valid.netlist) tidy
 
+-- a circuit that was cleaned has nothing to clean after a move whose low copies are tidy
 pub nothing_to_clean : (names : List (List ℕ)) (c d : Netlist) (kept s : List ℕ) (first : ℕ) → NothingToClean names c d kept s first
 nothing_to_clean names c d kept s first graph netlist cleans set room copies lows =
     let m : Move = move_in names d s in

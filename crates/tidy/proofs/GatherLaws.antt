@@ -13,6 +13,7 @@ use Rattle.tidy.specs.Tidy.{IsPlain, AreLowTidy}
 use Rattle.tidy.specs.Gathered.{AreGathered, AreMarked, AreNew, IsLowCopy, IsShared, IsSpoilt, by_gate, by_pair, is_plain}
 use Rattle.tidy.proofs.CleanLaws.{is_gate-self, lookup-none}
 
+-- of no copies no pairs are gathered
 pub gathered-start : (copies : List Gate) (start : ℕ) → AreGathered copies start 0 []
 gathered-start copies start = record {
   plain = λ k gate h e low. absurd (omega (arith, h));
@@ -24,6 +25,7 @@ gathered-start copies start = record {
 later : (copies : List Gate) (start n : ℕ) (gate : Gate) → IsLowCopy copies start n gate → IsLowCopy copies start (n + 1) gate
 later copies start n gate low = record { place = low.place; before = omega (arith, low.before); there = low.there; low = low.low }
 
+-- a copy that isn't low leaves what was gathered as it is
 pub gathered-skip : (copies : List Gate) (start n : ℕ) (gate : Gate) (pairs : List (Gate × ℕ)) → slice_get copies n ≡ Some gate → start ≤ variable gate.rhs1
     → AreGathered copies start n pairs → AreGathered copies start (n + 1) pairs
 gathered-skip copies start n gate pairs there high so_far = record {
@@ -41,6 +43,7 @@ gathered-skip copies start n gate pairs there high so_far = record {
       | inr before ↦ omega (arith, h, before)
     ]
 
+-- what isn't there is none
 pub none-where : {A : Type 0} (o : Option A) → is_some o ≡ false → o ≡ None
 none-where None e = refl
 none-where (Some x) e = absurd (cc)
@@ -50,6 +53,7 @@ plain-where gate e =
     let parts = and_parts (nat_le 2 gate.rhs1) (nat_lt (variable gate.rhs1) (variable gate.rhs0)) e in
     record { constant = leb-true 2 gate.rhs1 parts.0; apart = ltb-true (variable gate.rhs1) (variable gate.rhs0) parts.1 }
 
+-- a low copy that is plain and has new literals is gathered with those before it
 pub gathered-more : (copies : List Gate) (start n : ℕ) (gate : Gate) (pairs : List (Gate × ℕ)) → slice_get copies n ≡ Some gate → variable gate.rhs1 < start → is_plain gate ≡ true → lookup (is_gate gate) pairs ≡ None
     → AreGathered copies start n pairs → AreGathered copies start (n + 1) (pairs ++ (gate, 0) ∷ [])
 gathered-more copies start n gate pairs there low_here plain new so_far = record {
@@ -79,6 +83,7 @@ gathered-more copies start n gate pairs there low_here plain new so_far = record
     last : (k : ℕ) (other : Gate) → k ≡ n → slice_get copies k ≡ Some other → gate ≡ other
     last k other same e = same_Some gate other (sym there ∙ ap (slice_get copies) (sym same) ∙ e)
 
+-- where the first n gates have none of the pairs, nor has the next one, the first n + 1 have none
 pub new-more : (gates : List Gate) (pairs : List (Gate × ℕ)) (n : ℕ) (gate : Gate) → slice_get gates n ≡ Some gate → lookup (is_gate gate) pairs ≡ None → AreNew gates pairs n → AreNew gates pairs (n + 1)
 new-more gates pairs n gate there new so_far k other h e = elim (cases_eq k n) [
   | inl same ↦ (
@@ -100,6 +105,7 @@ taken [] (suc n) k x h e = e
 taken (y ∷ ys) (suc n) zero x h e = e
 taken (y ∷ ys) (suc n) (suc k) x h e = taken ys n k x (omega (arith, h)) e
 
+-- where all low copies were gathered, and no gate before the copies has one of their pairs, the low copies are tidy
 pub tidy-where : (g : Graph) (first start : ℕ) (pairs : List (Gate × ℕ)) → start ≡ first_gate g + first
     → AreGathered (drop first g.gates) start (length (drop first g.gates)) pairs → AreNew (take first g.gates) pairs (length (take first g.gates)) → AreLowTidy g first
 tidy-where g first start pairs starts copies outside = record {
@@ -184,12 +190,14 @@ shared g first start pairs starts copies share tidy = go (lookup (is_gate share.
         let other = untaken g.gates first share.place share.gate share.there in
         omega (arith, other.0, tidy.pairs share.place (first + low.place) share.gate (omega arith) other.1 (undropped g.gates first low.place share.gate low.there) (omega (arith, low.low, starts)))
 
+-- where a low copy isn't plain, or two have the same literals, the low copies aren't tidy
 pub spoilt-sliced : (g : Graph) (gates : List Gate) (first start : ℕ) → gates ≡ g.gates → start ≡ first_gate g + first → IsSpoilt (take (length gates - first) (drop first gates)) start → AreLowTidy g first → ⊥
 spoilt-sliced g gates first start same starts copies =
     let whole : take (length gates - first) (drop first gates) ≡ drop first gates = take_all (length gates - first) (drop first gates) (omega (arith, length-drop first gates)) in
     let P : List Gate → Type 0 = λ xs. IsSpoilt xs start in
     spoilt g first start starts (subst P (whole ∙ ap (drop first) same) copies)
 
+-- where a gate before the copies has the pair of a low one, the low copies aren't tidy
 pub shared-sliced : (g : Graph) (gates : List Gate) (first start : ℕ) (pairs : List (Gate × ℕ)) → gates ≡ g.gates → start ≡ first_gate g + first
     → AreGathered (take (length gates - first) (drop first gates)) start (length (take (length gates - first) (drop first gates))) pairs
     → IsShared (take first gates) pairs → AreLowTidy g first → ⊥
@@ -221,6 +229,7 @@ marked-within marks v e =
       here,
     )
 
+-- where the second variable of a pair is marked too, all pairs with that one are marked
 pub marked-more : (pairs : List (Gate × ℕ)) (marks new : List Bool) (gate : Gate) (var : ℕ) → var ≡ variable gate.rhs1 → var < length marks → Marks 0 marks new (λ v. nat_eq var v)
     → AreMarked pairs marks → AreMarked (pairs ++ (gate, 0) ∷ []) new
 marked-more pairs marks new gate var is within more so_far other w e = elim (lookup_push (is_gate other) pairs gate 0 w e) [
@@ -235,6 +244,7 @@ marked-more pairs marks new gate var is within more so_far other w e = elim (loo
       marked-at marks new (λ u. nat_eq var u) v more (omega (arith, within, same)) (or_right (slice_index_or marks v false) (nat_eq var v) (eq-eqb var v same)))
 ]
 
+-- any marks are those of no pairs
 pub marked-none : (marks : List Bool) → AreMarked [] marks
 marked-none marks gate w e = absurd (none-some w e)
 

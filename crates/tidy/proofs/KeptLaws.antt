@@ -33,6 +33,7 @@ from_head (suc n) x a (y ∷ ys) low long rising below =
     (λ k d h. omega (arith, All-tail (λ (z : ℕ). z < a + suc (suc n)) x (y ∷ ys) below k d h)) in
     ap (λ (b : ℕ). b ∷ y ∷ ys) here ∙ ap (λ (zs : List ℕ). a ∷ zs) rest
 
+-- n rising numbers below n are all numbers below n, in order
 pub all-below : (n : ℕ) (xs : List ℕ) → length xs ≡ n → IsStrictlyIncreasing xs → All (λ y. y < n) xs → xs ≡ range_with_len 0 n
 all-below zero [] long rising below = refl
 all-below zero (x ∷ xs) long rising below = absurd (omega (arith, long))

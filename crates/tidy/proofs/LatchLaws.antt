@@ -23,10 +23,14 @@ use Rattle.tidy.proofs.SpotLaws.{Spot, latched-spot, literal-one, read-spot, sam
 use Rattle.rebuild.proofs.BorderLaws.{closed-passable, new_variable-latched}
 
 pub record StuckParts (g : Graph) (held : List ℕ) (j : ℕ) (latch : Latch) : Type 0 where
+  -- its reset is known
   pub known : is_free latch ≡ false
+  -- it isn't held
   pub moves : has held j ≡ false
+  -- it reads itself or the constant of its reset
   pub next : (latch.next ≡ 2 * (first_latch g + j)) ⊎ (latch.next ≡ constant_of latch.reset)
 
+-- a latch that is stuck by the test is known, not held, and reads itself or the constant of its reset
 pub stuck-parts : (g : Graph) (held : List ℕ) (j : ℕ) (latch : Latch) → is_stuck g held j latch ≡ true → StuckParts g held j latch
 stuck-parts g held j latch e =
     let parts = and_parts (not (is_free latch) && not (has held j)) (nat_eq latch.next (2 * (first_latch g + j)) || nat_eq latch.next (constant_of latch.reset)) e in
@@ -40,6 +44,7 @@ stuck-parts g held j latch e =
       ];
     }
 
+-- a known latch that isn't held and reads itself or the constant of its reset is stuck by the test
 pub stuck-from : (g : Graph) (held : List ℕ) (j : ℕ) (latch : Latch) → StuckParts g held j latch → is_stuck g held j latch ≡ true
 stuck-from g held j latch parts =
     let own : Bool = nat_eq latch.next (2 * (first_latch g + j)) in
@@ -129,6 +134,7 @@ module _ (m : Move) (valid : IsGraph m.circuit.aig) (set : IsClosedSet m.circuit
       both_ways (has (moved_held m) k) moves (ap (has (moved_held m)) (sym (ap (count_below (is_latched m)) place ∙ rank)) ∙ there))
 
   module _ (tidy : IsTidy m.held m.circuit) where
+    -- no latch of a moved tidy circuit is stuck
     pub moved-moving : (k : ℕ) (latch : Latch) → slice_get (moved_graph m).latches k ≡ Some latch → is_stuck (moved_graph m) (moved_held m) k latch ≡ false
     moved-moving k latch e = false_from_ne_true (is_stuck (moved_graph m) (moved_held m) k latch) (λ stuck.
         let parts : StuckParts (moved_graph m) (moved_held m) k latch = stuck-parts (moved_graph m) (moved_held m) k latch stuck in
@@ -157,6 +163,7 @@ module _ (m : Move) (valid : IsGraph m.circuit.aig) (set : IsClosedSet m.circuit
               ])
         ])
 
+    -- a known latch of a moved tidy circuit that is like an earlier one is held
     pub moved-single : (i k : ℕ) (latch : Latch) → i < k → slice_get (moved_graph m).latches i ≡ Some latch → slice_get (moved_graph m).latches k ≡ Some latch → is_free latch ≡ false
         → has (moved_held m) k ≡ true
     moved-single i k latch less e f known =

@@ -5,6 +5,7 @@ use Rattle.tidy.proofs.GateLaws.{moved-pairs, moved-plain}
 use Rattle.tidy.proofs.LatchLaws.{moved-moving, moved-single}
 use Rattle.tidy.proofs.WaveLaws.{all_reached}
 
+-- a tidy circuit is tidy after a move over a closed set, where the low copies are
 pub moved_tidy : (m : Move) → MovedIsTidy m
 moved_tidy m valid netlist in_range set tidy lows = record {
   reached = all_reached m valid netlist in_range set tidy;

@@ -20,9 +20,11 @@ use Rattle.cleaned_circuits.proofs.StandLaws.{GateIn, gate_stands, gates-in, len
 use Rattle.cleaned_circuits.proofs.OwnLaws.{leaf-latch, leaf-low}
 use Rattle.tidy.specs.Tidy.{IsPlain, IsTidy}
 
+-- a variable's even literal with the sign of one of its literals is that literal
 pub twice : (lit v : ℕ) → v ≡ variable lit → signed_as lit (2 * v) ≡ lit
 twice lit v e = omega arith
 
+-- the gate of a gate's own literals is that gate
 pub ordered-gate : (gate : Gate) → gate.rhs1 ≤ gate.rhs0 → gate_of gate.rhs0 gate.rhs1 ≡ gate
 ordered-gate gate h =
     let first : (gate_of gate.rhs0 gate.rhs1).rhs0 ≡ gate.rhs0 = omega arith in
@@ -110,6 +112,7 @@ module _ (held : List ℕ) (c : Netlist) (valid : IsGraph c.aig) (tidy : IsTidy 
     kept = λ gate w e. absurd (none-some w e);
   })
 
+  -- in a tidy circuit each variable stands for itself in a pass of cleaning
   pub tidy-own : (v : ℕ) → v < variables_end c.aig → get_or (stands_of c.aig held) v 0 ≡ 2 * v
   unfolding stands_of
   tidy-own v h = own-all.each v (omega (arith, h, length-stands_of c.aig held))

@@ -26,6 +26,7 @@ use Rattle.tidy.proofs.OwnLaws.{tidy-own}
 abbrev pub is_inner : Graph → ℕ → Bool
 is_inner g v = nat_le (first_latch g) v && nat_lt v (variables_end g)
 
+-- where all latches and gates are reached, each variable stays
 pub inner-stays : (g : Graph) (v : ℕ) → v < variables_end g → stays g (is_inner g) v ≡ true
 inner-stays g v h = elim (cases_lt v (first_latch g)) [
   | inl low ↦ stays-low g (is_inner g) v low
@@ -84,6 +85,7 @@ module _ (held : List ℕ) (c : Netlist) (valid : IsCircuit c) (in_range : All (
             (λ j below. omega (arith, same-variable (first_latch c.aig + j) (omega (arith, below)))) held in_range);
       }
 
+  -- a pass of cleaning changes nothing in a tidy circuit
   pub tidy-pass : IsPass held c c (all_free c.aig) held
   tidy-pass =
       let merged : merged_of held c ≡ c = replaced_circuit-same (stands_of c.aig held) c valid (tidy-own held c valid.graph tidy) in
@@ -91,5 +93,6 @@ module _ (held : List ℕ) (c : Netlist) (valid : IsCircuit c) (in_range : All (
       let all : Unchanging held c (merged_of held c) (is_inner c.aig) = subst P (sym merged) unchanging in
       record { reached = is_inner c.aig; are_reached = all.are_reached; circuit = all.circuit; free = all.free; positions = all.positions }
 
+  -- a tidy circuit is what it is cleaned to, with all its free latches
   pub tidy-cleans : Cleans c held c (all_free c.aig)
   tidy-cleans = unchanged held c (all_free c.aig) tidy-pass refl

@@ -36,6 +36,7 @@ pub data Reader (m : Move) (w : ℕ) : Type 0 where
   by_latch : (j : ℕ) (latch : Latch) → slice_get m.circuit.aig.latches j ≡ Some latch → w ≡ variable latch.next → Reader m w
   by_property : (k lit : ℕ) → slice_get (property_literals m.circuit.props) k ≡ Some lit → w ≡ variable lit → Reader m w
 
+-- a variable that is read from outside the set has a reader there
 pub reader_of : (m : Move) (w : ℕ) → is_read m.circuit m.set w ≡ true → Reader m w
 unfolding is_read_outside
 reader_of m w e =

@@ -17,6 +17,7 @@ use Rattle.rebuild.proofs.BorderLaws.{closed-passable, latched-latch, latched-me
 use Rattle.rebuild.proofs.MovedLaws.{copies_start-is, gates_start-is}
 use Rattle.tidy.specs.Tidy.{IsPlain}
 
+-- two numbers that pass and have the same rank are the same
 pub same-rank : (p : ℕ → Bool) (v w : ℕ) → p v ≡ true → p w ≡ true → count_below p v ≡ count_below p w → v ≡ w
 same-rank p v w pv pw same = elim (cases_lt v w) [
   | inl less ↦ absurd (omega (arith, same, count-lt p v w less pv))
@@ -61,6 +62,7 @@ pair-one f a b ordered_a ordered_b one two cross other same = elim (pair-cases (
       gate-is a b (omega (arith, first, second)) (omega (arith, first, second)))
 ]
 
+-- the gate of literals of two variables, neither of which is the constant, is plain
 pub plain-of : (x y : ℕ) → 0 < variable x → 0 < variable y → (variable x ≡ variable y → ⊥) → IsPlain (gate_of x y)
 plain-of x y p q apart = elim (cases_lt x y) [
   | inl less ↦ elim (cases_lt (variable x) (variable y)) [
@@ -80,9 +82,11 @@ module _ (m : Move) (set : IsClosedSet m.circuit.aig m.held m.set) where
     at_latch : v < variables_end m.circuit.aig → is_latched m v ≡ true → new_variable m v ≡ first_latch m.circuit.aig + count_below (is_latched m) v → Spot v
     at_gate : v < variables_end m.circuit.aig → is_outside m v ≡ true → new_variable m v ≡ gates_start m + count_below (is_outside m) v → Spot v
 
+  -- a variable that has a latch in the moved circuit is read there as that latch
   pub latched-spot : (v : ℕ) → v < variables_end m.circuit.aig → is_latched m v ≡ true → Spot v
   latched-spot v within kept = at_latch within kept (new_variable-latched m (closed-passable m set.closed) v kept)
 
+  -- a variable that is read from outside the set is read in the moved circuit as itself, its latch or its gate
   pub read-spot : (v : ℕ) → v < variables_end m.circuit.aig → is_read m.circuit m.set v ≡ true → Spot v
   read-spot v within read = elim (kind_of m.circuit.aig v within) [
     | is_constant same ↦ at_leaf (omega arith) (new_variable-leaf m (closed-passable m set.closed) v (omega arith))
@@ -117,11 +121,13 @@ module _ (m : Move) (set : IsClosedSet m.circuit.aig m.held m.set) where
   spot-constant v (at_latch within kept here) some = omega (arith, here)
   spot-constant v (at_gate within outer here) some = omega (arith, here, gates_start-is m)
 
+  -- what is read in the place of a variable stands before the copies
   pub spot-below : (v : ℕ) → Spot v → new_variable m v < copies_start m
   spot-below v (at_leaf low here) = omega (arith, here, copies_start-is m, gates_start-is m)
   spot-below v (at_latch within kept here) = omega (arith, here, copies_start-is m, gates_start-is m, count-lt (is_latched m) v (variables_end m.circuit.aig) within kept)
   spot-below v (at_gate within outer here) = omega (arith, here, copies_start-is m, count-lt (is_outside m) v (variables_end m.circuit.aig) within outer)
 
+  -- literals that are read as the same literal of the moved circuit are the same
   pub literal-one : (a b : ℕ) → Spot (variable a) → Spot (variable b) → moved_literal m a ≡ moved_literal m b → a ≡ b
   literal-one a b sa sb same =
       let vars : new_variable m (variable a) ≡ new_variable m (variable b) = omega (arith, same) in

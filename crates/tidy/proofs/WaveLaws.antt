@@ -53,30 +53,36 @@ of_both P a b first second = elim (cases_lt a b) [
 
 -- where the variables of a circuit stand in the moved one
 module _ (m : Move) (set : IsClosedSet m.circuit.aig m.held m.set) where
+  -- at the new variable of what has a latch stands the latch that the move makes for it
   pub latch_at-new : (v : ℕ) → v < variables_end m.circuit.aig → is_latched m v ≡ true → latch_at (moved_graph m) (new_variable m v) ≡ Some (latch_for m v)
   latch_at-new v within kept =
       let place : new_variable m v ≡ first_latch (moved_graph m) + count_below (is_latched m) v =
       omega (arith, new_variable-latched m (closed-passable m set.closed) v kept, moved-first_latch m) in
       ap (latch_at (moved_graph m)) place ∙ latch_at-first_latch (moved_graph m) (count_below (is_latched m) v) ∙ latch_in m v within kept
 
+  -- at the new variable of a gate outside the set stands that gate, reading the moved literals
   pub gate_at-new : (v : ℕ) → v < variables_end m.circuit.aig → is_outside m v ≡ true → gate_at (moved_graph m) (new_variable m v) ≡ Some (gate_for m v)
   gate_at-new v within outer =
       let place : new_variable m v ≡ first_gate (moved_graph m) + count_below (is_outside m) v =
       omega (arith, new_variable-outside m (closed-passable m set.closed) v outer, moved-first_gate m) in
       ap (gate_at (moved_graph m)) place ∙ gate_at-first_gate (moved_graph m) (count_below (is_outside m) v) ∙ gate_in m set v within outer
 
+  -- at the copy's variable of a member of the set stands its copy
   pub gate_at-copy : (v : ℕ) → v < variables_end m.circuit.aig → has m.set v ≡ true → gate_at (moved_graph m) (copy_variable m v) ≡ Some (copy_for m v)
   gate_at-copy v within member =
       let k : ℕ = count_below (is_outside m) (variables_end m.circuit.aig) + count_below (has m.set) v in
       let place : copy_variable m v ≡ first_gate (moved_graph m) + k = omega (arith, copy_variable-is m v, copies_start-is m, moved-first_gate m) in
       ap (gate_at (moved_graph m)) place ∙ gate_at-first_gate (moved_graph m) k ∙ copy_in m set v within member
 
+  -- a copy's variable is from the first latch on
   pub copy-from : (v : ℕ) → first_latch (moved_graph m) ≤ copy_variable m v
   copy-from v = omega (arith, copy_variable-is m v, copies_start-is m, gates_start-is m, moved-first_latch m)
 
+  -- the new variable of what has a latch is from the first latch on
   pub latched-from : (v : ℕ) → is_latched m v ≡ true → first_latch (moved_graph m) ≤ new_variable m v
   latched-from v kept = omega (arith, new_variable-latched m (closed-passable m set.closed) v kept, moved-first_latch m)
 
+  -- the new variable of a gate outside the set is from the first latch on
   pub outside-from : (v : ℕ) → is_outside m v ≡ true → first_latch (moved_graph m) ≤ new_variable m v
   outside-from v outer = omega (arith, new_variable-outside m (closed-passable m set.closed) v outer, gates_start-is m, moved-first_latch m)
 
@@ -375,6 +381,7 @@ module _ (m : Move) (valid : IsGraph m.circuit.aig) (netlist : IsNetlist m.circu
       ]
     ]
 
+-- each latch and gate of a moved tidy circuit is reached from what it must hold and read
 pub all_reached : (m : Move) → IsGraph m.circuit.aig → IsNetlist m.circuit → All (λ j. j < length m.circuit.aig.latches) m.held → IsClosedSet m.circuit.aig m.held m.set → IsTidy m.held m.circuit
     → (r : ℕ → Bool) → HoldsReads (moved_graph m) (moved_props m) (moved_held m) r → (u : ℕ) → first_latch (moved_graph m) ≤ u → u < variables_end (moved_graph m) → r u ≡ true
 all_reached m valid netlist in_range set tidy r holds u past within = moved-reached m valid netlist in_range set r holds tidy u past within

@@ -21,6 +21,7 @@ module _ (c : Netlist) (run : InputSequence) (n : ℕ) where
     ]
   ]
 
+  -- a bad state that is never reached isn't first reached at any step
   pub never_first : (t : ℕ) → NeverReached c run n → IsFirstReached c run n t → ⊥
   never_first t never p = never t p.within p.reaches
 
@@ -29,6 +30,7 @@ module _ (c : Netlist) (run : InputSequence) (n : ℕ) where
   found_first None t found is = absurd (false≢true is)
   found_first (Some u) t found is = subst (λ (k : ℕ). IsFirstReached c run n k) (eqb-true u t is) found
 
+  -- a step other than the one that was found isn't the first at which the bad state is reached
   pub found_other : (o : Option ℕ) (t : ℕ) → MatchOption o (NeverReached c run n) (IsFirstReached c run n) → is_step o t ≡ false → IsFirstReached c run n t → ⊥
   found_other None t never isnt first = never_first t never first
   found_other (Some u) t found isnt first = eqb-false u t isnt (one_first u t found first)
@@ -43,6 +45,7 @@ pushed (z ∷ xs) x y (suc i) at = elim (pushed xs x y i at) [
   | inr last ↦ inr (ap suc last.0, last.1)
 ]
 
+-- with the next property agreed on, all reached so far are agreed on
 pub one_more : (c d : Netlist) (run other : InputSequence) (properties : List Property) (reached more : List Reached) (p : Property) (r : Reached)
     → more ≡ reached ++ r ∷ [] → slice_get properties (length reached) ≡ Some p → IsAgreed c d run other p (Ok r) → AgreeEach c d run other properties reached
     → AgreeEach c d run other properties more

@@ -43,6 +43,7 @@ module _ (latch : Latch) (latches : List Latch) where
   taken_put reset.Free n [] long back = absurd (omega (arith, long))
   taken_put reset.Free n (digit ∷ free) long back = ap (λ ds. digit ∷ ds) (back free (omega (arith, long)))
 
+-- values for the free latches that are put among the resets, and taken out again, are the same
 pub taken_back : (latches : List Latch) (free : List Digit) → length free ≡ frees latches → free_digits latches (opening latches free) ≡ free
 unfolding free_digits opening
 taken_back [] [] long = refl
@@ -65,6 +66,7 @@ taken-few (latch ∷ latches) (digit ∷ digits) = by_test (is_free latch) (free
 
 -- ---- spread
 
+-- as many values are spread as there are free latches
 pub spread-length : (count place : ℕ) (kept : List ℕ) (digits : List Digit) → length (spread count place kept digits) ≡ count
 unfolding spread
 spread-length zero place kept digits = refl
@@ -74,8 +76,11 @@ spread-length (suc count) place kept digits =
 
 -- rising places from place on, below place + count
 pub record Rises (place count : ℕ) (kept : List ℕ) : Type 0 where
+  -- each kept place is from the first place on
   pub low : (j : ℕ) → j < length kept → place ≤ get_or kept j 0
+  -- each kept place is below the end
   pub high : (j : ℕ) → j < length kept → get_or kept j 0 < place + count
+  -- the kept places rise
   pub rising : (i j : ℕ) → i < j → j < length kept → get_or kept i 0 < get_or kept j 0
 
 rises-rest : (place count k : ℕ) (kept : List ℕ) → k ≡ place → Rises place (suc count) (k ∷ kept) → Rises (suc place) count kept
@@ -176,6 +181,7 @@ module _ (latches : List Latch) (digits : List Digit) (k : ℕ) where
   unfolding free_digits
   at_latch latch digit h g is there = ap₂ free_digits (from latches k latch h is) (from digits k digit g there)
 
+  -- the value of a free latch is the next one that is taken out
   pub free_taken : (whole done : List Digit) (latch : Latch) (first : Digit) → k < length latches → k < length digits → latch ≡ get_or latches k latch
       → is_free latch ≡ true → whole ≡ done ++ rest_free k → whole ≡ (done ++ get_or digits k first ∷ []) ++ rest_free (k + 1)
   free_taken whole done latch first h g is free same =
@@ -183,6 +189,7 @@ module _ (latches : List Latch) (digits : List Digit) (k : ℕ) where
       same ∙ ap (λ ds. done ++ ds) (at_latch latch digit h g is (any_default digits k first digit g) ∙ cond-true (is_free latch) (digit ∷ rest_free (k + 1)) (rest_free (k + 1)) free)
       ∙ sym (append_assoc done (digit ∷ []) (rest_free (k + 1)))
 
+  -- at a known latch no value is taken out
   pub known_passed : (whole done : List Digit) (latch : Latch) → k < length latches → k < length digits → latch ≡ get_or latches k latch
       → is_free latch ≡ false → whole ≡ done ++ rest_free k → whole ≡ done ++ rest_free (k + 1)
   known_passed whole done latch h g is known same =
@@ -195,6 +202,7 @@ module _ (latches : List Latch) (digits : List Digit) (k : ℕ) where
   none_free (l ∷ ls) [] none = refl
   none_free (l ∷ ls) (d ∷ ds) none = elim none [ inl e ↦ absurd (omega (arith, e)) | inr e ↦ absurd (omega (arith, e)) ]
 
+  -- past the last latch or value all values have been taken out
   pub free_all : (whole done : List Digit) → min (length latches) (length digits) ≤ k → whole ≡ done ++ rest_free k → done ≡ whole
   free_all whole done h same = sym (same ∙ ap (λ ds. done ++ ds) (none_free (drop k latches) (drop k digits) ended) ∙ append-nil done)
     where
@@ -206,12 +214,15 @@ module _ (latches : List Latch) (digits : List Digit) (k : ℕ) where
 
 -- ---- the kept places
 
+-- a place is the first of the kept ones that are left exactly where it is the next kept place
 pub first_at : (kept : List ℕ) (next place k : ℕ) → next < length kept → k ≡ get_or kept next k → is_first (drop next kept) place ≡ (k == place)
 first_at kept next place k h is = ap (λ (ks : List ℕ). is_first ks place) (from kept next k h is)
 
+-- where no kept place is left, no place is the first of them
 pub first_none : (kept : List ℕ) (next place : ℕ) → length kept ≤ next → is_first (drop next kept) place ≡ false
 first_none kept next place h = ap (λ (ks : List ℕ). is_first ks place) (past kept next h)
 
+-- the first of the values that are left is the next one, or either where there is none
 pub first-from : (digits : List Digit) (next : ℕ) → first_of (drop next digits) ≡ get_or digits next Either
 first-from digits next = get_or-drop next digits 0 Either ∙ ap (λ (n : ℕ). get_or digits n Either) zeroth
   where
@@ -237,6 +248,7 @@ module _ (count place next : ℕ) (kept : List ℕ) (digits whole done : List Di
   after : suc place ≡ place + 1
   after = omega arith
 
+  -- a kept place gets the next value
   pub place_kept : is_first (drop next kept) place ≡ true
       → whole ≡ (done ++ get_or digits next Either ∷ []) ++ spread (count - (place + 1)) (place + 1) (drop (next + 1) kept) (drop (next + 1) digits)
   place_kept is =
@@ -247,6 +259,7 @@ module _ (count place next : ℕ) (kept : List ℕ) (digits whole done : List Di
       ∙ ap₂ (λ (ks : List ℕ) (ds : List Digit). spread (count - (place + 1)) (place + 1) ks ds) (drop-more next kept) (drop-more next digits)))
       ∙ sym (append_assoc done (get_or digits next Either ∷ []) _)
 
+  -- a place that isn't kept gets either value
   pub place_other : is_first (drop next kept) place ≡ false
       → whole ≡ (done ++ Either ∷ []) ++ spread (count - (place + 1)) (place + 1) (drop next kept) (drop next digits)
   place_other isnt =
@@ -255,6 +268,7 @@ module _ (count place next : ℕ) (kept : List ℕ) (digits whole done : List Di
       ∙ ap (λ (p : ℕ). Either ∷ spread (count - (place + 1)) p (drop next kept) (drop next digits)) after)
       ∙ sym (append_assoc done (Either ∷ []) _)
 
+-- past the last place all values have been spread
 pub spread_all : (count place : ℕ) (kept : List ℕ) (digits whole done : List Digit) → count ≤ place → whole ≡ done ++ spread (count - place) place kept digits → done ≡ whole
 unfolding spread
 spread_all count place kept digits whole done h same =
@@ -271,6 +285,7 @@ module _ (latches : List Latch) (free whole done : List Digit) (k next : ℕ) (s
       same ∙ ap (λ ls. done ++ opening ls (drop next free)) (from latches k latch h is)
       ∙ sym (append_assoc done (opened latch.reset (drop next free) ∷ []) _)
 
+  -- a free latch holds at step 0 the next of the values
   pub free_opened : (latch : Latch) → k < length latches → latch ≡ get_or latches k latch → is_free latch ≡ true
       → whole ≡ (done ++ opened latch.reset (drop next free) ∷ []) ++ opening (drop (k + 1) latches) (drop (next + 1) free)
   free_opened latch h is free_is =
@@ -278,6 +293,7 @@ module _ (latches : List Latch) (free whole done : List Digit) (k next : ℕ) (s
       ∙ ap (λ (fs : List Digit). (done ++ opened latch.reset (drop next free) ∷ []) ++ opening (drop (k + 1) latches) fs)
       (cond-true (is_free latch) (drop 1 (drop next free)) (drop next free) free_is ∙ drop-more next free)
 
+  -- a known latch holds its reset at step 0, and takes none of the values
   pub known_opened : (latch : Latch) → k < length latches → latch ≡ get_or latches k latch → is_free latch ≡ false
       → whole ≡ (done ++ opened latch.reset (drop next free) ∷ []) ++ opening (drop (k + 1) latches) (drop next free)
   known_opened latch h is known =
@@ -285,6 +301,7 @@ module _ (latches : List Latch) (free whole done : List Digit) (k next : ℕ) (s
       ∙ ap (λ (fs : List Digit). (done ++ opened latch.reset (drop next free) ∷ []) ++ opening (drop (k + 1) latches) fs)
       (cond-false (is_free latch) (drop 1 (drop next free)) (drop next free) known)
 
+  -- past the last latch all have what they hold at step 0
   pub opening_all : length latches ≤ k → done ≡ whole
   unfolding opening
   opening_all h = sym (same ∙ ap (λ ls. done ++ opening ls (drop next free)) (past latches k h) ∙ append-nil done)

@@ -29,5 +29,6 @@ first_left at end now text line more within (here, first) same =
 pub comment_left : (at : ℕ) (text : List ℕ) (rest : List Statement) → is_comment text ≡ true → with_line at text rest ≡ rest
 comment_left at text rest is = cond-true (is_comment text) rest (record { at = at; text = text } ∷ rest) is
 
+-- a line that is no comment is the first statement of those that are left
 pub statement_left : (at : ℕ) (text : List ℕ) (rest : List Statement) → is_comment text ≡ false → with_line at text rest ≡ record { at = at; text = text } ∷ rest
 statement_left at text rest isnt = cond-false (is_comment text) rest (record { at = at; text = text } ∷ rest) isnt

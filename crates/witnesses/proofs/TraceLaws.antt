@@ -38,6 +38,7 @@ module _ (c : Netlist) (run : InputSequence) (tr : List (List (List Bool))) (is 
   unfolding trace
   traced = refl
 
+  -- the trace has as many steps as the sequence
   pub steps_are : steps_of tr ≡ length run.steps
   steps_are = ap (λ t. length (get_or t 0 [])) (is ∙ traced) ∙ length-map-range_with_len (row_of c run) 0 (length run.steps)
 
@@ -138,6 +139,7 @@ module _ (c : Netlist) (run : InputSequence) (tr : List (List (List Bool))) (is 
       constrained = λ u less. are_true u (omega (arith, h, less)) (r.constrained u less);
     }
 
+    -- the first step at which a bad state's place in the trace is met is the one at which it is first reached
     pub found_first : (o : Option ℕ) → MatchOption o (NeverMet tr p (constraint_places c.props)) (IsFirstMet tr p (constraint_places c.props))
         → MatchOption o (NeverReached c run n) (IsFirstReached c run n)
     found_first None never = λ t h r. never t (omega (arith, h, steps_are)) (meets t h r)
@@ -156,6 +158,7 @@ module _ (c : Netlist) (run : InputSequence) (tr : List (List (List Bool))) (is 
   none_there n true false e none less = none-some n (sym none)
   none_there n false false e none less = none-some (length c.props.outputs + n) (sym none)
 
+  -- a bad state that the circuit doesn't have is never reached
   pub found_none : (n : ℕ) → bad_place c.props n ≡ None → NeverReached c run n
   found_none n none t h r =
       let within = slice_get_within (bad_row c (inputs_of run) (choice_of run) t) n true r.bad in
