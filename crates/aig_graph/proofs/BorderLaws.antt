@@ -28,19 +28,23 @@ counted-early : (g : Graph) (inside marks : List Bool) (v : ℕ) → v < first_l
 unfolding is_counted
 counted-early g inside marks v h = ap (λ (b : Bool). b && ((is_some (gate_at g v) && mark_at (first_latch g) inside v) || is_known (latch_at g v))) (mark_at-early (first_latch g) marks v h)
 
+-- before the first latch nothing is counted
 pub counted-start : (g : Graph) (inside marks : List Bool) (n : ℕ) → n ≡ first_latch g → 0 ≡ count_below (is_counted g inside marks) n
 counted-start g inside marks n same = sym (count-none (is_counted g inside marks) n (λ v h. counted-early g inside marks v (omega arith)))
 
+-- a number that passes adds one to the total
 pub counted-pass : (p : ℕ → Bool) (n total next : ℕ) (b : Bool) → b ≡ p n → b ≡ true → total ≡ count_below p n → next ≡ total + 1 → next ≡ count_below p (n + 1)
 counted-pass p n total next b same passes counted more =
     let step : n + 1 ≡ suc n = omega arith in
     more ∙ ap (λ (k : ℕ). k + 1) counted ∙ sym (count-pass p n (sym same ∙ passes)) ∙ ap (count_below p) (sym step)
 
+-- a number that doesn't pass leaves the total as it is
 pub counted-fail : (p : ℕ → Bool) (n total next : ℕ) (b : Bool) → b ≡ p n → b ≡ false → total ≡ count_below p n → next ≡ total → next ≡ count_below p (n + 1)
 counted-fail p n total next b same other counted more =
     let step : n + 1 ≡ suc n = omega arith in
     more ∙ counted ∙ sym (count-fail p n (sym same ∙ other)) ∙ ap (count_below p) (sym step)
 
+-- the total at the end is the count of all
 pub counted-end : (p : ℕ → Bool) (n m total : ℕ) → n ≡ m → total ≡ count_below p n → total ≡ count_below p m
 counted-end p n m total same counted = counted ∙ ap (count_below p) same
 
@@ -67,6 +71,7 @@ module _ (c : Netlist) (held s : List ℕ) (inside marks : List Bool)
       ap₂ (λ (a b : Bool). a && ((is_some (gate_at c.aig v) && b) || is_known (latch_at c.aig v))) (here ∙ ap (λ (b : Bool). b || is_held c.aig held v) read) member
       ∙ turned (is_read c s v) (is_held c.aig held v) (is_gate_in c.aig s v) (is_known (latch_at c.aig v))
 
+  -- what marks of the set, and of what is held or read from outside, count is the size of the border
   pub border_size-counted : count_below (is_counted c.aig inside marks) (variables_end c.aig) ≡ border_size (move_of c held s)
   unfolding border_size
   border_size-counted = count_below-same (is_counted c.aig inside marks) (in_border (move_of c held s)) (variables_end c.aig) (λ v h. elim (cases_lt v (first_latch c.aig)) [

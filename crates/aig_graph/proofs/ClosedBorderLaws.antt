@@ -19,6 +19,7 @@ is_gate_in-same g s gates v = elim (cases_Bool (has s v)) [
   | inr other ↦ and_right (is_some (gate_at g v)) (has s v) other ∙ sym other
 ]
 
+-- the border of a closed set are the known latches and members that are held or read from outside
 pub closed_border_law : (c : Netlist) (held s : List ℕ) (v : ℕ) → ClosedBorderLaw c held s v
 unfolding in_border
 closed_border_law c held s v set =

@@ -17,10 +17,12 @@ known-latch : (o : Option Latch) → IsTrue (is_known o) → (latch : Latch) × 
 known-latch None h = absurd (cc)
 known-latch (Some latch) h = (latch, refl)
 
+-- where both of two hold, the first does
 pub and_left : (a b : Bool) → IsTrue (a && b) → IsTrue a
 and_left true b p = refl
 and_left false b p = absurd (cc)
 
+-- where both of two hold, the second does
 pub and_right : (a b : Bool) → IsTrue (a && b) → IsTrue b
 and_right true b p = p
 and_right false b p = absurd (cc)
@@ -40,6 +42,7 @@ module _ (g : Graph) (held : List ℕ) where
   unfolding is_settled
   is_settled-leaf v e = fold_gates-leaf g (may_move g held) both v e
 
+  -- a gate is settled exactly where both its fan-ins' variables are
   pub is_settled-gate : IsGraph g → (v : ℕ) (gate : Gate) → gate_at g v ≡ Some gate
       → is_settled g held v ≡ (is_settled g held (variable gate.rhs0) && is_settled g held (variable gate.rhs1))
   unfolding is_settled
@@ -93,6 +96,7 @@ module _ (g : Graph) (held : List ℕ) (valid : IsGraph g) (s : List ℕ) where
   movable_or_in v settled (inl latch) = inl (subst (λ (b : Bool). IsTrue b) (is_settled-latch g held v latch.0 latch.1) settled)
   movable_or_in v settled (inr member) = inr member
 
+  -- a set whose members all rest on latches that may move and on members is closed
   pub closed-from_rests : ((v : ℕ) → Contains s v → RestsOn g held s v) → IsClosed g held s
   unfolding RestsOn
   closed-from_rests rests = record {
@@ -104,6 +108,7 @@ module _ (g : Graph) (held : List ℕ) (valid : IsGraph g) (s : List ℕ) where
         (latch_or_in (variable rest.0.rhs0) rest.2, latch_or_in (variable rest.0.rhs1) rest.3);
   }
 
+  -- each member of a closed set rests on latches that may move and on members
   pub rests-from_closed : IsClosed g held s → (v : ℕ) → Contains s v → RestsOn g held s v
   unfolding RestsOn
   rests-from_closed closed v member =
@@ -124,12 +129,14 @@ at_member P s all v member = subst P member.2 (all member.0 v member.1)
 at_each : (P : ℕ → Type 0) (s : List ℕ) → ((v : ℕ) → Contains s v → P v) → All P s
 at_each P s every = λ k d h. every (get_or s k d) (k, h, get_or_default s k (get_or s k d) d h)
 
+-- a set is closed exactly where each of its list rests on latches that may move and on members
 pub closed_iff_rests : (g : Graph) (held : List ℕ) → IsGraph g → (s : List ℕ) → IsClosed g held s ↔ All (RestsOn g held s) s
 closed_iff_rests g held valid s = (
   (λ closed. at_each (RestsOn g held s) s (rests-from_closed g held valid s closed)),
   (λ all. closed-from_rests g held valid s (at_member (RestsOn g held s) s all)),
 )
 
+-- a strictly rising list is a closed set exactly where each of it rests on latches that may move and on members
 pub closed_set_iff_rests : (g : Graph) (held : List ℕ) → IsGraph g → (s : List ℕ) → IsStrictlyIncreasing s → IsClosedSet g held s ↔ All (RestsOn g held s) s
 closed_set_iff_rests g held valid s rising =
     let laws = closed_iff_rests g held valid s in

@@ -6,15 +6,18 @@ use Rattle.aig_graph.specs.declared.graph.Gate.{Gate}
 use Rattle.aig_graph.specs.Graph.{Graph, IsGraph, IsGateAt, variable, first_gate, gate_at}
 use Rattle.aig_graph.specs.Folding.{fold_step, fold_to_depth, fold_gates}
 
+-- before the first gate stands no gate
 pub gate_at-before : (g : Graph) (v : ℕ) → v < first_gate g → gate_at g v ≡ None
 gate_at-before g v h = cond-false _ _ _ (lt-leb _ _ h)
 
+-- each gate stands at its place from the first gate's variable on
 pub gate_at-first_gate : (g : Graph) (k : ℕ) → gate_at g (first_gate g + k) ≡ slice_get g.gates k
 gate_at-first_gate g k =
     let at_or_after : nat_le (first_gate g) (first_gate g + k) ≡ true = le-leb _ _ (omega arith) in
     let place : first_gate g + k - first_gate g ≡ k = omega arith in
     rw (at_or_after, place)
 
+-- what is there under a condition is there, and the condition holds
 pub if_some : {A : Type 0} (b : Bool) (o : Option A) (y : A) → cond b o None ≡ Some y → (b ≡ true) × (o ≡ Some y)
 if_some true o y e = (refl, e)
 if_some false o y e = absurd (none-some y e)
@@ -45,11 +48,13 @@ fold_to_depth-same g valid leaf rule (suc n) (suc m) v p q =
       fold_to_depth-same g valid leaf rule n m (variable gate.rhs1) (omega arith) (omega arith),
     ))
 
+-- a variable that is no gate gets its own
 pub fold_gates-leaf : {A : Type 0} (g : Graph) (leaf : ℕ → A) (rule : Gate → A → A → A) (v : ℕ)
     → gate_at g v ≡ None → fold_gates g leaf rule v ≡ leaf v
 unfolding fold_gates fold_to_depth
 fold_gates-leaf g leaf rule v e = ap (fold_step leaf rule (fold_to_depth g leaf rule v) v) e
 
+-- a gate gets what the rule makes of what its fan-ins' variables get
 pub fold_gates-gate : {A : Type 0} (g : Graph) → IsGraph g → (leaf : ℕ → A) (rule : Gate → A → A → A) (v : ℕ) (gate : Gate)
     → gate_at g v ≡ Some gate
     → fold_gates g leaf rule v ≡ rule gate (fold_gates g leaf rule (variable gate.rhs0)) (fold_gates g leaf rule (variable gate.rhs1))

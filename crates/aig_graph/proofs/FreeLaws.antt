@@ -43,5 +43,6 @@ free-count_rest g (suc k) =
     let place : first_gate g + suc k ≡ suc (first_gate g + k) = omega arith in
     ap (count_below (is_free_at g)) place ∙ count-fail (is_free_at g) (first_gate g + k) (ap is_free_latch (latch_at-gates g (first_gate g + k) (omega arith))) ∙ free-count_rest g k
 
+-- the free latches counted over all variables are the free latches
 pub free-count_all : (g : Graph) → count_below (is_free_at g) (variables_end g) ≡ free_latches g
 free-count_all g = free-count_rest g (length g.gates)

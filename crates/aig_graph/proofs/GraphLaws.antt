@@ -30,12 +30,14 @@ IsGraph-with_gate g h a b same_graph valid room of_h_a of_h_b =
       ];
     }
 
+-- a list with the latch at a place replaced, its reset kept, is one with another next literal there
 pub next_at-slice_set : (xs : List Latch) (k next : ℕ) (latch : Latch) → slice_get xs k ≡ Some latch
     → slice_set xs k (record { next = next; reset = latch.reset }) ≡ next_at xs k next
 next_at-slice_set [] k next latch e = refl
 next_at-slice_set (x ∷ xs) zero next latch e = let same : x ≡ latch = same_Some x latch e in cc
 next_at-slice_set (x ∷ xs) (suc k) next latch e = ap (λ ys. x ∷ ys) (next_at-slice_set xs k next latch e)
 
+-- with another next literal there are as many latches
 pub length-next_at : (xs : List Latch) (k next : ℕ) → length (next_at xs k next) ≡ length xs
 length-next_at [] k next = refl
 length-next_at (x ∷ xs) zero next = refl
@@ -49,6 +51,7 @@ next_at-cases (x ∷ xs) zero next (suc j) latch e = inl e
 next_at-cases (x ∷ xs) (suc k) next zero latch e = inl e
 next_at-cases (x ∷ xs) (suc k) next (suc j) latch e = next_at-cases xs k next j latch e
 
+-- a graph with a next literal of it in the place of another is one
 pub IsGraph-with_next : (g h : Graph) (k next : ℕ) → g ≡ h → IsGraph g → IsLiteralOf h next → IsGraph (with_next g k next)
 IsGraph-with_next g h k next same_graph valid of_h =
     let in_next : IsLiteralOf g next = subst (λ (x : Graph). IsLiteralOf x next) (sym same_graph) of_h in
@@ -62,6 +65,7 @@ IsGraph-with_next g h k next same_graph valid of_h =
       gates = λ j gate e. rw same (valid.gates j gate e);
     }
 
+-- what holds of the element at each place holds of all
 pub all_from_slice_get : {X : Type 0} (P : X → Type 0) (xs : List X) → ((k : ℕ) (x : X) → slice_get xs k ≡ Some x → P x) → All P xs
 all_from_slice_get P xs every = λ k d h. every k (get_or xs k d) (slice_get-get_or xs k d h)
 
@@ -70,6 +74,7 @@ pub latches-within : (g : Graph) (n : ℕ) → IsGraph g → n ≡ variables_end
 latches-within g n valid e = all_from_slice_get (λ (latch : Latch). variable latch.next < n) g.latches (λ k latch there.
     let within : variable latch.next < variables_end g = valid.latches k latch there in omega arith)
 
+-- the fan-ins of a graph's gates are in range
 pub gates-within : (g : Graph) (n : ℕ) → IsGraph g → n ≡ variables_end g
     → All (λ (gate : Gate). (variable gate.rhs0 < n) × (variable gate.rhs1 < n)) g.gates
 gates-within g n valid e = all_from_slice_get (λ (gate : Gate). (variable gate.rhs0 < n) × (variable gate.rhs1 < n)) g.gates (λ k gate there.
@@ -94,6 +99,7 @@ pass_or_not test (x ∷ xs) =
     either true = refl
     either false = refl
 
+-- the known latches and the free ones are all
 pub known_and_free : (g : Graph) → known_latches g + free_latches g ≡ length g.latches
 known_and_free g = rw take-length (omega (arith, pass_or_not is_free g.latches))
 

@@ -24,10 +24,12 @@ found-more p xs i d b found h here before =
     either false true = refl
     either false false = refl
 
+-- some element of a mapped list passes exactly where some element's image does
 pub list_any-map : {X Y : Type 0} (f : X → Y) (p : Y → Bool) (xs : List X) → list_any p (map f xs) ≡ list_any (λ x. p (f x)) xs
 list_any-map f p [] = refl
 list_any-map f p (x ∷ xs) = ap (λ (b : Bool). p (f x) || b) (list_any-map f p xs)
 
+-- where all names before this one are symbols', and it isn't, it is the first that is missing
 pub missing-at : (symbols : List Symbol) (names : List (List ℕ)) (i : ℕ) → i < length names
     → ((k : ℕ) → k < i → has_name symbols (get_or names k []) ≡ true) → has_name symbols (get_or names i []) ≡ false → first_missing symbols names ≡ Some i
 unfolding first_missing
@@ -35,6 +37,7 @@ missing-at symbols names i h before here =
     let at = position_or_len_is (λ name. not (has_name symbols name)) names i [] (omega arith) (λ k low. ap not (before k low)) (λ high. ap not here) in
     ap (λ (n : ℕ). cond (nat_lt n (length names)) (Some n) None) at ∙ ap (λ (b : Bool). cond b (Some i) None) (lt-ltb i (length names) h)
 
+-- where each name is a symbol's, none is missing
 pub missing-none : (symbols : List Symbol) (names : List (List ℕ)) → ((k : ℕ) → k < length names → has_name symbols (get_or names k []) ≡ true) → first_missing symbols names ≡ None
 unfolding first_missing
 missing-none symbols names all =
@@ -42,6 +45,7 @@ missing-none symbols names all =
     let at = position_or_len_is (λ name. not (has_name symbols name)) names n [] (omega arith) (λ k low. ap not (all k low)) (λ high. absurd (omega arith)) in
     ap (λ (m : ℕ). cond (nat_lt m n) (Some m) None) at ∙ ap (λ (b : Bool). cond b (Some n) None) (le-ltb n n (omega arith))
 
+-- where there is no symbol, nothing is held
 pub held-none : (names : List (List ℕ)) → held_by names [] ≡ []
 unfolding held_by
 held-none names = refl
@@ -61,6 +65,7 @@ held-more names symbols i d h =
     pushed [] x false = refl
     pushed (y ∷ ys) x b = ap (λ (zs : List ℕ). y.position ∷ zs) (pushed ys x b)
 
+-- a symbol with one of the names adds its position to what is held
 pub held-pass : (names : List (List ℕ)) (symbols : List Symbol) (i : ℕ) (s : Symbol) (before after : List ℕ) → i < length symbols → s ≡ get_or symbols i s → is_named names s ≡ true
     → before ≡ held_by names (take i symbols) → after ≡ before ++ s.position ∷ [] → after ≡ held_by names (take (i + 1) symbols)
 held-pass names symbols i s before after h there named held pushed =
@@ -69,6 +74,7 @@ held-pass names symbols i s before after h there named held pushed =
     pushed ∙ ap₂ (λ (xs : List ℕ) (t : Symbol). xs ++ t.position ∷ []) held there
     ∙ ap (λ (b : Bool). held_by names (take i symbols) ++ cond b ((get_or symbols i s).position ∷ []) []) (sym here) ∙ sym more
 
+-- a symbol with none of the names leaves what is held as it is
 pub held-fail : (names : List (List ℕ)) (symbols : List Symbol) (i : ℕ) (s : Symbol) (before after : List ℕ) → i < length symbols → s ≡ get_or symbols i s → is_named names s ≡ false
     → before ≡ held_by names (take i symbols) → after ≡ before → after ≡ held_by names (take (i + 1) symbols)
 held-fail names symbols i s before after h there other held same =
@@ -81,6 +87,7 @@ held-fail names symbols i s before after h there other held same =
     append_nil [] = refl
     append_nil (x ∷ xs) = ap (λ (ys : List ℕ). x ∷ ys) (append_nil xs)
 
+-- the positions that names hold rise strictly, as the symbols' positions do
 pub held-rising : (names : List (List ℕ)) (symbols : List Symbol) (n : ℕ) → AreNamesBelow n symbols → IsStrictlyIncreasing (held_by names symbols)
 unfolding held_by
 held-rising names symbols n valid k h =
@@ -113,9 +120,11 @@ held-nobody symbols = ap (map position_of) (none symbols)
     none [] = refl
     none (x ∷ xs) = none xs
 
+-- of no names none is missing
 pub missing-nobody : (symbols : List Symbol) → first_missing symbols [] ≡ None
 missing-nobody symbols = missing-none symbols [] (λ k h. absurd (omega arith))
 
+-- a list whose length is 0 is empty
 pub empty-none : {X : Type 0} (xs : List X) → nat_eq (length xs) 0 ≡ true → xs ≡ []
 empty-none [] h = refl
 empty-none (x ∷ xs) h = let other = ne_eqb (length (x ∷ xs)) 0 (λ e. absurd (omega arith)) in absurd (cc)

@@ -25,14 +25,17 @@ each-flat {A} P [] all = All-nil (λ (ys : List A). All P ys)
 each-flat {A} P (xs ∷ xss) all =
     All-cons (λ (ys : List A). All P ys) xs xss (All-left P xs (flat_map (λ (ys : List A). ys) xss) all) (each-flat P xss (All-right P xs (flat_map (λ (ys : List A). ys) xss) all))
 
+-- lists that are mapped one by one and joined are the joined list mapped
 pub flat-map_map : {A B : Type 0} (f : A → B) (xss : List (List A)) → flat_map (λ ys. ys) (map (map f) xss) ≡ map f (flat_map (λ xs. xs) xss)
 flat-map_map f [] = refl
 flat-map_map {A} {B} f (xs ∷ xss) = ap (λ (ys : List B). map f xs ++ ys) (flat-map_map f xss) ∙ sym (map-append f xs (flat_map (λ (ys : List A). ys) xss))
 
+-- lists that are mapped one by one keep their lengths
 pub map_lengths : {A B : Type 0} (f : A → B) (xss : List (List A)) → map length (map (map f) xss) ≡ map length xss
 map_lengths f [] = refl
 map_lengths f (xs ∷ xss) = let one : length (map f xs) ≡ length xs = length-map xs f in let rest : map length (map (map f) xss) ≡ map length xss = map_lengths f xss in cc
 
+-- what holds of all literals of properties holds of those of each kind
 pub of_literals : (P : ℕ → Type 0) (p : Props) → All P (property_literals p) → OfProps P p
 of_literals P p all =
     let flat = flat_map (λ (lits : List ℕ). lits) p.justice in
@@ -47,6 +50,7 @@ of_literals P p all =
       fairness = All-right P (p.outputs ++ p.bad ++ p.constraints ++ flat) p.fairness all;
     }
 
+-- what holds of the literals of each kind holds of all literals of properties
 pub to_literals : (P : ℕ → Type 0) (p : Props) → OfProps P p → All P (property_literals p)
 to_literals P p of_p =
     let flat = flat_map (λ (lits : List ℕ). lits) p.justice in
@@ -56,6 +60,7 @@ to_literals P p of_p =
     (flat-all P p.justice of_p.justice))
     of_p.fairness
 
+-- the literals of mapped properties are the mapped literals
 pub mapped-literals : (f : ℕ → ℕ) (p : Props) → property_literals (mapped_props f p) ≡ map f (property_literals p)
 unfolding mapped_props
 mapped-literals f p =
@@ -80,6 +85,7 @@ mapped-is f p outputs bad constraints justice fairness one two three four five =
     let fifth : List ℕ → Props = λ xs. record { outputs = map f p.outputs; bad = map f p.bad; constraints = map f p.constraints; justice = map (map f) p.justice; fairness = xs } in
     ap first one ∙ ap second two ∙ ap third three ∙ ap fourth four ∙ ap fifth five
 
+-- a circuit with as many inputs and mapped properties has the same shape
 pub mapped-shape : (f : ℕ → ℕ) (c d : Netlist) → d.aig.inputs ≡ c.aig.inputs → d.props ≡ mapped_props f c.props → SameShape c d
 unfolding mapped_props
 mapped-shape f c d inputs props = record {
@@ -91,6 +97,7 @@ mapped-shape f c d inputs props = record {
   fairness = ap (λ (p : Props). length p.fairness) props ∙ length-map c.props.fairness f;
 }
 
+-- properties whose literals of each kind are the graph's have only literals of the graph
 pub literals_within : (g : Graph) (p : Props) → ArePropsOf g p → All (λ lit. IsLiteralOf g lit) (property_literals p)
 literals_within g p props =
     to_literals (λ lit. IsLiteralOf g lit) p (record { outputs = props.outputs; bad = props.bad; constraints = props.constraints; justice = props.justice; fairness = props.fairness })

@@ -21,6 +21,7 @@ use Rattle.variable_tables.proofs.CountingLaws.{count_below-same}
 settled_iff : (g : Graph) (held : List ℕ) (v : ℕ) → IsTrue (is_settled g held v) ↔ MayMoveOrPassable g held v
 settled_iff g held v = settled_where g held v
 
+-- a gate is passable exactly where each fan-in's variable is a known latch that isn't held, or a passable gate
 pub passable_law : (g : Graph) (held : List ℕ) (v : ℕ) → IsGraph g → PassableLaw g held v
 passable_law g held v valid = (
   (λ passable.
@@ -42,6 +43,7 @@ passable_law g held v valid = (
       )),
 )
 
+-- the empty set is closed
 pub empty-closed : (g : Graph) (held : List ℕ) → IsClosedSet g held []
 empty-closed g held = record {
   rising = λ i h. absurd (omega arith);
@@ -51,6 +53,7 @@ empty-closed g held = record {
   };
 }
 
+-- the empty set is closed, and its border are the known latches that are held or read
 pub empty_set_laws : (c : Netlist) (held : List ℕ) → EmptySetLaws c held
 empty_set_laws c held = record {
   closed = empty-closed c.aig held;
@@ -112,6 +115,7 @@ rising_same (x ∷ xs) (y ∷ ys) p q there back =
     let tails : xs ≡ ys = rising_same xs ys (tail_rising x xs p) (tail_rising y ys q) (tail_within x xs y ys heads p there) (tail_within y ys x xs (sym heads) q back) in
     cc
 
+-- there is at most one greatest least set, and one smallest
 pub at_most_one : (c : Netlist) (held s r : List ℕ) → AtMostOne c held s r
 at_most_one c held s r = record {
   greatest = λ p q. rising_same s r p.least.closed.rising q.least.closed.rising (q.holds s p.least) (p.holds r q.least);

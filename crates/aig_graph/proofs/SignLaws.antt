@@ -6,12 +6,15 @@ use Rattle.aig_graph.specs.Graph.{variable}
 use Rattle.aig_graph.specs.Value.{signed, signed_as}
 use Rattle.aig_graph.specs.Building.{gate_of}
 
+-- each odd literal has the negated value of the even one of its variable
 pub IsNegated : (ℕ → Bool) → Type 0
 IsNegated values = (v : ℕ) → values (2 * v + 1) ≡ not (values (2 * v))
 
+-- an even literal leaves a value as it is
 pub signed-even : (lit : ℕ) (b : Bool) → lit % 2 ≡ 0 → signed lit b ≡ b
 signed-even lit b e = ap (λ (m : ℕ). cond (nat_eq m 1) (not b) b) e
 
+-- an odd literal negates a value
 pub signed-odd : (lit : ℕ) (b : Bool) → lit % 2 ≡ 1 → signed lit b ≡ not b
 signed-odd lit b e = ap (λ (m : ℕ). cond (nat_eq m 1) (not b) b) e
 
@@ -25,6 +28,7 @@ value_signed values negated lit = elim (parity lit) [
   | inr odd ↦ (let place : lit ≡ 2 * variable lit + 1 = omega arith in ap values place ∙ negated (variable lit) ∙ sym (signed-odd lit (values (2 * variable lit)) odd))
 ]
 
+-- a literal with the sign of another added has its value, negated where the other is odd
 pub value_signed_as : (values : ℕ → Bool) → ((v : ℕ) → values (2 * v + 1) ≡ not (values (2 * v))) → (lit base : ℕ) → values (signed_as lit base) ≡ signed lit (values base)
 value_signed_as values negated lit base = elim (parity lit) [
   | inl even ↦ (
@@ -42,9 +46,11 @@ value_signed_as values negated lit base = elim (parity lit) [
   ]
 ]
 
+-- a literal with another's sign is one of the same variable
 pub variable-signed_as : (lit base : ℕ) → variable (signed_as lit base) ≡ variable base
 variable-signed_as lit base = omega arith
 
+-- a variable's even literal with another's sign is one of that variable
 pub variable-signed_as_twice : (lit v : ℕ) → variable (signed_as lit (2 * v)) ≡ v
 variable-signed_as_twice lit v = omega arith
 
@@ -61,11 +67,14 @@ value-gate_of values a b = elim (cases_lt a b) [
       ap (λ (n : ℕ). values n && values (gate_of a b).rhs1) first ∙ ap (λ (n : ℕ). values a && values n) second)
 ]
 
+-- the gate of two literals has the larger one first
 pub gate_of-ordered : (a b : ℕ) → (gate_of a b).rhs1 ≤ (gate_of a b).rhs0
 gate_of-ordered a b = omega arith
 
+-- the gate of two literals of variables below n has its fan-ins' variables below n
 pub gate_of-below : (n a b : ℕ) → variable a < n → variable b < n → variable (gate_of a b).rhs0 < n
 gate_of-below n a b p q = omega arith
 
+-- a number that isn't odd is even
 pub even-where : (lit : ℕ) → (lit % 2 ≡ 1 → ⊥) → lit % 2 ≡ 0
 even-where lit other = elim (parity lit) [ inl even ↦ even | inr odd ↦ absurd (other odd) ]

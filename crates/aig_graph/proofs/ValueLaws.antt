@@ -58,6 +58,7 @@ module _ (g : Graph) (inputs latches : ℕ → Bool) where
   within-gate valid k gate e =
       within-even (first_gate g + k) ∙ fold_gates-gate g valid (leaf_value g inputs latches) conjunction (first_gate g + k) gate (gate_at-first_gate g k ∙ e)
 
+-- the value of a constant, an input, a latch at step 0 and later, a gate and a negation is what it should be
 pub value_laws : (g : Graph) → IsGraph g → (x : Inputs) (f : Choice) → ValueLaws g x f
 unfolding value latch_value
 value_laws g valid x f = record {

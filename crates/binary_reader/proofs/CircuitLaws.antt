@@ -39,6 +39,7 @@ are_all c kept here =
 in_range : (c : Contents) → IsKept c → section_of c ≡ Symbols → (lit : ℕ) → lit ≤ 2 * c.header.greatest + 1 → variable lit < variables_end (netlist_of c).aig
 in_range c kept here lit within = let end = (are_all c kept here).end in omega (arith, within, end)
 
+-- contents of which all sections are full make a graph
 pub graph_kept : (c : Contents) → IsKept c → section_of c ≡ Symbols → IsGraph (netlist_of c).aig
 graph_kept c kept here =
     let all = are_all c kept here in
@@ -54,6 +55,7 @@ graph_kept c kept here =
 literals_of : (c : Contents) → IsKept c → section_of c ≡ Symbols → (lits : List ℕ) → All (IsWithin c.header) lits → AreLiteralsOf (netlist_of c).aig lits
 literals_of c kept here lits within = λ k d less. in_range c kept here (get_or lits k d) (within k d less)
 
+-- contents of which all sections are full make a circuit
 pub netlist_kept : (c : Contents) → IsKept c → section_of c ≡ Symbols → IsNetlist (netlist_of c)
 netlist_kept c kept here =
     let full = are_full c here in

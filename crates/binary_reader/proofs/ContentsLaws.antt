@@ -25,6 +25,7 @@ section_is c h raw is =
 pub latch_literal_is : (c : Contents) (h : Header) (raw : Raw) → IsAt c h raw → latch_literal c ≡ next_latch h raw
 latch_literal_is c h raw is = ap latch_literal is ∙ ap (λ (n : ℕ). 2 * (h.inputs + 1 + n)) (length-map raw.latches latch_of)
 
+-- the literal of the next gate by the contents is that by the raw circuit
 pub gate_literal_is : (c : Contents) (h : Header) (raw : Raw) → IsAt c h raw → gate_literal c ≡ next_gate h raw
 gate_literal_is c h raw is = ap gate_literal is ∙ ap (λ (n : ℕ). 2 * (h.inputs + h.latches + 1 + n)) (length-map raw.gates gate_of)
 
@@ -66,12 +67,18 @@ none_has_room false false false false false is = (refl, refl, refl, refl, refl)
 
 -- no section is short where symbols come next
 pub record AreFull (c : Contents) : Type 0 where
+  -- there are all latches of the header
   pub latches : c.header.latches ≤ length c.latches
+  -- there are all outputs, bad states and constraints of the header
   pub safety : safety_count c.header ≤ length c.properties.safety
+  -- there are all sizes of justice properties of the header
   pub sizes : c.header.justice ≤ length c.properties.sizes
+  -- there are all literals of justice properties, and all fairness literals of the header
   pub liveness : sum c.properties.sizes + c.header.fairness ≤ length c.properties.liveness
+  -- there are all gates of the header
   pub gates : c.header.gates ≤ length c.gates
 
+-- where symbols come next, all other sections are full
 pub are_full : (c : Contents) → section_of c ≡ Symbols → AreFull c
 are_full c is =
     let full = none_has_room _ _ _ _ _ is in

@@ -14,11 +14,13 @@ use Rattle.binary_reader.specs.Cutting.{BeginsWithDelta, IsShortDelta, AreDeltaS
 
 -- ---- deltas of at most three bytes
 
+-- bytes of which the first is below 128 begin with the delta of that byte
 pub one_byte : (bytes : List ℕ) (number : ℕ) → 3 ≤ length bytes → get_or bytes 0 0 < 128 → number ≡ get_or bytes 0 0 → BeginsWithDelta bytes number (drop 1 bytes)
 unfolding is_delta delta_value
 one_byte [] number enough small e = absurd (omega (arith, enough))
 one_byte (b ∷ bytes) number enough small e = record { delta = b ∷ []; parts = refl; form = lt-ltb b 128 small; few = omega arith; value = omega (arith, e, small) }
 
+-- bytes of which the second is the first below 128 begin with the delta of these two
 pub two_bytes : (bytes : List ℕ) (number : ℕ) → 3 ≤ length bytes → 128 ≤ get_or bytes 0 0 → get_or bytes 1 0 < 128 → number ≡ get_or bytes 0 0 % 128 + 128 * get_or bytes 1 0 → BeginsWithDelta bytes number (drop 2 bytes)
 unfolding is_delta delta_value
 two_bytes [] number enough high small e = absurd (omega (arith, enough))
@@ -31,6 +33,7 @@ two_bytes (b ∷ d ∷ bytes) number enough high small e = record {
   value = omega (arith, e, small);
 }
 
+-- bytes of which the third is the first below 128 begin with the delta of these three
 pub three_bytes : (bytes : List ℕ) (number : ℕ) → 3 ≤ length bytes → 128 ≤ get_or bytes 0 0 → 128 ≤ get_or bytes 1 0 → get_or bytes 2 0 < 128
     → number ≡ get_or bytes 0 0 % 128 + 128 * (get_or bytes 1 0 % 128 + 128 * get_or bytes 2 0) → BeginsWithDelta bytes number (drop 3 bytes)
 unfolding is_delta delta_value
@@ -58,12 +61,15 @@ module _ (at : ℕ) (state : List ℕ → State) (end_delta : List ℕ → Resul
   goes_on old left b high =
       ap (λ (r : Result State ReadError). r >>= λ s. feed s left) (are old b ∙ cond-false (nat_lt b 128) (end_delta (old ++ b ∷ [])) (cond (nat_eq (length old) 4) (Err (BadDelta at)) (Ok (state (old ++ b ∷ [])))) (le-ltb b 128 high))
 
+  -- a fifth byte of a delta with the top bit set is a fault at the delta's offset
   pub fifth_byte : (old left : List ℕ) (b : ℕ) → 128 ≤ b → length old ≡ 4 → feed (state old) (b ∷ left) ≡ Err (BadDelta at)
   fifth_byte old left b high four = goes_on old left b high ∙ ap (λ (r : Result State ReadError). r >>= λ s. feed s left) (cond-true (nat_eq (length old) 4) (Err (BadDelta at)) (Ok (state (old ++ b ∷ []))) (eq-eqb (length old) 4 four))
 
+  -- a byte below 128 ends a delta, whose number it gives
   pub taken_last : (old left : List ℕ) (b : ℕ) → b < 128 → IsTaken state end_delta old [] (b ∷ left) (Some (delta_value (old ++ b ∷ []))) left
   taken_last old left b small = (old ++ b ∷ [], refl, last_byte old left b small, omega (arith, length_push old b))
 
+  -- a byte with the top bit set goes on with a delta of fewer than four bytes before it
   pub taken_more : (old left : List ℕ) (b : ℕ) → 128 ≤ b → length old < 4 → IsTaken state end_delta old (old ++ b ∷ []) (b ∷ left) None left
   taken_more old left b high few = (
     goes_on old left b high
@@ -79,6 +85,7 @@ module _ (at : ℕ) (state : List ℕ → State) (end_delta : List ℕ → Resul
     omega (arith, ap length begins.parts, length-append begins.delta left),
   )
 
+  -- a delta that the bytes begin with is taken at once where none has begun
   pub taken_short : (old new piece : List ℕ) (number len : ℕ) → old ≡ [] → IsShortDelta piece number len → IsTaken state end_delta old new piece (Some number) (take (length piece - len) (drop len piece))
   taken_short old new piece number len none (some, fits, begins) =
       subst (λ (bytes : List ℕ). IsTaken state end_delta old new piece (Some number) bytes) (sym (take_rest piece len))
@@ -86,11 +93,16 @@ module _ (at : ℕ) (state : List ℕ → State) (end_delta : List ℕ → Resul
 
 -- what a byte makes of a delta that has begun
 pub record Pushed (old new : List ℕ) (b : ℕ) (result : Result (Option ℕ) DeltaError) : Type 0 where
+  -- at most four bytes had come before
   pub few : length old ≤ 4
+  -- a byte below 128 ends the delta, and gives its number
   pub last : b < 128 → (result ≡ Ok (Some (delta_value (old ++ b ∷ [])))) × (new ≡ [])
+  -- a byte with the top bit set is kept where fewer than four had come
   pub more : 128 ≤ b → length old < 4 → (result ≡ Ok None) × (new ≡ old ++ b ∷ [])
+  -- a byte with the top bit set is a fault where four had come
   pub too_long : 128 ≤ b → length old ≡ 4 → (result ≡ Err TooLong) × (new ≡ old)
 
+-- what a byte makes of a delta without a fault is what reading makes of it
 pub taken_where_pushed : (at : ℕ) (state : List ℕ → State) (end_delta : List ℕ → Result State ReadError) → AreDeltaStates at state end_delta
     → (old new piece left : List ℕ) (b : ℕ) (number : Option ℕ) → piece ≡ b ∷ left → Pushed old new b (Ok number) → IsTaken state end_delta old new piece number left
 taken_where_pushed at state end_delta are old new piece left b number parts pushed =
@@ -115,6 +127,7 @@ taken_where_pushed at state end_delta are old new piece left b number parts push
     no_error : (m : Option ℕ) → ◌≡◌ {A = Result (Option ℕ) DeltaError} (Ok m) (Err TooLong) → ⊥
     no_error m e = cc
 
+-- a fault that a byte makes of a delta is the one that reading gives
 pub refused_where_pushed : (at : ℕ) (state : List ℕ → State) (end_delta : List ℕ → Result State ReadError) → AreDeltaStates at state end_delta
     → (old new piece left : List ℕ) (b : ℕ) (fault : DeltaError) → piece ≡ b ∷ left → Pushed old new b (Err fault) → feed (state old) piece ≡ Err (BadDelta at)
 refused_where_pushed at state end_delta are old new piece left b fault parts pushed =
@@ -132,6 +145,7 @@ refused_where_pushed at state end_delta are old new piece left b fault parts pus
     no_number : (n : Option ℕ) → ◌≡◌ {A = Result (Option ℕ) DeltaError} (Err fault) (Ok n) → ⊥
     no_number n e = cc
 
+-- a piece that isn't empty is its first byte and the rest
 pub first_and_rest : (piece : List ℕ) → 0 < length piece → piece ≡ get_or piece 0 0 ∷ take (length piece - 1) (drop 1 piece)
 first_and_rest [] some = absurd (omega (arith, some))
 first_and_rest (b ∷ piece) some = ap (λ (bytes : List ℕ). b ∷ bytes) (sym (take_rest (b ∷ piece) 1))

@@ -31,9 +31,11 @@ module _ (h : Header) (raw : Raw) (at after number : ℕ) (delta : List ℕ) (va
       end_first_is h raw at delta ∙ ap (λ (n : ℕ). read_first h raw at n >>= λ rhs0. Ok (InSecond h raw (at + length delta) rhs0 [])) (sym value)
       ∙ ap (λ (n : ℕ). read_first h raw at number >>= λ rhs0. Ok (InSecond h raw n rhs0 [])) place
 
+  -- a first delta that gives a fan-in leads on to the second
   pub first_done : (rhs0 : ℕ) → Ok rhs0 ≡ read_first h raw at number → end_first h raw at delta ≡ Ok (InSecond h raw after rhs0 [])
   first_done rhs0 e = first_ends ∙ ap (λ (r : Result ℕ ReadError). r >>= λ rhs0. Ok (InSecond h raw after rhs0 [])) (sym e)
 
+  -- a first delta that gives none is a fault of reading
   pub first_failed : (fault : ReadError) → Err fault ≡ read_first h raw at number → Fails fault (end_first h raw at delta)
   first_failed fault e = Fails-with fault (end_first h raw at delta) (first_ends ∙ ap (λ (r : Result ℕ ReadError). r >>= λ rhs0. Ok (InSecond h raw after rhs0 [])) (sym e))
 
@@ -42,8 +44,10 @@ module _ (h : Header) (raw : Raw) (at after number : ℕ) (delta : List ℕ) (va
       end_second_is h raw at rhs0 delta ∙ ap (λ (n : ℕ). read_second h raw at rhs0 n >>= λ more. Ok (before_item h more (at + length delta))) (sym value)
       ∙ ap (λ (n : ℕ). read_second h raw at rhs0 number >>= λ more. Ok (before_item h more n)) place
 
+  -- a second delta that gives a gate leads on to the next item
   pub second_done : (rhs0 : ℕ) (more : Raw) → read_second h raw at rhs0 number ≡ Ok more → end_second h raw at rhs0 delta ≡ Ok (before_item h more after)
   second_done rhs0 more e = second_ends rhs0 ∙ ap (λ (r : Result Raw ReadError). r >>= λ more. Ok (before_item h more after)) e
 
+  -- a second delta that gives none is a fault of reading
   pub second_failed : (rhs0 : ℕ) (fault : ReadError) → Fails fault (read_second h raw at rhs0 number) → Fails fault (end_second h raw at rhs0 delta)
   second_failed rhs0 fault fails = Fails-as fault _ (end_second h raw at rhs0 delta) (second_ends rhs0) (Fails-bind fault (read_second h raw at rhs0 number) (λ more. Ok (before_item h more after)) fails)

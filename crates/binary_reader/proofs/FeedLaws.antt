@@ -27,6 +27,7 @@ use Rattle.binary_reader.specs.Standing.{Stands, IsFed}
 
 -- bytes of a line
 module _ (state : List ℕ → State) (steps : (line : List ℕ) (b : ℕ) → nat_eq b 10 ≡ false → step (state line) b ≡ Ok (state (line ++ b ∷ []))) where
+  -- bytes without a newline are more of the line
   pub part_fed : (part line left : List ℕ) → HasNoNewline part → feed (state line) (part ++ left) ≡ feed (state (line ++ part)) left
   unfolding feed
   part_fed [] line left none = ap (λ (l : List ℕ). feed (state l) left) (sym (append-nil line))
@@ -39,6 +40,7 @@ module _ (state : List ℕ → State) (steps : (line : List ℕ) (b : ℕ) → n
   unfolding feed
   line_fed part line left piece none parts = ap (λ (bytes : List ℕ). feed (state line) bytes) parts ∙ part_fed part line (10 ∷ left) none
 
+  -- a piece without a newline is more of the line, and nothing of it is left
   pub all_fed : (line piece : List ℕ) → HasNoNewline piece → feed (state line) piece ≡ feed (state (line ++ piece)) []
   all_fed line piece none = ap (λ (bytes : List ℕ). feed (state line) bytes) (sym (append-nil piece)) ∙ part_fed piece line [] none
 
@@ -51,6 +53,7 @@ pub after_end : (new : Items) (end after : ℕ) (state : State) (piece left : Li
 after_end new end after state piece left read fed place reached =
     record { next = reached.0; offset = after; stands = reached.2; place = place; fed = fed ∙ ap (λ (r : Result State ReadError). r >>= λ s. feed s left) reached.1 }
 
+-- a fault of what ends an item is one of the piece
 pub fault_at_end : (e : ReadError) (state : State) (piece left : List ℕ) (read : Result State ReadError) → feed state piece ≡ (read >>= λ s. feed s left) → Fails e read → Fails e (feed state piece)
 fault_at_end e state piece left read fed fails = Fails-as e (read >>= λ s. feed s left) (feed state piece) fed (Fails-bind e read (λ s. feed s left) fails)
 
@@ -58,6 +61,7 @@ fault_at_end e state piece left read fed fails = Fails-as e (read >>= λ s. feed
 pub none_left : (piece : List ℕ) → take (length piece - length piece) (drop (length piece) piece) ≡ []
 none_left piece = take_rest piece (length piece) ∙ drop_all (length piece) piece (omega arith)
 
+-- where all of a piece was taken, nothing is left to read of it
 pub all_taken : (new : Items) (end offset : ℕ) (state next : State) (piece left : List ℕ) → left ≡ [] → offset + length piece ≡ end → Stands new (offset + length piece) next → feed state piece ≡ feed next []
     → IsFed new end state piece left
 all_taken new end offset state next piece left none place stands fed =
@@ -65,14 +69,21 @@ all_taken new end offset state next piece left none place stands fed =
 
 -- a line in which reading stands, up to its newline
 pub record LineEnd (IsIn : ℕ → State → Type 0) (end : ℕ) (state : State) (piece left : List ℕ) (after : ℕ) : Type 0 where
+  -- the offset of the newline
   pub offset : ℕ
+  -- where reading stands there
   pub inside : State
+  -- it stands in the line
   pub is_in : IsIn offset inside
+  -- the next item begins after the newline
   pub next : offset + 1 ≡ after
+  -- the rest of the piece ends where the piece does
   pub place : after + length left ≡ end
+  -- reading the piece is reading the newline and then the rest
   pub fed : feed state piece ≡ (step inside 10 >>= λ s. feed s left)
 
 module _ (c : Contents) (at offset : ℕ) where
+  -- a line of numbers with more bytes stands where reading does after these
   pub numbers_extended : (line new : NumberLine) (state : State) (is : IsInNumbers c at offset line state) (part : List ℕ) → ((rest : List ℕ) → numbers_with new rest ≡ numbers_with line (part ++ rest))
       → IsInNumbers c at (offset + length part) new (InLine is.h is.raw at (is.bytes ++ part))
   numbers_extended line new state is part extended = record {
@@ -86,6 +97,7 @@ module _ (c : Contents) (at offset : ℕ) where
     place = let place = is.place in omega (arith, place, length-append is.bytes part);
   }
 
+  -- a symbol's line with more bytes stands where reading does after these
   pub symbol_extended : (line new : SymbolLine) (state : State) (is : IsInSymbol c at offset line state) (part : List ℕ) → ((rest : List ℕ) → text_with new rest ≡ text_with line (part ++ rest))
       → IsInSymbol c at (offset + length part) new (InLine is.h is.raw at (is.bytes ++ part))
   symbol_extended line new state is part extended = record {
@@ -106,6 +118,7 @@ module _ (c : Contents) (at offset : ℕ) where
     rest_place : after + length left ≡ end
     rest_place = ap (λ (n : ℕ). n + length left) (next (offset + length part + 1) at_newline) ∙ at_newline
 
+    -- a line of numbers whose newline comes ends there
     pub numbers_line : (line new : NumberLine) (state : State) → IsInNumbers c at offset line state → ((rest : List ℕ) → numbers_with new rest ≡ numbers_with line (part ++ rest))
         → LineEnd (λ o s. IsInNumbers c at o new s) end state piece left after
     numbers_line line new state is extended = record {
@@ -117,6 +130,7 @@ module _ (c : Contents) (at offset : ℕ) where
       fed = ap (λ (s : State). feed s piece) is.is ∙ line_fed (InLine is.h is.raw at) (in_line is.h is.raw at) part is.bytes left piece cuts.clean cuts.whole;
     }
 
+    -- a symbol's line whose newline comes ends there
     pub symbol_line : (line new : SymbolLine) (state : State) → IsInSymbol c at offset line state → ((rest : List ℕ) → text_with new rest ≡ text_with line (part ++ rest))
         → LineEnd (λ o s. IsInSymbol c at o new s) end state piece left after
     symbol_line line new state is extended = record {
@@ -128,20 +142,27 @@ module _ (c : Contents) (at offset : ℕ) where
       fed = ap (λ (s : State). feed s piece) is.is ∙ line_fed (InLine is.h is.raw at) (in_line is.h is.raw at) part is.bytes left piece cuts.clean cuts.whole;
     }
 
+-- a piece without a newline is more of the line in which reading stands
 pub open_line_fed : (h : Header) (raw : Raw) (at : ℕ) (line piece : List ℕ) (state : State) → state ≡ InLine h raw at line → HasNoNewline piece → feed state piece ≡ feed (InLine h raw at (line ++ piece)) []
 open_line_fed h raw at line piece state is none = ap (λ (s : State). feed s piece) is ∙ all_fed (InLine h raw at) (in_line h raw at) line piece none
 
 -- ---- deltas
 
 pub record DeltaEnd (at end : ℕ) (state : State) (end_delta : List ℕ → Result State ReadError) (piece left : List ℕ) (number after : ℕ) : Type 0 where
+  -- the bytes of the delta
   pub delta : List ℕ
+  -- the number is what they spell
   pub value : number ≡ delta_value delta
+  -- reading the piece is ending the delta and then reading the rest
   pub fed : feed state piece ≡ (end_delta delta >>= λ s. feed s left)
+  -- the delta ends at the offset after it
   pub at_after : at + length delta ≡ after
+  -- the rest of the piece ends where the piece does
   pub place : after + length left ≡ end
 
 module _ (at offset end after : ℕ) (states : List ℕ → State) (end_delta : List ℕ → Result State ReadError) (state : State) (old new piece left : List ℕ) (is : state ≡ states old) (begun : at + length old ≡ offset)
     (place : offset + length piece ≡ end) where
+  -- a delta whose last byte came ends there
   pub delta_ended : (more : Option ℕ) (number : ℕ) → more ≡ Some number → ((o : ℕ) → o + length left ≡ end → after ≡ o) → IsTaken states end_delta old new piece more left → DeltaEnd at end state end_delta piece left number after
   delta_ended more number is_some next taken =
       let t = subst (λ (m : Option ℕ). IsTaken states end_delta old new piece m left) is_some taken in
@@ -149,6 +170,7 @@ module _ (at offset end after : ℕ) (states : List ℕ → State) (end_delta : 
       let same : after ≡ at + length t.0 = next (at + length t.0) here in
       record { delta = t.0; value = t.1; fed = ap (λ (s : State). feed s piece) is ∙ t.2; at_after = sym same; place = ap (λ (n : ℕ). n + length left) same ∙ here }
 
+  -- where a delta's last byte didn't come, all of the piece was taken
   pub delta_open : (more : Option ℕ) → more ≡ None → IsTaken states end_delta old new piece more left → (feed state piece ≡ feed (states new) left) × (at + length new + length left ≡ end)
   delta_open more is_none taken =
       let t = subst (λ (m : Option ℕ). IsTaken states end_delta old new piece m left) is_none taken in

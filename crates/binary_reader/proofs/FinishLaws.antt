@@ -40,6 +40,7 @@ before_line end h raw at line = by_test (is_symbols (next_section h raw))
     by_test true = refl
     by_test false = refl
 
+-- before an item the end of the input gives the circuit, or says that it is truncated
 pub before_end : (end : ℕ) (h : Header) (raw : Raw) (at : ℕ) → circuit (complete end (before_item h raw at)) ≡ circuit_at_end end h raw
 before_end end h raw at = by_test (is_gates (next_section h raw)) refl
   where
@@ -66,12 +67,15 @@ module _ (end : ℕ) (h : Header) (raw : Raw) (at : ℕ) (bytes : List ℕ) (sta
       by_read (Ok more) = before_end end h more (at + length bytes + 1)
       by_read (Err e) = refl
 
+  -- the end of the input ends a line that is read, and gives the circuit with its item
   pub item_done : (more : Raw) → (is_symbols (next_section h raw) && begins_comment bytes) ≡ false → read_line h raw at bytes ≡ Ok more → circuit_at end state ≡ circuit_at_end end h more
   item_done more item read = item_read item ∙ ap (λ (r : Result Raw ReadError). r >>= λ more. circuit_at_end end h more) read
 
+  -- a fault of the line that the end of the input ends is that of the whole
   pub item_failed : (e : ReadError) → (is_symbols (next_section h raw) && begins_comment bytes) ≡ false → Fails e (read_line h raw at bytes) → Fails e (circuit_at end state)
   item_failed e item fails = Fails-as e _ (circuit_at end state) (item_read item) (Fails-bind e (read_line h raw at bytes) (λ more. circuit_at_end end h more) fails)
 
+  -- the end of the input in the comment's first line gives the circuit
   pub comment_ends : next_section h raw ≡ Symbols → begins_comment bytes ≡ true → circuit_at end state ≡ circuit_at_end end h raw
   comment_ends here begins =
       ap circuit (line_ends end h raw at bytes state is place later ∙ ap (λ (r : Result State ReadError). r >>= complete end) (comment_line h raw at bytes (and_from (is_symbols (next_section h raw)) (begins_comment bytes) (ap is_symbols here) begins)))
@@ -82,6 +86,7 @@ module _ (end : ℕ) (h : Header) (raw : Raw) (at : ℕ) (bytes : List ℕ) (sta
   symbol_ended here new true (begins, took) = (took.0, item_done took.0 (and_right (is_symbols (next_section h raw)) (begins_comment bytes) begins) took.1, took.2)
   symbol_ended here new false (begins, contents) = (raw, comment_ends here begins, contents)
 
+-- the end of the input in the comment gives the circuit
 pub in_comment : (end : ℕ) (h : Header) (raw : Raw) (state : State) → state ≡ InComment h raw → next_section h raw ≡ Symbols → circuit_at end state ≡ circuit_at_end end h raw
 in_comment end h raw state is here = ap (circuit_at end) is ∙ sym (cond-true (is_symbols (next_section h raw)) (Ok (circuit_of h raw)) (Err (Truncated end)) (ap is_symbols here))
 
@@ -93,6 +98,7 @@ in_first end h raw at [] state is place = ap (circuit_at end) is ∙ ap (λ (n :
     end_is = omega (arith, place)
 in_first end h raw at (b ∷ delta) state is place = ap (circuit_at end) is
 
+-- the end of the input in a gate's second delta is a truncation at that delta
 pub in_second : (end : ℕ) (h : Header) (raw : Raw) (at rhs0 : ℕ) (delta : List ℕ) (state : State) → state ≡ InSecond h raw at rhs0 delta → at + length delta ≡ end → circuit_at end state ≡ Err (Truncated at)
 in_second end h raw at rhs0 [] state is place = ap (circuit_at end) is ∙ ap (λ (n : ℕ). Err (Truncated n)) end_is
   where
@@ -100,5 +106,6 @@ in_second end h raw at rhs0 [] state is place = ap (circuit_at end) is ∙ ap (�
     end_is = omega (arith, place)
 in_second end h raw at rhs0 (b ∷ delta) state is place = ap (circuit_at end) is
 
+-- an answer that is right of what reading gives is right of what is equal to it
 pub gives_same : (result read same : Result Netlist ReadError) → read ≡ same → Gives (λ c. c) result same → Gives (λ c. c) result read
 gives_same result read same e gives = subst (λ (r : Result Netlist ReadError). Gives (λ c. c) result r) (sym e) gives

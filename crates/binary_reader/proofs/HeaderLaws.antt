@@ -35,6 +35,7 @@ off-cuttable = record {
         let other = eqb-false (h.inputs + h.latches + h.gates) h.greatest is in
         ap not (ne_eqb ((cut h).inputs + (cut h).latches + (cut h).gates) (cut h).greatest (λ same. other (omega (arith, same, greatest))) ∙ sym is)
 
+-- the header of a binary file by its numbers cut to 32 bits is the header that reading gives
 pub read-header : (row : Option (List ℕ)) (line : List ℕ) → row ≡ header_row (codes "aig ") line
     → (limited (option_and_then header_in row) >>= λ h. unless ((is_off h, MaxIndex 0) ∷ []) (Ok h)) ≡ read_header line
 unfolding read_header header_of

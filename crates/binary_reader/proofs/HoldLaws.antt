@@ -21,6 +21,7 @@ use Rattle.binary_reader.specs.Stages.{HoldsHeader, HoldsItems}
 use Rattle.binary_reader.proofs.FeedLaws.{line_fed, all_fed}
 use Rattle.binary_reader.proofs.FinishLaws.{circuit, before_end}
 
+-- feeding joined bytes is feeding them one after the other
 pub joined : (bytes more : List ℕ) → feed (AtHeader []) (bytes ++ more) ≡ (feed (AtHeader []) bytes >>= λ state. feed state more)
 joined bytes more = (the_pieces_law bytes more).joined
 
@@ -28,6 +29,7 @@ joined bytes more = (the_pieces_law bytes more).joined
 pub then_fed : (bytes piece : List ℕ) (state : State) → feed (AtHeader []) bytes ≡ Ok state → feed (AtHeader []) (bytes ++ piece) ≡ feed state piece
 then_fed bytes piece state reading = joined bytes piece ∙ ap (λ (r : Result State ReadError). r >>= λ s. feed s piece) reading
 
+-- a fault of the bytes so far is one with a piece after them
 pub fault_stays : (fault : ReadError) (bytes piece : List ℕ) → Fails fault (feed (AtHeader []) bytes) → Fails fault (feed (AtHeader []) (bytes ++ piece))
 fault_stays fault bytes piece fails = Fails-as fault _ (feed (AtHeader []) (bytes ++ piece)) (joined bytes piece) (Fails-bind fault (feed (AtHeader []) bytes) (λ s. feed s piece) fails)
 
@@ -40,6 +42,7 @@ items_held new bytes piece end state reading place reached = record {
   stands = subst (λ (n : ℕ). Stands new n reached.0) (sym place ∙ sym (length-append bytes piece)) reached.2;
 }
 
+-- a fault of a piece after bytes that had none is one of both together
 pub items_failed : (fault : ReadError) (bytes piece : List ℕ) (state : State) → feed (AtHeader []) bytes ≡ Ok state → Fails fault (feed state piece) → Fails fault (feed (AtHeader []) (bytes ++ piece))
 items_failed fault bytes piece state reading fails = Fails-as fault (feed state piece) (feed (AtHeader []) (bytes ++ piece)) (then_fed bytes piece state reading) fails
 
@@ -48,6 +51,7 @@ items_failed fault bytes piece state reading fails = Fails-as fault (feed state 
 in_header : (line : List ℕ) (b : ℕ) → nat_eq b 10 ≡ false → step (AtHeader line) b ≡ Ok (AtHeader (line ++ b ∷ []))
 in_header line b other = cond-false (nat_eq b 10) (end_header line) (Ok (AtHeader (line ++ b ∷ []))) other
 
+-- a piece without a newline is more of the first line
 pub header_extended : (line new : HeaderLine) (bytes piece : List ℕ) → HoldsHeader line bytes → HasNoNewline piece → ((rest : List ℕ) → header_with new rest ≡ header_with line (piece ++ rest)) → HoldsHeader new (bytes ++ piece)
 unfolding feed
 header_extended line new bytes piece is none extended = record {
@@ -59,6 +63,7 @@ header_extended line new bytes piece is none extended = record {
 pub row_is : (line : HeaderLine) (bytes : List ℕ) → HoldsHeader line bytes → header_with line [] ≡ header_row (codes "aig ") bytes
 row_is line bytes is = is.line_is [] ∙ ap (header_row (codes "aig ")) (append-nil bytes)
 
+-- the numbers of a first line with more bytes are those of the whole line
 pub extended_row : (line new : HeaderLine) (bytes part : List ℕ) → HoldsHeader line bytes → ((rest : List ℕ) → header_with new rest ≡ header_with line (part ++ rest)) → header_with new [] ≡ header_row (codes "aig ") (bytes ++ part)
 extended_row line new bytes part is extended = extended [] ∙ is.line_is (part ++ []) ∙ ap (λ (list : List ℕ). header_row (codes "aig ") (bytes ++ list)) (append-nil part)
 
@@ -67,12 +72,14 @@ module _ (bytes part left piece : List ℕ) (reading : feed (AtHeader []) bytes 
   header_ended : feed (AtHeader []) (bytes ++ piece) ≡ (end_header (bytes ++ part) >>= λ s. feed s left)
   header_ended = then_fed bytes piece (AtHeader bytes) reading ∙ line_fed AtHeader in_header part bytes left piece none parts
 
+  -- a fault of the first line, once its newline has come, is one of the bytes
   pub header_failed : (fault : ReadError) → Err fault ≡ read_header (bytes ++ part) → Fails fault (feed (AtHeader []) (bytes ++ piece))
   header_failed fault e =
       Fails-with fault (feed (AtHeader []) (bytes ++ piece))
       (header_ended ∙ ap (λ (r : Result Header ReadError). (r >>= λ h. Ok (before_item h nothing_yet (length (bytes ++ part) + 1))) >>= λ s. feed s left) (sym e))
 
 module _ (bytes part : List ℕ) (reading : feed (AtHeader []) bytes ≡ Ok (AtHeader bytes)) (none : HasNoNewline part) where
+  -- a header that is read, once its newline has come, leads on to the first item
   pub header_done : (h : Header) → Ok h ≡ read_header (bytes ++ part) → feed (AtHeader []) (bytes ++ (part ++ 10 ∷ [])) ≡ Ok (before_item h nothing_yet (length (bytes ++ (part ++ 10 ∷ []))))
   unfolding feed
   header_done h e =
@@ -83,18 +90,22 @@ module _ (bytes part : List ℕ) (reading : feed (AtHeader []) bytes ≡ Ok (AtH
       lengths : length (bytes ++ part) + 1 ≡ length (bytes ++ (part ++ 10 ∷ []))
       lengths = omega (arith, length-append bytes part, length-append bytes (part ++ 10 ∷ []), length-append part (10 ∷ []))
 
+-- bytes, the rest of a line with its newline, and what follows are the bytes and the piece
 pub regrouped : (bytes part left piece : List ℕ) → piece ≡ part ++ 10 ∷ left → (bytes ++ (part ++ 10 ∷ [])) ++ left ≡ bytes ++ piece
 regrouped bytes part left piece parts = append_assoc bytes (part ++ 10 ∷ []) left ∙ ap (λ (list : List ℕ). bytes ++ list) (append_assoc part (10 ∷ []) left ∙ sym parts)
 
+-- regrouped so, they end at the same offset
 pub regrouped_length : (bytes part left piece : List ℕ) (end : ℕ) → piece ≡ part ++ 10 ∷ left → length bytes + length piece ≡ end → length (bytes ++ (part ++ 10 ∷ [])) + length left ≡ end
 regrouped_length bytes part left piece end parts place = sym (length-append (bytes ++ (part ++ 10 ∷ [])) left) ∙ ap length (regrouped bytes part left piece parts) ∙ length-append bytes piece ∙ place
 
 -- ---- the end
 
+-- what is read of all bytes is what their end gives where reading stands
 pub read_at : (bytes : List ℕ) (state : State) → feed (AtHeader []) bytes ≡ Ok state → read_binary bytes ≡ circuit_at (length bytes) state
 unfolding read_binary read_raw
 read_at bytes state reading = ap (λ (r : Result State ReadError). circuit (r >>= finish (length bytes))) reading
 
+-- a fault of the bytes so far is one of reading them as a whole
 pub read_failed : (fault : ReadError) (bytes : List ℕ) → Fails fault (feed (AtHeader []) bytes) → Fails fault (read_binary bytes)
 unfolding read_binary read_raw
 read_failed fault bytes fails = Fails-where fault (feed (AtHeader []) bytes) (read_binary bytes) (λ e. ap (λ (r : Result State ReadError). circuit (r >>= finish (length bytes))) e) fails
@@ -109,9 +120,11 @@ header_at_end end (b ∷ line) = by_read (read_header (b ∷ line))
     by_read (Err e) = refl
 
 module _ (bytes : List ℕ) (reading : feed (AtHeader []) bytes ≡ Ok (AtHeader bytes)) where
+  -- an input that is the header's line alone gives what follows a header without items
   pub header_alone : (h : Header) → Ok h ≡ read_header bytes → read_binary bytes ≡ circuit_at_end (length bytes) h nothing_yet
   header_alone h e = read_at bytes (AtHeader bytes) reading ∙ header_at_end (length bytes) bytes ∙ ap (λ (r : Result Header ReadError). r >>= λ h. circuit_at_end (length bytes) h nothing_yet) (sym e)
 
+  -- an input that is a first line alone, which is no header, has its fault
   pub header_alone_failed : (fault : ReadError) → Err fault ≡ read_header bytes → Fails fault (read_binary bytes)
   header_alone_failed fault e =
       Fails-with fault (read_binary bytes)

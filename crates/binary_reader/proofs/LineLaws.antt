@@ -41,6 +41,7 @@ at_most_nine (Some all) ns e = (all, refl, by_test (nat_le (length (map clamped 
     by_test true e = sym (same_list (map clamped all) ns e)
     by_test false e = absurd cc
 
+-- the numbers of a line as 32 bits hold them are all of its numbers, each cut
 pub all_numbers : (line ns : List ℕ) → row_of line ≡ Some ns → (all : List ℕ) × (numbers_of line ≡ Some all) × (ns ≡ map clamped all)
 unfolding row_of
 all_numbers line ns e = at_most_nine (numbers_of line) ns e
@@ -186,18 +187,22 @@ module _ (c : Contents) (h : Header) (raw : Raw) (at : ℕ) (line : List ℕ) (i
       (subst (λ (s : Section). Agrees h (taken (contents_of h raw) at ns) (by_section h raw at line s)) (sym (in_section section here))
       (subst (Agrees h (taken (contents_of h raw) at ns)) (sym formed) (by_numbers h raw at line ns form taken row agrees)))
 
+  -- the line of an output, a bad state or a constraint is taken as reading takes it
   pub line_safety : (ns : List ℕ) → section_of c ≡ Safety → row_of line ≡ Some ns → Agrees h (safety_taken c at ns) (read_line h raw at line)
   unfolding read_line item_of
   line_safety ns here row = by_form Safety (single SafetyItem) safety_taken ns here row refl (safety_agrees h at small raw)
 
+  -- the line of a justice or a fairness literal is taken as reading takes it
   pub line_liveness : (ns : List ℕ) → section_of c ≡ Liveness → row_of line ≡ Some ns → Agrees h (liveness_taken c at ns) (read_line h raw at line)
   unfolding read_line item_of
   line_liveness ns here row = by_form Liveness (single LivenessItem) liveness_taken ns here row refl (liveness_agrees h at small raw)
 
+  -- the line of a justice property's size is taken as reading takes it
   pub line_size : (ns : List ℕ) → section_of c ≡ Sizes → row_of line ≡ Some ns → Agrees h (size_taken c at ns) (read_line h raw at line)
   unfolding read_line item_of
   line_size ns here row = by_form Sizes (single SizeItem) size_taken ns here row refl (size_agrees h at small raw)
 
+  -- the line of a latch is taken as reading takes it
   pub line_latch : (ns : List ℕ) → section_of c ≡ Latches → row_of line ≡ Some ns → Agrees h (latch_taken c at ns) (read_line h raw at line)
   unfolding read_line
   line_latch ns here row =
@@ -232,6 +237,7 @@ module _ (h : Header) (raw : Raw) (at : ℕ) (line : List ℕ) where
   refused Gates other e = refl
   refused Symbols other e = absurd cc
 
+  -- a line before the symbols that isn't at most nine numbers is a fault
   pub line_refused : is_symbols (next_section h raw) ≡ false → row_of line ≡ None → read_line h raw at line ≡ Err (BadLine at)
   unfolding read_line
   line_refused other e = refused (next_section h raw) other e
@@ -247,6 +253,7 @@ module _ (h : Header) (raw : Raw) (at : ℕ) (line : List ℕ) where
   without_lines Gates a b d e f = refl
   without_lines Symbols a b d e f = absurd cc
 
+  -- where inputs or gates come next, any line is a fault
   pub no_lines : (next_section h raw ≡ Latches → ⊥) → (next_section h raw ≡ Safety → ⊥) → (next_section h raw ≡ Sizes → ⊥) → (next_section h raw ≡ Liveness → ⊥) → is_symbols (next_section h raw) ≡ false
       → read_line h raw at line ≡ Err (BadLine at)
   unfolding read_line

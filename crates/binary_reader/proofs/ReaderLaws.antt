@@ -6,6 +6,7 @@ use Rattle.binary_reader.specs.declared.stage.Stage.{Stage}
 use Rattle.binary_reader.specs.declared.stage.Stage.TheVariants as stage
 use Rattle.binary_reader.specs.Stages.{HoldsOpen, HoldsStage}
 
+-- a stage without a fault that holds the bytes holds them as any stage does
 pub open_holds : (s : Stage) (bytes : List ℕ) → HoldsOpen s bytes → HoldsStage s bytes
 open_holds (stage.Header line) bytes is = is
 open_holds (stage.Items items) bytes is = is
@@ -25,5 +26,6 @@ was_sound (Some fault) s stays = absurd (clash s fault (stays fault refl))
     clash : (s : Stage) (fault : ReadError) → ◌≡◌ {A = Result Stage ReadError} (Ok s) (Err fault) → ⊥
     clash s fault e = cc
 
+-- a reader that has failed isn't sound
 pub failed_isnt_sound : {P : Type 0} (fault : ReadError) → ◌≡◌ {A = Option ReadError} (Some fault) None → P
 failed_isnt_sound fault e = absurd cc

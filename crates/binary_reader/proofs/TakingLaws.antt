@@ -18,6 +18,7 @@ taken_fails : (h : Header) (error : ReadError) (taken : Result Contents ReadErro
 taken_fails h NoMemory taken read fails agrees = tt
 taken_fails h error taken read fails agrees = subst (λ (t : Result Contents ReadError). Agrees h t read) fails agrees
 
+-- a call that gives the contents with an item takes it as reading does, where the contents agree with reading
 pub given_takes : {X : Type 0} (h : Header) (new : Contents) (r : Result X ReadError) (taken : Result Contents ReadError) (read : Result Raw ReadError)
     → Gives (λ _. new) r taken → Agrees h taken read → Takes h new r read
 given_takes h new (Ok x) taken read gives agrees = subst (λ (t : Result Contents ReadError). Agrees h t read) gives agrees

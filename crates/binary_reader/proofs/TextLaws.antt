@@ -35,6 +35,7 @@ comment_begins line e = by_test (begins_comment line) e
     by_test true e = refl
     by_test false e = absurd (item_isnt line (symbol_of line) e)
 
+-- a line that isn't the comment's by its text doesn't begin as one
 pub other_begins : (line : List ℕ) → (text_of line ≡ Comment → ⊥) → begins_comment line ≡ false
 unfolding text_of
 other_begins line other = by_test (begins_comment line) other

@@ -33,6 +33,7 @@ enumerated {A} (y ∷ ys) n (suc k) x e =
     enumerated ys (n + 1) k x e ∙ ap (λ (m : ℕ). placed m x) place
 
 module _ (m : Move) where
+  -- the variable of a latch's next literal is read from outside the set
   pub read-next : (j : ℕ) (latch : Latch) → slice_get m.circuit.aig.latches j ≡ Some latch → is_read m.circuit m.set (variable latch.next) ≡ true
   unfolding is_read_outside
   read-next j latch there =
@@ -41,6 +42,7 @@ module _ (m : Move) where
       let by_latches : list_any (λ (l : Latch). reads v l.next) m.circuit.aig.latches ≡ true = any_at (λ (l : Latch). reads v l.next) m.circuit.aig.latches j latch there (eq-eqb v v refl) in
       or_left (by_gates || list_any (λ (l : Latch). reads v l.next) m.circuit.aig.latches) (list_any (reads v) (property_literals m.circuit.props)) (or_right by_gates (list_any (λ (l : Latch). reads v l.next) m.circuit.aig.latches) by_latches)
 
+  -- the variable of a property's literal is read from outside the set
   pub read-property : (k lit : ℕ) → slice_get (property_literals m.circuit.props) k ≡ Some lit → is_read m.circuit m.set (variable lit) ≡ true
   unfolding is_read_outside
   read-property k lit there =
@@ -62,9 +64,11 @@ module _ (m : Move) where
       let by_latches = list_any (λ (l : Latch). reads w l.next) m.circuit.aig.latches in
       or_left (list_any test (enumerate_from (first_gate m.circuit.aig) m.circuit.aig.gates) || by_latches) (list_any (reads w) (property_literals m.circuit.props)) (or_left (list_any test (enumerate_from (first_gate m.circuit.aig) m.circuit.aig.gates)) by_latches by_gates)
 
+  -- the variable of the first fan-in of a gate that isn't in the set is read from outside
   pub read-first : (v : ℕ) (gate : Gate) → gate_at m.circuit.aig v ≡ Some gate → has m.set v ≡ false → is_read m.circuit m.set (variable gate.rhs0) ≡ true
   read-first v gate e other = read_by_gate v (variable gate.rhs0) gate e other (or_left (nat_eq (variable gate.rhs0) (variable gate.rhs0)) (reads (variable gate.rhs0) gate.rhs1) (eq-eqb (variable gate.rhs0) (variable gate.rhs0) refl))
 
+  -- the variable of the second fan-in of a gate that isn't in the set is read from outside
   pub read-second : (v : ℕ) (gate : Gate) → gate_at m.circuit.aig v ≡ Some gate → has m.set v ≡ false → is_read m.circuit m.set (variable gate.rhs1) ≡ true
   read-second v gate e other = read_by_gate v (variable gate.rhs1) gate e other (or_right (reads (variable gate.rhs1) gate.rhs0) (nat_eq (variable gate.rhs1) (variable gate.rhs1)) (eq-eqb (variable gate.rhs1) (variable gate.rhs1) refl))
 
@@ -76,6 +80,7 @@ module _ (m : Move) where
   free_or_known : (latch : Latch) → (is_free latch ≡ true) ⊎ (is_known (Some latch) ≡ true)
   free_or_known latch = elim (cases_Bool (is_free latch)) [ inl free ↦ inl free | inr other ↦ inr (ap not other) ]
 
+  -- a free latch has a latch after the move
   pub latched_where_free : (v : ℕ) (latch : Latch) → latch_at m.circuit.aig v ≡ Some latch → is_free latch ≡ true → is_latched m v ≡ true
   unfolding is_latched
   latched_where_free v latch e free = or_left (is_free_latch (latch_at m.circuit.aig v)) (in_border m v) (ap is_free_latch e ∙ free)
@@ -118,18 +123,22 @@ module _ (m : Move) where
     | inr new ↦ new.1
   ]
 
+  -- a gate that isn't in the set is outside
   pub outside_where : (v : ℕ) → first_gate m.circuit.aig ≤ v → has m.set v ≡ false → is_outside m v ≡ true
   unfolding is_outside
   outside_where v after other = and_from (nat_le (first_gate m.circuit.aig) v) (not (has m.set v)) (le-leb (first_gate m.circuit.aig) v after) (ap not other)
 
+  -- what stands before the gates isn't a gate outside
   pub not_outside_before : (v : ℕ) → v < first_gate m.circuit.aig → is_outside m v ≡ false
   unfolding is_outside
   not_outside_before v before = and_left (nat_le (first_gate m.circuit.aig) v) (not (has m.set v)) (lt-leb (first_gate m.circuit.aig) v before)
 
+  -- a member of the set isn't outside
   pub not_outside_member : (v : ℕ) → has m.set v ≡ true → is_outside m v ≡ false
   unfolding is_outside
   not_outside_member v member = and_right (nat_le (first_gate m.circuit.aig) v) (not (has m.set v)) (ap not member)
 
+  -- a gate outside is a gate, and no member
   pub outside_parts : (v : ℕ) → is_outside m v ≡ true → (nat_le (first_gate m.circuit.aig) v ≡ true) × (has m.set v ≡ false)
   unfolding is_outside
   outside_parts v outer =
@@ -148,6 +157,7 @@ closed-passable m closed = λ v member.
     and_from (is_some (gate_at m.circuit.aig v)) (is_settled m.circuit.aig m.held v) (ap is_some pass.1) pass.2
 
 module _ (m : Move) (passable : ArePassable m.circuit.aig m.held m.set) where
+  -- a member of the set is a gate
   pub member-gate : (v : ℕ) → has m.set v ≡ true → (gate : Gate) × (gate_at m.circuit.aig v ≡ Some gate)
   member-gate v member = go (gate_at m.circuit.aig v) (and_parts (is_some (gate_at m.circuit.aig v)) (is_settled m.circuit.aig m.held v) (passable v member)).0
     where
@@ -155,9 +165,11 @@ module _ (m : Move) (passable : ArePassable m.circuit.aig m.held m.set) where
       go None h = absurd (cc)
       go (Some gate) h = (gate, refl)
 
+  -- the gates of the set are its members
   pub gates-members : (v : ℕ) → is_gate_in m.circuit.aig m.set v ≡ has m.set v
   gates-members v = is_gate_in-same m.circuit.aig m.set (λ w member. (and_parts (is_some (gate_at m.circuit.aig w)) (is_settled m.circuit.aig m.held w) (passable w member)).0) v
 
+  -- no member stands before the gates
   pub no-member-before : (v : ℕ) → v < first_gate m.circuit.aig → has m.set v ≡ false
   no-member-before v before = false_from_ne_true (has m.set v) (λ member.
       let there = member-gate v member in
@@ -171,9 +183,11 @@ module _ (m : Move) (passable : ArePassable m.circuit.aig m.held m.set) where
       let unkept : is_latched m v ≡ false = latched-other m v (latch_at-before m.circuit.aig v h) (no-member-before v (omega arith)) in
       cond-false (is_latched m v) _ _ unkept ∙ cond-false (is_outside m v) _ _ (not_outside_before m v (omega arith))
 
+  -- what has a latch is read at the variable of that latch
   pub new_variable-latched : (v : ℕ) → is_latched m v ≡ true → new_variable m v ≡ first_latch m.circuit.aig + count_below (is_latched m) v
   new_variable-latched v kept = new_variable-where_latched m v kept
 
+  -- a gate outside is read at its new variable after the latches
   pub new_variable-outside : (v : ℕ) → is_outside m v ≡ true → new_variable m v ≡ gates_start m + count_below (is_outside m) v
   unfolding new_variable numbered
   new_variable-outside v outer =

@@ -40,6 +40,7 @@ pub latch-there : (g h : Graph) (items : List Latch) (k : ℕ) (x : Latch) → i
 latch-there g h items k x listed same within read =
     ap (λ (y : Graph). slice_get y.latches k) (sym same) ∙ ap (λ (xs : List Latch). slice_get xs k) (sym listed) ∙ slice_get_read items (length items) k x refl within read
 
+-- a gate that a loop over the gates reads is the graph's at that place
 pub gate-there : (g h : Graph) (items : List Gate) (k : ℕ) (x : Gate) → items ≡ h.gates → h ≡ g → k < length items → x ≡ get_or items k x → slice_get g.gates k ≡ Some x
 gate-there g h items k x listed same within read =
     ap (λ (y : Graph). slice_get y.gates k) (sym same) ∙ ap (λ (xs : List Gate). slice_get xs k) (sym listed) ∙ slice_get_read items (length items) k x refl within read
@@ -52,6 +53,7 @@ fan-ins_within g valid k gate there =
     (omega arith, omega arith)
 
 module _ (m : Move) where
+  -- a latch that stays, reading its moved next literal, is the next latch of the moved graph
   pub staying-more : (k : ℕ) (latch : Latch) (xs ys : List Latch) (x : Latch) → slice_get m.circuit.aig.latches k ≡ Some latch → is_latched m (first_latch m.circuit.aig + k) ≡ true
       → xs ≡ latches_below m (first_latch m.circuit.aig + k) → ys ≡ xs ++ x ∷ [] → x ≡ record { next = moved_literal m latch.next; reset = latch.reset }
       → ys ≡ latches_below m (first_latch m.circuit.aig + (k + 1))
@@ -61,15 +63,18 @@ module _ (m : Move) where
       places-at (is_latched m) (latch_for m) (v + 1) (first_latch m.circuit.aig + (k + 1)) ys (omega arith) (omega arith)
       (push-place (is_latched m) (latch_for m) v xs ys x kept listed pushed (made ∙ sym (ap (latch_from m v) here)))
 
+  -- a latch that doesn't stay leaves the moved graph's latches as they are
   pub staying-skip : (k : ℕ) (xs : List Latch) → is_latched m (first_latch m.circuit.aig + k) ≡ false → xs ≡ latches_below m (first_latch m.circuit.aig + k)
       → xs ≡ latches_below m (first_latch m.circuit.aig + (k + 1))
   staying-skip k xs unkept listed =
       let v : ℕ = first_latch m.circuit.aig + k in
       places-at (is_latched m) (latch_for m) (v + 1) (first_latch m.circuit.aig + (k + 1)) xs (omega arith) (omega arith) (skip-place (is_latched m) (latch_for m) v xs unkept listed)
 
+  -- before the first gate no gate is outside
   pub no-outside : gates_below m (first_gate m.circuit.aig) ≡ []
   no-outside = ap (map (gate_for m)) (places-none (is_outside m) (first_gate m.circuit.aig) (λ v h. not_outside_before m v h))
 
+  -- a gate outside the set, reading its moved fan-ins, is the next gate of the moved graph
   pub outside-more : (k : ℕ) (gate : Gate) (xs ys : List Gate) (x : Gate) → slice_get m.circuit.aig.gates k ≡ Some gate → has m.set (first_gate m.circuit.aig + k) ≡ false
       → xs ≡ gates_below m (first_gate m.circuit.aig + k) → ys ≡ xs ++ x ∷ [] → x ≡ gate_of (moved_literal m gate.rhs0) (moved_literal m gate.rhs1)
       → ys ≡ gates_below m (first_gate m.circuit.aig + (k + 1))
@@ -79,6 +84,7 @@ module _ (m : Move) where
       places-at (is_outside m) (gate_for m) (v + 1) (first_gate m.circuit.aig + (k + 1)) ys (omega arith) (omega arith)
       (push-place (is_outside m) (gate_for m) v xs ys x (outside_where m v (omega arith) other) listed pushed (made ∙ sym (ap (gate_between (moved_literal m)) here)))
 
+  -- a member leaves the gates outside as they are
   pub outside-skip : (k : ℕ) (xs : List Gate) → has m.set (first_gate m.circuit.aig + k) ≡ true → xs ≡ gates_below m (first_gate m.circuit.aig + k)
       → xs ≡ gates_below m (first_gate m.circuit.aig + (k + 1))
   outside-skip k xs member listed =
@@ -86,6 +92,7 @@ module _ (m : Move) where
       places-at (is_outside m) (gate_for m) (v + 1) (first_gate m.circuit.aig + (k + 1)) xs (omega arith) (omega arith)
       (skip-place (is_outside m) (gate_for m) v xs (not_outside_member m v member) listed)
 
+  -- a member's copy, reading its advanced fan-ins, is the next of the copies
   pub copies-more : (i : ℕ) (gate : Gate) (base xs ys : List Gate) (x : Gate) → i < length m.set → gate_at m.circuit.aig (get_or m.set i 0) ≡ Some gate
       → xs ≡ base ++ map (copy_for m) (take i m.set) → ys ≡ xs ++ x ∷ [] → x ≡ gate_of (advanced_literal m gate.rhs0) (advanced_literal m gate.rhs1)
       → ys ≡ base ++ map (copy_for m) (take (i + 1) m.set)
@@ -95,9 +102,11 @@ module _ (m : Move) where
       ∙ ap (λ (z : Gate). base ++ (map (copy_for m) (take i m.set) ++ z ∷ [])) here
       ∙ ap (λ (zs : List Gate). base ++ zs) (sym (map_more (copy_for m) m.set i 0 h))
 
+  -- past the last member all copies are made
   pub copies-all : (n : ℕ) (base xs : List Gate) → length m.set ≤ n → xs ≡ base ++ map (copy_for m) (take n m.set) → xs ≡ base ++ map (copy_for m) m.set
   copies-all n base xs h listed = listed ∙ ap (λ (vs : List ℕ). base ++ map (copy_for m) vs) (take_all n m.set h)
 
+  -- the inputs, latches and gates that were made are the moved graph
   pub graph-is : (inputs : ℕ) (latches : List Latch) (gates : List Gate) → inputs ≡ m.circuit.aig.inputs → latches ≡ latches_below m (variables_end m.circuit.aig) → gates ≡ (moved_graph m).gates
       → record { inputs = inputs; latches = latches; gates = gates } ≡ moved_graph m
   unfolding moved_graph
@@ -108,6 +117,7 @@ module _ (m : Move) where
       let by_gates : List Gate → Graph = λ xs. record { inputs = m.circuit.aig.inputs; latches = kept; gates = xs } in
       ap by_inputs e1 ∙ ap by_latches e2 ∙ ap by_gates e3
 
+-- before the first latch no latch of the moved graph is made
 pub staying-none : (m : Move) → ArePassable m.circuit.aig m.held m.set → latches_below m (first_latch m.circuit.aig) ≡ []
 staying-none m passable =
     ap (map (latch_for m)) (places-none (is_latched m) (first_latch m.circuit.aig) (λ v h. latched-other m v (latch_at-before m.circuit.aig v h) (no-member-before m passable v (omega arith))))
@@ -138,6 +148,7 @@ name-stays m names i name copies pushed copy position within read listed answer 
     symbol_at : Symbol → ℕ → Symbol
     symbol_at x n = record x { position = n }
 
+-- a name of a latch that doesn't stay leaves the copied names as they are
 pub name-goes : (m : Move) (names : List Symbol) (i : ℕ) (name : Symbol) (copies : List Symbol)
     → i < length names → name ≡ get_or names i name → copies ≡ map (moved_name m) (filter (stays m) (take i names))
     → cond (stays m name) (Some (moved_name m name).position) None ≡ None

@@ -38,6 +38,7 @@ module _ (m : Move) (set : IsClosedSet m.circuit.aig m.held m.set) where
           and_left (is_known (latch_at m.circuit.aig v) || is_gate_in m.circuit.aig m.set v) (is_held m.circuit.aig m.held v || is_read m.circuit m.set v)
           (or_from (is_known (latch_at m.circuit.aig v)) (is_gate_in m.circuit.aig m.set v) unknown no_gate)
 
+  -- the moved circuit has a latch for each free latch and each variable of the border
   pub count-is_latched : count_below (is_latched m) (variables_end m.circuit.aig) ≡ free_latches m.circuit.aig + border_size m
   unfolding is_latched border_size
   count-is_latched =
@@ -45,6 +46,7 @@ module _ (m : Move) (set : IsClosedSet m.circuit.aig m.held m.set) where
       count-or (is_free_at m.circuit.aig) (in_border m) (is_latched m) (variables_end m.circuit.aig) (λ v h. refl) (λ v h free. free-apart v free) in
       both ∙ ap (λ (n : ℕ). n + count_below (in_border m) (variables_end m.circuit.aig)) (free-count_all m.circuit.aig)
 
+  -- the members and the gates outside are all gates
   pub count-gates : count_below (has m.set) (variables_end m.circuit.aig) + count_below (is_outside m) (variables_end m.circuit.aig) ≡ length m.circuit.aig.gates
   unfolding is_outside
   count-gates =
@@ -58,6 +60,7 @@ module _ (m : Move) (set : IsClosedSet m.circuit.aig m.held m.set) where
   pub moved-gates : length (moved_graph m).gates ≡ length m.circuit.aig.gates
   moved-gates = omega (arith, length-moved_gates m set, count-gates)
 
+  -- where the moved circuit's size is within the limit, so is its number of variables
   pub moved-room : 1 + m.circuit.aig.inputs + free_latches m.circuit.aig + border_size m + length m.circuit.aig.gates ≤ MAX_VARIABLES → variables_end (moved_graph m) ≤ MAX_VARIABLES
   moved-room room = omega (arith, moved-inputs m, moved-gates, length-moved_latches m, count-is_latched)
 

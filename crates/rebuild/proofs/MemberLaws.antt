@@ -60,6 +60,7 @@ values-more {A} f s vars i xs ys x same within listed pushed here =
     ∙ ap (λ (z : A). map f (take i s) ++ z ∷ []) (here ∙ ap (λ (ws : List ℕ). f (get_or ws i 0)) same)
     ∙ sym (map_more f s i 0 (subst (λ (ws : List ℕ). i < length ws) same within))
 
+-- past the last member all values are listed
 pub values-all : {A : Type 0} (f : ℕ → A) (s vars : List ℕ) (i : ℕ) (xs : List A) → vars ≡ s → length vars ≤ i → xs ≡ map f (take i s) → xs ≡ map f s
 values-all f s vars i xs same end listed = listed ∙ ap (map f) (take_all i s (subst (λ (ws : List ℕ). length ws ≤ i) same end))
 
@@ -92,6 +93,7 @@ places-split p q a (suc n) none within h = elim (cases_eq a (suc n)) [
 ]
 
 module _ (m : Move) (passable : ArePassable m.circuit.aig m.held m.set) where
+  -- a member is a variable among the gates
   pub member-place : (v : ℕ) → has m.set v ≡ true → (first_gate m.circuit.aig ≤ v) × (v < variables_end m.circuit.aig)
   member-place v member =
       let there = member-gate m passable v member in
@@ -111,6 +113,7 @@ module _ (m : Move) (passable : ArePassable m.circuit.aig m.held m.set) where
       let r : Ranks p n i v = rank_at p n i v (ap (λ (xs : List ℕ). slice_get xs i) (members rising) ∙ slice_get-get_or m.set i 0 within) in
       ap (λ (xs : List ℕ). take i xs) (sym (members rising)) ∙ ap (λ (k : ℕ). take k (places p n)) (sym r.rank) ∙ take-places p n v (omega (arith, r.below))
 
+  -- the values of the members listed so far are those of all members before the next one
   pub before-member : {A : Type 0} (f : ℕ → A) (vars : List ℕ) (i : ℕ) (xs : List A) → vars ≡ m.set → IsStrictlyIncreasing vars → i < length vars → xs ≡ map f (take i m.set)
       → xs ≡ map f (places (has m.set) (get_or vars i 0))
   before-member f vars i xs same rising within listed =
@@ -126,6 +129,7 @@ module _ (m : Move) (passable : ArePassable m.circuit.aig m.held m.set) where
       ap (map (latch_for m)) (split ∙ ap (λ (xs : List ℕ). places (is_latched m) (first_gate m.circuit.aig) ++ filter (is_latched m) xs) (members rising))
       ∙ map-append (latch_for m) (places (is_latched m) (first_gate m.circuit.aig)) (filter (is_latched m) m.set)
 
+  -- past the last member, the latches that stay and those of the border are the moved graph's
   pub border-all : (vars : List ℕ) (i : ℕ) (xs : List Latch) → vars ≡ m.set → IsStrictlyIncreasing vars → length vars ≤ i
       → xs ≡ latches_below m (first_gate m.circuit.aig) ++ map (latch_for m) (filter (is_latched m) (take i m.set)) → xs ≡ latches_below m (variables_end m.circuit.aig)
   border-all vars i xs same rising end listed =
@@ -151,6 +155,7 @@ module _ (m : Move) (passable : ArePassable m.circuit.aig m.held m.set) where
       pushed ∙ ap (λ (zs : List Latch). zs ++ x ∷ []) listed ∙ append_assoc base (map (latch_for m) front) (x ∷ []) ∙ ap (λ (z : Latch). base ++ (map (latch_for m) front ++ z ∷ [])) latch
       ∙ ap (λ (zs : List Latch). base ++ zs) (sym (map_push (latch_for m) front v) ∙ ap (map (latch_for m)) (sym longer))
 
+  -- a member that has no latch leaves the latches as they are
   pub border-skip : (base : List Latch) (vars : List ℕ) (i : ℕ) (xs : List Latch) → vars ≡ m.set → i < length vars → is_latched m (get_or vars i 0) ≡ false
       → xs ≡ base ++ map (latch_for m) (filter (is_latched m) (take i m.set)) → xs ≡ base ++ map (latch_for m) (filter (is_latched m) (take (i + 1) m.set))
   border-skip base vars i xs same within other listed =

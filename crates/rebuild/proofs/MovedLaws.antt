@@ -29,6 +29,7 @@ from_append [] ys k x e = inr (k, omega arith, e)
 from_append (z ∷ zs) ys zero x e = inl e
 from_append (z ∷ zs) ys (suc k) x e = elim (from_append zs ys k x e) [ inl h ↦ inl h | inr h ↦ inr (h.0, omega arith, h.2) ]
 
+-- each member of a closed set is a variable of the graph
 pub members-below : (g : Graph) (held s : List ℕ) → IsClosedSet g held s → All (λ v. v < variables_end g) s
 members-below g held s set k d h =
     let v : ℕ = get_or s k d in
@@ -37,33 +38,41 @@ members-below g held s set k d h =
     place.below
 
 module _ (m : Move) where
+  -- a moved graph has the inputs of the graph
   pub moved-inputs : (moved_graph m).inputs ≡ m.circuit.aig.inputs
   unfolding moved_graph
   moved-inputs = refl
 
+  -- a moved graph has as many latches as variables have one after the move
   pub length-moved_latches : length (moved_graph m).latches ≡ count_below (is_latched m) (variables_end m.circuit.aig)
   unfolding moved_graph
   length-moved_latches = length-map (places (is_latched m) (variables_end m.circuit.aig)) (latch_for m) ∙ length-places (is_latched m) (variables_end m.circuit.aig)
 
+  -- the first latch of a moved graph stands where the graph's does
   pub moved-first_latch : first_latch (moved_graph m) ≡ first_latch m.circuit.aig
   moved-first_latch = ap (λ (n : ℕ). 1 + n) moved-inputs
 
+  -- the first gate of a moved graph stands after its latches
   pub moved-first_gate : first_gate (moved_graph m) ≡ gates_start m
   unfolding gates_start
   moved-first_gate = omega (arith, moved-inputs, length-moved_latches)
 
+  -- the copies begin after the gates outside the set
   pub copies_start-is : copies_start m ≡ gates_start m + count_below (is_outside m) (variables_end m.circuit.aig)
   unfolding copies_start
   copies_start-is = refl
 
+  -- the gates outside the set begin after the latches
   pub gates_start-is : gates_start m ≡ first_latch m.circuit.aig + count_below (is_latched m) (variables_end m.circuit.aig)
   unfolding gates_start
   gates_start-is = refl
 
+  -- a member's copy stands at its rank among the copies
   pub copy_variable-is : (v : ℕ) → copy_variable m v ≡ copies_start m + count_below (has m.set) v
   unfolding copy_variable
   copy_variable-is v = refl
 
+  -- the latch of a variable stands at its rank among the moved graph's latches
   pub latch_in : (v : ℕ) → v < variables_end m.circuit.aig → is_latched m v ≡ true → slice_get (moved_graph m).latches (count_below (is_latched m) v) ≡ Some (latch_for m v)
   unfolding moved_graph
   latch_in v h kept = slice_get-map_some (latch_for m) (places (is_latched m) (variables_end m.circuit.aig)) (count_below (is_latched m) v) v (at_rank (is_latched m) (variables_end m.circuit.aig) v h kept)
@@ -81,6 +90,7 @@ module _ (m : Move) (set : IsClosedSet m.circuit.aig m.held m.set) where
   unfolding moved_graph
   gates-split = ap (λ (vs : List ℕ). map (gate_for m) (places (is_outside m) (variables_end m.circuit.aig)) ++ map (copy_for m) vs) (sym (members m (closed-passable m set.closed) set.rising))
 
+  -- a moved graph has the gates outside the set and a copy for each member
   pub length-moved_gates : length (moved_graph m).gates ≡ count_below (is_outside m) (variables_end m.circuit.aig) + count_below (has m.set) (variables_end m.circuit.aig)
   length-moved_gates = ap length gates-split ∙
       omega (
@@ -92,14 +102,17 @@ module _ (m : Move) (set : IsClosedSet m.circuit.aig m.held m.set) where
         length-places (has m.set) (variables_end m.circuit.aig),
       )
 
+  -- the variables of a moved graph end after the copies
   pub moved-end : variables_end (moved_graph m) ≡ copies_start m + count_below (has m.set) (variables_end m.circuit.aig)
   moved-end = omega (arith, moved-first_gate, length-moved_gates, copies_start-is)
 
+  -- a gate outside the set stands at its rank among the moved graph's gates
   pub gate_in : (v : ℕ) → v < variables_end m.circuit.aig → is_outside m v ≡ true → slice_get (moved_graph m).gates (count_below (is_outside m) v) ≡ Some (gate_for m v)
   gate_in v h outer = ap (λ (gates : List Gate). slice_get gates (count_below (is_outside m) v)) gates-split ∙
       slice_get-append_left (map (gate_for m) (places (is_outside m) (variables_end m.circuit.aig))) (map (copy_for m) (places (has m.set) (variables_end m.circuit.aig))) (count_below (is_outside m) v) (gate_for m v)
       (slice_get-map_some (gate_for m) (places (is_outside m) (variables_end m.circuit.aig)) (count_below (is_outside m) v) v (at_rank (is_outside m) (variables_end m.circuit.aig) v h outer))
 
+  -- a member's copy stands at its rank after the gates outside the set
   pub copy_in : (v : ℕ) → v < variables_end m.circuit.aig → has m.set v ≡ true
       → slice_get (moved_graph m).gates (count_below (is_outside m) (variables_end m.circuit.aig) + count_below (has m.set) v) ≡ Some (copy_for m v)
   copy_in v h member =
@@ -116,6 +129,7 @@ module _ (m : Move) (set : IsClosedSet m.circuit.aig m.held m.set) where
     from_outside : (v : ℕ) → Ranks (is_outside m) (variables_end m.circuit.aig) k v → gate ≡ gate_for m v → GateSource k gate
     from_member : (v j : ℕ) → Ranks (has m.set) (variables_end m.circuit.aig) j v → k ≡ count_below (is_outside m) (variables_end m.circuit.aig) + j → gate ≡ copy_for m v → GateSource k gate
 
+  -- each gate of a moved graph is a gate outside the set or a member's copy
   pub gate_source : (k : ℕ) (gate : Gate) → slice_get (moved_graph m).gates k ≡ Some gate → GateSource k gate
   gate_source k gate e =
       let outers = map (gate_for m) (places (is_outside m) (variables_end m.circuit.aig)) in
@@ -152,9 +166,11 @@ module _ (m : Move) (valid : IsGraph m.circuit.aig) (set : IsClosedSet m.circuit
       latch_below v bound less within kept =
           rw (new_variable-latched m (closed-passable m set.closed) v kept) (omega (arith, gates_start-is m, count-lt (is_latched m) v (variables_end m.circuit.aig) within kept))
 
+  -- what is read from outside is read at a variable before the copies
   pub new_variable-within : (v : ℕ) → is_read m.circuit m.set v ≡ true → v < variables_end m.circuit.aig → new_variable m v < copies_start m
   new_variable-within v read within = omega (arith, copies_start-is m, new_variable-below v (variables_end m.circuit.aig) read within within)
 
+  -- a latch's next literal is read at a variable before the copies
   pub next-within : (j : ℕ) (latch : Latch) → slice_get m.circuit.aig.latches j ≡ Some latch → new_variable m (variable latch.next) < copies_start m
   next-within j latch there = new_variable-within (variable latch.next) (read-next m j latch there) (valid.latches j latch there)
 
@@ -231,6 +247,7 @@ module _ (m : Move) (valid : IsGraph m.circuit.aig) (set : IsClosedSet m.circuit
         omega (arith, moved-end m set, copy_variable-is m v, count-lt (has m.set) v (variables_end m.circuit.aig) within new.1))
   ]
 
+  -- a moved graph within the limit of variables is a graph
   pub IsGraph-moved : variables_end (moved_graph m) ≤ MAX_VARIABLES → IsGraph (moved_graph m)
   IsGraph-moved room = record {
     small = room;

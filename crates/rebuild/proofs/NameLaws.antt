@@ -87,5 +87,6 @@ module _ (m : Move) (valid : IsGraph m.circuit.aig) (set : IsClosedSet m.circuit
       same_lengths : (xs ys : List (List ℕ)) → map (length {A = ℕ}) ys ≡ map (length {A = ℕ}) xs → length ys ≡ length xs
       same_lengths xs ys e = sym (length-map ys (length {A = ℕ})) ∙ ap (length {A = ℕ}) e ∙ length-map xs (length {A = ℕ})
 
+  -- a moved circuit has properties in range and symbols by rising position
   pub IsNetlist-moved : IsNetlist (moved_of m)
   IsNetlist-moved = record { props = moved-props m valid set netlist; symbols = moved-symbols }

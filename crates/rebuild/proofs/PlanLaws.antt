@@ -32,12 +32,14 @@ length-by_variable {A} g f xs filled = omega (arith, ap (λ (ys : List A). lengt
 pub table-begin : {A : Type 0} (first v : ℕ) (f : ℕ → A) (xs : List A) → xs ≡ [] → v ≡ first → xs ≡ table first (v - first) f
 table-begin {A} first v f xs empty same = let none : v - first ≡ 0 = omega arith in empty ∙ sym (table-none first f) ∙ ap (λ (n : ℕ). table first n f) (sym none)
 
+-- a table that is filled variable by variable has one entry more
 pub table-next : {A : Type 0} (first v : ℕ) (f : ℕ → A) (xs ys : List A) (x : A) → first ≤ v → xs ≡ table first (v - first) f → ys ≡ xs ++ x ∷ [] → x ≡ f v → ys ≡ table first (v + 1 - first) f
 table-next {A} first v f xs ys x low filled pushed here =
     let place : first + (v - first) ≡ v = omega arith in
     let next : v - first + 1 ≡ v + 1 - first = omega arith in
     entry first (v - first) f xs ys x filled pushed (here ∙ ap f (sym place)) ∙ ap (λ (n : ℕ). table first n f) next
 
+-- past the last variable the table is whole
 pub table-whole : {A : Type 0} (g : Graph) (v : ℕ) (f : ℕ → A) (xs : List A) → v ≤ variables_end g → variables_end g ≤ v → xs ≡ table (first_latch g) (v - first_latch g) f → xs ≡ by_variable g f
 table-whole g v f xs low high filled = table-end (first_latch g) (v - first_latch g) (latches_and_gates g) f xs (omega arith) (omega arith) filled
 
@@ -50,21 +52,27 @@ marked-at g p items marks first v same filled starts before within =
     (omega (arith, length-by_variable g p marks (same ∙ filled)))
 
 module _ (m : Move) (passable : ArePassable m.circuit.aig m.held m.set) where
+  -- no member stands before the first latch
   pub member-before : (v : ℕ) → v < first_latch m.circuit.aig → has m.set v ≡ false
   member-before v h = no-member-before m passable v (omega arith)
 
+  -- nothing before the first latch has a latch after the move
   pub latched-before : (v : ℕ) → v < first_latch m.circuit.aig → is_latched m v ≡ false
   latched-before v h = latched-other m v (latch_at-before m.circuit.aig v h) (member-before v h)
 
+  -- no gate outside the set stands before the first latch
   pub outside-before : (v : ℕ) → v < first_latch m.circuit.aig → is_outside m v ≡ false
   outside-before v h = not_outside_before m v (omega arith)
 
+  -- a table of the members marks all of them
   pub all-members : (marks : List Bool) → marks ≡ by_variable m.circuit.aig (has m.set) → AreAllMarks (first_latch m.circuit.aig) marks (has m.set)
   all-members marks filled = AreAllMarks-table (first_latch m.circuit.aig) (latches_and_gates m.circuit.aig) marks (has m.set) filled member-before
 
+  -- a table of what has a latch after the move marks all of it
   pub all-latched : (marks : List Bool) → marks ≡ by_variable m.circuit.aig (is_latched m) → AreAllMarks (first_latch m.circuit.aig) marks (is_latched m)
   all-latched marks filled = AreAllMarks-table (first_latch m.circuit.aig) (latches_and_gates m.circuit.aig) marks (is_latched m) filled latched-before
 
+  -- a table of the gates outside the set marks all of them
   pub all-outside : (marks : List Bool) → marks ≡ by_variable m.circuit.aig (is_outside m) → AreAllMarks (first_latch m.circuit.aig) marks (is_outside m)
   all-outside marks filled = AreAllMarks-table (first_latch m.circuit.aig) (latches_and_gates m.circuit.aig) marks (is_outside m) filled outside-before
 
@@ -73,6 +81,7 @@ module _ (m : Move) (passable : ArePassable m.circuit.aig m.held m.set) where
   literal-leaf lit h = let same : new_variable m (variable lit) ≡ variable lit = new_variable-leaf m passable (variable lit) h in omega arith
 
 module _ (m : Move) (room : copies_start m + count_below (has m.set) (variables_end m.circuit.aig) ≤ MAX_VARIABLES) where
+  -- where the moved circuit is within the limit, so is each new variable
   pub variable-small : variables_end m.circuit.aig ≤ MAX_VARIABLES → (v : ℕ) → v < variables_end m.circuit.aig → new_variable m v < MAX_VARIABLES
   unfolding new_variable
   variable-small few v h = elim (cases_Bool (is_latched m v)) [
@@ -83,6 +92,7 @@ module _ (m : Move) (room : copies_start m + count_below (has m.set) (variables_
     ]
   ]
 
+  -- where the moved circuit is within the limit, so is each copy's variable
   pub copy-small : (v : ℕ) → v < variables_end m.circuit.aig → has m.set v ≡ true → copy_variable m v < MAX_VARIABLES
   copy-small v h member = omega (arith, copy_variable-is m v, count-lt (has m.set) v (variables_end m.circuit.aig) h member)
 
@@ -148,6 +158,7 @@ variables-table m first count n numbers filled starts long counted =
     ∙ ap (λ (k : ℕ). table k n (numbered (is_latched m) (is_outside m) k (gates_start m))) starts
     ∙ ap (λ (k : ℕ). table (first_latch m.circuit.aig) k (numbered (is_latched m) (is_outside m) (first_latch m.circuit.aig) (gates_start m))) long
 
+-- ranks among the members, counted from the copies' start, are the copies' variables
 pub copies-table : (m : Move) (first start n : ℕ) (numbers : List ℕ) → numbers ≡ table first n (λ v. start + count_below (has m.set) v)
     → first ≡ first_latch m.circuit.aig → n ≡ latches_and_gates m.circuit.aig → start ≡ copies_start m → numbers ≡ by_variable m.circuit.aig (copy_variable m)
 unfolding copy_variable

@@ -29,6 +29,7 @@ value-latch_start g valid x f v latch e =
     let here : 2 * v ≡ 2 * (first_latch g + (v - first_latch g)) = omega arith in
     ap (value g x f 0) here ∙ (value_laws g valid x f).latch_at_start (v - first_latch g) latch place.there
 
+-- a latch holds a step later what its next literal is now
 pub value-latch_later : (g : Graph) → IsGraph g → (x : Inputs) (f : Choice) (t v : ℕ) (latch : Latch) → latch_at g v ≡ Some latch
     → value g x f (t + 1) (2 * v) ≡ value g x f t latch.next
 value-latch_later g valid x f t v latch e =
@@ -36,6 +37,7 @@ value-latch_later g valid x f t v latch e =
     let here : 2 * v ≡ 2 * (first_latch g + (v - first_latch g)) = omega arith in
     ap (value g x f (t + 1)) here ∙ (value_laws g valid x f).latch_later t (v - first_latch g) latch place.there
 
+-- a gate has the AND of its fan-ins' values
 pub value-gate : (g : Graph) → IsGraph g → (x : Inputs) (f : Choice) (t v : ℕ) (gate : Gate) → gate_at g v ≡ Some gate
     → value g x f t (2 * v) ≡ (value g x f t gate.rhs0 && value g x f t gate.rhs1)
 value-gate g valid x f t v gate e =
@@ -100,6 +102,7 @@ pub value-passable : (g : Graph) (held : List ℕ) → IsGraph g → (x : Inputs
 unfolding start_value
 value-passable g held valid x f v passable = same_start g held valid (λ t i. false) x (λ j. false) f (suc v) v (omega arith) (inr passable)
 
+-- the reset of a passable gate is its value at step 0, whatever comes in
 pub start_law : (g : Graph) (held : List ℕ) → IsGraph g → StartLaw g held
 unfolding start_reset
 start_law g held valid = λ v x f passable.
@@ -110,6 +113,7 @@ pub value-start_value : (m : Move) → IsGraph m.circuit.aig → IsClosed m.circ
     → start_value m.circuit.aig v ≡ value m.circuit.aig x f 0 (2 * v)
 value-start_value m valid closed x f v member = value-passable m.circuit.aig m.held valid x f v (closed.passable v ((has_iff_contains m.set v).0 member))
 
+-- a latch with the reset of a value holds that value at step 0
 pub opening-reset_to : (b a : Bool) → opening (reset_to b) a ≡ b
 opening-reset_to true a = refl
 opening-reset_to false a = refl
@@ -120,10 +124,12 @@ module _ (g : Graph) (held : List ℕ) where
   unfolding is_settled
   settled-leaf v h = fold_gates-leaf g (may_move g held) both v (gate_at-before g v h)
 
+  -- what is no gate and may not move has the reset of a free latch
   pub start_reset-unmoved : (v : ℕ) → v < first_gate g → may_move g held v ≡ false → start_reset g held v ≡ Free
   unfolding start_reset
   start_reset-unmoved v h unmoved = cond-false (is_settled g held v) (reset_to (start_value g v)) Free (settled-leaf v h ∙ unmoved)
 
+  -- a latch that may move has its own reset
   pub start_reset-latch : IsGraph g → (v : ℕ) (latch : Latch) → latch_at g v ≡ Some latch → may_move g held v ≡ true → start_reset g held v ≡ latch.reset
   unfolding start_reset
   start_reset-latch valid v latch e movable =
