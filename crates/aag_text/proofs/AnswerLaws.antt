@@ -27,6 +27,7 @@ use Rattle.aag_text.proofs.ResolveLaws.{both_left, both_right, placed_is, placin
 
 -- ---- lists of a reader are consistent
 
+-- lists that have been read have as many items as the header says, and names of things that it counts
 pub consistent : (l : RawLists) (symbols : List RawSymbol) → AreRead l symbols → IsConsistent l
 consistent l symbols read = record {
   inputs = read.counted.inputs;
@@ -37,6 +38,7 @@ consistent l symbols read = record {
   names = subst (AreNamesWithin l.header) (sym read.names) (within l.header symbols read.names_apart.below read.names_apart.apart);
 }
 
+-- a test that holds doesn't fail
 pub not_both : (b : Bool) → IsTrue b → b ≡ false → ⊥
 not_both b it not_it = cc
 
@@ -91,6 +93,7 @@ placed_parts l is small sizes same a b d g =
           ));
     }
 
+-- what consistent lists give by places fits a circuit of the header's numbers
 pub are_placed : (l : RawLists) → IsConsistent l → 1 + length l.inputs.items + length l.latches.items + length l.gates.items ≤ 2 ^ 28 → (sizes : List ℕ) → sizes ≡ l.properties.sizes → (p : PlacedLists)
     → placed_lists l.places (length l.inputs.items + length l.latches.items + length l.gates.items) l.latches.items l.properties.safety l.properties.liveness l.gates.items ≡ Ok p
     → ArePlaced l.header sizes p
@@ -113,6 +116,7 @@ module _ (l : RawLists) (symbols : List RawSymbol) (read : AreRead l symbols) wh
       ≡ if_known (is_resolved (raw_of l symbols)) (by_position (raw_of l symbols))
   by_places = placed_is (raw_of l symbols) l.places (length l.inputs.items + length l.latches.items + length l.gates.items) (sym (length-defined (raw_of l symbols))) read.places
 
+  -- a fault of the lists by places is that of the raw circuit
   pub fails_by_places : (e : ReadError)
       → Fails e (placed_lists l.places (length l.inputs.items + length l.latches.items + length l.gates.items) l.latches.items l.properties.safety l.properties.liveness l.gates.items)
       → Fails e (resolve l.header (raw_of l symbols))
@@ -132,6 +136,7 @@ module _ (l : RawLists) (symbols : List RawSymbol) (read : AreRead l symbols) wh
         ∙ circuit_is l.header (raw_of l symbols) read.apart resolved read.counted.inputs read.counted.latches ok.order ok.arranged.ranks ok.is_order ok.arranged.are_ranks))
     answered sizes same (Err e) ok err = ordering_fails l.header (raw_of l symbols) (placed_reads l.header (by_position (raw_of l symbols))) e resolved reads_same err
 
+  -- the circuit in the order found, or the fault of the order, is what the raw circuit gives where all that it reads is defined
   pub answers : (sizes : List ℕ) → sizes ≡ l.properties.sizes → (p : PlacedLists)
       → placed_lists l.places (length l.inputs.items + length l.latches.items + length l.gates.items) l.latches.items l.properties.safety l.properties.liveness l.gates.items ≡ Ok p
       → (result : Result Netlist ReadError) → IfOk result (λ c. IsOrdered l.header sizes p l.names c) → IfErr result (λ e. Fails e (order_or_cycle (ordered (placed_reads l.header p))))

@@ -21,14 +21,17 @@ use Rattle.aag_text.specs.Resolving.{ArePlaced, IsArranged, placed_reads, arrang
 use Rattle.aag_text.proofs.GraphLaws.{movable, distinct, graph_is, ends, all_moved_below}
 
 module _ (h : Header) (sizes : List ℕ) (p : PlacedLists) (order ranks : List ℕ) (placed : ArePlaced h sizes p) (is : IsOrder (placed_reads h p) order) (are : AreRanks order ranks) where
+  -- the ranks of the order may move literals after the latches
   pub movable_by : AreMovable (1 + h.inputs + h.latches) ranks
   movable_by = movable (1 + h.inputs + h.latches) (placed_reads h p) order ranks is are (omega (arith, placed.small, length-map p.gates (reads_of (1 + h.inputs + h.latches))))
 
+  -- each place of the order is that of a gate of the file
   pub order_by : All (λ g. g < length p.gates) order
   order_by k d within =
       let less = (distinct (placed_reads h p) order is).below k d within in
       omega (arith, less, is.as_many, length-map p.gates (reads_of (1 + h.inputs + h.latches)))
 
+  -- there is a rank for each gate
   pub ranks_end : length ranks ≡ length p.gates
   ranks_end = omega (arith, are.as_many, is.as_many, length-map p.gates (reads_of (1 + h.inputs + h.latches)))
 
@@ -44,13 +47,16 @@ module _ (h : Header) (sizes : List ℕ) (p : PlacedLists) (order ranks : List �
   small_first : 1 + h.inputs + length p.latches + length p.gates ≤ 2 ^ 28
   small_first = omega (arith, placed.small, placed.latches)
 
+  -- the graph in order is one
   pub graph_by : IsGraph (graph_in_order h.inputs p.latches p.gates order ranks)
   graph_by = graph_is h.inputs p.latches p.gates order ranks is_first are small_first latches_first
 
+  -- moved latches and gates in order make the graph in order
   pub same_graph : (ls : List Latch) (gs : List Gate) → ls ≡ map (moved_latch (1 + h.inputs + h.latches) ranks) p.latches → gs ≡ gates_in_order (1 + h.inputs + h.latches) ranks order p.gates
       → record { inputs = h.inputs; latches = ls; gates = gs } ≡ graph_in_order h.inputs p.latches p.gates order ranks
   same_graph ls gs a b = rw (a, b) (ap (λ (n : ℕ). record { inputs = h.inputs; latches = map (moved_latch n ranks) p.latches; gates = gates_in_order n ranks order p.gates }) same_first)
 
+  -- moved latches and gates in order make a graph
   pub parts_are_graph : (ls : List Latch) (gs : List Gate) → ls ≡ map (moved_latch (1 + h.inputs + h.latches) ranks) p.latches → gs ≡ gates_in_order (1 + h.inputs + h.latches) ranks order p.gates
       → IsGraph (record { inputs = h.inputs; latches = ls; gates = gs })
   parts_are_graph ls gs a b = subst IsGraph (sym (same_graph ls gs a b)) graph_by
@@ -59,9 +65,11 @@ module _ (h : Header) (sizes : List ℕ) (p : PlacedLists) (order ranks : List �
   moved_literals : (lits : List ℕ) → All (IsBelow (1 + h.inputs + h.latches + length p.gates)) lits → All (IsBelow (1 + h.inputs + h.latches + length ranks)) (map (moved (1 + h.inputs + h.latches) ranks) lits)
   moved_literals lits all = all_moved_below (1 + h.inputs + h.latches) ranks movable_by lits (subst (λ (n : ℕ). All (IsBelow (1 + h.inputs + h.latches + n)) lits) (sym ranks_end) all)
 
+  -- moved literals of the circuit are below 2^29
   pub small_literals : (lits : List ℕ) → All (IsBelow (1 + h.inputs + h.latches + length p.gates)) lits → All (λ lit. lit < 2 ^ 29) (map (moved (1 + h.inputs + h.latches) ranks) lits)
   small_literals lits all k d within = let below = moved_literals lits all k d within in omega (arith, below, movable_by.small)
 
+  -- literals below the variables' end by the gates are so by the ranks
   pub all_below : (lits : List ℕ) → All (IsBelow (1 + h.inputs + h.latches + length p.gates)) lits → All (IsBelow (1 + h.inputs + h.latches + length ranks)) lits
   all_below lits all = subst (λ (n : ℕ). All (IsBelow (1 + h.inputs + h.latches + n)) lits) (sym ranks_end) all
 
@@ -70,6 +78,7 @@ module _ (h : Header) (sizes : List ℕ) (p : PlacedLists) (order ranks : List �
       let below = moved_literals lits all k d within in
       omega (arith, below, ranks_end, ends h.inputs p.latches p.gates order ranks is_first are small_first latches_first, placed.latches)
 
+  -- the arranged circuit, with names that the header counts, is a circuit
   pub netlist_by : (names : Symbols) → AreNamesWithin h names → IsNetlist (arranged h sizes p names order ranks)
   netlist_by names within =
       netlist_within h (graph_in_order h.inputs p.latches p.gates order ranks)
@@ -101,10 +110,12 @@ order_found : (o : Option (List ℕ)) (order : List ℕ) → order_or_cycle o �
 order_found None order e = absurd (cc)
 order_found (Some found) order e = cc
 
+-- the order that was found of a slice of the gates is that of the gates by places
 pub computed_by : (h : Header) (p : PlacedLists) (gates : List Gate) (order : List ℕ) → gates ≡ p.gates → order_or_cycle (ordered (map (reads_of (1 + h.inputs + h.latches)) gates)) ≡ Ok order → ordered (placed_reads h p) ≡ Some order
 computed_by h p gates order same found =
     ap (λ (gs : List Gate). ordered (map (reads_of (1 + h.inputs + h.latches)) gs)) (sym same) ∙ order_found (ordered (map (reads_of (1 + h.inputs + h.latches)) gates)) order found
 
+-- an order that was computed is the order
 pub order_is : (h : Header) (p : PlacedLists) (order : List ℕ) → ordered (placed_reads h p) ≡ Some order → IsOrder (placed_reads h p) order
 order_is h p order computed = (ordered_law (placed_reads h p) order).0 computed
 
@@ -116,6 +127,7 @@ gate_read_below first n lit below = by_test (nat_le first (variable lit)) refl
     by_test true is = omega (arith, below, leb-true first (variable lit) is)
     by_test false is = tt
 
+-- gates whose fan-ins are below the variables' end read gates of the file
 pub reads_in_file : (first : ℕ) (gates : List Gate) → All (IsGateBelow (first + length gates)) gates → AreReadsInFile (map (reads_of first) gates)
 reads_in_file first gates below =
     subst (λ (n : ℕ). All (ReadsBelow n) (map (reads_of first) gates)) (sym (length-map gates (reads_of first)))

@@ -42,6 +42,7 @@ all_open first one_line = (part_taken first [] one_line).1
 fed-first : (first : List ℕ) → HasNoNewline first → fed (first ++ 10 ∷ []) ≡ (read_header first >>= λ h. Ok (InItems h nothing_yet (length first + 1)))
 fed-first first one_line = fed-newline first AtHeader (none_ended first one_line) ∙ ap (take_line AtHeader) (all_open first one_line)
 
+-- a part without a newline is more of the first line
 pub awaits_more : (old new : HeaderLine) (bytes part : List ℕ) → HasNoNewline part → ((rest : List ℕ) → header_with new rest ≡ header_with old (part ++ rest)) → Awaits old bytes → Awaits new (bytes ++ part)
 awaits_more old new bytes part one_line extends awaits = record {
   one_line = lacks-append 10 bytes part awaits.one_line one_line;
@@ -61,15 +62,18 @@ module _ (line : HeaderLine) (bytes part rest piece : List ℕ) (cuts : Cuts 10 
   abbrev pub to_line_end : List ℕ
   to_line_end = (bytes ++ part) ++ 10 ∷ []
 
+  -- the bytes up to the newline and the rest are the bytes and the piece
   pub whole_piece : to_line_end ++ rest ≡ bytes ++ piece
   whole_piece = behind_line bytes part rest piece (bytes ++ piece) cuts refl
 
   led : (r : Result Header ReadError) → IsHeaderOf line r → fed to_line_end ≡ (r >>= λ h. Ok (InItems h nothing_yet (length (bytes ++ part) + 1)))
   led r is = fed-first (bytes ++ part) awaits.one_line ∙ ap (λ (x : Result Header ReadError). x >>= λ h. Ok (InItems h nothing_yet (length (bytes ++ part) + 1))) (header_is line (bytes ++ part) r awaits is)
 
+  -- a fault of the header, once its line has ended, is one of the bytes
   pub header_fails : (e : ReadError) → IsHeaderOf line (Err e) → Fails e (fed (bytes ++ piece))
   header_fails e is = subst (λ (xs : List ℕ). Fails e (fed xs)) whole_piece (fails_stays e to_line_end rest (fails_as e (fed to_line_end) (led (Err e) is)))
 
+  -- a header that is read, once its line has ended, leaves the items where its line leads
   pub items_begin : (h : Header) (items : Items) (end at : ℕ) → IsHeaderOf line (Ok h) → length (bytes ++ piece) ≡ end → at ≡ end - length rest → items.at ≡ at → StandAt items.sections items.line at (InItems h nothing_yet at) []
       → Hold items to_line_end
   items_begin h items end at is whole is_at begins stands =
@@ -102,9 +106,11 @@ module _ (line : HeaderLine) (bytes : List ℕ) (awaits : Awaits line bytes) whe
   read_as : (r : Result Header ReadError) → IsHeaderOf line r → read_bytes bytes ≡ ((r >>= λ h. Ok (InItems h nothing_yet (length bytes + 1))) >>= finish (length bytes))
   read_as r is = finish-first bytes awaits.one_line ∙ ap (λ (x : Result Header ReadError). (x >>= λ h. Ok (InItems h nothing_yet (length bytes + 1))) >>= finish (length bytes)) (header_is line bytes r awaits is)
 
+  -- a file whose first line, which no newline ends, is no header has that fault
   pub first_fails : (e : ReadError) → IsHeaderOf line (Err e) → Fails e (read_bytes bytes)
   first_fails e is = fails_as e (read_bytes bytes) (read_as (Err e) is)
 
+  -- a file whose header no newline ends gives what the end gives after it
   pub first_closes : {X : Type 0} (view : X → Netlist) (r : Result X ReadError) (h : Header) (m : Sections) (len : ℕ) → IsHeaderOf line (Ok h) → len ≡ length bytes → m.header ≡ h → raw_of m [] ≡ nothing_yet → IsAt m []
       → Closes len view r m → Gives view r (read_bytes bytes)
   first_closes view r h m len is counts header raw stands closes =

@@ -266,6 +266,7 @@ item_no_comment line None is = without_comment line is
 item_no_comment line (Some (SymbolItem symbol)) is = absurd cc
 item_no_comment line (Some item) is = without_comment line is
 
+-- a line that begins no comment isn't one by its text
 pub no_comment : (line : List ℕ) → begins_comment line ≡ false → text_of line ≡ Comment → ⊥
 unfolding text_of
 no_comment line plain is = item_no_comment line (symbol_of line) (sym (cond-false (begins_comment line) Comment (text_of_item line (symbol_of line)) plain) ∙ is)

@@ -12,7 +12,9 @@ use Rattle.aag_text.specs.Numbering.{if_known, is_placed, placed}
 
 -- what is made of the first items, all of them known
 pub record IsMadeOf {X Y : Type 0} (known : X → Bool) (make : X → Y) (items : List X) (i : ℕ) (made : List Y) : Type 0 where
+  -- what each of the first items reads is known
   pub each_known : list_all known (take i items) ≡ true
+  -- what was made is that of the first items
   pub made_of : made ≡ map make (take i items)
 
 -- a value that is there, if it is known
@@ -20,14 +22,17 @@ pub known_some : {Y : Type 0} (known : Bool) (x y : Y) → Some y ≡ cond known
 known_some true x y e = (refl, cc)
 known_some false x y e = absurd (cc)
 
+-- where there is no value, what it reads isn't known
 pub known_none : {Y : Type 0} (known : Bool) (x : Y) → None ≡ cond known (Some x) None → known ≡ false
 known_none true x e = absurd (cc)
 known_none false x e = refl
 
 module _ {X Y : Type 0} (known : X → Bool) (make : X → Y) (items : List X) where
+  -- of no items nothing is made
   pub made_none : (made : List Y) → made ≡ [] → IsMadeOf known make items 0 made
   made_none made none = record { each_known = refl; made_of = none }
 
+  -- one item more whose part is there is known, and was made of
   pub made_more : (i : ℕ) (d : X) (y : Y) (made more : List Y) → i < length items → IsMadeOf known make items i made → Some y ≡ cond (known (get_or items i d)) (Some (make (get_or items i d))) None
       → more ≡ made ++ y ∷ [] → IsMadeOf known make items (i + 1) more
   made_more i d y made more within before here same =
@@ -38,12 +43,14 @@ module _ {X Y : Type 0} (known : X → Bool) (make : X → Y) (items : List X) w
             ∙ sym (map-append make (take i items) (get_or items i d ∷ [])) ∙ ap (map make) (sym (take_more items i d within));
       }
 
+  -- past the last item all is known, and was made of
   pub made_all : (i : ℕ) (made : List Y) → length items ≤ i → IsMadeOf known make items i made → if_known (list_all known items) (map make items) ≡ Ok made
   made_all i made past before =
       let all : list_all known items ≡ true = sym (ap (list_all known) (take_all i items past)) ∙ before.each_known in
       let same : made ≡ map make items = before.made_of ∙ ap (map make) (take_all i items past) in
       cond-true _ _ _ all ∙ ap (λ (ys : List Y). Ok ys) (sym same)
 
+  -- an item whose part isn't there leaves something undefined
   pub made_unknown : {Z : Type 0} (i : ℕ) (d : X) (z : Z) → i < length items → None ≡ cond (known (get_or items i d)) (Some (make (get_or items i d))) None → if_known (list_all known items) z ≡ Err Undefined
   made_unknown i d z within none = cond-false _ _ _ (list_all_at known items i d within (known_none (known (get_or items i d)) (make (get_or items i d)) none))
 

@@ -30,6 +30,7 @@ choose P a b here after less more = elim (cases_lt a b) [
   | inr is ↦ subst P (sym (cond-false (nat_lt a b) here after (le-ltb a b is))) (more is)
 ]
 
+-- the next section has room, and those before it are full
 pub room : (h : Header) (raw : Raw) → HasRoom h raw (next_section h raw)
 unfolding next_section
 room h raw =
@@ -53,6 +54,7 @@ at_symbols Liveness e = absurd (both_ways false refl e)
 at_symbols Gates e = absurd (both_ways false refl e)
 at_symbols Symbols e = refl
 
+-- where all items but symbols have been read, symbols come next
 pub symbols_next : (h : Header) (raw : Raw) → is_complete h raw ≡ true → next_section h raw ≡ Symbols
 symbols_next h raw e = at_symbols (next_section h raw) e
 

@@ -22,6 +22,7 @@ pub fails_stays : (e : ReadError) (bytes more : List ℕ) → Fails e (fed bytes
 fails_stays NoMemory bytes more fails = tt
 fails_stays e bytes more fails = (the_pieces_law bytes more).stays e fails
 
+-- a part without a newline ends no line
 pub fed-part : (part bytes : List ℕ) → HasNoNewline part → fed (bytes ++ part) ≡ fed bytes
 unfolding fed
 fed-part part bytes one_line = ap (take_lines AtHeader) (part_taken part bytes one_line).0
@@ -55,6 +56,7 @@ part_stands m old new at state begun part grows stand = record {
   is_open = grows.goes_on (is_complete m.header (raw_of m stand.symbols)) begun stand.is_open;
 }
 
+-- a part without a newline is held as more of the open line
 pub part_held : (items : Items) (new : OpenLine) (bytes part : List ℕ) → HasNoNewline part → is_comment new ≡ is_comment items.line
     → ((complete : Bool) (begun : List ℕ) → IsOpen items.line complete begun → IsOpen new complete (begun ++ part)) → Hold items bytes → Hold (record items { line = new }) (bytes ++ part)
 part_held items new bytes part one_line same_kind goes_on hold =
@@ -70,9 +72,11 @@ part_held items new bytes part one_line same_kind goes_on hold =
 -- ---- the end of a line
 
 module _ (items : Items) (bytes : List ℕ) (hold : Hold items bytes) where
+  -- a fault of the open line is one of the bytes once its newline has come
   pub newline_fails : (e : ReadError) → ((state : State) (line : List ℕ) → StandAt items.sections items.line items.at state line → Fails e (take_line state line)) → Fails e (fed (bytes ++ 10 ∷ []))
   newline_fails e fails = Fails-same e _ _ (sym (fed-newline bytes hold.state hold.leads)) (fails hold.state (open_line bytes) hold.stands)
 
+  -- an open line that is taken once its newline has come leaves the new items after it
   pub newline_held : (new : Items) (at : ℕ) → at ≡ length bytes + 1
       → ((state : State) (line : List ℕ) → StandAt items.sections items.line items.at state line → (next : State) × (take_line state line ≡ Ok next) × StandAt new.sections new.line (items.at + length line + 1) next [])
       → Hold (record new { at = at }) (bytes ++ 10 ∷ [])
@@ -89,6 +93,7 @@ module _ (items : Items) (bytes : List ℕ) (hold : Hold items bytes) where
 
 -- ---- a line of the bytes that are left
 
+-- bytes up to a line's newline and the rest are the bytes
 pub behind_line : (taken part rest left bytes : List ℕ) → Cuts 10 left part rest → taken ++ left ≡ bytes → ((taken ++ part) ++ 10 ∷ []) ++ rest ≡ bytes
 behind_line taken part rest left bytes cuts parts =
     append_assoc (taken ++ part) (10 ∷ []) rest ∙ append_assoc taken part (10 ∷ rest) ∙ ap (λ (xs : List ℕ). taken ++ xs) (sym cuts.whole) ∙ parts
@@ -101,11 +106,13 @@ module _ (items : Items) (new_line : OpenLine) (part rest left bytes : List ℕ)
   part_taken_in : Hold with_part (before.taken ++ part)
   part_taken_in = part_held items new_line before.taken part cuts.clean same_kind goes_on before.hold
 
+  -- a fault of the next line of what is left is one of the bytes
   pub line_fails_in : (e : ReadError) → ((state : State) (line : List ℕ) → StandAt items.sections new_line items.at state line → Fails e (take_line state line)) → Fails e (fed bytes)
   line_fails_in e fails =
       subst (λ (xs : List ℕ). Fails e (fed xs)) (behind_line before.taken part rest left bytes cuts before.parts)
       (fails_stays e ((before.taken ++ part) ++ 10 ∷ []) rest (newline_fails with_part (before.taken ++ part) part_taken_in e fails))
 
+  -- a next line that is taken leaves the new items before the rest
   pub line_taken_in : (new : Items) (at end : ℕ) → length bytes ≡ end → at ≡ end - length rest
       → ((state : State) (line : List ℕ) → StandAt items.sections new_line items.at state line → (next : State) × (take_line state line ≡ Ok next) × StandAt new.sections new.line (items.at + length line + 1) next [])
       → HoldBefore (record new { at = at }) rest bytes

@@ -16,6 +16,7 @@ use Rattle.aag_text.specs.Taking.{raw_of, IsAt}
 use Rattle.aag_text.specs.Lines.{IsOpen, is_comment}
 use Rattle.aag_text.specs.Standing.{state_of, StandAt, Hold}
 
+-- what is read of bytes without a fault is what closing gives after their open line
 pub read-closed : (bytes : List ℕ) (state : State) → fed bytes ≡ Ok state → read_bytes bytes ≡ (with_last_line state (open_line bytes) >>= finish (length bytes))
 unfolding closed
 read-closed bytes state leads = (the_pieces_law bytes []).whole ∙ ap (λ (r : Result State ReadError). r >>= closed bytes) leads
@@ -52,9 +53,11 @@ module _ (items : Items) (bytes : List ℕ) (end : ℕ) (hold : Hold items bytes
     open_read : read_bytes bytes ≡ (take_line hold.state (open_line bytes) >>= finish end)
     open_read = read_by (take_line hold.state (open_line bytes)) (last_taken hold.state (open_line bytes) (omega (arith, hold.ends, whole, is_open)))
 
+    -- a fault of the last line, which no newline ends, is that of the file
     pub open_fails : (e : ReadError) → ((state : State) (line : List ℕ) → StandAt items.sections items.line items.at state line → Fails e (take_line state line)) → Fails e (read_bytes bytes)
     open_fails e fails = Fails-same e _ _ (sym open_read) (Fails-bind e (take_line hold.state (open_line bytes)) (finish end) (fails hold.state (open_line bytes) hold.stands))
 
+    -- where the last line, which no newline ends, is taken, the file gives what the end gives after it
     pub open_closes : {X : Type 0} (view : X → Netlist) (r : Result X ReadError) (new : Items)
         → ((state : State) (line : List ℕ) → StandAt items.sections items.line items.at state line → (next : State) × (take_line state line ≡ Ok next) × StandAt new.sections new.line (items.at + length line + 1) next [])
         → Closes end view r new.sections → Gives view r (read_bytes bytes)
@@ -62,6 +65,7 @@ module _ (items : Items) (bytes : List ℕ) (end : ℕ) (hold : Hold items bytes
         let taken = takes hold.state (open_line bytes) hold.stands in
         Gives-same view r _ _ (sym (open_read ∙ ap (λ (s : Result State ReadError). s >>= finish end) taken.1)) (stand_closes end view r new.sections new.line (items.at + length (open_line bytes) + 1) taken.0 [] taken.2 closes)
 
+  -- where no line is open, the file gives what its end gives
   pub none_closes : {X : Type 0} (view : X → Netlist) (r : Result X ReadError) → end ≤ items.at
       → Closes end view r items.sections → Gives view r (read_bytes bytes)
   none_closes view r past closes =

@@ -21,6 +21,7 @@ use Rattle.aag_text.specs.Arranging.{gate_read, reads_of, AreRanks, AreDistinct,
 pub order_below : (gates : List Reads) (order : List ℕ) → IsOrder gates order → (k g : ℕ) → slice_get order k ≡ Some g → g < length gates
 order_below gates order is k g there = (follows_where_true gates _ g (is.each k g there).follows).below
 
+-- no gate stands twice in an order, and each is below their number
 pub distinct : (gates : List Reads) (order : List ℕ) → IsOrder gates order → AreDistinct order
 distinct gates order is = record {
   below = λ k d within. let less = order_below gates order is k (get_or order k d) (slice_get-get_or order k d within) in omega (arith, less, is.as_many);
@@ -36,6 +37,7 @@ ranked gates order ranks is are g less =
     let there : slice_get order stands.0 ≡ Some g = slice_get-get_or order stands.0 g stands.1 ∙ ap (λ n. Some n) stands.2 in
     ap (slice_get order) (are.at stands.0 g there) ∙ there
 
+-- ranks of an order may move literals, where the variables are few enough
 pub movable : (first : ℕ) (gates : List Reads) (order ranks : List ℕ) → IsOrder gates order → AreRanks order ranks → first + length gates ≤ 2 ^ 28 → AreMovable first ranks
 movable first gates order ranks is are small = record {
   small = omega (arith, small, are.as_many, is.as_many);
@@ -56,6 +58,7 @@ moved_high first ranks lit more =
     let is : moved first ranks lit ≡ 2 * (first + slice_index ranks (variable lit - first)) + lit % 2 = cond-false _ _ _ (le-ltb (variable lit) first more) in
     ap variable is ∙ omega arith
 
+-- a literal below the variables' end is moved to one below it
 pub moved_below : (first : ℕ) (ranks : List ℕ) → AreMovable first ranks → (lit : ℕ) → IsBelow (first + length ranks) lit → IsBelow (first + length ranks) (moved first ranks lit)
 moved_below first ranks are lit below = elim (cases_lt (variable lit) first) [
   | inl less ↦ subst (λ n. variable n < first + length ranks) (sym (moved_low first ranks lit less)) below
@@ -64,6 +67,7 @@ moved_below first ranks are lit below = elim (cases_lt (variable lit) first) [
       omega (arith, moved_high first ranks lit more, rank)
 ]
 
+-- literals below the variables' end are moved to such
 pub all_moved_below : (first : ℕ) (ranks : List ℕ) → AreMovable first ranks → (lits : List ℕ) → All (IsBelow (first + length ranks)) lits → All (IsBelow (first + length ranks)) (map (moved first ranks) lits)
 all_moved_below first ranks are lits all = All-map (IsBelow (first + length ranks)) (moved first ranks) lits (λ k d within. moved_below first ranks are (get_or lits k d) (all k d within))
 
@@ -120,6 +124,7 @@ module _ (inputs : ℕ) (latches : List Latch) (gates : List Gate) (order ranks 
   can_move : AreMovable (1 + inputs + length latches) ranks
   can_move = movable (1 + inputs + length latches) (map (reads_of (1 + inputs + length latches)) gates) order ranks is are (omega (arith, small, length-map gates (reads_of (1 + inputs + length latches))))
 
+  -- the variables of the graph in order end where those of the gates by places do
   pub ends : variables_end (graph_in_order inputs latches gates order ranks) ≡ 1 + inputs + length latches + length gates
   ends = omega (
     arith,
@@ -148,6 +153,7 @@ module _ (inputs : ℕ) (latches : List Latch) (gates : List Gate) (order ranks 
       let is_moved : f (get_or order k 0) ≡ gate = sym (get_or-map f order k 0 gate short) ∙ get_or_from_slice_get (map f order) k gate gate there in
       subst (IsGateAt (1 + inputs + length latches + k)) is_moved (gate_at_place (1 + inputs + length latches) gates order ranks is are k (get_or order k 0) (slice_get-get_or order k 0 short))
 
+  -- the graph in order is one
   pub graph_is : IsGraph (graph_in_order inputs latches gates order ranks)
   graph_is = record {
     small = omega (arith, ends, small);

@@ -21,6 +21,7 @@ use Rattle.aag_text.proofs.CountLaws.{room_in}
 
 -- ---- the counts
 
+-- an item of the next section leaves no section with more than the header says
 pub fills : (h : Header) (raw : Raw) (item : Item) → IsFilling h raw → next_section h raw ≡ section_of item → IsFilling h (with_item raw item)
 fills h raw (InputItem lit) filling next =
     let room = room_in h raw Inputs next in
@@ -144,6 +145,7 @@ variables_of (LatchItem latch) = variable latch.current ∷ []
 variables_of (GateItem gate) = variable gate.lhs ∷ []
 variables_of item = []
 
+-- an item of the next section defines its variables after those defined so far
 pub defines : (h : Header) (raw : Raw) (item : Item) → IsFilling h raw → next_section h raw ≡ section_of item → defined (with_item raw item) ≡ defined raw ++ variables_of item
 defines h raw (InputItem lit) filling next =
     let room = room_in h raw Inputs next in

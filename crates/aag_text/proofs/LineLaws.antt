@@ -12,11 +12,13 @@ use Rattle.aag_text.specs.Filling.{IsRead}
 use Rattle.aag_text.proofs.ClampLaws.{line_by_numbers}
 
 module _ (h : Header) (raw : Raw) (at : ℕ) (line : List ℕ) (read : IsRead h raw) (left : is_complete h raw ≡ false) where
+  -- a line before the symbols that isn't at most nine numbers is a fault
   pub unspelt : row_of line ≡ None → read_line h raw at line ≡ Err (BadLine at)
   unspelt row =
       line_by_numbers h raw at read.within.greatest read.sizes left line
       ∙ ap (λ (o : Option (List ℕ)). take_item h raw at (BadLine at) (option_and_then (item_in (next_section h raw)) o)) row
 
+  -- a line of at most nine numbers is read as its section's item of them
   pub spelt : (ns : List ℕ) (section : Section) → row_of line ≡ Some ns → next_section h raw ≡ section → take_item h raw at (BadLine at) (item_in section ns) ≡ read_line h raw at line
   spelt ns section row next =
       sym (line_by_numbers h raw at read.within.greatest read.sizes left line

@@ -82,6 +82,7 @@ module _ {X : Type 0} (p : X → Bool) where
 pub has-place : (places : Places) (vs : List ℕ) (v : ℕ) → ArePlacesOf places vs → is_some (place_of places v) ≡ has vs v
 has-place places vs v are = ap is_some (are v) ∙ some-position (λ w. nat_eq w v) vs
 
+-- the places of variables, with one more at their end, are those of the longer list
 pub places-push : (old new : Places) (vs : List ℕ) (v : ℕ) → ArePlacesOf old vs → place_of old v ≡ None → ((w : ℕ) → place_of new w ≡ cond (nat_eq w v) (Some (length vs)) (place_of old w))
     → ArePlacesOf new (vs ++ v ∷ [])
 places-push old new vs v are absent inserted w =

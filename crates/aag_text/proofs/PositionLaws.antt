@@ -10,12 +10,14 @@ use Rattle.variable_tables.specs.Marking.{has}
 
 -- ---- a number's position
 
+-- a number that stands at a place, and at none before it, has this place as its position
 pub position_is : (xs : List ℕ) (v k : ℕ) → k < length xs → get_or xs k 0 ≡ v → ((j : ℕ) → j < k → get_or xs j 0 ≢ v) → position (λ w. w == v) xs ≡ Some k
 position_is xs v k within here before =
     let at : position_or_len (λ w. w == v) xs ≡ k
     = position_or_len_is (λ w. w == v) xs k 0 (omega (arith, within)) (λ j less. ne_eqb (get_or xs j 0) v (before j less)) (λ _. eq-eqb (get_or xs k 0) v here) in
     cond-true _ _ _ (lt-ltb (position_or_len (λ w. w == v) xs) (length xs) (omega (arith, at, within))) ∙ ap (λ n. Some n) at
 
+-- a number that stands at no place has no position
 pub position_none : (xs : List ℕ) (v : ℕ) → ((j : ℕ) → j < length xs → get_or xs j 0 ≢ v) → position (λ w. w == v) xs ≡ None
 position_none xs v none =
     let past : length xs < length xs → nat_eq (get_or xs (length xs) 0) v ≡ true = λ less. absurd (omega (arith, less)) in
@@ -23,6 +25,7 @@ position_none xs v none =
     = position_or_len_is (λ w. w == v) xs (length xs) 0 (omega arith) (λ j less. ne_eqb (get_or xs j 0) v (none j less)) past in
     cond-false _ _ _ (le-ltb (position_or_len (λ w. w == v) xs) (length xs) (omega (arith, at)))
 
+-- a number stands at its position, which is within the list
 pub position_at : (xs : List ℕ) (v k : ℕ) → position (λ w. w == v) xs ≡ Some k → (k < length xs) × (get_or xs k 0 ≡ v)
 position_at xs v k is = let parts = position-Some (λ w. w == v) xs k 0 is in (parts.0, eqb-true (get_or xs k 0) v parts.1)
 
@@ -38,6 +41,7 @@ cond_shift false n xs = elim (cases_lt n (length xs)) [
   | inr more ↦ le-ltb (1 + n) (1 + length xs) (omega (arith, more)) ∙ sym (le-ltb n (length xs) more)
 ]
 
+-- a list has a number exactly where the number's position isn't past its end
 pub has_by_position : (xs : List ℕ) (v : ℕ) → nat_lt (position_or_len (λ w. w == v) xs) (length xs) ≡ has xs v
 has_by_position [] v = refl
 has_by_position (x ∷ xs) v =
@@ -47,6 +51,7 @@ has_by_position (x ∷ xs) v =
 
 -- ---- no number twice
 
+-- in a list that has no number twice, each stands at one place
 pub one_place : (xs : List ℕ) → AllPairs (λ v w. v ≢ w) xs → (i j : ℕ) → i < length xs → j < length xs → get_or xs i 0 ≡ get_or xs j 0 → i ≡ j
 one_place xs apart i j first second same = elim (cases_lt i j) [
   | inl less ↦ absurd (apart i j 0 less second same)
@@ -60,12 +65,19 @@ one_place xs apart i j first second same = elim (cases_lt i j) [
 
 -- a list, what stands at its end, and that in this order
 pub record IsReordered (front back again order ranks : List ℕ) : Type 0 where
+  -- no number stands twice in the list
   pub apart : AllPairs (λ v w. v ≢ w) (front ++ back)
+  -- the order has as many places as the end has numbers
   pub order_many : length order ≡ length back
+  -- each place of the order is one of the end
   pub order_below : (j : ℕ) → j < length order → get_or order j 0 < length back
+  -- no place stands twice in the order
   pub alone : (g i j : ℕ) → slice_get order i ≡ Some g → slice_get order j ≡ Some g → i ≡ j
+  -- each place of the end stands in the order at its rank
   pub ranked : (g : ℕ) → g < length back → slice_get order (slice_index ranks g) ≡ Some g
+  -- the end in this order is as long as the order
   pub again_many : length again ≡ length order
+  -- it has at each place what the end has at the order's place
   pub again_at : (j : ℕ) → j < length order → get_or again j 0 ≡ get_or back (get_or order j 0) 0
 
 module _ (front back again order ranks : List ℕ) (is : IsReordered front back again order ranks) where
@@ -80,6 +92,7 @@ module _ (front back again order ranks : List ℕ) (is : IsReordered front back 
   whole : length (front ++ back) ≡ length front + length back
   whole = length-append front back
 
+  -- a number before the end keeps its position
   pub stays_in_front : (v p : ℕ) → position (λ w. w == v) (front ++ back) ≡ Some p → p < length front → position (λ w. w == v) (front ++ again) ≡ Some p
   stays_in_front v p found less =
       let parts = position-Some (λ w. w == v) (front ++ back) p 0 found in
@@ -93,6 +106,7 @@ module _ (front back again order ranks : List ℕ) (is : IsReordered front back 
       true_is_not_false : true ≡ false → ⊥
       true_is_not_false e = cc
 
+  -- a number at the end has its position by its rank
   pub moves_to_rank : (v p : ℕ) → position (λ w. w == v) (front ++ back) ≡ Some p → length front ≤ p → position (λ w. w == v) (front ++ again) ≡ Some (length front + slice_index ranks (p - length front))
   moves_to_rank v p found more =
       let at = position_at (front ++ back) v p found in
@@ -137,6 +151,7 @@ module _ (front back : List ℕ) (apart : AllPairs (λ v w. v ≢ w) (front ++ b
       let is_p : length front + j ≡ p = one_place (front ++ back) apart (length front + j) p (omega (arith, within, at_whole)) at.0 (get_or-append-add front back j 0 ∙ same ∙ sym at.1) in
       omega (arith, is_p, less))
 
+  -- a number whose position is at the end has it there, counted from the end's beginning
   pub found_at_end : (v p : ℕ) → position (λ w. w == v) (front ++ back) ≡ Some p → length front ≤ p → position (λ w. w == v) back ≡ Some (p - length front)
   found_at_end v p found more =
       let at = position_at (front ++ back) v p found in

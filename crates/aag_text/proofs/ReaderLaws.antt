@@ -22,6 +22,7 @@ reads_ok (Header line) len bytes reads = is_ok (fed bytes) _ (none_ended bytes r
 reads_ok (Items items) len bytes reads = is_ok (fed bytes) reads.0.state reads.0.leads
 reads_ok (Failed fault) len bytes reads = absurd reads
 
+-- what an answer says may be weakened
 pub follows_more : {X Y : Type 0} (P Q : Type 0) (r : Result X ReadError) (read : Result Y ReadError) → (P → Q) → Follows P r read → Follows Q r read
 follows_more P Q (Ok x) read more follows = more follows
 follows_more P Q (Err e) read more follows = follows
@@ -32,6 +33,7 @@ fails_by : (bytes : List ℕ) (e : ReadError) → Fails e (read_bytes bytes) →
 fails_by bytes NoMemory fails = inl refl
 fails_by bytes e fails = inr (record { read = fails; of_bytes = fault_of_bytes bytes e fails })
 
+-- an error of a reader's answer is want of memory or a fault of the bytes
 pub gives_fault : {X : Type 0} (view : X → Netlist) (r : Result X ReadError) (bytes : List ℕ) → Gives view r (read_bytes bytes) → IfErr r (λ e. (e ≡ NoMemory) ⊎ IsFaultOf bytes e)
 gives_fault view (Ok x) bytes gives = tt
 gives_fault view (Err e) bytes gives = fails_by bytes e gives

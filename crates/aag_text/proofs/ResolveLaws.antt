@@ -37,10 +37,12 @@ use Rattle.aag_text.proofs.MeaningLaws.{known_same, number_same, read_same, move
 
 -- ---- what two tests together pass
 
+-- where two tests pass together, the first does
 pub both_left : (a b : Bool) → (a && b) ≡ true → a ≡ true
 both_left true b e = refl
 both_left false b e = e
 
+-- where two tests pass together, the second does
 pub both_right : (a b : Bool) → (a && b) ≡ true → b ≡ true
 both_right true b e = e
 both_right false b e = absurd (cc)
@@ -55,6 +57,7 @@ map_at : {X Y : Type 0} (f g : X → Y) (xs : List X) → ((k : ℕ) (d : X) →
 map_at f g [] same = refl
 map_at f g (x ∷ xs) same = ap₂ (λ y ys. y ∷ ys) (same 0 x (omega arith)) (map_at f g xs (λ k d less. same (suc k) d (omega (arith, less))))
 
+-- where all elements of a list are known, the one at each place is
 pub known_at : {X : Type 0} (known : X → Bool) (xs : List X) → list_all known xs ≡ true → (k : ℕ) (d : X) → k < length xs → known (get_or xs k d) ≡ true
 known_at known [] all k d less = absurd (omega (arith, less))
 known_at known (x ∷ xs) all zero d less = both_left (known x) (list_all known xs) all
@@ -79,6 +82,7 @@ chain known number latches safety liveness gates =
 abbrev pub as_placed : List Latch → List ℕ → List ℕ → List Gate → PlacedLists
 as_placed latches safety liveness gates = record { latches = latches; safety = safety; liveness = liveness; gates = gates }
 
+-- four parts that are known one after another are known where all four tests pass together
 pub by_parts : (a b c d : Bool) (ls : List Latch) (ss vs : List ℕ) (gs : List Gate)
     → (if_known a ls >>= λ l. if_known b ss >>= λ s. if_known c vs >>= λ v. if_known d gs >>= λ g. Ok (as_placed l s v g))
     ≡ if_known (((a && b) && c) && d) (as_placed ls ss vs gs)
@@ -123,6 +127,7 @@ by_position raw = record {
   gates = map (λ (gate : RawGate). record { rhs0 = literal_in (defined raw) gate.rhs0; rhs1 = literal_in (defined raw) gate.rhs1 }) raw.gates;
 }
 
+-- the lists of a raw circuit by places are those by positions, where all that it reads is defined
 pub placed_is : (raw : Raw) (places : Places) (count : ℕ) → count ≡ length (defined raw) → ((v : ℕ) → place_of places v ≡ position (λ w. w == v) (defined raw))
     → placed_lists places count raw.latches raw.safety raw.liveness raw.gates ≡ if_known (is_resolved raw) (by_position raw)
 placed_is raw places count same are =
@@ -139,9 +144,11 @@ unknown_fails : {A B : Type 0} (e : ReadError) (known : Bool) (x : A) (read : Re
 unknown_fails e true x read fails = Fails-ok e x read fails
 unknown_fails e false x read fails = Fails-err e Undefined (Err Undefined) (Err Undefined) refl refl fails
 
+-- a fault of the lists by places is that of the raw circuit
 pub placing_fails : (h : Header) (raw : Raw) (e : ReadError) (read : Result PlacedLists ReadError) → read ≡ if_known (is_resolved raw) (by_position raw) → Fails e read → Fails e (resolve h raw)
 placing_fails h raw e read is fails = unknown_fails e (is_resolved raw) (by_position raw) (circuit_in_order h (in_order raw)) (Fails-same e read (if_known (is_resolved raw) (by_position raw)) is fails)
 
+-- what is known passes the test, and is the value
 pub known_value : {A : Type 0} (known : Bool) (x y : A) → if_known known x ≡ Ok y → (known ≡ true) × (x ≡ y)
 known_value true x y e = (refl, cc)
 known_value false x y e = absurd (cc)
@@ -154,6 +161,7 @@ front_of raw = map variable raw.inputs ++ map (λ (latch : RawLatch). variable l
 abbrev back_of : Raw → List ℕ
 back_of raw = map (λ (gate : RawGate). variable gate.lhs) raw.gates
 
+-- a raw circuit defines as many variables as it has inputs, latches and gates
 pub length-defined : (raw : Raw) → length (defined raw) ≡ length raw.inputs + length raw.latches + length raw.gates
 length-defined raw =
     omega (
@@ -243,11 +251,13 @@ module _ (raw : Raw) (apart : DefinesApart raw) (resolved : is_resolved raw ≡ 
     literal_moved : (lit : ℕ) → is_known_among (defined raw) lit ≡ true → moved first ranks (literal_in (defined raw) lit) ≡ literal_in (defined (with_gates_at raw order)) lit
     literal_moved lit known = moved_same (front_of raw) (back_of raw) (map (λ (gate : RawGate). variable gate.lhs) (map (λ k. get_or raw.gates k meaning.no_gate) order)) order ranks reordered first lit first_is known
 
+    -- known literals by positions, moved by the ranks, are the literals once the gates stand in order
     pub literals_moved : (lits : List ℕ) → list_all (is_known_among (defined raw)) lits ≡ true → map (moved first ranks) (map (literal_in (defined raw)) lits) ≡ map (literal_in (defined (with_gates_at raw order))) lits
     literals_moved lits known =
         map-map (moved first ranks) (literal_in (defined raw)) lits
         ∙ map_known (is_known_among (defined raw)) (λ lit. moved first ranks (literal_in (defined raw) lit)) (literal_in (defined (with_gates_at raw order))) literal_moved lits known
 
+    -- latches by positions, moved by the ranks, are the latches once the gates stand in order
     pub latches_moved : map (moved_latch first ranks) (by_position raw).latches
         ≡ map (λ (latch : RawLatch). record { next = literal_in (defined (with_gates_at raw order)) latch.next; reset = reset_of latch.reset }) raw.latches
     latches_moved =
@@ -256,6 +266,7 @@ module _ (raw : Raw) (apart : DefinesApart raw) (resolved : is_resolved raw ≡ 
         (λ (latch : RawLatch). record { next = literal_in (defined (with_gates_at raw order)) latch.next; reset = reset_of latch.reset })
         (λ latch known. ap (λ (n : ℕ). record { next = n; reset = reset_of latch.reset }) (literal_moved latch.next known)) raw.latches (all_known raw resolved).latches
 
+    -- gates by positions, moved by the ranks and in order, are the gates once they stand in order
     pub gates_moved : map (λ g. moved_gate first ranks (get_or (by_position raw).gates g no_gate)) order
         ≡ map (λ (gate : RawGate). gate_of (literal_in (defined (with_gates_at raw order)) gate.rhs0) (literal_in (defined (with_gates_at raw order)) gate.rhs1)) (map (λ k. get_or raw.gates k meaning.no_gate) order)
     gates_moved =
@@ -277,6 +288,7 @@ module _ (raw : Raw) (apart : DefinesApart raw) (resolved : is_resolved raw ≡ 
 abbrev of_parts : Header → Symbols → ℕ → List ℕ → List Latch → List Gate → List ℕ → List ℕ → Netlist
 of_parts h names inputs sizes latches gates safety liveness = record { aig = record { inputs = inputs; latches = latches; gates = gates }; props = props_of h safety sizes liveness; symbols = names }
 
+-- the arranged circuit is that of the raw circuit with its gates in order
 pub circuit_is : (h : Header) (raw : Raw) → DefinesApart raw → is_resolved raw ≡ true → length raw.inputs ≡ h.inputs → length raw.latches ≡ h.latches → (order ranks : List ℕ)
     → IsOrder (map (reads_of (1 + h.inputs + h.latches)) (by_position raw).gates) order → AreRanks order ranks
     → arranged h raw.sizes (by_position raw) (symbols_of raw.symbols) order ranks ≡ circuit_of h (with_gates_at raw order)

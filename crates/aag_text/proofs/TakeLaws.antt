@@ -32,6 +32,7 @@ checks-fail e list value fails = Fails-same e _ _ (sym (unless-bind list value))
 
 -- ---- the symbols don't matter for the section
 
+-- the next section is the same whatever symbols were read
 pub next-without : (m : Sections) (symbols : List RawSymbol) → next_section m.header (raw_of m symbols) ≡ next_section m.header (raw_of m [])
 unfolding next_section
 next-without m symbols = refl
@@ -45,6 +46,7 @@ at-most false xs ys x most e room = omega (arith, room, ap length e)
 
 module _ (old new : Sections) (symbols : List RawSymbol) (at : ℕ) (fault : ReadError) (item : Item) (found : Option Item) (is : found ≡ Some item) (stands : IsAt old symbols)
     (next : next_section old.header (raw_of old symbols) ≡ section_of item) (fits : Fits old.header (raw_of old symbols) item) (header : new.header ≡ old.header) where
+  -- sections with an item that fits, its places and names, go on as reading does
   pub takes : (more : List RawSymbol) → with_item (raw_of old symbols) item ≡ raw_of new more → ArePlacesOf new.places (defined (raw_of old symbols) ++ variables_of item) → AreNamesOf new.names more
       → GoesOn old new (take_item old.header (raw_of old symbols) at fault found)
   takes more grown places names =
@@ -72,18 +74,22 @@ module _ (old new : Sections) (symbols : List RawSymbol) (at : ℕ) (fault : Rea
 
 -- ---- a fault
 
+-- a fault of an item's checks is that of taking it
 pub faulty : (h : Header) (raw : Raw) (at : ℕ) (fault e : ReadError) (item : Item) (found : Option Item) → found ≡ Some item → Fails e (unless (checks h raw at item) (Ok (with_item raw item))) → Fails e (take_item h raw at fault found)
 faulty h raw at fault e item found is fails = Fails-same e _ _ (ap (take_item h raw at fault) (sym is)) fails
 
 -- ---- the checks of a definition
 
+-- where the checks of a definition find no fault, each is passed
 pub definition_passes : (h : Header) (raw : Raw) (at lit : ℕ) (others : List ℕ) → Ok (tt {0}) ≡ unless (definition_checks h raw at lit others) (Ok (tt {0})) → Passes (definition_checks h raw at lit others)
 definition_passes h raw at lit others e = (unless_ok (definition_checks h raw at lit others) (Ok (tt {0})) tt (sym e)).0
 
+-- a literal in range whose variable is defined already is a fault
 pub definition_twice : (h : Header) (raw : Raw) (at lit : ℕ) (others : List ℕ) → past_greatest h (lit ∷ others) ≡ false → is_undefinable lit ≡ false → has (defined raw) (variable lit) ≡ true
     → Err (DefinedTwice at) ≡ unless (definition_checks h raw at lit others) (Ok (tt {0}))
 definition_twice h raw at lit others within definable twice = sym (cond-false _ _ _ within ∙ cond-false _ _ _ definable ∙ cond-true _ _ _ twice)
 
+-- a literal in range, even and not 0, whose variable isn't defined passes the checks
 pub definition_taken : (h : Header) (raw : Raw) (at lit : ℕ) (others : List ℕ) → past_greatest h (lit ∷ others) ≡ false → is_undefinable lit ≡ false → has (defined raw) (variable lit) ≡ false
     → Ok (tt {0}) ≡ unless (definition_checks h raw at lit others) (Ok (tt {0}))
 definition_taken h raw at lit others within definable fresh = sym (cond-false _ _ _ within ∙ cond-false _ _ _ definable ∙ cond-false _ _ _ fresh)
@@ -93,6 +99,7 @@ definition_taken h raw at lit others within definable fresh = sym (cond-false _ 
 GoesOn-same : (old new : Sections) (a b : Result Raw ReadError) → a ≡ b → GoesOn old new a → GoesOn old new b
 GoesOn-same old new a b same goes = subst (GoesOn old new) same goes
 
+-- what a call takes by one reading it takes by an equal one
 pub Takes-same : (old new : Sections) (result : Result (Unit {0}) ReadError) (a b : Result Raw ReadError) → a ≡ b → Takes old new result a → Takes old new result b
 Takes-same old new (Ok done) a b same goes = GoesOn-same old new a b same goes
 Takes-same old new (Err e) a b same fails = Fails-same e a b same fails

@@ -38,6 +38,7 @@ no_comment_item bytes (Some (SizeItem size)) e = no_comment_without bytes e
 no_comment_item bytes (Some (LivenessItem lit)) e = no_comment_without bytes e
 no_comment_item bytes (Some (GateItem gate)) e = no_comment_without bytes e
 
+-- a line that is a comment by its text begins the comment
 pub is_comment_text : (bytes : List ℕ) → text.Comment ≡ text_of bytes → begins_comment bytes ≡ true
 unfolding text_of
 is_comment_text bytes e = by_test (begins_comment bytes) (sym e)
@@ -46,6 +47,7 @@ is_comment_text bytes e = by_test (begins_comment bytes) (sym e)
     by_test true e = refl
     by_test false e = absurd (no_comment_item bytes (symbol_of bytes) e)
 
+-- a line that is no comment by its text doesn't begin one
 pub no_comment_text : (bytes : List ℕ) → (text_of bytes ≡ text.Comment → ⊥) → begins_comment bytes ≡ false
 unfolding text_of
 no_comment_text bytes other = by_test (begins_comment bytes) other
@@ -56,6 +58,7 @@ no_comment_text bytes other = by_test (begins_comment bytes) other
 
 -- ---- the line that begins the comment
 
+-- a line after the gates that begins the comment leaves the sections in the comment
 pub comment_taken : (m : Sections) (symbols : List RawSymbol) (at next : ℕ) (bytes : List ℕ) → IsAt m symbols → is_complete m.header (raw_of m symbols) ≡ true → begins_comment bytes ≡ true
     → (state : State) × (take_line (InItems m.header (raw_of m symbols) at) bytes ≡ Ok state) × StandAt m Comment next state []
 comment_taken m symbols at next bytes stands complete begins = (
@@ -73,6 +76,7 @@ comment_stays m at next state bytes stand = (
   record { symbols = stand.symbols; sections = stand.sections; is_state = stand.is_state; is_open = stand.is_open },
 )
 
+-- a line of the comment leaves the sections in the comment
 pub comment_goes_on : (m : Sections) (old new : OpenLine) (at next : ℕ) (state : State) (bytes : List ℕ) → Comment ≡ old → new ≡ Comment → StandAt m old at state bytes
     → (after : State) × (take_line state bytes ≡ Ok after) × StandAt m new next after []
 comment_goes_on m old new at next state bytes was is stand =
@@ -86,9 +90,11 @@ module _ (m : Sections) (symbols : List RawSymbol) (at : ℕ) (bytes : List ℕ)
   line_read : take_line (InItems m.header (raw_of m symbols) at) bytes ≡ (read_line m.header (raw_of m symbols) at bytes >>= λ more. Ok (InItems m.header more (at + length bytes + 1)))
   line_read = ap (λ (b : Bool). cond {A = Result State ReadError} b (Ok (InComment m.header (raw_of m symbols))) (read_line m.header (raw_of m symbols) at bytes >>= λ more. Ok (InItems m.header more (at + length bytes + 1)))) item
 
+  -- a fault of an item's line is one of taking the line
   pub line_fails : (e : ReadError) → Fails e (read_line m.header (raw_of m symbols) at bytes) → Fails e (take_line (InItems m.header (raw_of m symbols) at) bytes)
   line_fails e fails = Fails-same e _ _ (sym line_read) (Fails-bind e (read_line m.header (raw_of m symbols) at bytes) (λ more. Ok (InItems m.header more (at + length bytes + 1))) fails)
 
+  -- an item's line that goes on as reading does leaves the sections at the next line
   pub line_taken : (new : Sections) (line : OpenLine) (section : Section) → GoesOn m new (read_line m.header (raw_of m symbols) at bytes) → IsOpen line (is_symbols section) [] → is_comment line ≡ false
       → ((some : List RawSymbol) → section ≡ next_section new.header (raw_of new some))
       → (next : State) × (take_line (InItems m.header (raw_of m symbols) at) bytes ≡ Ok next) × StandAt new line (at + length bytes + 1) next []

@@ -15,6 +15,7 @@ pub Fails-with : {Y : Type 0} (e : ReadError) (r : Result Y ReadError) → r ≡
 Fails-with NoMemory r is = tt
 Fails-with e r is = is
 
+-- an error that is the fault of reading is one that reading gives
 pub Fails-is : {Y : Type 0} (e : ReadError) (r : Result Y ReadError) → Err e ≡ r → Fails e r
 Fails-is e r same = Fails-with e r (sym same)
 
@@ -22,9 +23,11 @@ Fails-is e r same = Fails-with e r (sym same)
 pub Fails-same : {Y : Type 0} (e : ReadError) (a b : Result Y ReadError) → a ≡ b → Fails e a → Fails e b
 Fails-same e a b same fails = Fails-where e a b (λ is. sym same ∙ is) fails
 
+-- a fault of one reading is one of another, which is equal to it
 pub Fails-as : {Y : Type 0} (e : ReadError) (a b : Result Y ReadError) → b ≡ a → Fails e a → Fails e b
 Fails-as e a b same fails = Fails-where e a b (λ is. same ∙ is) fails
 
+-- what a function returned beside one reading it returned beside an equal one
 pub Gives-same : {X Y : Type 0} (view : X → Y) (r : Result X ReadError) (a b : Result Y ReadError) → a ≡ b → Gives view r a → Gives view r b
 Gives-same view (Ok x) a b same gives = sym same ∙ gives
 Gives-same view (Err e) a b same gives = Fails-same e a b same gives

@@ -17,11 +17,13 @@ abbrev pub Passes : List (Bool × ReadError) → Type 0
 Passes [] = Unit {0}
 Passes ((fails, fault) ∷ more) = (fails ≡ false) × Passes more
 
+-- where checks leave a value, none of them fails, and the value is what they leave
 pub unless_ok : {A : Type 0} (list : List (Bool × ReadError)) (value : Result A ReadError) (y : A) → unless list value ≡ Ok y → Passes list × (value ≡ Ok y)
 unless_ok [] value y e = (tt, e)
 unless_ok ((true, fault) ∷ more) value y e = absurd cc
 unless_ok ((false, fault) ∷ more) value y e = let rest = unless_ok more value y e in ((refl, rest.0), rest.1)
 
+-- checks of which none fails leave the value as it is
 pub unless_passes : {A : Type 0} (list : List (Bool × ReadError)) (value : Result A ReadError) → Passes list → unless list value ≡ value
 unless_passes [] value passes = refl
 unless_passes ((fails, fault) ∷ more) value passes = cond-false fails (Err fault) (unless more value) passes.0 ∙ unless_passes more value passes.1
@@ -68,6 +70,7 @@ reset_where_it_passes latch passes =
       | inr own ↦ inr (inr (eqb-true latch.reset latch.current own))
     ]
 
+-- a latch whose reset is 0, 1 or its own literal passes the test of its reset
 pub passes_where_reset : (latch : RawLatch) → HasReset latch → is_bad_reset latch ≡ false
 passes_where_reset latch has = not_from_true (nat_eq latch.reset 0 || nat_eq latch.reset 1 || nat_eq latch.reset latch.current) (by_case has)
   where
@@ -78,8 +81,11 @@ passes_where_reset latch has = not_from_true (nat_eq latch.reset 0 || nat_eq lat
 
 -- the line of these literals defines the first of them
 pub record Defines (h : Header) (raw : Raw) (lit : ℕ) (others : List ℕ) : Type 0 where
+  -- none of the line's literals is past the greatest variable
   pub within : AreWithin h (lit ∷ others)
+  -- the literal that is defined is even and at least 2
   pub definable : IsDefinable lit
+  -- its variable isn't defined yet
   pub fresh : has (defined raw) (variable lit) ≡ false
 
 -- an item that may follow what has been read
@@ -104,6 +110,7 @@ passes_where_fits h raw at (GateItem gate) d =
     (not_past_where_within h (gate.lhs ∷ gate.rhs0 ∷ gate.rhs1 ∷ []) d.within, (passes_where_definable gate.lhs d.definable, (d.fresh, tt)))
 passes_where_fits h raw at (SymbolItem symbol) (below, fresh) = (lt-leb (count_of h symbol.kind) symbol.position below, (fresh, tt))
 
+-- an item whose checks pass may follow what has been read
 pub fits_where_passes : (h : Header) (raw : Raw) (at : ℕ) (item : Item) → Passes (checks h raw at item) → Fits h raw item
 fits_where_passes h raw at (InputItem lit) (past, (odd, (twice, end))) =
     record { within = within_where_not_past h (lit ∷ []) past; definable = definable_where_it_passes lit odd; fresh = twice }

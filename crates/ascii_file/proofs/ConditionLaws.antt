@@ -18,20 +18,32 @@ use Rattle.ascii_file.proofs.DistinctItemLaws.{follow_each, each_follows, follow
 
 -- the conditions on the items of a file
 pub record AreRight (h : Header) (raw : Raw) : Type 0 where
+  -- no literal is past the greatest variable
   pub in_range : IsInRange h raw
+  -- each line that defines, defines a variable of its own
   pub apart : DefinesApart raw
+  -- each latch's reset is 0, 1 or its own literal
   pub resets : AllByRecursion HasReset raw.latches
+  -- the sizes of justice properties come to at most 2^24
   pub sizes : sum raw.sizes ≤ 2 ^ 24
+  -- each symbol names a thing of its own
   pub names : NamesApart h raw
 
 -- each item of each section fits
 pub record AllFitted (h : Header) (raw : Raw) : Type 0 where
+  -- each input fits after those before it
   pub inputs : AllFit h InputItem at_inputs [] raw.inputs
+  -- each latch fits after the inputs and the latches before it
   pub latches : AllFit h LatchItem (at_latches raw.inputs) [] raw.latches
+  -- each output, bad state and constraint fits
   pub safety : AllFit h SafetyItem (at_safety raw.inputs raw.latches) [] raw.safety
+  -- each size of a justice property fits after those before it
   pub sizes : AllFit h SizeItem (at_sizes raw.inputs raw.latches raw.safety) [] raw.sizes
+  -- each literal of justice and fairness fits
   pub liveness : AllFit h LivenessItem (at_liveness raw.inputs raw.latches raw.safety raw.sizes) [] raw.liveness
+  -- each gate fits after all that is defined before it
   pub gates : AllFit h GateItem (at_gates raw.inputs raw.latches raw.safety raw.sizes raw.liveness) [] raw.gates
+  -- each symbol fits after those before it
   pub symbols : AllFit h SymbolItem (at_symbols raw.inputs raw.latches raw.safety raw.sizes raw.liveness raw.gates) [] raw.symbols
 
 -- ---- one more definition

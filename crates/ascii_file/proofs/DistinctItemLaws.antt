@@ -21,6 +21,7 @@ pub follow_each : {X : Type 0} (P : X → Type 0) (ys xs : List X) → AllByRecu
 follow_each P [] xs all = tt
 follow_each P (y ∷ ys) xs all = (all.0, follow_each P ys (xs ++ y ∷ []) all.1)
 
+-- what holds of each item after those before it, and doesn't speak of these, holds of each
 pub each_follows : {X : Type 0} (P : X → Type 0) (ys xs : List X) → AllFollow (λ zs y. P y) xs ys → AllByRecursion P ys
 each_follows P [] xs follow = tt
 each_follows P (y ∷ ys) xs follow = (follow.0, each_follows P ys (xs ++ y ∷ []) follow.1)
@@ -30,10 +31,12 @@ pub follow_both : {X : Type 0} (P Q : List X → X → Type 0) (ys xs : List X) 
 follow_both P Q [] xs one other = tt
 follow_both P Q (y ∷ ys) xs one other = ((one.0, other.0), follow_both P Q ys (xs ++ y ∷ []) one.1 other.1)
 
+-- of two things that hold of each item the first does
 pub follow_first : {X : Type 0} (P Q : List X → X → Type 0) (ys xs : List X) → AllFollow (λ zs y. P zs y × Q zs y) xs ys → AllFollow P xs ys
 follow_first P Q [] xs both = tt
 follow_first P Q (y ∷ ys) xs both = (both.0.0, follow_first P Q ys (xs ++ y ∷ []) both.1)
 
+-- of two things that hold of each item the second does
 pub follow_second : {X : Type 0} (P Q : List X → X → Type 0) (ys xs : List X) → AllFollow (λ zs y. P zs y × Q zs y) xs ys → AllFollow Q xs ys
 follow_second P Q [] xs both = tt
 follow_second P Q (y ∷ ys) xs both = (both.0.1, follow_second P Q ys (xs ++ y ∷ []) both.1)
@@ -47,6 +50,7 @@ sizes_follow most (y ∷ ys) xs within =
     let same : sum (xs ++ y ∷ [] ++ ys) ≡ sum (xs ++ (y ∷ ys)) = ap sum (append_assoc xs (y ∷ []) ys) in
     (omega (arith, next, all, same), sizes_follow most ys (xs ++ y ∷ []) (omega (arith, same)))
 
+-- numbers of which each keeps the sum so far within a bound have their whole sum within it
 pub sizes_from : (most : ℕ) (ys xs : List ℕ) → sum xs ≤ most → AllFollow (λ zs y. sum zs + y ≤ most) xs ys → sum (xs ++ ys) ≤ most
 sizes_from most [] xs within follow = let same : sum (xs ++ []) ≡ sum xs = ap sum (append-nil xs) in omega (arith, same)
 sizes_from most (y ∷ ys) xs within follow =
@@ -58,6 +62,7 @@ sizes_from most (y ∷ ys) xs within follow =
 -- ---- pairs that are told apart by a test
 
 module _ (X : Type 0) (test : X → X → Bool) where
+  -- things that a test tells apart are each told apart from those before them
   pub pairs_follow : (ys xs : List X) → AllPairs (λ x y. test y x ≡ false) (xs ++ ys) → AllFollow (λ zs y. list_any (test y) zs ≡ false) xs ys
   pairs_follow [] xs apart = tt
   pairs_follow (y ∷ ys) xs apart = (
@@ -67,6 +72,7 @@ module _ (X : Type 0) (test : X → X → Bool) where
     pairs_follow ys (xs ++ y ∷ []) (subst (AllPairs (λ x z. test z x ≡ false)) (sym (append_assoc xs (y ∷ []) ys)) apart),
   )
 
+  -- things each told apart from those before them are all told apart
   pub pairs_from : (ys xs : List X) → AllPairs (λ x y. test y x ≡ false) xs → AllFollow (λ zs y. list_any (test y) zs ≡ false) xs ys → AllPairs (λ x y. test y x ≡ false) (xs ++ ys)
   pairs_from [] xs apart follow = subst (AllPairs (λ x y. test y x ≡ false)) (sym (append-nil xs)) apart
   pairs_from (y ∷ ys) xs apart follow =
@@ -91,6 +97,7 @@ abbrev pub AreNewTo : List ℕ → List ℕ → Type 0
 AreNewTo vs [] = Unit {0}
 AreNewTo vs (w ∷ ws) = (has vs w ≡ false) × AreNewTo (vs ++ w ∷ []) ws
 
+-- of no variables none stands twice
 pub AreApart-nil : AreApart []
 AreApart-nil i j d less within = absurd (omega arith)
 
@@ -120,11 +127,15 @@ new_where_apart (w ∷ ws) vs apart = (
 
 -- what holds of the items of a section that defines
 pub record AreDefinitions (h : Header) {X : Type 0} (lhs : X → ℕ) (others : X → List ℕ) (before : List ℕ) (items : List X) : Type 0 where
+  -- no literal of a line is past the greatest variable
   pub within : AllByRecursion (λ x. AreWithin h (lhs x ∷ others x)) items
+  -- each literal that is defined is even and at least 2
   pub definable : AllByRecursion (λ x. IsDefinable (lhs x)) items
+  -- the variables are new beside those defined before, and beside each other
   pub new : AreNewTo before (map (λ x. variable (lhs x)) items)
 
 module _ (h : Header) (X : Type 0) (lhs : X → ℕ) (others : X → List ℕ) (state : List X → Raw) (grows : (xs : List X) (x : X) → defined (state (xs ++ x ∷ [])) ≡ defined (state xs) ++ variable (lhs x) ∷ []) where
+  -- definitions of new variables in range each define after those before them
   pub definitions_follow : (ys xs : List X) → AreDefinitions h lhs others (defined (state xs)) ys → AllFollow (λ zs x. Defines h (state zs) (lhs x) (others x)) xs ys
   definitions_follow [] xs are = tt
   definitions_follow (y ∷ ys) xs are = (
@@ -136,6 +147,7 @@ module _ (h : Header) (X : Type 0) (lhs : X → ℕ) (others : X → List ℕ) (
     }),
   )
 
+  -- items that each define after those before them are definitions of new variables in range
   pub definitions_from : (ys xs : List X) → AllFollow (λ zs x. Defines h (state zs) (lhs x) (others x)) xs ys → AreDefinitions h lhs others (defined (state xs)) ys
   definitions_from [] xs follow = record { within = tt; definable = tt; new = tt }
   definitions_from (y ∷ ys) xs follow =

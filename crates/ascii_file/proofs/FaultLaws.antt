@@ -20,10 +20,12 @@ abbrev pub IsFaultOrOk : {A : Type 0} → Result A ReadError → Type 0
 IsFaultOrOk (Ok x) = Unit {0}
 IsFaultOrOk (Err e) = is_fault_of_bytes e ≡ true
 
+-- where both of two are a value or a fault of the bytes, so is the one that is chosen
 pub choice : {A : Type 0} (b : Bool) (x y : Result A ReadError) → IsFaultOrOk x → IsFaultOrOk y → IsFaultOrOk (cond b x y)
 choice true x y one other = one
 choice false x y one other = other
 
+-- where a step and what comes next are values or faults of the bytes, so are both together
 pub in_turn : {A B : Type 0} (x : Result A ReadError) (f : A → Result B ReadError) → IsFaultOrOk x → ((a : A) → IsFaultOrOk (f a)) → IsFaultOrOk (x >>= f)
 in_turn (Ok a) f first then = then a
 in_turn (Err e) f first then = first
@@ -33,10 +35,12 @@ abbrev pub AreOfBytes : List (Bool × ReadError) → Type 0
 AreOfBytes [] = Unit {0}
 AreOfBytes ((fails, fault) ∷ more) = (is_fault_of_bytes fault ≡ true) × AreOfBytes more
 
+-- checks with faults of the bytes, and a value or such a fault, give one or the other
 pub checked : {A : Type 0} (list : List (Bool × ReadError)) (value : Result A ReadError) → AreOfBytes list → IsFaultOrOk value → IsFaultOrOk (unless list value)
 checked [] value are good = good
 checked ((fails, fault) ∷ more) value are good = choice fails (Err fault) (unless more value) are.0 (checked more value are.1 good)
 
+-- the faults of an item's checks are of the bytes
 pub item_checks : (h : Header) (raw : Raw) (at : ℕ) (item : Item) → AreOfBytes (checks h raw at item)
 item_checks h raw at (InputItem lit) = (refl, (refl, (refl, tt)))
 item_checks h raw at (LatchItem latch) = (refl, (refl, (refl, (refl, tt))))
@@ -52,6 +56,7 @@ letter : (at : ℕ) (found : Option SymbolKind) → is_fault_of_bytes (malformed
 letter at None = refl
 letter at (Some kind) = refl
 
+-- the fault of a line of a wrong form is one of the bytes
 pub form : (section : Section) (at : ℕ) (line : List ℕ) → is_fault_of_bytes (malformed section at line) ≡ true
 form Inputs at line = refl
 form Latches at line = refl
@@ -108,5 +113,6 @@ given : (bytes : List ℕ) → IsFaultOrOk (read_bytes bytes)
 unfolding read_bytes
 given bytes = in_turn (take_lines AtHeader (lines bytes)) (finish (length bytes)) (lines_taken (lines bytes) AtHeader) (finished (length bytes))
 
+-- a fault that reading gives is one of the bytes, not of memory or of a reader
 pub fault_of_bytes : (bytes : List ℕ) (e : ReadError) → read_bytes bytes ≡ Err e → is_fault_of_bytes e ≡ true
 fault_of_bytes bytes e was = subst (λ (answer : Result Netlist ReadError). IsFaultOrOk answer) was (given bytes)

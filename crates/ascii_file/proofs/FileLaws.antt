@@ -140,6 +140,7 @@ place-below raw lit = by_case (gate_place raw lit) refl
     by_case None is = tt
     by_case (Some g) is = (position-Some (λ (gate : RawGate). nat_eq (variable gate.lhs) (variable lit)) raw.gates g (record { lhs = 0; rhs0 = 0; rhs1 = 0 }) is).0
 
+-- the gates of a raw circuit read only gates of it
 pub in_file : (raw : Raw) → AreReadsInFile (gate_reads raw)
 in_file raw =
     let reads : RawGate → Reads = λ (gate : RawGate). record { first = gate_place raw gate.rhs0; second = gate_place raw gate.rhs1 } in
@@ -305,5 +306,6 @@ file_of_read_bytes bytes c e =
     let step = bind_ok (take_lines AtHeader (lines bytes)) (finish (length bytes)) c e in
     file_of_lines bytes c (lines bytes) step.0 refl step.1 step.2
 
+-- bytes are read as a circuit exactly where they are an ASCII file of a raw circuit, else there is a fault of the bytes
 pub the_reading_law : (bytes : List ℕ) → ReadingLaw bytes
 the_reading_law bytes = record { file = read_bytes-of_file bytes; read = file_of_read_bytes bytes; one = one_raw bytes; fault = λ e was. record { read = was; of_bytes = fault_of_bytes bytes e was } }

@@ -74,6 +74,7 @@ rises (x ∷ xs) front pairs = (
   rises xs (front ++ x ∷ []) (subst (λ (ns : List Symbol). AllPairs (λ m n. m < n) (map (λ (s : Symbol). s.position) ns)) (sym (append_assoc front (x ∷ []) xs)) pairs),
 )
 
+-- names by rising position that are put in one after another stay as they are
 pub kept : (n : ℕ) (names : List Symbol) → AreNamesBelow n names → fold with_name [] names ≡ names
 kept n names are = rising_again names [] (rises names [] (AllPairs-from_increasing (map (λ (s : Symbol). s.position) names) are.rising))
 

@@ -13,10 +13,12 @@ IsOneLine symbol = All (λ b. b ≢ 10) symbol.name
 abbrev pub AreOneLine : List Symbol → Type 0
 AreOneLine names = AllByRecursion IsOneLine names
 
+-- what holds of each of two joined lists' elements holds of those of both
 pub parts : {X : Type 0} (P : X → Type 0) (xs ys : List X) → AllByRecursion P (xs ++ ys) → AllByRecursion P xs × AllByRecursion P ys
 parts P [] ys all = (tt, all)
 parts P (x ∷ xs) ys all = let rest = parts P xs ys all.1 in ((all.0, rest.0), rest.1)
 
+-- what holds of the elements of two lists holds of those of the joined list
 pub joined : {X : Type 0} (P : X → Type 0) (xs ys : List X) → AllByRecursion P xs → AllByRecursion P ys → AllByRecursion P (xs ++ ys)
 joined P [] ys front back = back
 joined P (x ∷ xs) ys front back = (front.0, joined P xs ys front.1 back)

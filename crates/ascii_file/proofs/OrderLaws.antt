@@ -15,13 +15,20 @@ use Rattle.ascii_file.proofs.ConditionLaws.{AllFitted}
 
 -- each section has at least as many as counted
 pub record IsFull (h : Header) (raw : Raw) : Type 0 where
+  -- there are all inputs of the header
   pub inputs : h.inputs ≤ length raw.inputs
+  -- there are all latches of the header
   pub latches : h.latches ≤ length raw.latches
+  -- there are all outputs, bad states and constraints of the header
   pub safety : safety_count h ≤ length raw.safety
+  -- there are all justice properties of the header
   pub sizes : h.justice ≤ length raw.sizes
+  -- there are all literals of justice properties, and all fairness literals of the header
   pub liveness : sum raw.sizes + h.fairness ≤ length raw.liveness
+  -- there are all gates of the header
   pub gates : h.gates ≤ length raw.gates
 
+-- a raw circuit with as many items as the header says has each section full
 pub full_where_counted : (h : Header) (raw : Raw) → IsCountedBy h raw → IsFull h raw
 full_where_counted h raw counted = record {
   inputs = omega (arith, counted.inputs);
@@ -32,6 +39,7 @@ full_where_counted h raw counted = record {
   gates = omega (arith, counted.gates);
 }
 
+-- where each section is full, all items but symbols have been read
 pub complete_where_full : (h : Header) (raw : Raw) → IsFull h raw → is_complete h raw ≡ true
 complete_where_full h raw full = ap is_symbols (symbols_next h raw.inputs full.inputs raw.latches full.latches raw.safety full.safety raw.sizes full.sizes raw.liveness full.liveness raw.gates full.gates raw.symbols)
 
@@ -183,9 +191,13 @@ module _ (h : Header) (inputs : List ℕ) (full_inputs : h.inputs ≤ length inp
 
 -- items that follow and are complete are those of a raw circuit
 pub record AreItems (h : Header) (items : List Item) : Type 0 where
+  -- the raw circuit
   pub raw : Raw
+  -- the items are its own, section by section
   pub are : items ≡ items_of raw
+  -- it has as many of each section as the header says
   pub counted : IsCountedBy h raw
+  -- each of its items fits after those before it
   pub fitted : AllFitted h raw
 
 collected : (h : Header) (items rest : List Item) (inputs : List ℕ) → items ≡ map InputItem inputs ++ rest → length inputs ≡ h.inputs → AllFit h InputItem at_inputs [] inputs → (a : FromLatches h inputs rest) → AreItems h items
@@ -201,6 +213,7 @@ collected h items rest inputs are counted fit a =
       fitted = record { inputs = fit; latches = a.fit; safety = b.fit; sizes = c.fit; liveness = d.fit; gates = e.gates_fit; symbols = e.symbols_fit };
     }
 
+-- items that follow one another until all sections are full are those of a raw circuit
 pub are_items : (h : Header) (items : List Item) → Follow h nothing_yet items → is_complete h (with_items nothing_yet items) ≡ true → AreItems h items
 are_items h items follow complete =
     let own = section_parts h ℕ Inputs h.inputs InputItem at_inputs (inputs_section h) h.inputs [] items (from_zero h.inputs) follow complete in

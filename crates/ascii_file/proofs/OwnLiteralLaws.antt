@@ -71,6 +71,7 @@ written-in_order c graph g reads there =
     let both : ReadsBelow g (reads_of (written c) (written_gate (first_gate c.aig + g, own.0))) = record { first = below-if c own.0.rhs0 g below; second = below-if c own.0.rhs1 g (omega (arith, ordered, below)) } in
     subst (ReadsBelow g) raw.2 (subst (λ (gate : RawGate). ReadsBelow g (reads_of (written c) gate)) own.2 both)
 
+-- the gates of a circuit by its own literals are in order
 pub written-order : (c : Netlist) → IsGraph c.aig → IsOrder (gate_reads (written c)) (range_with_len 0 (length c.aig.gates))
 written-order c graph =
     let many : length (gate_reads (written c)) ≡ length c.aig.gates = length-map (written c).gates (reads_of (written c)) ∙ (written-counted c).gates in
@@ -171,6 +172,7 @@ split_again (lits ∷ lists) rest =
     assoc [] = refl
     assoc (x ∷ xs) = ap (λ (ys : List ℕ). x ∷ ys) (assoc xs)
 
+-- the properties by the header's numbers and the circuit's own literals are the circuit's
 pub props_again : (c : Netlist) → props_of (written_header c) (written c).safety (written c).sizes (written c).liveness ≡ c.props
 unfolding props_of
 props_again c =
@@ -194,6 +196,7 @@ pub graph_is : (g : Graph) (inputs : ℕ) (latches : List Latch) (gates : List G
 graph_is g inputs latches gates p q r =
     ap₂ (λ (n : ℕ) (ls : List Latch). record { inputs = n; latches = ls; gates = gates }) p q ∙ ap (λ (gs : List Gate). record { inputs = g.inputs; latches = g.latches; gates = gs }) r
 
+-- a circuit is what its graph, properties and symbols make
 pub netlist_is : (c : Netlist) (aig : Graph) (props : Props) (symbols : Symbols) → aig ≡ c.aig → props ≡ c.props → symbols ≡ c.symbols → record { aig = aig; props = props; symbols = symbols } ≡ c
 netlist_is c aig props symbols p q r =
     ap₂ (λ (g : Graph) (ps : Props). record { aig = g; props = ps; symbols = symbols }) p q ∙ ap (λ (names : Symbols). record { aig = c.aig; props = c.props; symbols = names }) r

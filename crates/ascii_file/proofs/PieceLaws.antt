@@ -31,6 +31,7 @@ parted (b ∷ bytes) = by_test (nat_eq b 10) (parted bytes)
 
 -- ---- lines one after the other
 
+-- lines that are joined are taken one list after the other
 pub take_lines-append : (xs ys : List (List ℕ)) (state : State) → take_lines state (xs ++ ys) ≡ (take_lines state xs >>= λ next. take_lines next ys)
 unfolding take_lines
 take_lines-append [] ys state = refl
@@ -98,6 +99,7 @@ part_alone (b ∷ part) clean =
       cond-false (nat_eq b 10) (open_line part) (with_open b (ended_lines part) (open_line part)) other ∙ ap₂ (with_open b) later.0 later.1,
     )
 
+-- a part without a newline ends no line, and goes on with the open one
 pub part_taken : (part bytes : List ℕ) → lacks 10 part ≡ true → (ended_lines (bytes ++ part) ≡ ended_lines bytes) × (open_line (bytes ++ part) ≡ open_line bytes ++ part)
 unfolding ended_lines open_line
 part_taken part [] clean = part_alone part clean
@@ -126,6 +128,7 @@ end_alone (b ∷ part) clean =
       cond-false (nat_eq b 10) (open_line more) (with_open b (ended_lines more) (open_line more)) other ∙ ap₂ (with_open b) later.0 later.1,
     )
 
+-- a part and its newline end the open line, and leave none open
 pub end_taken : (part bytes : List ℕ) → lacks 10 part ≡ true
     → (ended_lines (bytes ++ (part ++ 10 ∷ [])) ≡ ended_lines bytes ++ (open_line bytes ++ part) ∷ []) × (open_line (bytes ++ (part ++ 10 ∷ [])) ≡ [])
 unfolding ended_lines open_line
@@ -176,5 +179,6 @@ stays bytes more e was =
     let found = ended-more bytes more in
     ap (take_lines AtHeader) found.1 ∙ take_lines-append (ended_lines bytes) found.0 AtHeader ∙ ap (λ (r : Result State ReadError). r >>= λ next. take_lines next found.0) was
 
+-- reading bytes is feeding them and closing, and a fault of what was fed stays
 pub the_pieces_law : (bytes more : List ℕ) → PiecesLaw bytes more
 the_pieces_law bytes more = record { whole = whole bytes; stays = stays bytes more; fault = λ e was. whole bytes ∙ ap (λ (r : Result State ReadError). r >>= closed bytes) was }

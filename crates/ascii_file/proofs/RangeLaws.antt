@@ -90,6 +90,7 @@ all_enumerated P item (x ∷ xs) first every =
           subst (λ (n : ℕ). P (item (n, y))) next (every (suc k) y there)),
     )
 
+-- what holds of each numbered thing in a range holds of all of them
 pub all_range : {Y : Type 0} (P : Y → Type 0) (item : ℕ → Y) (n a : ℕ) → ((v : ℕ) → a ≤ v → v < a + n → P (item v)) → AllByRecursion P (map item (range_with_len a n))
 all_range P item zero a every = tt
 all_range P item (suc n) a every = (every a (omega arith) (omega arith), all_range P item n (a + 1) (λ v low high. every v (omega arith) (omega arith)))

@@ -175,6 +175,7 @@ latch-small most latch low small (range, reset) = (omega (arith, range.0, small)
     by_case (inr (inl one)) = omega (arith, one)
     by_case (inr (inr own)) = omega (arith, own, range.0, small)
 
+-- the items of a circuit within the limits have numbers that a line may have, and names without newline
 pub written-small : (c : Netlist) → IsGraph c.aig → IsNetlist c → IsWithinLimits c → AllByRecursion IsSmall (items_of (written c))
 written-small c graph netlist within =
     let raw = written c in
@@ -223,6 +224,7 @@ written-file c graph netlist within =
       acyclic = (exists_law (gate_reads (written c)) (in_file (written c))).0 (_, written-order c graph);
     }
 
+-- the text of a circuit within the limits is read as that circuit
 pub the_round_trip_law : (c : Netlist) → RoundTripLaw c
 the_round_trip_law c graph netlist within =
     let given = (the_reading_law (text c)).file (written_header c) (written c) (written-file c graph netlist within) in

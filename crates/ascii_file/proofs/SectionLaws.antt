@@ -53,14 +53,22 @@ Ends h raw last state =
 
 -- what was read of lines
 pub record WasRead (h : Header) (raw : Raw) (ls : List (List ℕ)) (state : State) : Type 0 where
+  -- the items that were read
   pub items : List Item
+  -- the lines that spell them
   pub middle : List (List ℕ)
+  -- the lines after these
   pub last : List (List ℕ)
+  -- the lines are these two parts
   pub parts : ls ≡ middle ++ last
+  -- each of the lines spells its item
   pub spelt : AllZip Spells middle items
+  -- the items follow what was read before
   pub follow : Follow h raw items
+  -- the last lines end the items where the reading stands
   pub ends : Ends h (with_items raw items) last state
 
+-- lines that are taken after the header spell items which follow, and then the file or its comment ends them
 pub lines_were_read : (h : Header) (ls : List (List ℕ)) (raw : Raw) (at : ℕ) (state : State) → take_lines (InItems h raw at) ls ≡ Ok state → WasRead h raw ls state
 unfolding take_lines
 lines_were_read h [] raw at state e = record { items = []; middle = []; last = []; parts = refl; spelt = tt; follow = tt; ends = inl (refl, at, sym (same_ok (InItems h raw at) state e)) }
@@ -101,10 +109,15 @@ lines_were_read h (line ∷ ls) raw at state e = by_test (λ (r : Raw) (offset :
 
 -- A section: the raw circuit when those before it are full and it has these items.
 pub record IsSection (h : Header) {X : Type 0} (section : Section) (count : ℕ) (make : X → Item) (state : List X → Raw) : Type 0 where
+  -- until it has as many items as counted, the section is the next one
   pub here : (xs : List X) → length xs < count → next_section h (state xs) ≡ section
+  -- with an item more the raw circuit is that of the longer list
   pub grows : (xs : List X) (x : X) → with_item (state xs) (make x) ≡ state (xs ++ x ∷ [])
+  -- its items belong to the section
   pub made : (x : X) → section_of (make x) ≡ section
+  -- each item of the section is made so
   pub inverse : (item : Item) → section ≡ section_of item → (x : X) × (item ≡ make x)
+  -- it isn't the section of symbols
   pub unfinished : is_symbols section ≡ false
 
 -- each of the items ys may follow those before it, of which xs are the first
@@ -121,15 +134,23 @@ same_front a b more others e f = cc
 
 -- the items of a section, and those of the sections after it
 pub record Parts (h : Header) {X : Type 0} (n : ℕ) (make : X → Item) (state : List X → Raw) (xs : List X) (items : List Item) : Type 0 where
+  -- the items of this section
   pub front : List X
+  -- the items of the sections after it
   pub rest : List Item
+  -- the items are these two parts
   pub parts : items ≡ map make front ++ rest
+  -- there are as many of this section as it lacked
   pub counted : length front ≡ n
+  -- each of them fits after those before it
   pub fit : AllFit h make state xs front
+  -- the rest follows after them
   pub follow : Follow h (state (xs ++ front)) rest
+  -- with the rest all sections are full
   pub complete : is_complete h (with_items (state (xs ++ front)) rest) ≡ true
 
 module _ (h : Header) (X : Type 0) (section : Section) (count : ℕ) (make : X → Item) (state : List X → Raw) (laws : IsSection h section count make state) where
+  -- items of a section that each fit, and what follows after them, follow what was read before
   pub section_follows : (ys xs : List X) (rest : List Item) → length xs + length ys ≤ count → AllFit h make state xs ys → Follow h (state (xs ++ ys)) rest → Follow h (state xs) (map make ys ++ rest)
   section_follows [] xs rest room fit follow = subst (λ (zs : List X). Follow h (state zs) rest) (append-nil xs) follow
   section_follows (y ∷ ys) xs rest room fit follow = (
@@ -138,6 +159,7 @@ module _ (h : Header) (X : Type 0) (section : Section) (count : ℕ) (make : X �
         (section_follows ys (xs ++ y ∷ []) rest (omega (arith, length_push xs y)) fit.1 (subst (λ (zs : List X). Follow h (state zs) rest) (sym (append_assoc xs (y ∷ []) ys)) follow)),
   )
 
+  -- a section's items taken one by one make the raw circuit with all of them
   pub section_grown : (ys xs : List X) (rest : List Item) → with_items (state xs) (map make ys ++ rest) ≡ with_items (state (xs ++ ys)) rest
   section_grown [] xs rest = ap (λ (zs : List X). with_items (state zs) rest) (sym (append-nil xs))
   section_grown (y ∷ ys) xs rest =
@@ -181,6 +203,7 @@ module _ (h : Header) (X : Type 0) (section : Section) (count : ℕ) (make : X �
 module _ (h : Header) (X : Type 0) (section : Section) (make : X → Item) (state : List X → Raw) (here : (xs : List X) → next_section h (state xs) ≡ section)
     (grows : (xs : List X) (x : X) → with_item (state xs) (make x) ≡ state (xs ++ x ∷ [])) (made : (x : X) → section_of (make x) ≡ section)
     (inverse : (item : Item) → section ≡ section_of item → (x : X) × (item ≡ make x)) where
+  -- items of the last section that each fit follow what was read before
   pub last_follows : (ys xs : List X) → AllFit h make state xs ys → Follow h (state xs) (map make ys)
   last_follows [] xs fit = tt
   last_follows (y ∷ ys) xs fit = (
@@ -188,10 +211,12 @@ module _ (h : Header) (X : Type 0) (section : Section) (make : X → Item) (stat
     subst (λ (raw : Raw). Follow h raw (map make ys)) (sym (grows xs y)) (last_follows ys (xs ++ y ∷ []) fit.1),
   )
 
+  -- the last section's items taken one by one make the raw circuit with all of them
   pub last_grown : (ys xs : List X) → with_items (state xs) (map make ys) ≡ state (xs ++ ys)
   last_grown [] xs = ap state (sym (append-nil xs))
   last_grown (y ∷ ys) xs = ap (λ (raw : Raw). with_items raw (map make ys)) (grows xs y) ∙ last_grown ys (xs ++ y ∷ []) ∙ ap state (append_assoc xs (y ∷ []) ys)
 
+  -- items that follow in the last section are all of that section, and each fits
   pub last_parts : (xs : List X) (items : List Item) → Follow h (state xs) items → (ys : List X) × (items ≡ map make ys) × AllFit h make state xs ys
   last_parts xs [] follow = ([], refl, tt)
   last_parts xs (item ∷ items) follow =

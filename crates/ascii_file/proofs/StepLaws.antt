@@ -75,6 +75,7 @@ from_symbol (letter ∷ bytes) item e = let parts = symbol_parts letter bytes it
     by_test kind cut true e = ap section_of (sym (same_some _ item e))
     by_test kind cut false e = absurd cc
 
+-- an item that a line spells in a section is of that section
 pub section_is : (section : Section) (line : List ℕ) (item : Item) → item_of section line ≡ Some item → section_of item ≡ section
 unfolding item_of
 section_is Inputs line item e = from_single InputItem Inputs (λ n. refl) (numbers_of line) item e
@@ -114,6 +115,7 @@ position_first kind second bytes cut item cut_is e = by_space (nat_eq second 32)
         no_number same = cc
     by_space false same = by_rest (cut_at_space bytes) same
 
+-- a line that spells a symbol begins no comment
 pub no_comment : (line : List ℕ) (item : Item) → symbol_of line ≡ Some item → begins_comment line ≡ false
 unfolding begins_comment
 no_comment [] item e = refl
@@ -136,12 +138,18 @@ line_read h raw at line item next spelt fits =
 
 -- what was read of a line
 pub record LineRead (h : Header) (raw : Raw) (line : List ℕ) (more : Raw) : Type 0 where
+  -- the item
   pub item : Item
+  -- its section is the next one
   pub next : next_section h raw ≡ section_of item
+  -- the line spells it
   pub spelt : Spells line item
+  -- it fits after what has been read
   pub fits : Fits h raw item
+  -- with it the raw circuit is the one that was read
   pub grown : with_item raw item ≡ more
 
+-- a line that is read spells an item of the next section, which fits
 pub line_was_read : (h : Header) (raw more : Raw) (at : ℕ) (line : List ℕ) → read_line h raw at line ≡ Ok more → LineRead h raw line more
 unfolding read_line
 line_was_read h raw more at line e = by_item (item_of (next_section h raw) line) refl e
@@ -170,6 +178,7 @@ item_no_comment section line (LivenessItem lit) is spelt = and_left _ _ (ap is_s
 item_no_comment section line (GateItem gate) is spelt = and_left _ _ (ap is_symbols is)
 item_no_comment section line (SymbolItem symbol) is spelt = and_right (is_symbols section) _ (no_comment line (SymbolItem symbol) spelt)
 
+-- a line that spells an item of the next section which fits leads on to the next line
 pub item_taken : (h : Header) (raw : Raw) (at : ℕ) (line : List ℕ) (item : Item) → next_section h raw ≡ section_of item → Spells line item → Fits h raw item
     → take_line (InItems h raw at) line ≡ Ok (InItems h (with_item raw item) (at + length line + 1))
 item_taken h raw at line item next spelt fits =

@@ -57,6 +57,7 @@ item_line (LivenessItem lit) = row_line (lit ∷ [])
 item_line (GateItem gate) = row_line (gate.lhs ∷ gate.rhs0 ∷ gate.rhs1 ∷ [])
 item_line (SymbolItem symbol) = letter_of symbol.kind ∷ (decimal symbol.position ++ 32 ∷ symbol.name)
 
+-- the text of an item is its line and a newline
 pub is_line : (item : Item) → item_text item ≡ item_line item ++ 10 ∷ []
 unfolding symbol_line
 is_line (InputItem lit) = row-is_line (lit ∷ [])
@@ -97,6 +98,7 @@ letter-kind Constraint = refl
 letter-kind Justice = refl
 letter-kind Fairness = refl
 
+-- the line of an item with small numbers and a name without newline has no newline
 pub line-lacks : (item : Item) → IsSmall item → lacks 10 (item_line item) ≡ true
 line-lacks (InputItem lit) small = row_line-lacks_newline (lit ∷ [])
 line-lacks (LatchItem latch) small = row_line-lacks_newline (latch.current ∷ latch.next ∷ reset_numbers latch.reset)
@@ -133,6 +135,7 @@ latch-spelt latch true is small =
     zero_of n e = eqb-true n 0 e
 latch-spelt latch false is small = ap (option_and_then latch_in) (numbers_of-row_line latch.current (latch.next ∷ latch.reset ∷ []) (small.0, (small.1, (small.2, tt))))
 
+-- the line of an item spells that item
 pub line-spells : (item : Item) → IsSmall item → Spells (item_line item) item
 unfolding item_of
 line-spells (InputItem lit) small = ap (option_and_then (single InputItem)) (numbers_of-row_line lit [] (small, tt))
@@ -143,10 +146,12 @@ line-spells (LivenessItem lit) small = ap (option_and_then (single LivenessItem)
 line-spells (GateItem gate) small = ap (option_and_then gate_in) (numbers_of-row_line gate.lhs (gate.rhs0 ∷ gate.rhs1 ∷ []) (small.0, (small.1, (small.2, tt))))
 line-spells (SymbolItem symbol) small = symbol-spelt symbol small.0
 
+-- the lines of items spell these items, one by one
 pub lines-spell : (items : List Item) → AllByRecursion IsSmall items → AllZip Spells (map item_line items) items
 lines-spell [] small = tt
 lines-spell (item ∷ items) small = (line-spells item small.0, lines-spell items small.1)
 
+-- the lines of items' texts are the items' lines
 pub items_lines : (items : List Item) → AllByRecursion IsSmall items → lines (flat_map item_text items) ≡ map item_line items
 unfolding lines
 items_lines [] small = refl
@@ -160,10 +165,12 @@ mapped : {X : Type 0} (make : X → Item) (xs : List X) (rest : List Item) → f
 mapped make [] rest = refl
 mapped make (x ∷ xs) rest = ap (λ (more : List ℕ). item_text (make x) ++ more) (mapped make xs rest) ∙ sym (append_assoc (item_text (make x)) (flat_map (λ y. item_text (make y)) xs) (flat_map item_text rest))
 
+-- joining what a function gives of a mapped list is joining what both functions give of the list
 pub flat_map-map : {X Y A : Type 0} (f : Y → List A) (g : X → Y) (xs : List X) → flat_map f (map g xs) ≡ flat_map (λ x. f (g x)) xs
 flat_map-map f g [] = refl
 flat_map-map f g (x ∷ xs) = ap (λ (more : List _). f (g x) ++ more) (flat_map-map f g xs)
 
+-- the number of a latch's reset is left out where it is 0, and written where it isn't
 pub reset-row : (v : ℕ) (reset : Reset) → 1 ≤ v → reset_numbers (reset_number v reset) ≡ reset_row v reset
 reset-row v Zero low = refl
 reset-row v One low = refl
@@ -191,6 +198,7 @@ named_text kind (x ∷ names) rest =
     ap (λ (more : List ℕ). symbol_line (letter_of kind) x ++ more) (named_text kind names rest)
     ∙ sym (append_assoc (symbol_line (letter_of kind) x) (symbol_lines (letter_of kind) names) (flat_map (λ y. item_text (SymbolItem y)) rest))
 
+-- the texts of a circuit's symbols are the symbols of all kinds
 pub symbols_text : (s : Symbols) → flat_map (λ x. item_text (SymbolItem x)) (written_symbols s) ≡ all_symbols s
 symbols_text s =
     named_text Input s.inputs _ ∙ ap (λ (more : List ℕ). symbol_lines 105 s.inputs ++ more)
@@ -212,6 +220,7 @@ seven : (a b c d e f g p q r s t u : List ℕ) → p ≡ b ++ q → q ≡ c ++ r
 seven a b c d e f g p q r s t u e1 e2 e3 e4 e5 e6 = rw (e1, e2, e3, e4, e5, e6) refl
 
 module _ (c : Netlist) where
+  -- the lines of the properties' literals and sizes are the property rows, before gates and symbols
   pub properties_text : (symbols : List ℕ) (gates : List ℕ)
       → single_rows (written c).safety ++ (single_rows (written c).sizes ++ (single_rows (written c).liveness ++ (gates ++ symbols))) ≡ property_rows c.props ++ (gates ++ symbols)
   properties_text symbols gates =
@@ -234,6 +243,7 @@ module _ (c : Netlist) where
       (mapped GateItem raw.gates _ ∙ ap₂ (λ (one more : List ℕ). one ++ more) (gates_text c.aig.gates (first_gate c.aig)) (flat_map-map item_text SymbolItem raw.symbols ∙ symbols_text c.symbols))))
       ∙ properties_text (all_symbols c.symbols) (numbered_rows gate_row (first_gate c.aig) c.aig.gates)))
 
+  -- the text of a circuit is its header's line and the texts of its items
   pub text_is : text c ≡ codes "aag " ++ (line (header_row c) ++ flat_map item_text (items_of (written c)))
   unfolding text
   text_is =

@@ -81,10 +81,12 @@ variables g = g.inputs + length g.latches + length g.gates
 
 -- ---- counts and limits
 
+-- joined lists are as long as their lengths come to
 pub length-joined : (lists : List (List ℕ)) → length (flat_map (λ lits. lits) lists) ≡ sum (map length lists)
 length-joined [] = refl
 length-joined (lits ∷ lists) = length-append lits (flat_map (λ lits. lits) lists) ∙ ap (λ (n : ℕ). length lits + n) (length-joined lists) ∙ sym (sum_by-cons (λ (n : ℕ). n) (length lits) (map length lists))
 
+-- a circuit by its own literals has as many items as its header says
 pub written-counted : (c : Netlist) → IsCountedBy (written_header c) (written c)
 written-counted c = record {
   inputs = length-map (range_with_len 1 c.aig.inputs) written_input ∙ length-range_with_len 1 c.aig.inputs;
@@ -95,6 +97,7 @@ written-counted c = record {
   gates = length-map (enumerate_from (first_gate c.aig) c.aig.gates) written_gate ∙ length-enumerate_from (first_gate c.aig) c.aig.gates;
 }
 
+-- the header of a circuit within the limits is within them
 pub written-within : (c : Netlist) → IsGraph c.aig → IsWithinLimits c → IsHeaderWithin (written_header c)
 written-within c graph within = record {
   greatest = omega (arith, graph.small);
@@ -141,6 +144,7 @@ safety-are c netlist =
     All-append (λ lit. IsLiteralOf c.aig lit) c.props.outputs (c.props.bad ++ c.props.constraints) netlist.props.outputs
     (All-append (λ lit. IsLiteralOf c.aig lit) c.props.bad c.props.constraints netlist.props.bad netlist.props.constraints)
 
+-- the literals of justice and fairness are the graph's
 pub liveness-are : (c : Netlist) → IsNetlist c → AreLiteralsOf c.aig (written c).liveness
 liveness-are c netlist =
     All-append (λ lit. IsLiteralOf c.aig lit) (flat_map (λ lits. lits) c.props.justice) c.props.fairness
@@ -150,6 +154,7 @@ liveness-are c netlist =
 literal-within : (g : Graph) (lit : ℕ) → IsLiteralOf g lit → lit ≤ 2 * (variables_end g - 1) + 1
 literal-within g lit within = omega arith
 
+-- no literal of a circuit is past its header's greatest variable
 pub written-in_range : (c : Netlist) → IsGraph c.aig → IsNetlist c → IsInRange (written_header c) (written c)
 written-in_range c graph netlist =
     let g = c.aig in
@@ -175,6 +180,7 @@ written-in_range c graph netlist =
 even-definable : (v : ℕ) → 1 ≤ v → IsDefinable (2 * v)
 even-definable v low = (omega arith, omega arith)
 
+-- a circuit by its own literals defines each variable once
 pub written-apart : (c : Netlist) → DefinesApart (written c)
 written-apart c = record {
   inputs = All-from_recursion IsDefinable (written c).inputs (all_range IsDefinable written_input c.aig.inputs 1 (λ v low high. even-definable v low));
@@ -191,6 +197,7 @@ reset-has v next Zero = inl refl
 reset-has v next One = inr (inl refl)
 reset-has v next Free = inr (inr refl)
 
+-- each latch of a circuit has 0, 1 or its own literal as its reset
 pub written-resets : (c : Netlist) → All HasReset (written c).latches
 written-resets c = All-from_recursion HasReset (written c).latches (all_enumerated HasReset written_latch c.aig.latches (first_latch c.aig) (λ k latch there. reset-has (first_latch c.aig + k) latch.next latch.reset))
 
@@ -204,6 +211,7 @@ fan_ins-are P [] all = λ k d less. absurd (omega arith)
 fan_ins-are P (gate ∷ gates) all =
     All-append P (gate.rhs0 ∷ gate.rhs1 ∷ []) (flat_map (λ gate. gate.rhs0 ∷ gate.rhs1 ∷ []) gates) (All-from_recursion P (gate.rhs0 ∷ gate.rhs1 ∷ []) (all.0.0, (all.0.1, tt))) (fan_ins-are P gates all.1)
 
+-- each literal that a circuit reads is the constant's or of a variable that it defines
 pub written-resolved : (c : Netlist) → IsGraph c.aig → IsNetlist c → All (IsKnownAmong (defined (written c))) (read_literals (written c))
 written-resolved c graph netlist =
     let P : ℕ → Type 0 = λ (lit : ℕ). IsKnownAmong (defined (written c)) lit in
