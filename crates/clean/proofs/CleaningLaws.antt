@@ -114,17 +114,28 @@ module _ (held : List ℕ) (c d : Netlist) (kept still : List ℕ) (valid : IsCi
 
 -- what is left of a circuit after some passes, of which the last had so many latches and gates before it
 pub record Passed (held : List ℕ) (c : Netlist) (before : ℕ) (d : Netlist) (kept still : List ℕ) : Type 0 where
+  -- the circuit before the last pass
   pub from : Netlist
+  -- the positions of its held latches
   pub from_held : List ℕ
+  -- the places of its free latches among those of c
   pub from_kept : List ℕ
+  -- the places of the free latches that the last pass kept, among its
   pub first : List ℕ
+  -- it is a circuit
   pub valid : IsCircuit from
+  -- the positions of its held latches are those of latches
   pub in_range : All (λ j. j < length from.aig.latches) from_held
+  -- the last pass made d of it
   pub pass : IsPass from_held from d first still
+  -- it had so many latches and gates
   pub size : before ≡ latches_and_gates from.aig
+  -- the places of d's free latches among those of c
   pub is : kept ≡ composed from_kept first
+  -- what it is cleaned to is what c is cleaned to
   pub front : (x : Netlist) (more : List ℕ) → Cleans x from_held from more → Cleans x held c (composed from_kept more)
 
+-- after the first pass a circuit has passed one
 pub passed-start : (held : List ℕ) (c d : Netlist) (before : ℕ) (kept still : List ℕ) → IsCircuit c → All (λ j. j < length c.aig.latches) held → IsPass held c d kept still → before ≡ latches_and_gates c.aig
     → Passed held c before d kept still
 passed-start held c d before kept still valid in_range pass size =
@@ -145,15 +156,18 @@ passed-start held c d before kept still valid in_range pass size =
     }
 
 module _ (held : List ℕ) (c : Netlist) (before : ℕ) (d : Netlist) (kept still : List ℕ) (passed : Passed held c before d kept still) where
+  -- what passes leave of a circuit is a circuit
   pub passed-valid : IsCircuit d
   passed-valid = IsCircuit-pass passed.from_held passed.from d passed.first still passed.valid passed.pass
 
+  -- the positions of held latches are in range after passes
   pub passed-in_range : All (λ j. j < length d.aig.latches) still
   passed-in_range = still-in_range passed.from_held passed.from d passed.first still passed.pass passed.in_range
 
   first-long : length passed.first ≡ free_latches d.aig
   first-long = (pass-streams passed.from_held passed.from d passed.first still passed.valid passed.pass).places.each
 
+  -- there is a kept place for each free latch that is left
   pub kept-long : length kept ≡ free_latches d.aig
   kept-long = ap (λ (xs : List ℕ). length xs) passed.is ∙ length-map passed.first (λ place. get_or passed.from_kept place 0) ∙ first-long
 

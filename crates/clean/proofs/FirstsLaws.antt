@@ -79,6 +79,7 @@ module _ (g : Graph) (held : List ℕ) where
             ∙ sym (ap (λ (o : Option ℕ). or_else o (cond (p n) own None)) (literal-some latch n h refl there.0)))
       ]
 
+  -- before the first latch there is no entry
   pub firsts-start : AreFirsts g held 0 []
   firsts-start = record { each = λ latch known. sym (literal-none latch 0 (first-none (alike latch) 0 (λ v h. absurd (omega arith)))) }
 
@@ -95,6 +96,7 @@ module _ (g : Graph) (held : List ℕ) where
         ∙ or_else-none (first_literal g held latch n));
   }
 
+  -- a stuck latch adds no entry
   pub firsts-stuck : (n : ℕ) (own : Latch) (entries : List (Latch × ℕ)) → slice_get g.latches n ≡ Some own → is_stuck g held n own ≡ true → AreFirsts g held n entries → AreFirsts g held (n + 1) entries
   firsts-stuck n own entries there stuck firsts = skipped n entries
       (λ latch known. alike-here latch own n there ∙ ap (λ (b : Bool). not b && is_latch latch own) stuck) firsts
@@ -108,6 +110,7 @@ module _ (g : Graph) (held : List ℕ) where
   free-apart One Zero a b known free = absurd (cc)
   free-apart One One a b known free = absurd (cc)
 
+  -- a free latch adds no entry
   pub firsts-free : (n : ℕ) (own : Latch) (entries : List (Latch × ℕ)) → slice_get g.latches n ≡ Some own → is_free own ≡ true → AreFirsts g held n entries → AreFirsts g held (n + 1) entries
   firsts-free n own entries there free firsts = skipped n entries (λ latch known.
       alike-here latch own n there
@@ -152,6 +155,7 @@ module _ (g : Graph) (held : List ℕ) where
           ∙ ap (λ (o : Option ℕ). or_else o (cond (is_latch latch own) (Some (2 * (first_latch g + n))) None)) (firsts.each latch known) ∙ sym (more-own latch);
     }
 
+    -- a known latch that isn't stuck adds an entry where it is the first of its next literal and reset
     pub firsts-more : (after : List (Latch × ℕ)) → after ≡ entries_after entries (2 * (first_latch g + n)) own (lookup (is_latch own) entries) → AreFirsts g held (n + 1) after
     firsts-more after e = go (lookup (is_latch own) entries) refl
       where
@@ -173,9 +177,11 @@ module _ (g : Graph) (held : List ℕ) where
         ap (stand_or_own (2 * (first_latch g + n))) (firsts.each own known) ∙ here
         ∙ sym (cond-false (is_stuck g held n own) _ _ sound ∙ cond-false (is_free own || has held n) _ _ (ap (λ (b : Bool). b || has held n) known ∙ loose))
 
+  -- for a stuck latch stands the constant of its reset
   pub stand-stuck : (n : ℕ) (own : Latch) → is_stuck g held n own ≡ true → constant_of own.reset ≡ latch_stand g held n (Some own)
   stand-stuck n own stuck = sym (cond-true (is_stuck g held n own) _ _ stuck)
 
+  -- a latch that is free or held, and isn't stuck, stands for itself
   pub stand-fixed : (n : ℕ) (own : Latch) → is_stuck g held n own ≡ false → (is_free own || has held n) ≡ true → 2 * (first_latch g + n) ≡ latch_stand g held n (Some own)
   stand-fixed n own sound fixed = sym (cond-false (is_stuck g held n own) _ _ sound ∙ cond-true (is_free own || has held n) _ _ fixed)
 
@@ -186,6 +192,7 @@ module _ (g : Graph) (held : List ℕ) where
       e ∙ ap (λ (b : Bool). not (is_free latch) && not b && (nat_eq latch.next own || nat_eq latch.next (constant_of latch.reset))) mark
       ∙ ap (λ (m : ℕ). not (is_free latch) && not (has held n) && (nat_eq latch.next m || nat_eq latch.next (constant_of latch.reset))) at
 
+  -- what stands for a latch is what stands for its variable
   pub leaf-latch : (j : ℕ) (latch : Latch) → slice_get g.latches j ≡ Some latch → latch_stand g held j (Some latch) ≡ leaf_stand g held (first_latch g + j)
   unfolding leaf_stand
   leaf-latch j latch there =
@@ -193,14 +200,17 @@ module _ (g : Graph) (held : List ℕ) where
       sym (cond-false (nat_lt (first_latch g + j) (first_latch g)) _ _ (le-ltb (first_latch g + j) (first_latch g) (omega arith))
       ∙ ap (λ (k : ℕ). latch_stand g held k (slice_get g.latches k)) place ∙ ap (latch_stand g held j) there)
 
+  -- the constant and each input stand for themselves
   pub leaf-low : (v : ℕ) → v < first_latch g → 2 * v ≡ leaf_stand g held v
   unfolding leaf_stand
   leaf-low v h = sym (cond-true (nat_lt v (first_latch g)) _ _ (lt-ltb v (first_latch g) h))
 
+  -- the entries before the first latch are each variable itself
   pub own-stands : own_literals (first_latch g) ≡ table 0 (first_latch g) (leaf_stand g held)
   unfolding own_literals
   own-stands = table-same 0 (first_latch g) (λ v. 2 * v) (leaf_stand g held) 0 (λ v from h. leaf-low v (omega arith))
 
+  -- with what stands for the next latch, the table has one entry more
   pub stands-more : (j : ℕ) (latch : Latch) (old new : List ℕ) (stand : ℕ) → slice_get g.latches j ≡ Some latch → old ≡ table 0 (first_latch g + j) (leaf_stand g held)
       → stand ≡ latch_stand g held j (Some latch) → new ≡ old ++ stand ∷ [] → new ≡ table 0 (first_latch g + (j + 1)) (leaf_stand g held)
   stands-more j latch old new stand there before is pushed =

@@ -11,28 +11,35 @@ use Rattle.clean.specs.Sweep.{Front, front_end, is_marked, reach, reach_all}
 abbrev pub reach_new : Front → ℕ → Front
 reach_new r v = record { first = r.first; marks = set r.marks (v - r.first) true; queue = r.queue ++ v ∷ [] }
 
+-- reaching the constant or an input changes nothing
 pub reach-low : (r : Front) (v : ℕ) → v < r.first → reach r v ≡ r
 unfolding reach
 reach-low r v h = cond-true (nat_lt v r.first || is_marked r v) r (reach_new r v) (or_left (nat_lt v r.first) (is_marked r v) (lt-ltb v r.first h))
 
+-- reaching a marked variable changes nothing
 pub reach-marked : (r : Front) (v : ℕ) → is_marked r v ≡ true → reach r v ≡ r
 unfolding reach
 reach-marked r v e = cond-true (nat_lt v r.first || is_marked r v) r (reach_new r v) (or_right (nat_lt v r.first) (is_marked r v) e)
 
+-- reaching a latch or gate that isn't marked marks and queues it
 pub reach-new : (r : Front) (v : ℕ) → r.first ≤ v → is_marked r v ≡ false → reach r v ≡ reach_new r v
 unfolding reach
 reach-new r v h e =
     cond-false (nat_lt v r.first || is_marked r v) r (reach_new r v) (ap (λ (b : Bool). b || is_marked r v) (le-ltb v r.first h) ∙ e)
 
+-- a variable from the first one on is marked where its entry is
 pub mark-entry : (r : Front) (v : ℕ) → r.first ≤ v → is_marked r v ≡ get_or r.marks (v - r.first) false
 unfolding mark_at
 mark-entry r v h = ap (λ (b : Bool). b && get_or r.marks (v - r.first) false) (le-leb r.first v h)
 
 -- the variables that have entries stay
 pub record SameReach (r s : Front) : Type 0 where
+  -- the entries begin at the same variable
   pub first : s.first ≡ r.first
+  -- there are as many entries
   pub long : length s.marks ≡ length r.marks
 
+-- reaching a variable leaves the entries at their variables
 pub reach-same : (r : Front) (v : ℕ) → SameReach r (reach r v)
 reach-same r v = elim (cases_lt v r.first) [
   | inl low ↦ (let same : reach r v ≡ r = reach-low r v low in record { first = ap (λ (s : Front). s.first) same; long = ap (λ (s : Front). length s.marks) same })
@@ -44,14 +51,17 @@ reach-same r v = elim (cases_lt v r.first) [
   ]
 ]
 
+-- reaching no literals changes nothing
 pub all-nil : (r : Front) → reach_all r [] ≡ r
 unfolding reach_all
 all-nil r = refl
 
+-- reaching literals is reaching the first one's variable and then the others
 pub all-cons : (r : Front) (lit : ℕ) (lits : List ℕ) → reach_all r (lit ∷ lits) ≡ reach_all (reach r (variable lit)) lits
 unfolding reach_all
 all-cons r lit lits = refl
 
+-- reaching literals leaves the entries at their variables
 pub all-same : (lits : List ℕ) (r : Front) → SameReach r (reach_all r lits)
 all-same [] r = rw (all-nil r) (record { first = refl; long = refl })
 all-same (lit ∷ lits) r =
@@ -59,19 +69,23 @@ all-same (lit ∷ lits) r =
     let rest : SameReach (reach r (variable lit)) (reach_all (reach r (variable lit)) lits) = all-same lits (reach r (variable lit)) in
     rw (all-cons r lit lits) (record { first = rest.first ∙ one.first; long = rest.long ∙ one.long })
 
+-- reaching literals leaves the end of the entries
 pub all-end : (lits : List ℕ) (r s : Front) → s ≡ reach_all r lits → front_end s ≡ front_end r
 all-end lits r s e =
     let same : SameReach r (reach_all r lits) = all-same lits r in
     omega (arith, ap (λ (t : Front). t.first) e, ap (λ (t : Front). length t.marks) e, same.first, same.long)
 
+-- reaching joined literals is reaching the first ones and then the others
 pub all-append : (xs ys : List ℕ) (r : Front) → reach_all r (xs ++ ys) ≡ reach_all (reach_all r xs) ys
 all-append [] ys r = ap (λ (s : Front). reach_all s ys) (sym (all-nil r))
 all-append (x ∷ xs) ys r =
     all-cons r x (xs ++ ys) ∙ all-append xs ys (reach r (variable x)) ∙ ap (λ (s : Front). reach_all s ys) (sym (all-cons r x xs))
 
+-- reaching one literal is reaching its variable
 pub all-one : (r : Front) (lit : ℕ) → reach_all r (lit ∷ []) ≡ reach r (variable lit)
 all-one r lit = all-cons r lit [] ∙ all-nil (reach r (variable lit))
 
+-- reaching two literals is reaching both variables, one after the other
 pub all-two : (r : Front) (a b : ℕ) → reach_all r (a ∷ b ∷ []) ≡ reach (reach r (variable a)) (variable b)
 all-two r a b = all-cons r a (b ∷ []) ∙ all-one (reach r (variable a)) b
 
@@ -93,12 +107,15 @@ within-since lits r s n e h = omega (arith, h, all-end lits r s e)
 pub all-start : (r s : Front) → s ≡ r → s ≡ reach_all r []
 all-start r s e = e ∙ sym (all-nil r)
 
+-- past the last literal all have been reached
 pub all-whole : (r s : Front) (lits : List ℕ) (i : ℕ) → length lits ≤ i → s ≡ reach_all r (take i lits) → s ≡ reach_all r lits
 all-whole r s lits i h e = e ∙ ap (reach_all r) (take_all i lits h)
 
+-- literals in range are in range of what was reached since
 pub all-since : (ys lits : List ℕ) (r s : Front) → s ≡ reach_all r ys → All (λ lit. variable lit < front_end r) lits → All (λ lit. variable lit < front_end s) lits
 all-since ys lits r s e all = λ k d h. within-since ys r s (variable (get_or lits k d)) e (all k d h)
 
+-- lists of literals in range are in range of what was reached since
 pub each-since : (ys : List ℕ) (xss : List (List ℕ)) (r s : Front) → s ≡ reach_all r ys → All (λ lits. All (λ lit. variable lit < front_end r) lits) xss → All (λ lits. All (λ lit. variable lit < front_end s) lits) xss
 each-since ys xss r s e all = λ k d h. all-since ys (get_or xss k d) r s e (all k d h)
 

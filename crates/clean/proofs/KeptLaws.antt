@@ -118,9 +118,11 @@ module _ (k : Kept) (kept : AreKept k) where
     there : x ≡ get_or k.gates (link - 1) no_gate
     there = read ∙ get_or_default k.gates (link - 1) x no_gate (omega (arith, some, few))
 
+    -- a gate's link leads to one kept before it
     pub link-back : x.before < link
     link-back = let same = ap (λ (y : KeptGate). y.before) there in omega (arith, same, kept.before (link - 1), some)
 
+    -- a list gives the gate's literal where it begins with it, and else what the list behind that gives
     pub list-next : (gate : Gate) → on_list k.gates gate link link ≡ cond (is_gate gate x.gate) (Some x.lit) (on_list k.gates gate x.before x.before)
     list-next gate =
         let at : link ≡ suc (link - 1) = omega (arith, some) in

@@ -11,6 +11,7 @@ use Rattle.cleaned_circuits.specs.Merged.{replaced_latch, replaced_gate, replace
 use Rattle.aig_graph.proofs.PropsLaws.{of_literals, literals_within}
 use Rattle.cleaned_circuits.proofs.StandLaws.{length-stands_of}
 
+-- a graph of equal inputs, latches and gates is the same
 pub graph-is : (inputs : ℕ) (latches other_latches : List Latch) (gates other_gates : List Gate) (n : ℕ) → n ≡ inputs → latches ≡ other_latches → gates ≡ other_gates
     → ◌≡◌ {A = Graph} (record { inputs = n; latches = latches; gates = gates }) (record { inputs = inputs; latches = other_latches; gates = other_gates })
 graph-is inputs latches other_latches gates other_gates n one two three =
@@ -19,6 +20,7 @@ graph-is inputs latches other_latches gates other_gates n one two three =
     let third : List Gate → Graph = λ gs. record { inputs = inputs; latches = other_latches; gates = gs } in
     ap first one ∙ ap second two ∙ ap third three
 
+-- the inputs, with latches and gates reading what stands for what they read, are the replaced graph
 pub replaced-is : (stands : List ℕ) (g : Graph) (n : ℕ) (latches : List Latch) (gates : List Gate) → n ≡ g.inputs → latches ≡ map (replaced_latch stands) g.latches → gates ≡ map (replaced_gate stands) g.gates
     → ◌≡◌ {A = Graph} (record { inputs = n; latches = latches; gates = gates }) (replaced_graph stands g)
 unfolding replaced_graph
@@ -30,6 +32,7 @@ props-within g p n props long =
     let P : ℕ → Type 0 = λ m. OfProps (λ lit. variable lit < m) p in
     subst P (sym long) (of_literals (λ lit. IsLiteralOf g lit) p (literals_within g p props))
 
+-- there is an entry of what stands for each variable
 pub stands-long : (g : Graph) (held stands : List ℕ) → stands ≡ stands_of g held → length stands ≡ variables_end g
 stands-long g held stands is = ap (λ (xs : List ℕ). length xs) is ∙ length-stands_of g held
 
@@ -46,5 +49,6 @@ gate-within g items k n gate valid same h read long =
 pub gate-there : (g : Graph) (items : List Gate) (k : ℕ) (gate : Gate) → items ≡ g.gates → k < length items → gate ≡ get_or items k gate → slice_get g.gates k ≡ Some gate
 gate-there g items k gate same h read = ap (λ (xs : List Gate). slice_get xs k) (sym same) ∙ slice_get_read items (length items) k gate refl h read
 
+-- a latch that a loop over the latches reads is the graph's at that place
 pub latch-there : (g : Graph) (items : List Latch) (k : ℕ) (latch : Latch) → items ≡ g.latches → k < length items → latch ≡ get_or items k latch → slice_get g.latches k ≡ Some latch
 latch-there g items k latch same h read = ap (λ (xs : List Latch). slice_get xs k) (sym same) ∙ slice_get_read items (length items) k latch refl h read

@@ -12,6 +12,7 @@ merge-one : (gate : Gate) (gates : List Gate) (m : Merging) → merge_gates (gat
 unfolding merge_gates
 merge-one gate gates m = refl
 
+-- with one more gate merged, merging the others gives the same as before
 pub merge-more : (gates : List Gate) (i : ℕ) (gate : Gate) (m n whole : Merging) → i < length gates → gate ≡ get_or gates i gate
     → merge_gates (drop i gates) m ≡ whole → n ≡ merge_gate m gate → merge_gates (drop (i + 1) gates) n ≡ whole
 merge-more gates i gate m n whole h read told step =
@@ -19,6 +20,7 @@ merge-more gates i gate m n whole h read told step =
     let next : merge_gates (get_or gates i gate ∷ drop (i + 1) gates) m ≡ merge_gates (drop (i + 1) gates) (merge_gate m (get_or gates i gate)) = merge-one (get_or gates i gate) (drop (i + 1) gates) m in
     ap (merge_gates (drop (i + 1) gates)) (step ∙ ap (merge_gate m) read) ∙ sym next ∙ sym here ∙ told
 
+-- past the last gate all are merged
 pub merge-end : (gates : List Gate) (i : ℕ) (m whole : Merging) → length gates ≤ i → merge_gates (drop i gates) m ≡ whole → m ≡ whole
 merge-end gates i m whole h told =
     sym (at_drop_all (λ (rest : List Gate). merge_gates rest m) gates i h ∙ merge-none m) ∙ told

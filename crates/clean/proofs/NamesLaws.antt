@@ -16,6 +16,7 @@ module _ (g : Graph) (s : ℕ → Bool) (names : List Symbol) (i : ℕ) (name : 
       filter_more kept names i name h ∙ ap (λ (n : Symbol). filter kept (take i names) ++ cond (kept n) (n ∷ []) []) (sym read)
       ∙ ap (λ (c : Bool). filter kept (take i names) ++ cond c (name ∷ []) []) e
 
+  -- the name of a latch that stays, at its new position, is copied next
   pub name-more : (old new : List Symbol) (copy : Symbol) (position : ℕ) → kept name ≡ true → old ≡ map (new_name g s) (filter kept (take i names)) → new ≡ old ++ copy ∷ []
       → copy ≡ record name { position = position } → position ≡ new_position g s name.position → new ≡ map (new_name g s) (filter kept (take (i + 1) names))
   name-more old new copy position stays before pushed is place =
@@ -23,6 +24,7 @@ module _ (g : Graph) (s : ℕ → Bool) (names : List Symbol) (i : ℕ) (name : 
       pushed ∙ ap (λ (xs : List Symbol). xs ++ copy ∷ []) before ∙ ap (λ (n : Symbol). map (new_name g s) (filter kept (take i names)) ++ n ∷ []) (is ∙ ap with_position place)
       ∙ sym (map_push (new_name g s) (filter kept (take i names)) name) ∙ sym (ap (map (new_name g s)) (here true stays))
 
+  -- the name of a latch that doesn't stay leaves the copied names as they are
   pub name-skip : (old : List Symbol) → kept name ≡ false → old ≡ map (new_name g s) (filter kept (take i names)) → old ≡ map (new_name g s) (filter kept (take (i + 1) names))
   name-skip old goes before = before ∙ sym (ap (map (new_name g s)) (here false goes ∙ append-nil (filter kept (take i names))))
 

@@ -18,6 +18,7 @@ use Rattle.clean.specs.Sweep.{Front, is_marked}
 abbrev netlist_of : Graph → Props → Symbols → Netlist
 netlist_of g p names = record { aig = g; props = p; symbols = names }
 
+-- equal graphs, symbols and marks give the same trimmed circuit
 pub same-trimmed : (g h : Graph) (p : Props) (old new : Symbols) (r t : Front) → g ≡ h → old ≡ new → r ≡ t
     → trimmed_of (record { aig = g; props = p; symbols = old }) (is_marked r) ≡ trimmed_of (record { aig = h; props = p; symbols = new }) (is_marked t)
 same-trimmed g h p old new r t one two three =
@@ -25,40 +26,51 @@ same-trimmed g h p old new r t one two three =
     ∙ ap (λ (n : Symbols). trimmed_of (record { aig = h; props = p; symbols = n }) (is_marked r)) two
     ∙ ap (λ (f : Front). trimmed_of (record { aig = h; props = p; symbols = new }) (is_marked f)) three
 
+-- equal graphs and marks give the same trimmed graph
 pub same-graph : (g h : Graph) (r t : Front) → g ≡ h → r ≡ t → trimmed_graph g (is_marked r) ≡ trimmed_graph h (is_marked t)
 same-graph g h r t one two = ap (λ (a : Graph). trimmed_graph a (is_marked r)) one ∙ ap (λ (f : Front). trimmed_graph h (is_marked f)) two
 
 module _ (c : Netlist) (held : List ℕ) (graph : IsGraph c.aig) (netlist : IsNetlist c) (g : Graph) (p : Props) (aig : g ≡ (merged_of held c).aig) (props : p ≡ (merged_of held c).props) where
+  -- the merged graph is one
   pub merged-graph : IsGraph g
   merged-graph = subst (λ (h : Graph). IsGraph h) (sym aig) (IsGraph-merged c.aig held graph)
 
+  -- with the circuit's symbols it is the merged circuit
   pub whole : ◌≡◌ {A = Netlist} (record { aig = g; props = p; symbols = c.symbols }) (merged_of held c)
   whole =
       let first : Graph → Netlist = λ h. record { aig = h; props = p; symbols = c.symbols } in
       let second : Props → Netlist = λ q. record { aig = (merged_of held c).aig; props = q; symbols = c.symbols } in
       ap first aig ∙ ap second props
 
+  -- with the circuit's symbols it is a circuit
   pub merged-netlist : IsNetlist (record { aig = g; props = p; symbols = c.symbols })
   merged-netlist = subst (λ (d : Netlist). IsNetlist d) (sym whole) (IsNetlist-merged held c graph netlist)
 
+  -- its properties are literals of it
   pub merged-props : OfProps (λ lit. IsLiteralOf g lit) p
   merged-props = of_literals (λ lit. IsLiteralOf g lit) p (literals_within g p merged-netlist.props)
 
+  -- it has as many latches as the circuit
   pub merged-latches : length g.latches ≡ length c.aig.latches
   merged-latches = ap (λ (h : Graph). length h.latches) aig ∙ length-replaced_latches (stands_of c.aig held) c.aig
 
+  -- positions of the circuit's latches are positions of its latches
   pub merged-range : All (λ j. j < length c.aig.latches) held → All (λ j. j < length g.latches) held
   merged-range in_range = λ k d h. let here : get_or held k d < length c.aig.latches = in_range k d h in omega (arith, merged-latches)
 
+  -- the names of latches are at positions of its latches
   pub merged-names : All (λ name. name.position < length g.latches) c.symbols.latches
   merged-names = merged-netlist.symbols.latches.below
 
   module _ (s : ℕ → Bool) (reached : AreReached g p held s) where
+    -- trimmed to what is reached it is a graph
     pub pass-graph : IsGraph (trimmed_graph g s)
     pass-graph = IsGraph-trimmed (netlist_of g p c.symbols) held s merged-graph reached.holds
 
+    -- trimmed to what is reached it is a circuit
     pub pass-netlist : IsNetlist (trimmed_of (record { aig = g; props = p; symbols = c.symbols }) s)
     pass-netlist = IsNetlist-trimmed (netlist_of g p c.symbols) held s merged-graph merged-netlist reached.holds
 
+    -- what is reached in it is what is reached in the merged circuit
     pub pass-reached : AreReached (merged_of held c).aig (merged_of held c).props held s
     pass-reached = subst (λ (q : Props). AreReached (merged_of held c).aig q held s) props (subst (λ (h : Graph). AreReached h p held s) aig reached)

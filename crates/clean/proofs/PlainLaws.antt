@@ -24,7 +24,9 @@ gate-push stands x gate h0 h1 =
 module _ (g : Graph) (held : List ℕ) (valid : IsGraph g) where
   -- gate k has an entry, its own literal
   pub record IsOwn (stands : List ℕ) (k : ℕ) : Type 0 where
+    -- the gate has an entry
     pub within : first_gate g + k < length stands
+    -- the entry is the gate's own literal
     pub own : get_or stands (first_gate g + k) 0 ≡ 2 * (first_gate g + k)
 
   -- the gates so far that stand for themselves are plain after replacement, each with a pair of its own, and are found among the kept ones

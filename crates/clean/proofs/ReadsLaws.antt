@@ -23,6 +23,7 @@ module _ (g : Graph) where
       go None (Some latch) e d = All-cons P latch.next [] (by_latch latch d) (All-nil P)
       go None None e d = All-nil P
 
+  -- what holds of all that a gate's variable reads holds of both fan-ins
   pub from-gate : (P : ℕ → Type 0) (v : ℕ) (gate : Gate) → All P (reads_of g v) → gate_at g v ≡ Some gate → P gate.rhs0 × P gate.rhs1
   unfolding reads_of
   from-gate P v gate all e =
@@ -30,6 +31,7 @@ module _ (g : Graph) where
       let both : All P (gate.rhs0 ∷ gate.rhs1 ∷ []) = subst Q e all in
       (All-head P gate.rhs0 (gate.rhs1 ∷ []) both, All-head P gate.rhs1 [] (All-tail P gate.rhs0 (gate.rhs1 ∷ []) both))
 
+  -- what holds of all that a latch's variable reads holds of its next literal
   pub from-latch : (P : ℕ → Type 0) (v : ℕ) (latch : Latch) → All P (reads_of g v) → latch_at g v ≡ Some latch → P latch.next
   unfolding reads_of
   from-latch P v latch all e = go (gate_at g v) refl
@@ -50,14 +52,17 @@ module _ (g : Graph) where
       (omega (arith, at.below, place.from, place.below), omega (arith, at.below, at.ordered, place.from, place.below)))
       (λ latch e. valid.latches (v - first_latch g) latch (latch_place g v latch e).there)
 
+  -- a gate's variable reads the two fan-ins
   pub reads-gate : (v : ℕ) (gate : Gate) → gate_at g v ≡ Some gate → reads_of g v ≡ gate.rhs0 ∷ gate.rhs1 ∷ []
   unfolding reads_of
   reads-gate v gate e = ap (λ (o : Option Gate). reads_by o (latch_at g v)) e
 
+  -- a latch's variable reads the next literal
   pub reads-latch : (v : ℕ) (latch : Latch) → gate_at g v ≡ None → latch_at g v ≡ Some latch → reads_of g v ≡ latch.next ∷ []
   unfolding reads_of
   reads-latch v latch none e = ap (λ (o : Option Gate). reads_by o (latch_at g v)) none ∙ ap (reads_by None) e
 
+  -- a variable that is neither a gate nor a latch reads nothing
   pub reads-none : (v : ℕ) → gate_at g v ≡ None → latch_at g v ≡ None → reads_of g v ≡ []
   unfolding reads_of
   reads-none v none e = ap (λ (o : Option Gate). reads_by o (latch_at g v)) none ∙ ap (reads_by None) e

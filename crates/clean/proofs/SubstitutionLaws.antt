@@ -8,18 +8,22 @@ use Rattle.variable_tables.proofs.TableLaws.{length-table, table-at}
 use Rattle.cleaned_circuits.specs.Merged.{replaced}
 use Rattle.clean.specs.Substitutions.{own_literals, from_first}
 
+-- there is an own literal for each variable before the first latch
 pub length-own_literals : (first : ℕ) → length (own_literals first) ≡ first
 unfolding own_literals
 length-own_literals first = length-table 0 first (λ v. 2 * v)
 
+-- the whole table has the entries before the first latch and those from it on
 pub length-from_first : (first : ℕ) (literals : List ℕ) → length (from_first first literals) ≡ first + length literals
 unfolding from_first
 length-from_first first literals = omega (arith, length-append (own_literals first) literals, length-own_literals first)
 
+-- without entries from the first latch on, the table has each earlier variable's own literal
 pub from_first-nil : (first : ℕ) → from_first first [] ≡ own_literals first
 unfolding from_first
 from_first-nil first = append-nil (own_literals first)
 
+-- an entry at the end of those from the first latch on stands at the end of the table
 pub from_first-push : (first : ℕ) (literals more : List ℕ) (lit : ℕ) → more ≡ literals ++ lit ∷ [] → from_first first more ≡ from_first first literals ++ lit ∷ []
 unfolding from_first
 from_first-push first literals more lit pushed = ap (λ (xs : List ℕ). own_literals first ++ xs) pushed ∙ sym (append_assoc (own_literals first) literals (lit ∷ []))
@@ -42,9 +46,11 @@ stand-from first v literals h =
 signed-own : (lit n : ℕ) → n ≡ 2 * variable lit → lit ≡ signed_as lit n
 signed-own lit n e = omega arith
 
+-- a literal of a variable before the first latch is replaced by itself
 pub replaced-low : (first lit : ℕ) (literals : List ℕ) → variable lit < first → lit ≡ replaced (from_first first literals) lit
 replaced-low first lit literals h = signed-own lit (get_or (from_first first literals) (variable lit) 0) (stand-low first (variable lit) literals h)
 
+-- a literal of a variable from the first latch on is replaced by its entry, its sign kept
 pub replaced-from : (first lit base v : ℕ) (literals : List ℕ) → v ≡ variable lit → first ≤ v → base ≡ get_or literals (v - first) base → v - first < length literals
     → signed_as lit base ≡ replaced (from_first first literals) lit
 replaced-from first lit base v literals same h read within =

@@ -23,7 +23,9 @@ use Rattle.clean.proofs.FrontLaws.{reach_new, reach-low, reach-marked, reach-new
 
 -- what was marked stays so, and what was queued
 pub record Grows (r s : Front) : Type 0 where
+  -- what was marked is marked
   pub marks : (v : ℕ) → is_marked r v ≡ true → is_marked s v ≡ true
+  -- what was queued stands where it stood
   pub queue : (i v : ℕ) → slice_get r.queue i ≡ Some v → slice_get s.queue i ≡ Some v
 
 grows-then : (r s t : Front) → Grows r s → Grows s t → Grows r t
@@ -32,6 +34,7 @@ grows-then r s t p q = record { marks = λ v e. q.marks v (p.marks v e); queue =
 grows-same : (r s : Front) → s ≡ r → Grows r s
 grows-same r s e = let P : Front → Type 0 = λ t. Grows r t in subst P (sym e) (record { marks = λ v m. m; queue = λ i v m. m })
 
+-- what stayed by fewer marks stays by more
 pub stays-grows : (g : Graph) (r s : Front) → Grows r s → (v : ℕ) → stays g (is_marked r) v ≡ true → stays g (is_marked s) v ≡ true
 stays-grows g r s grows v e = elim (cases_lt v (first_latch g)) [
   | inl low ↦ stays-low g (is_marked s) v low
@@ -113,7 +116,9 @@ module _ (g : Graph) (p : Props) (held : List ℕ) where
 
   -- what reaching keeps, and what it adds
   pub record Goes (k : ℕ) (r s : Front) : Type 0 where
+    -- the sweep has come to place k of the queue
     pub sweeps : Sweeps g p held s k
+    -- marks and queue have grown
     pub grows : Grows r s
 
   goes-same : (k : ℕ) (r s : Front) → Sweeps g p held r k → s ≡ r → Goes k r s
@@ -143,6 +148,7 @@ module _ (g : Graph) (p : Props) (held : List ℕ) where
     ]
   ]
 
+  -- reaching literals that each set of the kind has keeps the sweep, and marks their variables
   pub all-goes : (lits : List ℕ) (r : Front) (k : ℕ) → Sweeps g p held r k → All (λ lit. IsOwed g p held lit) lits → All (λ lit. IsLiteralOf g lit) lits
       → Goes k r (reach_all r lits) × All (λ lit. stays g (is_marked (reach_all r lits)) (variable lit) ≡ true) lits
   all-goes [] r k sweep owed within = (goes-same k r (reach_all r []) sweep (all-nil r), All-nil (λ lit. stays g (is_marked (reach_all r [])) (variable lit) ≡ true))
@@ -243,13 +249,17 @@ module _ (g : Graph) (p : Props) (held : List ℕ) where
       let place : variable (2 * (first_latch g + get_or held k d)) ≡ first_latch g + get_or held k d = omega arith in
       ap (stays g s) place ∙ stays-reached g s (first_latch g + get_or held k d) (holds.all_held k d h))
 
+  -- each literal of the properties is in each set that holds what it reads
   pub props-owed : All (λ lit. IsOwed g p held lit) (property_literals p)
   props-owed = λ k d h. λ s holds. holds.properties k d h
 
   -- what a sweep keeps
   pub record Sweeping (r : Front) (k : ℕ) : Type 0 where
+    -- the sweep has come to place k of the queue
     pub sweeps : Sweeps g p held r k
+    -- the held latches are marked
     pub held_marked : All (λ j. is_marked r (first_latch g + j) ≡ true) held
+    -- the variables of the properties' literals are marked, or stay anyway
     pub properties : All (λ lit. stays g (is_marked r) (variable lit) ≡ true) (property_literals p)
 
   -- the held latches and the properties are reached first
@@ -292,5 +302,6 @@ module _ (g : Graph) (p : Props) (held : List ℕ) where
         properties = λ i d h. stays-grows g r s goes.grows (variable (get_or (property_literals p) i d)) (sweep.properties i d h);
       }
 
+  -- at the queue's end the marks are of what is reached
   pub sweeping-end : (r : Front) (k : ℕ) → Sweeping r k → slice_get r.queue k ≡ None → AreReached g p held (is_marked r)
   sweeping-end r k sweep last = sweeps-end r k sweep.sweeps last sweep.held_marked sweep.properties

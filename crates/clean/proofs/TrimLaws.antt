@@ -51,11 +51,13 @@ module _ {A B : Type 0} (p : ℕ → Bool) (f : A → B) (n k : ℕ) (xs : List 
       let long : length (take k xs) ≡ k = taken in
       ap (picked p n) more ∙ picked-push p n (take k xs) x ∙ ap (λ (m : ℕ). picked p n (take k xs) ++ cond (p (n + m)) (x ∷ []) []) long
 
+  -- an element whose number passes is picked next
   pub picked-more : (old new : List B) (y : B) → p (n + k) ≡ true → old ≡ map f (picked p n (take k xs)) → new ≡ old ++ y ∷ [] → y ≡ f x → new ≡ map f (picked p n (take (k + 1) xs))
   picked-more old new y passes before pushed is =
       pushed ∙ ap (λ (ys : List B). ys ++ y ∷ []) before ∙ ap (λ (z : B). map f (picked p n (take k xs)) ++ z ∷ []) is ∙ sym (map_push f (picked p n (take k xs)) x)
       ∙ sym (ap (map f) (longer ∙ ap (λ (b : Bool). picked p n (take k xs) ++ cond b (x ∷ []) []) passes))
 
+  -- an element whose number doesn't pass leaves what was picked as it is
   pub picked-skip : (old : List B) → p (n + k) ≡ false → old ≡ map f (picked p n (take k xs)) → old ≡ map f (picked p n (take (k + 1) xs))
   picked-skip old fails before =
       before ∙ sym (ap (map f) (longer ∙ ap (λ (b : Bool). picked p n (take k xs) ++ cond b (x ∷ []) []) fails ∙ append-nil (picked p n (take k xs))))
@@ -65,6 +67,7 @@ unfolding count_below
 count-more p n = refl
 
 module _ (g : Graph) (s : ℕ → Bool) where
+  -- there is a new literal for each variable
   pub length-new_literals : length (new_literals g s) ≡ variables_end g
   unfolding new_literals
   length-new_literals = length-table 0 (variables_end g) (λ v. 2 * new_variable g s v)
@@ -77,15 +80,18 @@ module _ (g : Graph) (s : ℕ → Bool) where
   pub replaced-new : (literals : List ℕ) (lit : ℕ) → literals ≡ new_literals g s → IsLiteralOf g lit → replaced literals lit ≡ renumbered g s lit
   replaced-new literals lit is within = ap (λ (xs : List ℕ). replaced xs lit) is ∙ ap (signed_as lit) (new-at (variable lit) within)
 
+  -- a latch that reads its next literal's new one is the renumbered latch
   pub latch-new : (literals : List ℕ) (k : ℕ) (latch : Latch) → IsGraph g → literals ≡ new_literals g s → slice_get g.latches k ≡ Some latch → replaced_latch literals latch ≡ renumbered_latch g s latch
   latch-new literals k latch valid is there =
       let with_next : ℕ → Latch = λ n. record { next = n; reset = latch.reset } in
       ap with_next (replaced-new literals latch.next is (valid.latches k latch there))
 
+  -- a gate that reads its fan-ins' new literals is the renumbered gate
   pub gate-new : (literals : List ℕ) (k : ℕ) (gate : Gate) → literals ≡ new_literals g s → (variable gate.rhs0 < variables_end g) × (variable gate.rhs1 < variables_end g) → replaced_gate literals gate ≡ renumbered_gate g s gate
   gate-new literals k gate is within =
       ap (λ (n : ℕ). gate_of n (replaced literals gate.rhs1)) (replaced-new literals gate.rhs0 is within.0) ∙ ap (gate_of (renumbered g s gate.rhs0)) (replaced-new literals gate.rhs1 is within.1)
 
+  -- properties with the new literals are the renumbered ones
   pub props-new : (literals : List ℕ) (p : Props) → literals ≡ new_literals g s → OfProps (λ lit. IsLiteralOf g lit) p → mapped_props (replaced literals) p ≡ mapped_props (renumbered g s) p
   unfolding mapped_props
   props-new literals p is within =
@@ -102,29 +108,35 @@ module _ (g : Graph) (s : ℕ → Bool) where
   new-start old is =
       is ∙ table-same 0 (first_latch g) (λ v. 2 * v) (λ v. 2 * new_variable g s v) 0 (λ v from h. ap (λ (w : ℕ). 2 * w) (sym (new-low g s v (omega arith))))
 
+  -- the next variable's new literal goes to the end of the table
   pub new-more : (v lit : ℕ) (old new : List ℕ) → old ≡ table 0 v (λ w. 2 * new_variable g s w) → new ≡ old ++ lit ∷ [] → lit ≡ 2 * new_variable g s v → new ≡ table 0 (v + 1) (λ w. 2 * new_variable g s w)
   new-more v lit old new before pushed is =
       entry 0 v (λ w. 2 * new_variable g s w) old new lit before pushed (is ∙ ap (λ (w : ℕ). 2 * new_variable g s w) (sym (zero-add v)))
 
+  -- the next new variable is one more where this variable stays
   pub new-next : (v next one : ℕ) (b : Bool) → first_latch g ≤ v → next ≡ new_variable g s v → b ≡ s v → one ≡ cond b 1 0 → next + one ≡ new_variable g s (v + 1)
   new-next v next one b from is mark step =
       let counts : new_variable g s (v + 1) ≡ new_variable g s v + cond (s v) 1 0 =
       ap (new_variable g s) (add-one v) ∙ count-more (stays g s) v ∙ ap (λ (c : Bool). new_variable g s v + cond c 1 0) (stays-past g s v from) in
       ap (λ (n : ℕ). n + one) is ∙ ap (λ (n : ℕ). new_variable g s v + n) (step ∙ ap (λ (c : Bool). cond {A = ℕ} c 1 0) mark) ∙ sym counts
 
+  -- past the last variable the table of new literals is whole
   pub new-end : (n : ℕ) (old : List ℕ) → n ≡ variables_end g → old ≡ table 0 n (λ w. 2 * new_variable g s w) → old ≡ new_literals g s
   unfolding new_literals
   new-end n old same is = is ∙ ap (λ (m : ℕ). table 0 m (λ w. 2 * new_variable g s w)) same
 
+  -- the variable of a latch's new literal is the new one of the latch's position
   pub position-new : (literals : List ℕ) (lit position v : ℕ) → literals ≡ new_literals g s → lit ≡ 2 * (first_latch g + position) → position < length g.latches → v ≡ variable (replaced literals lit)
       → v ≡ new_variable g s (first_latch g + position)
   position-new literals lit position v is at within read =
       let place : variable lit ≡ first_latch g + position = omega arith in
       read ∙ ap variable (replaced-new literals lit is (omega arith)) ∙ renumbered-variable g s lit ∙ ap (new_variable g s) place
 
+  -- no variable gets a greater number
   pub new-bound : (v : ℕ) → new_variable g s v ≤ v
   new-bound v = count-bound (stays g s) v
 
+-- of no elements none is picked
 pub picked-nil : {A B : Type 0} (p : ℕ → Bool) (f : A → B) (n : ℕ) (items : List B) → items ≡ [] → items ≡ map f (picked p n [])
 unfolding picked
 picked-nil p f n items e = e
@@ -134,6 +146,7 @@ pub picked-whole : {A B : Type 0} (p : ℕ → Bool) (f : A → B) (n k : ℕ) (
 picked-whole {A} p f n k xs items h e = e ∙ ap (λ (ys : List A). map f (picked p n ys)) (take_all k xs h)
 
 module _ (g : Graph) (s : ℕ → Bool) where
+  -- the inputs, with the latches and gates picked and renumbered, are the trimmed graph
   pub trimmed-is : (n : ℕ) (latches : List Latch) (gates : List Gate) → n ≡ g.inputs → latches ≡ map (renumbered_latch g s) (picked (stays g s) (first_latch g) g.latches)
       → gates ≡ map (renumbered_gate g s) (picked (stays g s) (first_gate g) g.gates) → ◌≡◌ {A = Graph} (record { inputs = n; latches = latches; gates = gates }) (trimmed_graph g s)
   unfolding trimmed_graph
@@ -143,6 +156,7 @@ module _ (g : Graph) (s : ℕ → Bool) where
   pub kept-start : (items : List ℕ) → items ≡ [] → items ≡ map (free_before g) (places (is_kept_free g s) 0)
   kept-start items e = e ∙ sym (ap (map (free_before g)) (places-zero (is_kept_free g s)))
 
+  -- a free latch that stays adds its place among the free ones
   pub kept-more : (k free : ℕ) (old new : List ℕ) → is_kept_free g s k ≡ true → old ≡ map (free_before g) (places (is_kept_free g s) k) → new ≡ old ++ free ∷ [] → free ≡ free_before g k
       → new ≡ map (free_before g) (places (is_kept_free g s) (k + 1))
   kept-more k free old new stays_free before pushed is =
@@ -150,13 +164,16 @@ module _ (g : Graph) (s : ℕ → Bool) where
       pushed ∙ ap (λ (xs : List ℕ). xs ++ free ∷ []) before ∙ ap (λ (n : ℕ). map (free_before g) (places p k) ++ n ∷ []) is ∙ sym (map_push (free_before g) (places p k) k)
       ∙ sym (ap (map (free_before g)) (ap (places p) (add-one k) ∙ places-pass p k stays_free))
 
+  -- a latch that isn't free, or doesn't stay, adds none
   pub kept-skip : (k : ℕ) (old : List ℕ) → is_kept_free g s k ≡ false → old ≡ map (free_before g) (places (is_kept_free g s) k) → old ≡ map (free_before g) (places (is_kept_free g s) (k + 1))
   kept-skip k old goes before = before ∙ sym (ap (map (free_before g)) (ap (places (is_kept_free g s)) (add-one k) ∙ places-fail (is_kept_free g s) k goes))
 
+  -- past the last latch all kept free latches have their places
   pub kept-end : (k : ℕ) (items : List ℕ) → k ≡ length g.latches → items ≡ map (free_before g) (places (is_kept_free g s) k) → items ≡ kept_free g s
   unfolding kept_free
   kept-end k items end e = e ∙ ap (λ (n : ℕ). map (free_before g) (places (is_kept_free g s) n)) end
 
+-- one latch further there is one free latch more where it is free
 pub free-more : (g : Graph) (k free one : ℕ) (latch : Latch) → slice_get g.latches k ≡ Some latch → free ≡ free_before g k → one ≡ cond (is_free latch) 1 0 → free + one ≡ free_before g (k + 1)
 free-more g k free one latch there is step =
     let within : k < length g.latches = slice_get_within g.latches k latch there in
@@ -170,6 +187,7 @@ free-more g k free one latch there is step =
           omega (arith, is, here, count_by_more_no is_free g.latches k latch within (ap is_free read ∙ known)))
     ]
 
+-- a trimmed graph, its renumbered properties and trimmed symbols are the trimmed circuit
 pub netlist-is : (c : Netlist) (s : ℕ → Bool) (g : Graph) (p : Props) (names : Symbols) → g ≡ trimmed_graph c.aig s → p ≡ mapped_props (renumbered c.aig s) c.props → names ≡ trimmed_symbols c.aig s c.symbols
     → ◌≡◌ {A = Netlist} (record { aig = g; props = p; symbols = names }) (trimmed_of c s)
 netlist-is c s g p names one two three =

@@ -12,10 +12,14 @@ funext f g h = λ i. λ x. h x i
 
 -- what a pass makes is one
 pub record SamePass (d e : Netlist) (first second one_held other_held : List ℕ) : Type 0 where
+  -- the circuits are the same
   pub circuit : d ≡ e
+  -- the places of kept free latches are the same
   pub free : first ≡ second
+  -- the positions of held latches are the same
   pub positions : one_held ≡ other_held
 
+-- two passes over one circuit make the same of it
 pub pass-one : (held : List ℕ) (c d e : Netlist) (first second one_held other_held : List ℕ) → IsPass held c d first one_held → IsPass held c e second other_held
     → SamePass d e first second one_held other_held
 pass-one held c d e first second one_held other_held p q =
@@ -27,6 +31,7 @@ pass-one held c d e first second one_held other_held p q =
       positions = p.positions ∙ ap (λ (s : ℕ → Bool). map (new_position m.aig s) held) same ∙ sym q.positions;
     }
 
+-- a circuit is cleaned to one circuit, and to one list of kept free latches
 pub cleans-one : (d : Netlist) (held : List ℕ) (c : Netlist) (first : List ℕ) → Cleans d held c first → (e : Netlist) (second : List ℕ) → Cleans e held c second → (d ≡ e) × (first ≡ second)
 cleans-one d _ _ _ (unchanged held c first pass same) e second other = from_unchanged held c d e first _ pass same other
   where

@@ -48,9 +48,12 @@ first_where-least p n v h = go (places p n) refl
         ]
 
 pub record Stuck (g : Graph) (j : ℕ) (latch : Latch) : Type 0 where
+  -- its reset is known
   pub known : is_free latch ≡ false
+  -- it reads itself or the constant of its reset
   pub next : (latch.next ≡ 2 * (first_latch g + j)) ⊎ (latch.next ≡ constant_of latch.reset)
 
+-- a latch that is stuck by the test is known, and reads itself or the constant of its reset
 pub stuck_where : (g : Graph) (held : List ℕ) (j : ℕ) (latch : Latch) → is_stuck g held j latch ≡ true → Stuck g j latch
 stuck_where g held j latch e =
     let parts = and_parts (not (is_free latch) && not (has held j)) (nat_eq latch.next (2 * (first_latch g + j)) || nat_eq latch.next (constant_of latch.reset)) e in
@@ -63,6 +66,7 @@ stuck_where g held j latch e =
       ];
     }
 
+-- resets that are the same by the test are the same
 pub same_reset-is : (r s : Reset) → same_reset r s ≡ true → r ≡ s
 same_reset-is Zero Zero e = refl
 same_reset-is One One e = refl
@@ -76,12 +80,18 @@ same_reset-is Free One e = absurd (cc)
 
 -- a latch like another
 pub record Like (g : Graph) (held : List ℕ) (latch : Latch) (i : ℕ) : Type 0 where
+  -- the latch at place i
   pub other : Latch
+  -- it stands there
   pub there : slice_get g.latches i ≡ Some other
+  -- it isn't stuck
   pub free_to_stand : is_stuck g held i other ≡ false
+  -- it has the next literal of the latch
   pub next : other.next ≡ latch.next
+  -- it has the reset of the latch
   pub reset : other.reset ≡ latch.reset
 
+-- a latch at a place that is like another by the test isn't stuck, and has its next literal and reset
 pub like_where : (g : Graph) (held : List ℕ) (latch : Latch) (i : ℕ) → is_like g held latch i (slice_get g.latches i) ≡ true → Like g held latch i
 like_where g held latch i e = go (slice_get g.latches i) refl
   where
@@ -105,6 +115,7 @@ pub data StandsFor (g : Graph) (held : List ℕ) (j : ℕ) (latch : Latch) (stan
   by_itself : is_stuck g held j latch ≡ false → stand ≡ 2 * (first_latch g + j) → StandsFor g held j latch stand
   by_earlier : (i : ℕ) → i < j → i ≡ first_like g held j latch → Like g held latch i → is_free latch ≡ false → has held j ≡ false → stand ≡ 2 * (first_latch g + i) → StandsFor g held j latch stand
 
+-- what stands for a latch is its constant, the latch itself, or an earlier one like it
 pub stands_for : (g : Graph) (held : List ℕ) (j : ℕ) (latch : Latch) → StandsFor g held j latch (latch_stand g held j (Some latch))
 stands_for g held j latch =
     let own : ℕ = 2 * (first_latch g + j) in
@@ -126,6 +137,7 @@ stands_for g held j latch =
           ])
     ]
 
+-- the constant of a reset is 0 or 1
 pub constant-even : (r : Reset) → constant_of r < 2
 constant-even Zero = omega arith
 constant-even One = omega arith
@@ -188,6 +200,7 @@ module _ (g : Graph) (valid : IsGraph g) (held : List ℕ) (x : Inputs) (f : Cho
     | by_earlier i less first like known apart e ↦ ap (vals t) e ∙ like-value j i latch there known like t
   ]
 
+  -- what stands for a variable before the gates has its value at each step
   pub leaf_stand-value : (t v : ℕ) → v < first_gate g → vals t (leaf_stand g held v) ≡ vals t (2 * v)
   unfolding leaf_stand
   leaf_stand-value t v h =
@@ -210,6 +223,7 @@ latch_stand-below g held j latch = elim (stands_for g held j latch) [
   | by_earlier i less first like known apart e ↦ omega (arith, e)
 ]
 
+-- what stands for a variable before the gates is of no later variable
 pub leaf_stand-below : (g : Graph) (held : List ℕ) (v : ℕ) → v < first_gate g → variable (leaf_stand g held v) ≤ v
 unfolding leaf_stand
 leaf_stand-below g held v h =

@@ -20,43 +20,54 @@ use Rattle.aig_graph.proofs.PropsLaws.{mapped-literals, mapped-props, literals_w
 use Rattle.cleaned_circuits.proofs.StandLaws.{replaced-within, replaced_literal-value}
 
 module _ (stands : List ℕ) (g : Graph) where
+  -- a graph that reads what stands for what it read has its inputs
   pub replaced-inputs : (replaced_graph stands g).inputs ≡ g.inputs
   unfolding replaced_graph
   replaced-inputs = refl
 
+  -- a graph that reads what stands for what it read has as many latches
   pub length-replaced_latches : length (replaced_graph stands g).latches ≡ length g.latches
   unfolding replaced_graph
   length-replaced_latches = length-map g.latches (replaced_latch stands)
 
+  -- a graph that reads what stands for what it read has as many gates
   pub length-replaced_gates : length (replaced_graph stands g).gates ≡ length g.gates
   unfolding replaced_graph
   length-replaced_gates = length-map g.gates (replaced_gate stands)
 
+  -- its first latch stands where it stood
   pub replaced-first_latch : first_latch (replaced_graph stands g) ≡ first_latch g
   replaced-first_latch = omega (arith, replaced-inputs)
 
+  -- its first gate stands where it stood
   pub replaced-first_gate : first_gate (replaced_graph stands g) ≡ first_gate g
   replaced-first_gate = omega (arith, replaced-inputs, length-replaced_latches)
 
+  -- its variables end where they ended
   pub replaced-end : variables_end (replaced_graph stands g) ≡ variables_end g
   replaced-end = omega (arith, replaced-inputs, length-replaced_latches, length-replaced_gates)
 
+  -- each latch of the graph stands at its place, reading what stands for its next literal
   pub replaced-latch : (j : ℕ) (latch : Latch) → slice_get g.latches j ≡ Some latch → slice_get (replaced_graph stands g).latches j ≡ Some (replaced_latch stands latch)
   unfolding replaced_graph
   replaced-latch j latch e = slice_get-map_some (replaced_latch stands) g.latches j latch e
 
+  -- each gate of the graph stands at its place, reading what stands for its fan-ins
   pub replaced-gate : (k : ℕ) (gate : Gate) → slice_get g.gates k ≡ Some gate → slice_get (replaced_graph stands g).gates k ≡ Some (replaced_gate stands gate)
   unfolding replaced_graph
   replaced-gate k gate e = slice_get-map_some (replaced_gate stands) g.gates k gate e
 
+  -- each latch of the replaced graph is one of the graph, reading what stands for its next literal
   pub from_latch : (j : ℕ) (latch : Latch) → slice_get (replaced_graph stands g).latches j ≡ Some latch → (old : Latch) × (slice_get g.latches j ≡ Some old) × (latch ≡ replaced_latch stands old)
   unfolding replaced_graph
   from_latch j latch e = from_map (replaced_latch stands) g.latches j latch e
 
+  -- each gate of the replaced graph is one of the graph, reading what stands for its fan-ins
   pub from_gate : (k : ℕ) (gate : Gate) → slice_get (replaced_graph stands g).gates k ≡ Some gate → (old : Gate) × (slice_get g.gates k ≡ Some old) × (gate ≡ replaced_gate stands old)
   unfolding replaced_graph
   from_gate k gate e = from_map (replaced_gate stands) g.gates k gate e
 
+  -- before each latch there are as many free ones
   pub replaced-free_before : (j : ℕ) → free_before (replaced_graph stands g) j ≡ free_before g j
   unfolding replaced_graph
   replaced-free_before j = count_by-take_map is_free is_free (replaced_latch stands) (λ latch. refl) j g.latches
@@ -70,6 +81,7 @@ abbrev pub StandsRight : Graph → List ℕ → Type 0
 StandsRight g stands = (x : Inputs) (f : Choice) (t lit : ℕ) → variable lit < variables_end g → value g x f t (replaced stands lit) ≡ value g x f t lit
 
 module _ (g : Graph) (stands : List ℕ) (valid : IsGraph g) (within_each : StandsWithin g stands) where
+  -- where no literal is replaced by one of a later variable, the replaced graph is one
   pub IsGraph-replaced : IsGraph (replaced_graph stands g)
   IsGraph-replaced = record {
     small = omega (arith, replaced-end stands g, valid.small);
@@ -181,6 +193,7 @@ module _ (stands : List ℕ) (c : Netlist) (valid : IsGraph c.aig) (netlist : Is
   names_as_many : (n m : ℕ) (names : List Symbol) → m ≡ n → AreNamesBelow n names → AreNamesBelow m names
   names_as_many n m names same below = let P : ℕ → Type 0 = λ k. AreNamesBelow k names in subst P (sym same) below
 
+  -- where no literal is replaced by one of a later variable, the replaced circuit is one
   pub IsNetlist-replaced : IsNetlist (replaced_circuit stands c)
   unfolding mapped_props
   IsNetlist-replaced =
@@ -207,8 +220,10 @@ pub IsGraph-merged : (g : Graph) (held : List ℕ) → IsGraph g → IsGraph (re
 IsGraph-merged g held valid = IsGraph-replaced g (stands_of g held) valid (replaced-within g held valid)
 
 module _ (held : List ℕ) (c : Netlist) (valid : IsGraph c.aig) (netlist : IsNetlist c) where
+  -- in a pass of cleaning the merged circuit's properties have the values that they had, step by step
   pub merged-properties : (x : Inputs) (f : Choice) (t : ℕ) → map (value (merged_of held c).aig x f t) (property_literals (merged_of held c).props) ≡ map (value c.aig x f t) (property_literals c.props)
   merged-properties = replaced-properties (stands_of c.aig held) c valid netlist (replaced-within c.aig held valid) (replaced_literal-value c.aig held valid)
 
+  -- in a pass of cleaning the merged circuit is one
   pub IsNetlist-merged : IsNetlist (merged_of held c)
   IsNetlist-merged = IsNetlist-replaced (stands_of c.aig held) c valid netlist (replaced-within c.aig held valid)

@@ -17,10 +17,12 @@ use Rattle.cleaned_circuits.proofs.LatchLaws.{first_where-cases, first_where-lea
 use Rattle.cleaned_circuits.proofs.StandLaws.{lookup_push, gate_stands, with_false, with_true, with_equal, with_opposite, with_earlier, IsBelow, merge-all, below-merge_gate, pair-below, replaced-variable, GateIn, gates-in, start-below, start-length, start-entry, length-stands_of}
 
 module _ (g : Graph) (held : List ℕ) where
+  -- the constant and each input stand for themselves
   pub leaf-low : (v : ℕ) → v < first_latch g → leaf_stand g held v ≡ 2 * v
   unfolding leaf_stand
   leaf-low v h = cond-true (nat_lt v (first_latch g)) (2 * v) (latch_stand g held (v - first_latch g) (slice_get g.latches (v - first_latch g))) (lt-ltb v (first_latch g) h)
 
+  -- what stands for a latch's variable is what stands for the latch
   pub leaf-latch : (j : ℕ) (latch : Latch) → slice_get g.latches j ≡ Some latch → leaf_stand g held (first_latch g + j) ≡ latch_stand g held j (Some latch)
   unfolding leaf_stand
   leaf-latch j latch there =
@@ -96,9 +98,13 @@ module _ (g : Graph) (held : List ℕ) where
 
 -- what stands, and the literals of kept gates, stand for themselves
 pub record AreOwn (m : Merging) : Type 0 where
+  -- there is an entry
   pub some : 0 < length m.stands
+  -- the constant stands for itself
   pub constant : get_or m.stands 0 0 ≡ 0
+  -- the variable that stands for another stands for itself
   pub each : (v : ℕ) → v < length m.stands → get_or m.stands (variable (get_or m.stands v 0)) 0 ≡ 2 * variable (get_or m.stands v 0)
+  -- a kept gate's variable stands for itself
   pub kept : (gate : Gate) (w : ℕ) → lookup (is_gate gate) m.kept ≡ Some w → get_or m.stands (variable w) 0 ≡ 2 * variable w
 
 own-replaced : (m : Merging) → AreOwn m → (lit : ℕ) → variable lit < length m.stands → get_or m.stands (variable (replaced m.stands lit)) 0 ≡ 2 * variable (replaced m.stands lit)
@@ -225,9 +231,12 @@ module _ (g : Graph) (held : List ℕ) (valid : IsGraph g) where
 -- the entries at the start stay
 module _ (g : Graph) (held : List ℕ) where
   pub record Keeps (v : ℕ) (m : Merging) : Type 0 where
+    -- there are entries for all variables before the gates
     pub longer : first_gate g ≤ length m.stands
+    -- the entry of the variable is what stood for it at the start
     pub same : get_or m.stands v 0 ≡ leaf_stand g held v
 
+  -- after all gates, what stands for a variable before them is what stood for it at the start
   pub stands-leaf : (v : ℕ) → v < first_gate g → get_or (stands_of g held) v 0 ≡ leaf_stand g held v
   unfolding stands_of
   stands-leaf v h = (merge-all (λ m. Keeps v m) (λ w gate. Unit {0}) step g.gates (merging_start g held) (λ i gate e. tt) (record {
@@ -248,8 +257,10 @@ module _ (g : Graph) (held : List ℕ) where
             same = get_or_append_left m.stands (2 * length m.stands ∷ []) 0 v (omega (arith, keeps.longer)) ∙ keeps.same;
           }
 
+  -- after all gates, the constant and each input stand for themselves
   pub stands-low : (v : ℕ) → v < first_latch g → get_or (stands_of g held) v 0 ≡ 2 * v
   stands-low v h = stands-leaf v (omega arith) ∙ leaf-low g held v h
 
+  -- after all gates, a held latch stands for itself
   pub stands-held : (j : ℕ) → j < length g.latches → has held j ≡ true → get_or (stands_of g held) (first_latch g + j) 0 ≡ 2 * (first_latch g + j)
   stands-held j h holds = let there = element g.latches j h in stands-leaf (first_latch g + j) (omega arith) ∙ held-own g held j there.0 there.1 holds

@@ -18,12 +18,16 @@ use Rattle.cleaned_circuits.proofs.TrimmedNameLaws.{IsNetlist-trimmed}
 
 -- a circuit in order
 pub record IsCircuit (c : Netlist) : Type 0 where
+  -- its graph is one
   pub graph : IsGraph c.aig
+  -- its properties and symbols are in order
   pub netlist : IsNetlist c
 
+-- what a pass merges a circuit to is a circuit
 pub IsCircuit-merged : (held : List ℕ) (c : Netlist) → IsCircuit c → IsCircuit (merged_of held c)
 IsCircuit-merged held c valid = record { graph = IsGraph-merged c.aig held valid.graph; netlist = IsNetlist-merged held c valid.graph valid.netlist }
 
+-- merging in a pass leaves as many free latches
 pub merged-free : (held : List ℕ) (c : Netlist) → free_latches (merged_of held c).aig ≡ free_latches c.aig
 merged-free held c =
     let stands : List ℕ = stands_of c.aig held in
@@ -54,12 +58,14 @@ trimmed_merged-streams held c s valid reached =
       values = λ x f t. rest.values x f t ∙ merged-properties held c valid.graph valid.netlist x f t;
     }
 
+-- a circuit after a pass has the streams of that before it
 pub pass-streams : (held : List ℕ) (c d : Netlist) (kept still_held : List ℕ) → IsCircuit c → IsPass held c d kept still_held → SameStreams c d kept
 pass-streams held c d kept still_held valid pass =
     let P : Netlist → Type 0 = λ e. SameStreams c e (kept_free (merged_of held c).aig pass.reached) in
     let Q : List ℕ → Type 0 = λ places. SameStreams c d places in
     subst Q (sym pass.free) (subst P (sym pass.circuit) (trimmed_merged-streams held c pass.reached valid pass.are_reached))
 
+-- what a pass makes of a circuit is a circuit
 pub IsCircuit-pass : (held : List ℕ) (c d : Netlist) (kept still_held : List ℕ) → IsCircuit c → IsPass held c d kept still_held → IsCircuit d
 IsCircuit-pass held c d kept still_held valid pass =
     let m : Netlist = merged_of held c in
@@ -79,6 +85,7 @@ cleans-streams d _ _ _ (after_pass held c e first second still_held pass other r
     same_streams-transitive c e d first second (pass-streams held c e first still_held valid pass)
     (cleans-streams d still_held e second rest (IsCircuit-pass held c e first still_held valid pass))
 
+-- what a circuit is cleaned to is a circuit
 pub IsCircuit-cleans : (d : Netlist) (held : List ℕ) (c : Netlist) (kept : List ℕ) → Cleans d held c kept → IsCircuit c → IsCircuit d
 IsCircuit-cleans d _ _ _ (unchanged held c kept pass same) valid = let P : Netlist → Type 0 = λ e. IsCircuit e in subst P (sym same) valid
 IsCircuit-cleans d _ _ _ (after_pass held c e first second still_held pass other rest) valid =

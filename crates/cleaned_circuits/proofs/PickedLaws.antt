@@ -24,6 +24,7 @@ module _ {A : Type 0} (p : ℕ → Bool) where
   unfolding picked
   picked-none n = refl
 
+  -- as many of a list are picked as numbers of it pass
   pub length-picked : (n : ℕ) (xs : List A) → count_below p n + length (picked p n xs) ≡ count_below p (n + length xs)
   length-picked n [] =
       let none : length (picked {A = A} p n []) ≡ 0 = ap length (picked-none n) in
@@ -63,9 +64,13 @@ module _ {A : Type 0} (p : ℕ → Bool) where
 
   -- where what was picked stood
   pub record WasAt (n : ℕ) (xs : List A) (m : ℕ) (x : A) : Type 0 where
+    -- the place in the list
     pub place : ℕ
+    -- what was picked stands there
     pub there : slice_get xs place ≡ Some x
+    -- the number there passes
     pub passes : p (n + place) ≡ true
+    -- the place among the picked is how many numbers before it pass
     pub rank : count_below p n + m ≡ count_below p (n + place)
 
   later : (n : ℕ) (y : A) (ys : List A) (i m : ℕ) (x : A) → count_below p n + m ≡ count_below p (suc n) + i → WasAt (suc n) ys i x → WasAt n (y ∷ ys) m x
@@ -78,6 +83,7 @@ module _ {A : Type 0} (p : ℕ → Bool) where
         rank = omega (arith, was.rank, ap (count_below p) place);
       }
 
+  -- what stands at a place of the picked stood at a place of the list whose number passes
   pub was_at : (n : ℕ) (xs : List A) (m : ℕ) (x : A) → slice_get (picked p n xs) m ≡ Some x → WasAt n xs m x
   was_at n [] m x e = absurd (none-some x (ap (λ (zs : List A). slice_get zs m) (sym (picked-none n)) ∙ e))
   was_at n (y ∷ ys) m x e = elim (cases_Bool (p n)) [

@@ -32,6 +32,7 @@ lookup_push test (e0 ∷ es) gate v w e = elim (cases_Bool (test e0.0)) [
   ]
 ]
 
+-- gates that are the same by the test are the same
 pub is_gate-is : (gate other : Gate) → is_gate gate other ≡ true → gate ≡ other
 is_gate-is gate other e =
     let parts = and_parts (nat_eq gate.rhs0 other.rhs0) (nat_eq gate.rhs1 other.rhs1) e in
@@ -47,6 +48,7 @@ pub data GateStands (kept : List (Gate × ℕ)) (gate : Gate) (o : Option ℕ) :
   with_opposite : (gate.rhs0 ≡ gate.rhs1 → ⊥) → variable gate.rhs0 ≡ variable gate.rhs1 → o ≡ Some 0 → GateStands kept gate o
   with_earlier : o ≡ lookup (is_gate gate) kept → GateStands kept gate o
 
+-- a gate comes down to 0, to one of its fan-ins, or to what a kept gate of its fan-ins has, if there is one
 pub gate_stands : (kept : List (Gate × ℕ)) (gate : Gate) → GateStands kept gate (known_stand kept gate)
 gate_stands kept gate =
     let found : Option ℕ = lookup (is_gate gate) kept in
@@ -86,12 +88,16 @@ none-kept kept gate none = elim (gate_stands kept gate) [
 
 -- no later variable stands for a variable, and kept gates are among those so far
 pub record IsBelow (m : Merging) : Type 0 where
+  -- what stands for a variable is of no later one
   pub each : (v : ℕ) → v < length m.stands → variable (get_or m.stands v 0) ≤ v
+  -- the literal of a kept gate is of a variable that has an entry
   pub kept : (gate : Gate) (w : ℕ) → lookup (is_gate gate) m.kept ≡ Some w → variable w < length m.stands
 
+-- a replaced literal is of the variable that stands for the literal's
 pub replaced-variable : (stands : List ℕ) (lit : ℕ) → variable (replaced stands lit) ≡ variable (get_or stands (variable lit) 0)
 replaced-variable stands lit = variable-signed_as lit (get_or stands (variable lit) 0)
 
+-- a replaced literal is of no later variable
 pub replaced-below : (m : Merging) → IsBelow m → (lit : ℕ) → variable lit < length m.stands → variable (replaced m.stands lit) ≤ variable lit
 replaced-below m below lit h = omega (arith, replaced-variable m.stands lit, below.each (variable lit) h)
 
@@ -120,6 +126,7 @@ at_push P xs y each last v h = elim (cases_eq v (length xs)) [
       subst (P v) (sym (get_or_append_left xs (y ∷ []) 0 v less)) (each v less))
 ]
 
+-- merging one more gate, no variable is replaced by a later one
 pub below-merge_gate : (m : Merging) → IsBelow m → (gate : Gate) → variable gate.rhs0 < length m.stands → variable gate.rhs1 < length m.stands → IsBelow (merge_gate m gate)
 below-merge_gate m below gate h0 h1 = go (known_stand m.kept (replaced_gate m.stands gate)) refl
   where
@@ -137,23 +144,29 @@ below-merge_gate m below gate h0 h1 = go (known_stand m.kept (replaced_gate m.st
       ];
     }
 
+-- with what stands for one more variable there is an entry more
 pub length-with_stand : (m : Merging) (pair : Gate) (o : Option ℕ) → length (with_stand m pair o).stands ≡ length m.stands + 1
 length-with_stand m pair (Some stand) = length_push m.stands stand
 length-with_stand m pair None = length_push m.stands (2 * length m.stands)
 
+-- merging one more gate adds one entry
 pub length-merge_gate : (m : Merging) (gate : Gate) → length (merge_gate m gate).stands ≡ length m.stands + 1
 length-merge_gate m gate = length-with_stand m (replaced_gate m.stands gate) (known_stand m.kept (replaced_gate m.stands gate))
 
 module _ (vals : ℕ → Bool) (negated : (v : ℕ) → vals (2 * v + 1) ≡ not (vals (2 * v))) (constant : vals 0 ≡ false) where
   -- what stands has the value of what it stands for, and a kept gate that of its literals
   pub record IsRight (m : Merging) : Type 0 where
+    -- what stands for a variable has its value
     pub each : (v : ℕ) → v < length m.stands → vals (get_or m.stands v 0) ≡ vals (2 * v)
+    -- the literal of a kept gate has the AND of its fan-ins' values
     pub kept : (gate : Gate) (w : ℕ) → lookup (is_gate gate) m.kept ≡ Some w → vals w ≡ (vals gate.rhs0 && vals gate.rhs1)
 
+  -- where what stands for a literal's variable has its value, the replaced literal has the literal's
   pub replaced-value : (stands : List ℕ) (lit : ℕ) → vals (get_or stands (variable lit) 0) ≡ vals (2 * variable lit) → vals (replaced stands lit) ≡ vals lit
   replaced-value stands lit same =
       value_signed_as vals negated lit (get_or stands (variable lit) 0) ∙ ap (signed lit) same ∙ sym (value_signed vals negated lit)
 
+  -- where both replaced fan-ins have their values, the replaced gate has the gate's
   pub pair-value : (stands : List ℕ) (gate : Gate) → vals (replaced stands gate.rhs0) ≡ vals gate.rhs0 → vals (replaced stands gate.rhs1) ≡ vals gate.rhs1
       → (vals (replaced_gate stands gate).rhs0 && vals (replaced_gate stands gate).rhs1) ≡ (vals gate.rhs0 && vals gate.rhs1)
   pair-value stands gate first second =
@@ -188,6 +201,7 @@ module _ (vals : ℕ → Bool) (negated : (v : ℕ) → vals (2 * v + 1) ≡ not
     | with_earlier e ↦ known stand (sym e ∙ some)
   ]
 
+  -- merging one more gate, what stands has the value of what it stands for
   pub right-merge_gate : (m : Merging) → IsRight m → (gate : Gate) → variable gate.rhs0 < length m.stands → variable gate.rhs1 < length m.stands
       → vals (2 * length m.stands) ≡ (vals gate.rhs0 && vals gate.rhs1) → IsRight (merge_gate m gate)
   right-merge_gate m right gate h0 h1 own = go (known_stand m.kept (replaced_gate m.stands gate)) refl
@@ -222,6 +236,7 @@ merge-all P Q step (gate ∷ gates) m each holds =
     subst (λ (n : ℕ). Q n other) place (each (suc i) other e))
     (step m gate holds (subst (λ (n : ℕ). Q n gate) first (each 0 gate refl)))
 
+-- merging gates adds as many entries as there are gates
 pub length-merge_gates : (gates : List Gate) (m : Merging) → length (merge_gates gates m).stands ≡ length m.stands + length gates
 unfolding merge_gates
 length-merge_gates [] m = omega arith
@@ -229,22 +244,30 @@ length-merge_gates (gate ∷ gates) m = omega (arith, length-merge_gates gates (
 
 -- a gate of the graph, at its variable
 pub record GateOf (g : Graph) (v : ℕ) (gate : Gate) : Type 0 where
+  -- it is a gate at this variable
   pub at : IsGateAt v gate
+  -- its place among the gates
   pub place : ℕ
+  -- the variable is the gate's
   pub variable_is : v ≡ first_gate g + place
+  -- it stands at this place
   pub there : slice_get g.gates place ≡ Some gate
 
 -- literals for the variables before the gates, none of a later variable
 pub record AreLeaves (g : Graph) (leaves : List ℕ) : Type 0 where
+  -- there is a literal for each variable before the gates
   pub long : length leaves ≡ first_gate g
+  -- none of them is of a later variable
   pub below : (v : ℕ) → v < first_gate g → variable (get_or leaves v 0) ≤ v
 
 -- whatever stands for the variables before the gates
 module _ (g : Graph) (leaves : List ℕ) (begun : AreLeaves g leaves) where
+  -- after all gates each variable of the graph has an entry
   pub length-stands_after : length (stands_after g leaves) ≡ variables_end g
   unfolding stands_after
   length-stands_after = omega (arith, length-merge_gates g.gates (merging_from leaves), begun.long)
 
+  -- before any gate no variable is replaced by a later one
   pub leaves-below : IsBelow (merging_from leaves)
   leaves-below = record {
     each = λ v h. begun.below v (omega (arith, begun.long));
@@ -252,6 +275,7 @@ module _ (g : Graph) (leaves : List ℕ) (begun : AreLeaves g leaves) where
   }
 
   module _ (valid : IsGraph g) where
+    -- each gate of the graph stands where its entry comes next
     pub gates-of : (i : ℕ) (gate : Gate) → slice_get g.gates i ≡ Some gate → GateOf g (length leaves + i) gate
     gates-of i gate e =
         let place : first_gate g + i ≡ length leaves + i = omega (arith, begun.long) in
@@ -270,6 +294,7 @@ module _ (g : Graph) (leaves : List ℕ) (begun : AreLeaves g leaves) where
     unfolding stands_after
     after-below v h = below-after.each v (omega (arith, length-stands_after))
 
+    -- after all gates a replaced literal is of no later variable
     pub after-within : (lit : ℕ) → variable lit < variables_end g → variable (replaced (stands_after g leaves) lit) ≤ variable lit
     after-within lit h = omega (arith, replaced-variable (stands_after g leaves) lit, after-below (variable lit) h)
 
@@ -292,10 +317,12 @@ module _ (g : Graph) (leaves : List ℕ) (begun : AreLeaves g leaves) where
               ap (λ (n : ℕ). value g x f t (2 * n)) place.variable_is ∙ laws.gate t place.place gate place.there in
               right-merge_gate (value g x f t) (λ v. laws.negation t v) (laws.constant t) m so_far gate (omega arith) (omega arith) here
 
+      -- after all gates what stands for a variable has its value
       pub after-value : (v : ℕ) → v < variables_end g → value g x f t (get_or (stands_after g leaves) v 0) ≡ value g x f t (2 * v)
       unfolding stands_after
       after-value v h = right-after.each v (omega (arith, length-stands_after))
 
+      -- after all gates a replaced literal has the literal's value
       pub replaced_after-value : (lit : ℕ) → variable lit < variables_end g → value g x f t (replaced (stands_after g leaves) lit) ≡ value g x f t lit
       replaced_after-value lit h =
           replaced-value (value g x f t) (λ v. laws.negation t v) (laws.constant t) (stands_after g leaves) lit (after-value (variable lit) h)
@@ -305,9 +332,11 @@ module _ (g : Graph) (held : List ℕ) where
   abbrev cleaned_leaves : List ℕ
   cleaned_leaves = table 0 (first_gate g) (leaf_stand g held)
 
+  -- a pass of cleaning begins with an entry for each variable before the gates
   pub start-length : length (merging_start g held).stands ≡ first_gate g
   start-length = length-table 0 (first_gate g) (leaf_stand g held)
 
+  -- the entry of a variable at its beginning is what stands for it before the gates
   pub start-entry : (v : ℕ) → v < length (merging_start g held).stands → get_or (merging_start g held).stands v 0 ≡ leaf_stand g held v
   start-entry v h = table-at 0 (first_gate g) (leaf_stand g held) v 0 (omega (arith, start-length)) ∙ ap (leaf_stand g held) (zero-add v)
 
@@ -317,6 +346,7 @@ module _ (g : Graph) (held : List ℕ) where
     below = λ v h. omega (arith, start-entry v (omega (arith, start-length)), leaf_stand-below g held v h);
   }
 
+  -- at its beginning no variable is replaced by a later one
   pub start-below : IsBelow (merging_start g held)
   start-below = leaves-below g cleaned_leaves are-leaves
 
@@ -325,6 +355,7 @@ module _ (g : Graph) (held : List ℕ) where
   unfolding stands_of stands_after
   stands-after = refl
 
+  -- a pass of cleaning has in the end an entry for each variable of the graph
   pub length-stands_of : length (stands_of g held) ≡ variables_end g
   length-stands_of = ap (λ (xs : List ℕ). length xs) stands-after ∙ length-stands_after g cleaned_leaves are-leaves
 
@@ -332,6 +363,7 @@ module _ (g : Graph) (held : List ℕ) where
     abbrev pub GateIn : ℕ → Gate → Type 0
     GateIn v gate = GateOf g v gate
 
+    -- in a pass of cleaning each gate stands where its entry comes next
     pub gates-in : (i : ℕ) (gate : Gate) → slice_get g.gates i ≡ Some gate → GateIn (length (merging_start g held).stands + i) gate
     gates-in i gate e = gates-of g cleaned_leaves are-leaves valid i gate e
 

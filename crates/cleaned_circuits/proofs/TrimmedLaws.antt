@@ -17,12 +17,15 @@ use Rattle.variable_tables.proofs.ListLaws.{slice_get-map_some, from_map}
 use Rattle.cleaned_circuits.proofs.PickedLaws.{count-all, length-picked, picked-at, WasAt, was_at}
 
 module _ (g : Graph) (s : ℕ → Bool) where
+  -- from the first latch on a variable stays where it is in the set
   pub stays-past : (v : ℕ) → first_latch g ≤ v → stays g s v ≡ s v
   stays-past v h = ap (λ (b : Bool). b || s v) (le-ltb v (first_latch g) h)
 
+  -- a variable of the set stays
   pub stays-reached : (v : ℕ) → s v ≡ true → stays g s v ≡ true
   stays-reached v e = or_right (nat_lt v (first_latch g)) (s v) e
 
+  -- the constant and the inputs stay
   pub stays-low : (v : ℕ) → v < first_latch g → stays g s v ≡ true
   stays-low v h = or_left (nat_lt v (first_latch g)) (s v) (lt-ltb v (first_latch g) h)
 
@@ -30,16 +33,20 @@ module _ (g : Graph) (s : ℕ → Bool) where
   pub new-low : (v : ℕ) → v ≤ first_latch g → new_variable g s v ≡ v
   new-low v h = count-all (stays g s) v (λ w less. stays-low w (omega arith))
 
+  -- from the first latch on new variables are from the first latch on
   pub new-from : (v : ℕ) → first_latch g ≤ v → first_latch g ≤ new_variable g s v
   new-from v h = omega (arith, count-le (stays g s) (first_latch g) v h, new-low (first_latch g) (omega arith))
 
+  -- new variables keep the order
   pub new-rises : (v w : ℕ) → v ≤ w → new_variable g s v ≤ new_variable g s w
   new-rises v w h = count-le (stays g s) v w h
 
+  -- a trimmed graph has the graph's inputs
   pub trimmed-inputs : (trimmed_graph g s).inputs ≡ g.inputs
   unfolding trimmed_graph
   trimmed-inputs = refl
 
+  -- its first latch stands where the graph's does
   pub trimmed-first_latch : first_latch (trimmed_graph g s) ≡ first_latch g
   trimmed-first_latch = omega (arith, trimmed-inputs)
 
@@ -55,6 +62,7 @@ module _ (g : Graph) (s : ℕ → Bool) where
         ap (count_below (stays g s)) place,
       )
 
+  -- its first gate stands at the new variable of the graph's first gate
   pub trimmed-first_gate : first_gate (trimmed_graph g s) ≡ new_variable g s (first_gate g)
   trimmed-first_gate = omega (arith, latches-long, trimmed-inputs)
 
@@ -69,9 +77,11 @@ module _ (g : Graph) (s : ℕ → Bool) where
         ap (count_below (stays g s)) place,
       )
 
+  -- its variables end at the new variable of the graph's end
   pub trimmed-end : variables_end (trimmed_graph g s) ≡ new_variable g s (variables_end g)
   trimmed-end = omega (arith, gates-long, trimmed-first_gate)
 
+  -- a latch that stays stands at its rank, reading its renumbered next literal
   pub latch_in : (j m : ℕ) (latch : Latch) → slice_get g.latches j ≡ Some latch → s (first_latch g + j) ≡ true → first_latch g + m ≡ new_variable g s (first_latch g + j)
       → slice_get (trimmed_graph g s).latches m ≡ Some (renumbered_latch g s latch)
   unfolding trimmed_graph
@@ -79,6 +89,7 @@ module _ (g : Graph) (s : ℕ → Bool) where
       slice_get-map_some (renumbered_latch g s) (picked (stays g s) (first_latch g) g.latches) m latch
       (picked-at (stays g s) (first_latch g) g.latches j m latch there (stays-reached (first_latch g + j) reached) (omega (arith, new-low (first_latch g) (omega arith))))
 
+  -- a gate that stays stands at its rank, reading its renumbered fan-ins
   pub gate_in : (k m : ℕ) (gate : Gate) → slice_get g.gates k ≡ Some gate → s (first_gate g + k) ≡ true → first_gate (trimmed_graph g s) + m ≡ new_variable g s (first_gate g + k)
       → slice_get (trimmed_graph g s).gates m ≡ Some (renumbered_gate g s gate)
   unfolding trimmed_graph
@@ -87,13 +98,20 @@ module _ (g : Graph) (s : ℕ → Bool) where
       (picked-at (stays g s) (first_gate g) g.gates k m gate there (stays-reached (first_gate g + k) reached) (omega (arith, trimmed-first_gate)))
 
   pub record LatchFrom (m : ℕ) (latch : Latch) : Type 0 where
+    -- the place of the latch among the graph's
     pub place : ℕ
+    -- the latch that it was
     pub old : Latch
+    -- it stood there
     pub there : slice_get g.latches place ≡ Some old
+    -- it is in the set
     pub reached : s (first_latch g + place) ≡ true
+    -- the latch is this one, reading its renumbered next literal
     pub is : latch ≡ renumbered_latch g s old
+    -- its new variable is that of its place
     pub rank : first_latch g + m ≡ new_variable g s (first_latch g + place)
 
+  -- each latch of a trimmed graph is one of the graph that stays
   pub latch_from : (m : ℕ) (latch : Latch) → slice_get (trimmed_graph g s).latches m ≡ Some latch → LatchFrom m latch
   unfolding trimmed_graph
   latch_from m latch e =
@@ -109,13 +127,20 @@ module _ (g : Graph) (s : ℕ → Bool) where
       }
 
   pub record GateFrom (m : ℕ) (gate : Gate) : Type 0 where
+    -- the place of the gate among the graph's
     pub place : ℕ
+    -- the gate that it was
     pub old : Gate
+    -- it stood there
     pub there : slice_get g.gates place ≡ Some old
+    -- it is in the set
     pub reached : s (first_gate g + place) ≡ true
+    -- the gate is this one, reading its renumbered fan-ins
     pub is : gate ≡ renumbered_gate g s old
+    -- its new variable is that of its place
     pub rank : first_gate (trimmed_graph g s) + m ≡ new_variable g s (first_gate g + place)
 
+  -- each gate of a trimmed graph is one of the graph that stays
   pub gate_from : (m : ℕ) (gate : Gate) → slice_get (trimmed_graph g s).gates m ≡ Some gate → GateFrom m gate
   unfolding trimmed_graph
   gate_from m gate e =
@@ -130,9 +155,11 @@ module _ (g : Graph) (s : ℕ → Bool) where
         rank = omega (arith, was.rank, trimmed-first_gate);
       }
 
+  -- a renumbered literal is of the new variable of the literal's
   pub renumbered-variable : (lit : ℕ) → variable (renumbered g s lit) ≡ new_variable g s (variable lit)
   renumbered-variable lit = variable-signed_as_twice lit (new_variable g s (variable lit))
 
+  -- a variable that stays gets a smaller number than each later one
   pub new-less : (v w : ℕ) → stays g s v ≡ true → v < w → new_variable g s v < new_variable g s w
   new-less v w reached h = count-lt (stays g s) v w h reached
 
@@ -141,6 +168,7 @@ module _ (c : Netlist) (held : List ℕ) (s : ℕ → Bool) (valid : IsGraph c.a
   pub next-reached : (j : ℕ) (latch : Latch) → slice_get c.aig.latches j ≡ Some latch → s (first_latch c.aig + j) ≡ true → stays c.aig s (variable latch.next) ≡ true
   next-reached j latch there reached = holds.latches (first_latch c.aig + j) latch (latch_at-first_latch c.aig j ∙ there) reached
 
+  -- the fan-ins of a gate that is reached stay
   pub fan_ins-reached : (k : ℕ) (gate : Gate) → slice_get c.aig.gates k ≡ Some gate → s (first_gate c.aig + k) ≡ true → (stays c.aig s (variable gate.rhs0) ≡ true) × (stays c.aig s (variable gate.rhs1) ≡ true)
   fan_ins-reached k gate there reached = holds.gates (first_gate c.aig + k) gate (gate_at-first_gate c.aig k ∙ there) reached
 
@@ -149,6 +177,7 @@ module _ (c : Netlist) (held : List ℕ) (s : ℕ → Bool) (valid : IsGraph c.a
   renumbered-within lit reached within =
       omega (arith, renumbered-variable c.aig s lit, new-less c.aig s (variable lit) (variables_end c.aig) reached within, trimmed-end c.aig s)
 
+  -- trimmed to a set that holds what it reads, a graph is one
   pub IsGraph-trimmed : IsGraph (trimmed_graph c.aig s)
   IsGraph-trimmed = record {
     small = omega (arith, trimmed-end c.aig s, count-bound (stays c.aig s) (variables_end c.aig), valid.small);

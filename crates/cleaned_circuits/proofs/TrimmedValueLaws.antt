@@ -118,6 +118,7 @@ module _ (c : Netlist) (held : List ℕ) (s : ℕ → Bool) (valid : IsGraph c.a
   kept-always zero = kept-start
   kept-always (suc t) = let P : ℕ → Type 0 = λ n. Kept n in subst P (add-one t) (kept-later t (kept-always t))
 
+  -- the properties of a trimmed circuit have the values of the circuit's, step by step
   pub trimmed-properties : IsNetlist c → (t : ℕ) → map (value (trimmed_graph c.aig s) x (chosen (kept_free c.aig s) f) t) (property_literals (trimmed_of c s).props) ≡ map (value c.aig x f t) (property_literals c.props)
   trimmed-properties netlist t =
       ap (map (after t)) (mapped-literals (renumbered c.aig s) c.props)

@@ -41,16 +41,19 @@ count-full p (suc n) full v h = elim (cases_Bool (p n)) [
   | inr fails ↦ absurd (omega (arith, count-fail p n fails, count-bound p n))
 ]
 
+-- a function that leaves the element at each place leaves the list
 pub map-fixed : {A : Type 0} (f : A → A) (xs : List A) → ((k : ℕ) (x : A) → slice_get xs k ≡ Some x → f x ≡ x) → map f xs ≡ xs
 map-fixed f [] fixed = refl
 map-fixed {A} f (x ∷ xs) fixed =
     ap (λ (y : A). y ∷ map f xs) (fixed 0 x refl) ∙ ap (λ (ys : List A). x ∷ ys) (map-fixed f xs (λ k y e. fixed (suc k) y e))
 
+-- a function that leaves what all elements are leaves the list
 pub map-fixed_all : {A : Type 0} (P : A → Type 0) (f : A → A) → ((x : A) → P x → f x ≡ x) → (xs : List A) → All P xs → map f xs ≡ xs
 map-fixed_all P f fixed [] all = refl
 map-fixed_all {A} P f fixed (x ∷ xs) all =
     ap (λ (y : A). y ∷ map f xs) (fixed x (All-head P x xs all)) ∙ ap (λ (ys : List A). x ∷ ys) (map-fixed_all P f fixed xs (All-tail P x xs all))
 
+-- a function that leaves each literal of properties leaves the properties
 pub props-fixed : (f : ℕ → ℕ) (P : ℕ → Type 0) (p : Props) → ((lit : ℕ) → P lit → f lit ≡ lit) → All P (property_literals p) → mapped_props f p ≡ p
 unfolding mapped_props
 props-fixed f P p fixed all =
@@ -124,6 +127,7 @@ module _ (c : Netlist) (s : ℕ → Bool) (valid : IsCircuit c) (full : (v : ℕ
       ∙ ap (λ (ys : List Symbol). new_name c.aig s name ∷ ys) (names-same names (All-tail (λ (n : Symbol). n.position < length c.aig.latches) name names below))
       ∙ ap (λ (n : ℕ). at n ∷ names) place
 
+  -- where each variable stays, the trimmed circuit is the circuit
   pub trimmed-same : trimmed_of c s ≡ c
   unfolding trimmed_symbols
   trimmed-same =
@@ -139,6 +143,7 @@ module _ (stands : List ℕ) (c : Netlist) (valid : IsCircuit c) (own : (v : ℕ
   replaced-same : (lit : ℕ) → IsLiteralOf c.aig lit → replaced stands lit ≡ lit
   replaced-same lit within = ap (signed_as lit) (own (variable lit) within) ∙ twice lit (variable lit) refl
 
+  -- where each variable stands for itself, the replaced circuit is the circuit
   pub replaced_circuit-same : replaced_circuit stands c ≡ c
   unfolding replaced_graph
   replaced_circuit-same =
