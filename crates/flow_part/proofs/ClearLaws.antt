@@ -13,9 +13,11 @@ use Rattle.flow_part.proofs.WalkLaws.{idle_push}
 set_other : (xs : List ℕ) (a i x : ℕ) → i ≢ a → slice_index (slice_set xs a x) i ≡ slice_index xs i
 set_other xs a i x ne = rw get_or-set_other refl
 
+-- in a list that stays as it is an empty range of places is cleared
 pub clears_none : (from : ℕ) (xs : List ℕ) → Clears from from xs xs
 clears_none from xs = record { same = refl; done = λ x lo hi. absurd (omega (arith, lo, hi)); kept = λ x out. refl }
 
+-- a place that is set to 0 is cleared after those before it
 pub clears_more : (from to : ℕ) (old mid : List ℕ) → from ≤ to → to < length mid → Clears from to old mid → Clears from (to + 1) old (slice_set mid to 0)
 clears_more from to old mid up h c = record {
   same = length-set mid to 0 ∙ c.same;
@@ -29,6 +31,7 @@ clears_more from to old mid up h c = record {
 
 -- ---- the row of an inactive node
 
+-- the row of an inactive node that is cleared is what Read writes
 pub row_cleared : (net : FlowNet) (labels : List ℕ) (base v s e : ℕ) (c : Cells) (old new : List ℕ) → s ≡ start net v → e ≡ start net (v + 1) → base ≤ start net v → start net v ≤ start net (v + 1) → cells_active net labels c v ≡ false
     → Clears (s - base) (e - base) old new → RowsRead net labels base v (v + 1) c old new
 row_cleared net labels base v s e c old new es ee from up off cl = record {
@@ -45,9 +48,11 @@ row_cleared net labels base v s e c old new es ee from up off cl = record {
 
 -- ---- listed rows
 
+-- of no listed nodes no row is cleared
 pub listed_none : (net : FlowNet) (base : ℕ) (list xs : List ℕ) → ClearsListed net base list 0 xs xs
 listed_none net base list xs = record { same = refl; done = λ i k h l. absurd (omega (arith, h)); rest = λ x. inr refl }
 
+-- a listed node's row that is cleared comes to those of the nodes before it
 pub listed_more : (net : FlowNet) (base : ℕ) (list : List ℕ) (i v s e : ℕ) (old mid new : List ℕ) → v ≡ slice_index list i → s ≡ start net v → e ≡ start net (v + 1) → base ≤ start net v → start net v ≤ start net (v + 1)
     → ClearsListed net base list i old mid → Clears (s - base) (e - base) mid new → ClearsListed net base list (i + 1) old new
 listed_more net base list i v s e old mid new ev es ee from up c cl = record {
@@ -106,6 +111,7 @@ listed_cleared net p list was ws on lists el ew len c = record {
       ]
     ]
 
+-- a part whose values were all cleared is a cleared part
 pub all_cleared : (net : FlowNet) (p : PushPart) (size : ℕ) (was ws : List ℕ) → IsFlowNet net → PushPartFits net p → was ≡ p.values.items → size ≡ length p.values.items → length ws ≡ p.values.len → Clears 0 size was ws
     → PartCleared net p (record p { values = with_items p.values ws })
 all_cleared net p size was ws ok fit ew es len c = record {

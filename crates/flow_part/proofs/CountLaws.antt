@@ -7,21 +7,26 @@ use Rattle.flow_part.specs.Parts.{Cells, PushPartFits}
 use Rattle.flow_part.specs.Reading.{IsCountedOn, PartReadOn, active_below, active_from, cells_active, clamped}
 use Rattle.flow_part.proofs.WalkLaws.{active_flat, active_on}
 
+-- of more nodes no fewer are active
 pub active_rising : (net : FlowNet) (labels : List ℕ) (c : Cells) (low high : ℕ) → low ≤ high → active_below net labels c low ≤ active_below net labels c high
 active_rising net labels c low high le = sum_below-mono low high (λ u. cond (cells_active net labels c u) 1 0) le
 
+-- an active node counts the rows walked on by one
 pub counted_one : (net : FlowNet) (labels : List ℕ) (c : Cells) (v before after : ℕ) → cells_active net labels c v ≡ true → after ≡ min (before + 1) (2 ^ 32 - 1)
     → IsCountedOn before (active_from net labels c v (v + 1)) after
 counted_one net labels c v before after on counted = omega (arith, counted, active_on net labels c v on)
 
+-- an inactive node leaves the count of rows walked as it is
 pub counted_none : (net : FlowNet) (labels : List ℕ) (c : Cells) (v before : ℕ) → cells_active net labels c v ≡ false → IsCountedOn before (active_from net labels c v (v + 1)) before
 counted_none net labels c v before off =
     omega (arith, active_flat net labels c v (v + 1) (omega arith) (λ u lo hi. let here : u ≡ v = omega arith in ap (cells_active net labels c) here ∙ off))
 
+-- counts over two ranges end to end are a count over both
 pub counted_then : (net : FlowNet) (labels : List ℕ) (c : Cells) (low mid high a b d : ℕ) → low ≤ mid → mid ≤ high → IsCountedOn a (active_from net labels c low mid) b → IsCountedOn b (active_from net labels c mid high) d
     → IsCountedOn a (active_from net labels c low high) d
 counted_then net labels c low mid high a b d lm mh p q = omega (arith, p, q, active_rising net labels c low mid lm, active_rising net labels c mid high mh)
 
+-- the nodes of a part that lie in a range are counted where the range is cut down to the part's nodes
 pub counted_in_part : (net : FlowNet) (labels : List ℕ) (c : Cells) (first end low high : ℕ) (p : PushPart) (walked : ℕ) → low ≡ max first p.first → high ≡ min end p.end → low < high
     → IsCountedOn p.walked (active_from net labels c low high) walked
     → IsCountedOn p.walked (active_from net labels c (clamped first end p.first) (clamped first end p.end)) walked

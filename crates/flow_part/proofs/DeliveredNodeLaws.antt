@@ -23,6 +23,7 @@ lift_same net v nodes r hs row labels en el eh e =
 pub choice_first : (v e l n outflow x r : ℕ) → 1 < v → 0 < e → l < n → outflow < e → r ≡ x → r ≡ cond (nat_lt 1 v && nat_lt 0 e && nat_lt l n && nat_lt outflow e) x l
 choice_first v e l n outflow x r a b c d h = rw (lt-ltb 1 v a, lt-ltb 0 e b, lt-ltb l n c, lt-ltb outflow e d) h
 
+-- the pushes of a row that was read sum to what the node sends
 pub sent_same : (net : FlowNet) (xs : List ℕ) (v len : ℕ) (ys : List ℕ) → len ≡ row_len net v → ((k : ℕ) → k < row_len net v → slice_index ys k ≡ own net xs v k)
     → sum_below len (slice_index ys) ≡ row_outflow net xs v
 sent_same net xs v len ys e h = ap (λ (x : ℕ). sum_below x (slice_index ys)) e ∙ sum_below-same (row_len net v) (slice_index ys) (own net xs v) h

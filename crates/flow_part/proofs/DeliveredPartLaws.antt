@@ -13,18 +13,23 @@ use Rattle.flow_part.proofs.VisitLaws.{Visited, next_at, stills, turning_after, 
 
 -- nothing but the cells has changed, and the nodes from low up to high were delivered
 pub record Stepped (net : FlowNet) (labels xs : List ℕ) (low high : ℕ) (old new : FlowPart) : Type 0 where
+  -- nothing but the cells has changed
   pub same : KeepsLists old new
+  -- the nodes of the range were delivered
   pub given : RangeDelivered net labels xs old.base old.first low high (part_cells old) (part_cells new)
 
+-- a part that has only got other cells has the same first node
 pub same_first : (q r : FlowPart) → KeepsLists q r → r.first ≡ q.first
 same_first q r same = ap (λ (p : FlowPart). p.first) same
 
+-- a part that has only got other cells has the same end
 pub same_end : (q r : FlowPart) → KeepsLists q r → r.end ≡ q.end
 same_end q r same = ap (λ (p : FlowPart). p.end) same
 
 same_base : (q r : FlowPart) → KeepsLists q r → r.base ≡ q.base
 same_base q r same = ap (λ (p : FlowPart). p.base) same
 
+-- a part that has only got other cells has the same spare list
 pub same_list : (q r : FlowPart) → KeepsLists q r → r.spare.nodes.items ≡ q.spare.nodes.items
 same_list q r same = ap (λ (p : FlowPart). p.spare.nodes.items) same
 
@@ -81,9 +86,11 @@ cells_safe net xs v q rs es ns er ee en safe =
 
 -- ---- a range of nodes
 
+-- a part that can be delivered over a range can be over what of the range it has
 pub part_clamped : (net : FlowNet) (xs : List ℕ) (first end low high : ℕ) (q : FlowPart) → low ≡ max first q.first → high ≡ min end q.end → PartSafe net xs first end q → PartSafe net xs low high q
 part_clamped net xs first end low high q el eh safe = λ v i s w lo hi. safe v i s w (omega (arith, el, lo)) (omega (arith, eh, hi))
 
+-- over an empty range a part is delivered as it is
 pub step_none : (net : FlowNet) (labels xs : List ℕ) (low : ℕ) (q : FlowPart) → Stepped net labels xs low low q q
 step_none net labels xs low q = record { same = refl; given = stills net labels xs q.base q.first low low (part_cells q) (λ v lo hi. absurd (omega (arith, lo, hi))) }
 
@@ -93,6 +100,7 @@ given_from net labels xs low high q m r same d =
     subst (λ (b : ℕ). RangeDelivered net labels xs b q.first low high (part_cells m) (part_cells r)) (same_base q m same)
     (subst (λ (f : ℕ). RangeDelivered net labels xs m.base f low high (part_cells m) (part_cells r)) (same_first q m same) d.given)
 
+-- with the next node delivered, the range has one node more
 pub step_more : (net : FlowNet) (labels xs : List ℕ) (low v : ℕ) (q m r : FlowPart) → low ≤ v → Stepped net labels xs low v q m → KeepsLists m r → PartDelivered net labels xs v (v + 1) m r
     → Stepped net labels xs low (v + 1) q r
 step_more net labels xs low v q m r lv s k d = record {
@@ -100,12 +108,14 @@ step_more net labels xs low v q m r lv s k d = record {
   given = range_then net labels xs q.base q.first low v (v + 1) (part_cells q) (part_cells m) (part_cells r) lv (omega arith) s.given (given_from net labels xs v (v + 1) q m r s.same d);
 }
 
+-- the next node can be delivered after those before it
 pub step_safe : (net : FlowNet) (labels xs : List ℕ) (low high v : ℕ) (q m : FlowPart) → low ≤ v → v < high → PartSafe net xs low high q → Stepped net labels xs low v q m → PartSafe net xs v (v + 1) m
 step_safe net labels xs low high v q m lv vh safe s =
     subst (λ (b : ℕ). RangeSafe net xs b m.first v (v + 1) (part_cells m)) (sym (same_base q m s.same))
     (subst (λ (f : ℕ). RangeSafe net xs q.base f v (v + 1) (part_cells m)) (sym (same_first q m s.same))
     (safe_after net labels xs q.base q.first low high v (part_cells q) (part_cells m) lv vh safe s.given))
 
+-- a part delivered over what it has of a range is delivered over the range
 pub step_clamped : (net : FlowNet) (labels xs : List ℕ) (first end low high : ℕ) (q r : FlowPart) → FlowPartFits net q → low ≡ max first q.first → high ≡ min end q.end → Stepped net labels xs low high q r
     → PartDelivered net labels xs first end q r
 step_clamped net labels xs first end low high q r fit el eh s = record {
@@ -122,9 +132,12 @@ step_clamped net labels xs first end low high q r fit el eh s = record {
 
 -- nothing but the cells has changed, and the first nodes of the list were visited
 pub record PartVisited (net : FlowNet) (labels xs : List ℕ) (count : ℕ) (old new : FlowPart) : Type 0 where
+  -- nothing but the cells has changed
   pub same : KeepsLists old new
+  -- the first nodes of the spare list were visited
   pub visited : Visited net labels xs old.base old.first old.end old.spare.nodes.items count (part_cells old) (part_cells new)
 
+-- before the first node of the list none was visited
 pub part_visited_none : (net : FlowNet) (labels xs : List ℕ) (q : FlowPart) → FlowPartFits net q → ListsWork net labels xs q → PartVisited net labels xs 0 q q
 part_visited_none net labels xs q fit work = record {
   same = refl;
@@ -139,6 +152,7 @@ part_next_at net labels xs i v q m ok fit work il ev t = record {
   given = next_at net labels xs q.base q.first q.end q.spare.nodes.items i v (part_cells q) (part_cells m) ok (part_range net q fit) work il ev t.visited;
 }
 
+-- a listed node that is delivered next was visited
 pub part_visit_more : (net : FlowNet) (labels xs : List ℕ) (i v : ℕ) (q m r : FlowPart) → IsFlowNet net → FlowPartFits net q → ListsWork net labels xs q → i < length q.spare.nodes.items
     → v ≡ slice_index q.spare.nodes.items i → PartVisited net labels xs i q m → KeepsLists m r → PartDelivered net labels xs v (v + 1) m r → PartVisited net labels xs (i + 1) q r
 part_visit_more net labels xs i v q m r ok fit work il ev t k d = record {
@@ -147,6 +161,7 @@ part_visit_more net labels xs i v q m r ok fit work il ev t k d = record {
       (given_from net labels xs v (v + 1) q m r t.same d);
 }
 
+-- past the last node of the list all nodes of the part were delivered
 pub part_visited_all : (net : FlowNet) (labels xs : List ℕ) (count : ℕ) (q r : FlowPart) → IsFlowNet net → FlowPartFits net q → ListsWork net labels xs q → count ≡ length q.spare.nodes.items
     → PartVisited net labels xs count q r → Stepped net labels xs q.first q.end q r
 part_visited_all net labels xs count q r ok fit work all t = record {

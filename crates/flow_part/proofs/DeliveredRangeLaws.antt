@@ -18,6 +18,7 @@ label_rows net labels xs v e r q h =
     (λ k. cond (nat_lt 0 (delivered_res net xs v q k)) (slice_index labels (head net v k) + 1) (node_count net)) (node_count net)
     (λ k l. ap (λ (x : ℕ). cond (nat_lt 0 ((x + back net xs v k) - own net xs v k)) (slice_index labels (head net v k) + 1) (node_count net)) (h k l)))
 
+-- where two rows and excesses agree, a node that can be delivered by the one can be by the other
 pub safe_rows : (net : FlowNet) (xs : List ℕ) (v e d : ℕ) (r q : ℕ → ℕ) → ((k : ℕ) → k < row_len net v → r k ≡ q k) → e ≡ d → NodeSafe net xs v r e → NodeSafe net xs v q d
 safe_rows net xs v e d r q h g safe = record {
   owns = λ k l. omega (arith, safe.owns k l, h k l);
@@ -31,10 +32,14 @@ get_or-set_other_at xs a i x ne = rw get_or-set_other refl
 
 -- where a node and its row lie
 pub record Lies (net : FlowNet) (base first : ℕ) (c : Cells) (v i s : ℕ) : Type 0 where
+  -- the cells hold the node and its row
   pub inside : Within net base first c v i s
+  -- the node's place is counted from the first node
   pub place : i ≡ v - first
+  -- the row's place is counted from the first arc
   pub begins : s ≡ start net v - base
 
+-- each node of a range that the cells hold has its places in them
 pub lies : (net : FlowNet) (base first low high : ℕ) (c : Cells) (v : ℕ) → IsFlowNet net → RangeFits net base first low high c → low ≤ v → v < high → Lies net base first c v (v - first) (start net v - base)
 lies net base first low high c v ok fit lo hi =
     let from : start net low ≤ start net v = ok.rows low v lo (omega (arith, fit.within)) in
@@ -133,9 +138,11 @@ one_given net labels xs base first v s e a c row x y had ok fit es ee ea eh len 
 pub within_after : (net : FlowNet) (base first : ℕ) (a b : Cells) (v i s : ℕ) → SameSizes a b → Within net base first a v i s → Within net base first b v i s
 within_after net base first a b v i s same w = record { node = w.node; at = w.at; row = w.row; in_rows = omega (arith, same.residuals, w.in_rows); in_nodes = omega (arith, same.excess, w.in_nodes) }
 
+-- a node that is delivered and then kept is delivered
 pub given_then_kept : (net : FlowNet) (labels xs : List ℕ) (v i s : ℕ) (a b c : Cells) → NodeDelivered net labels xs v i s a b → NodeKept net v i s b c → NodeDelivered net labels xs v i s a c
 given_then_kept net labels xs v i s a b c g k = record { row = λ j l. k.row j l ∙ g.row j l; excess = k.excess ∙ g.excess; next = k.next ∙ g.next }
 
+-- a node that is kept and then delivered is delivered
 pub kept_then_given : (net : FlowNet) (labels xs : List ℕ) (v i s : ℕ) (a b c : Cells) → NodeKept net v i s a b → NodeDelivered net labels xs v i s b c → NodeDelivered net labels xs v i s a c
 kept_then_given net labels xs v i s a b c k g = record {
   row = λ j l. g.row j l ∙ ap (λ (z : ℕ). (z + back net xs v j) - own net xs v j) (k.row j l);
@@ -144,6 +151,7 @@ kept_then_given net labels xs v i s a b c k g = record {
       ∙ label_rows net labels xs v (slice_index a.excess i) (λ j. slice_index b.residuals (s + j)) (λ j. slice_index a.residuals (s + j)) k.row);
 }
 
+-- deliveries of two ranges end to end are one of both
 pub range_then : (net : FlowNet) (labels xs : List ℕ) (base first low mid high : ℕ) (a b c : Cells) → low ≤ mid → mid ≤ high
     → RangeDelivered net labels xs base first low mid a b → RangeDelivered net labels xs base first mid high b c → RangeDelivered net labels xs base first low high a c
 range_then net labels xs base first low mid high a b c lm mh p q = record {
@@ -159,6 +167,7 @@ range_then net labels xs base first low mid high a b c lm mh p q = record {
       record { row = λ j l. two.row j l ∙ one.row j l; excess = two.excess ∙ one.excess; next = two.next ∙ one.next };
 }
 
+-- after the nodes before it are delivered, the next node of a range can still be
 pub safe_after : (net : FlowNet) (labels xs : List ℕ) (base first low high mid : ℕ) (a b : Cells) → low ≤ mid → mid < high
     → RangeSafe net xs base first low high a → RangeDelivered net labels xs base first low mid a b → RangeSafe net xs base first mid (mid + 1) b
 safe_after net labels xs base first low high mid a b lm mh safe p = λ v i s w lo hi.

@@ -18,13 +18,17 @@ use Rattle.flow_part.proofs.NodeListLaws.{Added, added_here, extends_add, extend
 -- ---- the active nodes of a list
 
 pub record GathersActive (n : ℕ) (labels : List ℕ) (first : ℕ) (excess listed : List ℕ) (count : ℕ) (old new : NodeList) : Type 0 where
+  -- the list has grown, within the part's nodes
   pub extends : Extends first (first + length excess) old new
+  -- where it is complete, it has each active one of the first listed nodes
   pub active : new.complete ≡ true → (j : ℕ) → j < count → active_by n (slice_index listed j) (slice_index excess (slice_index listed j - first)) (slice_index labels (slice_index listed j)) ≡ true
       → IsListed new.nodes.items (slice_index listed j)
 
+-- of no nodes none is gathered
 pub active_none : (n : ℕ) (labels : List ℕ) (first : ℕ) (excess listed : List ℕ) (old : NodeList) → GathersActive n labels first excess listed 0 old old
 active_none n labels first excess listed old = record { extends = extends_self first (first + length excess) old; active = λ h j l. absurd (omega (arith, l)) }
 
+-- a node that is added is gathered
 pub active_on : (n : ℕ) (labels : List ℕ) (first : ℕ) (excess listed : List ℕ) (i v : ℕ) (old mid new : NodeList) → AreWithin first (first + length excess) listed → i < length listed → v ≡ slice_index listed i
     → Added v mid new → GathersActive n labels first excess listed i old mid → GathersActive n labels first excess listed (i + 1) old new
 active_on n labels first excess listed i v old mid new within hi ev added g =
@@ -37,6 +41,7 @@ active_on n labels first excess listed i v old mid new within hi ev added g =
       ];
     }
 
+-- a node that isn't active needs no gathering
 pub active_off : (n : ℕ) (labels : List ℕ) (first : ℕ) (excess listed : List ℕ) (i v had label : ℕ) (a : Bool) (old mid : NodeList) → v ≡ slice_index listed i → had ≡ slice_index excess (v - first) → label ≡ slice_index labels v
     → a ≡ active_by n v had label → a ≡ false → GathersActive n labels first excess listed i old mid → GathersActive n labels first excess listed (i + 1) old mid
 active_off n labels first excess listed i v had label a old mid ev eh el ea off g = record {
@@ -54,12 +59,16 @@ active_off n labels first excess listed i v had label a old mid ev eh el ea off 
 -- ---- the heads of a node's pushes
 
 pub record GathersHeads (net : FlowNet) (xs : List ℕ) (first end u count : ℕ) (old new : NodeList) : Type 0 where
+  -- the list has grown, within the range
   pub extends : Extends first end old new
+  -- where it is complete, the heads in the range of the first arcs over which u pushes are listed
   pub heads : new.complete ≡ true → (k : ℕ) → k < count → HeadListed net xs first end new.nodes.items u k
 
+-- of no arcs no head is gathered
 pub heads_none : (net : FlowNet) (xs : List ℕ) (first end u : ℕ) (old : NodeList) → GathersHeads net xs first end u 0 old old
 heads_none net xs first end u old = record { extends = extends_self first end old; heads = λ h k l. absurd (omega (arith, l)) }
 
+-- a head in the range that is added is gathered
 pub heads_on : (net : FlowNet) (xs : List ℕ) (first end u k w : ℕ) (old mid new : NodeList) → w ≡ head net u k → first ≤ w → w < end → Added w mid new
     → GathersHeads net xs first end u k old mid → GathersHeads net xs first end u (k + 1) old new
 heads_on net xs first end u k w old mid new ew lo hi added g =
@@ -87,6 +96,7 @@ heads_off net xs first end u k old mid none g = record {
 
 -- ---- the nodes of a list that push
 
+-- what is listed of a node's pushes stays listed in a list that grows
 pub pushes_kept : (net : FlowNet) (xs : List ℕ) (first end u : ℕ) (old new : NodeList) → Extends first end old new → new.complete ≡ true
     → PushesListed net xs first end old.nodes.items u → PushesListed net xs first end new.nodes.items u
 pushes_kept net xs first end u old new more h p = record {
@@ -95,12 +105,16 @@ pushes_kept net xs first end u old new more h p = record {
 }
 
 pub record GathersPushes (net : FlowNet) (xs : List ℕ) (first end : ℕ) (from : List ℕ) (count : ℕ) (old new : NodeList) : Type 0 where
+  -- the list has grown, within the range
   pub extends : Extends first end old new
+  -- where it is complete, it has the first nodes and those that they push to, as far as they lie in the range
   pub listed : new.complete ≡ true → (i : ℕ) → i < count → PushesListed net xs first end new.nodes.items (slice_index from i)
 
+-- of no nodes no push is gathered
 pub pushes_none : (net : FlowNet) (xs : List ℕ) (first end : ℕ) (from : List ℕ) (old : NodeList) → GathersPushes net xs first end from 0 old old
 pushes_none net xs first end from old = record { extends = extends_self first end old; listed = λ h i l. absurd (omega (arith, l)) }
 
+-- a node whose pushes are listed is gathered
 pub pushes_more : (net : FlowNet) (xs : List ℕ) (first end : ℕ) (from : List ℕ) (i u : ℕ) (old mid new : NodeList) → u ≡ slice_index from i → Extends first end mid new
     → (new.complete ≡ true → PushesListed net xs first end new.nodes.items u) → GathersPushes net xs first end from i old mid → GathersPushes net xs first end from (i + 1) old new
 pushes_more net xs first end from i u old mid new eu more here g = record {
@@ -114,11 +128,15 @@ pushes_more net xs first end from i u old mid new eu more here g = record {
 -- ---- all parts' lists
 
 pub record GathersParts (net : FlowNet) (all : List PushPart) (first end count : ℕ) (old new : NodeList) : Type 0 where
+  -- the list has grown, within the range
   pub extends : Extends first end old new
+  -- where it is complete, so are the lists of the first parts
   pub complete : new.complete ≡ true → (j : ℕ) (d : PushPart) → j < count → j < length all → (get_or all j d).pushing.complete ≡ true
+  -- where it is complete, it has the nodes of these and those that they push to, as far as they lie in the range
   pub listed : new.complete ≡ true → (j : ℕ) (d : PushPart) → j < count → j < length all → (i : ℕ) → i < length (get_or all j d).pushing.nodes.items
       → PushesListed net (values_of all) first end new.nodes.items (slice_index (get_or all j d).pushing.nodes.items i)
 
+-- of no parts no push is gathered
 pub parts_none : (net : FlowNet) (all : List PushPart) (first end : ℕ) (old : NodeList) → GathersParts net all first end 0 old old
 parts_none net all first end old = record {
   extends = extends_self first end old;
@@ -126,6 +144,7 @@ parts_none net all first end old = record {
   listed = λ h j d l. absurd (omega (arith, l));
 }
 
+-- a part of whose listed nodes all pushes are listed is gathered
 pub parts_more : (net : FlowNet) (all : List PushPart) (first end i : ℕ) (p : PushPart) (from : List ℕ) (old mid new : NodeList) → i < length all → p ≡ get_or all i p → p.pushing.complete ≡ true → from ≡ p.pushing.nodes.items
     → Extends first end mid new → (new.complete ≡ true → (k : ℕ) → k < length from → PushesListed net (values_of all) first end new.nodes.items (slice_index from k))
     → GathersParts net all first end i old mid → GathersParts net all first end (i + 1) old new
@@ -169,6 +188,7 @@ all_listed net all first end old new ok cut lists g h u k un kl some =
           | inr none ↦ absurd (omega (arith, some, value, none k kl))
         ]
 
+-- parts of the network's pushes list the nodes that push
 pub pushing_lists : (net : FlowNet) (all : List PushPart) → ArePushParts net 0 all → ListPushing net all
 pushing_lists net all cut i d h = (part_fits (PushPartFits net) (λ p. p.first) (λ p. p.end) (node_count net) 0 all cut i d h).lists
 
@@ -214,16 +234,26 @@ still_or_listed net labels xs first end list v excess next ok all vn lo hi off s
 
 -- the lists that `gather` makes, one from the other
 pub record Gathers (net : FlowNet) (labels xs : List ℕ) (q : FlowPart) (n : ℕ) (es listed : List ℕ) (a b c d : NodeList) : Type 0 where
+  -- the first list begins empty
   pub empty : a.nodes.items ≡ []
+  -- the second list extends it, within the part
   pub actives : Extends q.first (q.first + length es) a b
+  -- where the second is complete, it has each active one of the part's listed nodes
   pub active : b.complete ≡ true → (i : ℕ) → i < length listed → active_by n (slice_index listed i) (slice_index es (slice_index listed i - q.first)) (slice_index labels (slice_index listed i)) ≡ true → IsListed b.nodes.items (slice_index listed i)
+  -- the third list extends the second, within the part
   pub more : Extends q.first q.end b c
+  -- where the third is complete, it has each node of the part that pushes or is pushed to
   pub pushes : c.complete ≡ true → AllPushesListed net xs q.first q.end c.nodes.items
+  -- the fourth list is complete where the third is
   pub same : d.complete ≡ c.complete
+  -- the fourth list rises
   pub rising : IsRising d.nodes.items
+  -- the fourth list has each node that the third has
   pub kept : (v : ℕ) → IsListed c.nodes.items v → IsListed d.nodes.items v
+  -- the fourth list lies in each range in which the third does
   pub within : (first end : ℕ) → AreWithin first end c.nodes.items → AreWithin first end d.nodes.items
 
+-- a list that is gathered so, where it is complete, has each node of the part that isn't still
 pub covers_work : (net : FlowNet) (labels xs : List ℕ) (q : FlowPart) (n : ℕ) (es listed : List ℕ) (a b c d : NodeList) → IsFlowNet net → FlowPartFits net q → ListsActive (node_count net) labels q → q.active.complete ≡ true
     → n ≡ node_count net → es ≡ q.excess.items → listed ≡ q.active.nodes.items → Gathers net labels xs q n es listed a b c d → d.complete ≡ true
     → CoversWork net labels xs q.first q.end q.excess.items q.next.items d.nodes.items

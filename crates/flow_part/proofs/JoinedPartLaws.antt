@@ -6,15 +6,19 @@ use Rattle.flow_part.specs.Parts.{IsPiece, FlowPartFits, AreFlowParts, Within, p
 use Rattle.flow_part.proofs.PartsLeftLaws.{Rising, left_all, part_fits, whole_at}
 use Rattle.flow_part.proofs.PushPartLaws.{rising}
 
+-- places by node rise from 0 on
 pub by_node : (n : ℕ) → Rising (λ v. v) n
 by_node n = record { zeroed = refl; up = λ u v h k. h }
 
+-- a part holds the residuals of its nodes' rows
 pub res_piece : (net : FlowNet) (q : FlowPart) → FlowPartFits net q → IsPiece (λ p. p.first) (λ p. p.end) (λ p. p.residuals.items) (start net) (node_count net) q
 res_piece net q fit = record { ordered = fit.ordered; within = fit.within; sized = fit.sized }
 
+-- a part holds an excess for each of its nodes
 pub excess_piece : (net : FlowNet) (q : FlowPart) → FlowPartFits net q → IsPiece (λ p. p.first) (λ p. p.end) (λ p. p.excess.items) (λ v. v) (node_count net) q
 excess_piece net q fit = record { ordered = fit.ordered; within = fit.within; sized = fit.nodes }
 
+-- a part holds a new label for each of its nodes
 pub next_piece : (net : FlowNet) (q : FlowPart) → FlowPartFits net q → IsPiece (λ p. p.first) (λ p. p.end) (λ p. p.next.items) (λ v. v) (node_count net) q
 next_piece net q fit = record { ordered = fit.ordered; within = fit.within; sized = omega (arith, fit.nodes, fit.same) }
 
@@ -25,12 +29,18 @@ pick {P} (x ∷ xs) i h = x
 
 -- the row, the excess and the new label of node v, in the part that holds it and in the whole
 pub record AtPart (net : FlowNet) (qs : List FlowPart) (v : ℕ) (q : FlowPart) : Type 0 where
+  -- the part is one of the network's flow
   pub fit : FlowPartFits net q
+  -- the node and its row have their places in the part
   pub within : Within net q.base q.first (part_cells q) v (v - q.first) (start net v - q.base)
+  -- its row in the whole is its row in the part
   pub res : (j : ℕ) → j < row_len net v → slice_index (cells_of qs).residuals (start net v + j) ≡ slice_index q.residuals.items (start net v - q.base + j)
+  -- its excess in the whole is its excess in the part
   pub excess : slice_index (cells_of qs).excess v ≡ slice_index q.excess.items (v - q.first)
+  -- its new label in the whole is its new label in the part
   pub next : slice_index (cells_of qs).next v ≡ slice_index q.next.items (v - q.first)
 
+-- the part that holds a node has its row, excess and new label as the whole has them
 pub at_part : (net : FlowNet) (qs : List FlowPart) (v i : ℕ) (d : FlowPart) → IsFlowNet net → AreFlowParts net 0 qs → i < length qs → (get_or qs i d).first ≤ v → v < (get_or qs i d).end
     → AtPart net qs v (get_or qs i d)
 at_part net qs v i d ok cut h lo hi = record {

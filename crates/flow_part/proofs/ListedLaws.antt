@@ -12,9 +12,13 @@ use Rattle.flow_part.proofs.WalkLaws.{walks_none, walks_past, walks_more}
 
 -- the first nodes of the list lie below b, and no others
 pub record IsBound (first end : ℕ) (list : List ℕ) (count b : ℕ) : Type 0 where
+  -- the bound is no lower than the first node
   pub low : first ≤ b
+  -- the bound is no higher than the end
   pub high : b ≤ end
+  -- the first nodes of the list lie below it
   pub below : (j : ℕ) → j < count → slice_index list j < b
+  -- the other nodes of the list lie from it on
   pub above : (j : ℕ) → count ≤ j → j < length list → b ≤ slice_index list j
 
 -- the first nodes of the list were walked: the active nodes below each bound of them
@@ -36,6 +40,7 @@ off_between net labels c first end list count low high covers fl he below above 
       ])
 ]
 
+-- of no listed nodes none was walked
 pub first_none : (net : FlowNet) (labels : List ℕ) (base first end : ℕ) (c : Cells) (list xs : List ℕ) (pushing : NodeList) (walked : ℕ) → IsFlowNet net → base ≤ start net first → end ≤ node_count net → CoversActive net labels c first end list
     → RowsAreZero net base first end xs → pushing.nodes.items ≡ [] → walked ≡ 0 → WalksFirst net labels base first end c list 0 xs xs pushing walked
 first_none net labels base first end c list xs pushing walked ok from en covers none empty nil b is =
@@ -43,6 +48,7 @@ first_none net labels base first end c list xs pushing walked ok from en covers 
     (off_between net labels c first end list 0 first b covers (omega arith) is.high (λ j h. absurd (omega (arith, h))) is.above)
     (walks_none net labels base first c xs pushing walked empty nil)
 
+-- the next listed node, walked where it is active and left where it isn't, comes to those before it
 pub first_more : (net : FlowNet) (labels : List ℕ) (base first end v i : ℕ) (c : Cells) (list old mid new : List ℕ) (was now : NodeList) (before after : ℕ) → IsFlowNet net → base ≤ start net first → end ≤ node_count net → CoversActive net labels c first end list
     → RowsAreZero net base first end old → i < length list → v ≡ slice_index list i → WalksFirst net labels base first end c list i old mid was before
     → (cells_active net labels c v ≡ true → Walks net labels base v c mid new was now before after)
@@ -79,6 +85,7 @@ first_more net labels base first end v i c list old mid new was now before after
       | inr ge ↦ let same : slice_index list i ≡ slice_index list j = ap (slice_index list) (omega (arith, h, ge)) in omega (arith, ev, same)
     ]
 
+-- past the last listed node all active nodes of the range were walked
 pub first_all : (net : FlowNet) (labels : List ℕ) (base first end i : ℕ) (c : Cells) (list old new : List ℕ) (pushing : NodeList) (walked : ℕ) → first ≤ end → CoversActive net labels c first end list → length list ≤ i → i ≤ length list
     → WalksFirst net labels base first end c list i old new pushing walked → WalksActive net labels base first end c old new pushing walked
 first_all net labels base first end i c list old new pushing walked fe covers all few w = w end record {

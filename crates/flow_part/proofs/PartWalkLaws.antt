@@ -13,9 +13,11 @@ use Rattle.flow_part.proofs.ListedLaws.{WalksFirst, first_all, first_more, first
 use Rattle.flow_part.proofs.ReadRangeLaws.{read_none, read_then}
 use Rattle.flow_part.proofs.WalkLaws.{walks_none, walks_more}
 
+-- a part that has only got other pushes has its rows at the same base
 pub same_base : (p r : PushPart) → KeepsNodes p r → r.base ≡ p.base
 same_base p r same = ap (λ (q : PushPart). q.base) same
 
+-- a part that has twice only got other pushes has only got other pushes
 pub keeps_then : (p m r : PushPart) → KeepsNodes p m → KeepsNodes m r → KeepsNodes p r
 keeps_then p m r one two = two ∙ ap (λ (q : PushPart). record q { values = r.values; pushing = r.pushing; walked = r.walked }) one
 
@@ -30,14 +32,20 @@ has_row net v p r ok fit same sized lo hi = record {
 
 -- nothing but the pushes of a part has changed, its list isn't complete, and the nodes from low up to high were read and counted
 pub record PartReads (net : FlowNet) (labels : List ℕ) (low high : ℕ) (c : Cells) (old new : PushPart) : Type 0 where
+  -- nothing but the pushes, and what was noted of them, has changed
   pub same : KeepsNodes old new
+  -- its list isn't complete
   pub open_list : new.pushing.complete ≡ false
+  -- the rows of the range are what Read writes
   pub rows : RowsRead net labels old.base low high c old.values.items new.values.items
+  -- the rows walked were counted on by the active nodes of the range
   pub counted : IsCountedOn old.walked (active_from net labels c low high) new.walked
 
+-- over an empty range a part is read as it is, but for an incomplete list
 pub reads_none : (net : FlowNet) (labels : List ℕ) (low : ℕ) (c : Cells) (p : PushPart) (list : NodeList) → list.complete ≡ false → PartReads net labels low low c p (record p { pushing = list })
 reads_none net labels low c p list off = record { same = refl; open_list = off; rows = read_none net labels p.base low c p.values.items; counted = omega arith }
 
+-- with the next node read and counted, the range has one node more
 pub reads_more : (net : FlowNet) (labels : List ℕ) (low v : ℕ) (c : Cells) (p m : PushPart) (was ws : List ℕ) (walked : ℕ) → IsFlowNet net → PushPartFits net p → p.first ≤ low → low ≤ v → v < p.end
     → PartReads net labels low v c p m → was ≡ m.values.items → length ws ≡ m.values.len → RowsRead net labels m.base v (v + 1) c was ws
     → IsCountedOn m.walked (active_from net labels c v (v + 1)) walked → PartReads net labels low (v + 1) c p (record m { values = with_items m.values ws; walked = walked })
@@ -52,6 +60,7 @@ reads_more net labels low v c p m was ws walked ok fit fl lv ve w ew len row cou
     put : RowsRead net labels m.base v (v + 1) c m.values.items (with_items m.values ws).items
     put = subst (λ (xs : List ℕ). RowsRead net labels m.base v (v + 1) c m.values.items xs) (sym (with_items_is m.values ws len)) (subst (λ (xs : List ℕ). RowsRead net labels m.base v (v + 1) c xs ws) ew row)
 
+-- a part read over what it has of a range is read over the range
 pub part_read : (net : FlowNet) (labels : List ℕ) (first end low high : ℕ) (c : Cells) (p r : PushPart) → IsFlowNet net → PushPartFits net p → low ≡ max first p.first → high ≡ min end p.end → low < high
     → PartReads net labels low high c p r → PartReadOn net labels first end c p r
 part_read net labels first end low high c p r ok fit el eh some w = record {
@@ -81,9 +90,12 @@ part_read net labels first end low high c p r ok fit el eh some w = record {
 
 -- from rows of 0s the active nodes of a part below `high` were walked
 pub record PartWalked (net : FlowNet) (labels : List ℕ) (c : Cells) (high : ℕ) (old new : PushPart) : Type 0 where
+  -- nothing but the pushes, and what was noted of them, has changed
   pub same : KeepsNodes old new
+  -- from rows of 0s the active nodes of the range were walked
   pub active : WalksActive net labels old.base old.first high c old.values.items new.values.items new.pushing new.walked
 
+-- before the first node of a part none was walked
 pub walked_none : (net : FlowNet) (labels : List ℕ) (c : Cells) (p : PushPart) (list : NodeList) → list.nodes.items ≡ [] → PartWalked net labels c p.first p (record p { pushing = list; walked = 0 })
 walked_none net labels c p list empty = record { same = refl; active = walks_none net labels p.base p.first c p.values.items list 0 empty refl }
 
@@ -94,6 +106,7 @@ at_base net labels c v p m r same w = subst (λ (b : ℕ). Walks net labels b v 
 as_it_was : (m r : PushPart) → r ≡ m → (r.values.items ≡ m.values.items) × ((r.pushing ≡ m.pushing) × (r.walked ≡ m.walked))
 as_it_was m r e = (ap (λ (q : PushPart). q.values.items) e, (ap (λ (q : PushPart). q.pushing) e, ap (λ (q : PushPart). q.walked) e))
 
+-- the next node, walked where it is active and left where it isn't, comes to those before it
 pub walked_more : (net : FlowNet) (labels : List ℕ) (c : Cells) (v : ℕ) (p m r : PushPart) → IsFlowNet net → PushPartFits net p → HoldsZeros net p → p.first ≤ v → v < p.end
     → PartWalked net labels c v p m → KeepsNodes m r → (cells_active net labels c v ≡ true → PartWalks net labels v c m r) → (cells_active net labels c v ≡ false → r ≡ m)
     → PartWalked net labels c (v + 1) p r
@@ -107,10 +120,14 @@ walked_more net labels c v p m r ok fit zero lo hi w same on off = record {
 
 -- from rows of 0s the first nodes of a list were walked
 pub record PartListed (net : FlowNet) (labels : List ℕ) (c : Cells) (list : List ℕ) (count : ℕ) (old new : PushPart) : Type 0 where
+  -- nothing but the pushes, and what was noted of them, has changed
   pub same : KeepsNodes old new
+  -- there are as many pushes
   pub sized : length new.values.items ≡ length old.values.items
+  -- the first nodes of the list were walked
   pub first : WalksFirst net labels old.base old.first old.end c list count old.values.items new.values.items new.pushing new.walked
 
+-- before the first node of the list none was walked
 pub listed_none : (net : FlowNet) (labels : List ℕ) (c : Cells) (list : List ℕ) (p : PushPart) (pushing : NodeList) → IsFlowNet net → PushPartFits net p → CoversActive net labels c p.first p.end list
     → HoldsZeros net p → pushing.nodes.items ≡ [] → PartListed net labels c list 0 p (record p { pushing = pushing; walked = 0 })
 listed_none net labels c list p pushing ok fit covers zero empty = record {
@@ -119,6 +136,7 @@ listed_none net labels c list p pushing ok fit covers zero empty = record {
   first = first_none net labels p.base p.first p.end c list p.values.items pushing 0 ok (omega (arith, fit.based)) fit.within covers zero empty refl;
 }
 
+-- the next listed node, walked where it is active and left where it isn't, comes to those before it
 pub listed_more : (net : FlowNet) (labels : List ℕ) (c : Cells) (list : List ℕ) (i v : ℕ) (p m r : PushPart) → IsFlowNet net → PushPartFits net p → CoversActive net labels c p.first p.end list → HoldsZeros net p
     → i < length list → v ≡ slice_index list i → PartListed net labels c list i p m → KeepsNodes m r
     → (cells_active net labels c v ≡ true → PartWalks net labels v c m r) → (cells_active net labels c v ≡ false → r ≡ m) → PartListed net labels c list (i + 1) p r
@@ -132,6 +150,7 @@ listed_more net labels c list i v p m r ok fit covers zero il ev w same on off =
       (λ a. at_base net labels c v p m r w.same (on a)) (λ n. as_it_was m r (off n));
 }
 
+-- past the last listed node all active nodes of the part were walked
 pub listed_all : (net : FlowNet) (labels : List ℕ) (c : Cells) (list : List ℕ) (i : ℕ) (p r : PushPart) → PushPartFits net p → CoversActive net labels c p.first p.end list → length list ≤ i → i ≤ length list
     → PartListed net labels c list i p r → PartWalked net labels c p.end p r
 listed_all net labels c list i p r fit covers all few w = record {

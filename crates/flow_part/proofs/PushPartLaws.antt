@@ -5,18 +5,24 @@ use Rattle.flow_part.specs.declared.parts.PushPart.{PushPart}
 use Rattle.flow_part.specs.Parts.{IsPiece, PushPartFits, ArePushParts, values_of}
 use Rattle.flow_part.proofs.PartsLeftLaws.{Rising, Left, left_all, left_more, left_here, left_at}
 
+-- the first arcs of the nodes' rows rise from 0 on
 pub rising : (net : FlowNet) → IsFlowNet net → Rising (start net) (node_count net)
 rising net ok = record { zeroed = ok.first; up = ok.rows }
 
+-- a part holds the pushes over its nodes' rows
 pub push_piece : (net : FlowNet) (p : PushPart) → PushPartFits net p → IsPiece (λ q. q.first) (λ q. q.end) (λ q. q.values.items) (start net) (node_count net) p
 push_piece net p fit = record { ordered = fit.ordered; within = fit.within; sized = fit.sized }
 
 -- the parts that are left hold the rows from a node on that isn't above w
 pub record Ahead (net : FlowNet) (w : ℕ) (all rest : List PushPart) : Type 0 where
+  -- the node at which the parts that are left begin
   pub from : ℕ
+  -- it isn't above w
   pub reached : from ≤ w
+  -- these parts hold the rows of the nodes from there on
   pub left : Left (PushPartFits net) (λ q. q.first) (λ q. q.end) (λ q. q.values.items) (start net) (node_count net) from all rest
 
+-- before the first part all rows are ahead
 pub ahead_all : (net : FlowNet) (w : ℕ) (all : List PushPart) → IsFlowNet net → ArePushParts net 0 all → Ahead net w all all
 ahead_all net w all ok cut = record {
   from = 0;
@@ -26,14 +32,18 @@ ahead_all net w all ok cut = record {
 
 -- the part holds the row of node w
 pub record Here (net : FlowNet) (w : ℕ) (all : List PushPart) (p : PushPart) : Type 0 where
+  -- the row begins after the part's base
   pub after : p.base ≤ start net w
+  -- it ends before the part's values do
   pub before : start net (w + 1) ≤ p.base + length p.values.items
+  -- each push of the row is at its place in the part
   pub value : (arc : ℕ) → start net w ≤ arc → arc < start net (w + 1) → slice_index (values_of all) arc ≡ slice_index p.values.items (arc - p.base)
 
 at_index : (net : FlowNet) (w : ℕ) (all : List PushPart) (i : ℕ) (p : PushPart) → i < length all → p ≡ get_or all i p
     → Ahead net w all (drop i all) → Ahead net w all (p ∷ drop (i + 1) all)
 at_index net w all i p h e a = subst (λ (rest : List PushPart). Ahead net w all rest) (left_at all i p h e) a
 
+-- past a part that ends at w or before it, w's row is still ahead
 pub ahead_more : (net : FlowNet) (w : ℕ) (all : List PushPart) (i : ℕ) (p : PushPart) → IsFlowNet net → i < length all → p ≡ get_or all i p
     → p.end ≤ w → Ahead net w all (drop i all) → Ahead net w all (drop (i + 1) all)
 ahead_more net w all i p ok h e over a =
@@ -44,6 +54,7 @@ ahead_more net w all i p ok h e over a =
       left = left_more (PushPartFits net) (λ q. q.first) (λ q. q.end) (λ q. q.values.items) (start net) (node_count net) b.from all p (drop (i + 1) all) (rising net ok) (push_piece net) b.left;
     }
 
+-- the first part that ends after w holds its row
 pub here_at : (net : FlowNet) (w : ℕ) (all : List PushPart) (i : ℕ) (p : PushPart) → IsFlowNet net → w < node_count net → i < length all → p ≡ get_or all i p
     → w < p.end → Ahead net w all (drop i all) → Here net w all p
 here_at net w all i p ok wn h e under a0 =

@@ -7,6 +7,7 @@ use Rattle.flow_part.specs.Delivering.{own}
 use Rattle.flow_part.proofs.PushPartLaws.{Here}
 use Rattle.flow_part.proofs.RowSliceLaws.{cut_len, cut_at}
 
+-- the slice of a part's values at a node's row is as long as the row
 pub row_len_here : (net : FlowNet) (v : ℕ) (all : List PushPart) (p : PushPart) (at next : ℕ) (xs : List ℕ) → IsFlowNet net → v < node_count net
     → at ≡ start net v → next ≡ start net (v + 1) → xs ≡ p.values.items → Here net v all p
     → length (take (next - p.base - (at - p.base)) (drop (at - p.base) xs)) ≡ row_len net v
@@ -14,6 +15,7 @@ row_len_here net v all p at next xs ok vn ea en ex h =
     cut_len xs (at - p.base) (next - p.base - (at - p.base)) (omega (arith, ap length ex, h.before, h.after, ok.rows v (v + 1) (omega arith) (omega arith)))
     ∙ (let e : next - p.base - (at - p.base) ≡ row_len net v = omega (arith, h.after) in e)
 
+-- the slice of a part's values at a node's row has the pushes of the row
 pub row_here : (net : FlowNet) (v : ℕ) (all : List PushPart) (p : PushPart) (at next : ℕ) (xs : List ℕ) → IsFlowNet net → v < node_count net
     → at ≡ start net v → next ≡ start net (v + 1) → xs ≡ p.values.items → Here net v all p
     → (k : ℕ) → k < row_len net v → slice_index (take (next - p.base - (at - p.base)) (drop (at - p.base) xs)) k ≡ own net (values_of all) v k

@@ -55,6 +55,7 @@ row_size net v s e c q rs ok vn es ee here ers =
     cut_len rs (s - q.base) (e - q.base - (s - q.base)) (omega (arith, ap length ers, here.in_arcs, here.from, up))
     ∙ (let p : e - q.base - (s - q.base) ≡ row_len net v = omega (arith, here.from) in p)
 
+-- over an empty range rows are read as they are
 pub read_none : (net : FlowNet) (labels : List ℕ) (base low : ℕ) (c : Cells) (xs : List ℕ) → RowsRead net labels base low low c xs xs
 read_none net labels base low c xs = record { same = refl; done = λ v k lo hi l. absurd (omega arith); kept = λ x out. refl }
 

@@ -22,12 +22,18 @@ same_place net u i j ok un il jl e = elim (cases_lt i j) [
 
 -- the mate of u's arc to v is v's arc to u, and leads back
 pub record Meets (net : FlowNet) (u v j : ℕ) : Type 0 where
+  -- the place of v's arc to u in its row
   pub place : ℕ
+  -- it is within the row
   pub inside : place < row_len net v
+  -- the mate of u's arc is the arc at this place
   pub arc : mate net u j ≡ start net v + place
+  -- its head is u
   pub sender : head net v place ≡ u
+  -- its mate is u's arc
   pub leads : mate net v place ≡ start net u + j
 
+-- an arc of u to v has a mate in v's row, which leads back
 pub meets_at : (net : FlowNet) (u v j : ℕ) → IsFlowNet net → u < node_count net → v < node_count net → j < row_len net u → head net u j ≡ v → Meets net u v j
 meets_at net u v j ok un vn jl e =
     let m : HasMate net u j = ok.meets u j un jl in
@@ -55,6 +61,7 @@ meets_row net u v j heads ok un vn jl len each there = meets_at net u v j ok un 
 pub push_back : (net : FlowNet) (xs : List ℕ) (u v j push : ℕ) → (m : Meets net u v j) → push ≡ own net xs u j → push ≡ back net xs v m.place
 push_back net xs u v j push m e = e ∙ ap (slice_index xs) (sym m.leads)
 
+-- adding what u pushes to the residual of v's arc to u makes v receive it
 pub receives_push : (net : FlowNet) (xs : List ℕ) (u v j at push : ℕ) (old new : List ℕ) → (m : Meets net u v j) → push ≡ own net xs u j → at ≡ m.place → at < length old
     → new ≡ slice_set old at (slice_index old at + push) → Receives net xs u v old new push
 receives_push net xs u v j at push old new m ep ea la en = inl record {
@@ -66,6 +73,7 @@ receives_push net xs u v j at push old new m ep ea la en = inl record {
   others = λ k ne. ap (λ (ys : List ℕ). slice_index ys k) en ∙ get_or-set_other old at k (slice_index old at + push) 0 (λ (e : k ≡ at). ne (e ∙ ea));
 }
 
+-- where u has no arc to v, v receives nothing from it
 pub receives_nothing : (net : FlowNet) (xs : List ℕ) (u v : ℕ) (ys : List ℕ) → IsFlowNet net → v < node_count net → ((j : ℕ) → j < row_len net u → head net u j ≡ v → ⊥)
     → Receives net xs u v ys ys 0
 receives_nothing net xs u v ys ok vn none = inr record {
@@ -81,12 +89,19 @@ receives_nothing net xs u v ys ok vn none = inr record {
 -- The first `from` arcs of v's row have been given what comes in over them, by a visit of the first i listed nodes; what comes in
 -- over the others is pushed by the listed nodes that are left.
 pub record Adds (net : FlowNet) (xs : List ℕ) (list : List ℕ) (v i : ℕ) (old row : List ℕ) (inflow : ℕ) : Type 0 where
+  -- the arc of v's row from which on nothing was added yet
   pub from : ℕ
+  -- it is within the row, or at its end
   pub in_row : from ≤ row_len net v
+  -- the arcs before it have got what comes in over them
   pub done : (j : ℕ) → j < from → slice_index row j ≡ slice_index old j + back net xs v j
+  -- the arcs from it on are as they were
   pub rest : (j : ℕ) → from ≤ j → slice_index row j ≡ slice_index old j
+  -- the inflow is what comes in over the arcs before it
   pub sum : inflow ≡ sum_below from (back net xs v)
+  -- the heads of the arcs before it are below the listed nodes that are left
   pub passed : (j h : ℕ) → j < from → i ≤ h → h < length list → head net v j < slice_index list h
+  -- a node that pushes over an arc from it on is among the listed nodes that are left
   pub ahead : (j : ℕ) → from ≤ j → j < row_len net v → 0 < back net xs v j → (h : ℕ) × ((i ≤ h) × ((h < length list) × (slice_index list h ≡ head net v j)))
 
 -- nodes that push to v are listed
@@ -184,6 +199,7 @@ adds_nothing net xs list v i old mid new inflow push r a = record {
       ];
 }
 
+-- the next listed node, once v has received what it pushes, was visited
 pub adds_more : (net : FlowNet) (xs list : List ℕ) (v i u : ℕ) (old mid new : List ℕ) (inflow push : ℕ) → IsFlowNet net → v < node_count net → IsRising list → i < length list → u ≡ slice_index list i
     → Receives net xs u v mid new push → Adds net xs list v i old mid inflow → Adds net xs list v (i + 1) old new (inflow + push)
 adds_more net xs list v i u old mid new inflow push ok vn up hi eu r a = elim (subst (λ (w : ℕ). Receives net xs w v mid new push) eu r) [
@@ -206,11 +222,13 @@ quiet_end net xs list v old row inflow a j lo hi = elim (cases_lt 0 (back net xs
   | inr none ↦ omega (arith, none)
 ]
 
+-- past the last listed node the inflow is what comes in over the whole row
 pub adds_inflow : (net : FlowNet) (xs list : List ℕ) (v i : ℕ) (old row : List ℕ) (inflow : ℕ) → i ≡ length list → Adds net xs list v i old row inflow → inflow ≡ row_inflow net xs v
 adds_inflow net xs list v i old row inflow e b =
     let a : Adds net xs list v (length list) old row inflow = subst (λ (m : ℕ). Adds net xs list v m old row inflow) e b in
     a.sum ∙ sym (sum_flat a.from (row_len net v) (back net xs v) a.in_row (quiet_end net xs list v old row inflow a))
 
+-- past the last listed node each arc of the row has got what comes in over it
 pub adds_row : (net : FlowNet) (xs list : List ℕ) (v i : ℕ) (old row : List ℕ) (inflow : ℕ) → i ≡ length list → Adds net xs list v i old row inflow
     → (k : ℕ) → k < row_len net v → slice_index row k ≡ slice_index old k + back net xs v k
 adds_row net xs list v i old row inflow e b k kl =
@@ -222,6 +240,7 @@ adds_row net xs list v i old row inflow e b k kl =
 
 -- ---- a list that rises
 
+-- nodes that rise up to a place, and where that one is above the one before, rise up to the next place
 pub rising_more : (list : List ℕ) (i : ℕ) → (0 < i → slice_index list (i - 1) < slice_index list i) → ((a b : ℕ) → a < b → b < i → slice_index list a < slice_index list b)
     → (a b : ℕ) → a < b → b < i + 1 → slice_index list a < slice_index list b
 rising_more list i last up a b ab bi = elim (cases_lt b i) [

@@ -25,20 +25,24 @@ before ps zero = 0
 before [] (suc i) = 0
 before (p ∷ ps) (suc i) = length p.pushing.nodes.items + before ps i
 
+-- before the nodes of the next part stand those of this one too
 pub before_more : (ps : List PushPart) (i : ℕ) (d : PushPart) → i < length ps → before ps (suc i) ≡ before ps i + length (get_or ps i d).pushing.nodes.items
 before_more [] i d h = absurd (omega arith)
 before_more (p ∷ ps) zero d h = omega arith
 before_more (p ∷ ps) (suc i) d h = omega (arith, before_more ps i d (omega arith))
 
+-- before the end stand the nodes of all parts
 pub before_all : (ps : List PushPart) → before ps (length ps) ≡ length (pushers ps)
 before_all [] = refl
 before_all (p ∷ ps) = omega (arith, before_all ps, length-append p.pushing.nodes.items (pushers ps))
 
+-- the place of a part's listed node is within the whole list
 pub before_in : (ps : List PushPart) (i j : ℕ) (d : PushPart) → i < length ps → j < length (get_or ps i d).pushing.nodes.items → before ps i + j < length (pushers ps)
 before_in [] i j d h l = absurd (omega arith)
 before_in (p ∷ ps) zero j d h l = omega (arith, l, length-append p.pushing.nodes.items (pushers ps))
 before_in (p ∷ ps) (suc i) j d h l = omega (arith, before_in ps i j d (omega arith) l, length-append p.pushing.nodes.items (pushers ps))
 
+-- a part's listed node stands in the whole list at its place after those of the parts before
 pub at_before : (ps : List PushPart) (i j : ℕ) (d : PushPart) → i < length ps → j < length (get_or ps i d).pushing.nodes.items
     → slice_index (pushers ps) (before ps i + j) ≡ slice_index (get_or ps i d).pushing.nodes.items j
 at_before [] i j d h l = absurd (omega arith)
@@ -50,7 +54,9 @@ at_before (p ∷ ps) (suc i) j d h l =
 -- ---- they rise
 
 pub record Rise (v : ℕ) (list : List ℕ) : Type 0 where
+  -- the list rises
   pub up : IsRising list
+  -- each of it is v or above it
   pub from : (i : ℕ) → i < length list → v ≤ slice_index list i
 
 rise_append : (v m : ℕ) (xs ys : List ℕ) → IsRising xs → ((i : ℕ) → i < length xs → (v ≤ slice_index xs i) × (slice_index xs i < m)) → v ≤ m → Rise m ys → Rise v (xs ++ ys)
@@ -85,6 +91,7 @@ all_rise net v (p ∷ ps) cut order =
     (λ i h. let w = fit.lists.within here.0 i h in (omega (arith, w.0, cut.0), w.1))
     (omega (arith, fit.ordered, cut.0)) (all_rise net p.end ps cut.1.1 (λ i d h. order (suc i) d (omega arith)))
 
+-- the nodes that push, part by part, rise
 pub pushers_rise : (net : FlowNet) (ps : List PushPart) → ArePushParts net 0 ps → ListInOrder ps → IsRising (pushers ps)
 pushers_rise net ps cut order = (all_rise net 0 ps cut order).up
 
@@ -116,6 +123,7 @@ part_listed net all i d ok cut h done u k lo hi un kl some = elim (fit.lists.res
         (left_all (PushPartFits net) (λ q. q.first) (λ q. q.end) (λ q. q.values.items) (start net) (node_count net) all (rising net ok) cut) i d h (start net u + k) (omega (arith, low)) (omega (arith, top, kl, up))
         ∙ ap (slice_index (get_or all i d).values.items) (let e : start net u + k - start net (get_or all i d).first ≡ start net u + k - (get_or all i d).base = omega (arith, fit.based) in e)
 
+-- each node that pushes is in the list of all parts
 pub pushers_listed : (net : FlowNet) (all : List PushPart) → IsFlowNet net → ArePushParts net 0 all → ListInOrder all → ListsSenders net (values_of all) (pushers all)
 pushers_listed net all ok cut order u k un kl some =
     let at : Holds (λ p. p.first) (λ p. p.end) all u = find_part (PushPartFits net) (λ p. p.first) (λ p. p.end) (node_count net) 0 all cut u (omega arith) un in
@@ -141,6 +149,7 @@ pusher_next ps i j u p list hi ep el hj eu =
     let l : j < length (get_or ps i p).pushing.nodes.items = subst (λ (xs : List ℕ). j < length xs) same hj in
     (before_in ps i j p hi l, eu ∙ (ap (λ (xs : List ℕ). slice_index xs j) same ∙ sym (at_before ps i j p hi l)))
 
+-- past a part's last listed node the next part's begin
 pub pusher_part : (ps : List PushPart) (i : ℕ) (p : PushPart) (list : List ℕ) → i < length ps → p ≡ get_or ps i p → list ≡ p.pushing.nodes.items → before ps i + length list ≡ before ps (i + 1)
 pusher_part ps i p list hi ep el =
     let next : before ps (i + 1) ≡ before ps (suc i) = ap (before ps) (let e : i + 1 ≡ suc i = omega arith in e) in

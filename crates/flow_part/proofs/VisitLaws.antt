@@ -48,13 +48,20 @@ still_kept net labels xs v i s a b k still =
 
 -- the nodes below a bound were delivered, and those at the first places of the list lie below it, the others from it on
 pub record Visited (net : FlowNet) (labels xs : List ℕ) (base first end : ℕ) (list : List ℕ) (count : ℕ) (a b : Cells) : Type 0 where
+  -- the bound
   pub bound : ℕ
+  -- it is no lower than the first node
   pub low : first ≤ bound
+  -- it is no higher than the end
   pub high : bound ≤ end
+  -- the nodes below it were delivered
   pub done : RangeDelivered net labels xs base first first bound a b
+  -- the listed nodes that were visited lie below it
   pub behind : (j : ℕ) → j < count → j < length list → slice_index list j < bound
+  -- the listed nodes that are left lie from it on
   pub ahead : (j : ℕ) → count ≤ j → j < length list → bound ≤ slice_index list j
 
+-- before the first listed node none was visited
 pub visited_none : (net : FlowNet) (labels xs : List ℕ) (base first end : ℕ) (list : List ℕ) (a : Cells) → first ≤ end → AreWithin first end list → Visited net labels xs base first end list 0 a a
 visited_none net labels xs base first end list a ordered within = record {
   bound = first;
@@ -77,6 +84,7 @@ reach net labels xs base first end list count m a b ok fit work t bm me none =
           (t.done.kept v (v - first) (start net v - base) (lies net base first first end a v ok fit (omega (arith, t.low, lo)) (omega (arith, hi, me))).inside (inr lo)) still
     ]))
 
+-- up to the next listed node all nodes were delivered, those that aren't listed by having nothing to do
 pub next_at : (net : FlowNet) (labels xs : List ℕ) (base first end : ℕ) (list : List ℕ) (i v : ℕ) (a b : Cells) → IsFlowNet net → RangeFits net base first first end a → CoversWork net labels xs first end a.excess a.next list
     → i < length list → v ≡ slice_index list i → Visited net labels xs base first end list i a b → RangeDelivered net labels xs base first first v a b
 next_at net labels xs base first end list i v a b ok fit work hi ev t =
@@ -89,6 +97,7 @@ next_at net labels xs base first end list i v a b ok fit work hi ev t =
       ]
     ])
 
+-- the next listed node that is delivered was visited
 pub visit_more : (net : FlowNet) (labels xs : List ℕ) (base first end : ℕ) (list : List ℕ) (i v : ℕ) (a b c : Cells) → IsFlowNet net → RangeFits net base first first end a → CoversWork net labels xs first end a.excess a.next list
     → i < length list → v ≡ slice_index list i → Visited net labels xs base first end list i a b → RangeDelivered net labels xs base first v (v + 1) b c → Visited net labels xs base first end list (i + 1) a c
 visit_more net labels xs base first end list i v a b c ok fit work hi ev t d = record {
@@ -103,6 +112,7 @@ visit_more net labels xs base first end list i v a b c ok fit work hi ev t d = r
   ahead = λ j h l. omega (arith, work.rising i j (omega (arith, h)) l, ev);
 }
 
+-- past the last listed node all nodes of the range were delivered
 pub visited_all : (net : FlowNet) (labels xs : List ℕ) (base first end : ℕ) (list : List ℕ) (count : ℕ) (a b : Cells) → IsFlowNet net → RangeFits net base first first end a → CoversWork net labels xs first end a.excess a.next list
     → count ≡ length list → Visited net labels xs base first end list count a b → RangeDelivered net labels xs base first first end a b
 visited_all net labels xs base first end list count a b ok fit work all t =
@@ -110,6 +120,7 @@ visited_all net labels xs base first end list count a b ok fit work all t =
 
 -- ---- the list after the visits
 
+-- after the visits the list has each node that is active, or whose label changes
 pub turning_after : (net : FlowNet) (labels xs : List ℕ) (base first end : ℕ) (list : List ℕ) (a b : Cells) → IsFlowNet net → RangeFits net base first first end a → CoversWork net labels xs first end a.excess a.next list
     → RangeDelivered net labels xs base first first end a b → HasTurning (node_count net) labels first end b.excess b.next list
 turning_after net labels xs base first end list a b ok fit work d = record {
@@ -128,11 +139,15 @@ turning_after net labels xs base first end list a b ok fit work d = record {
 -- ---- a list made anew
 
 pub record ListsFirst (n : ℕ) (labels : List ℕ) (first : ℕ) (excess next : List ℕ) (count : ℕ) (list : List ℕ) : Type 0 where
+  -- the list lies within the first nodes
   pub within : AreWithin first (first + count) list
+  -- it rises
   pub rising : IsRising list
+  -- each of the first nodes is listed, or isn't active and keeps its label
   pub rest : (v : ℕ) → first ≤ v → v < first + count → IsListed list v
       ⊎ ((active_by n v (slice_index excess (v - first)) (slice_index labels v) ≡ false) × (slice_index next (v - first) ≡ slice_index labels v))
 
+-- of no nodes none is listed
 pub first_none : (n : ℕ) (labels : List ℕ) (first : ℕ) (excess next : List ℕ) (list : List ℕ) → list ≡ [] → ListsFirst n labels first excess next 0 list
 first_none n labels first excess next list e = subst (λ (ys : List ℕ). ListsFirst n labels first excess next 0 ys) (sym e) record {
   within = λ i h. absurd (omega (arith, h));
@@ -152,6 +167,7 @@ rising_more list v below rising i j lt h = elim (places list v j h) [
   ]
 ]
 
+-- a node that is added at the end is listed
 pub first_on : (n : ℕ) (labels : List ℕ) (first : ℕ) (excess next : List ℕ) (i v : ℕ) (old new : List ℕ) → v ≡ first + i → new ≡ old ++ (v ∷ []) → ListsFirst n labels first excess next i old → ListsFirst n labels first excess next (i + 1) new
 first_on n labels first excess next i v old new ev en l = subst (λ (ys : List ℕ). ListsFirst n labels first excess next (i + 1) ys) (sym en) record {
   within = within_more first (first + (i + 1)) v old (omega (arith, ev)) (omega (arith, ev)) (λ j h. ((l.within j h).0, omega (arith, (l.within j h).1)));
@@ -162,6 +178,7 @@ first_on n labels first excess next i v old new ev en l = subst (λ (ys : List �
   ];
 }
 
+-- a node that isn't active and keeps its label needs no listing
 pub first_off : (n : ℕ) (labels : List ℕ) (first : ℕ) (excess next : List ℕ) (i v : ℕ) (list : List ℕ) → v ≡ first + i → active_by n v (slice_index excess i) (slice_index labels v) ≡ false → slice_index next i ≡ slice_index labels v
     → ListsFirst n labels first excess next i list → ListsFirst n labels first excess next (i + 1) list
 first_off n labels first excess next i v list ev off same l = record {
@@ -179,6 +196,7 @@ first_off n labels first excess next i v list ev off same l = record {
   ];
 }
 
+-- past the last node the list has each node that is active, or whose label changes
 pub first_all : (n : ℕ) (labels : List ℕ) (first : ℕ) (excess next : List ℕ) (count : ℕ) (list : List ℕ) → count ≡ length excess → ListsFirst n labels first excess next count list
     → HasTurning n labels first (first + length excess) excess next list
 first_all n labels first excess next count list e l0 =

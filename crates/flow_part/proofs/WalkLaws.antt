@@ -50,9 +50,11 @@ cond_one : (b : Bool) → cond b 1 0 ≤ 1
 cond_one true = omega arith
 cond_one false = omega arith
 
+-- of the nodes below v at most v are active
 pub active_few : (net : FlowNet) (labels : List ℕ) (c : Cells) (v : ℕ) → active_below net labels c v ≤ v
 active_few net labels c v = omega (arith, sum_below-le_const v 1 (λ u. cond (cells_active net labels c u) 1 0) (λ u h. cond_one (cells_active net labels c u)))
 
+-- an active node adds one to the number of active nodes below the next
 pub active_on : (net : FlowNet) (labels : List ℕ) (c : Cells) (v : ℕ) → cells_active net labels c v ≡ true → active_below net labels c (v + 1) ≡ active_below net labels c v + 1
 active_on net labels c v on =
     let e : v + 1 ≡ suc v = omega arith in
@@ -71,6 +73,7 @@ active_flat net labels c low (suc high) up off = elim (cases_lt high low) [
 
 -- ---- a walk over rising nodes
 
+-- over an empty range no node is walked
 pub walks_none : (net : FlowNet) (labels : List ℕ) (base first : ℕ) (c : Cells) (xs : List ℕ) (list : NodeList) (walked : ℕ) → list.nodes.items ≡ [] → walked ≡ 0
     → WalksActive net labels base first first c xs xs list walked
 walks_none net labels base first c xs list walked empty none = record {

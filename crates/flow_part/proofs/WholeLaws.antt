@@ -47,10 +47,12 @@ cleared_fits net p r fit cl = record {
   lists = cl.lists;
 }
 
+-- all rows of a cleared part are 0s
 pub zero_lists : (net : FlowNet) (p r : PushPart) → PushPartFits net p → PartCleared net p r → RowsAreZero net r.base r.first r.end r.values.items
 zero_lists net p r fit cl = λ v k lo hi l.
     subst (λ (b : ℕ). slice_index r.values.items (start net v + k - b) ≡ 0) (sym cl.same_base) (cl.zero v k (omega (arith, lo, cl.same_first)) (omega (arith, hi, cl.same_end)) l)
 
+-- a part that is cleared and then read whole was read whole
 pub whole_after : (net : FlowNet) (labels : List ℕ) (c : Cells) (p q r : PushPart) → PushPartFits net p → PartCleared net p q → WholeRead net labels c q r → WholeRead net labels c p r
 whole_after net labels c p q r fit cl w = record {
   is_read = record {

@@ -13,6 +13,7 @@ use Rattle.flow_part.proofs.PartsLeftLaws.{Left, left_all, left_more, left_here,
 use Rattle.flow_part.proofs.JoinedPartLaws.{by_node, excess_piece}
 use Rattle.flow_whole.proofs.AgreeingStateLaws.{active_same, potential_same}
 
+-- where a number below n passes, some number below n does
 pub any_from : (n : ℕ) (p : ℕ → Bool) (v : ℕ) → v < n → p v ≡ true → any_below n p ≡ true
 any_from zero p v h e = absurd (omega arith)
 any_from (suc n) p v h e = elim (cases_eq v n) [
@@ -20,10 +21,12 @@ any_from (suc n) p v h e = elim (cases_eq v n) [
   | inr other ↦ or_left (any_below n p) (p n) (any_from n p v (omega (arith, other)) e)
 ]
 
+-- where no number below n passes, it isn't so that some does
 pub none_from : (n : ℕ) (p : ℕ → Bool) → ((v : ℕ) → v < n → p v ≡ false) → any_below n p ≡ false
 none_from zero p e = refl
 none_from (suc n) p e = or_from (any_below n p) (p n) (none_from n p (λ v h. e v (omega arith))) (e n (omega arith))
 
+-- where it isn't so that some number below n passes, none does
 pub none_at : (n : ℕ) (p : ℕ → Bool) → any_below n p ≡ false → (v : ℕ) → v < n → p v ≡ false
 none_at zero p e v h = absurd (omega arith)
 none_at (suc n) p e v h = let q = or_parts (any_below n p) (p n) e in elim (cases_eq v n) [
@@ -31,6 +34,7 @@ none_at (suc n) p e v h = let q = or_parts (any_below n p) (p n) e in elim (case
   | inr other ↦ none_at n p q.0 v (omega (arith, other))
 ]
 
+-- where some number below n passes, there is one
 pub some_at : (n : ℕ) (p : ℕ → Bool) → any_below n p ≡ true → (v : ℕ) × ((v < n) × (p v ≡ true))
 some_at zero p e = absurd (false≢true e)
 some_at (suc n) p e = elim (or_cases (any_below n p) (p n) e) [
@@ -42,16 +46,21 @@ any_same : (n : ℕ) (p q : ℕ → Bool) → ((v : ℕ) → v < n → p v ≡ q
 any_same zero p q e = refl
 any_same (suc n) p q e = let a = any_same n p q (λ v h. e v (omega arith)) in let b = e n (omega arith) in cc
 
+-- of states that agree both have an active node, or neither
 pub any_active_same : (n : ℕ) (s t : State) → Agree n s t → any_active n s ≡ any_active n t
 any_active_same n s t a = any_same n (is_active n s) (is_active n t) (active_same n s t a)
 
 -- ---- parts without an active node
 
 pub record Quiet (net : FlowNet) (labels : List ℕ) (all rest : List FlowPart) : Type 0 where
+  -- the node at which the parts that are left begin
   pub from : ℕ
+  -- these parts hold the nodes from there on
   pub left : Left (FlowPartFits net) (λ p. p.first) (λ p. p.end) (λ p. p.excess.items) (λ x. x) (node_count net) from all rest
+  -- no node before is active
   pub none : (v : ℕ) → v < from → is_active (node_count net) (pairs net (cells_of all) labels) v ≡ false
 
+-- before the first part no node is active
 pub quiet_none : (net : FlowNet) (labels : List ℕ) (all : List FlowPart) → AreFlowParts net 0 all → Quiet net labels all all
 quiet_none net labels all cut = record {
   from = 0;
@@ -63,6 +72,7 @@ at_index : (net : FlowNet) (labels : List ℕ) (all : List FlowPart) (i : ℕ) (
     → Quiet net labels all (drop i all) → Quiet net labels all (p ∷ drop (i + 1) all)
 at_index net labels all i p h e t = subst (λ (rest : List FlowPart). Quiet net labels all rest) (left_at all i p h e) t
 
+-- the next part is one of the network's flow
 pub quiet_fits : (net : FlowNet) (labels : List ℕ) (all : List FlowPart) (i : ℕ) (p : FlowPart) → i < length all → p ≡ get_or all i p → Quiet net labels all (drop i all) → FlowPartFits net p
 quiet_fits net labels all i p h e t = (at_index net labels all i p h e t).left.cut.1.0
 
@@ -74,6 +84,7 @@ here_active net labels all p ps nodes b en t v lo hi e =
     (left_here (FlowPartFits net) (λ q. q.first) (λ q. q.end) (λ q. q.excess.items) (λ x. x) (node_count net) t.from all p ps (by_node (node_count net)) (excess_piece net) t.left v lo hi)
     ∙ (ap (λ (n : ℕ). nat_lt 1 v && nat_lt 0 (slice_index p.excess.items (v - p.first)) && nat_lt (slice_index labels v) n) (sym en) ∙ e)
 
+-- past a part without an active node none has been active so far
 pub quiet_more : (net : FlowNet) (labels : List ℕ) (all : List FlowPart) (i : ℕ) (p : FlowPart) (nodes : ℕ) → nodes ≡ node_count net → i < length all → p ≡ get_or all i p → Quiet net labels all (drop i all)
     → LacksActive nodes labels p → Quiet net labels all (drop (i + 1) all)
 quiet_more net labels all i p nodes en h e t0 lacks =
@@ -87,11 +98,13 @@ quiet_more net labels all i p nodes en h e t0 lacks =
       ];
     }
 
+-- past the last part no node is active
 pub quiet_all : (net : FlowNet) (labels : List ℕ) (all rest : List FlowPart) → rest ≡ [] → Quiet net labels all rest → any_active (node_count net) (pairs net (cells_of all) labels) ≡ false
 quiet_all net labels all rest e t =
     let end : AreFlowParts net t.from [] = subst (λ (r : List FlowPart). AreFlowParts net t.from r) e t.left.cut in
     none_from (node_count net) (is_active (node_count net) (pairs net (cells_of all) labels)) (λ v h. t.none v (omega (arith, end)))
 
+-- where a part has an active node, some node of the state is active
 pub loud : (net : FlowNet) (labels : List ℕ) (all : List FlowPart) (i : ℕ) (p : FlowPart) (nodes : ℕ) → nodes ≡ node_count net → i < length all → p ≡ get_or all i p → Quiet net labels all (drop i all)
     → HasActive nodes labels p → any_active (node_count net) (pairs net (cells_of all) labels) ≡ true
 loud net labels all i p nodes en h e t0 has =
@@ -129,9 +142,11 @@ work_off : (b : Bool) (x : ℕ) → b ≡ false → cond b x 0 ≡ 0
 work_off true x h = absurd (false≢true (sym h))
 work_off false x h = refl
 
+-- of states that agree the same is left to do
 pub work_same : (n : ℕ) (s t : State) → Agree n s t → work n s ≡ work n t
 work_same n s t a = ap (λ (b : Bool). cond b (potential n s + 1) 0) (any_active_same n s t a) ∙ ap (λ (x : ℕ). cond (any_active n t) (x + 1) 0) (potential_same n s t a)
 
+-- a pulse from a state with an active node leaves less to do
 pub work_falls : (n : ℕ) (s : State) → IsValid n s → any_active n s ≡ true → work n (pulse n s) < work n s
 work_falls n s ok on = elim (cases_Bool (any_active n (pulse n s))) [
   | inl t ↦

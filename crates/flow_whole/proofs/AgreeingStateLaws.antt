@@ -11,6 +11,7 @@ use Rattle.flow_part.specs.Parts.{Agree, IsSound, pair}
 act_same : (n v e d l m : ℕ) → e ≡ d → l ≡ m → (nat_lt 1 v && nat_lt 0 e && nat_lt l n) ≡ (nat_lt 1 v && nat_lt 0 d && nat_lt m n)
 act_same n v e d l m p q = cc
 
+-- states that agree have the same active nodes
 pub active_same : (n : ℕ) (s t : State) → Agree n s t → (v : ℕ) → v < n → is_active n s v ≡ is_active n t v
 active_same n s t a v h = act_same n v (s.excess v) (t.excess v) (s.label v) (t.label v) (a.excess v h) (a.label v h)
 
@@ -20,6 +21,7 @@ room_choice b c x y p q r z e f g h = cc
 room_same : (n : ℕ) (s t : State) → Agree n s t → (v w : ℕ) → v < n → w < n → admissible n s v w ≡ admissible n t v w
 room_same n s t a v w h k = room_choice (is_active n s v) (is_active n t v) (s.label w) (t.label w) (s.label v) (t.label v) (s.res v w) (t.res v w) (active_same n s t a v h) (a.label w k) (a.label v h) (a.res v w h k)
 
+-- states that agree have the same pushes
 pub push_same : (n : ℕ) (s t : State) → Agree n s t → (v w : ℕ) → v < n → w < n → push n s v w ≡ push n t v w
 push_same n s t a v w h k = omega (arith, room_same n s t a v w h k, a.excess v h, sum_below-same w (admissible n s v) (admissible n t v) (λ x l. room_same n s t a v x h (omega arith)))
 
@@ -48,12 +50,15 @@ agree_pulse n s t a = record {
       (active_same n s t a v h) (sent_same n s t a v h) (a.excess v h) (lifted_same n s t a v h) (a.label v h);
 }
 
+-- a state that agrees with one that agrees with a third agrees with that
 pub agree_then : (n : ℕ) (s t u : State) → Agree n s t → Agree n t u → Agree n s u
 agree_then n s t u a b = record { res = λ v w h k. a.res v w h k ∙ b.res v w h k; excess = λ v h. a.excess v h ∙ b.excess v h; label = λ v h. a.label v h ∙ b.label v h }
 
+-- a state agrees with itself
 pub agree_self : (n : ℕ) (s : State) → Agree n s s
 agree_self n s = record { res = λ v w h k. refl; excess = λ v h. refl; label = λ v h. refl }
 
+-- a state that agrees with a sound one is sound
 pub sound_same : (net : FlowNet) (s t : State) → IsFlowNet net → Agree (node_count net) s t → IsSound net s → IsSound net t
 sound_same net s t ok a h = record {
   preflow = record {
@@ -69,6 +74,7 @@ sound_same net s t ok a h = record {
   total = omega (arith, h.total, sum_below-same (node_count net) s.excess t.excess a.excess);
 }
 
+-- a pulse leaves a sound state sound
 pub sound_pulse : (net : FlowNet) (s : State) → IsSound net s → IsSound net (pulse (node_count net) s)
 sound_pulse net s h = record {
   preflow = next_preflow (node_count net) (pair net net.caps) s h.preflow;
@@ -83,6 +89,7 @@ greatest_same (suc n) f g e = omega (arith, greatest_same n f g (λ i h. e i (om
 top_choice : (b c : Bool) (x y : ℕ) → b ≡ c → x ≡ y → cond b x 0 ≡ cond c y 0
 top_choice b c x y p q = cc
 
+-- states that agree have the same potential
 pub potential_same : (n : ℕ) (s t : State) → Agree n s t → potential n s ≡ potential n t
 potential_same n s t a = omega (
   arith,

@@ -5,12 +5,15 @@ use Rattle.std.proofs.lemmas.Nat.{le-div}
 use Rattle.flow_part.specs.Parts.{IsParted}
 use Rattle.flow_whole.specs.Start.{border_of, AreShares, IsShare}
 
+-- no border is past the last node
 pub border_within : (n w k : ℕ) → 0 < w → k ≤ w → border_of n w k ≤ n
 border_within n w k some h = div-le_of_le-mul w {m = k * n} {n = n} (mul-le-mul_right n h)
 
+-- a worker's share ends no earlier than it begins
 pub border_up : (n w k : ℕ) → 0 < w → border_of n w k ≤ border_of n w (k + 1)
 border_up n w k some = le-div (border_of n w k) ((k + 1) * n) w some (omega (arith, div-mul-le_self (k * n) w))
 
+-- the last worker's share ends with the last node
 pub border_last : (n w : ℕ) → 0 < w → border_of n w w ≡ n
 border_last n w some = mul-div_cancel_left n {n = w} some
 
@@ -19,10 +22,12 @@ pub cut_append : {P : Type 0} (fits : P → Type 0) (first end : P → ℕ) (m u
 cut_append {P} fits first end m u [] p cut e fit = (e ∙ sym cut, (fit, refl))
 cut_append {P} fits first end m u (q ∷ ps) p cut e fit = (cut.0, (cut.1.0, cut_append fits first end m (end q) ps p cut.1.1 e fit))
 
+-- parts that fit end to end, and so fit in another way too, are end to end in that way
 pub cut_weaker : {P : Type 0} (fits also : P → Type 0) (first end : P → ℕ) (n u : ℕ) (ps : List P) → ((p : P) → fits p → also p) → IsParted fits first end n u ps → IsParted also first end n u ps
 cut_weaker {P} fits also first end n u [] to cut = cut
 cut_weaker {P} fits also first end n u (p ∷ ps) to cut = (cut.0, (to p cut.1.0, cut_weaker fits also first end n (end p) ps to cut.1.1))
 
+-- parts end to end, with one more that begins where they end, are end to end up to that one's end
 pub cut_pushed : {P : Type 0} (fits : P → Type 0) (first end : P → ℕ) (m n : ℕ) (ps qs : List P) (p : P) → qs ≡ ps ++ p ∷ [] → IsParted fits first end m 0 ps → first p ≡ m → end p ≡ n → fits p → IsParted fits first end n 0 qs
 cut_pushed {P} fits first end m n ps qs p e cut ef ee fit =
     subst (λ (x : List P). IsParted fits first end n 0 x) (sym e) (subst (λ (k : ℕ). IsParted fits first end k 0 (ps ++ p ∷ [])) ee (cut_append fits first end m 0 ps p cut ef fit))
@@ -32,6 +37,7 @@ pub shares_append : {P : Type 0} (worker first end : P → ℕ) (n w k m : ℕ) 
 shares_append {P} worker first end n w k m [] p shares e share = (subst (λ (x : ℕ). IsShare worker first end n w x p) (omega (arith, e)) share, shares)
 shares_append {P} worker first end n w k m (q ∷ ps) p shares e share = (shares.0, shares_append worker first end n w (k + 1) m ps p shares.1 (omega (arith, e)) share)
 
+-- the shares of the first workers, with the next worker's at their end, are the shares of one worker more
 pub shares_pushed : {P : Type 0} (worker first end : P → ℕ) (n w m : ℕ) (ps qs : List P) (p : P) → qs ≡ ps ++ p ∷ [] → AreShares worker first end n w 0 ps → length ps ≡ m → IsShare worker first end n w m p → AreShares worker first end n w 0 qs
 shares_pushed {P} worker first end n w m ps qs p e shares len share =
     subst (λ (x : List P). AreShares worker first end n w 0 x) (sym e) (shares_append worker first end n w 0 m ps p shares (omega (arith, len)) share)

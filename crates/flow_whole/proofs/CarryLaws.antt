@@ -16,12 +16,16 @@ use Rattle.flow_whole.specs.TakingOver.{TakesOver}
 -- ---- one list
 
 pub record TakesSome (first end : ℕ) (listed : List ℕ) (count : ℕ) (old new : NodeList) : Type 0 where
+  -- the list has grown, within the range
   pub extends : Extends first end old new
+  -- of the first listed nodes each that lies in the range is listed now
   pub taken : new.complete ≡ true → (j : ℕ) → j < count → first ≤ slice_index listed j → slice_index listed j < end → IsListed new.nodes.items (slice_index listed j)
 
+-- of no nodes nothing is taken over
 pub some_none : (first end : ℕ) (listed : List ℕ) (old : NodeList) → TakesSome first end listed 0 old old
 some_none first end listed old = record { extends = extends_self first end old; taken = λ h j l. absurd (omega (arith, l)) }
 
+-- a node in the range that is added is taken over
 pub some_on : (first end : ℕ) (listed : List ℕ) (i v : ℕ) (old mid new : NodeList) → v ≡ slice_index listed i → first ≤ v → v < end → Added v mid new
     → TakesSome first end listed i old mid → TakesSome first end listed (i + 1) old new
 some_on first end listed i v old mid new ev lo hi added g =
@@ -34,6 +38,7 @@ some_on first end listed i v old mid new ev lo hi added g =
       ];
     }
 
+-- a node outside of the range needs no taking over
 pub some_off : (first end : ℕ) (listed : List ℕ) (i : ℕ) (old mid : NodeList) → (first ≤ slice_index listed i → slice_index listed i < end → ⊥)
     → TakesSome first end listed i old mid → TakesSome first end listed (i + 1) old mid
 some_off first end listed i old mid out g = record {
@@ -49,10 +54,14 @@ some_off first end listed i old mid out g = record {
 -- ---- all parts' lists
 
 pub record TakesParts (qs : List FlowPart) (first end count : ℕ) (old new : NodeList) : Type 0 where
+  -- the list has grown, within the range
   pub extends : Extends first end old new
+  -- where it is complete, so are the lists of the first parts
   pub complete : new.complete ≡ true → (i : ℕ) (d : FlowPart) → i < count → i < length qs → (get_or qs i d).active.complete ≡ true
+  -- where it is complete, it has each node in the range that these list
   pub listed : new.complete ≡ true → (i : ℕ) (d : FlowPart) (v : ℕ) → i < count → i < length qs → first ≤ v → v < end → IsListed (get_or qs i d).active.nodes.items v → IsListed new.nodes.items v
 
+-- of no parts nothing is taken over
 pub parts_none : (qs : List FlowPart) (first end : ℕ) (old : NodeList) → TakesParts qs first end 0 old old
 parts_none qs first end old = record {
   extends = extends_self first end old;
@@ -60,6 +69,7 @@ parts_none qs first end old = record {
   listed = λ h i d v l. absurd (omega (arith, l));
 }
 
+-- a part whose listed nodes in the range were all added is taken over
 pub parts_more : (qs : List FlowPart) (first end i : ℕ) (p : FlowPart) (from : List ℕ) (old mid new : NodeList) → i < length qs → p ≡ get_or qs i p → p.active.complete ≡ true → from ≡ p.active.nodes.items
     → Extends first end mid new → (new.complete ≡ true → (j : ℕ) → j < length from → first ≤ slice_index from j → slice_index from j < end → IsListed new.nodes.items (slice_index from j))
     → TakesParts qs first end i old mid → TakesParts qs first end (i + 1) old new
@@ -86,15 +96,24 @@ parts_more qs first end i p from old mid new hi ep done ef more here g = record 
 
 -- what the steps of a list's making ensure
 pub record Makes (qs : List FlowPart) (first end : ℕ) (begun grown : NodeList) (list : NodeList) : Type 0 where
+  -- the list begins empty
   pub empty : begun.nodes.items ≡ []
+  -- it has grown, within the range
   pub extends : Extends first end begun grown
+  -- where the grown list is complete, so are the lists of all parts
   pub complete : grown.complete ≡ true → (i : ℕ) (d : FlowPart) → i < length qs → (get_or qs i d).active.complete ≡ true
+  -- where it is complete, it has each node in the range that a part lists
   pub listed : grown.complete ≡ true → (i : ℕ) (d : FlowPart) (v : ℕ) → i < length qs → first ≤ v → v < end → IsListed (get_or qs i d).active.nodes.items v → IsListed grown.nodes.items v
+  -- the list that was made is complete where the grown one is
   pub same : list.complete ≡ grown.complete
+  -- its nodes rise
   pub rising : IsRising list.nodes.items
+  -- it has each node that the grown list has
   pub kept : (v : ℕ) → IsListed grown.nodes.items v → IsListed list.nodes.items v
+  -- it lies in each range in which the grown list does
   pub within : (first end : ℕ) → AreWithin first end grown.nodes.items → AreWithin first end list.nodes.items
 
+-- a list made so, where it is complete, takes over what the parts list in the range
 pub taken_over : (qs : List FlowPart) (first end : ℕ) (begun grown list : NodeList) → Makes qs first end begun grown list → list.complete ≡ true → TakesOver qs first end list.nodes.items
 taken_over qs first end begun grown list m h =
     let done : grown.complete ≡ true = sym m.same ∙ h in

@@ -13,11 +13,16 @@ use Rattle.flow_part.proofs.PartsLeftLaws.{Rising, Left, left_all, left_more, le
 
 -- the values of the nodes from low up to high are copied from all parts but those that are left
 pub record Copied {P : Type 0} (fits : P → Type 0) (first end : P → ℕ) (values : P → List ℕ) (pos : ℕ → ℕ) (n low high : ℕ) (all rest : List P) (xs : List ℕ) : Type 0 where
+  -- the node at which the parts that are left begin
   pub from : ℕ
+  -- these parts hold the nodes from there on
   pub left : Left fits first end values pos n from all rest
+  -- as many values were copied as the range has places before that node
   pub sized : length xs + pos low ≡ pos (max low (min high from))
+  -- they are the values of all parts at these places
   pub same : (i : ℕ) → i < length xs → slice_index xs i ≡ slice_index (flat_map values all) (pos low + i)
 
+-- before the first part nothing has been copied
 pub copied_none : {P : Type 0} (fits : P → Type 0) (first end : P → ℕ) (values : P → List ℕ) (pos : ℕ → ℕ) (n low high : ℕ) (all : List P) (xs : List ℕ) → Rising pos n → xs ≡ []
     → IsParted fits first end n 0 all → Copied fits first end values pos n low high all all xs
 copied_none {P} fits first end values pos n low high all xs up none cut = record {
@@ -27,6 +32,7 @@ copied_none {P} fits first end values pos n low high all xs up none cut = record
   same = λ i h. absurd (omega (arith, h, ap length none));
 }
 
+-- the next part is the first of those that are left
 pub copied_next : {P : Type 0} (fits : P → Type 0) (first end : P → ℕ) (values : P → List ℕ) (pos : ℕ → ℕ) (n low high : ℕ) (all : List P) (i : ℕ) (p : P) (xs : List ℕ) → i < length all → p ≡ get_or all i p
     → Copied fits first end values pos n low high all (drop i all) xs → Copied fits first end values pos n low high all (p ∷ drop (i + 1) all) xs
 copied_next {P} fits first end values pos n low high all i p xs h e c = subst (λ (rest : List P). Copied fits first end values pos n low high all rest xs) (left_at all i p h e) c
@@ -63,15 +69,20 @@ copied_on {P} fits first end values pos n low high all p ps a b xs ys slice up p
 pub slice_len : (values : List ℕ) (from to : ℕ) → from ≤ to → to ≤ length values → length (take (to - from) (drop from values)) ≡ to - from
 slice_len values from to ordered within = length-take-le (to - from) (drop from values) (omega (arith, length-drop from values))
 
+-- a slice has at each place the value that many places on
 pub slice_at : (values : List ℕ) (from to j : ℕ) → j < to - from → slice_index (take (to - from) (drop from values)) j ≡ slice_index values (from + j)
 slice_at values from to j h = get_or-take (to - from) (drop from values) j 0 h ∙ get_or-drop from values j 0
 
 -- the places of a range within a part
 pub record RangeIn {P : Type 0} (first end : P → ℕ) (values : P → List ℕ) (pos : ℕ → ℕ) (p : P) (a b : ℕ) : Type 0 where
+  -- the range begins after the part does
   pub after : pos (first p) ≤ pos a
+  -- it ends no earlier than it begins
   pub ordered : pos a ≤ pos b
+  -- it ends before the part does
   pub before : pos b ≤ pos (first p) + length (values p)
 
+-- what of a range lies in a part has its places within the part's
 pub range_in : {P : Type 0} (first end : P → ℕ) (values : P → List ℕ) (pos : ℕ → ℕ) (n low high : ℕ) (p : P) (a b : ℕ) → Rising pos n → IsPiece first end values pos n p → a ≡ max low (first p) → b ≡ min high (end p) → a < b
     → RangeIn first end values pos p a b
 range_in {P} first end values pos n low high p a b up fit ea eb lt = record {
@@ -106,12 +117,14 @@ copied_off {P} fits first end values pos n low high all p ps a b xs up piece ord
       same = c.same;
     }
 
+-- past the last part the values of the whole range were copied
 pub copied_all : {P : Type 0} (fits : P → Type 0) (first end : P → ℕ) (values : P → List ℕ) (pos : ℕ → ℕ) (n low high : ℕ) (all rest : List P) (xs : List ℕ) → low ≤ high → high ≤ n → rest ≡ []
     → Copied fits first end values pos n low high all rest xs → length xs + pos low ≡ pos high
 copied_all {P} fits first end values pos n low high all rest xs ordered within none c =
     let over : IsParted fits first end n c.from [] = subst (λ (r : List P). IsParted fits first end n c.from r) none c.left.cut in
     c.sized ∙ ap pos (let e : max low (min high c.from) ≡ high = omega (arith, over) in e)
 
+-- the part at a place is one of the network's flow
 pub part_here : (net : FlowNet) (all : List FlowPart) (i : ℕ) (p : FlowPart) → i < length all → p ≡ get_or all i p → AreFlowParts net 0 all → FlowPartFits net p
 part_here net all i p h e cut = subst (λ (q : FlowPart). FlowPartFits net q) (sym e) (part_fits (FlowPartFits net) (λ q. q.first) (λ q. q.end) (node_count net) 0 all cut i p h)
 

@@ -13,6 +13,7 @@ holds_fits net labels q u fit h =
     subst (λ (p : FlowPart). FlowPartFits net p) (sym h.same)
     record { ordered = fit.ordered; within = fit.within; based = fit.based; sized = fit.sized; nodes = fit.nodes; same = h.sized ∙ fit.same }
 
+-- parts whose new labels have become the labels still hold the network's nodes, end to end
 pub held_cut : (net : FlowNet) (labels : List ℕ) (v : ℕ) (qs us : List FlowPart) → length us ≡ length qs → HoldLabels labels qs us → AreFlowParts net v qs → AreFlowParts net v us
 held_cut net labels v [] [] len h cut = cut
 held_cut net labels v [] (u ∷ us) len h cut = absurd (omega (arith, len))
@@ -48,6 +49,7 @@ pair_state : (net : FlowNet) (rs xs es ds ls : List ℕ) → rs ≡ xs → es �
 pair_state net rs xs es ds ls p q =
     ap (λ (x : List ℕ). pairs net (record { residuals = x; excess = es; next = [] }) ls) p ∙ ap (λ (x : List ℕ). pairs net (record { residuals = xs; excess = x; next = [] }) ls) q
 
+-- parts whose new labels have become the labels are the same state
 pub held_state : (net : FlowNet) (labels ls : List ℕ) (qs us : List FlowPart) → length us ≡ length qs → HoldLabels labels qs us → pairs net (cells_of us) ls ≡ pairs net (cells_of qs) ls
 held_state net labels ls qs us len h =
     pair_state net (cells_of us).residuals (cells_of qs).residuals (cells_of us).excess (cells_of qs).excess ls (held_residuals labels qs us len h) (held_excess labels qs us len h)

@@ -6,6 +6,7 @@ use Rattle.flow_part.specs.Parts.{FlowPartFits, AreFlowParts}
 use Rattle.flow_whole.specs.Labels.{HasLabels, AreLabelled}
 use Rattle.flow_whole.proofs.BorderLaws.{cut_weaker}
 
+-- parts of a flow have a new label for each node
 pub labelled_parts : (net : FlowNet) (n : ℕ) (qs : List FlowPart) → n ≡ node_count net → AreFlowParts net 0 qs → AreLabelled n 0 qs
 labelled_parts net n qs e cut =
     subst (λ (m : ℕ). AreLabelled m 0 qs) (sym e)

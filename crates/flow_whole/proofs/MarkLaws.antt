@@ -42,6 +42,7 @@ sides first end v = elim (cases_lt v first) [
 out_marked : (marks : ℕ → Bool) (first end v : ℕ) → (v < first) ⊎ (end ≤ v) → and_range marks first end v ≡ true → marks v ≡ true
 out_marked marks first end v out m = or_second (marks v) (nat_le first v && nat_lt v end) (off_range first end v out) m
 
+-- reading a range of nodes adds them to those whose rows are read
 pub read_more : (net : FlowNet) (labels : List ℕ) (marks : ℕ → Bool) (first end : ℕ) (c : Cells) (ps rs : List PushPart) → IsFlowNet net → ArePushParts net 0 ps → length rs ≡ length ps
     → PartsRead net labels first end c ps rs → ReadSoFar net labels marks c (values_of ps) → ReadSoFar net labels (and_range marks first end) c (values_of rs)
 read_more net labels marks first end c ps rs ok cut len reads r = record {
@@ -51,9 +52,11 @@ read_more net labels marks first end c ps rs ok cut len reads r = record {
   ];
 }
 
+-- where all nodes are marked as read, the rows hold what each node pushes
 pub read_whole : (net : FlowNet) (labels : List ℕ) (marks : ℕ → Bool) (c : Cells) (xs : List ℕ) → IsFlowNet net → AllMarked (node_count net) marks → ReadSoFar net labels marks c xs → HoldPushes net (pairs net c labels) xs
 read_whole net labels marks c xs ok all r = hold_pushes net c labels xs ok (λ v k vn kl. r.rows v k vn (all v vn) kl)
 
+-- delivering a range of nodes adds them to those that are delivered
 pub give_more : (net : FlowNet) (labels xs : List ℕ) (marks : ℕ → Bool) (first end : ℕ) (c : Cells) (qs us : List FlowPart) → IsFlowNet net → AreFlowParts net 0 qs → length us ≡ length qs
     → PartsDelivered net labels xs first end qs us → NoneMarked marks first end → DeliveredSoFar net labels xs marks c (cells_of qs) → DeliveredSoFar net labels xs (and_range marks first end) c (cells_of us)
 give_more net labels xs marks first end c qs us ok cut len gives none g = record {
@@ -83,11 +86,13 @@ give_safe net labels xs marks first end qs ok cut none mid =
     safe_rows net xs v (slice_index mid.opening.excess v) (slice_index (cells_of qs).excess v) (λ j. slice_index mid.opening.residuals (start net v + j)) (λ j. slice_index (cells_of qs).residuals (start net v + j))
     (λ j l. sym (k.row j l)) (sym k.excess) (node_safe net mid.opening labels xs ok mid.sound mid.is_read v vn))
 
+-- where all nodes are marked as delivered, the state is the one after the pulse
 pub give_whole : (net : FlowNet) (labels next xs : List ℕ) (marks : ℕ → Bool) (c d : Cells) → IsFlowNet net → HoldPushes net (pairs net c labels) xs → AllMarked (node_count net) marks
     → DeliveredSoFar net labels xs marks c d → ((v : ℕ) → v < node_count net → slice_index next v ≡ slice_index d.next v)
     → Agree (node_count net) (pulse (node_count net) (pairs net c labels)) (pairs net d next)
 give_whole net labels next xs marks c d ok h all g turned = given_is_pulse net c d labels next xs ok h (λ v vn. g.given v vn (all v vn)) turned
 
+-- rows that were all read hold what each node pushes, and a delivery begins with no mark
 pub range_laws : RangeLaws
 range_laws = record {
   all_read = λ net labels pushes marks c ok all r. read_whole net labels marks c pushes ok all r;

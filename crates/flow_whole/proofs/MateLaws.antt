@@ -9,6 +9,7 @@ use Rattle.arc_rows.proofs.SparseRowLaws.{sparse-mate, sparse-total, sparse-give
 use Rattle.flow_part.specs.Parts.{pair}
 use Rattle.flow_part.specs.Delivering.{HoldPushes, own, back, row_outflow, row_inflow, delivered_res, delivered_excess, delivered_relabel, delivered_label}
 
+-- the heads of a node's row rise
 pub rises : (net : FlowNet) → IsFlowNet net → (v : ℕ) → v < node_count net → Rises (row_len net v) (head net v)
 rises net ok v h = λ j k a b. ok.heads_rise v j k h a b
 
@@ -29,11 +30,13 @@ from_mates net xs ok v w vn wn =
     from j l e = let m : HasMate net w j = ok.meets w j wn l in
         (m.place, (subst (λ (x : ℕ). m.place < row_len net x) e m.inside, subst (λ (x : ℕ). head net x m.place ≡ w) e m.back))
 
+-- the pushes of a node's row sum to what the pulse lets it push
 pub row_sent-is : (net : FlowNet) (s : State) (xs : List ℕ) → IsFlowNet net → HoldPushes net s xs → (v : ℕ) → v < node_count net → row_outflow net xs v ≡ outflow (node_count net) s v
 row_sent-is net s xs ok h v vn =
     sym (sparse-total (node_count net) (row_len net v) (head net v) (own net xs v) (λ k l. ok.heads_in v k vn l))
     ∙ sum_below-same (node_count net) (pair net xs v) (push (node_count net) s v) (λ w l. h.each v w vn)
 
+-- the pushes over the mates of a node's row sum to what the pulse sends to it
 pub row_got-is : (net : FlowNet) (s : State) (xs : List ℕ) → IsFlowNet net → HoldPushes net s xs → (v : ℕ) → v < node_count net → row_inflow net xs v ≡ inflow (node_count net) s v
 row_got-is net s xs ok h v vn =
     sym (sparse-total (node_count net) (row_len net v) (head net v) (back net xs v) (λ k l. ok.heads_in v k vn l))
@@ -49,10 +52,12 @@ given_res-is net s xs r ok h v w vn wn e =
     let out_place : sparse (row_len net v) (head net v) (own net xs v) w ≡ push (node_count net) s v w = h.each v w vn in
     sparse-given (row_len net v) (head net v) r (back net xs v) (own net xs v) w (rises net ok v vn) ∙ rw (← e, in_place, out_place) refl
 
+-- a node's excess after delivery is its excess after the pulse
 pub given_excess-is : (net : FlowNet) (s : State) (xs : List ℕ) → IsFlowNet net → HoldPushes net s xs → (v : ℕ) → v < node_count net
     → delivered_excess net xs v (s.excess v) ≡ next_excess (node_count net) s v
 given_excess-is net s xs ok h v vn = omega (arith, row_sent-is net s xs ok h v vn, row_got-is net s xs ok h v vn)
 
+-- the label that a delivery lifts a node to is the pulse's
 pub given_lift-is : (net : FlowNet) (s : State) (labels xs : List ℕ) (r : ℕ → ℕ) → IsFlowNet net → HoldPushes net s xs → (v : ℕ) → v < node_count net
     → ((w : ℕ) → s.res v w ≡ sparse (row_len net v) (head net v) r w) → ((w : ℕ) → w < node_count net → slice_index labels w ≡ s.label w)
     → delivered_relabel net labels xs v r ≡ relabelled (node_count net) s v
@@ -67,6 +72,7 @@ given_lift-is net s labels xs r ok h v vn e el =
 label_choice : (n v : ℕ) (e l a b x y : ℕ) → a ≡ b → x ≡ y → cond (nat_lt 1 v && nat_lt 0 e && nat_lt l n && nat_lt a e) x l ≡ cond (nat_lt 1 v && nat_lt 0 e && nat_lt l n && nat_lt b e) y l
 label_choice n v e l a b x y p q = cc
 
+-- a node's label after delivery is its label after the pulse
 pub given_label-is : (net : FlowNet) (s : State) (labels xs : List ℕ) (r : ℕ → ℕ) → IsFlowNet net → HoldPushes net s xs → (v : ℕ) → v < node_count net
     → ((w : ℕ) → s.res v w ≡ sparse (row_len net v) (head net v) r w) → ((w : ℕ) → w < node_count net → slice_index labels w ≡ s.label w)
     → delivered_label net labels xs v r (s.excess v) ≡ next_label (node_count net) s v

@@ -16,11 +16,13 @@ shares_from worker first end nodes workers k (p ∷ ps) s (suc i) d h =
     let next : k + 1 + i ≡ k + suc i = omega arith in
     shares_from worker first end nodes workers (k + 1) ps s.1 i d (omega (arith, h)) ∙ next
 
+-- parts of a flow that are the workers' shares are the workers' in their order
 pub flow_numbered : (nodes workers : ℕ) (qs : List FlowPart) → AreFlowShares nodes workers qs → FlowNumbered qs
 flow_numbered nodes workers qs s i d h =
     let from : 0 + i ≡ i = omega arith in
     shares_from (λ q. q.worker) (λ q. q.first) (λ q. q.end) nodes workers 0 qs s i d h ∙ from
 
+-- parts of pushes that are the workers' shares are the workers' in their order
 pub pushes_numbered : (nodes workers : ℕ) (ps : List PushPart) → ArePushShares nodes workers ps → PushesNumbered ps
 pushes_numbered nodes workers ps s i e h =
     let from : 0 + i ≡ i = omega arith in
@@ -33,6 +35,7 @@ flow_parted nodes workers old new parted n = elim parted [
   | inr shares ↦ flow_numbered nodes workers new shares
 ]
 
+-- parts of pushes that stay, or are made anew as shares, stay the workers' in their order
 pub pushes_parted : (nodes workers : ℕ) (old new : List PushPart) → (new ≡ old) ⊎ ArePushShares nodes workers new → PushesNumbered old → PushesNumbered new
 pushes_parted nodes workers old new parted n = elim parted [
   | inl same ↦ subst (λ (ps : List PushPart). PushesNumbered ps) (sym same) n
@@ -45,14 +48,17 @@ numbered_given net labels pushes first end qs us len g n i d h =
     let inside : i < length qs = omega (arith, h, len) in
     (g i d inside).same_worker ∙ n i d inside
 
+-- after a read the parts of pushes are still the workers' in their order
 pub numbered_read : (net : FlowNet) (labels : List ℕ) (first end : ℕ) (c : Cells) (ps rs : List PushPart) → length rs ≡ length ps → PartsRead net labels first end c ps rs → PushesNumbered ps → PushesNumbered rs
 numbered_read net labels first end c ps rs len g n i e h =
     let inside : i < length ps = omega (arith, h, len) in
     (g i e inside).same_worker ∙ n i e inside
 
+-- after a read that counts on they are so too
 pub numbered_read_on : (net : FlowNet) (labels : List ℕ) (first end : ℕ) (c : Cells) (ps rs : List PushPart) → length rs ≡ length ps → PartsReadOn net labels first end c ps rs → PushesNumbered ps → PushesNumbered rs
 numbered_read_on net labels first end c ps rs len g = numbered_read net labels first end c ps rs len (λ i e h. (g i e h).is_read)
 
+-- where labels are held the parts of a flow are still the workers' in their order
 pub numbered_held : (labels : List ℕ) (qs us : List FlowPart) → length us ≡ length qs → HoldLabels labels qs us → FlowNumbered qs → FlowNumbered us
 numbered_held labels qs us len g n i d h =
     let inside : i < length qs = omega (arith, h, len) in

@@ -13,6 +13,7 @@ use Rattle.flow_whole.proofs.WholeDeliveryLaws.{cut_after_give, whole_given}
 use Rattle.flow_whole.proofs.WholeReadLaws.{cut_after_read, whole_read}
 use Rattle.flow_whole.proofs.StepLaws.{hold_pushes, given_is_pulse, parts_safe}
 
+-- parts of pushes that read all nodes hold what each node pushes
 pub ready : (net : FlowNet) (m : ℕ) (labels : List ℕ) (qs : List FlowPart) (ps rs : List PushPart) → IsFlowNet net → m ≡ node_count net → ArePushParts net 0 ps → length rs ≡ length ps
     → PartsRead net labels 0 m (cells_of qs) ps rs → AreRead net labels qs rs
 ready net m labels qs ps rs ok em cut len reads0 =
@@ -22,6 +23,7 @@ ready net m labels qs ps rs ok em cut len reads0 =
       holds = hold_pushes net (cells_of qs) labels (values_of rs) ok (λ v k vn kl. whole_read net labels 0 (node_count net) (cells_of qs) ps rs ok cut len reads v k vn (omega arith) vn kl);
     }
 
+-- once all nodes were read, each part can be delivered
 pub ready_safe : (net : FlowNet) (m : ℕ) (labels : List ℕ) (qs : List FlowPart) (rs : List PushPart) → IsFlowNet net → m ≡ node_count net → AreFlowParts net 0 qs → IsSound net (pairs net (cells_of qs) labels)
     → AreRead net labels qs rs → PartsSafe net (values_of rs) 0 m qs
 ready_safe net m labels qs rs ok em cut sound r =
@@ -29,9 +31,12 @@ ready_safe net m labels qs rs ok em cut sound r =
 
 -- the state once every part was delivered and the labels were turned
 pub record Pulsed (net : FlowNet) (labels next : List ℕ) (qs us : List FlowPart) (rs : List PushPart) : Type 0 where
+  -- the parts and the new labels are those of the network
   pub fit : PartsFit net next us rs
+  -- the state is the one after a pulse
   pub agree : Agree (node_count net) (pulse (node_count net) (pairs net (cells_of qs) labels)) (pairs net (cells_of us) next)
 
+-- reading, delivering and turning all parts makes the state after a pulse
 pub pulsed : (net : FlowNet) (m : ℕ) (labels next : List ℕ) (qs us : List FlowPart) (rs : List PushPart) → IsFlowNet net → m ≡ node_count net → AreFlowParts net 0 qs
     → IsSound net (pairs net (cells_of qs) labels) → AreRead net labels qs rs → length us ≡ length qs → PartsDelivered net labels (values_of rs) 0 m qs us
     → length next ≡ node_count net → ((v : ℕ) → v < node_count net → slice_index next v ≡ slice_index (cells_of us).next v)

@@ -40,12 +40,15 @@ Away net a n = (j : ℕ) → j < n → (j ≡ a → ⊥) × (slice_index net.mat
 abbrev pub Holds : FlowNet → ℕ → ℕ → ℕ → Type 0
 Holds net r a n = (r ≡ start_res net a) ⊎ ((r ≡ cap_at net a) × Away net a n)
 
+-- before any arc of the source is filled, each arc has its capacity
 pub holds-none : (net : FlowNet) (r a : ℕ) → r ≡ cap_at net a → Holds net r a 0
 holds-none net r a e = inr (e, λ j h. absurd (omega (arith, h)))
 
+-- an arc out of the source has no residual at the start
 pub out-zero : (net : FlowNet) (a : ℕ) → a < start net 1 → 0 ≡ start_res net a
 out-zero net a h = sym (cond-true (nat_lt a (start net 1)) 0 _ (lt-ltb a (start net 1) h))
 
+-- the mate of an arc out of the source has both capacities at the start
 pub into-both : (net : FlowNet) (n : ℕ) → IsFlowNet net → IsStartable net → n < start net 1 → cap_at net n + cap_at net (slice_index net.mates n) ≡ start_res net (slice_index net.mates n)
 into-both net n ok s h =
     let some : 0 < node_count net = omega (arith, ok.two) in
@@ -113,6 +116,7 @@ holds-next net old mid new a n ok s h held at_out off_out at_in off_in = elim (c
 abbrev pub Filled : FlowNet → ℕ → ℕ → ℕ → Type 0
 Filled net e v n = (e ≡ start_excess net v) ⊎ ((e ≡ 0) × ((j : ℕ) → j < n → slice_index net.heads j ≡ v → ⊥))
 
+-- before any arc of the source is filled, each node has no excess
 pub filled-none : (net : FlowNet) (e v : ℕ) → e ≡ 0 → Filled net e v 0
 filled-none net e v z = inr (z, λ j h. absurd (omega (arith, h)))
 

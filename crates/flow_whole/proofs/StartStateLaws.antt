@@ -18,14 +18,18 @@ use Rattle.flow_part.proofs.JoinedPartLaws.{AtPart, at_part, pick}
 use Rattle.flow_whole.proofs.AgreeingStateLaws.{sound_same}
 use Rattle.flow_whole.proofs.BorderLaws.{cut_weaker}
 
+-- parts that hold residuals and excess of all nodes, end to end, are parts of a flow
 pub held_cut : (net : FlowNet) (res exc : ℕ → ℕ) (qs : List FlowPart) → PartsHold net res exc (node_count net) qs → AreFlowParts net 0 qs
 held_cut net res exc qs cut = cut_weaker (PartHolds net res exc) (FlowPartFits net) (λ q. q.first) (λ q. q.end) (node_count net) 0 qs (λ q s. s.fit) cut
 
 -- the joined cells at a node
 pub record CellsHold (net : FlowNet) (res exc : ℕ → ℕ) (qs : List FlowPart) (v : ℕ) : Type 0 where
+  -- the node's residuals stand at its row
   pub row : (k : ℕ) → k < row_len net v → slice_index (cells_of qs).residuals (start net v + k) ≡ res (start net v + k)
+  -- the node's excess stands at the node
   pub excess : slice_index (cells_of qs).excess v ≡ exc v
 
+-- the joined parts have each node's residuals and excess at its place
 pub cells_hold : (net : FlowNet) (res exc : ℕ → ℕ) (qs : List FlowPart) → IsFlowNet net → PartsHold net res exc (node_count net) qs → (v : ℕ) → v < node_count net → CellsHold net res exc qs v
 cells_hold net res exc qs ok cut v vn =
     let h : Holds (λ p. p.first) (λ p. p.end) qs v = find_part (PartHolds net res exc) (λ p. p.first) (λ p. p.end) (node_count net) 0 qs cut v (omega arith) vn in
@@ -98,6 +102,7 @@ row_start net v w ok vn wn = elim (cases_eq v 0) [
         sum_zero zero f e = refl
         sum_zero (suc m) f e = omega (arith, sum_zero m f e, e m)
 
+-- parts with the residuals, the excess and the labels of the start are the start on pairs of nodes
 pub start_agrees : (net : FlowNet) (labels : List ℕ) (qs : List FlowPart) → IsFlowNet net → PartsHold net (start_res net) (start_excess net) (node_count net) qs → LabelsStart net labels
     → Agree (node_count net) (started (node_count net) (pair net net.caps)) (pairs net (cells_of qs) labels)
 start_agrees net labels qs ok cut ls = record {
@@ -110,6 +115,7 @@ start_agrees net labels qs ok cut ls = record {
 cond_le : (b : Bool) (x : ℕ) → cond b 0 x ≤ x
 cond_le b x = elim b as (λ t. cond t 0 x ≤ x) [ true ↦ omega arith | false ↦ omega arith ]
 
+-- the start on pairs of nodes is sound
 pub started_sound : (net : FlowNet) → IsFlowNet net → IsStartable net → IsSound net (started (node_count net) (pair net net.caps))
 started_sound net ok able =
     let two : 1 < node_count net = omega (arith, ok.two) in
@@ -126,10 +132,12 @@ started_sound net ok able =
       );
     }
 
+-- parts with the residuals, the excess and the labels of the start are a sound state
 pub start_is_sound : (net : FlowNet) (labels : List ℕ) (qs : List FlowPart) → IsFlowNet net → IsStartable net → PartsHold net (start_res net) (start_excess net) (node_count net) qs → LabelsStart net labels → IsSound net (pairs net (cells_of qs) labels)
 start_is_sound net labels qs ok able cut ls =
     sound_same net (started (node_count net) (pair net net.caps)) (pairs net (cells_of qs) labels) ok (start_agrees net labels qs ok cut ls) (started_sound net ok able)
 
+-- the labels of the start are one for each node, none above the number of nodes
 pub labels_fit : (net : FlowNet) (labels : List ℕ) → length labels ≡ node_count net → LabelsStart net labels → LabelsFit net labels
 labels_fit net labels len ls = record { each = len; small = λ w h. omega (arith, ls w h, at_most (w == 0) (node_count net)) }
   where

@@ -51,6 +51,7 @@ caps_pair net v k ok vn kl =
     ap (λ (x : ℕ). pair net net.caps (head net v k) x) (sym m.back) ∙ (there ∙ ap (λ (x : ℕ). cap_at net x) (sym m.arc)) in
     omega (arith, ok.caps_fit v k vn kl, here, back_is)
 
+-- each node of a sound state can be delivered, with no number leaving its type
 pub node_safe : (net : FlowNet) (c : Cells) (labels xs : List ℕ) → IsFlowNet net → IsSound net (pairs net c labels) → HoldPushes net (pairs net c labels) xs
     → (v : ℕ) → v < node_count net → NodeSafe net xs v (λ j. slice_index c.residuals (start net v + j)) (slice_index c.excess v)
 node_safe net c labels xs ok sound h v vn = record {
@@ -79,6 +80,7 @@ node_safe net c labels xs ok sound h v vn = record {
 fits_at : (net : FlowNet) (qs : List FlowPart) (i : ℕ) (d : FlowPart) → AreFlowParts net 0 qs → i < length qs → FlowPartFits net (get_or qs i d)
 fits_at net qs i d cut l = part_fits (FlowPartFits net) (λ p. p.first) (λ p. p.end) (node_count net) 0 qs cut i d l
 
+-- where each node of a range can be delivered, each part can over that range
 pub parts_safe_by : (net : FlowNet) (qs : List FlowPart) (xs : List ℕ) (first end : ℕ) → IsFlowNet net → AreFlowParts net 0 qs
     → ((v : ℕ) → v < node_count net → first ≤ v → v < end → NodeSafe net xs v (λ j. slice_index (cells_of qs).residuals (start net v + j)) (slice_index (cells_of qs).excess v))
     → PartsSafe net xs first end qs
@@ -94,6 +96,7 @@ parts_safe_by net qs xs first end ok cut safe i d l v p s w lo hi =
     fit : length (get_or qs i d).excess.items + (get_or qs i d).first ≡ (get_or qs i d).end
     fit = (fits_at net qs i d cut l).nodes
 
+-- parts of a sound state can all be delivered
 pub parts_safe : (net : FlowNet) (qs : List FlowPart) (labels xs : List ℕ) → IsFlowNet net → AreFlowParts net 0 qs → IsSound net (pairs net (cells_of qs) labels) → HoldPushes net (pairs net (cells_of qs) labels) xs
     → PartsSafe net xs 0 (node_count net) qs
 parts_safe net qs labels xs ok cut sound h = parts_safe_by net qs xs 0 (node_count net) ok cut (λ v vn lo hi. node_safe net (cells_of qs) labels xs ok sound h v vn)

@@ -14,11 +14,16 @@ label_piece n q fit = record { ordered = fit.ordered; within = fit.within; sized
 
 -- the labels of the parts before the rest are the new ones
 pub record Turned (n : ℕ) (olds labels : List ℕ) (all rest : List FlowPart) : Type 0 where
+  -- the node at which the parts that are left begin
   pub from : ℕ
+  -- these parts hold the nodes from there on
   pub left : Left (HasLabels n) (λ p. p.first) (λ p. p.end) (λ p. p.next.items) (λ x. x) n from all rest
+  -- the labels of the nodes before are the new ones
   pub done : (v : ℕ) → v < from → slice_index labels v ≡ slice_index (cells_of all).next v
+  -- the labels of the others are as they were
   pub ahead : (v : ℕ) → from ≤ v → slice_index labels v ≡ slice_index olds v
 
+-- before the first part no label was turned
 pub turned_none : (n : ℕ) (labels : List ℕ) (all : List FlowPart) → AreLabelled n 0 all → Turned n labels labels all all
 turned_none n labels all cut = record {
   from = 0;
@@ -31,9 +36,11 @@ at_index : (n : ℕ) (olds labels : List ℕ) (all : List FlowPart) (i : ℕ) (p
     → Turned n olds labels all (drop i all) → Turned n olds labels all (p ∷ drop (i + 1) all)
 at_index n olds labels all i p h e t = subst (λ (rest : List FlowPart). Turned n olds labels all rest) (left_at all i p h e) t
 
+-- the next part has a new label for each of its nodes
 pub turned_fits : (n : ℕ) (olds labels : List ℕ) (all : List FlowPart) (i : ℕ) (p : FlowPart) → i < length all → p ≡ get_or all i p → Turned n olds labels all (drop i all) → HasLabels n p
 turned_fits n olds labels all i p h e t = (at_index n olds labels all i p h e t).left.cut.1.0
 
+-- a part whose labels are all the new ones has been turned
 pub turned_more : (n : ℕ) (olds labels new : List ℕ) (all : List FlowPart) (i : ℕ) (p : FlowPart) → i < length all → p ≡ get_or all i p → Turned n olds labels all (drop i all)
     → ((v : ℕ) → p.first ≤ v → v < p.end → slice_index new v ≡ slice_index p.next.items (v - p.first))
     → ((v : ℕ) → (v < p.first) ⊎ (p.end ≤ v) → slice_index new v ≡ slice_index labels v)
@@ -50,6 +57,7 @@ turned_more n olds labels new all i p h e t0 here others =
       ahead = λ v l. others v (inr l) ∙ t.ahead v (omega (arith, l, t.left.cut.0, t.left.cut.1.0.ordered));
     }
 
+-- past the last part all labels are the new ones
 pub turned_all : (n : ℕ) (olds labels : List ℕ) (all rest : List FlowPart) → rest ≡ [] → Turned n olds labels all rest → (v : ℕ) → v < n → slice_index labels v ≡ slice_index (cells_of all).next v
 turned_all n olds labels all rest e t v h =
     let end : AreLabelled n t.from [] = subst (λ (r : List FlowPart). AreLabelled n t.from r) e t.left.cut in
@@ -59,13 +67,18 @@ turned_all n olds labels all rest e t v h =
 
 -- the labels of the nodes at the first places of a list are the new ones, and no others have changed
 pub record TurnedFirst (first : ℕ) (next list : List ℕ) (count : ℕ) (olds labels : List ℕ) : Type 0 where
+  -- there are as many labels
   pub size : length labels ≡ length olds
+  -- the labels of the first listed nodes are the new ones
   pub listed : (i : ℕ) → i < count → slice_index labels (slice_index list i) ≡ slice_index next (slice_index list i - first)
+  -- the label of a node that isn't listed is as it was
   pub others : (v : ℕ) → IsListed list v ⊎ (slice_index labels v ≡ slice_index olds v)
 
+-- of no listed nodes none was turned
 pub first_none : (first : ℕ) (next list olds : List ℕ) → TurnedFirst first next list 0 olds olds
 first_none first next list olds = record { size = refl; listed = λ i h. absurd (omega (arith, h)); others = λ v. inr refl }
 
+-- a listed node whose label was set to the new one has been turned
 pub first_more : (first : ℕ) (next list : List ℕ) (i v x : ℕ) (olds labels new : List ℕ) → i < length list → v ≡ slice_index list i → x ≡ slice_index next (v - first) → v < length labels → new ≡ slice_set labels v x
     → TurnedFirst first next list i olds labels → TurnedFirst first next list (i + 1) olds new
 first_more first next list i v x olds labels new hi ev ex hl en t = record {
@@ -103,6 +116,7 @@ listed_here olds labels next list q keeps en el listed others v lo hi =
         subst (λ (w : ℕ). slice_index labels w ≡ slice_index q.next.items (w - q.first)) at.there
         (listed at.place at.inside ∙ ap (λ (ys : List ℕ). slice_index ys (slice_index list at.place - q.first)) en)
 
+-- turning the listed nodes of a part leaves the labels of other parts' nodes
 pub listed_others : (olds labels list : List ℕ) (q : FlowPart) → KeepsLabels olds q → list ≡ q.active.nodes.items → ((v : ℕ) → IsListed list v ⊎ (slice_index labels v ≡ slice_index olds v))
     → (v : ℕ) → (v < q.first) ⊎ (q.end ≤ v) → slice_index labels v ≡ slice_index olds v
 listed_others olds labels list q keeps el others v out = elim (others v) [

@@ -20,6 +20,7 @@ fits_given net labels pushes first end q r fit g = record {
   same = g.given.sizes.next ∙ (fit.same ∙ sym g.given.sizes.excess);
 }
 
+-- after a delivery the parts still hold the network's nodes, end to end
 pub cut_after_give : (net : FlowNet) (labels pushes : List ℕ) (first end v : ℕ) (qs rs : List FlowPart) → AreFlowParts net v qs → length rs ≡ length qs
     → PartsDelivered net labels pushes first end qs rs → AreFlowParts net v rs
 cut_after_give net labels pushes first end v [] [] cut len g = cut
@@ -36,6 +37,7 @@ cut_after_give net labels pushes first end v (q ∷ qs) (r ∷ rs) cut len g =
 
 -- ---- all parts, as the whole
 
+-- a node of the range that the parts delivered is delivered in the whole
 pub whole_given : (net : FlowNet) (labels pushes : List ℕ) (first end : ℕ) (qs rs : List FlowPart) → IsFlowNet net → AreFlowParts net 0 qs → length rs ≡ length qs
     → PartsDelivered net labels pushes first end qs rs → (v : ℕ) → v < node_count net → first ≤ v → v < end → NodeDelivered net labels pushes v v (start net v) (cells_of qs) (cells_of rs)
 whole_given net labels pushes first end qs rs ok cut len gives v vn fv ve =

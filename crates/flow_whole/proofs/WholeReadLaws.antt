@@ -19,6 +19,7 @@ fits_read net labels first end c p r fit g = record {
   lists = g.lists;
 }
 
+-- after a read the parts of pushes still hold the network's rows, end to end
 pub cut_after_read : (net : FlowNet) (labels : List ℕ) (first end v : ℕ) (c : Cells) (ps rs : List PushPart) → ArePushParts net v ps → length rs ≡ length ps → PartsRead net labels first end c ps rs → ArePushParts net v rs
 cut_after_read net labels first end v c [] [] cut len g = cut
 cut_after_read net labels first end v c [] (r ∷ rs) cut len g = absurd (omega (arith, len))
@@ -52,6 +53,7 @@ row_after net labels first end c ps rs v k i e ok cut len reads h lo hi kl =
     row_at net rs v k i e ok (cut_after_read net labels first end 0 c ps rs cut len reads) (omega (arith, h, len)) (omega (arith, g.same_first, lo)) (omega (arith, g.same_end, hi)) kl
     ∙ ap (λ (x : ℕ). slice_index (get_or rs i e).values.items (start net v + k - x)) g.same_base
 
+-- a node of the range that the parts read has in the whole the row that Read writes
 pub whole_read : (net : FlowNet) (labels : List ℕ) (first end : ℕ) (c : Cells) (ps rs : List PushPart) → IsFlowNet net → ArePushParts net 0 ps → length rs ≡ length ps → PartsRead net labels first end c ps rs
     → (v k : ℕ) → v < node_count net → first ≤ v → v < end → k < row_len net v → own net (values_of rs) v k ≡ cells_push net labels c v k
 whole_read net labels first end c ps rs ok cut len reads v k vn fv ve kl =
@@ -71,6 +73,7 @@ whole_unread net labels first end c ps rs ok cut len reads v k vn out kl =
 
 -- ---- Read of a range, counted
 
+-- parts that were read and counted on were read
 pub parts_read : (net : FlowNet) (labels : List ℕ) (first end : ℕ) (c : Cells) (ps rs : List PushPart) → PartsReadOn net labels first end c ps rs → PartsRead net labels first end c ps rs
 parts_read net labels first end c ps rs reads = λ i e h. (reads i e h).is_read
 
@@ -88,6 +91,7 @@ parts_walked net labels first end v c (p ∷ ps) (r ∷ rs) cut len reads =
     let on = active_rising net labels c (clamped first end p.end) (clamped first end (node_count net)) (omega (arith, cut.1.0.within)) in
     omega (arith, one.walked, rest, here, up, on)
 
+-- the rows walked were counted on by the active nodes of the range
 pub range_walked : (net : FlowNet) (labels : List ℕ) (first end : ℕ) (c : Cells) (ps rs : List PushPart) → ArePushParts net 0 ps → length rs ≡ length ps → first ≤ end → end ≤ node_count net
     → PartsReadOn net labels first end c ps rs → IsCountedOn (rows_walked ps) (active_from net labels c first end) (rows_walked rs)
 range_walked net labels first end c ps rs cut len ordered within reads =
@@ -97,6 +101,7 @@ range_walked net labels first end c ps rs cut len ordered within reads =
 
 -- ---- Read of all
 
+-- parts that were read whole were read from node 0 up to the last one
 pub wholes_read : (net : FlowNet) (labels : List ℕ) (c : Cells) (ps rs : List PushPart) → WholesRead net labels c ps rs → PartsRead net labels 0 (node_count net) c ps rs
 wholes_read net labels c ps rs reads = λ i e h. (reads i e h).is_read
 

@@ -42,11 +42,13 @@ no_reads : (g : Graph) → IsGraph g → (v w : ℕ) → w ≤ v → gate_reads 
 no_reads g valid v w h = false_from_ne_true _ (λ r. omega (arith, reads-below g valid v w r, h))
 
 module _ (g : Graph) (props : Props) (held : List ℕ) (valid : IsGraph g) where
+  -- the capacity between two numbers is the arc's between the nodes that they stand for
   pub cap-at : (v w : ℕ) (a b : Node) → node_at (latch_count g held) (node_variables g held) v ≡ a → node_at (latch_count g held) (node_variables g held) w ≡ b
       → capacity g props held v w ≡ arc_capacity g props held a b
   unfolding capacity
   cap-at v w a b p q = ap₂ (λ (x y : Node). arc_capacity g props held x y) p q
 
+  -- two numbers are adjacent where the nodes that they stand for have an arc one way or the other
   pub adjacent-at : (v w : ℕ) (a b : Node) → node_at (latch_count g held) (node_variables g held) v ≡ a → node_at (latch_count g held) (node_variables g held) w ≡ b
       → adjacent (capacity g props held) v w ≡ nat_lt 0 (arc_capacity g props held a b + arc_capacity g props held b a)
   adjacent-at v w a b p q = ap₂ (λ (x y : ℕ). nat_lt 0 (x + y)) (cap-at v w a b p q) (cap-at w v b a q p)
@@ -95,6 +97,7 @@ module _ (g : Graph) (props : Props) (held : List ℕ) (valid : IsGraph g) where
   source-latch : (u : ℕ) → has_node g held u ≡ true → u < first_gate g → cond {A = ℕ} (is_known (latch_at g u)) 1 0 ≡ 1
   source-latch u p h = cond-true (is_known (latch_at g u)) 1 0 (sym (has_node-latch g held u h) ∙ p)
 
+  -- the node after a known latch is linked to the source, and to the sink where the latch leaves the frame
   pub latch-links : (u : ℕ) → has_node g held u ≡ true → u < first_gate g → AreLinks (capacity g props held) (latch_number g held u) (latch_links (leaves g props held u) (great g held))
   latch-links u p h =
       let v : ℕ = latch_number g held u in
@@ -132,6 +135,7 @@ module _ (g : Graph) (props : Props) (held : List ℕ) (valid : IsGraph g) where
   gate-total : (u : ℕ) → has_node g held u ≡ true → first_gate g ≤ u → u < variables_end g → after_number g held u < node_total g held
   gate-total u p from h = omega (arith, rank-gate g held u from, rank-below g held u p h)
 
+  -- the node after a passable gate is linked to the sink where the gate leaves the frame, and to the node before the gate
   pub after-links : (u : ℕ) → has_node g held u ≡ true → first_gate g ≤ u → u < variables_end g
       → AreLinks (capacity g props held) (after_number g held u) (after_links (leaves g props held u) (great g held) (before_number g held u))
   after-links u p from h =
@@ -190,6 +194,7 @@ end_of-low base number h = cond-true (nat_lt number base) (number + 1) (2 * numb
 end_of-high : (base number : ℕ) → base ≤ number → end_of base number ≡ 2 * number - base + 2
 end_of-high base number h = cond-false (nat_lt number base) (number + 1) (2 * number - base + 2) (le-ltb number base h)
 
+-- the nodes of a variable end before those of a later one begin
 pub in-order : (base m n : ℕ) → m < n → end_of base m ≤ first_of base n
 in-order base m n h = elim (cases_lt m base) [
   | inl a ↦ elim (cases_lt n base) [
@@ -432,6 +437,7 @@ module _ (g : Graph) (props : Props) (held : List ℕ) (valid : IsGraph g) (w : 
   append-nothing [] = refl
   append-nothing (x ∷ xs) = ap (λ (ys : List Link). x ∷ ys) (append-nothing xs)
 
+  -- the node before a passable gate is linked to the nodes of its fan-ins
   pub before-links : has_node g held (variable gate.rhs1) ≡ true → has_node g held (variable gate.rhs0) ≡ true
       → AreLinks (capacity g props held) (before_number g held w) (gate_links (base_of g held) (great g held) (latch_number g held (variable gate.rhs1)) (latch_number g held (variable gate.rhs0)))
   before-links q1 q0 = elim (cases_eq (latch_number g held (variable gate.rhs1)) (latch_number g held (variable gate.rhs0))) [

@@ -23,6 +23,7 @@ when : (t : Bool) (m n : ℕ) → m ≤ n → cond t m 0 ≤ n
 when true m n h = h
 when false m n h = omega arith
 
+-- no arc has more than the great capacity
 pub arc-bound : (g : Graph) (props : Props) (held : List ℕ) (a b : Node) → arc_capacity g props held a b ≤ great g held
 arc-bound g props held source (after v) = when (is_known (latch_at g v)) 1 (great g held) (omega arith)
 arc-bound g props held (before v) (after w) = when (v == w) 1 (great g held) (omega arith)
@@ -84,6 +85,7 @@ module _ (g : Graph) (props : Props) (held : List ℕ) (valid : IsGraph g) where
       apart : adjacent (capacity g props held) 1 0 ≡ false
       apart = ap₂ (λ (x y : ℕ). nat_lt 0 (x + y)) (cap-at g props held valid 1 0 sink source refl refl) (cap-at g props held valid 0 1 source sink refl refl)
 
+  -- there are at most four edges for each node past the sink
   pub few-edges : (v : ℕ) → 2 ≤ v → v ≤ node_total g held → length (edges_below (capacity g props held) v) ≤ 4 * (v - 2)
   few-edges zero two h = absurd (omega (arith, two))
   few-edges (suc v) two h = elim (cases_eq v 1) [
@@ -111,17 +113,20 @@ module _ (g : Graph) (props : Props) (held : List ℕ) (valid : IsGraph g) where
   no-loop v (an_after u p from below e) = subst (λ (n : ℕ). capacity g props held n n ≡ 0) (sym e)
       (cap-at g props held valid (after_number g held u) (after_number g held u) (after u) (after u) (at-after g held u p from below) (at-after g held u p from below))
 
+  -- no pair of nodes has more than the great capacity
   pub cap-bound : (v w : ℕ) → capacity g props held v w ≤ great g held
   cap-bound v w = subst (λ (n : ℕ). n ≤ great g held)
       (sym (cap-at g props held valid v w (node_at (latch_count g held) (node_variables g held) v) (node_at (latch_count g held) (node_variables g held) w) refl refl))
       (arc-bound g props held (node_at (latch_count g held) (node_variables g held) v) (node_at (latch_count g held) (node_variables g held) w))
 
+  -- a circuit's network has at most 2^29 nodes
   pub node_total-bound : node_total g held + 2 ≤ 2 ^ 29 + 2
   node_total-bound =
       let less : count_below (has_node g held) (suc (variables_end g - 1)) ≤ variables_end g - 1 = count-less (has_node g held) (node-before g held 0 (omega arith)) (variables_end g - 1) in
       let same : count_below (has_node g held) (suc (variables_end g - 1)) ≡ count_below (has_node g held) (variables_end g) = ap (λ (n : ℕ). count_below (has_node g held) n) (omega arith) in
       omega (arith, less, same, length-places (has_node g held) (variables_end g), latches-among g held, valid.small)
 
+  -- the capacities of a circuit's network are ones that rows can have
   pub are-capacities : AreCapacities (node_total g held) (capacity g props held)
   are-capacities = record {
     two = omega arith;

@@ -20,11 +20,13 @@ past_ends : (n latches : ℕ) (variables : List ℕ) → 2 ≤ n → node_at lat
     (cond ((n - 2 - latches) % 2 == 0) (before (get_or variables (latches + (n - 2 - latches) / 2) 0)) (after (get_or variables (latches + (n - 2 - latches) / 2) 0)))
 past_ends n latches variables h = cond-false (n == 0) _ _ (ne_eqb n 0 (λ q. omega (arith, q, h))) ∙ cond-false (n == 1) _ _ (ne_eqb n 1 (λ q. omega (arith, q, h)))
 
+-- the numbers from 2 on stand for the nodes after the latches, in order
 pub node_at-latch : (latches : ℕ) (variables : List ℕ) (i : ℕ) → i < latches → node_at latches variables (2 + i) ≡ after (get_or variables i 0)
 node_at-latch latches variables i h =
     let same : 2 + i - 2 ≡ i = omega arith in
     past_ends (2 + i) latches variables (omega arith) ∙ cond-true _ _ _ (lt-ltb (2 + i - 2) latches (omega (arith, h))) ∙ ap (λ (x : ℕ). after (get_or variables x 0)) same
 
+-- after those of the latches, each even place stands for the node before a gate, in order
 pub node_at-before : (latches : ℕ) (variables : List ℕ) (m : ℕ) → node_at latches variables (2 + latches + 2 * m) ≡ before (get_or variables (latches + m) 0)
 node_at-before latches variables m =
     let even : (2 + latches + 2 * m - 2 - latches) % 2 ≡ 0 = omega arith in
@@ -34,6 +36,7 @@ node_at-before latches variables m =
     ∙ cond-true _ _ _ (eq-eqb ((2 + latches + 2 * m - 2 - latches) % 2) 0 even)
     ∙ ap (λ (x : ℕ). before (get_or variables x 0)) half
 
+-- after those of the latches, each odd place stands for the node after a gate, in order
 pub node_at-after : (latches : ℕ) (variables : List ℕ) (m : ℕ) → node_at latches variables (3 + latches + 2 * m) ≡ after (get_or variables (latches + m) 0)
 node_at-after latches variables m =
     let odd : (3 + latches + 2 * m - 2 - latches) % 2 ≡ 1 = omega arith in
@@ -45,40 +48,50 @@ node_at-after latches variables m =
 
 -- ---- which variables have nodes
 
+-- a variable before the gates has a node exactly where it is a known latch
 pub has_node-latch : (g : Graph) (held : List ℕ) (v : ℕ) → v < first_gate g → has_node g held v ≡ is_known (latch_at g v)
 unfolding has_node
 has_node-latch g held v h = ap (λ (b : Bool). is_known (latch_at g v) || b) (passable-before g held v h) ∙ or-false (is_known (latch_at g v))
 
+-- a variable from the first gate on has nodes exactly where it is a passable gate
 pub has_node-gate : (g : Graph) (held : List ℕ) (v : ℕ) → first_gate g ≤ v → has_node g held v ≡ is_passable g held v
 unfolding has_node
 has_node-gate g held v h = ap (λ (o : Option Latch). is_known o || is_passable g held v) (latch_at-gates g v h)
 
 module _ (g : Graph) (held : List ℕ) where
+  -- the known latches are among the variables with nodes
   pub latches-among : latch_count g held ≤ length (node_variables g held)
   latches-among = omega (arith, length-places (has_node g held) (variables_end g), count-le (has_node g held) (first_gate g) (variables_end g) (omega arith))
 
+  -- the rank of a known latch is below the number of known latches
   pub rank-latch : (v : ℕ) → has_node g held v ≡ true → v < first_gate g → rank g held v < latch_count g held
   rank-latch v p h = count-lt (has_node g held) v (first_gate g) h p
 
+  -- the rank of a gate is at least the number of known latches
   pub rank-gate : (v : ℕ) → first_gate g ≤ v → latch_count g held ≤ rank g held v
   rank-gate v h = count-le (has_node g held) (first_gate g) v h
 
+  -- the rank of a variable with a node is below the number of such variables
   pub rank-below : (v : ℕ) → has_node g held v ≡ true → v < variables_end g → rank g held v < length (node_variables g held)
   rank-below v p h = omega (arith, length-places (has_node g held) (variables_end g), count-lt (has_node g held) v (variables_end g) h p)
 
+  -- a variable with a node stands at its rank in the list of such variables
   pub variable-at : (v : ℕ) → has_node g held v ≡ true → v < variables_end g → get_or (node_variables g held) (rank g held v) 0 ≡ v
   variable-at v p h =
       same_Some _ _ (sym (slice_get-get_or (node_variables g held) (rank g held v) 0 (rank-below v p h)) ∙ at_rank (has_node g held) (variables_end g) v h p)
 
+  -- the number of a known latch stands for the node after it
   pub at-latch : (v : ℕ) → has_node g held v ≡ true → v < first_gate g → node_at (latch_count g held) (node_variables g held) (latch_number g held v) ≡ after v
   at-latch v p h = node_at-latch (latch_count g held) (node_variables g held) (rank g held v) (rank-latch v p h) ∙ ap (λ (x : ℕ). after x) (variable-at v p (omega (arith, h)))
 
+  -- the first number of a passable gate stands for the node before it
   pub at-before : (v : ℕ) → has_node g held v ≡ true → first_gate g ≤ v → v < variables_end g → node_at (latch_count g held) (node_variables g held) (before_number g held v) ≡ before v
   at-before v p from below =
       let place : latch_count g held + (rank g held v - latch_count g held) ≡ rank g held v = omega (arith, rank-gate v from) in
       node_at-before (latch_count g held) (node_variables g held) (rank g held v - latch_count g held)
       ∙ ap (λ (x : ℕ). before (get_or (node_variables g held) x 0)) place ∙ ap (λ (x : ℕ). before x) (variable-at v p below)
 
+  -- the second number of a passable gate stands for the node after it
   pub at-after : (v : ℕ) → has_node g held v ≡ true → first_gate g ≤ v → v < variables_end g → node_at (latch_count g held) (node_variables g held) (after_number g held v) ≡ after v
   at-after v p from below =
       let place : latch_count g held + (rank g held v - latch_count g held) ≡ rank g held v = omega (arith, rank-gate v from) in
@@ -109,6 +122,7 @@ gate-side g held n two past below =
       | inr odd ↦ an_after u.0 u.1.passes from u.1.below (omega (arith, odd, u.1.rank, two, past))
     ]
 
+-- each number below that of the nodes is the source's, the sink's, a known latch's, or one of a passable gate's two
 pub view : (g : Graph) (held : List ℕ) (n : ℕ) → n < node_total g held → View g held n
 view g held n below = elim (cases_eq n 0) [
   | inl zero' ↦ the_source zero'

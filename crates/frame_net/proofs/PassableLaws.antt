@@ -19,6 +19,7 @@ use Rattle.aig_graph.proofs.KindLaws.{latch_at-gates, GatePlace, gate_place}
 use Rattle.aig_graph.proofs.ClosedLaws.{is_settled-gate}
 use Rattle.frame_net.specs.Passable.{is_passable, passable_gates}
 
+-- there is a gate at a variable, or none
 pub gate_cases : (g : Graph) (v : ℕ) → (gate_at g v ≡ None) ⊎ ((gate : Gate) × (gate_at g v ≡ Some gate))
 gate_cases g v = cases (gate_at g v)
   where
@@ -26,23 +27,28 @@ gate_cases g v = cases (gate_at g v)
     cases None = inl refl
     cases (Some gate) = inr (gate, refl)
 
+-- what is no gate isn't passable
 pub passable-no_gate : (g : Graph) (held : List ℕ) (v : ℕ) → gate_at g v ≡ None → is_passable g held v ≡ false
 unfolding is_passable
 passable-no_gate g held v e = ap (λ (o : Option Gate). is_some o && is_settled g held v) e
 
+-- a gate is passable exactly where it is settled
 pub passable-at_gate : (g : Graph) (held : List ℕ) (v : ℕ) (gate : Gate) → gate_at g v ≡ Some gate → is_passable g held v ≡ is_settled g held v
 unfolding is_passable
 passable-at_gate g held v gate e = ap (λ (o : Option Gate). is_some o && is_settled g held v) e
 
+-- nothing before the first gate is passable
 pub passable-before : (g : Graph) (held : List ℕ) (v : ℕ) → v < first_gate g → is_passable g held v ≡ false
 passable-before g held v h = passable-no_gate g held v (gate_at-before g v h)
 
+-- nothing past the last gate is passable
 pub passable-past : (g : Graph) (held : List ℕ) (v : ℕ) → variables_end g ≤ v → is_passable g held v ≡ false
 passable-past g held v h = elim (gate_cases g v) [
   | inl none ↦ passable-no_gate g held v none
   | inr some ↦ absurd (omega (arith, h, (gate_place g v some.0 some.1).below))
 ]
 
+-- a variable is passable by the test exactly where it is a passable gate
 pub passable-means : (g : Graph) (held : List ℕ) (v : ℕ) → IsTrue (is_passable g held v) ↔ IsPassable g held v
 passable-means g held v = elim (gate_cases g v) [
   | inl none ↦ (
@@ -73,6 +79,7 @@ settled-split g held v = elim (gate_cases g v) [
       sym (ap₂ (λ (a b : Bool). a || b) (passable-at_gate g held v some.0 some.1) stays ∙ or-false (is_settled g held v)))
 ]
 
+-- a table of the passable gates marks all of them
 pub pass-marks : (g : Graph) (held : List ℕ) (n : ℕ) (marks : List Bool) → marks ≡ table (first_latch g) n (is_passable g held) → AreAllMarks (first_latch g) marks (is_passable g held)
 pass-marks g held n marks filled = AreAllMarks-table (first_latch g) n marks (is_passable g held) filled (λ v h. passable-before g held v (omega (arith, h)))
 
@@ -105,12 +112,14 @@ passable-more g held k gate marks passes valid h there filled is =
     ∙ sym (passable-at_gate g held (first_gate g + k) gate at)
     ∙ ap (λ (v : ℕ). is_passable g held v) (omega arith)
 
+-- the count of a table of passable gates is their number
 pub pass_set-count : (g : Graph) (held : List ℕ) (marks : List Bool) (n : ℕ) → marks ≡ table (first_latch g) (latches_and_gates g) (is_passable g held)
     → n ≡ count_below (is_passable g held) (first_latch g + length marks) → n ≡ length (passable_gates g held)
 pass_set-count g held marks n filled counted =
     let long : length marks ≡ latches_and_gates g = ap length filled ∙ length-table (first_latch g) (latches_and_gates g) (is_passable g held) in
     counted ∙ ap (λ (m : ℕ). count_below (is_passable g held) m) (omega (arith, long)) ∙ sym (length-places (is_passable g held) (variables_end g))
 
+-- the mark of a variable in the table of passable gates says whether it is passable
 pub has-passable : (g : Graph) (held : List ℕ) (first : ℕ) (marks : List Bool) (v : ℕ) → first ≡ first_latch g → marks ≡ table (first_latch g) (latches_and_gates g) (is_passable g held)
     → mark_at first marks v ≡ is_passable g held v
 has-passable g held first marks v same filled =
