@@ -4,6 +4,7 @@ use Rattle.std.proofs.lemmas.Bool.{cases_lt}
 use Rattle.std.proofs.lemmas.List.{get_or-append_right, length-append}
 use Rattle.std.proofs.Math.ListN.{get_or-append}
 
+-- a list of a function's values, with the next value at its end, is one of them
 pub one_more : (f : ℕ → ℕ) (xs ys : List ℕ) (x i : ℕ) → ys ≡ xs ++ x ∷ [] → length xs ≡ i → ((j : ℕ) → j < length xs → slice_index xs j ≡ f j) → x ≡ f i
     → (j : ℕ) → j < length ys → slice_index ys j ≡ f j
 one_more f xs ys x i e len below here j h =

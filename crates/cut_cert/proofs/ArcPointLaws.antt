@@ -59,6 +59,7 @@ module _ (g : Graph) (props : Props) (held : List ℕ) where
   points : (p q r s : Point) → p ≡ r → q ≡ s → may_step g held p q ≡ true → may_step g held r s ≡ true
   points p q r s e f step = subst (λ (x : Point). may_step g held x s ≡ true) e (subst (λ (x : Point). may_step g held p x ≡ true) f step)
 
+  -- between two nodes with points, an arc with a capacity is a step of a route
   pub may-step : (x y : ℕ) (a b : Node) (p q : Point) → 0 < arc_capacity g props held a b → IsRight g held x a → IsRight g held y b → node_point a ≡ Some p → node_point b ≡ Some q → may_step g held p q ≡ true
   may-step x y source b p q h r s e f = absurd (none-some p e)
   may-step x y sink b p q h r s e f = absurd (none-some p e)
@@ -72,18 +73,21 @@ module _ (g : Graph) (props : Props) (held : List ℕ) where
   may-step x y (before w) (before v) p q h r s e f =
       points (point w false) (point v false) p q (same_Some _ _ e) (same_Some _ _ f) (back w v (positive (gate_reads v (gate_at g w)) (great g held) h) r.0 (is-gate v s.0))
 
+  -- an arc with a capacity from the source leads to a point where a route may begin
   pub may-begin : (b : Node) (p : Point) → 0 < arc_capacity g props held source b → node_point b ≡ Some p → begins_at g p ≡ true
   may-begin source p h e = absurd (none-some p e)
   may-begin sink p h e = absurd (none-some p e)
   may-begin (before v) p h e = absurd (omega (arith, h))
   may-begin (after v) p h e = subst (λ (x : Point). begins_at g x ≡ true) (same_Some _ _ e) (positive (is_known (latch_at g v)) 1 h)
 
+  -- an arc with a capacity to the sink comes from after a variable that leaves the frame
   pub may-end : (a : Node) → 0 < arc_capacity g props held a sink → (v : ℕ) × ((a ≡ after v) × (leaves g props held v ≡ true))
   may-end source h = absurd (omega (arith, h))
   may-end sink h = absurd (omega (arith, h))
   may-end (before v) h = absurd (omega (arith, h))
   may-end (after v) h = (v, (refl, positive (leaves g props held v) (great g held) h))
 
+  -- no arc from the sink has a capacity
   pub none-from-sink : (b : Node) → arc_capacity g props held sink b ≡ 0
   none-from-sink source = refl
   none-from-sink sink = refl
@@ -105,6 +109,7 @@ module _ (g : Graph) (props : Props) (held : List ℕ) where
       true_false : true ≡ false → ⊥
       true_false e = absurd (cc)
 
+  -- the arcs with a capacity to after a variable have one tail
   pub same-tail : (x y : ℕ) (a b : Node) (v : ℕ) → IsRight g held x a → IsRight g held y b → 0 < arc_capacity g props held a (after v) → 0 < arc_capacity g props held b (after v) → x ≡ y
   same-tail x y sink b v r s h l = absurd (omega (arith, h))
   same-tail x y (after w) b v r s h l = absurd (omega (arith, h))
@@ -119,6 +124,7 @@ module _ (g : Graph) (props : Props) (held : List ℕ) where
       let same : u ≡ w = eqb-true u v (positive (u == v) 1 h) ∙ sym (eqb-true w v (positive (w == v) 1 l)) in
       r.1.1 ∙ ap (before_number g held) same ∙ sym s.1.1
 
+  -- one node stands for after a variable
   pub same-after : (x y : ℕ) (v : ℕ) → IsRight g held x (after v) → IsRight g held y (after v) → x ≡ y
   same-after x y v r s = elim (cases_lt v (first_gate g)) [
     | inl latch ↦ r.0 latch ∙ sym (s.0 latch)
@@ -147,15 +153,18 @@ module _ (c : Netlist) (held : List ℕ) (net : FlowNet) (is : IsNetworkOf c hel
   point-is : (n : ℕ) → point_of net n ≡ node_point (node n)
   point-is n = ap node_point (node-is c held net is n)
 
+  -- the capacity between two nodes of the network is the arc's between what they stand for
   pub capacity-is : (x y : ℕ) → x < node_count net → y < node_count net → capacity_between net x y ≡ arc_capacity c.aig c.props held (node x) (node y)
   capacity-is x y h l = is.is_net.capacities x y h l ∙ cap-at c.aig c.props held is.valid x y (node x) (node y) refl refl
 
   some-arc : (x y : ℕ) → x < node_count net → y < node_count net → 0 < capacity_between net x y → 0 < arc_capacity c.aig c.props held (node x) (node y)
   some-arc x y h l some = subst (λ (m : ℕ). 0 < m) (capacity-is x y h l) some
 
+  -- between nodes with points, a capacity in the network is a step of a route
   pub step-at : (x y : ℕ) (p q : Point) → x < node_count net → y < node_count net → 0 < capacity_between net x y → point_of net x ≡ Some p → point_of net y ≡ Some q → may_step c.aig held p q ≡ true
   step-at x y p q h l some e f = may-step c.aig c.props held x y (node x) (node y) p q (some-arc x y h l some) (right-at x h) (right-at y l) (sym (point-is x) ∙ e) (sym (point-is y) ∙ f)
 
+  -- a capacity from the source in the network leads to a point where a route may begin
   pub begin-at : (y : ℕ) (p : Point) → y < node_count net → 0 < capacity_between net 0 y → point_of net y ≡ Some p → begins_at c.aig p ≡ true
   begin-at y p l some f = may-begin c.aig c.props held (node y) p (some-arc 0 y (omega (arith, l)) l some) (sym (point-is y) ∙ f)
 
@@ -166,6 +175,7 @@ module _ (c : Netlist) (held : List ℕ) (net : FlowNet) (is : IsNetworkOf c hel
       let ends = may-end c.aig c.props held (node x) (some-arc x 1 h l some) in
       subst (λ (q : Point). (q.behind && leaves c.aig c.props held q.var) ≡ true) (same_Some _ _ (sym (ap node_point ends.1.0) ∙ sym (point-is x) ∙ e)) ends.1.1
 
+  -- a capacity to the sink in the network comes from an inner node
   pub end-inner : (x : ℕ) → x < node_count net → 1 < node_count net → 0 < capacity_between net x 1 → 1 < x
   end-inner x h l some =
       let ends = may-end c.aig c.props held (node x) (some-arc x 1 h l some) in
@@ -186,6 +196,7 @@ module _ (c : Netlist) (held : List ℕ) (net : FlowNet) (is : IsNetworkOf c hel
           from-after : source ≡ after v → ⊥
           from-after q = absurd (cc)
 
+  -- no capacity leads out of the sink in the network
   pub none-out-of-sink : (y : ℕ) → 1 < node_count net → y < node_count net → capacity_between net 1 y ≡ 0
   none-out-of-sink y h l = capacity-is 1 y h l ∙ none-from-sink c.aig c.props held (node y)
 
@@ -202,14 +213,17 @@ module _ (c : Netlist) (held : List ℕ) (net : FlowNet) (is : IsNetworkOf c hel
   node-behind : (y v : ℕ) → point_of net y ≡ Some (point v true) → node y ≡ after v
   node-behind y v e = after-point (node y) v (sym (point-is y) ∙ e)
 
+  -- one node of the network has the point after a variable
   pub one-node : (x y v : ℕ) → x < node_count net → y < node_count net → point_of net x ≡ Some (point v true) → point_of net y ≡ Some (point v true) → x ≡ y
   one-node x y v h l e f =
       same-after c.aig c.props held x y v (subst (IsRight c.aig held x) (node-behind x v e) (right-at x h)) (subst (IsRight c.aig held y) (node-behind y v f) (right-at y l))
 
+  -- a capacity to the point after a variable is at most 1
   pub one-arc : (x y v : ℕ) → x < node_count net → y < node_count net → point_of net y ≡ Some (point v true) → capacity_between net x y ≤ 1
   one-arc x y v h l e =
       subst (λ (m : ℕ). m ≤ 1) (sym (capacity-is x y h l ∙ ap (arc_capacity c.aig c.props held (node x)) (node-behind y v e))) (one-into c.aig c.props held (node x) v)
 
+  -- capacities to the point after a variable have one tail
   pub one-tail : (x u y v : ℕ) → x < node_count net → u < node_count net → y < node_count net → point_of net y ≡ Some (point v true) → 0 < capacity_between net x y → 0 < capacity_between net u y → x ≡ u
   one-tail x u y v h k l e some other =
       let at = node-behind y v e in

@@ -30,6 +30,7 @@ use Rattle.cut_cert.proofs.RoutePointLaws.{IsPlace, number, number-in, number-in
 use Rattle.cut_cert.proofs.PointOrderLaws.{inner-of, point-none, point-inner}
 use Rattle.cut_cert.proofs.StepLaws.{route-places, once-sink, all-some}
 
+-- what holds of the element at each place holds of all by recursion
 pub all-rec : {A : Type 0} (P : A → Type 0) (xs : List A) → All P xs → AllByRecursion P xs
 all-rec P [] all = tt
 all-rec P (x ∷ xs) all = (all 0 x (omega arith), all-rec P xs (λ k d h. all (suc k) d (omega (arith, h))))
@@ -54,6 +55,7 @@ module _ (v : ℕ) where
     | inr other ↦ omega (arith, cond-false {A = ℕ} (v == u) 1 0 (ne_eqb v u other))
   ]
 
+  -- a number stands at most once in a list of different ones
   pub at-most-once : (xs : List ℕ) → IsDistinct (λ a b. a == b) xs → count_by is_v xs ≤ 1
   at-most-once xs d =
       omega (
@@ -123,6 +125,7 @@ module _ (c : Netlist) (held : List ℕ) (net : FlowNet) (is : IsNetworkOf c hel
   few y [] right once = tt
   few y (route ∷ routes) right once = (once-sink c held net is y route right.0 once.0, few y routes right.1 once.1)
 
+  -- there is a path for each route
   pub long : (routes : List (List Point)) → length (paths c held net is routes) ≡ length routes
   long [] = refl
   long (route ∷ routes) = ap (λ (m : ℕ). suc m) (long routes)
@@ -155,12 +158,14 @@ module _ (c : Netlist) (held : List ℕ) (net : FlowNet) (is : IsNetworkOf c hel
       ]
 
   module _ (routes : List (List Point)) (shown : AreLeastRoutes c held routes) where
+    -- each route is one
     pub right : AreRight routes
     right = all-rec (λ route. is_route c held route ≡ true) routes shown.right
 
     abbrev pub uses : ℕ → ℕ → ℕ
     uses x y = all_steps (all_to_sink (paths c held net is routes)) x y
 
+    -- no pair of nodes is used more often than there are known latches
     pub uses-few : (x y : ℕ) → uses x y ≤ latch_count c.aig held
     uses-few x y =
         omega (
@@ -171,6 +176,7 @@ module _ (c : Netlist) (held : List ℕ) (net : FlowNet) (is : IsNetworkOf c hel
           empty-border c held,
         )
 
+    -- a pair of nodes to after a variable is used at most once
     pub uses-behind : (x y v : ℕ) → y < node_count net → point_of net y ≡ Some (record { var = v; behind = true }) → uses x y ≤ 1
     uses-behind x y v l e = elim (inner-of c.aig held y (view c.aig held y (omega (arith, l, nodes c held net is)))) [
       | inl low ↦ absurd (none-some _ (sym (point-none c held net is y low) ∙ e))
@@ -188,6 +194,7 @@ module _ (c : Netlist) (held : List ℕ) (net : FlowNet) (is : IsNetworkOf c hel
           ))
     ]
 
+    -- no pair of nodes is used beyond its capacity
     pub uses-fit : (x y : ℕ) → x < node_count net → y < node_count net → uses x y ≤ capacity_between net x y
     uses-fit x y h l = elim (cases_lt 0 (uses x y)) [
       | inr none ↦ omega (arith, none)
@@ -203,6 +210,7 @@ module _ (c : Netlist) (held : List ℕ) (net : FlowNet) (is : IsNetworkOf c hel
   places-below [] places = tt
   places-below (p ∷ rest) places = (number-in c held net is p places.0, places-below rest places.1)
 
+  -- the nodes of the routes' paths are nodes of the network
   pub ways-below : (two : 1 < node_count net) (routes : List (List Point)) → AreRight routes → AllBelow (node_count net) two (paths c held net is routes)
   ways-below two [] _ = tt
   ways-below two (route ∷ routes) all = (places-below route (route-places c held net is route all.0), ways-below two routes all.1)

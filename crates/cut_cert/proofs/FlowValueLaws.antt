@@ -61,6 +61,7 @@ gap n label = elim (met-or-not n (suc n) label) [
 ]
 
 module _ (n : ℕ) (cap : ℕ → ℕ → ℕ) (s : State) (big : 1 < n) (p : IsPreflow n cap s) (ok : IsValid n s) (quiet : (v : ℕ) → v < n → is_active n s v ≡ false) where
+  -- some label up to the number of nodes is no node's
   pub free : NoneAt n (suc n) s.label
   free = gap n s.label
 
@@ -101,6 +102,7 @@ module _ (n : ℕ) (cap : ℕ → ℕ → ℕ) (s : State) (big : 1 < n) (p : Is
     ]
   ]
 
+  -- the nodes with a label above a free one are a cut
   pub above-cut : IsCut above
   above-cut = record {
     with_source = is-above 0 (elim (cases_lt level n) [
@@ -132,9 +134,11 @@ module _ (n : ℕ) (cap : ℕ → ℕ → ℕ) (s : State) (big : 1 < n) (p : Is
     ]
   ]
 
+  -- what has reached the sink is at most the value of each cut
   pub excess-at-most : (side : ℕ → Bool) → IsCut side → s.excess 1 ≤ cut_value n cap side
   excess-at-most side cut = omega (arith, cut_identity n cap s side p cut.with_source, sink-le-held n s side big cut.without_sink)
 
+  -- the value of the cut at a free label is at most what has reached the sink
   pub excess-at-least : cut_value n cap above ≤ s.excess 1
   excess-at-least =
       let all : held_off n s above ≤ cond (not (above 1)) (s.excess 1) 0 = one_term n (λ v. cond (not (above v)) (s.excess v) 0) off-term in
@@ -172,6 +176,7 @@ module _ (c : Netlist) (held : List ℕ) (net : FlowNet) (is : IsNetworkOf c hel
       let empty = closed_sets_are_cuts-law c held net [] is (empty-closed c.aig held) in
       omega (arith, arc-counts n (capacity_between net) side v w h k a b, worth, at-most empty.0 empty.1.is_cut, empty.1.count, empty-border c held, is.is_net.latches)
 
+  -- the border of a least set has as many variables as units have reached the sink
   pub least-count : (gates : List ℕ) → IsLeast c held gates → border_size (move_of c held gates) ≡ s.excess 1
   least-count gates least =
       let found = cuts_are_closed-law c held net side (gates_below net side n) is cut no-great (are-gates c held net is side) in
@@ -223,6 +228,7 @@ module _ (net : FlowNet) (ok : IsFlowNet net) (m : RunEnd) (end : IsMaxPreflow n
     )),
   )
 
+  -- what the arcs of a greatest flow carry is within capacities, and no inner node gives more than it gets
   pub holds-first : Holds net xs 1
   holds-first = record {
     long = carried.long;
@@ -230,6 +236,7 @@ module _ (net : FlowNet) (ok : IsFlowNet net) (m : RunEnd) (end : IsMaxPreflow n
     kept = λ v big h. omega (arith, balance v (omega (arith, big)) h, here-zero v 1 (λ q. omega (arith, q, big)));
   }
 
+  -- what the arcs carry into the sink is what has reached it
   pub reached-is : (c : Netlist) (held : List ℕ) → IsNetworkOf c held net → into net xs 1 ≡ slice_index m.flow.cells.excess 1
   reached-is c held is =
       let two : 1 < node_count net = omega (arith, ok.two) in

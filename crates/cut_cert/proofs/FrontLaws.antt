@@ -13,10 +13,12 @@ use Rattle.cut_cert.specs.Fronts.{Front, is_marked, mark, reach}
 abbrev pub reach_new : Front → ℕ → Front
 reach_new r v = record { marks = set r.marks v true; queue = r.queue ++ v ∷ [] }
 
+-- reaching a marked node changes nothing
 pub reach-marked : (r : Front) (v : ℕ) → is_marked r v ≡ true → reach r v ≡ r
 unfolding reach
 reach-marked r v e = cond-true (is_marked r v) r (reach_new r v) e
 
+-- reaching a node that isn't marked marks and queues it
 pub reach-new : (r : Front) (v : ℕ) → is_marked r v ≡ false → reach r v ≡ reach_new r v
 unfolding reach
 reach-new r v e = cond-false (is_marked r v) r (reach_new r v) e
@@ -27,6 +29,7 @@ mark-marked r v e =
     let same : set r.marks v true ≡ r.marks = ap (λ (b : Bool). set r.marks v b) (sym e) ∙ set-get_or r.marks v false in
     ap (λ (marks : List Bool). record { marks = marks; queue = r.queue }) same
 
+-- marking a node leaves as many marks
 pub mark-long : (r : Front) (v : ℕ) → length (mark r v).marks ≡ length r.marks
 mark-long r v = length-set r.marks v true
 
@@ -39,15 +42,20 @@ reach-long r v = elim (cases_Bool (is_marked r v)) [
 
 -- what was marked stays so, and what was queued
 pub record Grows (r s : Front) : Type 0 where
+  -- what was marked is marked
   pub marks : (v : ℕ) → is_marked r v ≡ true → is_marked s v ≡ true
+  -- what was queued stands where it stood
   pub queue : (i v : ℕ) → slice_get r.queue i ≡ Some v → slice_get s.queue i ≡ Some v
 
+-- marks that grow twice have grown
 pub grows-then : (r s t : Front) → Grows r s → Grows s t → Grows r t
 grows-then r s t p q = record { marks = λ v e. q.marks v (p.marks v e); queue = λ i v e. q.queue i v (p.queue i v e) }
 
+-- marks that stay have grown
 pub grows-self : (r : Front) → Grows r r
 grows-self r = record { marks = λ v m. m; queue = λ i v m. m }
 
+-- a marked node has a mark in the list
 pub marked-within : (r : Front) (v : ℕ) → is_marked r v ≡ true → v < length r.marks
 marked-within r v e = elim (cases_lt v (length r.marks)) [
   | inl less ↦ less
@@ -87,8 +95,11 @@ no_front n = record { marks = replicate n false; queue = [] }
 
 -- a node at place k of the queue, or after it
 pub record Waits (queue : List ℕ) (k v : ℕ) : Type 0 where
+  -- its place in the queue
   pub place : ℕ
+  -- it is k or after it
   pub from : k ≤ place
+  -- the node stands there
   pub there : slice_get queue place ≡ Some v
 
 waits-end : (queue : List ℕ) (k v : ℕ) → slice_get queue k ≡ None → Waits queue k v → k ≤ length queue → ⊥
@@ -107,18 +118,27 @@ no-marks n v e =
 module _ (n : ℕ) (Inside : ℕ → Type 0) (HasRead : Front → ℕ → Type 0) where
   -- the queue has marked nodes, no more of them than there are; each marked node waits at place k or after it, or is read
   pub record Sweeps (r : Front) (k : ℕ) : Type 0 where
+    -- there is a mark for each node
     pub as_long : length r.marks ≡ n
+    -- the place is within the queue, or at its end
     pub within : k ≤ length r.queue
+    -- no more nodes are queued than marked
     pub counted : length r.queue ≤ count_by (λ b. b) r.marks
+    -- each queued node is marked
     pub queued : (i v : ℕ) → slice_get r.queue i ≡ Some v → is_marked r v ≡ true
+    -- each marked node waits, or is read
     pub pending : (v : ℕ) → is_marked r v ≡ true → Waits r.queue k v ⊎ HasRead r v
+    -- each marked node is of the kind
     pub inside : (v : ℕ) → is_marked r v ≡ true → Inside v
 
   -- what reaching keeps, and what it adds
   pub record Goes (k : ℕ) (r t : Front) : Type 0 where
+    -- the walk has come to place k of the queue
     pub sweeps : Sweeps t k
+    -- marks and queue have grown
     pub grows : Grows r t
 
+  -- a walk that changes nothing keeps what it keeps
   pub goes-self : (k : ℕ) (r : Front) → Sweeps r k → Goes k r r
   goes-self k r sweep = record { sweeps = sweep; grows = grows-self r }
 
@@ -196,6 +216,7 @@ module _ (n : ℕ) (Inside : ℕ → Type 0) (HasRead : Front → ℕ → Type 0
           ];
         }
 
+    -- reaching a node of the kind keeps what the walk keeps, and marks it
     pub reach-goes : (r : Front) (k v : ℕ) → Sweeps r k → v < n → Inside v → Goes k r (reach r v) × (is_marked (reach r v) v ≡ true)
     reach-goes r k v sweep below way = elim (cases_Bool (is_marked r v)) [
       | inl marked ↦ subst (λ (t : Front). Goes k r t × (is_marked t v ≡ true)) (sym (reach-marked r v marked)) (goes-self k r sweep, marked)

@@ -43,10 +43,12 @@ split true None v e = absurd (none-some v e)
 split true (Some p) v e = (refl, ap (λ (q : Point). Some q) (split-behind p v p.behind refl e))
 
 module _ (net : FlowNet) (side : ℕ → Bool) where
+  -- a node outside of the set gives no gate
   pub gate-out : (m : ℕ) → side m ≡ false → gate_of net side m ≡ None
   unfolding gate_of
   gate-out m e = cond-false (side m) (gate_after (point_of net m)) None e
 
+  -- a node of the set gives the gate before which its point lies, if there is one
   pub gate-in : (m : ℕ) → side m ≡ true → gate_of net side m ≡ gate_after (point_of net m)
   unfolding gate_of
   gate-in m e = cond-true (side m) (gate_after (point_of net m)) None e
@@ -60,6 +62,7 @@ module _ (net : FlowNet) (side : ℕ → Bool) where
 
   -- ---- one more node
 
+  -- below node 0 there is no gate
   pub gates-none : gates_below net side 0 ≡ []
   unfolding gates_below
   gates-none = refl
@@ -74,11 +77,13 @@ module _ (net : FlowNet) (side : ℕ → Bool) where
   gates-take : (m v : ℕ) → gate_of net side m ≡ Some v → gates_below net side (suc m) ≡ gates_below net side m ++ v ∷ []
   gates-take m v e = gates-more m ∙ ap (λ (o : Option ℕ). and_gate o (gates_below net side m)) e
 
+  -- a node of the set before a gate adds that gate
   pub step-take : (m v : ℕ) (before after : List ℕ) (o : Option ℕ) → o ≡ gate_of net side m → o ≡ Some v → before ≡ gates_below net side m → after ≡ before ++ v ∷ [] → after ≡ gates_below net side (m + 1)
   step-take m v before after o is some e step =
       let next : m + 1 ≡ suc m = omega arith in
       step ∙ ap (λ (xs : List ℕ). xs ++ v ∷ []) e ∙ sym (gates-take m v (sym is ∙ some)) ∙ ap (gates_below net side) (sym next)
 
+  -- any other node adds none
   pub step-skip : (m : ℕ) (before after : List ℕ) (o : Option ℕ) → o ≡ gate_of net side m → o ≡ None → before ≡ gates_below net side m → after ≡ before → after ≡ gates_below net side (m + 1)
   step-skip m before after o is none e step =
       let next : m + 1 ≡ suc m = omega arith in
@@ -106,6 +111,7 @@ module _ (net : FlowNet) (side : ℕ → Bool) where
       let clash : false ≡ true = sym (ap (λ (xs : List ℕ). has xs v) gates-none) ∙ e in
       absurd (cc)
 
+  -- each of the gates has the node before it in the set
   pub member-node : (m v : ℕ) → has (gates_below net side m) v ≡ true → HasNode m v
   member-node zero v e = absurd (no-member v e)
   member-node (suc m) v e = elim (option-cases (gate_of net side m)) [
@@ -123,6 +129,7 @@ module _ (net : FlowNet) (side : ℕ → Bool) where
         ])
   ]
 
+  -- each gate with the node before it in the set is among them
   pub node-member : (m v : ℕ) → HasNode m v → has (gates_below net side m) v ≡ true
   node-member zero v t = absurd (omega (arith, t.1.0))
   node-member (suc m) v t = elim (cases_eq t.0 m) [
@@ -193,6 +200,7 @@ module _ (c : Netlist) (held : List ℕ) (net : FlowNet) (is : IsNetworkOf c hel
       entry : (xs : List ℕ) (k : ℕ) → k < length xs → get_or xs k (slice_index xs k) ≡ slice_index xs k
       entry xs k l = get_or_default xs k (slice_index xs k) 0 l
 
+  -- the gates gathered node by node are those of the set of nodes
   pub are-gates : AreGatesOf net side (gates_below net side (node_count net))
   are-gates = record {
     rising = gates-rise (node_count net) (omega arith);

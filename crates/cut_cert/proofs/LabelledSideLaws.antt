@@ -84,6 +84,7 @@ module _ (n : ℕ) (s : State) (d : ℕ → ℕ) (far : IsDistance n s d) where
           | inr more ↦ omega (arith, near, step, more)
         ]
 
+    -- the nodes without a label below the number of nodes are those that can't reach the sink
     pub labelled_side : (marks : ℕ → Bool) → ((v : ℕ) → v < n → marks v ≡ nat_lt (d v) n) → IsSourceSide n s (λ v. not (marks v))
     labelled_side marks each = λ v h. (
       (λ e. elim (cases_lt (d v) n) [

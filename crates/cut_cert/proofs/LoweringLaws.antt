@@ -13,10 +13,12 @@ use Rattle.cut_cert.specs.Walks.{out_of, into, total, Comes, lowered, here, Hold
 
 -- ---- one place
 
+-- there is 1 at the node itself
 pub here-one : (v at : ℕ) → v ≡ at → here v at ≡ 1
 unfolding here
 here-one v at e = cond-true {A = ℕ} (v == at) 1 0 (eq-eqb v at e)
 
+-- there is 0 at any other node
 pub here-zero : (v at : ℕ) → (v ≡ at → ⊥) → here v at ≡ 0
 unfolding here
 here-zero v at e = cond-false {A = ℕ} (v == at) 1 0 (ne_eqb v at e)
@@ -25,6 +27,7 @@ here-zero v at e = cond-false {A = ℕ} (v == at) 1 0 (ne_eqb v at e)
 unfoldable pub spot : ℕ → ℕ → ℕ → ℕ → ℕ
 spot u w x y = if x == u then here y w else 0
 
+-- in the pair's own row there is 1 at its second node alone
 pub spot-on : (u w x y : ℕ) → x ≡ u → spot u w x y ≡ here y w
 unfolding spot
 spot-on u w x y e = cond-true {A = ℕ} (x == u) (here y w) 0 (eq-eqb x u e)
@@ -33,12 +36,14 @@ spot-else : (u w x y : ℕ) → (x ≡ u → ⊥) → spot u w x y ≡ 0
 unfolding spot
 spot-else u w x y e = cond-false {A = ℕ} (x == u) (here y w) 0 (ne_eqb x u e)
 
+-- at any other pair there is 0
 pub spot-off : (u w x y : ℕ) → (x ≡ u → y ≡ w → ⊥) → spot u w x y ≡ 0
 spot-off u w x y e = elim (cases_eq x u) [
   | inl same ↦ spot-on u w x y same ∙ here-zero y w (e same)
   | inr other ↦ spot-else u w x y other
 ]
 
+-- over all nodes there is 1 in all
 pub sum-here : (n w : ℕ) → w < n → sum_below n (λ y. here y w) ≡ 1
 sum-here n w h = sum_one n w (λ y. here y w) h (λ i l d. here-zero i w d) ∙ here-one w w refl
 
@@ -57,6 +62,7 @@ module _ (net : FlowNet) (ok : IsFlowNet net) (xs : List ℕ) (long : length xs 
   abbrev ys : List ℕ
   ys = lowered net xs w k
 
+  -- the tail of the arc is a node
   pub tail-in : head net w k < node_count net
   tail-in = ok.heads_in w k comes.node comes.inside
 
@@ -95,6 +101,7 @@ module _ (net : FlowNet) (ok : IsFlowNet net) (xs : List ℕ) (long : length xs 
     | inr other ↦ ap (λ (v : ℕ). cond (head net x j == y) v 0) (get_or-set_other xs (mate net w k) (start net x + j) (slice_index xs (mate net w k) - 1) 0 other)
   ]
 
+  -- the pair of the lowered arc carries one less, and every other pair what it did
   pub one-less : (x y : ℕ) → x < node_count net → pair net ys x y + spot (head net w k) w x y ≡ pair net xs x y
   one-less x y h = elim (cases_eq x (head net w k)) [
     | inl row ↦ elim (cases_eq y w) [
@@ -112,6 +119,7 @@ module _ (net : FlowNet) (ok : IsFlowNet net) (xs : List ℕ) (long : length xs 
       unchanged x y h off = sum_below-same (row_len net x) (λ j. cond (head net x j == y) (slice_index ys (start net x + j)) 0) (λ j. cond (head net x j == y) (slice_index xs (start net x + j)) 0)
           (λ j l. term x y j h off l)
 
+  -- one less goes out of the arc's tail, and as much as before out of any other node
   pub out-less : (v : ℕ) → v < node_count net → out_of net ys v + here v (head net w k) ≡ out_of net xs v
   out-less v h = omega (
     arith,
@@ -120,6 +128,7 @@ module _ (net : FlowNet) (ok : IsFlowNet net) (xs : List ℕ) (long : length xs 
     sum_below-same (node_count net) (λ y. pair net ys v y + spot (head net w k) w v y) (pair net xs v) (λ y l. one-less v y h),
   )
 
+  -- one less comes into the arc's head, and as much as before into any other node
   pub into-less : (v : ℕ) → into net ys v + here v w ≡ into net xs v
   into-less v = omega (
     arith,
@@ -128,6 +137,7 @@ module _ (net : FlowNet) (ok : IsFlowNet net) (xs : List ℕ) (long : length xs 
     sum_below-same (node_count net) (λ x. pair net ys x v + spot (head net w k) w x v) (λ x. pair net xs x v) (λ x l. one-less x v l),
   )
 
+  -- one less is carried in all
   pub total-less : total net ys + 1 ≡ total net xs
   total-less = omega (
     arith,
@@ -136,6 +146,7 @@ module _ (net : FlowNet) (ok : IsFlowNet net) (xs : List ℕ) (long : length xs 
     sum_below-same (node_count net) (λ v. out_of net ys v + here v (head net w k)) (out_of net xs) (λ v l. out-less v l),
   )
 
+  -- there are values for as many arcs
   pub long-after : length ys ≡ length net.heads
   long-after = length-set xs (mate net w k) (slice_index xs (mate net w k) - 1) ∙ long
 
@@ -150,6 +161,7 @@ module _ (net : FlowNet) (ok : IsFlowNet net) (xs : List ℕ) (long : length xs 
 
 -- ---- what a walk back keeps
 
+-- a walk that goes back over an arc leaves at its tail what it left at its head
 pub holds-step : (net : FlowNet) (ok : IsFlowNet net) (xs : List ℕ) (w k : ℕ) → Holds net xs w → Comes net xs w k → Holds net (lowered net xs w k) (head net w k)
 holds-step net ok xs w k holds comes = record {
   long = long-after net ok xs holds.long w k comes;

@@ -9,12 +9,14 @@ use Rattle.cut_cert.specs.Walks.{here}
 use Rattle.cut_cert.proofs.LoweringLaws.{here-one, here-zero}
 use Rattle.cut_cert.specs.Steps.{steps_of, all_steps, Leads, IsWay, AreWays, is_used}
 
+-- what stands after the first of the elements from a place on are those from the next place on
 pub drop-rest : {A : Type 0} (xs : List A) (i : ℕ) (b : A) (ns : List A) → drop i xs ≡ b ∷ ns → drop (suc i) xs ≡ ns
 drop-rest [] zero b ns e = absurd (cc)
 drop-rest [] (suc i) b ns e = absurd (cc)
 drop-rest (x ∷ xs) zero b ns e = cc
 drop-rest (x ∷ xs) (suc i) b ns e = drop-rest xs i b ns e
 
+-- the elements from a place on are the one there and those from the next place on
 pub drop-head : {A : Type 0} (xs : List A) (i : ℕ) (d : A) → i < length xs → drop i xs ≡ slice_index_or xs i d ∷ drop (i + 1) xs
 drop-head xs i d h =
     let same : suc i ≡ i + 1 = omega arith in
@@ -23,10 +25,15 @@ drop-head xs i d h =
 -- ---- the next node of a way
 
 pub record Next (net : FlowNet) (a : ℕ) (now rest : List ℕ) (p : Point) (points : List Point) : Type 0 where
+  -- the next node of the way
   pub node : ℕ
+  -- what was left begins with it
   pub is : now ≡ node ∷ rest
+  -- an arc leads to it
   pub leads : Leads net a node
+  -- it has the next point
   pub point : point_of net node ≡ Some p
+  -- the rest of the way goes on from it
   pub way : IsWay net node rest points
 
 next-of : (net : FlowNet) (a : ℕ) (nodes : List ℕ) (i : ℕ) (now : List ℕ) (p : Point) (points : List Point) → drop i nodes ≡ now → IsWay net a now (p ∷ points) → Next net a now (drop (i + 1) nodes) p points
@@ -42,6 +49,7 @@ next-of net a nodes i (b ∷ ns) p points e way =
       way = subst (λ (xs : List ℕ). IsWay net b xs points) rest way.1.1;
     }
 
+-- where a point is left of a route, a node is left of its way
 pub next : (net : FlowNet) (a : ℕ) (nodes : List ℕ) (i : ℕ) (points : List Point) (d : Point) → i < length points → IsWay net a (drop i nodes) (drop i points)
     → Next net a (drop i nodes) (drop (i + 1) nodes) (slice_index_or points i d) (drop (i + 1) points)
 next net a nodes i points d h way =
@@ -51,15 +59,20 @@ ends-of : (net : FlowNet) (a : ℕ) (nodes : List ℕ) (points : List Point) →
 ends-of net a [] points e way = refl
 ends-of net a (b ∷ nodes) points e way = absurd (subst (λ (ps : List Point). IsWay net a (b ∷ nodes) ps) e way)
 
+-- where no point is left of a route, no node is left of its way
 pub ends : (net : FlowNet) (a : ℕ) (nodes : List ℕ) (i : ℕ) (points : List Point) → length points ≤ i → IsWay net a (drop i nodes) (drop i points) → drop i nodes ≡ []
 ends net a nodes i points h way = ends-of net a (drop i nodes) (drop i points) (drop_all i points h) way
 
 -- ---- the next way
 
 pub record NextWay (net : FlowNet) (now rest : List (List ℕ)) (route : List Point) (routes : List (List Point)) : Type 0 where
+  -- the nodes of the next way
   pub nodes : List ℕ
+  -- what was left begins with them
   pub is : now ≡ nodes ∷ rest
+  -- they are the way of the next route
   pub way : IsWay net 0 nodes route
+  -- the rest are the ways of the other routes
   pub ways : AreWays net rest routes
 
 next-way-of : (net : FlowNet) (ways : List (List ℕ)) (i : ℕ) (now : List (List ℕ)) (route : List Point) (routes : List (List Point)) → drop i ways ≡ now → AreWays net now (route ∷ routes) → NextWay net now (drop (i + 1) ways) route routes
@@ -74,6 +87,7 @@ next-way-of net ways i (ns ∷ rest) route routes e are =
       ways = subst (λ (xs : List (List ℕ)). AreWays net xs routes) tail are.1;
     }
 
+-- where a route is left, so is its way
 pub next-way : (net : FlowNet) (ways : List (List ℕ)) (i : ℕ) (routes : List (List Point)) (d : List Point) → i < length routes → AreWays net (drop i ways) (drop i routes)
     → NextWay net (drop i ways) (drop (i + 1) ways) (slice_index_or routes i d) (drop (i + 1) routes)
 next-way net ways i routes d h are =
@@ -83,6 +97,7 @@ ways-end-of : (net : FlowNet) (ways : List (List ℕ)) (routes : List (List Poin
 ways-end-of net [] routes e are = refl
 ways-end-of net (ns ∷ ways) routes e are = absurd (subst (λ (ps : List (List Point)). AreWays net (ns ∷ ways) ps) e are)
 
+-- where no route is left, no way is
 pub ways-end : (net : FlowNet) (ways : List (List ℕ)) (i : ℕ) (routes : List (List Point)) → length routes ≤ i → AreWays net (drop i ways) (drop i routes) → drop i ways ≡ []
 ways-end net ways i routes h are = ways-end-of net (drop i ways) (drop i routes) (drop_all i routes h) are
 
@@ -91,18 +106,22 @@ ways-end net ways i routes h are = ways-end-of net (drop i ways) (drop i routes)
 positive : (m n : ℕ) → 0 < m → nat_lt 0 (m + n) ≡ true
 positive m n h = lt-ltb 0 (m + n) (omega (arith, h))
 
+-- a walk's steps are its first one, and those from there on
 pub steps-next : (a b : ℕ) (ns : List ℕ) (x y : ℕ) → steps_of a (b ∷ ns) x y ≡ cond (x == a) (here y b) 0 + steps_of b ns x y
 unfolding steps_of
 steps-next a b ns x y = refl
 
+-- a walk without nodes takes no step
 pub steps-none : (a x y : ℕ) → steps_of a [] x y ≡ 0
 unfolding steps_of
 steps-none a x y = refl
 
+-- the steps of walks are those of the first one, and of the others
 pub all-next : (ns : List ℕ) (ways : List (List ℕ)) (x y : ℕ) → all_steps (ns ∷ ways) x y ≡ steps_of 0 ns x y + all_steps ways x y
 unfolding all_steps
 all-next ns ways x y = refl
 
+-- no walks take no step
 pub all-none : (x y : ℕ) → all_steps [] x y ≡ 0
 unfolding all_steps
 all-none x y = refl
@@ -144,6 +163,7 @@ module _ (net : FlowNet) (ok : IsFlowNet net) (used new : List Bool) (long : len
       let some : nat_lt 0 (steps_of node (b ∷ ns) x (head net x j)) ≡ true = lt-ltb 0 _ (omega (arith, counts, steps-next node b ns x (head net x j))) in
       ap (λ (u : Bool). u || nat_lt 0 (steps_of b ns x (head net x j))) on ∙ sym (or_right (is_used net used x j) _ some)
 
+  -- with the first step's arc marked, what is marked, and what the walk's other steps use, is the same together
   pub mark-more : (x j : ℕ) → x < node_count net → j < row_len net x
       → (is_used net new x j || nat_lt 0 (steps_of b ns x (head net x j))) ≡ (is_used net used x j || nat_lt 0 (steps_of node (b ∷ ns) x (head net x j)))
   mark-more x j hx lj = elim (cases_eq x node) [
@@ -155,6 +175,7 @@ module _ (net : FlowNet) (ok : IsFlowNet net) (used new : List Bool) (long : len
     ]
   ]
 
+-- with no step more, an arc is used where it was marked
 pub or-none : (u : Bool) (m : ℕ) → m ≡ 0 → (u || nat_lt 0 m) ≡ u
 or-none u m e = ap (λ (n : ℕ). u || nat_lt 0 n) e ∙ last u
   where
@@ -162,6 +183,7 @@ or-none u m e = ap (λ (n : ℕ). u || nat_lt 0 n) e ∙ last u
     last true = refl
     last false = refl
 
+-- an arc that is marked, or used by either of two walks, is marked or used by both together
 pub or-sum : (u : Bool) (m n : ℕ) → ((u || nat_lt 0 m) || nat_lt 0 n) ≡ (u || nat_lt 0 (m + n))
 or-sum true m n = refl
 or-sum false m n = elim (cases_lt 0 m) [

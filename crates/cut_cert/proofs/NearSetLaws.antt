@@ -191,5 +191,6 @@ module _ (c : Netlist) (held : List ℕ) (net : FlowNet) (is : IsNetworkOf c hel
   drained : (v : ℕ) → 1 < v → v < n → s.excess v ≡ 0
   drained v big h = ap (λ (m : ℕ). length ways * m) (here-zero v 1 (λ e. omega (arith, e, big))) ∙ omega arith
 
+  -- the gates of the nodes to which open arcs lead from the source are the smallest least set
   pub near-set : IsSmallestLeast c held (gates_below net side n)
   near-set = smallest_cut_is_smallest_set-law c held net side (gates_below net side n) is (near_side_is_smallest-law n cap s side two preflow drained near no-sink) (are-gates c held net is side)

@@ -9,18 +9,22 @@ use Rattle.cut_cert.proofs.FrontLaws.{Grows, Sweeps, Goes, reach-long, grows-sel
 
 -- ---- the heads of a row's open arcs
 
+-- reading no arcs changes nothing
 pub open-none : (net : FlowNet) (used : List Bool) (w : ℕ) (r : Front) → read_open net used w 0 r ≡ r
 unfolding read_open
 open-none net used w r = refl
 
+-- an open arc makes its head reached
 pub open-on : (net : FlowNet) (used : List Bool) (w k : ℕ) (r : Front) → is_open net used w k ≡ true → read_open net used w (suc k) r ≡ reach (read_open net used w k r) (head net w k)
 unfolding read_open
 open-on net used w k r e = cond-true (is_open net used w k) (reach (read_open net used w k r) (head net w k)) (read_open net used w k r) e
 
+-- an arc that isn't open changes nothing
 pub open-off : (net : FlowNet) (used : List Bool) (w k : ℕ) (r : Front) → is_open net used w k ≡ false → read_open net used w (suc k) r ≡ read_open net used w k r
 unfolding read_open
 open-off net used w k r e = cond-false (is_open net used w k) (reach (read_open net used w k r) (head net w k)) (read_open net used w k r) e
 
+-- reading arcs leaves as many marks
 pub open-long : (net : FlowNet) (used : List Bool) (w k : ℕ) (r : Front) → length (read_open net used w k r).marks ≡ length r.marks
 open-long net used w zero r = ap (λ (s : Front). length s.marks) (open-none net used w r)
 open-long net used w (suc k) r = elim (cases_Bool (is_open net used w k)) [
@@ -53,14 +57,18 @@ module _ (net : FlowNet) (used : List Bool) where
   abbrev pub GoesOn : ℕ → Front → Front → Type 0
   GoesOn k r t = Goes (node_count net) (λ v. Inside v) (λ u w. HasRead u w) k r t
 
+  -- reaching a node that each set has keeps what the walk keeps, and marks it
   pub reach-on : (r : Front) (k v : ℕ) → SweepsOn r k → v < node_count net → Inside v → GoesOn k r (reach r v) × (is_marked (reach r v) v ≡ true)
   reach-on r k v sweep below way = reach-goes (node_count net) (λ u. Inside u) (λ t w. HasRead t w) read-still r k v sweep below way
 
   -- the same, with the source's mark, which the start makes
   pub record Swept (r : Front) (k : ℕ) : Type 0 where
+    -- the walk has come to place k of the queue
     pub sweeps : SweepsOn r k
+    -- the source is marked
     pub source : is_marked r 0 ≡ true
 
+  -- with the source reached the walk has begun
   pub sweeps-start : (r : Front) → 0 < node_count net → r ≡ reach (no_front (node_count net)) 0 → Swept r 0
   sweeps-start r some e =
       let goes = reach-on (no_front (node_count net)) 0 0 (sweeps-none (node_count net) (λ u. Inside u) (λ t w. HasRead t w)) some (λ side on none. on) in
@@ -120,11 +128,13 @@ module _ (net : FlowNet) (used : List Bool) where
 
 -- ---- a loop's next turn
 
+-- a loop's turn over an open arc reads one arc more
 pub open-step : (net : FlowNet) (used : List Bool) (w k : ℕ) (start before after : Front) → is_open net used w k ≡ true → before ≡ read_open net used w k start → after ≡ reach before (head net w k) → after ≡ read_open net used w (k + 1) start
 open-step net used w k start before after on e step =
     let next : k + 1 ≡ suc k = omega arith in
     step ∙ ap (λ (f : Front). reach f (head net w k)) e ∙ sym (open-on net used w k start on) ∙ ap (λ (j : ℕ). read_open net used w j start) (sym next)
 
+-- a loop's turn over an arc that isn't open reads one arc more
 pub open-skip : (net : FlowNet) (used : List Bool) (w k : ℕ) (start before after : Front) → is_open net used w k ≡ false → before ≡ read_open net used w k start → after ≡ before → after ≡ read_open net used w (k + 1) start
 open-skip net used w k start before after off e step =
     let next : k + 1 ≡ suc k = omega arith in
@@ -132,10 +142,12 @@ open-skip net used w k start before after off e step =
 
 -- ---- whether an arc is open
 
+-- an arc whose mate is used is open
 pub open-back : (net : FlowNet) (used : List Bool) (w k : ℕ) → slice_index_or used (mate net w k) false ≡ true → is_open net used w k ≡ true
 unfolding is_open
 open-back net used w k e = or_left (slice_index_or used (mate net w k) false) _ e
 
+-- an arc whose mate isn't used is open where it has a capacity, and isn't one to after a variable that is used
 pub open-else : (net : FlowNet) (used : List Bool) (w k : ℕ) → slice_index_or used (mate net w k) false ≡ false
     → is_open net used w k ≡ (nat_lt 0 (cap_at net (start net w + k)) && not (is_behind (point_of net (head net w k)) && is_used net used w k))
 unfolding is_open

@@ -17,14 +17,21 @@ use Rattle.cut_cert.proofs.RoutePointLaws.{IsPlace, number, number-latch, number
 module _ (g : Graph) (held : List ℕ) where
   -- by what a number is bounded
   pub record AtLatch (p : Point) : Type 0 where
+    -- the variable is before the gates
     pub low : p.var < first_gate g
+    -- its number is two more than its rank
     pub is : number g held p ≡ 2 + rank g held p.var
+    -- its rank is below the number of known latches
     pub few : rank g held p.var < latch_count g held
 
   pub record AtGate (p : Point) : Type 0 where
+    -- the variable is a gate
     pub high : first_gate g ≤ p.var
+    -- its number is at least that of the node before the gate
     pub least : 2 + latch_count g held + 2 * (rank g held p.var - latch_count g held) ≤ number g held p
+    -- its number is at most that of the node after the gate
     pub most : number g held p ≤ 3 + latch_count g held + 2 * (rank g held p.var - latch_count g held)
+    -- its rank is at least the number of known latches
     pub many : latch_count g held ≤ rank g held p.var
 
   range : (p : Point) → IsPlace g held p → AtLatch p ⊎ AtGate p
@@ -56,6 +63,7 @@ module _ (g : Graph) (held : List ℕ) where
   number-of : ℕ → Bool → ℕ
   number-of v b = number g held (record { var = v; behind = b })
 
+  -- points with nodes precede each other as their numbers do
   pub in-order : (p q : Point) → IsPlace g held p → IsPlace g held q → number g held p < number g held q → precedes (Some p) (Some q) ≡ true
   in-order p q a b less = elim (cases_order p.var q.var) [
     | inr other ↦ elim other [
@@ -78,8 +86,11 @@ module _ (g : Graph) (held : List ℕ) where
 
   -- the point of an inner node
   pub record Inner (n : ℕ) : Type 0 where
+    -- the node's point
     pub point : Point
+    -- it is one with a node
     pub place : IsPlace g held point
+    -- the node's number is the point's
     pub is : n ≡ number g held point
 
   inner : (n : ℕ) → View g held n → (n ≤ 1) ⊎ Inner n
@@ -95,19 +106,23 @@ module _ (g : Graph) (held : List ℕ) where
       let p : Point = record { var = v; behind = true } in
       inr (record { point = p; place = record { has = has; gate = λ front. from; below = below }; is = e ∙ sym (number-after g held p refl from) })
 
+  -- each node is the source, the sink, or one with a point
   pub inner-of : (n : ℕ) → View g held n → (n ≤ 1) ⊎ Inner n
   inner-of = inner
 
 module _ (c : Netlist) (held : List ℕ) (net : FlowNet) (is : IsNetworkOf c held net) where
+  -- the source and the sink have no point
   pub point-none : (x : ℕ) → x ≤ 1 → point_of net x ≡ None
   point-none x low = elim (cases_lt 0 x) [
     | inl pos ↦ (let one : x ≡ 1 = omega (arith, pos, low) in ap (point_of net) one)
     | inr none ↦ (let zero' : x ≡ 0 = omega (arith, none) in ap (point_of net) zero')
   ]
 
+  -- an inner node has its point
   pub point-inner : (x : ℕ) (i : Inner c.aig held x) → point_of net x ≡ Some i.point
   point-inner x i = ap (point_of net) i.is ∙ point-of-number c held net is i.point i.place
 
+  -- points rise with the numbers of their nodes
   pub points-rise : PointsRise net
   points-rise x y less below = elim (inner-of c.aig held x (view c.aig held x (omega (arith, less, below, nodes c held net is)))) [
     | inl low ↦ ap (λ (o : Option Point). precedes o (point_of net y)) (point-none x low)

@@ -33,16 +33,25 @@ false_true e = absurd (cc)
 
 -- so far a walk has come to a node; `marks` are of the nodes that it has left
 pub record SoFar (net : FlowNet) (first xs : List ℕ) (n : ℕ) (marks : List Bool) (at : ℕ) (trail : List ℕ) : Type 0 where
+  -- there is a value for each arc
   pub long : length xs ≡ length net.heads
+  -- the walk stands at a node
   pub node : at < node_count net
+  -- less is carried than before the walk
   pub less : total net xs < total net first
+  -- no arc carries more than before the walk
   pub none_more : (arc : ℕ) → slice_index xs arc ≤ slice_index first arc
+  -- the marks are those of the nodes that it has left
   pub on : AreOn n marks trail
+  -- it doesn't stand at one of these
   pub off : has trail at ≡ false
+  -- the source isn't one of these
   pub zero_off : has trail 0 ≡ false
+  -- in each circuit with this network, the nodes left are the rest of a route from where it stands
   pub walking : (c : Netlist) (held past : List ℕ) → IsNetworkOf c held net → Ready net first past → Walking c held net past (into net first 1) xs at (points_of net trail)
 
 module _ (net : FlowNet) (ok : IsFlowNet net) where
+  -- a walk begins at the tail of an arc that carries something into the sink
   pub begins : (xs new : List ℕ) (n : ℕ) (marks : List Bool) (end at : ℕ) → length xs ≡ length net.heads → Comes net xs 1 end → new ≡ lowered net xs 1 end → at ≡ head net 1 end → AreOn n marks [] → SoFar net xs new n marks at []
   begins xs new n marks end at long comes is_new tail clear =
       subst (λ (zs : List ℕ). SoFar net xs zs n marks at []) (sym is_new) (subst (λ (u : ℕ). SoFar net xs (lowered net xs 1 end) n marks u []) (sym tail) (record {
@@ -79,6 +88,7 @@ module _ (net : FlowNet) (ok : IsFlowNet net) where
     ]
   ]
 
+  -- a step back over an arc goes on with the walk, whose loop is forgotten where it comes back to a node
   pub goes-back : (first xs new : List ℕ) (n : ℕ) (marks left : List Bool) (at tail : ℕ) (trail mid after : List ℕ) → SoFar net first xs n marks at trail → StepsBack net xs new at tail → mid ≡ at ∷ trail → AreOn n left after → ComesTo tail mid after
       → SoFar net first new n left tail after
   goes-back first xs new n marks left at tail trail mid after far back is_mid on to =
@@ -108,9 +118,11 @@ module _ (net : FlowNet) (ok : IsFlowNet net) where
         | inr cut ↦ (or_parts (tail == 0) (has after 0) (suffix-absent cut.0 (tail ∷ after) 0 (ap (λ (vs : List ℕ). has vs 0) (sym cut.1) ∙ e))).1
       ]
 
+  -- a step back leaves less carried
   pub falls : (first xs new : List ℕ) (n : ℕ) (marks : List Bool) (at tail : ℕ) (trail : List ℕ) → SoFar net first xs n marks at trail → StepsBack net xs new at tail → total net new < total net xs
   falls first xs new n marks at tail trail far back = omega (arith, ap (total net) back.carried, total-less net ok xs far.long at back.place back.comes)
 
+  -- a walk that can't go on has come to the source, and its nodes are a route
   pub arrives : (first xs new : List ℕ) (n : ℕ) (marks : List Bool) (at : ℕ) (trail : List ℕ) → n ≡ node_count net → SoFar net first xs n marks at trail → Stays net xs new at → WalkedBack net first new (points_of net trail)
   arrives first xs new n marks at trail sized far stays =
       subst (λ (zs : List ℕ). WalkedBack net first zs (points_of net trail)) (sym stays.carried) (record {
@@ -127,15 +139,18 @@ module _ (net : FlowNet) (ok : IsFlowNet net) where
 -- ---- where each row is read from
 
 module _ (net : FlowNet) (ok : IsFlowNet net) where
+  -- places before which nothing comes in stay such where no arc carries more
   pub searched-less : (xs new places : List ℕ) → ((arc : ℕ) → slice_index new arc ≤ slice_index xs arc) → AreSearched net xs places → AreSearched net new places
   searched-less xs new places less searched = record {
     long = searched.long;
     none = λ w h k l m. omega (arith, less (mate net w k), searched.none w h k l m);
   }
 
+  -- places before which nothing comes in stay such where an arc carries one less
   pub searched-lower : (xs new places : List ℕ) (w k : ℕ) → length xs ≡ length net.heads → Comes net xs w k → new ≡ lowered net xs w k → AreSearched net xs places → AreSearched net new places
   searched-lower xs new places w k long comes is_new searched = searched-less xs new places (λ arc. omega (arith, ap (λ (zs : List ℕ). slice_index zs arc) is_new, none-more net ok xs long w k comes arc)) searched
 
+  -- a place of a node's row up to which nothing comes in may take the place of an earlier one
   pub searched-to : (xs places : List ℕ) (at place : ℕ) → at < node_count net → NoneComes net xs at (slice_index places at) place → AreSearched net xs places → AreSearched net xs (set places at place)
   searched-to xs places at place h none searched = record {
     long = length-set places at place ∙ searched.long;
@@ -162,6 +177,7 @@ module _ (net : FlowNet) (ok : IsFlowNet net) where
     | inr more ↦ none k more b
   ]
 
+  -- before the beginning of each row nothing comes in
   pub searched-first : (xs : List ℕ) (n : ℕ) → n ≡ node_count net → AreSearched net xs (replicate n 0)
   searched-first xs n sized = record {
     long = length-replicate n 0 ∙ sized;
@@ -196,19 +212,28 @@ all-push (r ∷ routes) route = ap (λ (vs : List ℕ). passed r ++ vs) (all-pus
 
 -- routes so far, and what is left of the flow; `first` is what reached the sink
 pub record Gathered (c : Netlist) (held : List ℕ) (net : FlowNet) (first : ℕ) (xs : List ℕ) (routes : List (List Point)) : Type 0 where
+  -- what is left is a flow, of which nothing comes in after what the routes pass
   pub ready : Ready net xs (all_passed routes)
+  -- the routes are right
   pub right : AreRoutes c held routes
+  -- they are apart from one another
   pub apart : AreApart routes
+  -- none has a point twice
   pub once : All HasNoPointTwice routes
+  -- the routes and what is left to come into the sink are what had reached it
   pub count : length routes + into net xs 1 ≡ first
 
 -- the same in every circuit with this network, and nothing is left before a place of the sink's row
 pub record Gathering (net : FlowNet) (m : RunEnd) (xs : List ℕ) (routes : List (List Point)) (place : ℕ) : Type 0 where
+  -- there is a value for each arc
   pub long : length xs ≡ length net.heads
+  -- nothing comes into the sink before this place of its row
   pub done : NoneComes net xs 1 0 place
+  -- in each circuit with this network, the routes so far and what is left go together
   pub gathered : (c : Netlist) (held : List ℕ) → IsNetworkOf c held net → Gathered c held net (slice_index m.flow.cells.excess 1) xs routes
 
 module _ (net : FlowNet) (ok : IsFlowNet net) (m : RunEnd) where
+  -- before the first walk there are no routes, and all that the arcs of a greatest flow carry is left
   pub no-routes : IsMaxPreflow net m → (xs : List ℕ) → AreCarried net m.flow.cells.residuals xs → Gathering net m xs [] 0
   no-routes end xs carried = record {
     long = carried.long;
@@ -241,6 +266,7 @@ module _ (net : FlowNet) (ok : IsFlowNet net) (m : RunEnd) where
       members : (v : ℕ) → has (all_passed (routes ++ route ∷ [])) v ≡ true → (has (all_passed routes) v || has (passed route) v) ≡ true
       members v member = sym (list_any-append (λ w. w == v) (all_passed routes) (passed route)) ∙ ap (λ (vs : List ℕ). has vs v) (sym (all-push routes route)) ∙ member
 
+  -- the route of a walk back from the sink comes to those before it
   pub more-routes : (xs ys : List ℕ) (routes : List (List Point)) (route : List Point) (place end : ℕ) → Gathering net m xs routes place → NoneComes net xs 1 place end → WalkedBack net xs ys route
       → Gathering net m ys (routes ++ route ∷ []) end
   more-routes xs ys routes route place end old none back = record {

@@ -52,8 +52,11 @@ fan-in-passable g held valid w v p reads gate =
 module _ (g : Graph) (held : List ℕ) where
   -- a point with a node: after a known latch or on either side of a passable gate
   pub record IsPlace (p : Point) : Type 0 where
+    -- its variable has a node
     pub has : has_node g held p.var ≡ true
+    -- a point before a variable is before a gate
     pub gate : p.behind ≡ false → first_gate g ≤ p.var
+    -- its variable is one of the graph's
     pub below : p.var < variables_end g
 
   abbrev pub number : Point → ℕ
@@ -62,18 +65,22 @@ module _ (g : Graph) (held : List ℕ) where
   abbrev pub side : Point → Node
   side p = cond p.behind (after p.var) (before p.var)
 
+  -- the number of a point after a latch is that of the node after it
   pub number-latch : (p : Point) → p.behind ≡ true → p.var < first_gate g → number p ≡ latch_number g held p.var
   number-latch p b low = cond-true p.behind _ _ b ∙ cond-true (nat_lt p.var (first_gate g)) _ _ (lt-ltb p.var (first_gate g) low)
 
+  -- the number of a point after a gate is that of the node after it
   pub number-after : (p : Point) → p.behind ≡ true → first_gate g ≤ p.var → number p ≡ after_number g held p.var
   number-after p b high = cond-true p.behind _ _ b ∙ cond-false (nat_lt p.var (first_gate g)) _ _ (le-ltb p.var (first_gate g) high)
 
+  -- the number of a point before a gate is that of the node before it
   pub number-before : (p : Point) → p.behind ≡ false → number p ≡ before_number g held p.var
   number-before p b = cond-false p.behind _ _ b
 
   abbrev kind : ℕ → Node
   kind n = node_at (latch_count g held) (node_variables g held) n
 
+  -- the number of a point with a node stands for the point's side of its variable
   pub kind-is : (p : Point) → IsPlace p → kind (number p) ≡ side p
   kind-is p place = elim (cases_Bool p.behind) [
     | inr front ↦ ap kind (number-before p front) ∙ at-before g held p.var place.has (place.gate front) place.below ∙ sym (cond-false p.behind (after p.var) (before p.var) front)
@@ -89,6 +96,7 @@ module _ (g : Graph) (held : List ℕ) where
     | inr front ↦ ap node_point (cond-false p.behind (after p.var) (before p.var) front) ∙ ap (λ (b : Bool). Some (record { var = p.var; behind = b })) (sym front)
   ]
 
+  -- the number of a point with a node is below the number of nodes
   pub number-below : (p : Point) → IsPlace p → number p < node_total g held
   number-below p place = elim (cases_Bool p.behind) [
     | inr front ↦ omega (arith, number-before p front, rank-gate g held p.var (place.gate front), rank-below g held p.var place.has place.below)
@@ -98,6 +106,7 @@ module _ (g : Graph) (held : List ℕ) where
     ]
   ]
 
+  -- the number of a point is that of an inner node
   pub number-inner : (p : Point) → 1 < number p
   number-inner p = elim (cases_Bool p.behind) [
     | inr front ↦ omega (arith, number-before p front)
@@ -108,9 +117,11 @@ module _ (g : Graph) (held : List ℕ) where
   ]
 
 module _ (c : Netlist) (held : List ℕ) (net : FlowNet) (is : IsNetworkOf c held net) where
+  -- the node of a point's number has that point
   pub point-of-number : (p : Point) → IsPlace c.aig held p → point_of net (number c.aig held p) ≡ Some p
   point-of-number p place = ap node_point (node-is c held net is (number c.aig held p) ∙ kind-is c.aig held p place) ∙ side-point c.aig held p
 
+  -- the number of a point with a node is that of a node of the network
   pub number-in : (p : Point) → IsPlace c.aig held p → number c.aig held p < node_count net
   number-in p place = omega (arith, number-below c.aig held p place, nodes c held net is)
 
@@ -151,12 +162,15 @@ module _ (c : Netlist) (held : List ℕ) (net : FlowNet) (is : IsNetworkOf c hel
 
   -- a step leads to a node, over an arc with a capacity
   pub record StepsTo (p q : Point) : Type 0 where
+    -- the point that is stepped to has a node
     pub place : IsPlace c.aig held q
+    -- there is a capacity from the node of the one point to that of the other
     pub some : 0 < capacity_between net (number c.aig held p) (number c.aig held q)
 
   steps-to : (p q : Point) → IsPlace c.aig held p → IsPlace c.aig held q → 0 < arc_capacity c.aig c.props held (side c.aig held p) (side c.aig held q) → StepsTo p q
   steps-to p q a b some = record { place = b; some = subst (λ (m : ℕ). 0 < m) (sym (between-is p q a b)) some }
 
+  -- a step of a route leads to a point with a node, over an arc with a capacity
   pub may-lead : (p q : Point) → IsPlace c.aig held p → may_step c.aig held p q ≡ true → StepsTo p q
   unfolding may_step
   may-lead p q at step = elim (or_cases (passes c.aig held p q) (enters c.aig held p q || returns_to c.aig held p q) step) [
@@ -199,6 +213,7 @@ module _ (c : Netlist) (held : List ℕ) (net : FlowNet) (is : IsNetworkOf c hel
       let to = may-lead p q at parts.0 in
       (leads (number c.aig held p) (number c.aig held q) to.some, (point-of-number q to.place, goes-way q rest to.place parts.1))
 
+  -- a route begins at a point with a node, to which the source has a capacity
   pub begin-some : (p : Point) → begins_at c.aig p ≡ true → IsPlace c.aig held p × (0 < capacity_between net 0 (number c.aig held p))
   begin-some p begins =
       let at = and_parts p.behind (is_known (latch_at c.aig p.var)) begins in
@@ -209,6 +224,7 @@ module _ (c : Netlist) (held : List ℕ) (net : FlowNet) (is : IsNetworkOf c hel
       ∙ cond-true {A = ℕ} (is_known (latch_at c.aig p.var)) 1 0 at.1 in
       (place, omega (arith, cap))
 
+  -- the nodes of a route's points are a way from the source
   pub route-way : (route : List Point) → is_route c held route ≡ true → IsWay net 0 (path route) route
   route-way [] r = absurd (cc)
   route-way (p ∷ rest) r =
@@ -220,6 +236,7 @@ module _ (c : Netlist) (held : List ℕ) (net : FlowNet) (is : IsNetworkOf c hel
   paths [] = []
   paths (route ∷ routes) = path route ∷ paths routes
 
+  -- the nodes of routes' points are their ways
   pub routes-ways : (routes : List (List Point)) → AllByRecursion (λ route. is_route c held route ≡ true) routes → AreWays net (paths routes) routes
   routes-ways [] all = tt
   routes-ways (route ∷ routes) all = (route-way route all.0, routes-ways routes all.1)

@@ -14,6 +14,7 @@ use Rattle.cut_cert.proofs.FrontLaws.{Grows, Sweeps, Goes, reach-long, reach-new
 -- ---- residuals of arcs and of pairs
 
 module _ (net : FlowNet) (ok : IsFlowNet net) where
+  -- each arc of a node's row is among all arcs
   pub arc-in : (w k : ℕ) → w < node_count net → k < row_len net w → start net w + k < length net.heads
   arc-in w k h l = omega (arith, h, l, ok.rows (w + 1) (node_count net) (omega (arith, h)) (omega arith), ok.last)
 
@@ -47,6 +48,7 @@ module _ (net : FlowNet) (ok : IsFlowNet net) where
 
 -- ---- what reading an arc does
 
+-- an inner node to which the sweep comes later is marked alone
 pub sweep-mark : (b : ℕ) (r : Front) (v : ℕ) → 1 < v → v < b → reach_in_sweep b r v ≡ mark r v
 unfolding reach_in_sweep
 sweep-mark b r v inner less = cond-true (nat_lt 1 v && nat_lt v b) (mark r v) (reach r v) (ap₂ (λ (x y : Bool). x && y) (lt-ltb 1 v inner) (lt-ltb v b less))
@@ -56,6 +58,7 @@ pub sweep-outer : (b : ℕ) (r : Front) (v : ℕ) → v ≤ 1 → reach_in_sweep
 unfolding reach_in_sweep
 sweep-outer b r v outer = cond-false (nat_lt 1 v && nat_lt v b) (mark r v) (reach r v) (ap (λ (x : Bool). x && nat_lt v b) (le-ltb 1 v outer))
 
+-- a node that the sweep is past is reached
 pub sweep-past : (b : ℕ) (r : Front) (v : ℕ) → 1 < v → b ≤ v → reach_in_sweep b r v ≡ reach r v
 unfolding reach_in_sweep
 sweep-past b r v inner past = cond-false (nat_lt 1 v && nat_lt v b) (mark r v) (reach r v) (ap₂ (λ (x y : Bool). x && y) (lt-ltb 1 v inner) (le-ltb v b past))
@@ -83,28 +86,34 @@ sweep-long b r v = elim (sweep-cases b r v) [
   | inr reached ↦ ap (λ (s : Front). length s.marks) reached ∙ reach-long r v
 ]
 
+-- an arc whose mate has a residual makes its head reached, or marked for the sweep
 pub arc-on : (net : FlowNet) (xs : List ℕ) (b w k : ℕ) (r : Front) → nat_lt 0 (slice_index xs (mate net w k)) ≡ true → read_arc net xs b w k r ≡ reach_in_sweep b r (head net w k)
 unfolding read_arc
 arc-on net xs b w k r e = cond-true (nat_lt 0 (slice_index xs (mate net w k))) (reach_in_sweep b r (head net w k)) r e
 
+-- an arc whose mate has no residual changes nothing
 pub arc-off : (net : FlowNet) (xs : List ℕ) (b w k : ℕ) (r : Front) → nat_lt 0 (slice_index xs (mate net w k)) ≡ false → read_arc net xs b w k r ≡ r
 unfolding read_arc
 arc-off net xs b w k r e = cond-false (nat_lt 0 (slice_index xs (mate net w k))) (reach_in_sweep b r (head net w k)) r e
 
+-- reading no arcs changes nothing
 pub arcs-none : (net : FlowNet) (xs : List ℕ) (b w : ℕ) (r : Front) → read_arcs net xs b w 0 r ≡ r
 unfolding read_arcs
 arcs-none net xs b w r = refl
 
+-- reading one arc more is reading it after those before it
 pub arcs-more : (net : FlowNet) (xs : List ℕ) (b w k : ℕ) (r : Front) → read_arcs net xs b w (suc k) r ≡ read_arc net xs b w k (read_arcs net xs b w k r)
 unfolding read_arcs
 arcs-more net xs b w k r = refl
 
+-- reading an arc leaves as many marks
 pub arc-long : (net : FlowNet) (xs : List ℕ) (b w k : ℕ) (r : Front) → length (read_arc net xs b w k r).marks ≡ length r.marks
 arc-long net xs b w k r = elim (cases_Bool (nat_lt 0 (slice_index xs (mate net w k)))) [
   | inl on ↦ ap (λ (s : Front). length s.marks) (arc-on net xs b w k r on) ∙ sweep-long b r (head net w k)
   | inr off ↦ ap (λ (s : Front). length s.marks) (arc-off net xs b w k r off)
 ]
 
+-- reading arcs leaves as many marks
 pub arcs-long : (net : FlowNet) (xs : List ℕ) (b w k : ℕ) (r : Front) → length (read_arcs net xs b w k r).marks ≡ length r.marks
 arcs-long net xs b w zero r = ap (λ (s : Front). length s.marks) (arcs-none net xs b w r)
 arcs-long net xs b w (suc k) r =
@@ -134,6 +143,7 @@ module _ (n : ℕ) (s : State) where
   abbrev pub GoesBack : ℕ → ℕ → Front → Front → Type 0
   GoesBack b k r t = Goes n (λ v. Reaches n s v) (λ u w. IsSettled b u w) k r t
 
+  -- reaching a node that reaches the sink keeps what the walk keeps, and marks it
   pub reach-back : (b : ℕ) (r : Front) (k v : ℕ) → SweepsBack b r k → v < n → Reaches n s v → GoesBack b k r (reach r v) × (is_marked (reach r v) v ≡ true)
   reach-back b r k v sweep below way = reach-goes n (λ u. Reaches n s u) (λ t w. IsSettled b t w) (settled-still b) r k v sweep below way
 
@@ -149,9 +159,12 @@ module _ (n : ℕ) (s : State) where
 
   -- the sink is marked, and the walk keeps what it keeps
   pub record Sweeping (b : ℕ) (r : Front) (k : ℕ) : Type 0 where
+    -- the walk has come to place k of the queue, and the sweep down to b
     pub sweeps : SweepsBack b r k
+    -- the sink is marked
     pub sink : is_marked r 1 ≡ true
 
+  -- with the sink reached the walk has begun
   pub sweeping-start : (b : ℕ) (r : Front) → 1 < n → r ≡ reach (no_front n) 1 → Sweeping b r 0
   sweeping-start b r two e =
       let goes = reach-back b (no_front n) 0 1 (sweeps-none n (λ u. Reaches n s u) (λ t w. IsSettled b t w)) two (0, refl) in
@@ -161,6 +174,7 @@ module _ (n : ℕ) (s : State) where
   pub sweeping-few : (b : ℕ) (r : Front) (k : ℕ) → Sweeping b r k → length r.queue ≤ n
   sweeping-few b r k sweep = sweeps-few n (λ u. Reaches n s u) (λ t w. IsSettled b t w) r k sweep.sweeps
 
+  -- the node at the queue's place k, once it is read, is behind the walk
   pub sweeping-next : (b : ℕ) (r : Front) (k v : ℕ) → SweepsBack b r k → slice_get r.queue k ≡ Some v → HasRead r v → SweepsBack b r (k + 1)
   sweeping-next b r k v sweep there reads = sweeps-next n (λ u. Reaches n s u) (λ t w. IsSettled b t w) r k v sweep there (inr reads)
 
@@ -222,6 +236,7 @@ module _ (net : FlowNet) (ok : IsFlowNet net) (xs excess labels : List ℕ) wher
 
   -- the first k arcs of w are read
   pub record HasReadArcs (t : Front) (w k : ℕ) : Type 0 where
+    -- the heads of those whose mate has a residual are marked
     pub each : (j : ℕ) → j < k → 0 < slice_index xs (mate net w j) → is_marked t (head net w j) ≡ true
 
   arcs-go : (b c : ℕ) (r : Front) (p w k : ℕ) → b ≤ c → SweepsBack (node_count net) state c r p → w < node_count net → Reaches (node_count net) state w → k ≤ row_len net w
@@ -304,12 +319,14 @@ module _ (net : FlowNet) (ok : IsFlowNet net) (xs excess labels : List ℕ) wher
 
 -- ---- a loop's next turn
 
+-- a loop's turn over an arc whose mate has a residual reads one arc more
 pub arcs-step-on : (net : FlowNet) (xs : List ℕ) (b w k : ℕ) (start before after : Front) → nat_lt 0 (slice_index xs (mate net w k)) ≡ true → before ≡ read_arcs net xs b w k start
     → after ≡ reach_in_sweep b before (head net w k) → after ≡ read_arcs net xs b w (k + 1) start
 arcs-step-on net xs b w k start before after on e step =
     let next : k + 1 ≡ suc k = omega arith in
     step ∙ sym (arc-on net xs b w k before on) ∙ ap (read_arc net xs b w k) e ∙ sym (arcs-more net xs b w k start) ∙ ap (λ (j : ℕ). read_arcs net xs b w j start) (sym next)
 
+-- a loop's turn over an arc whose mate has no residual reads one arc more
 pub arcs-step-off : (net : FlowNet) (xs : List ℕ) (b w k : ℕ) (start before after : Front) → nat_lt 0 (slice_index xs (mate net w k)) ≡ false → before ≡ read_arcs net xs b w k start → after ≡ before
     → after ≡ read_arcs net xs b w (k + 1) start
 arcs-step-off net xs b w k start before after off e step =

@@ -38,6 +38,7 @@ module _ (c : Netlist) (held : List ℕ) (net : FlowNet) (side : ℕ → Bool) (
   is_true true t = refl
   is_true false t = absurd (cc)
 
+  -- the gates of the smallest least cut of the network are the smallest least set of its circuit
   pub smallest-set : IsSmallestLeast c held s
   smallest-set = record {
     least = is-least;
@@ -48,5 +49,6 @@ module _ (c : Netlist) (held : List ℕ) (net : FlowNet) (side : ℕ → Bool) (
         (has_iff_contains r v).0 (subst (λ (b : Bool). IsTrue b) (sym ((t.1.gates.each v).1 (at.0, (at.1.0, (inside, at.1.1.1))))) refl);
   }
 
+-- of each circuit's network the gates of the smallest least cut are the smallest least set
 pub smallest_cut_is_smallest_set-law : SmallestCutIsSmallestSet
 smallest_cut_is_smallest_set-law c held net side s is least gates = smallest-set c held net side s is least gates

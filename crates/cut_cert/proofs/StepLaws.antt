@@ -68,6 +68,7 @@ module _ (c : Netlist) (held : List ℕ) (net : FlowNet) (is : IsNetworkOf c hel
         | inr none ↦ goes-some q rest to.place parts.1 x y (omega (arith, some, none, steps-next (num p) (num q) (to_sink (way rest)) x y))
       ]
 
+  -- each step of a route, on to the sink, is over an arc with a capacity
   pub route-some : (route : List Point) → is_route c held route ≡ true → (x y : ℕ) → 0 < steps_of 0 (to_sink (way route)) x y → 0 < capacity_between net x y
   route-some [] r x y some = absurd (cc)
   route-some (p ∷ rest) r x y some =
@@ -80,6 +81,7 @@ module _ (c : Netlist) (held : List ℕ) (net : FlowNet) (is : IsNetworkOf c hel
         | inr none ↦ goes-some p rest start.0 parts.1 x y (omega (arith, some, none, steps-next 0 (num p) (to_sink (way rest)) x y))
       ]
 
+  -- each step of the routes, on to the sink, is over an arc with a capacity
   pub all-some : (routes : List (List Point)) → AllByRecursion (λ route. is_route c held route ≡ true) routes → (x y : ℕ) → 0 < all_steps (all_to_sink (paths c held net is routes)) x y → 0 < capacity_between net x y
   all-some [] all x y some = absurd (omega (arith, some, all-none x y))
   all-some (route ∷ routes) all x y some = elim (cases_lt 0 (steps_of 0 (to_sink (way route)) x y)) [
@@ -99,6 +101,7 @@ module _ (c : Netlist) (held : List ℕ) (net : FlowNet) (is : IsNetworkOf c hel
       let to = may-lead c held net is p q at parts.0 in
       (to.place, goes-places q rest to.place parts.1)
 
+  -- each point of a route has a node
   pub route-places : (route : List Point) → is_route c held route ≡ true → ArePlaces route
   route-places [] r = tt
   route-places (p ∷ rest) r =
@@ -128,6 +131,7 @@ module _ (c : Netlist) (held : List ℕ) (net : FlowNet) (is : IsNetworkOf c hel
       let none : here 1 (num p) ≡ 0 = here-zero 1 (num p) (λ e. omega (arith, e, number-inner c.aig held p)) in
       omega (arith, none, no-sink rest)
 
+  -- a route without a point twice comes to each node at most once, the sink with it
   pub once-sink : (y : ℕ) (route : List Point) → is_route c held route ≡ true → HasNoPointTwice route → times y (to_sink (way route)) ≤ 1
   once-sink y route r twice = elim (cases_eq y 1) [
     | inl same ↦ (

@@ -26,6 +26,7 @@ absent v (x ∷ xs) all = elim (cases_Bool (x == v)) [
   | inr other ↦ ap (λ (b : Bool). b || has xs v) other ∙ absent v xs all.1
 ]
 
+-- the first of different nodes isn't among the others
 pub not-later : (v : ℕ) (xs : List ℕ) → Distinct (v ∷ xs) → has xs v ≡ false
 unfolding IsDistinct
 not-later v xs d = absent v xs d.0
@@ -34,12 +35,14 @@ rest-distinct : (v : ℕ) (xs : List ℕ) → Distinct (v ∷ xs) → Distinct x
 unfolding IsDistinct
 rest-distinct v xs d = d.1
 
+-- a node of the trail is below the number of nodes
 pub marked-in : (n : ℕ) (marks : List Bool) (trail : List ℕ) (v : ℕ) → AreOn n marks trail → has trail v ≡ true → v < n
 marked-in n marks trail v on member = elim (cases_lt v (length marks)) [
   | inl less ↦ omega (arith, less, on.long)
   | inr past ↦ absurd (false_true (sym (get_or_past marks v false past) ∙ on.each v ∙ member))
 ]
 
+-- a node that isn't on the trail, once it is marked, may stand in front of it
 pub on-push : (n : ℕ) (marks : List Bool) (trail : List ℕ) (v : ℕ) → v < n → has trail v ≡ false → AreOn n marks trail → AreOn n (set marks v true) (v ∷ trail)
 on-push n marks trail v h new on = record {
   long = length-set marks v true ∙ on.long;
@@ -52,6 +55,7 @@ on-push n marks trail v h new on = record {
   apart = distinct-cons v trail new on.apart;
 }
 
+-- with the mark of its first node taken away, the rest is the trail
 pub on-pop : (n : ℕ) (marks : List Bool) (trail : List ℕ) (v : ℕ) → AreOn n marks (v ∷ trail) → AreOn n (set marks v false) trail
 on-pop n marks trail v on = record {
   long = length-set marks v false ∙ on.long;
@@ -67,17 +71,21 @@ on-pop n marks trail v on = record {
 
 -- ---- a list that is read from its end
 
+-- a list with a node at its end is, read from its end, that node and then the list so read
 pub reverse-push : (xs : List ℕ) (v : ℕ) → reverse (xs ++ v ∷ []) ≡ v ∷ reverse xs
 reverse-push xs v = reverse-append xs (v ∷ [])
 
+-- a list of length 0, read from its end, is empty
 pub reverse-none : (xs ys : List ℕ) → xs ≡ ys ++ [] → length xs ≡ 0 → reverse xs ≡ []
 reverse-none [] ys e h = refl
 reverse-none (x ∷ xs) ys e h = absurd (omega (arith, h))
 
+-- what isn't in two joined lists isn't in the second
 pub suffix-absent : (xs ys : List ℕ) (v : ℕ) → has (xs ++ ys) v ≡ false → has ys v ≡ false
 suffix-absent [] ys v e = e
 suffix-absent (x ∷ xs) ys v e = suffix-absent xs ys v (or_parts (x == v) (has (xs ++ ys) v) e).1
 
+-- what stands between two lists is in the list that they make with it
 pub in-front : (xs ys : List ℕ) (v : ℕ) → has (xs ++ v ∷ ys) v ≡ true
 in-front [] ys v = or_left (v == v) (has ys v) (eq-eqb v v refl)
 in-front (x ∷ xs) ys v = elim (cases_Bool (x == v)) [
@@ -87,9 +95,11 @@ in-front (x ∷ xs) ys v = elim (cases_Bool (x == v)) [
 
 -- ---- points of nodes
 
+-- a node with a point puts it in front of the points of the others
 pub points-cons : (net : FlowNet) (v : ℕ) (nodes : List ℕ) (p : Point) → point_of net v ≡ Some p → points_of net (v ∷ nodes) ≡ p ∷ points_of net nodes
 points-cons net v nodes p e = ap (λ (o : Option Point). and_point o (points_of net nodes)) e
 
+-- a node without a point adds none
 pub points-skip : (net : FlowNet) (v : ℕ) (nodes : List ℕ) → point_of net v ≡ None → points_of net (v ∷ nodes) ≡ points_of net nodes
 points-skip net v nodes e = ap (λ (o : Option Point). and_point o (points_of net nodes)) e
 
@@ -97,10 +107,12 @@ and-append : (o : Option Point) (ps qs : List Point) → and_point o ps ++ qs �
 and-append None ps qs = refl
 and-append (Some p) ps qs = refl
 
+-- the points of joined lists of nodes are those of both, joined
 pub points-append : (net : FlowNet) (xs ys : List ℕ) → points_of net (xs ++ ys) ≡ points_of net xs ++ points_of net ys
 points-append net [] ys = refl
 points-append net (x ∷ xs) ys = ap (and_point (point_of net x)) (points-append net xs ys) ∙ sym (and-append (point_of net x) (points_of net xs) (points_of net ys))
 
+-- a node has a point or none
 pub point-cases : (net : FlowNet) (v : ℕ) → (point_of net v ≡ None) ⊎ ((p : Point) × (point_of net v ≡ Some p))
 point-cases net v = cases (point_of net v)
   where
@@ -123,6 +135,7 @@ module _ (c : Netlist) (held : List ℕ) (net : FlowNet) (is : IsNetworkOf c hel
         )
       ]
 
+  -- different nodes of a network have no point twice
   pub once-each : (nodes : List ℕ) → Distinct nodes → ((w : ℕ) → has nodes w ≡ true → w < node_count net) → HasNoPointTwice (points_of net nodes)
   unfolding IsDistinct
   once-each [] d within = tt
@@ -136,6 +149,7 @@ module _ (c : Netlist) (held : List ℕ) (net : FlowNet) (is : IsNetworkOf c hel
 
 -- ---- the steps of the code
 
+-- a table of no marks is that of an empty trail
 pub none-on : (n : ℕ) → AreOn n (replicate n false) []
 none-on n = record { long = length-replicate n false; each = unmarked; apart = distinct-none }
   where
@@ -151,17 +165,21 @@ on-lent n marks lent same on =
     let on-lent' : AreOn n lent [] = subst (λ (ms : List Bool). AreOn n ms []) (sym same) on in
     subst (λ (k : ℕ). AreOn k lent []) (sym on-lent'.long) on-lent'
 
+-- the first node of a trail is below the number of nodes
 pub first-in : (n : ℕ) (marks : List Bool) (all trail : List ℕ) (v : ℕ) → all ≡ v ∷ trail → AreOn n marks all → v < n
 first-in n marks all trail v e on = marked-in n marks all v on (ap (λ (vs : List ℕ). has vs v) e ∙ or_left (v == v) (has trail v) (eq-eqb v v refl))
 
+-- where the trail's first node is the one come back to, the trail after it is what is left
 pub cut-here : (front old cur new : List ℕ) (last node : ℕ) → old ≡ front ++ cur → cur ≡ last ∷ new → last ≡ node → Distinct cur → ComesTo node old new
 cut-here front old cur new last node parts e same d = record {
   off = ap (has new) (sym same) ∙ not-later last new (subst Distinct e d);
   how = inr (front, parts ∙ ap (λ (vs : List ℕ). front ++ vs) (e ∙ ap (λ (v : ℕ). v ∷ new) same));
 }
 
+-- where the trail's first node isn't the one looked for, that one is among the others
 pub still-there : (cur new : List ℕ) (last node : ℕ) → cur ≡ last ∷ new → (last == node) ≡ false → has cur node ≡ true → has new node ≡ true
 still-there cur new last node e other member = sym (ap (λ (b : Bool). b || has new node) other) ∙ ap (λ (vs : List ℕ). has vs node) (sym e) ∙ member
 
+-- the trail's first node goes over to what was cut off in front
 pub longer-front : (front old cur new : List ℕ) (last : ℕ) → old ≡ front ++ cur → cur ≡ last ∷ new → (front' : List ℕ) × (old ≡ front' ++ new)
 longer-front front old cur new last parts e = (front ++ last ∷ [], parts ∙ ap (λ (vs : List ℕ). front ++ vs) e ∙ sym (append_assoc front (last ∷ []) new))

@@ -64,6 +64,7 @@ all_to_sink [] = []
 all_to_sink (ns ∷ ways) = to_sink ns ∷ all_to_sink ways
 
 module _ (n : ℕ) (two : 1 < n) where
+  -- walks from the source to the sink leave each inner node as often as they come to it
   pub balance-all : (ways : List (List ℕ)) (v : ℕ) → AllBelow n two ways
       → sum_below n (all_steps (all_to_sink ways) v) + length ways * here v 1 ≡ sum_below n (λ u. all_steps (all_to_sink ways) u v) + length ways * here v 0
   balance-all [] v below = omega (arith, sum_all_zero n (all_steps [] v) (λ y l. all-none v y), sum_all_zero n (λ u. all_steps [] u v) (λ u l. all-none u v))
@@ -90,6 +91,7 @@ module _ (n : ℕ) (two : 1 < n) where
     label = λ v. 0;
   }
 
+  -- where walks use no pair beyond its capacity, the state after a unit along each is a preflow
   pub sent-preflow : (cap : ℕ → ℕ → ℕ) (ways : List (List ℕ)) → AllBelow n two ways → ((x y : ℕ) → x < n → y < n → all_steps (all_to_sink ways) x y ≤ cap x y) → IsPreflow n cap (sent cap ways)
   sent-preflow cap ways below within = record {
     paired = λ v w h l. omega (arith, within v w h l, within w v l h);

@@ -23,6 +23,7 @@ Distinct vars = IsDistinct (λ v w. v == w) vars
 false_true : false ≡ true → ⊥
 false_true e = absurd (cc)
 
+-- what isn't in a list equals none of its elements
 pub none-is : (v : ℕ) (xs : List ℕ) → has xs v ≡ false → AllByRecursion (λ w. (v == w) ≡ false) xs
 none-is v [] absent = tt
 none-is v (x ∷ xs) absent =
@@ -35,20 +36,30 @@ none-is v (x ∷ xs) absent =
       | inr other ↦ other
     ]
 
+-- a number in front of different ones, which aren't it, is with them different
 pub distinct-cons : (v : ℕ) (xs : List ℕ) → has xs v ≡ false → Distinct xs → Distinct (v ∷ xs)
 unfolding IsDistinct
 distinct-cons v xs absent d = (none-is v xs absent, d)
 
 -- the rest of a route, from the node on at which the walk stands; `reached` is what came into the sink before the walk
 pub record Walking (c : Netlist) (held : List ℕ) (net : FlowNet) (past : List ℕ) (reached : ℕ) (xs : List ℕ) (at : ℕ) (rest : List Point) : Type 0 where
+  -- no pair carries more than its capacity, and no inner node gives more than it gets, where the walk stands less
   pub holds : Holds net xs at
+  -- the walk stands at a node
   pub node : at < node_count net
+  -- the node isn't the sink
   pub inner : at ≡ 1 → ⊥
+  -- where the node has a point, the rest of the route may follow it
   pub goes : (p : Point) → point_of net at ≡ Some p → goes_on c held p rest ≡ true
+  -- at the source the rest is a route
   pub begun : at ≡ 0 → is_route c held rest ≡ true
+  -- what the rest passes are different variables
   pub apart : Distinct (passed rest)
+  -- none of them was passed before the walk
   pub off : (v : ℕ) → has (passed rest) v ≡ true → has past v ≡ false
+  -- after what the rest passes, or was passed before, nothing comes in
   pub spent : (v : ℕ) → (has (passed rest) v ≡ true) ⊎ (has past v ≡ true) → Spent net xs v
+  -- one unit less comes into the sink than before the walk
   pub count : into net xs 1 + 1 ≡ reached
 
 module _ (c : Netlist) (held : List ℕ) (net : FlowNet) (ok : IsFlowNet net) (is : IsNetworkOf c held net) where
@@ -154,6 +165,7 @@ module _ (c : Netlist) (held : List ℕ) (net : FlowNet) (ok : IsFlowNet net) (i
         | inr before ↦ subst Distinct (sym (passed-before p rest before)) walking.apart
       ]
 
+      -- the walk goes on to the tail of an arc that carries something into the node
       pub step-on : Walking c held net past reached ys u (p ∷ rest)
       step-on = record {
         holds = holds-step net ok xs w k holds comes;
@@ -176,9 +188,11 @@ module _ (c : Netlist) (held : List ℕ) (net : FlowNet) (ok : IsFlowNet net) (i
         count = omega (arith, walking.count, into-less net ok xs holds.long w k comes 1, here-zero 1 w (λ q. walking.inner (sym q)));
       }
 
+  -- a walk starts at the tail of an arc that carries something into the sink
   pub walking-start : (xs : List ℕ) (k : ℕ) (past : List ℕ) → Comes net xs 1 k → Ready net xs past → Walking c held net past (into net xs 1) (lowered net xs 1 k) (head net 1 k) []
   walking-start xs k past comes ready = start-at xs 1 k ready.holds comes past refl ready
 
+  -- a step back over an arc that carries something puts the node's point in front of the rest of the route
   pub walking-step : (xs : List ℕ) (w k : ℕ) (past : List ℕ) (reached : ℕ) (rest : List Point) (p : Point) → Comes net xs w k → Walking c held net past reached xs w rest → point_of net w ≡ Some p
       → Walking c held net past reached (lowered net xs w k) (head net w k) (p ∷ rest)
   walking-step xs w k past reached rest p comes walking at = step-on xs w k walking.holds comes past reached rest walking p at
