@@ -17,7 +17,7 @@ gate_at-first_gate g k =
     let place : first_gate g + k - first_gate g ≡ k = omega arith in
     rw (at_or_after, place)
 
--- what is there under a condition is there, and the condition holds
+-- what is found under a condition is there without it, and the condition holds
 pub if_some : {A : Type 0} (b : Bool) (o : Option A) (y : A) → cond b o None ≡ Some y → (b ≡ true) × (o ≡ Some y)
 if_some true o y e = (refl, e)
 if_some false o y e = absurd (none-some y e)

@@ -41,7 +41,7 @@ pub record LeadsTo (names : List (List ℕ)) (first : Netlist) (blocks : List Ce
   -- where there are blocks, there is one at place k
   pub another : 0 < length blocks → k < length blocks
 
--- no block leads to the first circuit itself
+-- before the first block the circuit is the first one
 pub leads-first : (names : List (List ℕ)) (first : Netlist) (blocks : List Certificate) → LeadsTo names first blocks 0 first
 leads-first names first blocks = record {
   onward = λ n end audits. let same : n ≡ 0 + n = omega arith in subst (λ (m : ℕ). Audits names first blocks m end) same audits;

@@ -135,7 +135,7 @@ pub record Passed (held : List ℕ) (c : Netlist) (before : ℕ) (d : Netlist) (
   -- what it is cleaned to is what c is cleaned to
   pub front : (x : Netlist) (more : List ℕ) → Cleans x from_held from more → Cleans x held c (composed from_kept more)
 
--- after the first pass a circuit has passed one
+-- what the first pass makes of a circuit is what passes leave of it
 pub passed-start : (held : List ℕ) (c d : Netlist) (before : ℕ) (kept still : List ℕ) → IsCircuit c → All (λ j. j < length c.aig.latches) held → IsPass held c d kept still → before ≡ latches_and_gates c.aig
     → Passed held c before d kept still
 passed-start held c d before kept still valid in_range pass size =

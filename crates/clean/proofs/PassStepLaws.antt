@@ -35,42 +35,42 @@ module _ (c : Netlist) (held : List ℕ) (graph : IsGraph c.aig) (netlist : IsNe
   pub merged-graph : IsGraph g
   merged-graph = subst (λ (h : Graph). IsGraph h) (sym aig) (IsGraph-merged c.aig held graph)
 
-  -- with the circuit's symbols it is the merged circuit
+  -- the merged graph and properties with the circuit's symbols are the merged circuit
   pub whole : ◌≡◌ {A = Netlist} (record { aig = g; props = p; symbols = c.symbols }) (merged_of held c)
   whole =
       let first : Graph → Netlist = λ h. record { aig = h; props = p; symbols = c.symbols } in
       let second : Props → Netlist = λ q. record { aig = (merged_of held c).aig; props = q; symbols = c.symbols } in
       ap first aig ∙ ap second props
 
-  -- with the circuit's symbols it is a circuit
+  -- the merged graph and properties with the circuit's symbols are a circuit
   pub merged-netlist : IsNetlist (record { aig = g; props = p; symbols = c.symbols })
   merged-netlist = subst (λ (d : Netlist). IsNetlist d) (sym whole) (IsNetlist-merged held c graph netlist)
 
-  -- its properties are literals of it
+  -- the merged properties are literals of the merged graph
   pub merged-props : OfProps (λ lit. IsLiteralOf g lit) p
   merged-props = of_literals (λ lit. IsLiteralOf g lit) p (literals_within g p merged-netlist.props)
 
-  -- it has as many latches as the circuit
+  -- the merged graph has as many latches as the circuit
   pub merged-latches : length g.latches ≡ length c.aig.latches
   merged-latches = ap (λ (h : Graph). length h.latches) aig ∙ length-replaced_latches (stands_of c.aig held) c.aig
 
-  -- positions of the circuit's latches are positions of its latches
+  -- positions of the circuit's latches are positions of the merged graph's
   pub merged-range : All (λ j. j < length c.aig.latches) held → All (λ j. j < length g.latches) held
   merged-range in_range = λ k d h. let here : get_or held k d < length c.aig.latches = in_range k d h in omega (arith, merged-latches)
 
-  -- the names of latches are at positions of its latches
+  -- the names of latches are at positions of the merged graph's latches
   pub merged-names : All (λ name. name.position < length g.latches) c.symbols.latches
   merged-names = merged-netlist.symbols.latches.below
 
   module _ (s : ℕ → Bool) (reached : AreReached g p held s) where
-    -- trimmed to what is reached it is a graph
+    -- trimmed to what is reached the merged graph is a graph
     pub pass-graph : IsGraph (trimmed_graph g s)
     pass-graph = IsGraph-trimmed (netlist_of g p c.symbols) held s merged-graph reached.holds
 
-    -- trimmed to what is reached it is a circuit
+    -- trimmed to what is reached the merged circuit is a circuit
     pub pass-netlist : IsNetlist (trimmed_of (record { aig = g; props = p; symbols = c.symbols }) s)
     pass-netlist = IsNetlist-trimmed (netlist_of g p c.symbols) held s merged-graph merged-netlist reached.holds
 
-    -- what is reached in it is what is reached in the merged circuit
+    -- what is reached in the merged graph is what is reached in the merged circuit
     pub pass-reached : AreReached (merged_of held c).aig (merged_of held c).props held s
     pass-reached = subst (λ (q : Props). AreReached (merged_of held c).aig q held s) props (subst (λ (h : Graph). AreReached h p held s) aig reached)

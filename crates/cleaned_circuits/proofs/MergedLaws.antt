@@ -20,30 +20,30 @@ use Rattle.aig_graph.proofs.PropsLaws.{mapped-literals, mapped-props, literals_w
 use Rattle.cleaned_circuits.proofs.StandLaws.{replaced-within, replaced_literal-value}
 
 module _ (stands : List ℕ) (g : Graph) where
-  -- a graph that reads what stands for what it read has its inputs
+  -- a replaced graph, which reads what stands for what it read, has the graph's inputs
   pub replaced-inputs : (replaced_graph stands g).inputs ≡ g.inputs
   unfolding replaced_graph
   replaced-inputs = refl
 
-  -- a graph that reads what stands for what it read has as many latches
+  -- a replaced graph has as many latches
   pub length-replaced_latches : length (replaced_graph stands g).latches ≡ length g.latches
   unfolding replaced_graph
   length-replaced_latches = length-map g.latches (replaced_latch stands)
 
-  -- a graph that reads what stands for what it read has as many gates
+  -- a replaced graph has as many gates
   pub length-replaced_gates : length (replaced_graph stands g).gates ≡ length g.gates
   unfolding replaced_graph
   length-replaced_gates = length-map g.gates (replaced_gate stands)
 
-  -- its first latch stands where it stood
+  -- the first latch of a replaced graph stands where it stood
   pub replaced-first_latch : first_latch (replaced_graph stands g) ≡ first_latch g
   replaced-first_latch = omega (arith, replaced-inputs)
 
-  -- its first gate stands where it stood
+  -- the first gate of a replaced graph stands where it stood
   pub replaced-first_gate : first_gate (replaced_graph stands g) ≡ first_gate g
   replaced-first_gate = omega (arith, replaced-inputs, length-replaced_latches)
 
-  -- its variables end where they ended
+  -- the variables of a replaced graph end where they ended
   pub replaced-end : variables_end (replaced_graph stands g) ≡ variables_end g
   replaced-end = omega (arith, replaced-inputs, length-replaced_latches, length-replaced_gates)
 
@@ -67,7 +67,7 @@ module _ (stands : List ℕ) (g : Graph) where
   unfolding replaced_graph
   from_gate k gate e = from_map (replaced_gate stands) g.gates k gate e
 
-  -- before each latch there are as many free ones
+  -- before each latch of a replaced graph there are as many free ones
   pub replaced-free_before : (j : ℕ) → free_before (replaced_graph stands g) j ≡ free_before g j
   unfolding replaced_graph
   replaced-free_before j = count_by-take_map is_free is_free (replaced_latch stands) (λ latch. refl) j g.latches

@@ -18,7 +18,7 @@ use Rattle.cleaned_circuits.proofs.TrimmedNameLaws.{IsNetlist-trimmed}
 
 -- a circuit in order
 pub record IsCircuit (c : Netlist) : Type 0 where
-  -- its graph is one
+  -- its graph has few enough variables, next literals in range, and gates in order
   pub graph : IsGraph c.aig
   -- its properties and symbols are in order
   pub netlist : IsNetlist c

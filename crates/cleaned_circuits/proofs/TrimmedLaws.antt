@@ -46,7 +46,7 @@ module _ (g : Graph) (s : ℕ → Bool) where
   unfolding trimmed_graph
   trimmed-inputs = refl
 
-  -- its first latch stands where the graph's does
+  -- the first latch of a trimmed graph stands where the graph's does
   pub trimmed-first_latch : first_latch (trimmed_graph g s) ≡ first_latch g
   trimmed-first_latch = omega (arith, trimmed-inputs)
 
@@ -62,7 +62,7 @@ module _ (g : Graph) (s : ℕ → Bool) where
         ap (count_below (stays g s)) place,
       )
 
-  -- its first gate stands at the new variable of the graph's first gate
+  -- the first gate of a trimmed graph stands at the new variable of the graph's first gate
   pub trimmed-first_gate : first_gate (trimmed_graph g s) ≡ new_variable g s (first_gate g)
   trimmed-first_gate = omega (arith, latches-long, trimmed-inputs)
 
@@ -77,7 +77,7 @@ module _ (g : Graph) (s : ℕ → Bool) where
         ap (count_below (stays g s)) place,
       )
 
-  -- its variables end at the new variable of the graph's end
+  -- the variables of a trimmed graph end at the new variable of the graph's end
   pub trimmed-end : variables_end (trimmed_graph g s) ≡ new_variable g s (variables_end g)
   trimmed-end = omega (arith, gates-long, trimmed-first_gate)
 

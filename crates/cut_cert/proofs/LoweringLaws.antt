@@ -146,7 +146,7 @@ module _ (net : FlowNet) (ok : IsFlowNet net) (xs : List ℕ) (long : length xs 
     sum_below-same (node_count net) (λ v. out_of net ys v + here v (head net w k)) (out_of net xs) (λ v l. out-less v l),
   )
 
-  -- there are values for as many arcs
+  -- lowering an arc leaves values for as many arcs
   pub long-after : length ys ≡ length net.heads
   long-after = length-set xs (mate net w k) (slice_index xs (mate net w k) - 1) ∙ long
 

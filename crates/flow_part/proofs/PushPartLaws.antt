@@ -32,9 +32,9 @@ ahead_all net w all ok cut = record {
 
 -- the part holds the row of node w
 pub record Here (net : FlowNet) (w : ℕ) (all : List PushPart) (p : PushPart) : Type 0 where
-  -- the row begins after the part's base
+  -- the row begins no earlier than the part's values
   pub after : p.base ≤ start net w
-  -- it ends before the part's values do
+  -- the row ends no later than the part's values
   pub before : start net (w + 1) ≤ p.base + length p.values.items
   -- each push of the row is at its place in the part
   pub value : (arc : ℕ) → start net w ≤ arc → arc < start net (w + 1) → slice_index (values_of all) arc ≡ slice_index p.values.items (arc - p.base)

@@ -75,11 +75,11 @@ slice_at values from to j h = get_or-take (to - from) (drop from values) j 0 h �
 
 -- the places of a range within a part
 pub record RangeIn {P : Type 0} (first end : P → ℕ) (values : P → List ℕ) (pos : ℕ → ℕ) (p : P) (a b : ℕ) : Type 0 where
-  -- the range begins after the part does
+  -- the range begins no earlier than the part
   pub after : pos (first p) ≤ pos a
-  -- it ends no earlier than it begins
+  -- the range ends no earlier than it begins
   pub ordered : pos a ≤ pos b
-  -- it ends before the part does
+  -- the range ends no later than the part's values
   pub before : pos b ≤ pos (first p) + length (values p)
 
 -- what of a range lies in a part has its places within the part's

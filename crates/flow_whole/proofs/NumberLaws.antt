@@ -54,7 +54,7 @@ numbered_read net labels first end c ps rs len g n i e h =
     let inside : i < length ps = omega (arith, h, len) in
     (g i e inside).same_worker ∙ n i e inside
 
--- after a read that counts on they are so too
+-- after a read that counts on the parts of pushes are still the workers' in their order
 pub numbered_read_on : (net : FlowNet) (labels : List ℕ) (first end : ℕ) (c : Cells) (ps rs : List PushPart) → length rs ≡ length ps → PartsReadOn net labels first end c ps rs → PushesNumbered ps → PushesNumbered rs
 numbered_read_on net labels first end c ps rs len g = numbered_read net labels first end c ps rs len (λ i e h. (g i e h).is_read)
 

@@ -210,7 +210,7 @@ module _ (g : Graph) (props : Props) (held : List ℕ) (valid : IsGraph g) (side
   to : (x : ℕ) (b : Node) → node_at (latch_count g held) (node_variables g held) x ≡ b → capacity g props held 0 x ≡ arc_capacity g props held source b
   to x b at = cap-at g props held valid 0 x source b refl at
 
-  -- these are shares of nodes by what variables add to the cut
+  -- what nodes add to the cut are shares of what variables add to it
   pub are-shares : Shares g held share (crosses g held side)
   unfolding share
   are-shares = record {

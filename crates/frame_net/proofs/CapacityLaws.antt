@@ -85,7 +85,7 @@ module _ (g : Graph) (props : Props) (held : List ℕ) (valid : IsGraph g) where
       apart : adjacent (capacity g props held) 1 0 ≡ false
       apart = ap₂ (λ (x y : ℕ). nat_lt 0 (x + y)) (cap-at g props held valid 1 0 sink source refl refl) (cap-at g props held valid 0 1 source sink refl refl)
 
-  -- there are at most four edges for each node past the sink
+  -- the edges below a node are at most four for each node between the sink and it
   pub few-edges : (v : ℕ) → 2 ≤ v → v ≤ node_total g held → length (edges_below (capacity g props held) v) ≤ 4 * (v - 2)
   few-edges zero two h = absurd (omega (arith, two))
   few-edges (suc v) two h = elim (cases_eq v 1) [

@@ -14,7 +14,7 @@ use Rattle.pulse.proofs.RangeLaws.{flow_parts, flow_ranges, push_parts, push_ran
 pub parts_of : (net : FlowNet) (f : FlowState) (qs : List FlowPart) (ls : List ℕ) (ds : List Bool) (cs : List ℕ) (b : Bool) → flow_state qs ls ds cs b ≡ f → b ≡ false → IsFlowOf net f → AreFlowParts net 0 qs
 parts_of net f qs ls ds cs b e eb fits = flow_parts net 0 qs ((subst (λ (g : FlowState). IsFlowOf net g) (sym e) fits).ranges eb)
 
--- unspent pushes of the network have parts that hold its rows, end to end
+-- the parts of unspent pushes hold the network's rows, end to end
 pub rows_of : (net : FlowNet) (p : PushState) (ps : List PushPart) (b : Bool) → push_state ps b ≡ p → b ≡ false → ArePushesOf net p → ArePushParts net 0 ps
 rows_of net p ps b e eb fits = push_parts net 0 ps ((subst (λ (g : PushState). ArePushesOf net g) (sym e) fits).ranges eb)
 
@@ -22,7 +22,7 @@ rows_of net p ps b e eb fits = push_parts net 0 ps ((subst (λ (g : PushState). 
 pub parts_seen : (net : FlowNet) (f : FlowState) (qs seen : List FlowPart) (ls : List ℕ) (ds : List Bool) (cs : List ℕ) (b : Bool) → flow_state qs ls ds cs b ≡ f → seen ≡ qs → b ≡ false → IsFlowOf net f → AreFlowParts net 0 seen
 parts_seen net f qs seen ls ds cs b e es eb fits = subst (λ (x : List FlowPart). AreFlowParts net 0 x) (sym es) (parts_of net f qs ls ds cs b e eb fits)
 
--- so they have by a slice of their parts
+-- a slice of the parts of unspent pushes holds the network's rows, end to end
 pub rows_seen : (net : FlowNet) (p : PushState) (ps seen : List PushPart) (b : Bool) → push_state ps b ≡ p → seen ≡ ps → b ≡ false → ArePushesOf net p → ArePushParts net 0 seen
 rows_seen net p ps seen b e es eb fits = subst (λ (x : List PushPart). ArePushParts net 0 x) (sym es) (rows_of net p ps b e eb fits)
 

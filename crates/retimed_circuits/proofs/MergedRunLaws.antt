@@ -75,7 +75,7 @@ merged-one-run choice c names max_frames certify other r s p q =
     } in
     subst (λ (x : Retimed). W x s) (sym p.whole) (subst (λ (y : Retimed). W (since_merged (length c.aig.latches) p.kept p.counts p.from_start) y) (sym q.whole) whole)
 
--- a circuit is retimed to one result, with latches merged first or not, but for certificates that are wanted of one alone and routes
+-- merged first or not, as is chosen, a circuit is retimed to one result, but for certificates wanted of one alone, and routes
 pub retiming-with-one : (merge : Bool) (choice : Choice) (c : Netlist) (names : List (List ℕ)) (max_frames : ℕ) (certify other : Bool) (r s : Retimed)
     → IsRetimedWith merge choice c names max_frames certify r → IsRetimedWith merge choice c names max_frames other s → IsSameRetiming certify other r s
 retiming-with-one false choice c names max_frames certify other r s p q = retiming-one choice c names max_frames certify other r s p q

@@ -89,7 +89,7 @@ shorter choice c names max_frames certify other r s p q less =
     let none : known_latches r.circuit.aig ≤ count_in names r.circuit more.0 = p.last (omega (arith, less, q.within)) more.0 (chosen-least choice r.circuit (held_in names r.circuit) more.0 more.1.chosen).closed in
     omega (arith, none, more.1.fewer)
 
--- a circuit is retimed to one result without merging, but for certificates that are wanted of one alone and routes
+-- without merging a circuit is retimed to one result, but for certificates wanted of one alone, and routes
 pub retiming-one : (choice : Choice) (c : Netlist) (names : List (List ℕ)) (max_frames : ℕ) (certify other : Bool) (r s : Retimed) → IsRetimed choice c names max_frames certify r → IsRetimed choice c names max_frames other s → IsSameRetiming certify other r s
 retiming-one choice c names max_frames certify other r s p q = elim (cases_order (length r.frames) (length s.frames)) [
   | inl here ↦ (
