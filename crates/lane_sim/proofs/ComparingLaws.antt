@@ -84,6 +84,7 @@ module _ (c d : Netlist) (sequences others : List InputSequence) (b : ℕ) (xs y
       let in_lanes : k < 256 = omega (arith, h, short) in
       steps_same others k in_lanes ∙ alike.long (256 * b + k) ∙ sym (steps_same sequences k in_lanes)
 
+  -- where the circuits have as many properties, both have a row at each step of each sequence of a block
   pub have_rows : HaveAsMany c d → (k t : ℕ) → k < length (block_of sequences b) → t < steps_of (block_of sequences b) k → HaveRow xs ys t
   have_rows as_many k t h l =
       let run = in_lane (block_of sequences b) k in

@@ -90,6 +90,7 @@ unfolding total
 pieces_long [] = refl
 pieces_long (xs ∷ xss) = length-append xs (flat_map (λ ys. ys) xss) ∙ ap (λ (n : ℕ). length xs + n) (pieces_long xss)
 
+-- circuits of one shape have as many properties
 pub as_many : (c d : Netlist) → SameShape c d → HaveAsMany c d
 as_many c d same =
     let p = c.props in
@@ -136,6 +137,7 @@ module _ (c d : Netlist) (sequences others : List InputSequence) (alike : AreAli
   other_step : (s t p : ℕ) → s < length sequences → t < steps_of sequences s → at_place (trace d others) s t p ≡ slice_get (rows_by d others s t) p
   other_step s t p inside step = at_step d others s t p (omega (arith, inside, alike.many)) (step_of_other s t step)
 
+  -- where no row differs at any step of any sequence, the traces are the same
   pub traces_same : AreSame 0 (length sequences) (steps_of sequences) (rows_by c sequences) (rows_by d others) → trace c sequences ≡ trace d others
   unfolding trace
   traces_same same =
@@ -175,6 +177,7 @@ module _ (c d : Netlist) (sequences others : List InputSequence) (alike : AreAli
       (subst (λ t. at_place (trace c sequences) p.sequence t q.place ≡ at_place (trace d others) p.sequence t q.place) (sym step)
       (at_step c sequences p.sequence p.step q.place h.below_high h.has_step ∙ h.here.before q.place earlier ∙ sym (other_step p.sequence p.step q.place h.below_high h.has_step)))
 
+  -- the first place at which rows differ is the first difference of the traces
   pub difference : (p : Place) → IsFirstOf 0 (length sequences) (steps_of sequences) (rows_by c sequences) (rows_by d others) p
       → IsFirstDifference (trace c sequences) (trace d others) p
   difference p h = record {
@@ -199,6 +202,7 @@ module _ (c d : Netlist) (sequences others : List InputSequence) (alike : AreAli
 pub alike_itself : (sequences : List InputSequence) → AreAlike sequences sequences
 alike_itself sequences = record { many = refl; long = λ k. refl }
 
+-- sequences with the kept free latches alone are as many, and each as long
 pub alike_kept : (kept : List ℕ) (sequences : List InputSequence) → AreAlike sequences (map (for_kept kept) sequences)
 alike_kept kept sequences = record { many = length-map sequences (for_kept kept); long = long sequences } where
   long : (runs : List InputSequence) (k : ℕ) → steps_of (map (for_kept kept) runs) k ≡ steps_of runs k

@@ -28,6 +28,7 @@ rising-push xs g rising after k h = elim (cases_lt (k + 1) (length xs)) [
       omega (arith, this, next, most, after))
 ]
 
+-- no places are a list of rising places
 pub no_places : (free : ℕ) → ArePlaces free []
 no_places free = record { rising = λ k h. absurd (omega (arith, h)); below = search rules }
 

@@ -36,6 +36,7 @@ near-next : (c : Netlist) (name : List ℕ) (depth v : ℕ) → v < variables_en
 unfolding is_near
 near-next c name depth v h = sym (ap (λ (b : Bool). b && (is_near c name depth v || is_next c.aig (is_near c name depth) v)) (lt-ltb v (variables_end c.aig) h))
 
+-- what is the centre is what is near by no step
 pub near-none : (c : Netlist) (name : List ℕ) (marks : List Bool) → marks ≡ table 0 (variables_end c.aig) (is_centre c name)
     → marks ≡ table 0 (variables_end c.aig) (is_near c name 0)
 near-none c name marks filled = filled ∙ table-same 0 (variables_end c.aig) _ _ false (λ v low high. near-start c name v (omega (arith, high)))

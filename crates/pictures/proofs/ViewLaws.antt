@@ -74,6 +74,7 @@ module _ (c : Netlist) (held : List ℕ) (set : Option (List ℕ)) (shown : ℕ 
   unfolding look_in
   looks_are v = look_is c held set view.first view.looks.items is.first is.looks v
 
+  -- the text made with a view's looks and marks is the picture
   pub picture_is : dot_text (look_in view) (drawn_in view) view.centre c ≡ picture c held set shown centre
   picture_is =
       ap₂ (λ (look : ℕ → Look) (drawn : ℕ → Bool). dot_text look drawn view.centre c)
