@@ -7,7 +7,7 @@ use Rattle.aig_graph.specs.Folding.{fold_gates, fold_to_depth}
 use Rattle.aig_graph.specs.Border.{is_read_outside}
 use Rattle.frame_net.specs.declared.net.Point.{Point}
 use Rattle.frame_net.specs.Passable.{is_passable}
-use Rattle.frame_net.specs.Capacity.{leaves}
+use Rattle.frame_net.specs.Capacity.{is_observed}
 use Rattle.certificates.specs.Routes.{is_route, goes_on, may_step, passed, all_passed}
 
 abbrev before : ℕ → Point
@@ -33,7 +33,7 @@ routes_of_two :
     × (is_route two [] (after 3 ∷ before 5 ∷ []) ≡ false) × (is_route two [] (after 3 ∷ []) ≡ false) × (is_route two [] [] ≡ false)
     × (is_route two [] (before 5 ∷ after 5 ∷ []) ≡ false) × (is_route two (0 ∷ []) (after 3 ∷ before 5 ∷ after 5 ∷ []) ≡ false)
     × (is_route two (0 ∷ []) (after 3 ∷ []) ≡ true)
-unfolding goes_on may_step leaves is_passable is_settled is_read_outside fold_gates fold_to_depth
+unfolding goes_on may_step is_observed is_passable is_settled is_read_outside fold_gates fold_to_depth
 routes_of_two = (refl, refl, refl, refl, refl, refl, refl, refl)
 
 -- both pass after the gate
@@ -59,5 +59,5 @@ routes_of_four :
     × (is_route four [] (after 7 ∷ before 10 ∷ before 9 ∷ after 9 ∷ []) ≡ true)
     × (is_route four [] (after 8 ∷ before 11 ∷ after 11 ∷ before 12 ∷ after 12 ∷ []) ≡ true)
     × (is_route four [] (after 7 ∷ before 10 ∷ before 11 ∷ after 11 ∷ []) ≡ false)
-unfolding goes_on may_step leaves is_passable is_settled is_read_outside fold_gates fold_to_depth
+unfolding goes_on may_step is_observed is_passable is_settled is_read_outside fold_gates fold_to_depth
 routes_of_four = (refl, refl, refl, refl, refl)

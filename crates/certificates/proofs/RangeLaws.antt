@@ -7,7 +7,7 @@ use Rattle.variable_tables.specs.Marking.{mark_at}
 use Rattle.aig_graph.specs.Graph.{Graph, first_latch, variables_end, latch_at, gate_at, is_known}
 use Rattle.aig_graph.specs.Circuits.{Netlist}
 use Rattle.frame_net.specs.declared.net.Point.{Point}
-use Rattle.frame_net.specs.Capacity.{leaves}
+use Rattle.frame_net.specs.Capacity.{is_observed}
 use Rattle.certificates.specs.Routes.{is_on, begins_at, may_step, goes_on, is_route, passed, all_passed}
 use Rattle.certificates.specs.Verdicts.{AreRoutes}
 use Rattle.certificates.proofs.RouteLaws.{passed-behind, passed-before}

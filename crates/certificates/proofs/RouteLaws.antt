@@ -18,7 +18,7 @@ use Rattle.aig_graph.proofs.SearchLaws.{has_iff_contains}
 use Rattle.aig_graph.proofs.KindLaws.{latch_at-gates, gate_place, latch_place}
 use Rattle.frame_net.specs.declared.net.Point.{Point}
 use Rattle.frame_net.specs.Passable.{is_passable}
-use Rattle.frame_net.specs.Capacity.{gate_reads, leaves}
+use Rattle.frame_net.specs.Capacity.{gate_reads, is_observed}
 use Rattle.frame_net.proofs.PassableLaws.{gate_cases, passable-means}
 use Rattle.frame_cuts.proofs.ReadLaws.{read-split, read-by_gate}
 use Rattle.frame_cuts.proofs.NetLaws.{gate-range}
@@ -69,9 +69,9 @@ module _ (c : Netlist) (held t : List ℕ) (set : IsClosedSet c.aig held t) wher
       true_from : (b : Bool) → IsTrue b → b ≡ true
       true_from b e = e
 
-  leaves-borders : (v : ℕ) → holds v ≡ true → leaves c.aig c.props held v ≡ true → borders v ≡ true
-  unfolding leaves borders
-  leaves-borders v h l = and_from (holds v) _ h (elim (or_cases (is_held c.aig held v) _ l) [
+  is_observed-borders : (v : ℕ) → holds v ≡ true → is_observed c.aig c.props held v ≡ true → borders v ≡ true
+  unfolding is_observed borders
+  is_observed-borders v h l = and_from (holds v) _ h (elim (or_cases (is_held c.aig held v) _ l) [
     | inl held' ↦ or_left (is_held c.aig held v) (is_read c t v) held'
     | inr read ↦ or_right (is_held c.aig held v) (is_read c t v) (read_too read)
   ])
@@ -133,8 +133,8 @@ module _ (c : Netlist) (held t : List ℕ) (set : IsClosedSet c.aig held t) wher
   walk : (p : Point) (rest : List Point) → is_inside p ≡ true → goes_on c held p rest ≡ true → 1 ≤ count_by borders (passed (p ∷ rest))
   unfolding goes_on may_step holds
   walk p [] inside g =
-      let parts = and_parts p.behind (leaves c.aig c.props held p.var) g in
-      passes-here p [] parts.0 (leaves-borders p.var (sym (inside-behind p parts.0) ∙ inside) parts.1)
+      let parts = and_parts p.behind (is_observed c.aig c.props held p.var) g in
+      passes-here p [] parts.0 (is_observed-borders p.var (sym (inside-behind p parts.0) ∙ inside) parts.1)
   walk p (q ∷ rest) inside g =
       let parts = and_parts (may_step c.aig held p q) (goes_on c held q rest) g in
       elim (or_cases (passes c.aig held p q) (enters c.aig held p q || returns_to c.aig held p q) parts.0) [

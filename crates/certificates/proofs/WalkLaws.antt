@@ -14,7 +14,7 @@ use Rattle.aig_graph.proofs.KindLaws.{gate_place, latch_place}
 use Rattle.frame_net.specs.declared.net.Point.{Point}
 use Rattle.frame_net.specs.declared.pass_set.PassSet.{PassSet}
 use Rattle.frame_net.specs.Passable.{is_passable, IsPassSet}
-use Rattle.frame_net.specs.Capacity.{leaves}
+use Rattle.frame_net.specs.Capacity.{is_observed}
 use Rattle.frame_net.proofs.PassableLaws.{passable-means}
 use Rattle.certificates.specs.Routes.{is_on, passes, enters, returns_to, may_step, goes_on}
 use Rattle.certificates.proofs.RouteLaws.{four_parts}
@@ -57,12 +57,12 @@ on-range g v on = elim (or_cases (is_known (latch_at g v)) (is_some (gate_at g v
     of_gate (Some gate) e k = let place = gate_place g v gate e in (omega (arith, place.from), place.below)
 
 -- the table's mark of such a variable
-pub leaving-mark : (c : Netlist) (held : List ℕ) (marks : List Bool) (v : ℕ) → marks ≡ table (first_latch c.aig) (latches_and_gates c.aig) (leaves c.aig c.props held) → is_on c.aig v ≡ true
-    → mark_at (first_latch c.aig) marks v ≡ leaves c.aig c.props held v
+pub leaving-mark : (c : Netlist) (held : List ℕ) (marks : List Bool) (v : ℕ) → marks ≡ table (first_latch c.aig) (latches_and_gates c.aig) (is_observed c.aig c.props held) → is_on c.aig v ≡ true
+    → mark_at (first_latch c.aig) marks v ≡ is_observed c.aig c.props held v
 leaving-mark c held marks v filled on =
     let at = on-range c.aig v on in
-    mark_at-covered (first_latch c.aig) marks (leaves c.aig c.props held) v (AreMarks-table (first_latch c.aig) (latches_and_gates c.aig) marks (leaves c.aig c.props held) filled)
-    at.0 (omega (arith, at.1, ap length filled, length-table (first_latch c.aig) (latches_and_gates c.aig) (leaves c.aig c.props held)))
+    mark_at-covered (first_latch c.aig) marks (is_observed c.aig c.props held) v (AreMarks-table (first_latch c.aig) (latches_and_gates c.aig) marks (is_observed c.aig c.props held) filled)
+    at.0 (omega (arith, at.1, ap length filled, length-table (first_latch c.aig) (latches_and_gates c.aig) (is_observed c.aig c.props held)))
 
 from : (rest : List Point) (k : ℕ) (d : Point) → k < length rest → drop k rest ≡ slice_index_or rest k d ∷ drop (k + 1) rest
 from rest k d h =
@@ -89,7 +89,7 @@ pub step-is : (g h : Graph) (held : List ℕ) (pass : PassSet) (r : Bool) (p q :
 step-is g h held pass r p q same is of = subst (λ (f : Graph). IsPassSet f held pass → r ≡ may_step f held p q) same (is held) of
 
 -- the end of the walk
-pub goes-end : (c : Netlist) (held : List ℕ) (marks : List Bool) (p : Point) (rest : List Point) (k first : ℕ) → length rest ≤ k → marks ≡ table (first_latch c.aig) (latches_and_gates c.aig) (leaves c.aig c.props held)
+pub goes-end : (c : Netlist) (held : List ℕ) (marks : List Bool) (p : Point) (rest : List Point) (k first : ℕ) → length rest ≤ k → marks ≡ table (first_latch c.aig) (latches_and_gates c.aig) (is_observed c.aig c.props held)
     → is_on c.aig p.var ≡ true → first ≡ first_latch c.aig → goes_on c held p (drop k rest) ≡ (p.behind && mark_at first marks p.var)
 unfolding goes_on
 goes-end c held marks p rest k first past filled on from =

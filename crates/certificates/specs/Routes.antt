@@ -4,7 +4,7 @@ use Rattle.aig_graph.specs.Graph.{Graph, latch_at, gate_at, is_known}
 use Rattle.aig_graph.specs.Circuits.{Netlist}
 use Rattle.frame_net.specs.declared.net.Point.{Point}
 use Rattle.frame_net.specs.Passable.{is_passable}
-use Rattle.frame_net.specs.Capacity.{gate_reads, leaves}
+use Rattle.frame_net.specs.Capacity.{gate_reads, is_observed}
 
 -- a route begins after a known latch
 abbrev pub begins_at : Graph → Point → Bool
@@ -31,7 +31,7 @@ is_on g v = is_known (latch_at g v) || is_some (gate_at g v)
 
 -- whether the rest of a route may follow a point: it ends after a variable that is held, or read from outside the passable gates
 unfoldable pub goes_on : Netlist → List ℕ → Point → List Point → Bool
-goes_on c held p [] = p.behind && leaves c.aig c.props held p.var
+goes_on c held p [] = p.behind && is_observed c.aig c.props held p.var
 goes_on c held p (q ∷ rest) = may_step c.aig held p q && goes_on c held q rest
 
 -- whether the points are a route

@@ -5,7 +5,7 @@ ghost use Rattle.variable_tables.specs.Tables.{table};
 ghost use Rattle.aig_graph.specs.Graph.{first_latch, latches_and_gates};
 ghost use Rattle.aig_graph.specs.Closed.{IsClosedSet};
 ghost use Rattle.frame_net.specs.Passable.{IsPassSet};
-ghost use Rattle.frame_net.specs.Capacity.{leaves};
+ghost use Rattle.frame_net.specs.Capacity.{is_observed};
 ghost use Rattle.certificates.specs.Verdicts.{AreApart, AreRoutes, IsVerdict};
 
 use crate::apart::{are_distinct, passed_by};
@@ -45,7 +45,8 @@ fn all_routes(
 ) -> bool
     requires pass { IsPassSet circuit.now.aig keep.now pass.now }
     requires leaving { leaving.now ≡ table (first_latch circuit.now.aig)
-        (latches_and_gates circuit.now.aig) (leaves circuit.now.aig circuit.now.props keep.now) }
+        (latches_and_gates circuit.now.aig) (is_observed circuit.now.aig circuit.now.props
+        keep.now) }
     ensures { IsTrue result ↔ AreRoutes circuit.now keep.now routes.now }
 {
     for route in routes {

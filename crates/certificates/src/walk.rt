@@ -6,7 +6,7 @@ ghost use Rattle.variable_tables.specs.Marking.{mark_at};
 ghost use Rattle.variable_tables.specs.Tables.{table};
 ghost use Rattle.aig_graph.specs.Graph.{Graph, first_latch, latches_and_gates, gate_at};
 ghost use Rattle.frame_net.specs.Passable.{IsPassSet, is_passable};
-ghost use Rattle.frame_net.specs.Capacity.{gate_reads, leaves};
+ghost use Rattle.frame_net.specs.Capacity.{gate_reads, is_observed};
 ghost use Rattle.certificates.specs.Routes.{begins_at, passes, enters, returns_to, may_step, goes_on, is_route, is_on};
 
 use aig_graph::{Aig, Circuit, Keep};
@@ -90,7 +90,8 @@ fn goes_on(
     requires first { is_on circuit.now.aig first.var ≡ true }
     requires pass { IsPassSet circuit.now.aig keep.now pass.now }
     requires leaving { leaving.now ≡ table (first_latch circuit.now.aig)
-        (latches_and_gates circuit.now.aig) (leaves circuit.now.aig circuit.now.props keep.now) }
+        (latches_and_gates circuit.now.aig) (is_observed circuit.now.aig circuit.now.props
+        keep.now) }
     ensures { result ≡ goes_on circuit.now keep.now first rest.now }
 {
     let aig = circuit.aig();
@@ -114,7 +115,8 @@ pub(crate) fn is_route(
 ) -> bool
     requires pass { IsPassSet circuit.now.aig keep.now pass.now }
     requires leaving { leaving.now ≡ table (first_latch circuit.now.aig)
-        (latches_and_gates circuit.now.aig) (leaves circuit.now.aig circuit.now.props keep.now) }
+        (latches_and_gates circuit.now.aig) (is_observed circuit.now.aig circuit.now.props
+        keep.now) }
     ensures { result ≡ is_route circuit.now keep.now route.now }
 {
     match route.split_first() {

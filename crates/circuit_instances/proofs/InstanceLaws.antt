@@ -11,25 +11,25 @@ use Rattle.aig_graph.proofs.SignLaws.{value_signed, value_signed_as, variable-si
 use Rattle.state_maps.specs.States.{Digits, State}
 use Rattle.state_maps.proofs.WithinLaws.{within_laws}
 use Rattle.map_circuits.specs.Growing.{Extends, IsConjunction}
-use Rattle.circuit_instances.specs.Instances.{HaveValues, StandTo, stand}
+use Rattle.circuit_instances.specs.Instances.{HaveValues, StandTo, substitute}
 
 -- what stands for a literal is one, and has its value where the literals have those of the variables
-pub stand-within : (h : Graph) (literals : List ℕ) (lit : ℕ) → AreLiteralsOf h literals → variable lit < length literals → IsLiteralOf h (stand literals lit)
-stand-within h literals lit all less =
-    let same : variable (stand literals lit) ≡ variable (get_or literals (variable lit) 0) = variable-signed_as lit (get_or literals (variable lit) 0) in
+pub substitute-within : (h : Graph) (literals : List ℕ) (lit : ℕ) → AreLiteralsOf h literals → variable lit < length literals → IsLiteralOf h (substitute literals lit)
+substitute-within h literals lit all less =
+    let same : variable (substitute literals lit) ≡ variable (get_or literals (variable lit) 0) = variable-signed_as lit (get_or literals (variable lit) 0) in
     let here : IsLiteralOf h (get_or literals (variable lit) 0) = all (variable lit) 0 less in
     omega (arith, same, here)
 
-pub stand-value : (h c : Graph) (literals : List ℕ) → IsGraph h → IsGraph c → (z x : Digits) (u s : State) → HaveValues h literals z u (value_within c x s) → (lit : ℕ) → variable lit < length literals
-    → value_within h z u (stand literals lit) ≡ value_within c x s lit
-stand-value h c literals graph valid z x u s have lit less =
+pub substitute-value : (h c : Graph) (literals : List ℕ) → IsGraph h → IsGraph c → (z x : Digits) (u s : State) → HaveValues h literals z u (value_within c x s) → (lit : ℕ) → variable lit < length literals
+    → value_within h z u (substitute literals lit) ≡ value_within c x s lit
+substitute-value h c literals graph valid z x u s have lit less =
     value_signed_as (value_within h z u) (within_laws h graph z u).negation lit (get_or literals (variable lit) 0)
     ∙ ap (signed lit) (have (variable lit) less)
     ∙ sym (value_signed (value_within c x s) (within_laws c valid x s).negation lit)
 
 module _ (g c : Graph) (leaves : List ℕ) (valid : IsGraph c) where
-  pub stand-start : length leaves ≡ first_gate c → AreLiteralsOf g leaves → StandTo g c leaves (first_gate c + 0) g leaves
-  stand-start many within = record {
+  pub substitute-start : length leaves ≡ first_gate c → AreLiteralsOf g leaves → StandTo g c leaves (first_gate c + 0) g leaves
+  substitute-start many within = record {
     many = omega (arith, many);
     within = within;
     values = λ z x u s have. have;
@@ -41,9 +41,9 @@ module _ (g c : Graph) (leaves : List ℕ) (valid : IsGraph c) where
       (omega (arith, at.below), omega (arith, at.below, at.ordered))
 
   -- one more gate
-  pub stand-more : (h i : Graph) (literals new : List ℕ) (k lit : ℕ) (gate : Gate) → slice_get c.gates k ≡ Some gate → IsGraph h → StandTo g c leaves (first_gate c + k) h literals → Extends h i
-      → IsConjunction i (stand literals gate.rhs0) (stand literals gate.rhs1) lit → new ≡ literals ++ lit ∷ [] → StandTo g c leaves (first_gate c + (k + 1)) i new
-  stand-more h i literals new k lit gate there graph p more is pushed =
+  pub substitute-more : (h i : Graph) (literals new : List ℕ) (k lit : ℕ) (gate : Gate) → slice_get c.gates k ≡ Some gate → IsGraph h → StandTo g c leaves (first_gate c + k) h literals → Extends h i
+      → IsConjunction i (substitute literals gate.rhs0) (substitute literals gate.rhs1) lit → new ≡ literals ++ lit ∷ [] → StandTo g c leaves (first_gate c + (k + 1)) i new
+  substitute-more h i literals new k lit gate there graph p more is pushed =
       let P : List ℕ → Type 0 = λ ls. StandTo g c leaves (first_gate c + (k + 1)) i ls in
       subst P (sym pushed) (record {
         many = omega (arith, p.many, length_push literals lit);
@@ -61,18 +61,18 @@ module _ (g c : Graph) (leaves : List ℕ) (valid : IsGraph c) where
       ins = fan-ins-there k gate there
 
       -- a fan-in has its value, also in the larger graph
-      fan-in : (z x : Digits) (u s : State) → HaveValues g leaves z u (value_within c x s) → (own : ℕ) → variable own < first_gate c + k → value_within i z u (stand literals own) ≡ value_within c x s own
+      fan-in : (z x : Digits) (u s : State) → HaveValues g leaves z u (value_within c x s) → (own : ℕ) → variable own < first_gate c + k → value_within i z u (substitute literals own) ≡ value_within c x s own
       fan-in z x u s have own less =
           let short : variable own < length literals = omega (arith, less, p.many) in
-          more.values z u (stand literals own) (stand-within h literals own p.within short)
-          ∙ stand-value h c literals graph valid z x u s (p.values z x u s have) own short
+          more.values z u (substitute literals own) (substitute-within h literals own p.within short)
+          ∙ substitute-value h c literals graph valid z x u s (p.values z x u s have) own short
 
       here : (z x : Digits) (u s : State) → HaveValues g leaves z u (value_within c x s) → (v : ℕ) → v ≡ length literals → value_within i z u (get_or (literals ++ lit ∷ []) v 0) ≡ value_within c x s (2 * v)
       here z x u s have v last =
           let place : v ≡ first_gate c + k = omega (arith, last, p.many) in
           ap (value_within i z u) (get_or_push literals lit 0 v (sym last))
           ∙ is.is z u
-          ∙ ap (λ (b : Bool). b && value_within i z u (stand literals gate.rhs1)) (fan-in z x u s have gate.rhs0 ins.0)
+          ∙ ap (λ (b : Bool). b && value_within i z u (substitute literals gate.rhs1)) (fan-in z x u s have gate.rhs0 ins.0)
           ∙ ap (λ (b : Bool). value_within c x s gate.rhs0 && b) (fan-in z x u s have gate.rhs1 ins.1)
           ∙ sym ((within_laws c valid x s).gate k gate there)
           ∙ ap (λ (n : ℕ). value_within c x s (2 * n)) (sym place)

@@ -7,8 +7,8 @@ use Rattle.aig_graph.specs.Value.{signed_as, value_within}
 use Rattle.state_maps.specs.States.{Digits, State}
 
 -- what stands for a literal, by a list that has a literal for each variable
-abbrev pub stand : List ℕ → ℕ → ℕ
-stand literals lit = signed_as lit (slice_index_or literals (variable lit) 0)
+abbrev pub substitute : List ℕ → ℕ → ℕ
+substitute literals lit = signed_as lit (slice_index_or literals (variable lit) 0)
 
 -- in a step of g the literals have the values that the variables, from 0 on, have by `own`
 abbrev pub HaveValues : Graph → List ℕ → Digits → State → (ℕ → Bool) → Type 0

@@ -3,7 +3,7 @@ ghost use Rattle.std.specs.Prelude.{◌≡◌, ◌<◌, ◌++◌, ◌∷◌, [],
 ghost use Rattle.aig_graph.specs.Circuits.{AreLiteralsOf};
 ghost use Rattle.aig_graph.specs.Graph.{IsGraph, first_gate, variable};
 ghost use Rattle.map_circuits.specs.Growing.{Extends};
-ghost use Rattle.circuit_instances.specs.Instances.{IsInstance, stand};
+ghost use Rattle.circuit_instances.specs.Instances.{IsInstance, substitute};
 
 use aig_graph::{Aig, AigBuilder, BuildError, Lit};
 use map_circuits::add_conjunction;
@@ -34,7 +34,7 @@ impl Instance {
     /// What stands for a literal.
     pub fn literal(&self, lit: Lit) -> Lit
         requires { variable lit < length self.now }
-        ensures { result ≡ stand self.now lit }
+        ensures { result ≡ substitute self.now lit }
     {
         self.literals[lit.var() as usize].signed_as(lit)
     }

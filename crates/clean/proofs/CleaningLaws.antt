@@ -10,7 +10,7 @@ use Rattle.aig_graph.specs.Graph.{first_latch, first_gate, variables_end, latche
 use Rattle.aig_graph.specs.Circuits.{Netlist}
 use Rattle.aig_graph.specs.Laws.{all_free, composed}
 use Rattle.variable_tables.proofs.PlacesLaws.{count-bound}
-use Rattle.cleaned_circuits.specs.Merged.{merged_of, stands_of}
+use Rattle.cleaned_circuits.specs.Merged.{merged_of, substitutes_of}
 use Rattle.cleaned_circuits.specs.Reached.{stays}
 use Rattle.cleaned_circuits.specs.Trimmed.{trimmed_graph, new_variable, new_position}
 use Rattle.cleaned_circuits.specs.Cleaned.{IsPass, Cleans, unchanged, after_pass}
@@ -49,7 +49,7 @@ pub still-in_range : (held : List ℕ) (c d : Netlist) (kept still : List ℕ) �
 still-in_range held c d kept still pass in_range =
     let m : Netlist = merged_of held c in
     let s : ℕ → Bool = pass.reached in
-    let same : length m.aig.latches ≡ length c.aig.latches = length-replaced_latches (stands_of c.aig held) c.aig in
+    let same : length m.aig.latches ≡ length c.aig.latches = length-replaced_latches (substitutes_of c.aig held) c.aig in
     let P : Netlist → Type 0 = λ e. All (λ j. j < length e.aig.latches) still in
     let Q : List ℕ → Type 0 = λ js. All (λ j. j < length (trimmed_graph m.aig s).latches) js in
     subst P (sym pass.circuit) (subst Q (sym pass.positions) (All-map (λ j. j < length (trimmed_graph m.aig s).latches) (new_position m.aig s) held (λ k d h.
@@ -66,7 +66,7 @@ module _ (held : List ℕ) (c d : Netlist) (kept still : List ℕ) (valid : IsCi
   merged = merged_of held c
 
   ends : variables_end merged.aig ≡ variables_end c.aig
-  ends = replaced-end (stands_of c.aig held) c.aig
+  ends = replaced-end (substitutes_of c.aig held) c.aig
 
   full : new_variable merged.aig pass.reached (variables_end merged.aig) ≡ variables_end merged.aig
   full =
@@ -78,7 +78,7 @@ module _ (held : List ℕ) (c d : Netlist) (kept still : List ℕ) (valid : IsCi
         ends,
         trimmed-end merged.aig pass.reached,
         trimmed-first_latch merged.aig pass.reached,
-        replaced-first_latch (stands_of c.aig held) c.aig,
+        replaced-first_latch (substitutes_of c.aig held) c.aig,
         count-bound (stays merged.aig pass.reached) (variables_end merged.aig),
       )
 
@@ -92,9 +92,9 @@ module _ (held : List ℕ) (c d : Netlist) (kept still : List ℕ) (valid : IsCi
   circuit-same =
       let gate : new_variable merged.aig pass.reached (first_gate merged.aig) ≡ first_gate merged.aig = new-same (first_gate merged.aig) (omega arith) in
       let latches : length (trimmed_graph merged.aig pass.reached).latches ≡ length c.aig.latches =
-      omega (arith, gate, trimmed-first_gate merged.aig pass.reached, trimmed-first_latch merged.aig pass.reached, length-replaced_latches (stands_of c.aig held) c.aig) in
+      omega (arith, gate, trimmed-first_gate merged.aig pass.reached, trimmed-first_latch merged.aig pass.reached, length-replaced_latches (substitutes_of c.aig held) c.aig) in
       let gates : length (trimmed_graph merged.aig pass.reached).gates ≡ length c.aig.gates =
-      omega (arith, full, trimmed-end merged.aig pass.reached, gate, trimmed-first_gate merged.aig pass.reached, ends, replaced-first_gate (stands_of c.aig held) c.aig) in
+      omega (arith, full, trimmed-end merged.aig pass.reached, gate, trimmed-first_gate merged.aig pass.reached, ends, replaced-first_gate (substitutes_of c.aig held) c.aig) in
       pass.circuit ∙ pass-unchanged held c valid (λ j h. in_range j 0 h) pass.reached pass.are_reached latches gates
 
   positions-same : still ≡ held
@@ -103,7 +103,7 @@ module _ (held : List ℕ) (c d : Netlist) (kept still : List ℕ) (valid : IsCi
       ∙ map-fixed_all (λ j. j < length c.aig.latches) (new_position merged.aig pass.reached)
       (λ j h.
       let at : new_variable merged.aig pass.reached (first_latch merged.aig + j) ≡ first_latch merged.aig + j =
-      new-same (first_latch merged.aig + j) (omega (arith, length-replaced_latches (stands_of c.aig held) c.aig)) in
+      new-same (first_latch merged.aig + j) (omega (arith, length-replaced_latches (substitutes_of c.aig held) c.aig)) in
       omega (arith, at)) held in_range
 
   cleans-unchanged : Cleans d held c kept

@@ -10,8 +10,8 @@ use Rattle.aig_graph.specs.Graph.{Graph, first_latch, is_free}
 use Rattle.variable_tables.specs.Marking.{has}
 use Rattle.variable_tables.specs.Tables.{table}
 use Rattle.variable_tables.proofs.TableLaws.{entry, table-same}
-use Rattle.cleaned_circuits.specs.Latches.{constant_of, same_reset, is_latch, is_stuck, is_like, first_where, latch_stand, leaf_stand}
-use Rattle.cleaned_circuits.specs.Merged.{stand_or_own}
+use Rattle.cleaned_circuits.specs.Latches.{constant_of, same_reset, same_latch, is_stuck, is_like, first_where, latch_substitute, leaf_substitute}
+use Rattle.cleaned_circuits.specs.Merged.{substitute_or_own}
 use Rattle.cleaned_circuits.proofs.LatchLaws.{first_where-cases, first_where-least, same_reset-is}
 use Rattle.clean.specs.Substitutions.{own_literals}
 use Rattle.clean.specs.Kept.{or_else}
@@ -83,7 +83,7 @@ module _ (g : Graph) (held : List ℕ) where
   pub firsts-start : AreFirsts g held 0 []
   firsts-start = record { each = λ latch known. sym (literal-none latch 0 (first-none (alike latch) 0 (λ v h. absurd (omega arith)))) }
 
-  alike-here : (latch other : Latch) (n : ℕ) → slice_get g.latches n ≡ Some other → alike latch n ≡ (not (is_stuck g held n other) && is_latch latch other)
+  alike-here : (latch other : Latch) (n : ℕ) → slice_get g.latches n ≡ Some other → alike latch n ≡ (not (is_stuck g held n other) && same_latch latch other)
   alike-here latch other n there = ap (is_like g held latch n) there
 
   -- a latch that is no first one
@@ -99,7 +99,7 @@ module _ (g : Graph) (held : List ℕ) where
   -- a stuck latch adds no entry
   pub firsts-stuck : (n : ℕ) (own : Latch) (entries : List (Latch × ℕ)) → slice_get g.latches n ≡ Some own → is_stuck g held n own ≡ true → AreFirsts g held n entries → AreFirsts g held (n + 1) entries
   firsts-stuck n own entries there stuck firsts = skipped n entries
-      (λ latch known. alike-here latch own n there ∙ ap (λ (b : Bool). not b && is_latch latch own) stuck) firsts
+      (λ latch known. alike-here latch own n there ∙ ap (λ (b : Bool). not b && same_latch latch own) stuck) firsts
 
   free-apart : (r s : Reset) (a b : ℕ) → is_free (record { next = a; reset = r }) ≡ false → is_free (record { next = b; reset = s }) ≡ true → same_reset r s ≡ false
   free-apart Zero Free a b known free = refl
@@ -118,7 +118,7 @@ module _ (g : Graph) (held : List ℕ) where
       ∙ ap (λ (b : Bool). not (is_stuck g held n own) && b) (and-false (nat_eq latch.next own.next)) ∙ and-false (not (is_stuck g held n own)))
       firsts
 
-  latch-is : (latch other : Latch) → is_latch latch other ≡ true → latch ≡ other
+  latch-is : (latch other : Latch) → same_latch latch other ≡ true → latch ≡ other
   latch-is latch other e =
       let parts = and_parts (nat_eq latch.next other.next) (same_reset latch.reset other.reset) e in
       let with_next : ℕ → Latch = λ n. record { next = n; reset = latch.reset } in
@@ -127,39 +127,39 @@ module _ (g : Graph) (held : List ℕ) where
 
   -- a known latch that isn't stuck
   module _ (n : ℕ) (own : Latch) (there : slice_get g.latches n ≡ Some own) (sound : is_stuck g held n own ≡ false) (entries : List (Latch × ℕ)) (firsts : AreFirsts g held n entries) where
-    alike-own : (latch : Latch) → alike latch n ≡ is_latch latch own
-    alike-own latch = alike-here latch own n there ∙ ap (λ (b : Bool). not b && is_latch latch own) sound
+    alike-own : (latch : Latch) → alike latch n ≡ same_latch latch own
+    alike-own latch = alike-here latch own n there ∙ ap (λ (b : Bool). not b && same_latch latch own) sound
 
-    more-own : (latch : Latch) → first_literal g held latch (n + 1) ≡ or_else (first_literal g held latch n) (cond (is_latch latch own) (Some (2 * (first_latch g + n))) None)
+    more-own : (latch : Latch) → first_literal g held latch (n + 1) ≡ or_else (first_literal g held latch n) (cond (same_latch latch own) (Some (2 * (first_latch g + n))) None)
     more-own latch =
         ap (first_literal g held latch) (add-one n) ∙ literal-more latch n
         ∙ ap (λ (b : Bool). or_else (first_literal g held latch n) (cond b (Some (2 * (first_latch g + n))) None)) (alike-own latch)
 
-    again : (lit : ℕ) → lookup (is_latch own) entries ≡ Some lit → AreFirsts g held (n + 1) entries
+    again : (lit : ℕ) → lookup (same_latch own) entries ≡ Some lit → AreFirsts g held (n + 1) entries
     again lit found = record {
-      each = λ latch known. elim (cases_Bool (is_latch latch own)) [
+      each = λ latch known. elim (cases_Bool (same_latch latch own)) [
         | inl same ↦ (
-            let old : first_literal g held latch n ≡ Some lit = sym (firsts.each latch known) ∙ ap (λ (l : Latch). lookup (is_latch l) entries) (latch-is latch own same) ∙ found in
+            let old : first_literal g held latch n ≡ Some lit = sym (firsts.each latch known) ∙ ap (λ (l : Latch). lookup (same_latch l) entries) (latch-is latch own same) ∙ found in
             firsts.each latch known ∙ old
-            ∙ sym (more-own latch ∙ ap (λ (o : Option ℕ). or_else o (cond (is_latch latch own) (Some (2 * (first_latch g + n))) None)) old))
+            ∙ sym (more-own latch ∙ ap (λ (o : Option ℕ). or_else o (cond (same_latch latch own) (Some (2 * (first_latch g + n))) None)) old))
         | inr other ↦
             firsts.each latch known
-            ∙ sym (more-own latch ∙ ap (or_else (first_literal g held latch n)) (cond-false (is_latch latch own) (Some (2 * (first_latch g + n))) None other) ∙ or_else-none (first_literal g held latch n))
+            ∙ sym (more-own latch ∙ ap (or_else (first_literal g held latch n)) (cond-false (same_latch latch own) (Some (2 * (first_latch g + n))) None other) ∙ or_else-none (first_literal g held latch n))
       ];
     }
 
     new : AreFirsts g held (n + 1) (entries ++ (own, 2 * (first_latch g + n)) ∷ [])
     new = record {
       each = λ latch known.
-          lookup-push (is_latch latch) entries own (2 * (first_latch g + n))
-          ∙ ap (λ (o : Option ℕ). or_else o (cond (is_latch latch own) (Some (2 * (first_latch g + n))) None)) (firsts.each latch known) ∙ sym (more-own latch);
+          lookup-push (same_latch latch) entries own (2 * (first_latch g + n))
+          ∙ ap (λ (o : Option ℕ). or_else o (cond (same_latch latch own) (Some (2 * (first_latch g + n))) None)) (firsts.each latch known) ∙ sym (more-own latch);
     }
 
     -- a known latch that isn't stuck adds an entry where it is the first of its next literal and reset
-    pub firsts-more : (after : List (Latch × ℕ)) → after ≡ entries_after entries (2 * (first_latch g + n)) own (lookup (is_latch own) entries) → AreFirsts g held (n + 1) after
-    firsts-more after e = go (lookup (is_latch own) entries) refl
+    pub firsts-more : (after : List (Latch × ℕ)) → after ≡ entries_after entries (2 * (first_latch g + n)) own (lookup (same_latch own) entries) → AreFirsts g held (n + 1) after
+    firsts-more after e = go (lookup (same_latch own) entries) refl
       where
-        go : (o : Option ℕ) → lookup (is_latch own) entries ≡ o → AreFirsts g held (n + 1) after
+        go : (o : Option ℕ) → lookup (same_latch own) entries ≡ o → AreFirsts g held (n + 1) after
         go None none =
             let P : List (Latch × ℕ) → Type 0 = λ xs. AreFirsts g held (n + 1) xs in
             subst P (sym (e ∙ ap (entries_after entries (2 * (first_latch g + n)) own) none)) new
@@ -168,22 +168,22 @@ module _ (g : Graph) (held : List ℕ) where
             subst P (sym (e ∙ ap (entries_after entries (2 * (first_latch g + n)) own) some)) (again lit some)
 
     -- what stands for it
-    pub stand-first : is_free own ≡ false → has held n ≡ false → stand_or_own (2 * (first_latch g + n)) (lookup (is_latch own) entries) ≡ latch_stand g held n (Some own)
-    stand-first known loose =
-        let here : stand_or_own (2 * (first_latch g + n)) (first_literal g held own n) ≡ 2 * (first_latch g + first_where (alike own) n) = elim (first_where-cases (alike own) n) [
-          | inl none ↦ ap (stand_or_own (2 * (first_latch g + n))) (literal-none own n none) ∙ ap (λ (k : ℕ). 2 * (first_latch g + k)) (sym none)
-          | inr less ↦ ap (stand_or_own (2 * (first_latch g + n))) (literal-some own n (first_where (alike own) n) refl less.0)
+    pub substitute-first : is_free own ≡ false → has held n ≡ false → substitute_or_own (2 * (first_latch g + n)) (lookup (same_latch own) entries) ≡ latch_substitute g held n (Some own)
+    substitute-first known loose =
+        let here : substitute_or_own (2 * (first_latch g + n)) (first_literal g held own n) ≡ 2 * (first_latch g + first_where (alike own) n) = elim (first_where-cases (alike own) n) [
+          | inl none ↦ ap (substitute_or_own (2 * (first_latch g + n))) (literal-none own n none) ∙ ap (λ (k : ℕ). 2 * (first_latch g + k)) (sym none)
+          | inr less ↦ ap (substitute_or_own (2 * (first_latch g + n))) (literal-some own n (first_where (alike own) n) refl less.0)
         ] in
-        ap (stand_or_own (2 * (first_latch g + n))) (firsts.each own known) ∙ here
+        ap (substitute_or_own (2 * (first_latch g + n))) (firsts.each own known) ∙ here
         ∙ sym (cond-false (is_stuck g held n own) _ _ sound ∙ cond-false (is_free own || has held n) _ _ (ap (λ (b : Bool). b || has held n) known ∙ loose))
 
   -- for a stuck latch stands the constant of its reset
-  pub stand-stuck : (n : ℕ) (own : Latch) → is_stuck g held n own ≡ true → constant_of own.reset ≡ latch_stand g held n (Some own)
-  stand-stuck n own stuck = sym (cond-true (is_stuck g held n own) _ _ stuck)
+  pub substitute-stuck : (n : ℕ) (own : Latch) → is_stuck g held n own ≡ true → constant_of own.reset ≡ latch_substitute g held n (Some own)
+  substitute-stuck n own stuck = sym (cond-true (is_stuck g held n own) _ _ stuck)
 
   -- a latch that is free or held, and isn't stuck, stands for itself
-  pub stand-fixed : (n : ℕ) (own : Latch) → is_stuck g held n own ≡ false → (is_free own || has held n) ≡ true → 2 * (first_latch g + n) ≡ latch_stand g held n (Some own)
-  stand-fixed n own sound fixed = sym (cond-false (is_stuck g held n own) _ _ sound ∙ cond-true (is_free own || has held n) _ _ fixed)
+  pub substitute-fixed : (n : ℕ) (own : Latch) → is_stuck g held n own ≡ false → (is_free own || has held n) ≡ true → 2 * (first_latch g + n) ≡ latch_substitute g held n (Some own)
+  substitute-fixed n own sound fixed = sym (cond-false (is_stuck g held n own) _ _ sound ∙ cond-true (is_free own || has held n) _ _ fixed)
 
   -- what is told of a latch says whether it is stuck
   pub stuck-is : (n : ℕ) (latch : Latch) (own : ℕ) (is_held told : Bool) → own ≡ 2 * (first_latch g + n) → is_held ≡ has held n
@@ -193,26 +193,26 @@ module _ (g : Graph) (held : List ℕ) where
       ∙ ap (λ (m : ℕ). not (is_free latch) && not (has held n) && (nat_eq latch.next m || nat_eq latch.next (constant_of latch.reset))) at
 
   -- what stands for a latch is what stands for its variable
-  pub leaf-latch : (j : ℕ) (latch : Latch) → slice_get g.latches j ≡ Some latch → latch_stand g held j (Some latch) ≡ leaf_stand g held (first_latch g + j)
-  unfolding leaf_stand
+  pub leaf-latch : (j : ℕ) (latch : Latch) → slice_get g.latches j ≡ Some latch → latch_substitute g held j (Some latch) ≡ leaf_substitute g held (first_latch g + j)
+  unfolding leaf_substitute
   leaf-latch j latch there =
       let place : first_latch g + j - first_latch g ≡ j = omega arith in
       sym (cond-false (nat_lt (first_latch g + j) (first_latch g)) _ _ (le-ltb (first_latch g + j) (first_latch g) (omega arith))
-      ∙ ap (λ (k : ℕ). latch_stand g held k (slice_get g.latches k)) place ∙ ap (latch_stand g held j) there)
+      ∙ ap (λ (k : ℕ). latch_substitute g held k (slice_get g.latches k)) place ∙ ap (latch_substitute g held j) there)
 
   -- the constant and each input stand for themselves
-  pub leaf-low : (v : ℕ) → v < first_latch g → 2 * v ≡ leaf_stand g held v
-  unfolding leaf_stand
+  pub leaf-low : (v : ℕ) → v < first_latch g → 2 * v ≡ leaf_substitute g held v
+  unfolding leaf_substitute
   leaf-low v h = sym (cond-true (nat_lt v (first_latch g)) _ _ (lt-ltb v (first_latch g) h))
 
   -- the entries before the first latch are each variable itself
-  pub own-stands : own_literals (first_latch g) ≡ table 0 (first_latch g) (leaf_stand g held)
+  pub own-substitutes : own_literals (first_latch g) ≡ table 0 (first_latch g) (leaf_substitute g held)
   unfolding own_literals
-  own-stands = table-same 0 (first_latch g) (λ v. 2 * v) (leaf_stand g held) 0 (λ v from h. leaf-low v (omega arith))
+  own-substitutes = table-same 0 (first_latch g) (λ v. 2 * v) (leaf_substitute g held) 0 (λ v from h. leaf-low v (omega arith))
 
   -- with what stands for the next latch, the table has one entry more
-  pub stands-more : (j : ℕ) (latch : Latch) (old new : List ℕ) (stand : ℕ) → slice_get g.latches j ≡ Some latch → old ≡ table 0 (first_latch g + j) (leaf_stand g held)
-      → stand ≡ latch_stand g held j (Some latch) → new ≡ old ++ stand ∷ [] → new ≡ table 0 (first_latch g + (j + 1)) (leaf_stand g held)
-  stands-more j latch old new stand there before is pushed =
+  pub substitutes-more : (j : ℕ) (latch : Latch) (old new : List ℕ) (substitute : ℕ) → slice_get g.latches j ≡ Some latch → old ≡ table 0 (first_latch g + j) (leaf_substitute g held)
+      → substitute ≡ latch_substitute g held j (Some latch) → new ≡ old ++ substitute ∷ [] → new ≡ table 0 (first_latch g + (j + 1)) (leaf_substitute g held)
+  substitutes-more j latch old new substitute there before is pushed =
       let place : first_latch g + j + 1 ≡ first_latch g + (j + 1) = omega arith in
-      entry 0 (first_latch g + j) (leaf_stand g held) old new stand before pushed (is ∙ leaf-latch j latch there ∙ ap (leaf_stand g held) (sym (zero-add (first_latch g + j)))) ∙ ap (λ (n : ℕ). table 0 n (leaf_stand g held)) place
+      entry 0 (first_latch g + j) (leaf_substitute g held) old new substitute before pushed (is ∙ leaf-latch j latch there ∙ ap (leaf_substitute g held) (sym (zero-add (first_latch g + j)))) ∙ ap (λ (n : ℕ). table 0 n (leaf_substitute g held)) place

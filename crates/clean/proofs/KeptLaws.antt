@@ -7,8 +7,8 @@ use Rattle.std.proofs.lemmas.Bool.{cases_Bool, cases_eq, cases_lt, cond-true, co
 use Rattle.std.proofs.lemmas.List.{get_or_append_left, get_or_default, get_or-set_same, get_or-set_other, get_or-replicate, length_push, length-replicate}
 use Rattle.aig_graph.specs.declared.graph.Gate.{Gate}
 use Rattle.aig_graph.specs.Graph.{variable}
-use Rattle.cleaned_circuits.specs.Merged.{is_gate}
-use Rattle.cleaned_circuits.proofs.StandLaws.{is_gate-is}
+use Rattle.cleaned_circuits.specs.Merged.{same_fan_ins}
+use Rattle.cleaned_circuits.proofs.SubstituteLaws.{same_fan_ins-is}
 use Rattle.clean.specs.declared.kept.KeptGate.{KeptGate}
 use Rattle.clean.specs.declared.kept.GateList.{GateList}
 use Rattle.clean.specs.Kept.{Kept, pairs_of, pairs, no_gate, no_list, last_of, or_else, on_list, listed, AreKept, IsListOf}
@@ -46,7 +46,7 @@ pairs-push (g ∷ gates) one = let first : Gate × ℕ = (g.gate, g.lit) in ap (
 
 -- the gate at a place, or what is looked for after it
 abbrev found_at : List KeptGate → Gate → ℕ → Option ℕ → Option ℕ
-found_at gates gate n rest = cond (is_gate gate (get_or gates n no_gate).gate) (Some (get_or gates n no_gate).lit) rest
+found_at gates gate n rest = cond (same_fan_ins gate (get_or gates n no_gate).gate) (Some (get_or gates n no_gate).lit) rest
 
 module _ (gates : List KeptGate) (one : KeptGate) where
   -- a list is the same where one more gate is kept
@@ -56,9 +56,9 @@ module _ (gates : List KeptGate) (one : KeptGate) where
   on_list-more gate (suc n) link few =
       let e : KeptGate = get_or gates n no_gate in
       let more : List KeptGate = gates ++ one ∷ [] in
-      ap (λ (k : KeptGate). cond (nat_eq link (suc n)) (cond (is_gate gate k.gate) (Some k.lit) (on_list more gate n k.before)) (on_list more gate n link)) (get_or_append_left gates (one ∷ []) no_gate n (omega (arith, few)))
-      ∙ ap (λ (o : Option ℕ). cond (nat_eq link (suc n)) (cond (is_gate gate e.gate) (Some e.lit) o) (on_list more gate n link)) (on_list-more gate n e.before (omega (arith, few)))
-      ∙ ap (λ (o : Option ℕ). cond (nat_eq link (suc n)) (cond (is_gate gate e.gate) (Some e.lit) (on_list gates gate n e.before)) o) (on_list-more gate n link (omega (arith, few)))
+      ap (λ (k : KeptGate). cond (nat_eq link (suc n)) (cond (same_fan_ins gate k.gate) (Some k.lit) (on_list more gate n k.before)) (on_list more gate n link)) (get_or_append_left gates (one ∷ []) no_gate n (omega (arith, few)))
+      ∙ ap (λ (o : Option ℕ). cond (nat_eq link (suc n)) (cond (same_fan_ins gate e.gate) (Some e.lit) o) (on_list more gate n link)) (on_list-more gate n e.before (omega (arith, few)))
+      ∙ ap (λ (o : Option ℕ). cond (nat_eq link (suc n)) (cond (same_fan_ins gate e.gate) (Some e.lit) (on_list gates gate n e.before)) o) (on_list-more gate n link (omega (arith, few)))
 
 module _ (gates : List KeptGate) (before : (n : ℕ) → (get_or gates n no_gate).before ≤ n) where
   -- a list has nothing behind its link
@@ -123,12 +123,12 @@ module _ (k : Kept) (kept : AreKept k) where
     link-back = let same = ap (λ (y : KeptGate). y.before) there in omega (arith, same, kept.before (link - 1), some)
 
     -- a list gives the gate's literal where it begins with it, and else what the list behind that gives
-    pub list-next : (gate : Gate) → on_list k.gates gate link link ≡ cond (is_gate gate x.gate) (Some x.lit) (on_list k.gates gate x.before x.before)
+    pub list-next : (gate : Gate) → on_list k.gates gate link link ≡ cond (same_fan_ins gate x.gate) (Some x.lit) (on_list k.gates gate x.before x.before)
     list-next gate =
         let at : link ≡ suc (link - 1) = omega (arith, some) in
         ap (λ (l : ℕ). on_list k.gates gate l l) at
         ∙ on_list-step k.gates kept.before gate (link - 1)
-        ∙ ap (λ (y : KeptGate). cond (is_gate gate y.gate) (Some y.lit) (on_list k.gates gate y.before y.before)) (sym there)
+        ∙ ap (λ (y : KeptGate). cond (same_fan_ins gate y.gate) (Some y.lit) (on_list k.gates gate y.before y.before)) (sym there)
 
 module _ (k : Kept) (kept : AreKept k) (one : KeptGate) (back : one.before ≤ length k.gates) where
   abbrev more : List KeptGate
@@ -141,8 +141,8 @@ module _ (k : Kept) (kept : AreKept k) (one : KeptGate) (back : one.before ≤ l
       ∙ on_list-more k.gates one gate link link few
       ∙ sym (on_list-down k.gates kept.before gate (length k.gates) link few)
 
-  found-more : (gate : Gate) → lookup (is_gate gate) (pairs_of more) ≡ or_else (lookup (is_gate gate) (pairs k)) (cond (is_gate gate one.gate) (Some one.lit) None)
-  found-more gate = ap (λ (xs : List (Gate × ℕ)). lookup (is_gate gate) xs) (pairs-push k.gates one) ∙ lookup-push (is_gate gate) (pairs k) one.gate one.lit
+  found-more : (gate : Gate) → lookup (same_fan_ins gate) (pairs_of more) ≡ or_else (lookup (same_fan_ins gate) (pairs k)) (cond (same_fan_ins gate one.gate) (Some one.lit) None)
+  found-more gate = ap (λ (xs : List (Gate × ℕ)). lookup (same_fan_ins gate) xs) (pairs-push k.gates one) ∙ lookup-push (same_fan_ins gate) (pairs k) one.gate one.lit
 
   -- one more in the hash table
   pub AreKept-rest : AreKept (record { first = k.first; gates = more; lists = k.lists; rest = k.rest ++ (one.gate, one.lit) ∷ [] })
@@ -151,15 +151,15 @@ module _ (k : Kept) (kept : AreKept k) (one : KeptGate) (back : one.before ≤ l
     last = λ place. omega (arith, length_push k.gates one, kept.last place);
     before = before-more k.gates one kept.before back;
     found = λ gate.
-        let own : Option ℕ = cond (is_gate gate one.gate) (Some one.lit) None in
+        let own : Option ℕ = cond (same_fan_ins gate one.gate) (Some one.lit) None in
         found-more gate
         ∙ ap (λ (o : Option ℕ). or_else o own) (kept.found gate)
-        ∙ or_else-assoc (listed k gate) (lookup (is_gate gate) k.rest) own
-        ∙ ap (or_else (listed k gate)) (sym (lookup-push (is_gate gate) k.rest one.gate one.lit))
-        ∙ ap (λ (o : Option ℕ). or_else o (lookup (is_gate gate) (k.rest ++ (one.gate, one.lit) ∷ []))) (sym (same-list gate (last_of k (variable gate.rhs0)) (last-few k kept (variable gate.rhs0))));
+        ∙ or_else-assoc (listed k gate) (lookup (same_fan_ins gate) k.rest) own
+        ∙ ap (or_else (listed k gate)) (sym (lookup-push (same_fan_ins gate) k.rest one.gate one.lit))
+        ∙ ap (λ (o : Option ℕ). or_else o (lookup (same_fan_ins gate) (k.rest ++ (one.gate, one.lit) ∷ []))) (sym (same-list gate (last_of k (variable gate.rhs0)) (last-few k kept (variable gate.rhs0))));
   }
 
-  module _ (place : ℕ) (list : GateList) (is_list : IsListOf k (variable one.gate.rhs0) place) (link : one.before ≡ (get_or k.lists place no_list).last) (last : list.last ≡ length k.gates + 1) (new : lookup (is_gate one.gate) (pairs k) ≡ None) where
+  module _ (place : ℕ) (list : GateList) (is_list : IsListOf k (variable one.gate.rhs0) place) (link : one.before ≡ (get_or k.lists place no_list).last) (last : list.last ≡ length k.gates + 1) (new : lookup (same_fan_ins one.gate) (pairs k) ≡ None) where
     abbrev longer : Kept
     longer = record { first = k.first; gates = more; lists = slice_set k.lists place list; rest = k.rest }
 
@@ -189,7 +189,7 @@ module _ (k : Kept) (kept : AreKept k) (one : KeptGate) (back : one.before ≤ l
     ]
 
     -- the gate itself
-    listed-here : (gate : Gate) → variable gate.rhs0 ≡ variable one.gate.rhs0 → listed longer gate ≡ cond (is_gate gate one.gate) (Some one.lit) (listed k gate)
+    listed-here : (gate : Gate) → variable gate.rhs0 ≡ variable one.gate.rhs0 → listed longer gate ≡ cond (same_fan_ins gate one.gate) (Some one.lit) (listed k gate)
     listed-here gate same =
         let n : ℕ = length k.gates in
         let long : length more ≡ n + 1 = length_push k.gates one in
@@ -200,43 +200,43 @@ module _ (k : Kept) (kept : AreKept k) (one : KeptGate) (back : one.before ≤ l
         ∙ ap (λ (m : ℕ). on_list more gate m (n + 1)) long
         ∙ ap (λ (m : ℕ). on_list more gate m m) (add-one n)
         ∙ on_list-step more (before-more k.gates one kept.before back) gate n
-        ∙ ap (λ (x : KeptGate). cond (is_gate gate x.gate) (Some x.lit) (on_list more gate x.before x.before)) own
-        ∙ ap (cond (is_gate gate one.gate) (Some one.lit)) (
+        ∙ ap (λ (x : KeptGate). cond (same_fan_ins gate x.gate) (Some x.lit) (on_list more gate x.before x.before)) own
+        ∙ ap (cond (same_fan_ins gate one.gate) (Some one.lit)) (
         on_list-more k.gates one gate one.before one.before back
         ∙ sym (on_list-down k.gates kept.before gate n one.before back)
         ∙ ap (on_list k.gates gate n) (sym before-here ∙ ap (last_of k) (sym same)))
 
-    found-here : (gate : Gate) → variable gate.rhs0 ≡ variable one.gate.rhs0 → lookup (is_gate gate) (pairs_of more) ≡ or_else (listed longer gate) (lookup (is_gate gate) k.rest)
+    found-here : (gate : Gate) → variable gate.rhs0 ≡ variable one.gate.rhs0 → lookup (same_fan_ins gate) (pairs_of more) ≡ or_else (listed longer gate) (lookup (same_fan_ins gate) k.rest)
     found-here gate same =
-        let rest : Option ℕ = lookup (is_gate gate) k.rest in
-        let b : Bool = is_gate gate one.gate in
+        let rest : Option ℕ = lookup (same_fan_ins gate) k.rest in
+        let b : Bool = same_fan_ins gate one.gate in
         elim (cases_Bool b) [
           | inl own ↦ (
-              let none : lookup (is_gate gate) (pairs k) ≡ None = ap (λ (g : Gate). lookup (is_gate g) (pairs k)) (is_gate-is gate one.gate own) ∙ new in
+              let none : lookup (same_fan_ins gate) (pairs k) ≡ None = ap (λ (g : Gate). lookup (same_fan_ins g) (pairs k)) (same_fan_ins-is gate one.gate own) ∙ new in
               found-more gate
               ∙ ap (λ (o : Option ℕ). or_else o (cond b (Some one.lit) None)) none
               ∙ cond-true b (Some one.lit) None own
               ∙ sym (ap (λ (o : Option ℕ). or_else o rest) (listed-here gate same ∙ cond-true b (Some one.lit) (listed k gate) own)))
           | inr other ↦
               found-more gate
-              ∙ ap (or_else (lookup (is_gate gate) (pairs k))) (cond-false b (Some one.lit) None other)
-              ∙ or_else-none (lookup (is_gate gate) (pairs k))
+              ∙ ap (or_else (lookup (same_fan_ins gate) (pairs k))) (cond-false b (Some one.lit) None other)
+              ∙ or_else-none (lookup (same_fan_ins gate) (pairs k))
               ∙ kept.found gate
               ∙ sym (ap (λ (o : Option ℕ). or_else o rest) (listed-here gate same ∙ cond-false b (Some one.lit) (listed k gate) other))
         ]
 
-    found-there : (gate : Gate) → (variable gate.rhs0 ≡ variable one.gate.rhs0 → ⊥) → lookup (is_gate gate) (pairs_of more) ≡ or_else (listed longer gate) (lookup (is_gate gate) k.rest)
+    found-there : (gate : Gate) → (variable gate.rhs0 ≡ variable one.gate.rhs0 → ⊥) → lookup (same_fan_ins gate) (pairs_of more) ≡ or_else (listed longer gate) (lookup (same_fan_ins gate) k.rest)
     found-there gate apart =
-        let b : Bool = is_gate gate one.gate in
+        let b : Bool = same_fan_ins gate one.gate in
         let v : ℕ = variable gate.rhs0 in
         elim (cases_Bool b) [
-          | inl own ↦ absurd (apart (ap (λ (g : Gate). variable g.rhs0) (is_gate-is gate one.gate own)))
+          | inl own ↦ absurd (apart (ap (λ (g : Gate). variable g.rhs0) (same_fan_ins-is gate one.gate own)))
           | inr other ↦
               found-more gate
-              ∙ ap (or_else (lookup (is_gate gate) (pairs k))) (cond-false b (Some one.lit) None other)
-              ∙ or_else-none (lookup (is_gate gate) (pairs k))
+              ∙ ap (or_else (lookup (same_fan_ins gate) (pairs k))) (cond-false b (Some one.lit) None other)
+              ∙ or_else-none (lookup (same_fan_ins gate) (pairs k))
               ∙ kept.found gate
-              ∙ sym (ap (λ (o : Option ℕ). or_else o (lookup (is_gate gate) k.rest)) (
+              ∙ sym (ap (λ (o : Option ℕ). or_else o (lookup (same_fan_ins gate) k.rest)) (
               ap (on_list more gate (length more)) (last-there v apart) ∙ same-list gate (last_of k v) (last-few k kept v)))
         ]
 

@@ -7,9 +7,9 @@ use Rattle.aig_graph.specs.declared.properties.Props.{Props}
 use Rattle.aig_graph.specs.Graph.{Graph, IsGraph, IsGateAt, IsLiteralOf, variable, variables_end, first_gate}
 use Rattle.aig_graph.specs.Circuits.{ArePropsOf}
 use Rattle.aig_graph.specs.Mapped.{OfProps}
-use Rattle.cleaned_circuits.specs.Merged.{replaced_latch, replaced_gate, replaced_graph, stands_of}
+use Rattle.cleaned_circuits.specs.Merged.{replaced_latch, replaced_gate, replaced_graph, substitutes_of}
 use Rattle.aig_graph.proofs.PropsLaws.{of_literals, literals_within}
-use Rattle.cleaned_circuits.proofs.StandLaws.{length-stands_of}
+use Rattle.cleaned_circuits.proofs.SubstituteLaws.{length-substitutes_of}
 
 -- a graph of equal inputs, latches and gates is the same
 pub graph-is : (inputs : ℕ) (latches other_latches : List Latch) (gates other_gates : List Gate) (n : ℕ) → n ≡ inputs → latches ≡ other_latches → gates ≡ other_gates
@@ -21,10 +21,10 @@ graph-is inputs latches other_latches gates other_gates n one two three =
     ap first one ∙ ap second two ∙ ap third three
 
 -- the inputs, with latches and gates reading what stands for what they read, are the replaced graph
-pub replaced-is : (stands : List ℕ) (g : Graph) (n : ℕ) (latches : List Latch) (gates : List Gate) → n ≡ g.inputs → latches ≡ map (replaced_latch stands) g.latches → gates ≡ map (replaced_gate stands) g.gates
-    → ◌≡◌ {A = Graph} (record { inputs = n; latches = latches; gates = gates }) (replaced_graph stands g)
+pub replaced-is : (substitutes : List ℕ) (g : Graph) (n : ℕ) (latches : List Latch) (gates : List Gate) → n ≡ g.inputs → latches ≡ map (replaced_latch substitutes) g.latches → gates ≡ map (replaced_gate substitutes) g.gates
+    → ◌≡◌ {A = Graph} (record { inputs = n; latches = latches; gates = gates }) (replaced_graph substitutes g)
 unfolding replaced_graph
-replaced-is stands g n latches gates one two three = graph-is g.inputs latches (map (replaced_latch stands) g.latches) gates (map (replaced_gate stands) g.gates) n one two three
+replaced-is substitutes g n latches gates one two three = graph-is g.inputs latches (map (replaced_latch substitutes) g.latches) gates (map (replaced_gate substitutes) g.gates) n one two three
 
 -- the literals of properties, within a table by variable
 pub props-within : (g : Graph) (p : Props) (n : ℕ) → ArePropsOf g p → n ≡ variables_end g → OfProps (λ lit. variable lit < n) p
@@ -33,8 +33,8 @@ props-within g p n props long =
     subst P (sym long) (of_literals (λ lit. IsLiteralOf g lit) p (literals_within g p props))
 
 -- there is an entry of what stands for each variable
-pub stands-long : (g : Graph) (held stands : List ℕ) → stands ≡ stands_of g held → length stands ≡ variables_end g
-stands-long g held stands is = ap (λ (xs : List ℕ). length xs) is ∙ length-stands_of g held
+pub substitutes-long : (g : Graph) (held substitutes : List ℕ) → substitutes ≡ substitutes_of g held → length substitutes ≡ variables_end g
+substitutes-long g held substitutes is = ap (λ (xs : List ℕ). length xs) is ∙ length-substitutes_of g held
 
 -- what a loop over the gates reads is within the table
 pub gate-within : (g : Graph) (items : List Gate) (k n : ℕ) (gate : Gate) → IsGraph g → items ≡ g.gates → k < length items → gate ≡ get_or items k gate → n ≡ variables_end g

@@ -6,7 +6,7 @@ use Rattle.aig_graph.specs.declared.properties.Symbols.{Symbols}
 use Rattle.aig_graph.specs.Graph.{Graph, IsGraph, IsLiteralOf}
 use Rattle.aig_graph.specs.Circuits.{Netlist, IsNetlist}
 use Rattle.aig_graph.specs.Mapped.{OfProps}
-use Rattle.cleaned_circuits.specs.Merged.{merged_of, stands_of}
+use Rattle.cleaned_circuits.specs.Merged.{merged_of, substitutes_of}
 use Rattle.cleaned_circuits.specs.Reached.{AreReached}
 use Rattle.cleaned_circuits.specs.Trimmed.{trimmed_graph, trimmed_of}
 use Rattle.aig_graph.proofs.PropsLaws.{of_literals, literals_within}
@@ -52,7 +52,7 @@ module _ (c : Netlist) (held : List ℕ) (graph : IsGraph c.aig) (netlist : IsNe
 
   -- the merged graph has as many latches as the circuit
   pub merged-latches : length g.latches ≡ length c.aig.latches
-  merged-latches = ap (λ (h : Graph). length h.latches) aig ∙ length-replaced_latches (stands_of c.aig held) c.aig
+  merged-latches = ap (λ (h : Graph). length h.latches) aig ∙ length-replaced_latches (substitutes_of c.aig held) c.aig
 
   -- positions of the circuit's latches are positions of the merged graph's
   pub merged-range : All (λ j. j < length c.aig.latches) held → All (λ j. j < length g.latches) held

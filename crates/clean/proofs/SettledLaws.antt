@@ -12,7 +12,7 @@ use Rattle.aig_graph.proofs.FoldingLaws.{gate_at-first_gate}
 use Rattle.aig_graph.proofs.KindLaws.{GatePlace, LatchPlace, element, gate_place, latch_at-first_latch, latch_place}
 use Rattle.aig_graph.proofs.PropsLaws.{mapped-literals}
 use Rattle.cleaned_circuits.specs.Cleaned.{IsPass}
-use Rattle.cleaned_circuits.specs.Merged.{merged_of, replaced_gate, stands_of}
+use Rattle.cleaned_circuits.specs.Merged.{merged_of, replaced_gate, substitutes_of}
 use Rattle.cleaned_circuits.specs.Reached.{AreReached, HoldsReads, stays}
 use Rattle.cleaned_circuits.specs.Trimmed.{new_position, new_variable, renumbered, renumbered_gate, renumbered_latch, trimmed_graph, trimmed_of}
 use Rattle.cleaned_circuits.proofs.MergedLaws.{from_gate, replaced-first_gate}
@@ -134,15 +134,15 @@ module _ (held : List ℕ) (c : Netlist) (valid : IsCircuit c) (in_range : All (
   record Stayed (old : Gate) (k : ℕ) : Type 0 where
     was : Gate
     there : slice_get c.aig.gates k ≡ Some was
-    is : old ≡ replaced_gate (stands_of c.aig held) was
-    own : get_or (stands_of c.aig held) (first_gate c.aig + k) 0 ≡ 2 * (first_gate c.aig + k)
+    is : old ≡ replaced_gate (substitutes_of c.aig held) was
+    own : get_or (substitutes_of c.aig held) (first_gate c.aig + k) 0 ≡ 2 * (first_gate c.aig + k)
     plain : IsPlain old
 
   stayed : (k : ℕ) (old : Gate) → slice_get merged.gates k ≡ Some old → s (first_gate merged + k) ≡ true → Stayed old k
   stayed k old e told =
-      let from = from_gate (stands_of c.aig held) c.aig k old e in
-      let place : first_gate merged + k ≡ first_gate c.aig + k = omega (arith, replaced-first_gate (stands_of c.aig held) c.aig) in
-      let own : get_or (stands_of c.aig held) (first_gate c.aig + k) 0 ≡ 2 * (first_gate c.aig + k) =
+      let from = from_gate (substitutes_of c.aig held) c.aig k old e in
+      let place : first_gate merged + k ≡ first_gate c.aig + k = omega (arith, replaced-first_gate (substitutes_of c.aig held) c.aig) in
+      let own : get_or (substitutes_of c.aig held) (first_gate c.aig + k) 0 ≡ 2 * (first_gate c.aig + k) =
       reached-own held c valid (λ j h. in_range j 0 h) s reached (first_gate c.aig + k) (ap s (sym place) ∙ told) in
       record {
         was = from.0;
@@ -189,7 +189,7 @@ module _ (held : List ℕ) (c : Netlist) (valid : IsCircuit c) (in_range : All (
       (literal-one one.old.rhs0 two.old.rhs0 reads_one.0 reads_two.0) (literal-one one.old.rhs1 two.old.rhs1 reads_one.1 reads_two.1)
       (literal-one one.old.rhs0 two.old.rhs1 reads_one.0 reads_two.1) (literal-one one.old.rhs1 two.old.rhs0 reads_one.1 reads_two.0)
       (sym one.is ∙ two.is) in
-      let pair : replaced_gate (stands_of c.aig held) first.was ≡ replaced_gate (stands_of c.aig held) second.was = sym first.is ∙ old ∙ second.is in
+      let pair : replaced_gate (substitutes_of c.aig held) first.was ≡ replaced_gate (substitutes_of c.aig held) second.was = sym first.is ∙ old ∙ second.is in
       elim (cases_lt one.place two.place) [
         | inl less ↦ absurd (pairs-own c.aig held valid.graph one.place two.place first.was second.was first.there second.there less first.own second.own pair)
         | inr more ↦ elim (cases_lt two.place one.place) [

@@ -32,14 +32,14 @@ own-at : (first v : ℕ) → v < first → get_or (own_literals first) v 0 ≡ 2
 unfolding own_literals
 own-at first v h = table-at 0 first (λ w. 2 * w) v 0 h ∙ ap (λ (w : ℕ). 2 * w) (zero-add v)
 
-stand-low : (first v : ℕ) (literals : List ℕ) → v < first → get_or (from_first first literals) v 0 ≡ 2 * v
+substitute-low : (first v : ℕ) (literals : List ℕ) → v < first → get_or (from_first first literals) v 0 ≡ 2 * v
 unfolding from_first
-stand-low first v literals h =
+substitute-low first v literals h =
     get_or_append_left (own_literals first) literals 0 v (omega (arith, length-own_literals first)) ∙ own-at first v h
 
-stand-from : (first v : ℕ) (literals : List ℕ) → first ≤ v → get_or (from_first first literals) v 0 ≡ get_or literals (v - first) 0
+substitute-from : (first v : ℕ) (literals : List ℕ) → first ≤ v → get_or (from_first first literals) v 0 ≡ get_or literals (v - first) 0
 unfolding from_first
-stand-from first v literals h =
+substitute-from first v literals h =
     let place : v ≡ length (own_literals first) + (v - first) = omega (arith, length-own_literals first) in
     ap (λ (w : ℕ). get_or (own_literals first ++ literals) w 0) place ∙ get_or-append-add (own_literals first) literals (v - first) 0
 
@@ -48,14 +48,14 @@ signed-own lit n e = omega arith
 
 -- a literal of a variable before the first latch is replaced by itself
 pub replaced-low : (first lit : ℕ) (literals : List ℕ) → variable lit < first → lit ≡ replaced (from_first first literals) lit
-replaced-low first lit literals h = signed-own lit (get_or (from_first first literals) (variable lit) 0) (stand-low first (variable lit) literals h)
+replaced-low first lit literals h = signed-own lit (get_or (from_first first literals) (variable lit) 0) (substitute-low first (variable lit) literals h)
 
 -- a literal of a variable from the first latch on is replaced by its entry, its sign kept
 pub replaced-from : (first lit base v : ℕ) (literals : List ℕ) → v ≡ variable lit → first ≤ v → base ≡ get_or literals (v - first) base → v - first < length literals
     → signed_as lit base ≡ replaced (from_first first literals) lit
 replaced-from first lit base v literals same h read within =
     let entry : base ≡ get_or literals (v - first) 0 = read ∙ get_or_default literals (v - first) base 0 within in
-    let here : get_or (from_first first literals) (variable lit) 0 ≡ get_or literals (v - first) 0 = ap (λ (w : ℕ). get_or (from_first first literals) w 0) (sym same) ∙ stand-from first v literals h in
+    let here : get_or (from_first first literals) (variable lit) 0 ≡ get_or literals (v - first) 0 = ap (λ (w : ℕ). get_or (from_first first literals) w 0) (sym same) ∙ substitute-from first v literals h in
     ap (signed_as lit) (entry ∙ sym here)
 
 -- the same, of a table that has these entries

@@ -3,7 +3,7 @@ use Rattle.std.specs.Prelude.{ℕ, ◌+◌, ◌*◌, ◌++◌, ◌≡◌, nat_lt
 use Rattle.std.specs.Map.{lookup}
 use Rattle.aig_graph.specs.declared.graph.Latch.{Latch}
 use Rattle.aig_graph.specs.Graph.{Graph, first_latch, is_free}
-use Rattle.cleaned_circuits.specs.Latches.{is_latch, is_like, first_where}
+use Rattle.cleaned_circuits.specs.Latches.{same_latch, is_like, first_where}
 
 -- the literal of the first latch before n that is like this one
 unfoldable pub first_literal : Graph → List ℕ → Latch → ℕ → Option ℕ
@@ -13,7 +13,7 @@ first_literal g held latch n =
 
 -- the entries have the literals of the first latches among the first n whose reset is known
 pub record AreFirsts (g : Graph) (held : List ℕ) (n : ℕ) (entries : List (Latch × ℕ)) : Type 0 where
-  pub each : (latch : Latch) → is_free latch ≡ false → lookup (is_latch latch) entries ≡ first_literal g held latch n
+  pub each : (latch : Latch) → is_free latch ≡ false → lookup (same_latch latch) entries ≡ first_literal g held latch n
 
 -- the entries, and this latch where there was none like it
 abbrev pub entries_after : List (Latch × ℕ) → ℕ → Latch → Option ℕ → List (Latch × ℕ)

@@ -3,7 +3,7 @@ use Rattle.std.specs.Prelude.{ℕ, ◌+◌, ◌-◌, ◌<◌, ◌≤◌, ◌^◌
 use Rattle.std.specs.Map.{lookup}
 use Rattle.aig_graph.specs.declared.graph.Gate.{Gate}
 use Rattle.aig_graph.specs.Graph.{variable}
-use Rattle.cleaned_circuits.specs.Merged.{is_gate}
+use Rattle.cleaned_circuits.specs.Merged.{same_fan_ins}
 use Rattle.clean.specs.declared.kept.KeptGate.{KeptGate}
 use Rattle.clean.specs.declared.kept.GateList.{GateList}
 
@@ -41,7 +41,7 @@ or_else (Some n) second = Some n
 unfoldable pub on_list : List KeptGate → Gate → ℕ → ℕ → Option ℕ
 on_list gates gate zero link = None
 on_list gates gate (suc n) link =
-    if nat_eq link (suc n) then (if is_gate gate (get_or gates n no_gate).gate then Some (get_or gates n no_gate).lit else on_list gates gate n (get_or gates n no_gate).before)
+    if nat_eq link (suc n) then (if same_fan_ins gate (get_or gates n no_gate).gate then Some (get_or gates n no_gate).lit else on_list gates gate n (get_or gates n no_gate).before)
     else on_list gates gate n link
 
 -- the literal of a gate on the list of its larger fan-in
@@ -52,7 +52,7 @@ listed k gate = on_list k.gates gate (length k.gates) (last_of k (variable gate.
 pub record AreKept (k : Kept) : Type 0 where
   pub last : (place : ℕ) → (get_or k.lists place no_list).last ≤ length k.gates
   pub before : (n : ℕ) → (get_or k.gates n no_gate).before ≤ n
-  pub found : (gate : Gate) → lookup (is_gate gate) (pairs k) ≡ or_else (listed k gate) (lookup (is_gate gate) k.rest)
+  pub found : (gate : Gate) → lookup (same_fan_ins gate) (pairs k) ≡ or_else (listed k gate) (lookup (same_fan_ins gate) k.rest)
 
 -- the place of a variable's list, which may grow
 pub record IsListOf (k : Kept) (v place : ℕ) : Type 0 where

@@ -3,12 +3,12 @@ use Rattle.std.specs.Prelude.{ℕ, ◌≡◌, ◌+◌, List, length, slice_get}
 use Rattle.aig_graph.specs.Graph.{first_latch}
 use Rattle.aig_graph.specs.Circuits.{Netlist}
 use Rattle.variable_tables.specs.Tables.{table}
-use Rattle.cleaned_circuits.specs.Latches.{latch_stand}
+use Rattle.cleaned_circuits.specs.Latches.{latch_substitute}
 use Rattle.cleaned_circuits.specs.Cleaned.{IsPass}
 use Rattle.clean.specs.declared.tracing.TracedPass.{TracedPass}
 
 -- a pass of c, with what stands for each latch of c, and whether each stays
 pub record IsTraced (held : List ℕ) (c : Netlist) (t : TracedPass) : Type 0 where
   pub pass : IsPass held c t.circuit t.kept_free.items t.held.items
-  pub stands : t.stands.items ≡ table 0 (length c.aig.latches) (λ j. latch_stand c.aig held j (slice_get c.aig.latches j))
+  pub substitutes : t.substitutes.items ≡ table 0 (length c.aig.latches) (λ j. latch_substitute c.aig held j (slice_get c.aig.latches j))
   pub stays : t.stays.items ≡ table 0 (length c.aig.latches) (λ j. pass.reached (first_latch c.aig + j))

@@ -1,8 +1,8 @@
 //! The first of equal latches, by a hash table over next literal and reset.
 ghost use Rattle.std.specs.Prelude.{◌≡◌, ◌++◌, ◌∷◌, [], None, OnOk, IfOk};
 ghost use Rattle.std.specs.Map.{lookup};
-ghost use Rattle.cleaned_circuits.specs.Latches.{is_latch};
-ghost use Rattle.cleaned_circuits.specs.Merged.{stand_or_own};
+ghost use Rattle.cleaned_circuits.specs.Latches.{same_latch};
+ghost use Rattle.cleaned_circuits.specs.Merged.{substitute_or_own};
 ghost use Rattle.clean.specs.Firsts.{entries_after};
 
 use aig_graph::{Latch, Lit, NoMemory};
@@ -37,14 +37,14 @@ impl FirstLatches {
 
     /// The literal of the latch of this next literal and reset.
     fn find(&self, latch: &Latch) -> Option<Lit>
-        ensures { result ≡ lookup (is_latch latch.now) self.now }
+        ensures { result ≡ lookup (same_latch latch.now) self.now }
     {
         self.literals.get(latch).copied()
     }
 
     /// Adds a latch of another next literal or reset than each one's.
     fn add(&mut self, latch: Latch, own: Lit) -> Result<(), NoMemory>
-        requires { lookup (is_latch latch) self.old ≡ None }
+        requires { lookup (same_latch latch) self.old ≡ None }
         ensures { OnOk result (self.new ≡ self.old ++ (latch, own) ∷ []) }
     {
         self.literals.insert(latch, own)?;
@@ -53,10 +53,10 @@ impl FirstLatches {
 
     /// The literal of the first latch like this one, which is this one where there is none.
     pub(crate) fn first_like(&mut self, latch: Latch, own: Lit) -> Result<Lit, NoMemory>
-        ensures literal { IfOk result (λ lit. lit ≡ stand_or_own own
-            (lookup (is_latch latch) self.old)) }
+        ensures literal { IfOk result (λ lit. lit ≡ substitute_or_own own
+            (lookup (same_latch latch) self.old)) }
         ensures entries { OnOk result (self.new ≡ entries_after self.old own latch
-            (lookup (is_latch latch) self.old)) }
+            (lookup (same_latch latch) self.old)) }
     {
         match self.find(&latch) {
             Some(first) => Ok(first),

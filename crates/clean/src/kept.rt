@@ -3,7 +3,7 @@
 //! alone, stand in a hash table. Which of the two a gate stands in is for speed alone: a gate is looked for in both.
 ghost use Rattle.std.specs.Prelude.{◌≡◌, ◌++◌, ◌∷◌, [], None, IfOk, IfSome, OnErr, OnOk};
 ghost use Rattle.std.specs.Map.{lookup};
-ghost use Rattle.cleaned_circuits.specs.Merged.{is_gate};
+ghost use Rattle.cleaned_circuits.specs.Merged.{same_fan_ins};
 ghost use Rattle.aig_graph.specs.Graph.{variable};
 ghost use Rattle.clean.specs.Kept.{pairs, last_of, listed, IsListOf};
 
@@ -65,7 +65,7 @@ impl Model for KeptGates {
 
 /// Puts a gate into a table that hasn't got it.
 fn insert_new(rest: &mut IndexMap<Gate, Lit>, gate: Gate, lit: Lit) -> Result<(), NoMemory>
-    requires { lookup (is_gate gate) rest.old.entries ≡ None }
+    requires { lookup (same_fan_ins gate) rest.old.entries ≡ None }
     ensures ok { OnOk result (rest.new.entries ≡ rest.old.entries ++ (gate, lit) ∷ []) }
     ensures err { OnErr result (rest.new.entries ≡ rest.old.entries) }
 {
@@ -119,7 +119,7 @@ impl KeptGates {
 
     /// The literal of the kept gate of these literals.
     pub fn find(&self, gate: Gate) -> Option<Lit>
-        ensures { result ≡ lookup (is_gate gate) (pairs self.now) }
+        ensures { result ≡ lookup (same_fan_ins gate) (pairs self.now) }
     {
         match self.listed(gate) {
             Some(lit) => Some(lit),
@@ -142,7 +142,7 @@ impl KeptGates {
 
     /// Adds a gate to the list at a place, which is that of its larger fan-in.
     fn add_to_list(&mut self, place: usize, gate: Gate, lit: Lit) -> Result<(), NoMemory>
-        requires new { lookup (is_gate gate) (pairs self.old) ≡ None }
+        requires new { lookup (same_fan_ins gate) (pairs self.old) ≡ None }
         requires list { IsListOf self.old (variable gate.rhs0) place }
         ensures { OnOk result (pairs self.new ≡ pairs self.old ++ (gate, lit) ∷ []) }
     {
@@ -158,7 +158,7 @@ impl KeptGates {
 
     /// Adds a gate to the hash table.
     fn add_to_rest(&mut self, gate: &Gate, lit: Lit) -> Result<(), NoMemory>
-        requires { lookup (is_gate gate.now) (pairs self.old) ≡ None }
+        requires { lookup (same_fan_ins gate.now) (pairs self.old) ≡ None }
         ensures { OnOk result (pairs self.new ≡ pairs self.old ++ (gate.now, lit) ∷ []) }
     {
         self.gates.reserve(1)?;
@@ -173,7 +173,7 @@ impl KeptGates {
 
     /// Adds a gate of other literals than those of each kept one.
     pub fn add(&mut self, gate: Gate, lit: Lit) -> Result<(), NoMemory>
-        requires { lookup (is_gate gate) (pairs self.old) ≡ None }
+        requires { lookup (same_fan_ins gate) (pairs self.old) ≡ None }
         ensures { OnOk result (pairs self.new ≡ pairs self.old ++ (gate, lit) ∷ []) }
     {
         match self.room_of(gate.rhs0.var()) {

@@ -4,7 +4,7 @@
 ghost use Rattle.std.specs.Prelude.{◌≡◌, ◌<◌, ◌+◌, ◌*◌, ◌&&◌, ◌||◌, ◌==◌, not, slice_get, length, true, Some, OnOk, IfOk};
 ghost use Rattle.aig_graph.specs.Graph.{first_latch, first_gate, is_free};
 ghost use Rattle.variable_tables.specs.Tables.{table};
-ghost use Rattle.cleaned_circuits.specs.Latches.{constant_of, latch_stand, leaf_stand};
+ghost use Rattle.cleaned_circuits.specs.Latches.{constant_of, latch_substitute, leaf_substitute};
 ghost use Rattle.clean.specs.Firsts.{AreFirsts};
 ghost use Rattle.clean.specs.Settled.{AreOwnLatches};
 ghost use Rattle.clean.specs.Substitutions.{own_literals};
@@ -45,7 +45,7 @@ pub fn own_literal(aig: &Aig, place: usize) -> Lit
 }
 
 /// What stands for the latch at a place, where the first latches before it are these.
-pub(crate) fn stand_for_latch(
+pub(crate) fn substitute_for_latch(
     firsts: &mut FirstLatches,
     aig: &Aig,
     held: &Held<'_>,
@@ -55,7 +55,8 @@ pub(crate) fn stand_for_latch(
     requires there { slice_get aig.now.latches place ≡ Some latch }
     requires held { length held.now.marks.items ≡ length aig.now.latches }
     requires firsts { AreFirsts aig.now held.now.positions.now place firsts.old }
-    ensures literal { IfOk result (λ lit. lit ≡ latch_stand aig.now held.now.positions.now place
+    ensures literal { IfOk result (λ lit. lit ≡ latch_substitute aig.now held.now.positions.now
+        place
         (Some latch)) }
     ensures firsts { OnOk result (AreFirsts aig.now held.now.positions.now (place + 1) firsts.new) }
 {
@@ -71,22 +72,22 @@ pub(crate) fn stand_for_latch(
     if is_held { Ok(own) } else { Ok(first) }
 }
 
-/// What stands for each latch, where `stands` has the variables before them.
-pub(crate) fn latch_stands(
+/// What stands for each latch, where `substitutes` has the variables before them.
+pub(crate) fn latch_substitutes(
     alloc: Global,
     aig: &Aig,
     held: &Held<'_>,
-    stands: &mut Substitution,
+    substitutes: &mut Substitution,
 ) -> Result<(), NoMemory>
     requires held { length held.now.marks.items ≡ length aig.now.latches }
-    requires inputs { stands.old ≡ own_literals (first_latch aig.now) }
-    ensures { OnOk result (stands.new ≡ table 0 (first_gate aig.now)
-        (leaf_stand aig.now held.now.positions.now)) }
+    requires inputs { substitutes.old ≡ own_literals (first_latch aig.now) }
+    ensures { OnOk result (substitutes.new ≡ table 0 (first_gate aig.now)
+        (leaf_substitute aig.now held.now.positions.now)) }
 {
     let mut firsts = FirstLatches::new(alloc);
     for (place, latch) in aig.latches().iter().enumerate() {
-        let stand = stand_for_latch(&mut firsts, aig, held, place, *latch)?;
-        stands.push(stand)?;
+        let substitute = substitute_for_latch(&mut firsts, aig, held, place, *latch)?;
+        substitutes.push(substitute)?;
     }
     Ok(())
 }
@@ -98,8 +99,8 @@ pub(crate) fn are_own_latches(alloc: Global, aig: &Aig, held: &Held<'_>) -> Resu
 {
     let mut firsts = FirstLatches::new(alloc);
     for (place, latch) in aig.latches().iter().enumerate() {
-        let stand = stand_for_latch(&mut firsts, aig, held, place, *latch)?;
-        let is_own = stand == own_literal(aig, place);
+        let substitute = substitute_for_latch(&mut firsts, aig, held, place, *latch)?;
+        let is_own = substitute == own_literal(aig, place);
         if !is_own {
             return Ok(false);
         }

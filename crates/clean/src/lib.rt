@@ -13,13 +13,13 @@ mod named;
 mod names;
 mod pass;
 mod reached;
-mod stands;
+mod substitutes;
 mod substitution;
 mod tracing;
 mod trim;
 
 pub use cleaning::{Cleaned, clean, composed};
-pub use gates::{known_stand, merge_gates};
+pub use gates::{known_substitute, merge_gates};
 pub use held::Held;
 pub use kept::KeptGates;
 pub use latches::{constant_of, own_literal};

@@ -7,7 +7,7 @@ ghost use Rattle.cleaned_circuits.specs.Merged.{replaced_latch, replaced_gate, r
 
 use crate::held::Held;
 use crate::names::copied_symbols;
-use crate::stands::stands_of;
+use crate::substitutes::substitutes_of;
 use crate::substitution::Substitution;
 use aig_graph::{Aig, Circuit, Gate, Latch, NoMemory, Props};
 use std::alloc::Global;
@@ -19,37 +19,46 @@ pub(crate) struct Merged {
     pub(crate) props: Props,
 }
 
-fn replaced_latches(alloc: Global, stands: &Substitution, aig: &Aig) -> Result<Vec<Latch>, NoMemory>
-    requires { length stands.now ≡ variables_end aig.now }
+fn replaced_latches(
+    alloc: Global,
+    substitutes: &Substitution,
+    aig: &Aig,
+) -> Result<Vec<Latch>, NoMemory>
+    requires { length substitutes.now ≡ variables_end aig.now }
     ensures { IfOk result (λ latches. latches.items
-        ≡ map (replaced_latch stands.now) aig.now.latches) }
+        ≡ map (replaced_latch substitutes.now) aig.now.latches) }
 {
     let mut latches = Vec::with_capacity(alloc, aig.latches().len())?;
     for latch in aig.latches() {
-        latches.push(stands.latch(*latch))?;
+        latches.push(substitutes.latch(*latch))?;
     }
     Ok(latches)
 }
 
-fn replaced_gates(alloc: Global, stands: &Substitution, aig: &Aig) -> Result<Vec<Gate>, NoMemory>
-    requires { length stands.now ≡ variables_end aig.now }
-    ensures { IfOk result (λ gates. gates.items ≡ map (replaced_gate stands.now) aig.now.gates) }
+fn replaced_gates(
+    alloc: Global,
+    substitutes: &Substitution,
+    aig: &Aig,
+) -> Result<Vec<Gate>, NoMemory>
+    requires { length substitutes.now ≡ variables_end aig.now }
+    ensures { IfOk result (λ gates. gates.items ≡ map (replaced_gate substitutes.now)
+        aig.now.gates) }
 {
     let mut gates = Vec::with_capacity(alloc, aig.gates().len())?;
     for gate in aig.gates() {
-        gates.push(stands.gate(*gate))?;
+        gates.push(substitutes.gate(*gate))?;
     }
     Ok(gates)
 }
 
 /// The graph, reading what stands for what it reads.
-fn replaced_aig(alloc: Global, aig: &Aig, stands: &Substitution) -> Result<Aig, NoMemory>
-    requires long { length stands.now ≡ variables_end aig.now }
-    requires graph { IsGraph (replaced_graph stands.now aig.now) }
-    ensures { IfOk result (λ after. after ≡ replaced_graph stands.now aig.now) }
+fn replaced_aig(alloc: Global, aig: &Aig, substitutes: &Substitution) -> Result<Aig, NoMemory>
+    requires long { length substitutes.now ≡ variables_end aig.now }
+    requires graph { IsGraph (replaced_graph substitutes.now aig.now) }
+    ensures { IfOk result (λ after. after ≡ replaced_graph substitutes.now aig.now) }
 {
-    let latches = replaced_latches(alloc, stands, aig)?;
-    let gates = replaced_gates(alloc, stands, aig)?;
+    let latches = replaced_latches(alloc, substitutes, aig)?;
+    let gates = replaced_gates(alloc, substitutes, aig)?;
     Ok(Aig::from_parts(aig.inputs(), latches, gates))
 }
 
@@ -61,15 +70,15 @@ fn replaced_aig(alloc: Global, aig: &Aig, stands: &Substitution) -> Result<Aig, 
 pub fn replaced_circuit(
     alloc: Global,
     circuit: &Circuit,
-    stands: &Substitution,
+    substitutes: &Substitution,
 ) -> Result<Circuit, NoMemory>
-    requires long { length stands.now ≡ variables_end circuit.now.aig }
-    requires graph { IsGraph (replaced_circuit stands.now circuit.now).aig }
-    requires netlist { IsNetlist (replaced_circuit stands.now circuit.now) }
-    ensures { IfOk result (λ after. after ≡ replaced_circuit stands.now circuit.now) }
+    requires long { length substitutes.now ≡ variables_end circuit.now.aig }
+    requires graph { IsGraph (replaced_circuit substitutes.now circuit.now).aig }
+    requires netlist { IsNetlist (replaced_circuit substitutes.now circuit.now) }
+    ensures { IfOk result (λ after. after ≡ replaced_circuit substitutes.now circuit.now) }
 {
-    let aig = replaced_aig(alloc, circuit.aig(), stands)?;
-    let props = circuit.props().mapped(alloc, stands)?;
+    let aig = replaced_aig(alloc, circuit.aig(), substitutes)?;
+    let props = circuit.props().mapped(alloc, substitutes)?;
     let symbols = copied_symbols(alloc, circuit.symbols())?;
     Ok(Circuit::new(aig, props, symbols))
 }
@@ -86,8 +95,8 @@ pub(crate) fn merged_of(
     ensures props { IfOk result (λ merged. merged.props
         ≡ (merged_of held.now.positions.now circuit.now).props) }
 {
-    let stands = stands_of(alloc, circuit.aig(), held)?;
-    let aig = replaced_aig(alloc, circuit.aig(), &stands)?;
-    let props = circuit.props().mapped(alloc, &stands)?;
+    let substitutes = substitutes_of(alloc, circuit.aig(), held)?;
+    let aig = replaced_aig(alloc, circuit.aig(), &substitutes)?;
+    let props = circuit.props().mapped(alloc, &substitutes)?;
     Ok(Merged { aig, props })
 }

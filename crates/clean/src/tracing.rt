@@ -2,13 +2,13 @@
 ghost use Rattle.std.specs.Prelude.{◌≡◌, ◌<◌, ◌+◌, All, IfOk, length, slice_get};
 ghost use Rattle.aig_graph.specs.Graph.{first_latch};
 ghost use Rattle.variable_tables.specs.Tables.{table};
-ghost use Rattle.cleaned_circuits.specs.Latches.{latch_stand};
+ghost use Rattle.cleaned_circuits.specs.Latches.{latch_substitute};
 ghost use Rattle.clean.specs.Sweep.{is_marked};
 ghost use Rattle.clean.specs.Tracing.{IsTraced};
 
 use crate::firsts::FirstLatches;
 use crate::held::Held;
-use crate::latches::stand_for_latch;
+use crate::latches::substitute_for_latch;
 use crate::merged::merged_of;
 use crate::pass::trimmed;
 use crate::reached::{Reached, reach_everything};
@@ -25,24 +25,24 @@ pub struct TracedPass {
     /// The new positions of the held latches.
     pub held: Vec<u32>,
     /// The literal that stands for each latch of the circuit before: a constant, or that of a latch.
-    pub stands: Vec<Lit>,
+    pub substitutes: Vec<Lit>,
     /// Whether each latch of the circuit before stays.
     pub stays: Vec<bool>,
 }
 
 /// What stands for each latch.
-fn stands_of_latches(alloc: Global, aig: &Aig, held: &Held<'_>) -> Result<Vec<Lit>, NoMemory>
+fn substitutes_of_latches(alloc: Global, aig: &Aig, held: &Held<'_>) -> Result<Vec<Lit>, NoMemory>
     requires { length held.now.marks.items ≡ length aig.now.latches }
-    ensures { IfOk result (λ stands. stands.items ≡ table 0 (length aig.now.latches)
-        (λ j. latch_stand aig.now held.now.positions.now j (slice_get aig.now.latches j))) }
+    ensures { IfOk result (λ substitutes. substitutes.items ≡ table 0 (length aig.now.latches)
+        (λ j. latch_substitute aig.now held.now.positions.now j (slice_get aig.now.latches j))) }
 {
     let mut firsts = FirstLatches::new(alloc);
-    let mut stands = Vec::with_capacity(alloc, aig.latches().len())?;
+    let mut substitutes = Vec::with_capacity(alloc, aig.latches().len())?;
     for (place, latch) in aig.latches().iter().enumerate() {
-        let stand = stand_for_latch(&mut firsts, aig, held, place, *latch)?;
-        stands.push(stand)?;
+        let substitute = substitute_for_latch(&mut firsts, aig, held, place, *latch)?;
+        substitutes.push(substitute)?;
     }
-    Ok(stands)
+    Ok(substitutes)
 }
 
 /// Whether each latch is reached.
@@ -65,7 +65,7 @@ pub fn traced_pass(alloc: Global, circuit: &Circuit, held: &[u32]) -> Result<Tra
     ensures { IfOk result (IsTraced held.now circuit.now) }
 {
     let marks = Held::new(alloc, held, circuit.aig().latches().len())?;
-    let stands = stands_of_latches(alloc, circuit.aig(), &marks)?;
+    let substitutes = substitutes_of_latches(alloc, circuit.aig(), &marks)?;
     let merged = merged_of(alloc, circuit, &marks)?;
     let reached = reach_everything(alloc, &merged.aig, &merged.props, held)?;
     let stays = stays_of(alloc, circuit.aig(), &reached)?;
@@ -74,7 +74,7 @@ pub fn traced_pass(alloc: Global, circuit: &Circuit, held: &[u32]) -> Result<Tra
         circuit: pass.circuit,
         kept_free: pass.kept_free,
         held: pass.held,
-        stands,
+        substitutes,
         stays,
     })
 }

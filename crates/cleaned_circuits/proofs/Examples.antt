@@ -6,9 +6,9 @@ use Rattle.aig_graph.specs.Circuits.{Netlist}
 use Rattle.variable_tables.specs.Marking.{has}
 use Rattle.variable_tables.specs.Counting.{count_below, places}
 use Rattle.variable_tables.specs.Tables.{table}
-use Rattle.cleaned_circuits.specs.Latches.{leaf_stand, first_where}
+use Rattle.cleaned_circuits.specs.Latches.{leaf_substitute, first_where}
 use Rattle.aig_graph.specs.Mapped.{mapped_props}
-use Rattle.cleaned_circuits.specs.Merged.{merge_gates, stands_of, replaced_graph, merged_of}
+use Rattle.cleaned_circuits.specs.Merged.{merge_gates, substitutes_of, replaced_graph, merged_of}
 use Rattle.cleaned_circuits.specs.Trimmed.{picked, trimmed_graph, trimmed_symbols, trimmed_of, kept_free}
 
 abbrev with_outputs : Graph → List ℕ → Netlist
@@ -25,7 +25,7 @@ pass_shares : trimmed_of (merged_of [] (with_outputs (record {
   gates = record { rhs0 = 4; rhs1 = 2 } ∷ record { rhs0 = 4; rhs1 = 2 } ∷ record { rhs0 = 8; rhs1 = 6 } ∷ record { rhs0 = 9; rhs1 = 6 } ∷ [];
 }) (10 ∷ 12 ∷ []))) (has (1 ∷ 2 ∷ 3 ∷ []))
     ≡ with_outputs (record { inputs = 2; latches = []; gates = record { rhs0 = 4; rhs1 = 2 } ∷ [] }) (6 ∷ 0 ∷ [])
-unfolding leaf_stand first_where places table count_below merge_gates stands_of replaced_graph mapped_props picked trimmed_graph trimmed_symbols
+unfolding leaf_substitute first_where places table count_below merge_gates substitutes_of replaced_graph mapped_props picked trimmed_graph trimmed_symbols
 pass_shares = refl
 
 -- of three free latches the second is read by itself alone
@@ -35,7 +35,7 @@ pass_drops : trimmed_of (merged_of [] (with_outputs (record {
   gates = [];
 }) (8 ∷ []))) (has (1 ∷ 2 ∷ 4 ∷ []))
     ≡ with_outputs (record { inputs = 1; latches = record { next = 2; reset = Free } ∷ record { next = 4; reset = Free } ∷ []; gates = [] }) (6 ∷ [])
-unfolding leaf_stand first_where places table count_below merge_gates stands_of replaced_graph mapped_props picked trimmed_graph trimmed_symbols
+unfolding leaf_substitute first_where places table count_below merge_gates substitutes_of replaced_graph mapped_props picked trimmed_graph trimmed_symbols
 pass_drops = refl
 
 -- twins after twins: the second pair becomes equal once the first is one, and then the gate is 0
@@ -49,7 +49,7 @@ first_pass : trimmed_of (merged_of [] (with_outputs (record {
       latches = record { next = 2; reset = Zero } ∷ record { next = 4; reset = Zero } ∷ record { next = 4; reset = Zero } ∷ [];
       gates = record { rhs0 = 8; rhs1 = 7 } ∷ [];
     }) (10 ∷ [])
-unfolding leaf_stand first_where places table count_below merge_gates stands_of replaced_graph mapped_props picked trimmed_graph trimmed_symbols
+unfolding leaf_substitute first_where places table count_below merge_gates substitutes_of replaced_graph mapped_props picked trimmed_graph trimmed_symbols
 first_pass = refl
 
 second_pass : trimmed_of (merged_of [] (with_outputs (record {
@@ -58,7 +58,7 @@ second_pass : trimmed_of (merged_of [] (with_outputs (record {
   gates = record { rhs0 = 8; rhs1 = 7 } ∷ [];
 }) (10 ∷ []))) (has (0 ∷ []))
     ≡ with_outputs (record { inputs = 1; latches = []; gates = [] }) (0 ∷ [])
-unfolding leaf_stand first_where places table count_below merge_gates stands_of replaced_graph mapped_props picked trimmed_graph trimmed_symbols
+unfolding leaf_substitute first_where places table count_below merge_gates substitutes_of replaced_graph mapped_props picked trimmed_graph trimmed_symbols
 second_pass = refl
 
 -- the places of the two that stay among the three free latches
@@ -67,7 +67,7 @@ pass_drops_free : kept_free (merged_of [] (with_outputs (record {
   latches = record { next = 2; reset = Free } ∷ record { next = 2; reset = Free } ∷ record { next = 4; reset = Free } ∷ [];
   gates = [];
 }) (8 ∷ []))).aig (has (2 ∷ 4 ∷ [])) ≡ 0 ∷ 2 ∷ []
-unfolding leaf_stand first_where places table count_below merge_gates stands_of replaced_graph mapped_props picked trimmed_graph trimmed_symbols kept_free
+unfolding leaf_substitute first_where places table count_below merge_gates substitutes_of replaced_graph mapped_props picked trimmed_graph trimmed_symbols kept_free
 pass_drops_free = refl
 
 -- a latch that is negated at each step isn't stuck
@@ -75,7 +75,7 @@ toggle : Netlist
 toggle = with_outputs (record { inputs = 0; latches = record { next = 3; reset = Zero } ∷ []; gates = [] }) (2 ∷ [])
 
 toggle_stays : trimmed_of (merged_of [] toggle) (has (1 ∷ [])) ≡ toggle
-unfolding leaf_stand first_where places table count_below merge_gates stands_of replaced_graph mapped_props picked trimmed_graph trimmed_symbols toggle
+unfolding leaf_substitute first_where places table count_below merge_gates substitutes_of replaced_graph mapped_props picked trimmed_graph trimmed_symbols toggle
 toggle_stays = refl
 
 -- two latches with one next literal and reset
@@ -85,12 +85,12 @@ twins outputs = with_outputs (record { inputs = 1; latches = record { next = 2; 
 -- the second becomes the first, also where the first is held
 twin_becomes_held : trimmed_of (merged_of (0 ∷ []) (twins (4 ∷ 6 ∷ []))) (has (2 ∷ []))
     ≡ with_outputs (record { inputs = 1; latches = record { next = 2; reset = One } ∷ []; gates = [] }) (4 ∷ 4 ∷ [])
-unfolding leaf_stand first_where places table count_below merge_gates stands_of replaced_graph mapped_props picked trimmed_graph trimmed_symbols twins
+unfolding leaf_substitute first_where places table count_below merge_gates substitutes_of replaced_graph mapped_props picked trimmed_graph trimmed_symbols twins
 twin_becomes_held = refl
 
 -- but not where the second is held
 held_twin_stays : trimmed_of (merged_of (1 ∷ []) (twins (4 ∷ 6 ∷ []))) (has (2 ∷ 3 ∷ [])) ≡ twins (4 ∷ 6 ∷ [])
-unfolding leaf_stand first_where places table count_below merge_gates stands_of replaced_graph mapped_props picked trimmed_graph trimmed_symbols twins
+unfolding leaf_substitute first_where places table count_below merge_gates substitutes_of replaced_graph mapped_props picked trimmed_graph trimmed_symbols twins
 held_twin_stays = refl
 
 -- a latch that reads itself, and nothing reads it
@@ -98,9 +98,9 @@ stuck : List ℕ → Netlist
 stuck outputs = with_outputs (record { inputs = 1; latches = record { next = 4; reset = Zero } ∷ []; gates = [] }) outputs
 
 stuck_goes : trimmed_of (merged_of [] (stuck (4 ∷ []))) (has []) ≡ with_outputs (record { inputs = 1; latches = []; gates = [] }) (0 ∷ [])
-unfolding leaf_stand first_where places table count_below merge_gates stands_of replaced_graph mapped_props picked trimmed_graph trimmed_symbols stuck
+unfolding leaf_substitute first_where places table count_below merge_gates substitutes_of replaced_graph mapped_props picked trimmed_graph trimmed_symbols stuck
 stuck_goes = refl
 
 held_stuck_stays : trimmed_of (merged_of (0 ∷ []) (stuck (2 ∷ []))) (has (2 ∷ [])) ≡ stuck (2 ∷ [])
-unfolding leaf_stand first_where places table count_below merge_gates stands_of replaced_graph mapped_props picked trimmed_graph trimmed_symbols stuck
+unfolding leaf_substitute first_where places table count_below merge_gates substitutes_of replaced_graph mapped_props picked trimmed_graph trimmed_symbols stuck
 held_stuck_stays = refl

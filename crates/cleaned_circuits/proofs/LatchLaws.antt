@@ -13,7 +13,7 @@ use Rattle.aig_graph.specs.Laws.{ValueLaws}
 use Rattle.aig_graph.proofs.ValueLaws.{value_laws}
 use Rattle.variable_tables.proofs.PlacesLaws.{Ranks, rank_at, at_rank, count-lt}
 use Rattle.aig_graph.proofs.KindLaws.{element}
-use Rattle.cleaned_circuits.specs.Latches.{constant_of, is_stuck, same_reset, is_latch, is_like, first_where, first_like, latch_stand, leaf_stand}
+use Rattle.cleaned_circuits.specs.Latches.{constant_of, is_stuck, same_reset, same_latch, is_like, first_where, first_like, latch_substitute, leaf_substitute}
 
 -- the first number that passes, where there is one
 pub first_where-cases : (p : ℕ → Bool) (n : ℕ) → (first_where p n ≡ n) ⊎ ((first_where p n < n) × (p (first_where p n) ≡ true))
@@ -99,7 +99,7 @@ like_where g held latch i e = go (slice_get g.latches i) refl
     go None none = let clash : false ≡ true = ap (is_like g held latch i) (sym none) ∙ e in absurd (cc)
     go (Some other) some =
         let told : is_like g held latch i (Some other) ≡ true = ap (is_like g held latch i) (sym some) ∙ e in
-        let parts = and_parts (not (is_stuck g held i other)) (is_latch latch other) told in
+        let parts = and_parts (not (is_stuck g held i other)) (same_latch latch other) told in
         let same = and_parts (nat_eq latch.next other.next) (same_reset latch.reset other.reset) parts.1 in
         record {
           other = other;
@@ -110,13 +110,13 @@ like_where g held latch i e = go (slice_get g.latches i) refl
         }
 
 -- what stands for a latch
-pub data StandsFor (g : Graph) (held : List ℕ) (j : ℕ) (latch : Latch) (stand : ℕ) : Type 0 where
-  by_constant : is_stuck g held j latch ≡ true → stand ≡ constant_of latch.reset → StandsFor g held j latch stand
-  by_itself : is_stuck g held j latch ≡ false → stand ≡ 2 * (first_latch g + j) → StandsFor g held j latch stand
-  by_earlier : (i : ℕ) → i < j → i ≡ first_like g held j latch → Like g held latch i → is_free latch ≡ false → has held j ≡ false → stand ≡ 2 * (first_latch g + i) → StandsFor g held j latch stand
+pub data StandsFor (g : Graph) (held : List ℕ) (j : ℕ) (latch : Latch) (substitute : ℕ) : Type 0 where
+  by_constant : is_stuck g held j latch ≡ true → substitute ≡ constant_of latch.reset → StandsFor g held j latch substitute
+  by_itself : is_stuck g held j latch ≡ false → substitute ≡ 2 * (first_latch g + j) → StandsFor g held j latch substitute
+  by_earlier : (i : ℕ) → i < j → i ≡ first_like g held j latch → Like g held latch i → is_free latch ≡ false → has held j ≡ false → substitute ≡ 2 * (first_latch g + i) → StandsFor g held j latch substitute
 
 -- what stands for a latch is its constant, the latch itself, or an earlier one like it
-pub stands_for : (g : Graph) (held : List ℕ) (j : ℕ) (latch : Latch) → StandsFor g held j latch (latch_stand g held j (Some latch))
+pub stands_for : (g : Graph) (held : List ℕ) (j : ℕ) (latch : Latch) → StandsFor g held j latch (latch_substitute g held j (Some latch))
 stands_for g held j latch =
     let own : ℕ = 2 * (first_latch g + j) in
     let like : ℕ = 2 * (first_latch g + first_like g held j latch) in
@@ -124,11 +124,11 @@ stands_for g held j latch =
     elim (cases_Bool (is_stuck g held j latch)) [
       | inl stuck ↦ by_constant stuck (cond-true (is_stuck g held j latch) (constant_of latch.reset) rest stuck)
       | inr moving ↦ (
-          let here : latch_stand g held j (Some latch) ≡ rest = cond-false (is_stuck g held j latch) (constant_of latch.reset) rest moving in
+          let here : latch_substitute g held j (Some latch) ≡ rest = cond-false (is_stuck g held j latch) (constant_of latch.reset) rest moving in
           elim (cases_Bool (is_free latch || has held j)) [
             | inl alone ↦ by_itself moving (here ∙ cond-true (is_free latch || has held j) own like alone)
             | inr apart ↦ (
-                let to : latch_stand g held j (Some latch) ≡ like = here ∙ cond-false (is_free latch || has held j) own like apart in
+                let to : latch_substitute g held j (Some latch) ≡ like = here ∙ cond-false (is_free latch || has held j) own like apart in
                 let parts = or_parts (is_free latch) (has held j) apart in
                 elim (first_where-cases (λ i. is_like g held latch i (slice_get g.latches i)) j) [
                   | inl last ↦ by_itself moving (to ∙ ap (λ (i : ℕ). 2 * (first_latch g + i)) last)
@@ -193,46 +193,46 @@ module _ (g : Graph) (valid : IsGraph g) (held : List ℕ) (x : Inputs) (f : Cho
       here ∙ ap (vals t) like.next ∙ sym later
 
   -- what stands for a latch has its value at each step
-  pub latch_stand-value : (t j : ℕ) (latch : Latch) → slice_get g.latches j ≡ Some latch → vals t (latch_stand g held j (Some latch)) ≡ vals t (2 * (first_latch g + j))
-  latch_stand-value t j latch there = elim (stands_for g held j latch) [
+  pub latch_substitute-value : (t j : ℕ) (latch : Latch) → slice_get g.latches j ≡ Some latch → vals t (latch_substitute g held j (Some latch)) ≡ vals t (2 * (first_latch g + j))
+  latch_substitute-value t j latch there = elim (stands_for g held j latch) [
     | by_constant stuck e ↦ ap (vals t) e ∙ stuck-value j latch there (stuck_where g held j latch stuck) t
     | by_itself moving e ↦ ap (vals t) e
     | by_earlier i less first like known apart e ↦ ap (vals t) e ∙ like-value j i latch there known like t
   ]
 
   -- what stands for a variable before the gates has its value at each step
-  pub leaf_stand-value : (t v : ℕ) → v < first_gate g → vals t (leaf_stand g held v) ≡ vals t (2 * v)
-  unfolding leaf_stand
-  leaf_stand-value t v h =
-      let other : ℕ = latch_stand g held (v - first_latch g) (slice_get g.latches (v - first_latch g)) in
+  pub leaf_substitute-value : (t v : ℕ) → v < first_gate g → vals t (leaf_substitute g held v) ≡ vals t (2 * v)
+  unfolding leaf_substitute
+  leaf_substitute-value t v h =
+      let other : ℕ = latch_substitute g held (v - first_latch g) (slice_get g.latches (v - first_latch g)) in
       elim (cases_lt v (first_latch g)) [
         | inl low ↦ ap (vals t) (cond-true (nat_lt v (first_latch g)) (2 * v) other (lt-ltb v (first_latch g) low))
         | inr past ↦ (
             let there = element g.latches (v - first_latch g) (omega arith) in
             let place : 2 * (first_latch g + (v - first_latch g)) ≡ 2 * v = omega arith in
             ap (vals t) (cond-false (nat_lt v (first_latch g)) (2 * v) other (le-ltb v (first_latch g) past))
-            ∙ ap (λ (o : Option Latch). vals t (latch_stand g held (v - first_latch g) o)) there.1
-            ∙ latch_stand-value t (v - first_latch g) there.0 there.1 ∙ ap (vals t) place)
+            ∙ ap (λ (o : Option Latch). vals t (latch_substitute g held (v - first_latch g) o)) there.1
+            ∙ latch_substitute-value t (v - first_latch g) there.0 there.1 ∙ ap (vals t) place)
       ]
 
 -- no latch is replaced by a later variable
-pub latch_stand-below : (g : Graph) (held : List ℕ) (j : ℕ) (latch : Latch) → variable (latch_stand g held j (Some latch)) ≤ first_latch g + j
-latch_stand-below g held j latch = elim (stands_for g held j latch) [
+pub latch_substitute-below : (g : Graph) (held : List ℕ) (j : ℕ) (latch : Latch) → variable (latch_substitute g held j (Some latch)) ≤ first_latch g + j
+latch_substitute-below g held j latch = elim (stands_for g held j latch) [
   | by_constant stuck e ↦ omega (arith, e, constant-even latch.reset)
   | by_itself moving e ↦ omega (arith, e)
   | by_earlier i less first like known apart e ↦ omega (arith, e)
 ]
 
 -- what stands for a variable before the gates is of no later variable
-pub leaf_stand-below : (g : Graph) (held : List ℕ) (v : ℕ) → v < first_gate g → variable (leaf_stand g held v) ≤ v
-unfolding leaf_stand
-leaf_stand-below g held v h =
-    let other : ℕ = latch_stand g held (v - first_latch g) (slice_get g.latches (v - first_latch g)) in
+pub leaf_substitute-below : (g : Graph) (held : List ℕ) (v : ℕ) → v < first_gate g → variable (leaf_substitute g held v) ≤ v
+unfolding leaf_substitute
+leaf_substitute-below g held v h =
+    let other : ℕ = latch_substitute g held (v - first_latch g) (slice_get g.latches (v - first_latch g)) in
     elim (cases_lt v (first_latch g)) [
       | inl low ↦ (let here : cond (nat_lt v (first_latch g)) (2 * v) other ≡ 2 * v = cond-true (nat_lt v (first_latch g)) (2 * v) other (lt-ltb v (first_latch g) low) in omega (arith, here))
       | inr past ↦ (
           let there = element g.latches (v - first_latch g) (omega arith) in
-          let here : cond (nat_lt v (first_latch g)) (2 * v) other ≡ latch_stand g held (v - first_latch g) (Some there.0) =
-          cond-false (nat_lt v (first_latch g)) (2 * v) other (le-ltb v (first_latch g) past) ∙ ap (λ (o : Option Latch). latch_stand g held (v - first_latch g) o) there.1 in
-          omega (arith, here, latch_stand-below g held (v - first_latch g) there.0))
+          let here : cond (nat_lt v (first_latch g)) (2 * v) other ≡ latch_substitute g held (v - first_latch g) (Some there.0) =
+          cond-false (nat_lt v (first_latch g)) (2 * v) other (le-ltb v (first_latch g) past) ∙ ap (λ (o : Option Latch). latch_substitute g held (v - first_latch g) o) there.1 in
+          omega (arith, here, latch_substitute-below g held (v - first_latch g) there.0))
     ]

@@ -1,5 +1,5 @@
 pub mod LatchLaws
-pub mod StandLaws
+pub mod SubstituteLaws
 pub mod MergedLaws
 pub mod PickedLaws
 pub mod TrimmedLaws

@@ -6,7 +6,7 @@ use Rattle.aig_graph.specs.Graph.{Graph, IsGraph, free_before, free_latches}
 use Rattle.aig_graph.specs.Circuits.{Netlist, IsNetlist}
 use Rattle.aig_graph.specs.Streams.{SameShape, SameStreams}
 use Rattle.aig_graph.proofs.StreamLaws.{same_streams-transitive}
-use Rattle.cleaned_circuits.specs.Merged.{replaced, merged_of, stands_of, replaced_graph}
+use Rattle.cleaned_circuits.specs.Merged.{replaced, merged_of, substitutes_of, replaced_graph}
 use Rattle.cleaned_circuits.specs.Reached.{AreReached}
 use Rattle.cleaned_circuits.specs.Trimmed.{trimmed_of, kept_free}
 use Rattle.cleaned_circuits.specs.Cleaned.{IsPass, Cleans, unchanged, after_pass}
@@ -30,8 +30,8 @@ IsCircuit-merged held c valid = record { graph = IsGraph-merged c.aig held valid
 -- merging in a pass leaves as many free latches
 pub merged-free : (held : List ℕ) (c : Netlist) → free_latches (merged_of held c).aig ≡ free_latches c.aig
 merged-free held c =
-    let stands : List ℕ = stands_of c.aig held in
-    replaced-free_before stands c.aig (length (replaced_graph stands c.aig).latches) ∙ ap (free_before c.aig) (length-replaced_latches stands c.aig)
+    let substitutes : List ℕ = substitutes_of c.aig held in
+    replaced-free_before substitutes c.aig (length (replaced_graph substitutes c.aig).latches) ∙ ap (free_before c.aig) (length-replaced_latches substitutes c.aig)
 
 same_shape-transitive : (c d e : Netlist) → SameShape c d → SameShape d e → SameShape c e
 same_shape-transitive c d e p q = record {
@@ -50,7 +50,7 @@ trimmed_merged-streams held c s valid reached =
     let d : Netlist = trimmed_of m s in
     let whole : IsCircuit m = IsCircuit-merged held c valid in
     let rest : SameStreams m d (kept_free m.aig s) = trimmed-streams m held s whole.graph whole.netlist reached.holds in
-    let first : SameShape c m = mapped-shape (replaced (stands_of c.aig held)) c m (replaced-inputs (stands_of c.aig held) c.aig) refl in
+    let first : SameShape c m = mapped-shape (replaced (substitutes_of c.aig held)) c m (replaced-inputs (substitutes_of c.aig held) c.aig) refl in
     let P : ℕ → Type 0 = λ n. All (λ place. place < n) (kept_free m.aig s) in
     record {
       shape = same_shape-transitive c m d first rest.shape;

@@ -19,14 +19,14 @@ use Rattle.aig_graph.proofs.SearchLaws.{has_iff_contains}
 use Rattle.aig_graph.specs.Value.{signed_as}
 use Rattle.variable_tables.proofs.PlacesLaws.{count-pass, count-fail, count-bound}
 use Rattle.aig_graph.proofs.KindLaws.{LatchPlace, latch_place, GatePlace, gate_place}
-use Rattle.cleaned_circuits.specs.Merged.{replaced, replaced_gate, replaced_latch, replaced_graph, stands_of, replaced_circuit, merged_of}
+use Rattle.cleaned_circuits.specs.Merged.{replaced, replaced_gate, replaced_latch, replaced_graph, substitutes_of, replaced_circuit, merged_of}
 use Rattle.cleaned_circuits.specs.Reached.{stays, HoldsReads, AreReached}
 use Rattle.aig_graph.specs.Mapped.{OfProps, mapped_props}
 use Rattle.cleaned_circuits.specs.Trimmed.{new_variable, new_position, renumbered, renumbered_latch, renumbered_gate, picked, new_name, trimmed_graph, trimmed_symbols, trimmed_of}
 use Rattle.aig_graph.proofs.PropsLaws.{of_literals, literals_within, mapped-literals}
 use Rattle.cleaned_circuits.proofs.PassLaws.{IsCircuit, IsCircuit-merged}
 use Rattle.cleaned_circuits.proofs.PickedLaws.{count-all}
-use Rattle.cleaned_circuits.proofs.OwnLaws.{stands-own, stands-low, stands-held}
+use Rattle.cleaned_circuits.proofs.OwnLaws.{substitutes-own, substitutes-low, substitutes-held}
 use Rattle.cleaned_circuits.proofs.MergedLaws.{replaced-first_latch, replaced-end, from_latch, from_gate}
 use Rattle.cleaned_circuits.proofs.TrimmedLaws.{trimmed-end, trimmed-first_latch, stays-past, stays-low, stays-reached}
 
@@ -139,42 +139,42 @@ module _ (c : Netlist) (s : ℕ → Bool) (valid : IsCircuit c) (full : (v : ℕ
       ∙ ap with_names (names-same c.symbols.latches valid.netlist.symbols.latches.below)
 
 -- where each variable stands for itself, nothing is replaced
-module _ (stands : List ℕ) (c : Netlist) (valid : IsCircuit c) (own : (v : ℕ) → v < variables_end c.aig → get_or stands v 0 ≡ 2 * v) where
-  replaced-same : (lit : ℕ) → IsLiteralOf c.aig lit → replaced stands lit ≡ lit
+module _ (substitutes : List ℕ) (c : Netlist) (valid : IsCircuit c) (own : (v : ℕ) → v < variables_end c.aig → get_or substitutes v 0 ≡ 2 * v) where
+  replaced-same : (lit : ℕ) → IsLiteralOf c.aig lit → replaced substitutes lit ≡ lit
   replaced-same lit within = ap (signed_as lit) (own (variable lit) within) ∙ twice lit (variable lit) refl
 
   -- where each variable stands for itself, the replaced circuit is the circuit
-  pub replaced_circuit-same : replaced_circuit stands c ≡ c
+  pub replaced_circuit-same : replaced_circuit substitutes c ≡ c
   unfolding replaced_graph
   replaced_circuit-same =
-      let latches : map (replaced_latch stands) c.aig.latches ≡ c.aig.latches = map-fixed (replaced_latch stands) c.aig.latches (λ k latch e.
+      let latches : map (replaced_latch substitutes) c.aig.latches ≡ c.aig.latches = map-fixed (replaced_latch substitutes) c.aig.latches (λ k latch e.
       let with_next : ℕ → Latch = λ n. record { next = n; reset = latch.reset } in
       ap with_next (replaced-same latch.next (valid.graph.latches k latch e))) in
-      let gates : map (replaced_gate stands) c.aig.gates ≡ c.aig.gates = map-fixed (replaced_gate stands) c.aig.gates (λ k gate e.
+      let gates : map (replaced_gate substitutes) c.aig.gates ≡ c.aig.gates = map-fixed (replaced_gate substitutes) c.aig.gates (λ k gate e.
       let at : IsGateAt (first_gate c.aig + k) gate = valid.graph.gates k gate e in
       let within : k < length c.aig.gates = slice_get_within c.aig.gates k gate e in
-      let first : replaced stands gate.rhs0 ≡ gate.rhs0 = replaced-same gate.rhs0 (omega arith) in
-      let second : replaced stands gate.rhs1 ≡ gate.rhs1 = replaced-same gate.rhs1 (omega arith) in
-      ap (λ (n : ℕ). gate_of n (replaced stands gate.rhs1)) first ∙ ap (λ (n : ℕ). gate_of gate.rhs0 n) second ∙ gate-ordered gate at.ordered) in
-      let by_latches : List Latch → Netlist = λ ls. record { aig = record { inputs = c.aig.inputs; latches = ls; gates = map (replaced_gate stands) c.aig.gates }; props = mapped_props (replaced stands) c.props; symbols = c.symbols } in
-      let by_gates : List Gate → Netlist = λ gs. record { aig = record { inputs = c.aig.inputs; latches = c.aig.latches; gates = gs }; props = mapped_props (replaced stands) c.props; symbols = c.symbols } in
+      let first : replaced substitutes gate.rhs0 ≡ gate.rhs0 = replaced-same gate.rhs0 (omega arith) in
+      let second : replaced substitutes gate.rhs1 ≡ gate.rhs1 = replaced-same gate.rhs1 (omega arith) in
+      ap (λ (n : ℕ). gate_of n (replaced substitutes gate.rhs1)) first ∙ ap (λ (n : ℕ). gate_of gate.rhs0 n) second ∙ gate-ordered gate at.ordered) in
+      let by_latches : List Latch → Netlist = λ ls. record { aig = record { inputs = c.aig.inputs; latches = ls; gates = map (replaced_gate substitutes) c.aig.gates }; props = mapped_props (replaced substitutes) c.props; symbols = c.symbols } in
+      let by_gates : List Gate → Netlist = λ gs. record { aig = record { inputs = c.aig.inputs; latches = c.aig.latches; gates = gs }; props = mapped_props (replaced substitutes) c.props; symbols = c.symbols } in
       let by_props : Props → Netlist = λ p. record { aig = c.aig; props = p; symbols = c.symbols } in
       ap by_latches latches ∙ ap by_gates gates
-      ∙ ap by_props (props-fixed (replaced stands) (λ lit. IsLiteralOf c.aig lit) c.props replaced-same (literals_within c.aig c.props valid.netlist.props))
+      ∙ ap by_props (props-fixed (replaced substitutes) (λ lit. IsLiteralOf c.aig lit) c.props replaced-same (literals_within c.aig c.props valid.netlist.props))
 
 -- the set of what is reached has no variable that another stands for
 module _ (held : List ℕ) (c : Netlist) (valid : IsCircuit c) (in_range : (j : ℕ) → j < length held → get_or held j 0 < length c.aig.latches) where
   abbrev own : ℕ → Bool
-  own v = nat_eq (get_or (stands_of c.aig held) v 0) (2 * v)
+  own v = nat_eq (get_or (substitutes_of c.aig held) v 0) (2 * v)
 
-  replaced-own : (lit : ℕ) → IsLiteralOf c.aig lit → own (variable (replaced (stands_of c.aig held) lit)) ≡ true
-  replaced-own lit within = eq-eqb _ _ (stands-own c.aig held valid.graph lit within)
+  replaced-own : (lit : ℕ) → IsLiteralOf c.aig lit → own (variable (replaced (substitutes_of c.aig held) lit)) ≡ true
+  replaced-own lit within = eq-eqb _ _ (substitutes-own c.aig held valid.graph lit within)
 
   gate-own : (gate : Gate) → IsLiteralOf c.aig gate.rhs0 → IsLiteralOf c.aig gate.rhs1
-      → (own (variable (replaced_gate (stands_of c.aig held) gate).rhs0) ≡ true) × (own (variable (replaced_gate (stands_of c.aig held) gate).rhs1) ≡ true)
+      → (own (variable (replaced_gate (substitutes_of c.aig held) gate).rhs0) ≡ true) × (own (variable (replaced_gate (substitutes_of c.aig held) gate).rhs1) ≡ true)
   gate-own gate h0 h1 =
-      let a : ℕ = replaced (stands_of c.aig held) gate.rhs0 in
-      let b : ℕ = replaced (stands_of c.aig held) gate.rhs1 in
+      let a : ℕ = replaced (substitutes_of c.aig held) gate.rhs0 in
+      let b : ℕ = replaced (substitutes_of c.aig held) gate.rhs1 in
       let P : ℕ → Type 0 = λ lit. own (variable lit) ≡ true in
       elim (cases_lt a b) [
         | inl less ↦ (
@@ -201,7 +201,7 @@ module _ (held : List ℕ) (c : Netlist) (valid : IsCircuit c) (in_range : (j : 
     properties-own : All (λ lit. own (variable lit) ≡ true) (property_literals (merged_of held c).props)
     properties-own =
         let P : ℕ → Type 0 = λ lit. own (variable lit) ≡ true in
-        let f : ℕ → ℕ = replaced (stands_of c.aig held) in
+        let f : ℕ → ℕ = replaced (substitutes_of c.aig held) in
         let each : All (λ lit. P (f lit)) (property_literals c.props) = λ k d h. replaced-own (get_or (property_literals c.props) k d) (literals_within c.aig c.props valid.netlist.props k d h) in
         subst (λ (lits : List ℕ). All P lits) (sym (mapped-literals f c.props)) (All-map P f (property_literals c.props) each)
 
@@ -212,16 +212,16 @@ module _ (held : List ℕ) (c : Netlist) (valid : IsCircuit c) (in_range : (j : 
           let at : get_or held k d ≡ get_or held k 0 = get_or_default held k d 0 h in
           let below : j < length c.aig.latches = omega (arith, in_range k h) in
           let has_it : has held j ≡ true = (has_iff_contains held j).1 (Contains-get_or held k d h) in
-          let place : first_latch (merged_of held c).aig + j ≡ first_latch c.aig + j = omega (arith, replaced-first_latch (stands_of c.aig held) c.aig) in
+          let place : first_latch (merged_of held c).aig + j ≡ first_latch c.aig + j = omega (arith, replaced-first_latch (substitutes_of c.aig held) c.aig) in
           and_from (s (first_latch (merged_of held c).aig + j)) (own (first_latch (merged_of held c).aig + j)) (reached.holds.all_held k d h)
-          (ap own place ∙ eq-eqb _ _ (stands-held c.aig held j below has_it));
+          (ap own place ∙ eq-eqb _ _ (substitutes-held c.aig held j below has_it));
       properties = λ k d h.
           let lit : ℕ = get_or (property_literals (merged_of held c).props) k d in
           stays-both (variable lit) (reached.holds.properties k d h) (properties-own k d h);
       gates = λ v gate e told.
           let place : GatePlace (merged_of held c).aig v gate = gate_place (merged_of held c).aig v gate e in
           let k : ℕ = v - first_gate (merged_of held c).aig in
-          let from = from_gate (stands_of c.aig held) c.aig k gate place.there in
+          let from = from_gate (substitutes_of c.aig held) c.aig k gate place.there in
           let old : Gate = from.0 in
           let at : IsGateAt (first_gate c.aig + k) old = valid.graph.gates k old from.1 in
           let within : k < length c.aig.gates = slice_get_within c.aig.gates k old from.1 in
@@ -232,14 +232,14 @@ module _ (held : List ℕ) (c : Netlist) (valid : IsCircuit c) (in_range : (j : 
           );
       latches = λ v latch e told.
           let place : LatchPlace (merged_of held c).aig v latch = latch_place (merged_of held c).aig v latch e in
-          let from = from_latch (stands_of c.aig held) c.aig (v - first_latch (merged_of held c).aig) latch place.there in
+          let from = from_latch (substitutes_of c.aig held) c.aig (v - first_latch (merged_of held c).aig) latch place.there in
           let within : IsLiteralOf c.aig from.0.next = valid.graph.latches (v - first_latch (merged_of held c).aig) from.0 from.1 in
           stays-both (variable latch.next) (reached.holds.latches v latch e (and_parts (s v) (own v) told).0)
           (ap (λ (x : Latch). own (variable x.next)) from.2 ∙ replaced-own from.0.next within);
     }
 
     -- so each variable that is reached stands for itself
-    pub reached-own : (v : ℕ) → s v ≡ true → get_or (stands_of c.aig held) v 0 ≡ 2 * v
+    pub reached-own : (v : ℕ) → s v ≡ true → get_or (substitutes_of c.aig held) v 0 ≡ 2 * v
     reached-own v e = eqb-true _ _ (and_parts (s v) (own v) (reached.least both both-holds v e)).1
 
     -- a pass that removes no latch and no gate changes nothing
@@ -247,12 +247,12 @@ module _ (held : List ℕ) (c : Netlist) (valid : IsCircuit c) (in_range : (j : 
         → trimmed_of (merged_of held c) s ≡ c
     pass-unchanged latches gates =
         let m : Netlist = merged_of held c in
-        let stands : List ℕ = stands_of c.aig held in
+        let substitutes : List ℕ = substitutes_of c.aig held in
         let end : new_variable m.aig s (variables_end m.aig) ≡ variables_end m.aig =
-        omega (arith, trimmed-end m.aig s, trimmed-first_latch m.aig s, replaced-end stands c.aig, replaced-first_latch stands c.aig) in
+        omega (arith, trimmed-end m.aig s, trimmed-first_latch m.aig s, replaced-end substitutes c.aig, replaced-first_latch substitutes c.aig) in
         let full : (v : ℕ) → v < variables_end m.aig → stays m.aig s v ≡ true = count-full (stays m.aig s) (variables_end m.aig) end in
-        let owns : (v : ℕ) → v < variables_end c.aig → get_or stands v 0 ≡ 2 * v = λ v h. elim (cases_lt v (first_latch c.aig)) [
-          | inl low ↦ stands-low c.aig held v low
-          | inr past ↦ reached-own v (sym (stays-past m.aig s v (omega (arith, replaced-first_latch stands c.aig))) ∙ full v (omega (arith, replaced-end stands c.aig)))
+        let owns : (v : ℕ) → v < variables_end c.aig → get_or substitutes v 0 ≡ 2 * v = λ v h. elim (cases_lt v (first_latch c.aig)) [
+          | inl low ↦ substitutes-low c.aig held v low
+          | inr past ↦ reached-own v (sym (stays-past m.aig s v (omega (arith, replaced-first_latch substitutes c.aig))) ∙ full v (omega (arith, replaced-end substitutes c.aig)))
         ] in
-        trimmed-same m s (IsCircuit-merged held c valid) full ∙ replaced_circuit-same stands c valid owns
+        trimmed-same m s (IsCircuit-merged held c valid) full ∙ replaced_circuit-same substitutes c valid owns

@@ -25,13 +25,13 @@ same_reset r s = elim r [
   | Free ↦ elim s [ Zero ↦ false | One ↦ false | Free ↦ true ]
 ]
 
-abbrev pub is_latch : Latch → Latch → Bool
-is_latch latch other = latch.next == other.next && same_reset latch.reset other.reset
+abbrev pub same_latch : Latch → Latch → Bool
+same_latch latch other = latch.next == other.next && same_reset latch.reset other.reset
 
 -- whether latch i isn't stuck, and has the next literal and the reset of another
 abbrev pub is_like : Graph → List ℕ → Latch → ℕ → Option Latch → Bool
 is_like g held latch i None = false
-is_like g held latch i (Some other) = not (is_stuck g held i other) && is_latch latch other
+is_like g held latch i (Some other) = not (is_stuck g held i other) && same_latch latch other
 
 -- the first number below n that passes, else n
 unfoldable pub first_where : (ℕ → Bool) → ℕ → ℕ
@@ -42,13 +42,13 @@ abbrev pub first_like : Graph → List ℕ → ℕ → Latch → ℕ
 first_like g held j latch = first_where (λ i. is_like g held latch i (slice_get g.latches i)) j
 
 -- the literal that stands for latch j: its constant where it is stuck, its own where it is free or held, else that of the first latch like it
-abbrev pub latch_stand : Graph → List ℕ → ℕ → Option Latch → ℕ
-latch_stand g held j None = 2 * (first_latch g + j)
-latch_stand g held j (Some latch) =
+abbrev pub latch_substitute : Graph → List ℕ → ℕ → Option Latch → ℕ
+latch_substitute g held j None = 2 * (first_latch g + j)
+latch_substitute g held j (Some latch) =
     if is_stuck g held j latch
     then constant_of latch.reset
     else (if is_free latch || has held j then 2 * (first_latch g + j) else 2 * (first_latch g + first_like g held j latch))
 
 -- the literal that stands for a variable that is no gate
-unfoldable pub leaf_stand : Graph → List ℕ → ℕ → ℕ
-leaf_stand g held v = if nat_lt v (first_latch g) then 2 * v else latch_stand g held (v - first_latch g) (slice_get g.latches (v - first_latch g))
+unfoldable pub leaf_substitute : Graph → List ℕ → ℕ → ℕ
+leaf_substitute g held v = if nat_lt v (first_latch g) then 2 * v else latch_substitute g held (v - first_latch g) (slice_get g.latches (v - first_latch g))

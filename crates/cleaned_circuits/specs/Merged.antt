@@ -10,52 +10,52 @@ use Rattle.aig_graph.specs.Building.{gate_of}
 use Rattle.aig_graph.specs.Value.{signed_as}
 use Rattle.aig_graph.specs.Mapped.{mapped_props}
 use Rattle.variable_tables.specs.Tables.{table}
-use Rattle.cleaned_circuits.specs.Latches.{leaf_stand}
+use Rattle.cleaned_circuits.specs.Latches.{leaf_substitute}
 
 -- what is known after some gates: by variable the literal that stands for it, and the gates that are kept, each with its literal
 pub record Merging : Type 0 where
-  pub stands : List ℕ
+  pub substitutes : List ℕ
   pub kept : List (Gate × ℕ)
 
 -- what stands for a literal, its sign kept
 abbrev pub replaced : List ℕ → ℕ → ℕ
-replaced stands lit = signed_as lit (slice_index_or stands (variable lit) 0)
+replaced substitutes lit = signed_as lit (slice_index_or substitutes (variable lit) 0)
 
 abbrev pub replaced_gate : List ℕ → Gate → Gate
-replaced_gate stands gate = gate_of (replaced stands gate.rhs0) (replaced stands gate.rhs1)
+replaced_gate substitutes gate = gate_of (replaced substitutes gate.rhs0) (replaced substitutes gate.rhs1)
 
-abbrev pub is_gate : Gate → Gate → Bool
-is_gate gate other = gate.rhs0 == other.rhs0 && gate.rhs1 == other.rhs1
+abbrev pub same_fan_ins : Gate → Gate → Bool
+same_fan_ins gate other = gate.rhs0 == other.rhs0 && gate.rhs1 == other.rhs1
 
 -- the literal that a gate comes down to, whose larger literal is first: 0 for a 0, the other for a 1 and for an equal one, 0 for
 -- opposite ones, else that of the kept gate of the same literals; None where there is none
-abbrev pub known_stand : List (Gate × ℕ) → Gate → Option ℕ
-known_stand kept gate =
+abbrev pub known_substitute : List (Gate × ℕ) → Gate → Option ℕ
+known_substitute kept gate =
     if gate.rhs1 == 0 then Some 0
     else if gate.rhs1 == 1 then Some gate.rhs0
     else if gate.rhs0 == gate.rhs1 then Some gate.rhs0
     else if variable gate.rhs0 == variable gate.rhs1 then Some 0
-    else lookup (is_gate gate) kept
+    else lookup (same_fan_ins gate) kept
 
 -- the literal that was found, else the gate's own
-abbrev pub stand_or_own : ℕ → Option ℕ → ℕ
-stand_or_own own None = own
-stand_or_own own (Some stand) = stand
+abbrev pub substitute_or_own : ℕ → Option ℕ → ℕ
+substitute_or_own own None = own
+substitute_or_own own (Some substitute) = substitute
 
 -- the kept gates, and this one where no literal was found
 abbrev pub kept_after : List (Gate × ℕ) → ℕ → Gate → Option ℕ → List (Gate × ℕ)
 kept_after kept own gate None = kept ++ (gate, own) ∷ []
-kept_after kept own gate (Some stand) = kept
+kept_after kept own gate (Some substitute) = kept
 
-abbrev pub with_stand : Merging → Gate → Option ℕ → Merging
-with_stand m gate known = record {
-  stands = m.stands ++ stand_or_own (2 * length m.stands) known ∷ [];
-  kept = kept_after m.kept (2 * length m.stands) gate known;
+abbrev pub with_substitute : Merging → Gate → Option ℕ → Merging
+with_substitute m gate known = record {
+  substitutes = m.substitutes ++ substitute_or_own (2 * length m.substitutes) known ∷ [];
+  kept = kept_after m.kept (2 * length m.substitutes) gate known;
 }
 
 -- one more gate, whose variable is the number of entries so far
 abbrev pub merge_gate : Merging → Gate → Merging
-merge_gate m gate = let pair = replaced_gate m.stands gate in with_stand m pair (known_stand m.kept pair)
+merge_gate m gate = let pair = replaced_gate m.substitutes gate in with_substitute m pair (known_substitute m.kept pair)
 
 unfoldable pub merge_gates : List Gate → Merging → Merging
 merge_gates [] m = m
@@ -63,33 +63,33 @@ merge_gates (gate ∷ gates) m = merge_gates gates (merge_gate m gate)
 
 -- before any gate, where these literals stand for the variables before the gates
 abbrev pub merging_from : List ℕ → Merging
-merging_from leaves = record { stands = leaves; kept = [] }
+merging_from leaves = record { substitutes = leaves; kept = [] }
 
 -- by variable the literal that stands for it, where these stand for the variables before the gates
-unfoldable pub stands_after : Graph → List ℕ → List ℕ
-stands_after g leaves = (merge_gates g.gates (merging_from leaves)).stands
+unfoldable pub substitutes_after : Graph → List ℕ → List ℕ
+substitutes_after g leaves = (merge_gates g.gates (merging_from leaves)).substitutes
 
 abbrev pub merging_start : Graph → List ℕ → Merging
-merging_start g held = merging_from (table 0 (first_gate g) (leaf_stand g held))
+merging_start g held = merging_from (table 0 (first_gate g) (leaf_substitute g held))
 
 -- by variable the literal that stands for it in a pass of cleaning
-unfoldable pub stands_of : Graph → List ℕ → List ℕ
-stands_of g held = (merge_gates g.gates (merging_start g held)).stands
+unfoldable pub substitutes_of : Graph → List ℕ → List ℕ
+substitutes_of g held = (merge_gates g.gates (merging_start g held)).substitutes
 
 abbrev pub replaced_latch : List ℕ → Latch → Latch
-replaced_latch stands latch = record latch { next = replaced stands latch.next }
+replaced_latch substitutes latch = record latch { next = replaced substitutes latch.next }
 
 -- the same latches and gates, reading what stands for what they read
 unfoldable pub replaced_graph : List ℕ → Graph → Graph
-replaced_graph stands g = record {
+replaced_graph substitutes g = record {
   inputs = g.inputs;
-  latches = map (replaced_latch stands) g.latches;
-  gates = map (replaced_gate stands) g.gates;
+  latches = map (replaced_latch substitutes) g.latches;
+  gates = map (replaced_gate substitutes) g.gates;
 }
 
 -- the circuit, reading what stands for what it read
 abbrev pub replaced_circuit : List ℕ → Netlist → Netlist
-replaced_circuit stands c = record { aig = replaced_graph stands c.aig; props = mapped_props (replaced stands) c.props; symbols = c.symbols }
+replaced_circuit substitutes c = record { aig = replaced_graph substitutes c.aig; props = mapped_props (replaced substitutes) c.props; symbols = c.symbols }
 
 abbrev pub merged_of : List ℕ → Netlist → Netlist
-merged_of held c = replaced_circuit (stands_of c.aig held) c
+merged_of held c = replaced_circuit (substitutes_of c.aig held) c

@@ -11,7 +11,7 @@ use Rattle.frame_net.specs.declared.net.Point.{Point}
 use Rattle.frame_net.specs.Passable.{is_passable}
 use Rattle.frame_net.specs.FlowNet.{FlowNet, Node, node_at, node_point, node_count, point_of, capacity_between}
 use Rattle.frame_net.specs.FlowNet.Node.{source, sink, before, after}
-use Rattle.frame_net.specs.Capacity.{node_variables, latch_count, great, gate_reads, leaves, arc_capacity, latch_number, before_number, after_number}
+use Rattle.frame_net.specs.Capacity.{node_variables, latch_count, unbounded, gate_reads, is_observed, arc_capacity, latch_number, before_number, after_number}
 use Rattle.frame_net.proofs.NodeLaws.{has_node-gate, at-latch, at-before, at-after, View, view}
 use Rattle.frame_net.proofs.NodeLaws.View.{the_source, the_sink, a_latch, a_before, an_after}
 use Rattle.frame_net.proofs.ArcLaws.{cap-at}
@@ -69,9 +69,9 @@ module _ (g : Graph) (props : Props) (held : List ℕ) where
   may-step x y (after v) sink p q h r s e f = absurd (none-some q f)
   may-step x y (after v) (after w) p q h r s e f = absurd (omega (arith, h))
   may-step x y (before v) (after w) p q h r s e f = points (point v false) (point w true) p q (same_Some _ _ e) (same_Some _ _ f) (through v w (positive (v == w) 1 h) r.0)
-  may-step x y (after v) (before w) p q h r s e f = points (point v true) (point w false) p q (same_Some _ _ e) (same_Some _ _ f) (on v w (positive (gate_reads v (gate_at g w)) (great g held) h) s.0)
+  may-step x y (after v) (before w) p q h r s e f = points (point v true) (point w false) p q (same_Some _ _ e) (same_Some _ _ f) (on v w (positive (gate_reads v (gate_at g w)) (unbounded g held) h) s.0)
   may-step x y (before w) (before v) p q h r s e f =
-      points (point w false) (point v false) p q (same_Some _ _ e) (same_Some _ _ f) (back w v (positive (gate_reads v (gate_at g w)) (great g held) h) r.0 (is-gate v s.0))
+      points (point w false) (point v false) p q (same_Some _ _ e) (same_Some _ _ f) (back w v (positive (gate_reads v (gate_at g w)) (unbounded g held) h) r.0 (is-gate v s.0))
 
   -- an arc with a capacity from the source leads to a point where a route may begin
   pub may-begin : (b : Node) (p : Point) → 0 < arc_capacity g props held source b → node_point b ≡ Some p → begins_at g p ≡ true
@@ -81,11 +81,11 @@ module _ (g : Graph) (props : Props) (held : List ℕ) where
   may-begin (after v) p h e = subst (λ (x : Point). begins_at g x ≡ true) (same_Some _ _ e) (positive (is_known (latch_at g v)) 1 h)
 
   -- an arc with a capacity to the sink comes from after a variable that leaves the frame
-  pub may-end : (a : Node) → 0 < arc_capacity g props held a sink → (v : ℕ) × ((a ≡ after v) × (leaves g props held v ≡ true))
+  pub may-end : (a : Node) → 0 < arc_capacity g props held a sink → (v : ℕ) × ((a ≡ after v) × (is_observed g props held v ≡ true))
   may-end source h = absurd (omega (arith, h))
   may-end sink h = absurd (omega (arith, h))
   may-end (before v) h = absurd (omega (arith, h))
-  may-end (after v) h = (v, (refl, positive (leaves g props held v) (great g held) h))
+  may-end (after v) h = (v, (refl, positive (is_observed g props held v) (unbounded g held) h))
 
   -- no arc from the sink has a capacity
   pub none-from-sink : (b : Node) → arc_capacity g props held sink b ≡ 0
@@ -173,7 +173,7 @@ module _ (c : Netlist) (held : List ℕ) (net : FlowNet) (is : IsNetworkOf c hel
   unfolding goes_on
   end-at x p h l some e =
       let ends = may-end c.aig c.props held (node x) (some-arc x 1 h l some) in
-      subst (λ (q : Point). (q.behind && leaves c.aig c.props held q.var) ≡ true) (same_Some _ _ (sym (ap node_point ends.1.0) ∙ sym (point-is x) ∙ e)) ends.1.1
+      subst (λ (q : Point). (q.behind && is_observed c.aig c.props held q.var) ≡ true) (same_Some _ _ (sym (ap node_point ends.1.0) ∙ sym (point-is x) ∙ e)) ends.1.1
 
   -- a capacity to the sink in the network comes from an inner node
   pub end-inner : (x : ℕ) → x < node_count net → 1 < node_count net → 0 < capacity_between net x 1 → 1 < x

@@ -11,7 +11,7 @@ use Rattle.aig_graph.proofs.SetLaws.{empty-closed}
 use Rattle.frame_net.specs.declared.net.Point.{Point}
 use Rattle.frame_net.specs.FlowNet.{FlowNet, Node, node_at, node_point, node_count, point_of, capacity_between}
 use Rattle.frame_net.specs.FlowNet.Node.{source, sink, before, after}
-use Rattle.frame_net.specs.Capacity.{great, leaves, gate_reads, node_variables, latch_count, arc_capacity}
+use Rattle.frame_net.specs.Capacity.{unbounded, is_observed, gate_reads, node_variables, latch_count, arc_capacity}
 use Rattle.aig_graph.specs.Graph.{gate_at}
 use Rattle.frame_net.proofs.NodeLaws.{view}
 use Rattle.frame_cuts.specs.Cuts.{IsNetworkOf}
@@ -133,11 +133,11 @@ module _ (c : Netlist) (held : List ℕ) (net : FlowNet) (is : IsNetworkOf c hel
   abbrev kind : ℕ → Node
   kind n = node_at (latch_count c.aig held) (node_variables c.aig held) n
 
-  big-arc : (a b : Node) → 0 < arc_capacity c.aig c.props held a b → ((v : ℕ) × (b ≡ after v)) ⊎ (arc_capacity c.aig c.props held a b ≡ great c.aig held)
+  big-arc : (a b : Node) → 0 < arc_capacity c.aig c.props held a b → ((v : ℕ) × (b ≡ after v)) ⊎ (arc_capacity c.aig c.props held a b ≡ unbounded c.aig held)
   big-arc a (after v) h = inl (v, refl)
-  big-arc (after v) (before w) h = inr (positive (gate_reads v (gate_at c.aig w)) (great c.aig held) h)
-  big-arc (before w) (before v) h = inr (positive (gate_reads v (gate_at c.aig w)) (great c.aig held) h)
-  big-arc (after v) sink h = inr (positive (leaves c.aig c.props held v) (great c.aig held) h)
+  big-arc (after v) (before w) h = inr (positive (gate_reads v (gate_at c.aig w)) (unbounded c.aig held) h)
+  big-arc (before w) (before v) h = inr (positive (gate_reads v (gate_at c.aig w)) (unbounded c.aig held) h)
+  big-arc (after v) sink h = inr (positive (is_observed c.aig c.props held v) (unbounded c.aig held) h)
   big-arc source source h = absurd (omega (arith, h))
   big-arc source sink h = absurd (omega (arith, h))
   big-arc source (before w) h = absurd (omega (arith, h))
@@ -148,8 +148,8 @@ module _ (c : Netlist) (held : List ℕ) (net : FlowNet) (is : IsNetworkOf c hel
   big-arc (before v) sink h = absurd (omega (arith, h))
   big-arc (after v) source h = absurd (omega (arith, h))
 
-  -- an arc to after a variable, or one of the great capacity
-  pub arc-kinds : (x y : ℕ) → x < node_count net → y < node_count net → 0 < capacity_between net x y → ((v : ℕ) × (point_of net y ≡ Some (record { var = v; behind = true }))) ⊎ (capacity_between net x y ≡ great c.aig held)
+  -- an arc to after a variable, or one of the unbounded capacity
+  pub arc-kinds : (x y : ℕ) → x < node_count net → y < node_count net → 0 < capacity_between net x y → ((v : ℕ) × (point_of net y ≡ Some (record { var = v; behind = true }))) ⊎ (capacity_between net x y ≡ unbounded c.aig held)
   arc-kinds x y h l some =
       let cap = capacity-is c held net is x y h l in
       elim (big-arc (kind x) (kind y) (subst (λ (m : ℕ). 0 < m) cap some)) [

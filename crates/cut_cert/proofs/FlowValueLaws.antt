@@ -13,7 +13,7 @@ use Rattle.aig_graph.specs.Border.{border_size, IsLeast}
 use Rattle.aig_graph.proofs.SetLaws.{empty-closed}
 use Rattle.frame_net.specs.FlowNet.{FlowNet, IsFlowNet, node_count, start, row_len, head, mate, cap_at, capacity_between}
 use Rattle.flow_part.specs.Parts.{pair}
-use Rattle.frame_cuts.specs.Cuts.{IsNetworkOf, NoGreatLeaves, leaving}
+use Rattle.frame_cuts.specs.Cuts.{IsNetworkOf, NoUnboundedLeaves, leaving}
 use Rattle.frame_cuts.proofs.SetCutLaws.{closed_sets_are_cuts-law}
 use Rattle.frame_cuts.proofs.NetLaws.{cuts_are_closed-law}
 use Rattle.frame_cuts.proofs.LeastCutLaws.{empty-border, arc-counts}
@@ -171,15 +171,15 @@ module _ (c : Netlist) (held : List ℕ) (net : FlowNet) (is : IsNetworkOf c hel
   at-most : (other : ℕ → Bool) → IsCut other → s.excess 1 ≤ leaving net other
   at-most = excess-at-most n (capacity_between net) s two end.preflow end.valid end.none_active
 
-  no-great : NoGreatLeaves net side
-  no-great v w h k a b =
+  no-unbounded : NoUnboundedLeaves net side
+  no-unbounded v w h k a b =
       let empty = closed_sets_are_cuts-law c held net [] is (empty-closed c.aig held) in
       omega (arith, arc-counts n (capacity_between net) side v w h k a b, worth, at-most empty.0 empty.1.is_cut, empty.1.count, empty-border c held, is.is_net.latches)
 
   -- the border of a least set has as many variables as units have reached the sink
   pub least-count : (gates : List ℕ) → IsLeast c held gates → border_size (move_of c held gates) ≡ s.excess 1
   least-count gates least =
-      let found = cuts_are_closed-law c held net side (gates_below net side n) is cut no-great (are-gates c held net is side) in
+      let found = cuts_are_closed-law c held net side (gates_below net side n) is cut no-unbounded (are-gates c held net is side) in
       let its = closed_sets_are_cuts-law c held net gates is least.closed in
       omega (arith, least.least (gates_below net side n) found.0, found.1, worth, at-most its.0 its.1.is_cut, its.1.count)
 

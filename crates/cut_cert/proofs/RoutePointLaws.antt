@@ -13,7 +13,7 @@ use Rattle.frame_net.specs.declared.net.Point.{Point}
 use Rattle.frame_net.specs.Passable.{is_passable}
 use Rattle.frame_net.specs.FlowNet.{FlowNet, Node, node_at, node_point, node_count, start, row_len, head, cap_at, point_of, capacity_between}
 use Rattle.frame_net.specs.FlowNet.Node.{source, before, after}
-use Rattle.frame_net.specs.Capacity.{has_node, node_variables, latch_count, great, gate_reads, arc_capacity, latch_number, before_number, after_number, node_total}
+use Rattle.frame_net.specs.Capacity.{has_node, node_variables, latch_count, unbounded, gate_reads, arc_capacity, latch_number, before_number, after_number, node_total}
 use Rattle.frame_net.proofs.PassableLaws.{passable-means, passable-at_gate, settled-split}
 use Rattle.frame_net.proofs.NodeLaws.{rank-latch, rank-gate, rank-below, latches-among, at-latch, at-before, at-after}
 use Rattle.frame_cuts.specs.Cuts.{IsNetworkOf}
@@ -185,16 +185,16 @@ module _ (c : Netlist) (held : List ℕ) (net : FlowNet) (is : IsNetworkOf c hel
     | inr other ↦ elim (or_cases (enters c.aig held p q) (returns_to c.aig held p q) other) [
       | inl on ↦ (
           let a = four_parts p.behind (not q.behind) (is_passable c.aig held q.var) (gate_reads p.var (gate_at c.aig q.var)) on in
-          let cap : arc_capacity c.aig c.props held (side c.aig held p) (side c.aig held q) ≡ great c.aig held =
+          let cap : arc_capacity c.aig c.props held (side c.aig held p) (side c.aig held q) ≡ unbounded c.aig held =
           ap₂ (λ (x y : Node). arc_capacity c.aig c.props held x y) (cond-true p.behind (after p.var) (before p.var) a.0) (cond-false q.behind (after q.var) (before q.var) (not-true q.behind a.1))
-          ∙ cond-true {A = ℕ} (gate_reads p.var (gate_at c.aig q.var)) (great c.aig held) 0 a.3 in
+          ∙ cond-true {A = ℕ} (gate_reads p.var (gate_at c.aig q.var)) (unbounded c.aig held) 0 a.3 in
           steps-to p q at (pass-place q a.2) (omega (arith, cap)))
       | inr back ↦ (
           let e = and_parts (not p.behind && not q.behind && is_passable c.aig held p.var && is_some (gate_at c.aig q.var)) (gate_reads q.var (gate_at c.aig p.var)) back in
           let a = four_parts (not p.behind) (not q.behind) (is_passable c.aig held p.var) (is_some (gate_at c.aig q.var)) e.0 in
-          let cap : arc_capacity c.aig c.props held (side c.aig held p) (side c.aig held q) ≡ great c.aig held =
+          let cap : arc_capacity c.aig c.props held (side c.aig held p) (side c.aig held q) ≡ unbounded c.aig held =
           ap₂ (λ (x y : Node). arc_capacity c.aig c.props held x y) (cond-false p.behind (after p.var) (before p.var) (not-true p.behind a.0)) (cond-false q.behind (after q.var) (before q.var) (not-true q.behind a.1))
-          ∙ cond-true {A = ℕ} (gate_reads q.var (gate_at c.aig p.var)) (great c.aig held) 0 e.1 in
+          ∙ cond-true {A = ℕ} (gate_reads q.var (gate_at c.aig p.var)) (unbounded c.aig held) 0 e.1 in
           steps-to p q at (pass-place q (fan-in-passable c.aig held is.valid p.var q.var a.2 e.1 a.3)) (omega (arith, cap)))
     ]
   ]

@@ -7,7 +7,7 @@ use Rattle.aig_graph.specs.Circuits.{Netlist}
 use Rattle.frame_net.specs.declared.net.Point.{Point}
 use Rattle.frame_net.specs.FlowNet.{FlowNet, Node, point_of, capacity_between}
 use Rattle.frame_net.specs.FlowNet.Node.{sink, before, after}
-use Rattle.frame_net.specs.Capacity.{great, leaves, arc_capacity}
+use Rattle.frame_net.specs.Capacity.{unbounded, is_observed, arc_capacity}
 use Rattle.frame_cuts.specs.Cuts.{IsNetworkOf}
 use Rattle.certificates.specs.Routes.{begins_at, may_step, goes_on, is_route}
 use Rattle.cut_cert.specs.Walks.{here}
@@ -43,11 +43,11 @@ module _ (c : Netlist) (held : List ℕ) (net : FlowNet) (is : IsNetworkOf c hel
   last-some : (p : Point) → IsPlace c.aig held p → goes_on c held p [] ≡ true → 0 < capacity_between net (num p) 1
   unfolding goes_on
   last-some p at g =
-      let parts = and_parts p.behind (leaves c.aig c.props held p.var) g in
-      let cap : capacity_between net (num p) 1 ≡ great c.aig held =
+      let parts = and_parts p.behind (is_observed c.aig c.props held p.var) g in
+      let cap : capacity_between net (num p) 1 ≡ unbounded c.aig held =
       capacity-is c held net is (num p) 1 (number-in c held net is p at) (omega (arith, number-in c held net is p at, number-inner c.aig held p))
       ∙ ap (λ (x : Node). arc_capacity c.aig c.props held x sink) (kind-is c.aig held p at ∙ cond-true p.behind (after p.var) (before p.var) parts.0)
-      ∙ cond-true {A = ℕ} (leaves c.aig c.props held p.var) (great c.aig held) 0 parts.1 in
+      ∙ cond-true {A = ℕ} (is_observed c.aig c.props held p.var) (unbounded c.aig held) 0 parts.1 in
       omega (arith, cap)
 
   step-parts : (p q : Point) (rest : List Point) → goes_on c held p (q ∷ rest) ≡ true → (may_step c.aig held p q ≡ true) × (goes_on c held q rest ≡ true)

@@ -1,4 +1,4 @@
--- Cuts that no great arc leaves are closed sets, and the other way round.
+-- Cuts that no unbounded arc leaves are closed sets, and the other way round.
 use Rattle.std.proofs.Common.{◌≡◌, ℕ, suc, zero, ◌+◌, ◌<◌, ◌≤◌, ◌==◌, Bool, true, false, not, ◌&&◌, ◌||◌, cond, IsTrue, List, Option, Some, None, arith, refl, ap, ap₂, sym, ◌∙◌, subst, inl, inr}
 use Rattle.std.specs.List.{Contains}
 use Rattle.std.proofs.lemmas.Bool.{cases_lt, cases_Bool, cond-true, cond-false, eq-eqb, or_left, or_right, or_parts, false_from_ne_true, and_parts}
@@ -18,7 +18,7 @@ use Rattle.aig_graph.proofs.SearchLaws.{has_iff_contains}
 use Rattle.frame_net.specs.Passable.{is_passable}
 use Rattle.frame_net.specs.FlowNet.{node_at}
 use Rattle.frame_net.specs.FlowNet.Node.{sink, before, after}
-use Rattle.frame_net.specs.Capacity.{has_node, node_variables, latch_count, great, gate_reads, leaves, capacity, latch_number, before_number, after_number, node_total}
+use Rattle.frame_net.specs.Capacity.{has_node, node_variables, latch_count, unbounded, gate_reads, is_observed, capacity, latch_number, before_number, after_number, node_total}
 use Rattle.frame_net.proofs.PassableLaws.{passable-before, passable-means, passable-at_gate, settled-split}
 use Rattle.frame_net.proofs.NodeLaws.{has_node-latch, has_node-gate, rank-latch, rank-gate, rank-below, at-latch, at-before, at-after}
 use Rattle.frame_net.proofs.ArcLaws.{cap-at}
@@ -49,10 +49,10 @@ count-more p q (suc n) h = omega (arith, count-next p n, count-next q n, count-m
 cond-pos : (t : Bool) (m : ℕ) → t ≡ true → cond t m 0 ≡ m
 cond-pos t m e = cond-true t m 0 e
 
--- ---- a cut that no great arc leaves
+-- ---- a cut that no unbounded arc leaves
 
 module _ (g : Graph) (props : Props) (held : List ℕ) (valid : IsGraph g) (side : ℕ → Bool) (cut : IsCut side)
-    (no_great : (x y : ℕ) → x < node_total g held → y < node_total g held → side x ≡ true → side y ≡ false → capacity g props held x y < great g held)
+    (no_great : (x y : ℕ) → x < node_total g held → y < node_total g held → side x ≡ true → side y ≡ false → capacity g props held x y < unbounded g held)
     (s : List ℕ) (gates : (v : ℕ) → has s v ≡ true → (is_passable g held v ≡ true) × (side (before_number g held v) ≡ true))
     (gates' : (v : ℕ) → is_passable g held v ≡ true → side (before_number g held v) ≡ true → has s v ≡ true) where
   passable-place : (v : ℕ) → is_passable g held v ≡ true → (gate : Gate) × (gate_at g v ≡ Some gate) × (first_gate g ≤ v) × (v < variables_end g) × (has_node g held v ≡ true)
@@ -63,19 +63,19 @@ module _ (g : Graph) (props : Props) (held : List ℕ) (valid : IsGraph g) (side
 
   -- a node after a variable that is read from outside isn't in the set
   outside-after : (x v : ℕ) → x < node_total g held → node_at (latch_count g held) (node_variables g held) x ≡ after v → (is_held g held v || is_read_outside g props (has s) v) ≡ true → side x ≡ false
-  unfolding leaves
-  outside-after x v h at out = false_from_ne_true (side x) (λ inside. elim (cases_Bool (leaves g props held v)) [
+  unfolding is_observed
+  outside-after x v h at out = false_from_ne_true (side x) (λ inside. elim (cases_Bool (is_observed g props held v)) [
     | inl yes' ↦
         omega (
           arith,
           no_great x 1 h (omega arith) inside cut.without_sink,
           cap-at g props held valid x 1 (after v) sink at refl,
-          cond-pos (leaves g props held v) (great g held) yes',
+          cond-pos (is_observed g props held v) (unbounded g held) yes',
         )
     | inr no' ↦ by_gate inside no'
   ])
     where
-      by_gate : side x ≡ true → leaves g props held v ≡ false → ⊥
+      by_gate : side x ≡ true → is_observed g props held v ≡ false → ⊥
       by_gate inside no' =
           let parts = or_parts (is_held g held v) (is_read_outside g props (is_passable g held) v) no' in
           let read : is_read_outside g props (has s) v ≡ true = sym (ap (λ (b : Bool). b || is_read_outside g props (has s) v) parts.0) ∙ out in
@@ -86,7 +86,7 @@ module _ (g : Graph) (props : Props) (held : List ℕ) (valid : IsGraph g) (side
             arith,
             no_great x (before_number g held w.0) h (omega (arith, rank-gate g held w.0 p.2, rank-below g held w.0 p.4 p.3)) inside off,
             cap-at g props held valid x (before_number g held w.0) (after v) (before w.0) at (at-before g held w.0 p.4 p.2 p.3),
-            cond-pos (gate_reads v (gate_at g w.0)) (great g held) w.1,
+            cond-pos (gate_reads v (gate_at g w.0)) (unbounded g held) w.1,
           )
 
   border-crosses : (v : ℕ) → v < variables_end g → ((is_known (latch_at g v) || has s v) && (is_held g held v || is_read_outside g props (has s) v)) ≡ true → crosses g held side v ≡ true
@@ -113,7 +113,7 @@ module _ (g : Graph) (props : Props) (held : List ℕ) (valid : IsGraph g) (side
       known false true e q = absurd (true_false q)
       known false false e q = e
 
-  -- the border of the gates of a cut that no great arc leaves has at most as many variables as the cut's value
+  -- the border of the gates of a cut that no unbounded arc leaves has at most as many variables as the cut's value
   pub border-below : count_below (λ v. (is_known (latch_at g v) || has s v) && (is_held g held v || is_read_outside g props (has s) v)) (variables_end g)
       ≤ cut_value (node_total g held) (capacity g props held) side
   border-below = omega (
@@ -134,7 +134,7 @@ module _ (g : Graph) (props : Props) (held : List ℕ) (valid : IsGraph g) (side
             arith,
             no_great (before_number g held v) (before_number g held u) (omega (arith, rank-gate g held v q.2, rank-below g held v q.4 q.3)) (omega (arith, rank-gate g held u p.2, rank-below g held u p.4 p.3)) (gates v member).1 no',
             cap-at g props held valid (before_number g held v) (before_number g held u) (before v) (before u) (at-before g held v q.4 q.2 q.3) (at-before g held u p.4 p.2 p.3),
-            cond-pos (gate_reads u (gate_at g v)) (great g held) (ap (λ (o : Option Gate). gate_reads u o) there ∙ is_in),
+            cond-pos (gate_reads u (gate_at g v)) (unbounded g held) (ap (λ (o : Option Gate). gate_reads u o) there ∙ is_in),
           ))
         ] in
         inr ((has_iff_contains s u).0 (subst (λ (b : Bool). IsTrue b) (sym (gates' u passes on)) refl)))
@@ -150,7 +150,7 @@ module _ (g : Graph) (props : Props) (held : List ℕ) (valid : IsGraph g) (side
       latch-there None e = absurd (true_false (sym e))
       latch-there (Some latch) e = (latch, refl)
 
-  -- the gates of a cut that no great arc leaves are a closed set
+  -- the gates of a cut that no unbounded arc leaves are a closed set
   pub closed : IsClosed g held s
   closed = record {
     passable = λ v member. (passable-means g held v).0 (subst (λ (b : Bool). IsTrue b) (sym (gates v (in-list v member)).0) refl);

@@ -12,7 +12,7 @@ use Rattle.aig_graph.specs.Graph.{Graph, IsGraph, first_gate, variables_end, lat
 use Rattle.aig_graph.proofs.KindLaws.{latch_at-gates}
 use Rattle.frame_net.specs.FlowNet.{Node, node_at}
 use Rattle.frame_net.specs.FlowNet.Node.{source, sink, before, after}
-use Rattle.frame_net.specs.Capacity.{has_node, node_variables, latch_count, great, gate_reads, leaves, arc_capacity, capacity, rank, latch_number, before_number, after_number, node_total}
+use Rattle.frame_net.specs.Capacity.{has_node, node_variables, latch_count, unbounded, gate_reads, is_observed, arc_capacity, capacity, rank, latch_number, before_number, after_number, node_total}
 use Rattle.frame_net.proofs.NodeLaws.{has_node-latch, rank-latch, rank-gate, rank-below, at-latch, at-before, at-after, View, view}
 use Rattle.frame_net.proofs.NodeLaws.View.{the_source, the_sink, a_latch, a_before, an_after}
 use Rattle.frame_net.proofs.ArcLaws.{cap-at}
@@ -136,14 +136,14 @@ all_or_none : (t : Bool) (m : ℕ) → cond t m 0 < m → cond t m 0 ≡ 0
 all_or_none true m h = absurd (omega (arith, h))
 all_or_none false m h = refl
 
-after-none : (g : Graph) (props : Props) (held : List ℕ) (u : ℕ) (b : Node) → arc_capacity g props held (after u) b < great g held → arc_capacity g props held (after u) b ≡ 0
+after-none : (g : Graph) (props : Props) (held : List ℕ) (u : ℕ) (b : Node) → arc_capacity g props held (after u) b < unbounded g held → arc_capacity g props held (after u) b ≡ 0
 after-none g props held u source h = refl
-after-none g props held u sink h = all_or_none (leaves g props held u) (great g held) h
-after-none g props held u (before w) h = all_or_none (gate_reads u (gate_at g w)) (great g held) h
+after-none g props held u sink h = all_or_none (is_observed g props held u) (unbounded g held) h
+after-none g props held u (before w) h = all_or_none (gate_reads u (gate_at g w)) (unbounded g held) h
 after-none g props held u (after w) h = refl
 
 module _ (g : Graph) (props : Props) (held : List ℕ) (valid : IsGraph g) (side : ℕ → Bool) (cut : IsCut side)
-    (no_great : (x y : ℕ) → x < node_total g held → y < node_total g held → side x ≡ true → side y ≡ false → capacity g props held x y < great g held) where
+    (no_great : (x y : ℕ) → x < node_total g held → y < node_total g held → side x ≡ true → side y ≡ false → capacity g props held x y < unbounded g held) where
   term : ℕ → ℕ → ℕ
   term x y = cond (side x && not (side y)) (capacity g props held x y) 0
 
@@ -166,9 +166,9 @@ module _ (g : Graph) (props : Props) (held : List ℕ) (valid : IsGraph g) (side
   after-row x u k at = row-zero x (λ y h a b.
       let is : capacity g props held x y ≡ arc_capacity g props held (after u) (node_at (latch_count g held) (node_variables g held) y) =
       cap-at g props held valid x y (after u) (node_at (latch_count g held) (node_variables g held) y) at refl in
-      is ∙ after-none g props held u (node_at (latch_count g held) (node_variables g held) y) (subst (λ (m : ℕ). m < great g held) is (no_great x y k h a b)))
+      is ∙ after-none g props held u (node_at (latch_count g held) (node_variables g held) y) (subst (λ (m : ℕ). m < unbounded g held) is (no_great x y k h a b)))
 
-  before-at : (u : ℕ) → has_node g held u ≡ true → first_gate g ≤ u → u < variables_end g → (y : ℕ) → y ≢ after_number g held u → capacity g props held (before_number g held u) y < great g held → View g held y
+  before-at : (u : ℕ) → has_node g held u ≡ true → first_gate g ≤ u → u < variables_end g → (y : ℕ) → y ≢ after_number g held u → capacity g props held (before_number g held u) y < unbounded g held → View g held y
       → capacity g props held (before_number g held u) y ≡ 0
   before-at u p from below y other h (the_source e) = subst (λ (n : ℕ). capacity g props held (before_number g held u) n ≡ 0) (sym e) (cap-at g props held valid (before_number g held u) 0 (before u) source (at-before g held u p from below) refl)
   before-at u p from below y other h (the_sink e) = subst (λ (n : ℕ). capacity g props held (before_number g held u) n ≡ 0) (sym e) (cap-at g props held valid (before_number g held u) 1 (before u) sink (at-before g held u p from below) refl)
@@ -176,9 +176,9 @@ module _ (g : Graph) (props : Props) (held : List ℕ) (valid : IsGraph g) (side
       cap-at g props held valid (before_number g held u) y (before u) (after w) (at-before g held u p from below) (ap (λ (n : ℕ). node_at (latch_count g held) (node_variables g held) n) e ∙ at-latch g held w q k)
       ∙ cond-false (u == w) 1 0 (ne_eqb u w (λ same. omega (arith, same, from, k)))
   before-at u p from below y other h (a_before w q wfrom k e) =
-      let is : capacity g props held (before_number g held u) y ≡ cond (gate_reads w (gate_at g u)) (great g held) 0 =
+      let is : capacity g props held (before_number g held u) y ≡ cond (gate_reads w (gate_at g u)) (unbounded g held) 0 =
       cap-at g props held valid (before_number g held u) y (before u) (before w) (at-before g held u p from below) (ap (λ (n : ℕ). node_at (latch_count g held) (node_variables g held) n) e ∙ at-before g held w q wfrom k) in
-      is ∙ all_or_none (gate_reads w (gate_at g u)) (great g held) (subst (λ (m : ℕ). m < great g held) is h)
+      is ∙ all_or_none (gate_reads w (gate_at g u)) (unbounded g held) (subst (λ (m : ℕ). m < unbounded g held) is h)
   before-at u p from below y other h (an_after w q wfrom k e) =
       cap-at g props held valid (before_number g held u) y (before u) (after w) (at-before g held u p from below) (ap (λ (n : ℕ). node_at (latch_count g held) (node_variables g held) n) e ∙ at-after g held w q wfrom k)
       ∙ cond-false (u == w) 1 0 (ne_eqb u w (λ same. other (e ∙ ap (λ (n : ℕ). after_number g held n) (sym same))))

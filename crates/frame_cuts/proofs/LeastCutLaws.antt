@@ -20,7 +20,7 @@ use Rattle.aig_graph.proofs.SearchLaws.{has_iff_contains}
 use Rattle.frame_net.specs.FlowNet.{FlowNet, node_count, capacity_between}
 use Rattle.frame_net.specs.Capacity.{has_node, latch_count}
 use Rattle.frame_net.proofs.NodeLaws.{has_node-latch}
-use Rattle.frame_cuts.specs.Cuts.{NoGreatLeaves, AreGatesOf, IsNetworkOf, leaving, GreatestCutIsGreatestSet}
+use Rattle.frame_cuts.specs.Cuts.{NoUnboundedLeaves, AreGatesOf, IsNetworkOf, leaving, GreatestCutIsGreatestSet}
 use Rattle.frame_cuts.proofs.CutLaws.{true_false, count-more}
 use Rattle.frame_cuts.proofs.NetLaws.{cuts_are_closed-law}
 use Rattle.frame_cuts.proofs.SetCutLaws.{at_border, closed_sets_are_cuts-law}
@@ -66,11 +66,11 @@ module _ (c : Netlist) (held : List ℕ) (net : FlowNet) (side : ℕ → Bool) (
       let t = closed_sets_are_cuts-law c held net [] is (empty-closed c.aig held) in
       omega (arith, least.least t.0 t.1.is_cut, t.1.count, empty-border c held)
 
-  no-great : NoGreatLeaves net side
-  no-great v w h k a b = omega (arith, arc-counts (node_count net) (capacity_between net) side v w h k a b, small, is.is_net.latches)
+  no-unbounded : NoUnboundedLeaves net side
+  no-unbounded v w h k a b = omega (arith, arc-counts (node_count net) (capacity_between net) side v w h k a b, small, is.is_net.latches)
 
   found : IsClosedSet c.aig held s × (border_size (move_of c held s) ≤ leaving net side)
-  found = cuts_are_closed-law c held net side s is least.is_cut no-great gates
+  found = cuts_are_closed-law c held net side s is least.is_cut no-unbounded gates
 
   is-least : IsLeast c held s
   is-least = record {

@@ -13,11 +13,11 @@ use Rattle.aig_graph.proofs.ClosedBorderLaws.{closed-border_size}
 use Rattle.frame_net.specs.declared.net.Point.{Point}
 use Rattle.frame_net.specs.Passable.{is_passable}
 use Rattle.frame_net.specs.FlowNet.{FlowNet, Node, node_at, node_point, node_count, point_of, capacity_between}
-use Rattle.frame_net.specs.Capacity.{has_node, node_variables, latch_count, great, capacity, before_number, node_total}
+use Rattle.frame_net.specs.Capacity.{has_node, node_variables, latch_count, unbounded, capacity, before_number, node_total}
 use Rattle.frame_net.proofs.PassableLaws.{passable-means}
 use Rattle.frame_net.proofs.NodeLaws.{has_node-gate, rank-gate, rank-below, at-latch, at-before, at-after, View, view}
 use Rattle.frame_net.proofs.NodeLaws.View.{the_source, the_sink, a_latch, a_before, an_after}
-use Rattle.frame_cuts.specs.Cuts.{NoGreatLeaves, AreGatesOf, IsNetworkOf, leaving, CutsAreClosed}
+use Rattle.frame_cuts.specs.Cuts.{NoUnboundedLeaves, AreGatesOf, IsNetworkOf, leaving, CutsAreClosed}
 use Rattle.aig_graph.proofs.KindLaws.{GatePlace, gate_place}
 use Rattle.frame_cuts.proofs.CutLaws.{closed, border-below}
 
@@ -71,9 +71,9 @@ module _ (c : Netlist) (held : List ℕ) (net : FlowNet) (is : IsNetworkOf c hel
   pub point-of-before : (v : ℕ) → has_node c.aig held v ≡ true → first_gate c.aig ≤ v → v < variables_end c.aig → point_of net (before_number c.aig held v) ≡ Some (record { var = v; behind = false })
   point-of-before v q from below = ap (λ (x : Node). node_point x) (node-is (before_number c.aig held v) ∙ at-before c.aig held v q from below)
 
-  module _ (side : ℕ → Bool) (cut : IsCut side) (no_great : NoGreatLeaves net side) (s : List ℕ) (gates : AreGatesOf net side s) where
-    no-great : (x y : ℕ) → x < node_total c.aig held → y < node_total c.aig held → side x ≡ true → side y ≡ false → capacity c.aig c.props held x y < great c.aig held
-    no-great x y h k a b =
+  module _ (side : ℕ → Bool) (cut : IsCut side) (no_great : NoUnboundedLeaves net side) (s : List ℕ) (gates : AreGatesOf net side s) where
+    no-unbounded : (x y : ℕ) → x < node_total c.aig held → y < node_total c.aig held → side x ≡ true → side y ≡ false → capacity c.aig c.props held x y < unbounded c.aig held
+    no-unbounded x y h k a b =
         let inx : x < node_count net = omega (arith, h, nodes) in
         let iny : y < node_count net = omega (arith, k, nodes) in
         omega (arith, no_great x y inx iny a b, is.is_net.capacities x y inx iny, is.is_net.latches)
@@ -92,15 +92,15 @@ module _ (c : Netlist) (held : List ℕ) (net : FlowNet) (is : IsNetworkOf c hel
         (gates.each v).1 (before_number c.aig held v, (omega (arith, nodes, rank-gate c.aig held v from, rank-below c.aig held v node below), (on, point-of-before v node from below)))
 
     closed-gates : IsClosedSet c.aig held s
-    closed-gates = record { rising = gates.rising; closed = closed c.aig c.props held is.valid side cut no-great s members members' }
+    closed-gates = record { rising = gates.rising; closed = closed c.aig c.props held is.valid side cut no-unbounded s members members' }
 
-    -- the gates of a cut that no great arc leaves are a closed set, whose border is no larger than what leaves the cut
+    -- the gates of a cut that no unbounded arc leaves are a closed set, whose border is no larger than what leaves the cut
     pub cut-closed : IsClosedSet c.aig held s × (border_size (move_of c held s) ≤ leaving net side)
     cut-closed = (
       closed-gates,
-      omega (arith, closed-border_size c held s closed-gates, border-below c.aig c.props held is.valid side cut no-great s members members', leaving-is side),
+      omega (arith, closed-border_size c held s closed-gates, border-below c.aig c.props held is.valid side cut no-unbounded s members members', leaving-is side),
     )
 
--- in each circuit's network the cuts that no great arc leaves are closed sets
+-- in each circuit's network the cuts that no unbounded arc leaves are closed sets
 pub cuts_are_closed-law : CutsAreClosed
 cuts_are_closed-law c held net side s is cut no_great gates = cut-closed c held net is side cut no_great s gates

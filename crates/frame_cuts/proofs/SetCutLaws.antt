@@ -20,7 +20,7 @@ use Rattle.aig_graph.proofs.SearchLaws.{has_iff_contains}
 use Rattle.frame_net.specs.Passable.{is_passable}
 use Rattle.frame_net.specs.FlowNet.{Node, node_at}
 use Rattle.frame_net.specs.FlowNet.Node.{source, sink, before, after}
-use Rattle.frame_net.specs.Capacity.{has_node, node_variables, latch_count, great, gate_reads, leaves, arc_capacity, capacity, before_number, node_total}
+use Rattle.frame_net.specs.Capacity.{has_node, node_variables, latch_count, unbounded, gate_reads, is_observed, arc_capacity, capacity, before_number, node_total}
 use Rattle.frame_net.proofs.PassableLaws.{passable-before, passable-means, passable-at_gate, settled-split, gate_cases}
 use Rattle.frame_net.proofs.NodeLaws.{has_node-latch, has_node-gate, rank-latch, rank-gate, rank-below, at-latch, at-before, at-after, View, view}
 use Rattle.frame_net.proofs.NodeLaws.View.{the_source, the_sink, a_latch, a_before, an_after}
@@ -96,7 +96,7 @@ module _ (g : Graph) (props : Props) (held : List ℕ) (valid : IsGraph g) (s : 
   at_most true m h never = absurd (never refl)
   at_most false m h never = h
 
-  one-or-none : (t : Bool) → (t ≡ true → 0 < latch_count g held) → cond {A = ℕ} t 1 0 < great g held
+  one-or-none : (t : Bool) → (t ≡ true → 0 < latch_count g held) → cond {A = ℕ} t 1 0 < unbounded g held
   one-or-none true h = omega (arith, h refl)
   one-or-none false h = omega arith
 
@@ -108,8 +108,8 @@ module _ (g : Graph) (props : Props) (held : List ℕ) (valid : IsGraph g) (s : 
       go true false e = refl
       go false b e = absurd (true_false (sym e))
 
-  stays : (v : ℕ) → is_held g held v ≡ false → is_read_outside g props (has s) v ≡ false → leaves g props held v ≡ true → ⊥
-  unfolding leaves
+  stays : (v : ℕ) → is_held g held v ≡ false → is_read_outside g props (has s) v ≡ false → is_observed g props held v ≡ true → ⊥
+  unfolding is_observed
   stays v h r l =
       let read : is_read_outside g props (is_passable g held) v ≡ true = sym (ap (λ (b : Bool). b || is_read_outside g props (is_passable g held) v) h) ∙ l in
       let w = read-split g props (is_passable g held) (has s) v read r in
@@ -135,13 +135,13 @@ module _ (g : Graph) (props : Props) (held : List ℕ) (valid : IsGraph g) (s : 
       outside v out passes (inl latch) = none-some latch.0 (sym (latch_at-gates g v (gate-range g held v passes).0) ∙ latch.1)
       outside v out passes (inr member) = true_false (sym (is_true (has s v) ((has_iff_contains s v).1 member)) ∙ out)
 
-  arc-small : (a b : Node) → IsNodeOf g held a → IsNodeOf g held b → side_of g props held s a ≡ true → side_of g props held s b ≡ false → arc_capacity g props held a b < great g held
+  arc-small : (a b : Node) → IsNodeOf g held a → IsNodeOf g held b → side_of g props held s a ≡ true → side_of g props held s b ≡ false → arc_capacity g props held a b < unbounded g held
   arc-small source (after v) ia ib x y = one-or-none (is_known (latch_at g v)) (λ k. known-latch g held v k)
   arc-small (before v) (after w) ia ib x y = one-or-none (v == w) (λ k. some-latch g held valid (suc v) v (omega arith) ia)
   arc-small (after v) (before w) ia ib x y =
-      at_most (gate_reads v (gate_at g w)) (great g held) (omega arith) (λ r. true_false (sym (read-by_gate g props (has s) v w r y) ∙ (off-border v x).1))
-  arc-small (before w) (before v) ia ib x y = at_most (gate_reads v (gate_at g w)) (great g held) (omega arith) (λ r. reads-member w v x y ib r)
-  arc-small (after v) sink ia ib x y = at_most (leaves g props held v) (great g held) (omega arith) (λ l. stays v (off-border v x).0 (off-border v x).1 l)
+      at_most (gate_reads v (gate_at g w)) (unbounded g held) (omega arith) (λ r. true_false (sym (read-by_gate g props (has s) v w r y) ∙ (off-border v x).1))
+  arc-small (before w) (before v) ia ib x y = at_most (gate_reads v (gate_at g w)) (unbounded g held) (omega arith) (λ r. reads-member w v x y ib r)
+  arc-small (after v) sink ia ib x y = at_most (is_observed g props held v) (unbounded g held) (omega arith) (λ l. stays v (off-border v x).0 (off-border v x).1 l)
   arc-small source source ia ib x y = omega arith
   arc-small source sink ia ib x y = omega arith
   arc-small source (before v) ia ib x y = omega arith
@@ -154,10 +154,10 @@ module _ (g : Graph) (props : Props) (held : List ℕ) (valid : IsGraph g) (s : 
   arc-small (after v) source ia ib x y = omega arith
   arc-small (after v) (after w) ia ib x y = omega arith
 
-  -- no great arc leaves the cut of a closed set
-  pub side-small : (x y : ℕ) → x < node_total g held → y < node_total g held → side_at g props held s x ≡ true → side_at g props held s y ≡ false → capacity g props held x y < great g held
+  -- no unbounded arc leaves the cut of a closed set
+  pub side-small : (x y : ℕ) → x < node_total g held → y < node_total g held → side_at g props held s x ≡ true → side_at g props held s y ≡ false → capacity g props held x y < unbounded g held
   side-small x y h k a b =
-      subst (λ (m : ℕ). m < great g held)
+      subst (λ (m : ℕ). m < unbounded g held)
       (sym (cap-at g props held valid x y (node_at (latch_count g held) (node_variables g held) x) (node_at (latch_count g held) (node_variables g held) y) refl refl))
       (arc-small (node_at (latch_count g held) (node_variables g held) x) (node_at (latch_count g held) (node_variables g held) y) (node-of g held x (view g held x h)) (node-of g held y (view g held y k)) a b)
 

@@ -12,9 +12,9 @@ use Rattle.aig_graph.specs.Border.{border_size, IsGreatestLeast}
 use Rattle.frame_net.specs.FlowNet.{FlowNet, HasPoints, node_count, capacity_between, point_of}
 use Rattle.frame_net.specs.Capacity.{IsNetOf}
 
--- no arc of the great capacity leaves the set of nodes
-abbrev pub NoGreatLeaves : FlowNet → (ℕ → Bool) → Type 0
-NoGreatLeaves net side = (v w : ℕ) → v < node_count net → w < node_count net → side v ≡ true → side w ≡ false → capacity_between net v w < net.latches + 1
+-- no arc of the unbounded capacity leaves the set of nodes
+abbrev pub NoUnboundedLeaves : FlowNet → (ℕ → Bool) → Type 0
+NoUnboundedLeaves net side = (v w : ℕ) → v < node_count net → w < node_count net → side v ≡ true → side w ≡ false → capacity_between net v w < net.latches + 1
 
 -- s lists the gates with the point before them in the set of nodes
 pub record AreGatesOf (net : FlowNet) (side : ℕ → Bool) (s : List ℕ) : Type 0 where
@@ -31,15 +31,15 @@ pub record IsNetworkOf (c : Netlist) (held : List ℕ) (net : FlowNet) : Type 0 
 abbrev pub leaving : FlowNet → (ℕ → Bool) → ℕ
 leaving net side = cut_value (node_count net) (capacity_between net) side
 
--- a set of nodes that no arc of the great capacity leaves has a closed set as its gates, and its border is no larger than the cut
+-- a set of nodes that no arc of the unbounded capacity leaves has a closed set as its gates, and its border is no larger than the cut
 abbrev pub CutsAreClosed : Type 0
-CutsAreClosed = (c : Netlist) (held : List ℕ) (net : FlowNet) (side : ℕ → Bool) (s : List ℕ) → IsNetworkOf c held net → IsCut side → NoGreatLeaves net side → AreGatesOf net side s
+CutsAreClosed = (c : Netlist) (held : List ℕ) (net : FlowNet) (side : ℕ → Bool) (s : List ℕ) → IsNetworkOf c held net → IsCut side → NoUnboundedLeaves net side → AreGatesOf net side s
     → IsClosedSet c.aig held s × (border_size (move_of c held s) ≤ leaving net side)
 
 -- a cut for a closed set, with as many arcs leaving it as its border has variables
 pub record IsCutOf (c : Netlist) (held : List ℕ) (net : FlowNet) (s : List ℕ) (side : ℕ → Bool) : Type 0 where
   pub is_cut : IsCut side
-  pub no_great : NoGreatLeaves net side
+  pub no_great : NoUnboundedLeaves net side
   pub gates : AreGatesOf net side s
   pub count : leaving net side ≡ border_size (move_of c held s)
 

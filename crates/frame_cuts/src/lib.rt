@@ -4,7 +4,7 @@
 
 ghost use Rattle.frame_cuts.specs.Cuts.{CutsAreClosed, ClosedSetsAreCuts, GreatestCutIsGreatestSet};
 
-/// The gates of a set of nodes that no arc of the great capacity leaves are a closed set, and its border is no larger than
+/// The gates of a set of nodes that no arc of the unbounded capacity leaves are a closed set, and its border is no larger than
 /// the number of arcs that leave.
 pub fn cuts_are_closed()
     ensures { CutsAreClosed }

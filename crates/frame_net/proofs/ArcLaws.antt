@@ -15,7 +15,7 @@ use Rattle.frame_net.specs.FlowNet.{Node, node_at}
 use Rattle.frame_net.specs.FlowNet.Node.{source, sink, before, after}
 use Rattle.frame_net.specs.Edges.{adjacent, link, AreLinksTo, AreLinks}
 use Rattle.frame_net.specs.Links.{latch_links, after_links, fan_in_links, gate_links}
-use Rattle.frame_net.specs.Capacity.{has_node, node_variables, latch_count, great, gate_reads, leaves, arc_capacity, capacity, rank, latch_number, before_number, after_number, node_total}
+use Rattle.frame_net.specs.Capacity.{has_node, node_variables, latch_count, unbounded, gate_reads, is_observed, arc_capacity, capacity, rank, latch_number, before_number, after_number, node_total}
 use Rattle.frame_net.proofs.PassableLaws.{gate_cases}
 use Rattle.frame_net.proofs.NodeLaws.{has_node-latch, rank-latch, rank-gate, rank-below, at-latch, at-before, at-after, View, view}
 use Rattle.frame_net.proofs.NodeLaws.View.{the_source, the_sink, a_latch, a_before, an_after}
@@ -61,19 +61,19 @@ module _ (g : Graph) (props : Props) (held : List ℕ) (valid : IsGraph g) where
 
   -- the sink, where the variable leaves the frame
   sink-step : (v u : ℕ) (links : List Link) → 1 < v → node_at (latch_count g held) (node_variables g held) v ≡ after u → AreLinksTo (capacity g props held) v 1 links
-      → AreLinksTo (capacity g props held) v 2 (links ++ cond (leaves g props held u) (link 1 0 (great g held) ∷ []) [])
-  sink-step v u links h at l = elim (cases_Bool (leaves g props held u)) [
+      → AreLinksTo (capacity g props held) v 2 (links ++ cond (is_observed g props held u) (link 1 0 (unbounded g held) ∷ []) [])
+  sink-step v u links h at l = elim (cases_Bool (is_observed g props held u)) [
     | inl yes' ↦
-        subst (λ (xs : List Link). AreLinksTo (capacity g props held) v 2 (links ++ xs)) (sym (cond-true (leaves g props held u) _ _ yes'))
-        (links-push (capacity g props held) v 1 links 0 (great g held) h
-        (adjacent-at v 1 (after u) sink at refl ∙ something _ _ (omega (arith, cond-true (leaves g props held u) (great g held) 0 yes')))
+        subst (λ (xs : List Link). AreLinksTo (capacity g props held) v 2 (links ++ xs)) (sym (cond-true (is_observed g props held u) _ _ yes'))
+        (links-push (capacity g props held) v 1 links 0 (unbounded g held) h
+        (adjacent-at v 1 (after u) sink at refl ∙ something _ _ (omega (arith, cond-true (is_observed g props held u) (unbounded g held) 0 yes')))
         (sym (cap-at 1 v sink (after u) refl at))
-        (sym (cap-at v 1 (after u) sink at refl ∙ cond-true (leaves g props held u) (great g held) 0 yes'))
+        (sym (cap-at v 1 (after u) sink at refl ∙ cond-true (is_observed g props held u) (unbounded g held) 0 yes'))
         l)
     | inr no' ↦
-        subst (λ (xs : List Link). AreLinksTo (capacity g props held) v 2 xs) (sym (ap (λ (xs : List Link). links ++ xs) (cond-false (leaves g props held u) _ _ no') ∙ append_nil links))
+        subst (λ (xs : List Link). AreLinksTo (capacity g props held) v 2 xs) (sym (ap (λ (xs : List Link). links ++ xs) (cond-false (is_observed g props held u) _ _ no') ∙ append_nil links))
         (links-skip (capacity g props held) v 1 2 links (omega arith) (λ x from below. subst (λ (y : ℕ). adjacent (capacity g props held) v y ≡ false) (omega (arith, from, below))
-        (adjacent-at v 1 (after u) sink at refl ∙ nothing _ _ (cond-false (leaves g props held u) (great g held) 0 no') refl)) l)
+        (adjacent-at v 1 (after u) sink at refl ∙ nothing _ _ (cond-false (is_observed g props held u) (unbounded g held) 0 no') refl)) l)
   ]
     where
       append_nil : (xs : List Link) → (xs ++ []) ≡ xs
@@ -98,7 +98,7 @@ module _ (g : Graph) (props : Props) (held : List ℕ) (valid : IsGraph g) where
   source-latch u p h = cond-true (is_known (latch_at g u)) 1 0 (sym (has_node-latch g held u h) ∙ p)
 
   -- the node after a known latch is linked to the source, and to the sink where the latch leaves the frame
-  pub latch-links : (u : ℕ) → has_node g held u ≡ true → u < first_gate g → AreLinks (capacity g props held) (latch_number g held u) (latch_links (leaves g props held u) (great g held))
+  pub latch-links : (u : ℕ) → has_node g held u ≡ true → u < first_gate g → AreLinks (capacity g props held) (latch_number g held u) (latch_links (is_observed g props held u) (unbounded g held))
   latch-links u p h =
       let v : ℕ = latch_number g held u in
       let at : node_at (latch_count g held) (node_variables g held) (latch_number g held u) ≡ after u = at-latch g held u p h in
@@ -109,13 +109,13 @@ module _ (g : Graph) (props : Props) (held : List ℕ) (valid : IsGraph g) where
       (sym (cap-at (latch_number g held u) 0 (after u) source at refl))
       (links-none (capacity g props held) (latch_number g held u)) in
       record {
-        all = links-skip (capacity g props held) (latch_number g held u) 2 (latch_number g held u) (latch_links (leaves g props held u) (great g held)) (omega arith)
+        all = links-skip (capacity g props held) (latch_number g held u) 2 (latch_number g held u) (latch_links (is_observed g props held u) (unbounded g held)) (omega arith)
             (λ x two below. latch-rest u x p h two below (view g held x (omega (arith, below, latch-total u p h))))
             (sink-step (latch_number g held u) u (link 0 1 0 ∷ []) (omega arith) at one);
-        few = short (leaves g props held u);
+        few = short (is_observed g props held u);
       }
     where
-      short : (b : Bool) → length (latch_links b (great g held)) ≤ 4
+      short : (b : Bool) → length (latch_links b (unbounded g held)) ≤ 4
       short true = omega arith
       short false = omega arith
 
@@ -128,7 +128,7 @@ module _ (g : Graph) (props : Props) (held : List ℕ) (valid : IsGraph g) where
   after-rest u x p from h two below (a_before w q wfrom k e) =
       adjacent-at (after_number g held u) x (after u) (before w) (at-after g held u p from h) (ap (λ (n : ℕ). node_at (latch_count g held) (node_variables g held) n) e ∙ at-before g held w q wfrom k)
       ∙ nothing _ _
-      (cond-false (gate_reads u (gate_at g w)) (great g held) 0 (false_from_ne_true _ (λ r. omega (arith, e, below, rank-gate g held w wfrom, rank-gate g held u from, count-lt (has_node g held) u w (reads-below g valid u w r) p))))
+      (cond-false (gate_reads u (gate_at g w)) (unbounded g held) 0 (false_from_ne_true _ (λ r. omega (arith, e, below, rank-gate g held w wfrom, rank-gate g held u from, count-lt (has_node g held) u w (reads-below g valid u w r) p))))
       (cond-false (w == u) 1 0 (ne_eqb w u (λ same. omega (arith, e, below, ap (λ (n : ℕ). before_number g held n) same))))
   after-rest u x p from h two below (an_after w q wfrom k e) = both-after (after_number g held u) x u w (at-after g held u p from h) (ap (λ (n : ℕ). node_at (latch_count g held) (node_variables g held) n) e ∙ at-after g held w q wfrom k)
 
@@ -137,7 +137,7 @@ module _ (g : Graph) (props : Props) (held : List ℕ) (valid : IsGraph g) where
 
   -- the node after a passable gate is linked to the sink where the gate leaves the frame, and to the node before the gate
   pub after-links : (u : ℕ) → has_node g held u ≡ true → first_gate g ≤ u → u < variables_end g
-      → AreLinks (capacity g props held) (after_number g held u) (after_links (leaves g props held u) (great g held) (before_number g held u))
+      → AreLinks (capacity g props held) (after_number g held u) (after_links (is_observed g props held u) (unbounded g held) (before_number g held u))
   after-links u p from h =
       let at : node_at (latch_count g held) (node_variables g held) (after_number g held u) ≡ after u = at-after g held u p from h in
       let at_before : node_at (latch_count g held) (node_variables g held) (before_number g held u) ≡ before u = at-before g held u p from h in
@@ -147,25 +147,25 @@ module _ (g : Graph) (props : Props) (held : List ℕ) (valid : IsGraph g) where
       (λ x low below. subst (λ (y : ℕ). adjacent (capacity g props held) (after_number g held u) y ≡ false) (omega (arith, below))
       (adjacent-at (after_number g held u) 0 (after u) source at refl ∙ nothing _ _ refl (cond-false (is_known (latch_at g u)) 1 0 gate)))
       (links-none (capacity g props held) (after_number g held u)) in
-      let two : AreLinksTo (capacity g props held) (after_number g held u) 2 (cond (leaves g props held u) (link 1 0 (great g held) ∷ []) []) =
+      let two : AreLinksTo (capacity g props held) (after_number g held u) 2 (cond (is_observed g props held u) (link 1 0 (unbounded g held) ∷ []) []) =
       sink-step (after_number g held u) u [] (omega arith) at one in
-      let three : AreLinksTo (capacity g props held) (after_number g held u) (before_number g held u) (cond (leaves g props held u) (link 1 0 (great g held) ∷ []) []) =
-      links-skip (capacity g props held) (after_number g held u) 2 (before_number g held u) (cond (leaves g props held u) (link 1 0 (great g held) ∷ []) []) (omega arith)
+      let three : AreLinksTo (capacity g props held) (after_number g held u) (before_number g held u) (cond (is_observed g props held u) (link 1 0 (unbounded g held) ∷ []) []) =
+      links-skip (capacity g props held) (after_number g held u) 2 (before_number g held u) (cond (is_observed g props held u) (link 1 0 (unbounded g held) ∷ []) []) (omega arith)
       (λ x low below. after-rest u x p from h low below (view g held x (omega (arith, below, gate-total u p from h)))) two in
       let own : gate_reads u (gate_at g u) ≡ false = no_reads g valid u u (omega arith) in
       let into : arc_capacity g props held (before u) (after u) ≡ 1 = cond-true (u == u) 1 0 (eq-eqb u u refl) in
-      let back : arc_capacity g props held (after u) (before u) ≡ 0 = cond-false (gate_reads u (gate_at g u)) (great g held) 0 own in
+      let back : arc_capacity g props held (after u) (before u) ≡ 0 = cond-false (gate_reads u (gate_at g u)) (unbounded g held) 0 own in
       record {
-        all = subst (λ (n : ℕ). AreLinksTo (capacity g props held) (after_number g held u) n (after_links (leaves g props held u) (great g held) (before_number g held u))) (omega arith)
-            (links-push (capacity g props held) (after_number g held u) (before_number g held u) (cond (leaves g props held u) (link 1 0 (great g held) ∷ []) []) 1 0 (omega arith)
+        all = subst (λ (n : ℕ). AreLinksTo (capacity g props held) (after_number g held u) n (after_links (is_observed g props held u) (unbounded g held) (before_number g held u))) (omega arith)
+            (links-push (capacity g props held) (after_number g held u) (before_number g held u) (cond (is_observed g props held u) (link 1 0 (unbounded g held) ∷ []) []) 1 0 (omega arith)
             (adjacent-at (after_number g held u) (before_number g held u) (after u) (before u) at at_before ∙ something _ _ (omega (arith, into)))
             (sym (cap-at (before_number g held u) (after_number g held u) (before u) (after u) at_before at ∙ into))
             (sym (cap-at (after_number g held u) (before_number g held u) (after u) (before u) at at_before ∙ back))
             three);
-        few = short (leaves g props held u);
+        few = short (is_observed g props held u);
       }
     where
-      short : (b : Bool) → length (after_links b (great g held) (before_number g held u)) ≤ 4
+      short : (b : Bool) → length (after_links b (unbounded g held) (before_number g held u)) ≤ 4
       short true = omega arith
       short false = omega arith
 
@@ -218,15 +218,15 @@ module _ (g : Graph) (props : Props) (held : List ℕ) (valid : IsGraph g) (w : 
   rest-after : (u x : ℕ) → x < before_number g held w → node_at (latch_count g held) (node_variables g held) x ≡ after u → w ≢ u → is_fan_in u gate ≡ false → adjacent (capacity g props held) (before_number g held w) x ≡ false
   rest-after u x h at differ not_in =
       adjacent-at g props held valid (before_number g held w) x (before w) (after u) at-w at
-      ∙ nothing g props held valid _ _ (cond-false (w == u) 1 0 (ne_eqb w u differ)) (cond-false (gate_reads u (gate_at g w)) (great g held) 0 (reads-w u ∙ not_in))
+      ∙ nothing g props held valid _ _ (cond-false (w == u) 1 0 (ne_eqb w u differ)) (cond-false (gate_reads u (gate_at g w)) (unbounded g held) 0 (reads-w u ∙ not_in))
 
   rest-before : (u x : ℕ) → has_node g held u ≡ true → first_gate g ≤ u → x < before_number g held w → x ≡ before_number g held u → node_at (latch_count g held) (node_variables g held) x ≡ before u → is_fan_in u gate ≡ false
       → adjacent (capacity g props held) (before_number g held w) x ≡ false
   rest-before u x q ufrom h e at not_in =
       adjacent-at g props held valid (before_number g held w) x (before w) (before u) at-w at
       ∙ nothing g props held valid _ _
-      (cond-false (gate_reads u (gate_at g w)) (great g held) 0 (reads-w u ∙ not_in))
-      (cond-false (gate_reads w (gate_at g u)) (great g held) 0 (false_from_ne_true _ (λ r. omega (arith, e, h, rank-gate g held w from, rank-gate g held u ufrom, count-lt (has_node g held) w u (reads-below g valid w u r) p))))
+      (cond-false (gate_reads u (gate_at g w)) (unbounded g held) 0 (reads-w u ∙ not_in))
+      (cond-false (gate_reads w (gate_at g u)) (unbounded g held) 0 (false_from_ne_true _ (λ r. omega (arith, e, h, rank-gate g held w from, rank-gate g held u ufrom, count-lt (has_node g held) w u (reads-below g valid w u r) p))))
 
   -- nodes that are no fan-in's
   Misses : ℕ → Type 0
@@ -258,27 +258,27 @@ module _ (g : Graph) (props : Props) (held : List ℕ) (valid : IsGraph g) (w : 
   -- the nodes of one fan-in
   fan_in-step : (u : ℕ) (links : List Link) → has_node g held u ≡ true → u < w → is_fan_in u gate ≡ true
       → AreLinksTo (capacity g props held) (before_number g held w) (first_of (base_of g held) (latch_number g held u)) links
-      → AreLinksTo (capacity g props held) (before_number g held w) (end_of (base_of g held) (latch_number g held u)) (links ++ fan_in_links (base_of g held) (great g held) (latch_number g held u))
+      → AreLinksTo (capacity g props held) (before_number g held w) (end_of (base_of g held) (latch_number g held u)) (links ++ fan_in_links (base_of g held) (unbounded g held) (latch_number g held u))
   fan_in-step u links q before' is_in l = elim (cases_lt u (first_gate g)) [
     | inl low ↦ low-case u links q low is_in l
     | inr high ↦ high-case u links q high before' is_in l
   ]
     where
-      reads' : (u : ℕ) → is_fan_in u gate ≡ true → cond {A = ℕ} (gate_reads u (gate_at g w)) (great g held) 0 ≡ great g held
-      reads' u is_in = cond-true (gate_reads u (gate_at g w)) (great g held) 0 (reads-w u ∙ is_in)
+      reads' : (u : ℕ) → is_fan_in u gate ≡ true → cond {A = ℕ} (gate_reads u (gate_at g w)) (unbounded g held) 0 ≡ unbounded g held
+      reads' u is_in = cond-true (gate_reads u (gate_at g w)) (unbounded g held) 0 (reads-w u ∙ is_in)
 
       low-case : (u : ℕ) (links : List Link) → has_node g held u ≡ true → u < first_gate g → is_fan_in u gate ≡ true
           → AreLinksTo (capacity g props held) (before_number g held w) (first_of (base_of g held) (latch_number g held u)) links
-          → AreLinksTo (capacity g props held) (before_number g held w) (end_of (base_of g held) (latch_number g held u)) (links ++ fan_in_links (base_of g held) (great g held) (latch_number g held u))
+          → AreLinksTo (capacity g props held) (before_number g held w) (end_of (base_of g held) (latch_number g held u)) (links ++ fan_in_links (base_of g held) (unbounded g held) (latch_number g held u))
       low-case u links q low is_in l =
           let small : latch_number g held u < base_of g held = omega (arith, rank-latch g held u q low) in
           let at : node_at (latch_count g held) (node_variables g held) (latch_number g held u) ≡ after u = at-latch g held u q low in
           let none : arc_capacity g props held (before w) (after u) ≡ 0 = cond-false (w == u) 1 0 (ne_eqb w u (λ same. omega (arith, same, low, from))) in
           subst (λ (xs : List Link). AreLinksTo (capacity g props held) (before_number g held w) (end_of (base_of g held) (latch_number g held u)) (links ++ xs))
           (sym (cond-true (nat_lt (latch_number g held u) (base_of g held)) _ _ (lt-ltb (latch_number g held u) (base_of g held) small)))
-          (subst (λ (n : ℕ). AreLinksTo (capacity g props held) (before_number g held w) n (links ++ link (latch_number g held u) (great g held) 0 ∷ []))
+          (subst (λ (n : ℕ). AreLinksTo (capacity g props held) (before_number g held w) n (links ++ link (latch_number g held u) (unbounded g held) 0 ∷ []))
           (omega (arith, end_of-low (base_of g held) (latch_number g held u) small))
-          (links-push (capacity g props held) (before_number g held w) (latch_number g held u) links (great g held) 0 (omega (arith, small))
+          (links-push (capacity g props held) (before_number g held w) (latch_number g held u) links (unbounded g held) 0 (omega (arith, small))
           (adjacent-at g props held valid (before_number g held w) (latch_number g held u) (before w) (after u) at-w at ∙ something g props held valid _ _ (omega (arith, reads' u is_in)))
           (sym (cap-at g props held valid (latch_number g held u) (before_number g held w) (after u) (before w) at at-w ∙ reads' u is_in))
           (sym (cap-at g props held valid (before_number g held w) (latch_number g held u) (before w) (after u) at-w at ∙ none))
@@ -290,34 +290,34 @@ module _ (g : Graph) (props : Props) (held : List ℕ) (valid : IsGraph g) (w : 
 
       high-case : (u : ℕ) (links : List Link) → has_node g held u ≡ true → first_gate g ≤ u → u < w → is_fan_in u gate ≡ true
           → AreLinksTo (capacity g props held) (before_number g held w) (first_of (base_of g held) (latch_number g held u)) links
-          → AreLinksTo (capacity g props held) (before_number g held w) (end_of (base_of g held) (latch_number g held u)) (links ++ fan_in_links (base_of g held) (great g held) (latch_number g held u))
+          → AreLinksTo (capacity g props held) (before_number g held w) (end_of (base_of g held) (latch_number g held u)) (links ++ fan_in_links (base_of g held) (unbounded g held) (latch_number g held u))
       high-case u links q high before' is_in l =
           let large : base_of g held ≤ latch_number g held u = omega (arith, rank-gate g held u high) in
           let number : 2 * latch_number g held u - base_of g held ≡ before_number g held u = omega (arith, rank-gate g held u high) in
           let lower : rank g held u < rank g held w = count-lt (has_node g held) u w before' q in
           let at_before : node_at (latch_count g held) (node_variables g held) (before_number g held u) ≡ before u = at-before g held u q high (omega (arith, before', below)) in
           let at_after : node_at (latch_count g held) (node_variables g held) (after_number g held u) ≡ after u = at-after g held u q high (omega (arith, before', below)) in
-          let none_back : arc_capacity g props held (before u) (before w) ≡ 0 = cond-false (gate_reads w (gate_at g u)) (great g held) 0 (no_reads g valid w u (omega (arith, before'))) in
+          let none_back : arc_capacity g props held (before u) (before w) ≡ 0 = cond-false (gate_reads w (gate_at g u)) (unbounded g held) 0 (no_reads g valid w u (omega (arith, before'))) in
           let none_out : arc_capacity g props held (before w) (after u) ≡ 0 = cond-false (w == u) 1 0 (ne_eqb w u (λ same. omega (arith, same, before'))) in
-          let one : AreLinksTo (capacity g props held) (before_number g held w) (suc (before_number g held u)) (links ++ link (before_number g held u) 0 (great g held) ∷ []) =
-          links-push (capacity g props held) (before_number g held w) (before_number g held u) links 0 (great g held) (omega (arith, lower, rank-gate g held u high))
+          let one : AreLinksTo (capacity g props held) (before_number g held w) (suc (before_number g held u)) (links ++ link (before_number g held u) 0 (unbounded g held) ∷ []) =
+          links-push (capacity g props held) (before_number g held w) (before_number g held u) links 0 (unbounded g held) (omega (arith, lower, rank-gate g held u high))
           (adjacent-at g props held valid (before_number g held w) (before_number g held u) (before w) (before u) at-w at_before ∙ something g props held valid _ _ (omega (arith, reads' u is_in)))
           (sym (cap-at g props held valid (before_number g held u) (before_number g held w) (before u) (before w) at_before at-w ∙ none_back))
           (sym (cap-at g props held valid (before_number g held w) (before_number g held u) (before w) (before u) at-w at_before ∙ reads' u is_in))
           (subst (λ (n : ℕ). AreLinksTo (capacity g props held) (before_number g held w) n links) (first_of-high (base_of g held) (latch_number g held u) large ∙ number) l) in
-          let two : AreLinksTo (capacity g props held) (before_number g held w) (suc (after_number g held u)) ((links ++ link (before_number g held u) 0 (great g held) ∷ []) ++ link (after_number g held u) (great g held) 0 ∷ []) =
-          links-push (capacity g props held) (before_number g held w) (after_number g held u) (links ++ link (before_number g held u) 0 (great g held) ∷ []) (great g held) 0 (omega (arith, lower, rank-gate g held u high))
+          let two : AreLinksTo (capacity g props held) (before_number g held w) (suc (after_number g held u)) ((links ++ link (before_number g held u) 0 (unbounded g held) ∷ []) ++ link (after_number g held u) (unbounded g held) 0 ∷ []) =
+          links-push (capacity g props held) (before_number g held w) (after_number g held u) (links ++ link (before_number g held u) 0 (unbounded g held) ∷ []) (unbounded g held) 0 (omega (arith, lower, rank-gate g held u high))
           (adjacent-at g props held valid (before_number g held w) (after_number g held u) (before w) (after u) at-w at_after ∙ something g props held valid _ _ (omega (arith, reads' u is_in)))
           (sym (cap-at g props held valid (after_number g held u) (before_number g held w) (after u) (before w) at_after at-w ∙ reads' u is_in))
           (sym (cap-at g props held valid (before_number g held w) (after_number g held u) (before w) (after u) at-w at_after ∙ none_out))
-          (subst (λ (n : ℕ). AreLinksTo (capacity g props held) (before_number g held w) n (links ++ link (before_number g held u) 0 (great g held) ∷ [])) (omega arith) one) in
-          let three : AreLinksTo (capacity g props held) (before_number g held w) (end_of (base_of g held) (latch_number g held u)) (links ++ link (before_number g held u) 0 (great g held) ∷ link (after_number g held u) (great g held) 0 ∷ []) =
-          subst (λ (n : ℕ). AreLinksTo (capacity g props held) (before_number g held w) n (links ++ link (before_number g held u) 0 (great g held) ∷ link (after_number g held u) (great g held) 0 ∷ [])) (omega (arith, end_of-high (base_of g held) (latch_number g held u) large, number))
-          (subst (λ (xs : List Link). AreLinksTo (capacity g props held) (before_number g held w) (suc (after_number g held u)) xs) (append_two links (link (before_number g held u) 0 (great g held)) (link (after_number g held u) (great g held) 0)) two) in
+          (subst (λ (n : ℕ). AreLinksTo (capacity g props held) (before_number g held w) n (links ++ link (before_number g held u) 0 (unbounded g held) ∷ [])) (omega arith) one) in
+          let three : AreLinksTo (capacity g props held) (before_number g held w) (end_of (base_of g held) (latch_number g held u)) (links ++ link (before_number g held u) 0 (unbounded g held) ∷ link (after_number g held u) (unbounded g held) 0 ∷ []) =
+          subst (λ (n : ℕ). AreLinksTo (capacity g props held) (before_number g held w) n (links ++ link (before_number g held u) 0 (unbounded g held) ∷ link (after_number g held u) (unbounded g held) 0 ∷ [])) (omega (arith, end_of-high (base_of g held) (latch_number g held u) large, number))
+          (subst (λ (xs : List Link). AreLinksTo (capacity g props held) (before_number g held w) (suc (after_number g held u)) xs) (append_two links (link (before_number g held u) 0 (unbounded g held)) (link (after_number g held u) (unbounded g held) 0)) two) in
           subst (λ (xs : List Link). AreLinksTo (capacity g props held) (before_number g held w) (end_of (base_of g held) (latch_number g held u)) (links ++ xs))
           (sym (cond-false (nat_lt (latch_number g held u) (base_of g held)) _ _ (le-ltb (latch_number g held u) (base_of g held) large)))
-          (subst (λ (m : ℕ). AreLinksTo (capacity g props held) (before_number g held w) (end_of (base_of g held) (latch_number g held u)) (links ++ link m 0 (great g held) ∷ link (m + 1) (great g held) 0 ∷ [])) (sym number)
-          (subst (λ (m : ℕ). AreLinksTo (capacity g props held) (before_number g held w) (end_of (base_of g held) (latch_number g held u)) (links ++ link (before_number g held u) 0 (great g held) ∷ link m (great g held) 0 ∷ [])) (omega arith) three))
+          (subst (λ (m : ℕ). AreLinksTo (capacity g props held) (before_number g held w) (end_of (base_of g held) (latch_number g held u)) (links ++ link m 0 (unbounded g held) ∷ link (m + 1) (unbounded g held) 0 ∷ [])) (sym number)
+          (subst (λ (m : ℕ). AreLinksTo (capacity g props held) (before_number g held w) (end_of (base_of g held) (latch_number g held u)) (links ++ link (before_number g held u) 0 (unbounded g held) ∷ link m (unbounded g held) 0 ∷ [])) (omega arith) three))
 
   -- no node of a fan-in from a up to b
   gap : (a b : ℕ) (links : List Link) → a ≤ b → b ≤ before_number g held w
@@ -332,10 +332,10 @@ module _ (g : Graph) (props : Props) (held : List ℕ) (valid : IsGraph g) (w : 
   first-w : first_of (base_of g held) (latch_number g held w) ≡ before_number g held w
   first-w = first_of-high (base_of g held) (latch_number g held w) (omega (arith, rank-gate g held w from)) ∙ omega (arith, rank-gate g held w from)
 
-  short-fan_in : (number : ℕ) → length (fan_in_links (base_of g held) (great g held) number) ≤ 2
+  short-fan_in : (number : ℕ) → length (fan_in_links (base_of g held) (unbounded g held) number) ≤ 2
   short-fan_in number = short (nat_lt number (base_of g held))
     where
-      short : (b : Bool) → length (cond b (link number (great g held) 0 ∷ []) (link (2 * number - base_of g held) 0 (great g held) ∷ link (2 * number - base_of g held + 1) (great g held) 0 ∷ [])) ≤ 2
+      short : (b : Bool) → length (cond b (link number (unbounded g held) 0 ∷ []) (link (2 * number - base_of g held) 0 (unbounded g held) ∷ link (2 * number - base_of g held + 1) (unbounded g held) 0 ∷ [])) ≤ 2
       short true = omega arith
       short false = omega arith
 
@@ -376,7 +376,7 @@ module _ (g : Graph) (props : Props) (held : List ℕ) (valid : IsGraph g) (w : 
               either false = omega arith
 
   one-fan_in : has_node g held (variable gate.rhs1) ≡ true → variable gate.rhs1 ≡ variable gate.rhs0
-      → AreLinksTo (capacity g props held) (before_number g held w) (before_number g held w) (fan_in_links (base_of g held) (great g held) (latch_number g held (variable gate.rhs1)))
+      → AreLinksTo (capacity g props held) (before_number g held w) (before_number g held w) (fan_in_links (base_of g held) (unbounded g held) (latch_number g held (variable gate.rhs1)))
   one-fan_in q1 same =
       let u1 : ℕ = variable gate.rhs1 in
       let start : AreLinksTo (capacity g props held) (before_number g held w) (first_of (base_of g held) (latch_number g held (variable gate.rhs1))) [] =
@@ -387,7 +387,7 @@ module _ (g : Graph) (props : Props) (held : List ℕ) (valid : IsGraph g) (w : 
         | inr b ↦ subst (λ (y : ℕ). first_of (base_of g held) (latch_number g held (variable gate.rhs1)) ≤ first_of (base_of g held) (latch_number g held y)) (sym b) (omega arith)
       ]))
       (links-none (capacity g props held) (before_number g held w)) in
-      close (variable gate.rhs1) (fan_in_links (base_of g held) (great g held) (latch_number g held (variable gate.rhs1))) q1 (omega (arith, gate-here.below, same))
+      close (variable gate.rhs1) (fan_in_links (base_of g held) (unbounded g held) (latch_number g held (variable gate.rhs1))) q1 (omega (arith, gate-here.below, same))
       (λ x xq is_in. elim (fan_ins x is_in) [ inl a ↦ omega (arith, a, same) | inr b ↦ omega (arith, b) ])
       (fan_in-step (variable gate.rhs1) [] q1 (omega (arith, gate-here.below, same)) first-in start)
     where
@@ -400,7 +400,7 @@ module _ (g : Graph) (props : Props) (held : List ℕ) (valid : IsGraph g) (w : 
 
   two-fan_ins : has_node g held (variable gate.rhs1) ≡ true → has_node g held (variable gate.rhs0) ≡ true → variable gate.rhs1 < variable gate.rhs0
       → AreLinksTo (capacity g props held) (before_number g held w) (before_number g held w)
-      (fan_in_links (base_of g held) (great g held) (latch_number g held (variable gate.rhs1)) ++ fan_in_links (base_of g held) (great g held) (latch_number g held (variable gate.rhs0)))
+      (fan_in_links (base_of g held) (unbounded g held) (latch_number g held (variable gate.rhs1)) ++ fan_in_links (base_of g held) (unbounded g held) (latch_number g held (variable gate.rhs0)))
   two-fan_ins q1 q0 lower =
       let rank1 : rank g held (variable gate.rhs1) < rank g held (variable gate.rhs0) = count-lt (has_node g held) (variable gate.rhs1) (variable gate.rhs0) lower q1 in
       let rank0 : rank g held (variable gate.rhs0) < rank g held w = count-lt (has_node g held) (variable gate.rhs0) w gate-here.below q0 in
@@ -414,17 +414,17 @@ module _ (g : Graph) (props : Props) (held : List ℕ) (valid : IsGraph g) (w : 
         | inr b ↦ subst (λ (y : ℕ). first_of (base_of g held) (latch_number g held (variable gate.rhs1)) ≤ first_of (base_of g held) (latch_number g held y)) (sym b) (omega arith)
       ]))
       (links-none (capacity g props held) (before_number g held w)) in
-      let middle : AreLinksTo (capacity g props held) (before_number g held w) (first_of (base_of g held) (latch_number g held (variable gate.rhs0))) (fan_in_links (base_of g held) (great g held) (latch_number g held (variable gate.rhs1))) =
-      gap (end_of (base_of g held) (latch_number g held (variable gate.rhs1))) (first_of (base_of g held) (latch_number g held (variable gate.rhs0))) (fan_in_links (base_of g held) (great g held) (latch_number g held (variable gate.rhs1)))
+      let middle : AreLinksTo (capacity g props held) (before_number g held w) (first_of (base_of g held) (latch_number g held (variable gate.rhs0))) (fan_in_links (base_of g held) (unbounded g held) (latch_number g held (variable gate.rhs1))) =
+      gap (end_of (base_of g held) (latch_number g held (variable gate.rhs1))) (first_of (base_of g held) (latch_number g held (variable gate.rhs0))) (fan_in_links (base_of g held) (unbounded g held) (latch_number g held (variable gate.rhs1)))
       order1 (omega (arith, order0, first-w, firsts (latch_number g held (variable gate.rhs0))))
       (λ u q is_in. elim (fan_ins u is_in) [
         | inl a ↦ inl (subst (λ (y : ℕ). first_of (base_of g held) (latch_number g held (variable gate.rhs0)) ≤ first_of (base_of g held) (latch_number g held y)) (sym a) (omega arith))
         | inr b ↦ inr (subst (λ (y : ℕ). end_of (base_of g held) (latch_number g held y) ≤ end_of (base_of g held) (latch_number g held (variable gate.rhs1))) (sym b) (omega arith))
       ])
       (fan_in-step (variable gate.rhs1) [] q1 (omega (arith, gate-here.below, lower)) first-in start) in
-      close (variable gate.rhs0) (fan_in_links (base_of g held) (great g held) (latch_number g held (variable gate.rhs1)) ++ fan_in_links (base_of g held) (great g held) (latch_number g held (variable gate.rhs0))) q0 gate-here.below
+      close (variable gate.rhs0) (fan_in_links (base_of g held) (unbounded g held) (latch_number g held (variable gate.rhs1)) ++ fan_in_links (base_of g held) (unbounded g held) (latch_number g held (variable gate.rhs0))) q0 gate-here.below
       (λ x xq is_in. elim (fan_ins x is_in) [ inl a ↦ omega (arith, a) | inr b ↦ omega (arith, b, lower) ])
-      (fan_in-step (variable gate.rhs0) (fan_in_links (base_of g held) (great g held) (latch_number g held (variable gate.rhs1))) q0 gate-here.below second-in middle)
+      (fan_in-step (variable gate.rhs0) (fan_in_links (base_of g held) (unbounded g held) (latch_number g held (variable gate.rhs1))) q0 gate-here.below second-in middle)
     where
       firsts : (n : ℕ) → first_of (base_of g held) n ≤ end_of (base_of g held) n
       firsts n = either (nat_lt n (base_of g held))
@@ -439,16 +439,16 @@ module _ (g : Graph) (props : Props) (held : List ℕ) (valid : IsGraph g) (w : 
 
   -- the node before a passable gate is linked to the nodes of its fan-ins
   pub before-links : has_node g held (variable gate.rhs1) ≡ true → has_node g held (variable gate.rhs0) ≡ true
-      → AreLinks (capacity g props held) (before_number g held w) (gate_links (base_of g held) (great g held) (latch_number g held (variable gate.rhs1)) (latch_number g held (variable gate.rhs0)))
+      → AreLinks (capacity g props held) (before_number g held w) (gate_links (base_of g held) (unbounded g held) (latch_number g held (variable gate.rhs1)) (latch_number g held (variable gate.rhs0)))
   before-links q1 q0 = elim (cases_eq (latch_number g held (variable gate.rhs1)) (latch_number g held (variable gate.rhs0))) [
     | inl same ↦ (
         let vars : variable gate.rhs1 ≡ variable gate.rhs0 = elim (cases_eq (variable gate.rhs1) (variable gate.rhs0)) [
           | inl e ↦ e
           | inr ne ↦ absurd (omega (arith, same, count-lt (has_node g held) (variable gate.rhs1) (variable gate.rhs0) (omega (arith, ne, gate-here.ordered)) q1))
         ] in
-        let list : gate_links (base_of g held) (great g held) (latch_number g held (variable gate.rhs1)) (latch_number g held (variable gate.rhs0)) ≡ fan_in_links (base_of g held) (great g held) (latch_number g held (variable gate.rhs1)) =
-        ap (λ (xs : List Link). fan_in_links (base_of g held) (great g held) (latch_number g held (variable gate.rhs1)) ++ xs) (cond-true _ _ _ (eq-eqb (latch_number g held (variable gate.rhs1)) (latch_number g held (variable gate.rhs0)) same))
-        ∙ append-nothing (fan_in_links (base_of g held) (great g held) (latch_number g held (variable gate.rhs1))) in
+        let list : gate_links (base_of g held) (unbounded g held) (latch_number g held (variable gate.rhs1)) (latch_number g held (variable gate.rhs0)) ≡ fan_in_links (base_of g held) (unbounded g held) (latch_number g held (variable gate.rhs1)) =
+        ap (λ (xs : List Link). fan_in_links (base_of g held) (unbounded g held) (latch_number g held (variable gate.rhs1)) ++ xs) (cond-true _ _ _ (eq-eqb (latch_number g held (variable gate.rhs1)) (latch_number g held (variable gate.rhs0)) same))
+        ∙ append-nothing (fan_in_links (base_of g held) (unbounded g held) (latch_number g held (variable gate.rhs1))) in
         subst (λ (xs : List Link). AreLinks (capacity g props held) (before_number g held w) xs) (sym list)
         (record { all = one-fan_in q1 vars; few = omega (arith, short-fan_in (latch_number g held (variable gate.rhs1))) }))
     | inr differ ↦ (
@@ -456,9 +456,9 @@ module _ (g : Graph) (props : Props) (held : List ℕ) (valid : IsGraph g) (w : 
           | inl e ↦ absurd (differ (ap (λ (n : ℕ). latch_number g held n) e))
           | inr ne ↦ omega (arith, ne, gate-here.ordered)
         ] in
-        let list : gate_links (base_of g held) (great g held) (latch_number g held (variable gate.rhs1)) (latch_number g held (variable gate.rhs0))
-        ≡ fan_in_links (base_of g held) (great g held) (latch_number g held (variable gate.rhs1)) ++ fan_in_links (base_of g held) (great g held) (latch_number g held (variable gate.rhs0)) =
-        ap (λ (xs : List Link). fan_in_links (base_of g held) (great g held) (latch_number g held (variable gate.rhs1)) ++ xs) (cond-false _ _ _ (ne_eqb (latch_number g held (variable gate.rhs1)) (latch_number g held (variable gate.rhs0)) differ)) in
+        let list : gate_links (base_of g held) (unbounded g held) (latch_number g held (variable gate.rhs1)) (latch_number g held (variable gate.rhs0))
+        ≡ fan_in_links (base_of g held) (unbounded g held) (latch_number g held (variable gate.rhs1)) ++ fan_in_links (base_of g held) (unbounded g held) (latch_number g held (variable gate.rhs0)) =
+        ap (λ (xs : List Link). fan_in_links (base_of g held) (unbounded g held) (latch_number g held (variable gate.rhs1)) ++ xs) (cond-false _ _ _ (ne_eqb (latch_number g held (variable gate.rhs1)) (latch_number g held (variable gate.rhs0)) differ)) in
         subst (λ (xs : List Link). AreLinks (capacity g props held) (before_number g held w) xs) (sym list)
         (record {
           all = two-fan_ins q1 q0 lower;
@@ -466,7 +466,7 @@ module _ (g : Graph) (props : Props) (held : List ℕ) (valid : IsGraph g) (w : 
             arith,
             short-fan_in (latch_number g held (variable gate.rhs1)),
             short-fan_in (latch_number g held (variable gate.rhs0)),
-            length-append (fan_in_links (base_of g held) (great g held) (latch_number g held (variable gate.rhs1))) (fan_in_links (base_of g held) (great g held) (latch_number g held (variable gate.rhs0))),
+            length-append (fan_in_links (base_of g held) (unbounded g held) (latch_number g held (variable gate.rhs1))) (fan_in_links (base_of g held) (unbounded g held) (latch_number g held (variable gate.rhs0))),
           );
         }))
   ]

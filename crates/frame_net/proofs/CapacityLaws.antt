@@ -10,7 +10,7 @@ use Rattle.frame_net.specs.declared.edges.Link.{Link}
 use Rattle.frame_net.specs.FlowNet.{Node, node_at}
 use Rattle.frame_net.specs.FlowNet.Node.{source, sink, before, after}
 use Rattle.frame_net.specs.Edges.{adjacent, Edge, edges_below, AreLinks}
-use Rattle.frame_net.specs.Capacity.{has_node, node_variables, latch_count, great, gate_reads, leaves, arc_capacity, capacity, latch_number, before_number, after_number, node_total}
+use Rattle.frame_net.specs.Capacity.{has_node, node_variables, latch_count, unbounded, gate_reads, is_observed, arc_capacity, capacity, latch_number, before_number, after_number, node_total}
 use Rattle.frame_net.proofs.PassableLaws.{gate_cases}
 use Rattle.frame_net.proofs.EdgeLaws.{add-places, length-add}
 use Rattle.frame_net.proofs.RowsLaws.{AreCapacities}
@@ -23,13 +23,13 @@ when : (t : Bool) (m n : ℕ) → m ≤ n → cond t m 0 ≤ n
 when true m n h = h
 when false m n h = omega arith
 
--- no arc has more than the great capacity
-pub arc-bound : (g : Graph) (props : Props) (held : List ℕ) (a b : Node) → arc_capacity g props held a b ≤ great g held
-arc-bound g props held source (after v) = when (is_known (latch_at g v)) 1 (great g held) (omega arith)
-arc-bound g props held (before v) (after w) = when (v == w) 1 (great g held) (omega arith)
-arc-bound g props held (after v) (before w) = when (gate_reads v (gate_at g w)) (great g held) (great g held) (omega arith)
-arc-bound g props held (before w) (before v) = when (gate_reads v (gate_at g w)) (great g held) (great g held) (omega arith)
-arc-bound g props held (after v) sink = when (leaves g props held v) (great g held) (great g held) (omega arith)
+-- no arc has more than the unbounded capacity
+pub arc-bound : (g : Graph) (props : Props) (held : List ℕ) (a b : Node) → arc_capacity g props held a b ≤ unbounded g held
+arc-bound g props held source (after v) = when (is_known (latch_at g v)) 1 (unbounded g held) (omega arith)
+arc-bound g props held (before v) (after w) = when (v == w) 1 (unbounded g held) (omega arith)
+arc-bound g props held (after v) (before w) = when (gate_reads v (gate_at g w)) (unbounded g held) (unbounded g held) (omega arith)
+arc-bound g props held (before w) (before v) = when (gate_reads v (gate_at g w)) (unbounded g held) (unbounded g held) (omega arith)
+arc-bound g props held (after v) sink = when (is_observed g props held v) (unbounded g held) (unbounded g held) (omega arith)
 arc-bound g props held source source = omega arith
 arc-bound g props held source sink = omega arith
 arc-bound g props held source (before v) = omega arith
@@ -106,16 +106,16 @@ module _ (g : Graph) (props : Props) (held : List ℕ) (valid : IsGraph g) where
       (cap-at g props held valid (latch_number g held u) (latch_number g held u) (after u) (after u) (at-latch g held u p h) (at-latch g held u p h))
   no-loop v (a_before u p from below e) = subst (λ (n : ℕ). capacity g props held n n ≡ 0) (sym e)
       (cap-at g props held valid (before_number g held u) (before_number g held u) (before u) (before u) (at-before g held u p from below) (at-before g held u p from below)
-      ∙ cond-false (gate_reads u (gate_at g u)) (great g held) 0 (own u))
+      ∙ cond-false (gate_reads u (gate_at g u)) (unbounded g held) 0 (own u))
     where
       own : (u : ℕ) → gate_reads u (gate_at g u) ≡ false
       own u = elim (cases_Bool (gate_reads u (gate_at g u))) [ inl r ↦ absurd (omega (arith, reads-below g valid u u r)) | inr e ↦ e ]
   no-loop v (an_after u p from below e) = subst (λ (n : ℕ). capacity g props held n n ≡ 0) (sym e)
       (cap-at g props held valid (after_number g held u) (after_number g held u) (after u) (after u) (at-after g held u p from below) (at-after g held u p from below))
 
-  -- no pair of nodes has more than the great capacity
-  pub cap-bound : (v w : ℕ) → capacity g props held v w ≤ great g held
-  cap-bound v w = subst (λ (n : ℕ). n ≤ great g held)
+  -- no pair of nodes has more than the unbounded capacity
+  pub cap-bound : (v w : ℕ) → capacity g props held v w ≤ unbounded g held
+  cap-bound v w = subst (λ (n : ℕ). n ≤ unbounded g held)
       (sym (cap-at g props held valid v w (node_at (latch_count g held) (node_variables g held) v) (node_at (latch_count g held) (node_variables g held) w) refl refl))
       (arc-bound g props held (node_at (latch_count g held) (node_variables g held) v) (node_at (latch_count g held) (node_variables g held) w))
 

@@ -8,7 +8,7 @@ use Rattle.aig_graph.specs.Closed.{is_settled}
 use Rattle.aig_graph.specs.Border.{is_read_outside}
 use Rattle.variable_tables.specs.Counting.{count_below, places}
 use Rattle.frame_net.specs.Passable.{is_passable, passable_gates}
-use Rattle.frame_net.specs.Capacity.{has_node, leaves, capacity, node_total}
+use Rattle.frame_net.specs.Capacity.{has_node, is_observed, capacity, node_total}
 
 -- the arcs with tail v to heads below m, and all arcs with tails below n, as tail, head and capacity
 abbrev arcs_from : (ℕ → ℕ → ℕ) → ℕ → ℕ → List (ℕ × ℕ × ℕ)
@@ -32,13 +32,13 @@ output lit = record { outputs = lit ∷ []; bad = []; constraints = []; justice 
 
 one_gate-arcs : arcs_below (capacity one_gate (output 10) []) (node_total one_gate []) (node_total one_gate [])
     ≡ (0, 2, 1) ∷ (0, 3, 1) ∷ (2, 4, 3) ∷ (3, 4, 3) ∷ (4, 5, 1) ∷ (5, 1, 3) ∷ []
-unfolding capacity has_node leaves is_passable is_settled fold_gates fold_to_depth is_read_outside count_below places
+unfolding capacity has_node is_observed is_passable is_settled fold_gates fold_to_depth is_read_outside count_below places
 one_gate-arcs = refl
 
 -- the same with the first latch held: no gate is passable, and both latches leave the frame
 held-arcs : arcs_below (capacity one_gate (output 10) (0 ∷ [])) (node_total one_gate (0 ∷ [])) (node_total one_gate (0 ∷ []))
     ≡ (0, 2, 1) ∷ (0, 3, 1) ∷ (2, 1, 3) ∷ (3, 1, 3) ∷ []
-unfolding capacity has_node leaves is_passable is_settled fold_gates fold_to_depth is_read_outside count_below places
+unfolding capacity has_node is_observed is_passable is_settled fold_gates fold_to_depth is_read_outside count_below places
 held-arcs = refl
 
 -- four latches, two gates of two latches each, and the gate of these, which is the output
@@ -51,7 +51,7 @@ three_gates = record {
 
 three_gates-arcs : arcs_below (capacity three_gates (output 22) []) (node_total three_gates []) (node_total three_gates [])
     ≡ (0, 2, 1) ∷ (0, 3, 1) ∷ (0, 4, 1) ∷ (0, 5, 1) ∷ (2, 6, 5) ∷ (3, 6, 5) ∷ (4, 8, 5) ∷ (5, 8, 5) ∷ (6, 7, 1) ∷ (7, 10, 5) ∷ (8, 9, 1) ∷ (9, 10, 5) ∷ (10, 6, 5) ∷ (10, 8, 5) ∷ (10, 11, 1) ∷ (11, 1, 5) ∷ []
-unfolding capacity has_node leaves is_passable is_settled fold_gates fold_to_depth is_read_outside count_below places
+unfolding capacity has_node is_observed is_passable is_settled fold_gates fold_to_depth is_read_outside count_below places
 three_gates-arcs = refl
 
 -- a gate of a known and a free latch isn't passable, and the known latch leaves the frame
@@ -63,7 +63,7 @@ with_free = record {
 }
 
 with_free-arcs : arcs_below (capacity with_free (output 10) []) (node_total with_free []) (node_total with_free []) ≡ (0, 2, 1) ∷ (2, 1, 2) ∷ []
-unfolding capacity has_node leaves is_passable is_settled fold_gates fold_to_depth is_read_outside count_below places
+unfolding capacity has_node is_observed is_passable is_settled fold_gates fold_to_depth is_read_outside count_below places
 with_free-arcs = refl
 
 passable-examples : (passable_gates one_gate [] ≡ 5 ∷ []) × (passable_gates one_gate (1 ∷ []) ≡ []) × (passable_gates with_free [] ≡ []) × (passable_gates three_gates (3 ∷ []) ≡ 9 ∷ [])

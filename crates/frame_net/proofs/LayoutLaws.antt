@@ -20,7 +20,7 @@ use Rattle.aig_graph.proofs.ClosedLaws.{is_settled-gate}
 use Rattle.frame_net.specs.Passable.{is_passable}
 use Rattle.frame_net.specs.declared.layout.Layout.{Layout}
 use Rattle.frame_net.specs.Layout.{nodes_of}
-use Rattle.frame_net.specs.Capacity.{has_node, node_variables, latch_count, leaves, latch_number}
+use Rattle.frame_net.specs.Capacity.{has_node, node_variables, latch_count, is_observed, latch_number}
 use Rattle.frame_net.proofs.PassableLaws.{passable-no_gate, passable-at_gate, has-passable, settled-split}
 use Rattle.frame_net.proofs.NodeLaws.{has_node-latch, has_node-gate, rank-latch, rank-gate, latches-among}
 
@@ -37,8 +37,8 @@ has_node-marked g held v a b p q = ap₂ (λ (x y : Bool). x || y) p q
 pub leaving-table : (g : Graph) (props : Props) (held : List ℕ) (n : ℕ) (inside old mid new : List Bool)
     → ((v : ℕ) → mark_at (first_latch g) inside v ≡ is_passable g held v)
     → old ≡ replicate n false → Marks (first_latch g) old mid (is_held g held) → Marks (first_latch g) mid new (is_read_outside g props (mark_at (first_latch g) inside))
-    → new ≡ table (first_latch g) n (leaves g props held)
-unfolding leaves
+    → new ≡ table (first_latch g) n (is_observed g props held)
+unfolding is_observed
 leaving-table g props held n inside old mid new same fresh first second =
     let tests : mark_at (first_latch g) inside ≡ is_passable g held = λ i. λ v. same v i in
     table-marks (first_latch g) n old new (λ v. is_held g held v || is_read_outside g props (is_passable g held) v) fresh

@@ -42,8 +42,8 @@ abbrev pub node_total : Graph → List ℕ → ℕ
 node_total g held = 2 + latch_count g held + 2 * (length (node_variables g held) - latch_count g held)
 
 -- the capacity of an arc that no least cut takes
-abbrev pub great : Graph → List ℕ → ℕ
-great g held = latch_count g held + 1
+abbrev pub unbounded : Graph → List ℕ → ℕ
+unbounded g held = latch_count g held + 1
 
 -- whether the gate at w reads v
 abbrev pub gate_reads : ℕ → Option Gate → Bool
@@ -51,16 +51,16 @@ gate_reads v None = false
 gate_reads v (Some gate) = is_fan_in v gate
 
 -- whether the variable is a held latch, or is read by a gate that isn't passable, a next literal or a property
-unfoldable pub leaves : Graph → Props → List ℕ → ℕ → Bool
-leaves g props held v = is_held g held v || is_read_outside g props (is_passable g held) v
+unfoldable pub is_observed : Graph → Props → List ℕ → ℕ → Bool
+is_observed g props held v = is_held g held v || is_read_outside g props (is_passable g held) v
 
 -- the capacity of the arc from one node to another
 abbrev pub arc_capacity : Graph → Props → List ℕ → Node → Node → ℕ
 arc_capacity g props held source (after v) = if is_known (latch_at g v) then 1 else 0
 arc_capacity g props held (before v) (after w) = if v == w then 1 else 0
-arc_capacity g props held (after v) (before w) = if gate_reads v (gate_at g w) then great g held else 0
-arc_capacity g props held (before w) (before v) = if gate_reads v (gate_at g w) then great g held else 0
-arc_capacity g props held (after v) sink = if leaves g props held v then great g held else 0
+arc_capacity g props held (after v) (before w) = if gate_reads v (gate_at g w) then unbounded g held else 0
+arc_capacity g props held (before w) (before v) = if gate_reads v (gate_at g w) then unbounded g held else 0
+arc_capacity g props held (after v) sink = if is_observed g props held v then unbounded g held else 0
 arc_capacity g props held v w = 0
 
 -- the same by the numbers of the nodes

@@ -5,7 +5,7 @@ use Rattle.frame_net.specs.declared.links.NodeLinks.{NodeLinks}
 use Rattle.frame_net.specs.declared.layout.Layout.{Layout}
 use Rattle.frame_net.specs.Edges.{Edge, edges_below}
 use Rattle.frame_net.specs.Links.{links_of}
-use Rattle.frame_net.specs.Capacity.{latch_count, node_total, great, capacity}
+use Rattle.frame_net.specs.Capacity.{latch_count, node_total, unbounded, capacity}
 
 -- how many nodes there are
 abbrev pub nodes_of : Layout → ℕ
@@ -21,4 +21,4 @@ edges_of l = edges_below (capacity_of l) (nodes_of l)
 
 -- the links of a node to lower ones, by what it is linked to
 abbrev pub links_in : Layout → NodeLinks → List Link
-links_in l node = links_of (2 + latch_count l.aig.now l.keep.now) (great l.aig.now l.keep.now) node
+links_in l node = links_of (2 + latch_count l.aig.now l.keep.now) (unbounded l.aig.now l.keep.now) node

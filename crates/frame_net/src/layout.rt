@@ -12,7 +12,7 @@ ghost use Rattle.aig_graph.specs.Graph.{IsGraph, first_latch, first_gate, variab
 ghost use Rattle.frame_net.specs.Passable.{IsPassSet};
 ghost use Rattle.frame_net.specs.Edges.{AreLinks};
 ghost use Rattle.frame_net.specs.Links.{NumbersFit};
-ghost use Rattle.frame_net.specs.Capacity.{has_node, leaves, latch_number, latch_count, before_number, node_variables};
+ghost use Rattle.frame_net.specs.Capacity.{has_node, is_observed, latch_number, latch_count, before_number, node_variables};
 
 use crate::links::NodeLinks;
 use crate::pass_set::PassSet;
@@ -35,7 +35,7 @@ pub struct Layout<'a> {
     pub latches: u32,
     ghost graph: { IsGraph aig.now },
     ghost leaving_are: { leaving.items ≡ table (first_latch aig.now)
-        (latches_and_gates aig.now) (leaves aig.now props.now keep.now) },
+        (latches_and_gates aig.now) (is_observed aig.now props.now keep.now) },
     ghost numbers_are: { numbers.items ≡ table (first_latch aig.now)
         (latches_and_gates aig.now) (latch_number aig.now keep.now) },
     ghost variables_are: { variables.items ≡ node_variables aig.now keep.now },
@@ -52,7 +52,7 @@ pub fn leaving_marks(
 ) -> Result<Vec<bool>, NoMemory>
     requires { IsPassSet aig.now keep.now pass.now }
     ensures { IfOk result (λ marks. marks.items ≡ table (first_latch aig.now)
-        (latches_and_gates aig.now) (leaves aig.now props.now keep.now)) }
+        (latches_and_gates aig.now) (is_observed aig.now props.now keep.now)) }
 {
     let mut leaving = vec![in alloc; false; aig.latches_and_gates()]?;
     let marks = leaving.as_mut_slice();
@@ -150,12 +150,12 @@ impl<'a> Layout<'a> {
         let place = v - 2;
         if place < self.latches {
             let var = self.variables[place as usize];
-            return NodeLinks::AfterLatch(self.leaves(var));
+            return NodeLinks::AfterLatch(self.is_observed(var));
         }
         let side = place - self.latches;
         let var = self.variables[(self.latches + side / 2) as usize];
         if side % 2 == 1 {
-            NodeLinks::AfterGate(self.leaves(var), v - 1)
+            NodeLinks::AfterGate(self.is_observed(var), v - 1)
         } else {
             self.before_links(var)
         }
@@ -181,9 +181,9 @@ impl<'a> Layout<'a> {
     }
 
     /// Whether the variable's output leaves the frame.
-    fn leaves(&self, var: u32) -> bool
+    fn is_observed(&self, var: u32) -> bool
         ensures { first_latch self.now.aig.now ≤ var → var < variables_end self.now.aig.now
-            → result ≡ leaves self.now.aig.now self.now.props.now self.now.keep.now var }
+            → result ≡ is_observed self.now.aig.now self.now.props.now self.now.keep.now var }
     {
         mark_at(self.leaving.as_slice(), self.aig.first_latch(), var)
     }

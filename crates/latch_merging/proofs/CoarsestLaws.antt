@@ -13,11 +13,11 @@ use Rattle.variable_tables.proofs.TableLaws.{length-table, table-at}
 use Rattle.cleaned_circuits.specs.Latches.{constant_of}
 use Rattle.cleaned_circuits.specs.Merged.{replaced}
 use Rattle.cleaned_circuits.proofs.LatchLaws.{constant-even}
-use Rattle.merged_latches.specs.Readings.{own_literal, read, may_merge, from_reset, ReadsAs, as_itself, as_constant, as_first, IsReading, leaves, stands_by, told}
+use Rattle.merged_latches.specs.Readings.{own_literal, read, may_merge, from_reset, ReadsAs, as_itself, as_constant, as_first, IsReading, leaves, substitutes_by, told}
 use Rattle.merged_latches.specs.Partitions.{IsKept, IsFiner, IsCoarsest}
 use Rattle.merged_latches.proofs.ReadingLaws.{from_reset-twice, from_reset-zero, from_reset-constant, form, form-variable, replaced-constant, replaced-latch_literal}
 use Rattle.merged_latches.proofs.RunLaws.{replaced-signed}
-use Rattle.merged_latches.proofs.CoarserLaws.{coarser-stands, stands_by-constant}
+use Rattle.merged_latches.proofs.CoarserLaws.{coarser-substitutes, substitutes_by-constant}
 use Rattle.latch_merging.specs.declared.told.Told.{Told}
 use Rattle.merged_latches.specs.Counts.{is_merged, merged_latches}
 use Rattle.latch_merging.specs.Rounds.{constant_told, told_of, next_round, round_by, first_read, first_round}
@@ -186,7 +186,7 @@ module _ (g : Graph) (held : List ℕ) where
     class-of : (j i : ℕ) (latch other : Latch) → told_of g reads j latch ≡ told_of g reads i other → from_reset latch.reset (read reads j) ≡ from_reset other.reset (read reads i)
     class-of j i latch other same = ap (λ (key : Told). key.class) same
 
-    literal-of : (j i : ℕ) (latch other : Latch) → told_of g reads j latch ≡ told_of g reads i other → told (stands_by g reads) latch ≡ told (stands_by g reads) other
+    literal-of : (j i : ℕ) (latch other : Latch) → told_of g reads j latch ≡ told_of g reads i other → told (substitutes_by g reads) latch ≡ told (substitutes_by g reads) other
     literal-of j i latch other same = ap (λ (key : Told). key.literal) same
 
     -- who read as itself does so after the round
@@ -225,24 +225,24 @@ module _ (g : Graph) (held : List ℕ) where
         alike = λ j i latch first there there_i as_i. alike j i latch first there there_i as_i (after g held (told_of g reads) j latch there);
       }
         where
-          constants : (j : ℕ) (latch : Latch) → slice_get g.latches j ≡ Some latch → variable (read reads j) ≡ 0 → After g held (told_of g reads) j latch → told (stands_by g reads) latch ≡ 0
+          constants : (j : ℕ) (latch : Latch) → slice_get g.latches j ≡ Some latch → variable (read reads j) ≡ 0 → After g held (told_of g reads) j latch → told (substitutes_by g reads) latch ≡ 0
           constants j latch there zero_is (alone fails e) = absurd (omega (arith, zero_is, e, same-read j latch there (alone fails e)))
           constants j latch there zero_is (by_constant may told e) = ap (λ (key : Told). key.literal) told
           constants j latch there zero_is (by_first i other less there_i may may_i told e own_i) =
               absurd (omega (arith, zero_is, e, same-read j latch there (by_first i other less there_i may may_i told e own_i)))
 
           alike : (j i : ℕ) (latch first : Latch) → slice_get g.latches j ≡ Some latch → slice_get g.latches i ≡ Some first → variable (read reads j) ≡ first_latch g + i
-              → After g held (told_of g reads) j latch → told (stands_by g reads) latch ≡ told (stands_by g reads) first
+              → After g held (told_of g reads) j latch → told (substitutes_by g reads) latch ≡ told (substitutes_by g reads) first
           alike j i latch first there there_i as_i (alone fails e) =
               let same : j ≡ i = omega (arith, as_i, e, same-read j latch there (alone fails e)) in
               let one : latch ≡ first = same_Some latch first (sym there ∙ ap (λ (n : ℕ). slice_get g.latches n) same ∙ there_i) in
-              ap (told (stands_by g reads)) one
+              ap (told (substitutes_by g reads)) one
           alike j i latch first there there_i as_i (by_constant may told e) =
               absurd (omega (arith, as_i, e, constant-even latch.reset, same-read j latch there (by_constant may told e)))
           alike j i latch first there there_i as_i (by_first k other less there_k may may_k key e own_k) =
               let same : k ≡ i = omega (arith, as_i, e, same-read j latch there (by_first k other less there_k may may_k key e own_k)) in
               let one : other ≡ first = same_Some other first (sym there_k ∙ ap (λ (n : ℕ). slice_get g.latches n) same ∙ there_i) in
-              literal-of j k latch other key ∙ ap (told (stands_by g reads)) one
+              literal-of j k latch other key ∙ ap (told (substitutes_by g reads)) one
 
     -- that many latches read as another as after the round, and no more, shows it
     pub round-kept : merged_latches g reads ≤ merged_latches g (next_round g held reads) → IsKept g held reads
@@ -259,25 +259,25 @@ module _ (g : Graph) (held : List ℕ) where
 
     -- a kept reading that is finer stays so
     module _ (valid : IsGraph g) (other : List ℕ) (kept : IsKept g held other) (finer : IsFiner g other reads) where
-      told-coarser : (j : ℕ) (latch : Latch) → slice_get g.latches j ≡ Some latch → told (stands_by g reads) latch ≡ replaced (stands_by g reads) (told (stands_by g other) latch)
+      told-coarser : (j : ℕ) (latch : Latch) → slice_get g.latches j ≡ Some latch → told (substitutes_by g reads) latch ≡ replaced (substitutes_by g reads) (told (substitutes_by g other) latch)
       told-coarser j latch there =
-          ap (from_reset latch.reset) (sym (coarser-stands g held other reads valid kept.reading reading finer latch.next (valid.latches j latch there)))
-          ∙ sym (replaced-signed (stands_by g reads) (constant_of latch.reset) (replaced (stands_by g other) latch.next))
+          ap (from_reset latch.reset) (sym (coarser-substitutes g held other reads valid kept.reading reading finer latch.next (valid.latches j latch there)))
+          ∙ sym (replaced-signed (substitutes_by g reads) (constant_of latch.reset) (replaced (substitutes_by g other) latch.next))
 
       alike : AreToldAlike other (told_of g reads)
       alike = record {
         zero = λ j latch there e. (
             let here : read reads j ≡ constant_of latch.reset = sym (finer j (slice_get_within g.latches j latch there)) ∙ ap (replaced (leaves g reads)) e ∙ leaves-constant reads latch.reset in
-            let zero_told : told (stands_by g other) latch ≡ 0 = kept.constants j latch there (omega (arith, e, constant-even latch.reset)) in
-            let literal : told (stands_by g reads) latch ≡ 0 = told-coarser j latch there ∙ ap (replaced (stands_by g reads)) zero_told ∙ stands_by-constant g held reads reading in
-            told_is (from_reset latch.reset (read reads j)) (told (stands_by g reads) latch) 0 0 (ap (from_reset latch.reset) here ∙ from_reset-constant latch.reset) literal);
+            let zero_told : told (substitutes_by g other) latch ≡ 0 = kept.constants j latch there (omega (arith, e, constant-even latch.reset)) in
+            let literal : told (substitutes_by g reads) latch ≡ 0 = told-coarser j latch there ∙ ap (replaced (substitutes_by g reads)) zero_told ∙ substitutes_by-constant g held reads reading in
+            told_is (from_reset latch.reset (read reads j)) (told (substitutes_by g reads) latch) 0 0 (ap (from_reset latch.reset) here ∙ from_reset-constant latch.reset) literal);
         same = λ j i latch first there first_there e. (
             let here : read reads j ≡ from_reset latch.reset (from_reset first.reset (read reads i)) =
             sym (finer j (slice_get_within g.latches j latch there)) ∙ ap (replaced (leaves g reads)) e ∙ leaves-first reads latch.reset first.reset i in
-            let same_told : told (stands_by g other) latch ≡ told (stands_by g other) first = kept.alike j i latch first there first_there (omega (arith, e)) in
-            let literal : told (stands_by g reads) latch ≡ told (stands_by g reads) first =
-            told-coarser j latch there ∙ ap (replaced (stands_by g reads)) same_told ∙ sym (told-coarser i first first_there) in
-            told_is (from_reset latch.reset (read reads j)) (told (stands_by g reads) latch) (from_reset first.reset (read reads i)) (told (stands_by g reads) first)
+            let same_told : told (substitutes_by g other) latch ≡ told (substitutes_by g other) first = kept.alike j i latch first there first_there (omega (arith, e)) in
+            let literal : told (substitutes_by g reads) latch ≡ told (substitutes_by g reads) first =
+            told-coarser j latch there ∙ ap (replaced (substitutes_by g reads)) same_told ∙ sym (told-coarser i first first_there) in
+            told_is (from_reset latch.reset (read reads j)) (told (substitutes_by g reads) latch) (from_reset first.reset (read reads i)) (told (substitutes_by g reads) first)
             (ap (from_reset latch.reset) here ∙ from_reset-twice latch.reset (from_reset first.reset (read reads i))) literal);
       }
 

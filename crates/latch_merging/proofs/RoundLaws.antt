@@ -7,7 +7,7 @@ use Rattle.aig_graph.specs.declared.graph.Latch.{Latch}
 use Rattle.aig_graph.specs.Graph.{Graph}
 use Rattle.variable_tables.proofs.TableLaws.{length-table, table-at}
 use Rattle.cleaned_circuits.specs.Latches.{constant_of}
-use Rattle.cleaned_circuits.specs.Merged.{stand_or_own}
+use Rattle.cleaned_circuits.specs.Merged.{substitute_or_own}
 use Rattle.merged_latches.specs.Readings.{own_literal, read, may_merge, from_reset}
 use Rattle.merged_latches.proofs.ReadingLaws.{from_reset-twice, from_reset-zero}
 use Rattle.latch_merging.specs.declared.told.Told.{Told}
@@ -101,7 +101,7 @@ module _ (g : Graph) (held : List ℕ) (keys : ℕ → Latch → Told) where
 
   -- at a latch that may be merged there is one
   first-at : (j : ℕ) (latch : Latch) → slice_get g.latches j ≡ Some latch → may_merge held j latch ≡ true
-      → first (keys j latch) (suc j) ≡ Some (stand_or_own (from_reset latch.reset (own_literal g j)) (first (keys j latch) j))
+      → first (keys j latch) (suc j) ≡ Some (substitute_or_own (from_reset latch.reset (own_literal g j)) (first (keys j latch) j))
   first-at j latch there may =
       let key : Told = keys j latch in
       let own : ℕ = from_reset latch.reset (own_literal g j) in
@@ -110,7 +110,7 @@ module _ (g : Graph) (held : List ℕ) (keys : ℕ → Latch → Told) where
       ap (λ (o : Option Latch). cond (is_told_at held keys key j o) (Some (started g j o)) None) there ∙ cond-true (may_merge held j latch && is_told key key) (Some own) None passes in
       first-suc key j ∙ ap (or_else (first key j)) at_j ∙ found own (first key j)
     where
-      found : (own : ℕ) (o : Option ℕ) → or_else o (Some own) ≡ Some (stand_or_own own o)
+      found : (own : ℕ) (o : Option ℕ) → or_else o (Some own) ≡ Some (substitute_or_own own o)
       found own None = refl
       found own (Some l) = refl
 
@@ -138,7 +138,7 @@ module _ (g : Graph) (held : List ℕ) (keys : ℕ → Latch → Told) where
   -- each latch that may be merged has a leader
   pub led : (j : ℕ) (latch : Latch) → slice_get g.latches j ≡ Some latch → may_merge held j latch ≡ true → Led j latch
   led j latch there may = record {
-    leader = stand_or_own (from_reset latch.reset (own_literal g j)) (first (keys j latch) j);
+    leader = substitute_or_own (from_reset latch.reset (own_literal g j)) (first (keys j latch) j);
     reads_as = round-at j latch there ∙ cond-true (may_merge held j latch) _ _ may;
     first_one = first-at j latch there may;
   }

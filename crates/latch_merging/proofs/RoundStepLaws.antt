@@ -5,9 +5,9 @@ use Rattle.std.proofs.lemmas.List.{get_or_default}
 use Rattle.aig_graph.specs.declared.graph.Latch.{Latch}
 use Rattle.aig_graph.specs.Graph.{Graph, first_latch, variables_end}
 use Rattle.variable_tables.specs.Tables.{table}
-use Rattle.cleaned_circuits.specs.Merged.{merging_from, stands_after}
-use Rattle.cleaned_circuits.proofs.StandLaws.{length-merge_gates}
-use Rattle.merged_latches.specs.Readings.{from_reset, leaves, own_literal, read, stands_by, told}
+use Rattle.cleaned_circuits.specs.Merged.{merging_from, substitutes_after}
+use Rattle.cleaned_circuits.proofs.SubstituteLaws.{length-merge_gates}
+use Rattle.merged_latches.specs.Readings.{from_reset, leaves, own_literal, read, substitutes_by, told}
 use Rattle.merged_latches.proofs.ReadingLaws.{length-leaves}
 use Rattle.latch_merging.specs.declared.told.Told.{Told}
 use Rattle.merged_latches.specs.Counts.{is_merged}
@@ -16,9 +16,9 @@ use Rattle.clean.specs.Substitutions.{from_first, own_literals}
 use Rattle.variable_tables.proofs.TableLaws.{entry, table-end}
 
 -- for each variable there stands a literal
-pub stands_by-long : (g : Graph) (reads : List ℕ) → length reads ≡ length g.latches → length (stands_by g reads) ≡ variables_end g
-unfolding stands_after
-stands_by-long g reads long = omega (arith, length-merge_gates g.gates (merging_from (leaves g reads)), length-leaves g [] reads, long)
+pub substitutes_by-long : (g : Graph) (reads : List ℕ) → length reads ≡ length g.latches → length (substitutes_by g reads) ≡ variables_end g
+unfolding substitutes_after
+substitutes_by-long g reads long = omega (arith, length-merge_gates g.gates (merging_from (leaves g reads)), length-leaves g [] reads, long)
 
 -- what is known before the gates, as the substitution has it
 pub leaves-is : (g : Graph) (reads : List ℕ) → from_first (first_latch g) reads ≡ leaves g reads
@@ -57,9 +57,9 @@ unfolding round_by
 next-end g held keys k xs h l filled = table-end 0 k (length g.latches) (λ j. next_read g held keys j (slice_get g.latches j)) xs h l filled
 
 -- what a latch is told, by its parts
-pub told-is : (g : Graph) (reads stands : List ℕ) (k : ℕ) (latch : Latch) (lit : ℕ) (key : Told) → stands ≡ stands_by g reads → lit ≡ read reads k
-    → key.class ≡ from_reset latch.reset lit → key.literal ≡ told stands latch → key ≡ told_of g reads k latch
-told-is g reads stands k latch lit key by at class literal =
+pub told-is : (g : Graph) (reads substitutes : List ℕ) (k : ℕ) (latch : Latch) (lit : ℕ) (key : Told) → substitutes ≡ substitutes_by g reads → lit ≡ read reads k
+    → key.class ≡ from_reset latch.reset lit → key.literal ≡ told substitutes latch → key ≡ told_of g reads k latch
+told-is g reads substitutes k latch lit key by at class literal =
     let one : ℕ → Told = λ n. record { class = n; literal = key.literal } in
     let two : ℕ → Told = λ n. record { class = from_reset latch.reset (read reads k); literal = n } in
     ap one (class ∙ ap (from_reset latch.reset) at) ∙ ap two (literal ∙ ap (λ (xs : List ℕ). told xs latch) by)

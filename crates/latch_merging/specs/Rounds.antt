@@ -5,8 +5,8 @@ use Rattle.aig_graph.specs.declared.graph.Latch.{Latch}
 use Rattle.aig_graph.specs.Graph.{Graph}
 use Rattle.variable_tables.specs.Tables.{table}
 use Rattle.cleaned_circuits.specs.Latches.{constant_of}
-use Rattle.cleaned_circuits.specs.Merged.{stand_or_own}
-use Rattle.merged_latches.specs.Readings.{from_reset, may_merge, own_literal, read, stands_by, told}
+use Rattle.cleaned_circuits.specs.Merged.{substitute_or_own}
+use Rattle.merged_latches.specs.Readings.{from_reset, may_merge, own_literal, read, substitutes_by, told}
 use Rattle.latch_merging.specs.declared.told.Told.{Told}
 
 abbrev pub is_told : Told → Told → Bool
@@ -18,7 +18,7 @@ constant_told = record { class = 0; literal = 0 }
 
 -- the class of latch j, by what it reads as, negated where its reset is 1; and what it is told
 abbrev pub told_of : Graph → List ℕ → ℕ → Latch → Told
-told_of g reads j latch = record { class = from_reset latch.reset (read reads j); literal = told (stands_by g reads) latch }
+told_of g reads j latch = record { class = from_reset latch.reset (read reads j); literal = told (substitutes_by g reads) latch }
 
 -- whether there is a latch that may be merged, of this class and told this, where latches are told so
 abbrev pub is_told_at : List ℕ → (ℕ → Latch → Told) → Told → ℕ → Option Latch → Bool
@@ -46,7 +46,7 @@ first_told g held keys key (suc n) =
 -- where it may not be merged
 abbrev pub read_first : Graph → List ℕ → ℕ → Latch → Option ℕ → ℕ
 read_first g held j latch first =
-    if may_merge held j latch then from_reset latch.reset (stand_or_own (from_reset latch.reset (own_literal g j)) first) else own_literal g j
+    if may_merge held j latch then from_reset latch.reset (substitute_or_own (from_reset latch.reset (own_literal g j)) first) else own_literal g j
 
 abbrev pub next_read : Graph → List ℕ → (ℕ → Latch → Told) → ℕ → Option Latch → ℕ
 next_read g held keys j None = 0

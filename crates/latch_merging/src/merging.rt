@@ -8,7 +8,7 @@ ghost use Rattle.merged_latches.specs.Partitions.{IsCoarsest, IsMerged};
 ghost use Rattle.merged_latches.specs.Counts.{AreCounts, merged_latches};
 ghost use Rattle.latch_merging.specs.Rounds.{first_round, next_round};
 
-use crate::rounds::{counts_of, first_round, merged_latches, next_round, stands_by};
+use crate::rounds::{counts_of, first_round, merged_latches, next_round, substitutes_by};
 use aig_graph::{Aig, Circuit, Keep, Lit, NoMemory};
 use clean::{Held, replaced_circuit};
 use merged_latches::MergeCounts;
@@ -118,9 +118,9 @@ pub fn merge_latches(
     let reads = coarsest_reading(alloc, aig, &held)?;
     let literals = reads.as_slice();
     let counts = counts_of(aig, literals);
-    let stands = stands_by(alloc, aig, literals)?;
+    let substitutes = substitutes_by(alloc, aig, literals)?;
     drop(reads);
-    let merged = replaced_circuit(alloc, circuit, &stands)?;
+    let merged = replaced_circuit(alloc, circuit, &substitutes)?;
     Ok(MergedCircuit {
         circuit: merged,
         counts,

@@ -3,8 +3,8 @@
 ghost use Rattle.std.specs.Prelude.{◌≡◌, ◌<◌, slice_get, length, Some, OnOk, IfOk};
 ghost use Rattle.std.specs.Map.{lookup};
 ghost use Rattle.aig_graph.specs.Graph.{variable};
-ghost use Rattle.cleaned_circuits.specs.Merged.{stand_or_own};
-ghost use Rattle.merged_latches.specs.Readings.{from_reset, may_merge, stands_by, told};
+ghost use Rattle.cleaned_circuits.specs.Merged.{substitute_or_own};
+ghost use Rattle.merged_latches.specs.Readings.{from_reset, may_merge, substitutes_by, told};
 ghost use Rattle.merged_latches.specs.Counts.{constant_latches, counts_of, is_constant, merged_latches};
 ghost use Rattle.latch_merging.specs.Rounds.{entries_told, first_read, first_round, is_told, next_round, read_told, told_after};
 
@@ -24,16 +24,20 @@ fn may_merge(held: &Held<'_>, place: usize, latch: &Latch) -> bool
 }
 
 /// What stands for each variable, where latches read so.
-pub(crate) fn stands_by(alloc: Global, aig: &Aig, reads: &[Lit]) -> Result<Substitution, NoMemory>
+pub(crate) fn substitutes_by(
+    alloc: Global,
+    aig: &Aig,
+    reads: &[Lit],
+) -> Result<Substitution, NoMemory>
     requires { length reads.now ≡ length aig.now.latches }
-    ensures { IfOk result (λ stands. stands ≡ stands_by aig.now reads.now) }
+    ensures { IfOk result (λ substitutes. substitutes ≡ substitutes_by aig.now reads.now) }
 {
-    let mut stands = Substitution::new(alloc, aig.first_latch(), aig.latches_and_gates())?;
+    let mut substitutes = Substitution::new(alloc, aig.first_latch(), aig.latches_and_gates())?;
     for lit in reads {
-        stands.push(*lit)?;
+        substitutes.push(*lit)?;
     }
-    merge_gates(alloc, aig, &mut stands)?;
-    Ok(stands)
+    merge_gates(alloc, aig, &mut substitutes)?;
+    Ok(substitutes)
 }
 
 /// What a latch reads as before the first round.
@@ -62,22 +66,22 @@ pub(crate) fn first_round(alloc: Global, aig: &Aig, held: &Held<'_>) -> Result<V
 }
 
 /// The class of a latch that reads as a literal, and what it is told.
-fn told_of(stands: &Substitution, reads: Lit, latch: &Latch) -> Told
-    requires { variable latch.now.next < length stands.now }
+fn told_of(substitutes: &Substitution, reads: Lit, latch: &Latch) -> Told
+    requires { variable latch.now.next < length substitutes.now }
     ensures class { result.class ≡ from_reset latch.now.reset reads }
-    ensures literal { result.literal ≡ told stands.now latch.now }
+    ensures literal { result.literal ≡ told substitutes.now latch.now }
 {
     let start = constant_of(latch.reset);
     Told {
         class: reads.signed_as(start),
-        literal: stands.literal(latch.next).signed_as(start),
+        literal: substitutes.literal(latch.next).signed_as(start),
     }
 }
 
 /// What a latch that may be merged reads as after a round.
 fn merged_read(firsts: &mut FirstTold, told: Told, own: Lit, reset: Reset) -> Result<Lit, NoMemory>
     ensures literal { IfOk result (λ lit. lit ≡ from_reset reset
-        (stand_or_own (from_reset reset own) (lookup (is_told told) firsts.old))) }
+        (substitute_or_own (from_reset reset own) (lookup (is_told told) firsts.old))) }
     ensures entries { OnOk result (firsts.new ≡ told_after firsts.old (from_reset reset own) told
         (lookup (is_told told) firsts.old)) }
 {
@@ -122,11 +126,11 @@ pub(crate) fn next_round(
     ensures { IfOk result (λ next. next.items
         ≡ next_round aig.now held.now.positions.now reads.now) }
 {
-    let stands = stands_by(alloc, aig, reads)?;
+    let substitutes = substitutes_by(alloc, aig, reads)?;
     let mut firsts = FirstTold::new(alloc)?;
     let mut next = Vec::with_capacity(alloc, reads.len())?;
     for (place, latch) in aig.latches().iter().enumerate() {
-        let told = told_of(&stands, reads[place], latch);
+        let told = told_of(&substitutes, reads[place], latch);
         let lit = next_read(&mut firsts, aig, held, told, place, latch)?;
         next.push(lit)?;
     }

@@ -2,7 +2,7 @@
 //! constant is the first of its class, and is told 0.
 ghost use Rattle.std.specs.Prelude.{◌≡◌, ◌++◌, ◌∷◌, [], None, OnOk, IfOk};
 ghost use Rattle.std.specs.Map.{lookup};
-ghost use Rattle.cleaned_circuits.specs.Merged.{stand_or_own};
+ghost use Rattle.cleaned_circuits.specs.Merged.{substitute_or_own};
 ghost use Rattle.latch_merging.specs.Rounds.{constant_told, is_told, told_after};
 
 use aig_graph::{Lit, NoMemory};
@@ -71,7 +71,7 @@ impl FirstTold {
 
     /// The first of this class that is told this, which is this one where there is none.
     pub(crate) fn first(&mut self, told: Told, own: Lit) -> Result<Lit, NoMemory>
-        ensures literal { IfOk result (λ lit. lit ≡ stand_or_own own
+        ensures literal { IfOk result (λ lit. lit ≡ substitute_or_own own
             (lookup (is_told told) self.old)) }
         ensures entries { OnOk result (self.new ≡ told_after self.old own told
             (lookup (is_told told) self.old)) }

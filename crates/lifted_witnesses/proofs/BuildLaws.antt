@@ -20,8 +20,8 @@ use Rattle.state_maps.specs.States.{Digits, State}
 use Rattle.witness_circuits.specs.declared.sharing.Sharing.{Sharing}
 use Rattle.witness_circuits.specs.Joining.{own_at, own_count}
 use Rattle.witness_circuits.specs.Witnesses.{bad_or, bad_states}
-use Rattle.circuit_instances.specs.Instances.{stand}
-use Rattle.circuit_instances.proofs.InstanceLaws.{stand-within}
+use Rattle.circuit_instances.specs.Instances.{substitute}
+use Rattle.circuit_instances.proofs.InstanceLaws.{substitute-within}
 use Rattle.lifted_witnesses.specs.declared.parts.Parts.{Parts}
 use Rattle.lifted_witnesses.specs.Built.{IsFilled}
 use Rattle.lifted_witnesses.specs.Latches.{AreOwn, with_nexts}
@@ -76,7 +76,7 @@ module _ (g h : Graph) (c m w : Netlist) (k : Sharing) (p : Parts) (own : List L
   many-latches = ap length latches ∙ length-map (both_resets c.aig.latches own) (λ (r : Reset). record { next = 0; reset = r }) ∙ length-both_resets c.aig.latches own
 
   many-nexts : length nexts ≡ length c.aig.latches + length own
-  many-nexts = length-both (λ l. stand p.first l.next) (λ l. stand p.witness l.next) c.aig.latches own
+  many-nexts = length-both (λ l. substitute p.first l.next) (λ l. substitute p.witness l.next) c.aig.latches own
 
   pub nexts-long : length nexts ≡ length h.latches
   nexts-long = omega (arith, many-nexts, many-latches)
@@ -91,15 +91,15 @@ module _ (g h : Graph) (c m w : Netlist) (k : Sharing) (p : Parts) (own : List L
       ∙ ap (λ (n : ℕ). Some (record { next = n; reset = reset })) (get_or_from_slice_get nexts j next 0 of_next)
 
   pub nexts-within : AreLiteralsOf h nexts
-  nexts-within = All-append (λ l. IsLiteralOf h l) (map (λ l. stand p.first l.next) c.aig.latches) (map (λ l. stand p.witness l.next) own)
-      (All-map (λ l. IsLiteralOf h l) (λ (l : Latch). stand p.first l.next) c.aig.latches (all_from_slice_get (λ (l : Latch). IsLiteralOf h (stand p.first l.next)) c.aig.latches (λ j latch there.
-      stand-within h p.first latch.next parts.first.within (omega (arith, one.latches j latch there, parts.first.many)))))
-      (All-map (λ l. IsLiteralOf h l) (λ (l : Latch). stand p.witness l.next) own own-within)
+  nexts-within = All-append (λ l. IsLiteralOf h l) (map (λ l. substitute p.first l.next) c.aig.latches) (map (λ l. substitute p.witness l.next) own)
+      (All-map (λ l. IsLiteralOf h l) (λ (l : Latch). substitute p.first l.next) c.aig.latches (all_from_slice_get (λ (l : Latch). IsLiteralOf h (substitute p.first l.next)) c.aig.latches (λ j latch there.
+      substitute-within h p.first latch.next parts.first.within (omega (arith, one.latches j latch there, parts.first.many)))))
+      (All-map (λ l. IsLiteralOf h l) (λ (l : Latch). substitute p.witness l.next) own own-within)
     where
-      own-within : All (λ (l : Latch). IsLiteralOf h (stand p.witness l.next)) own
-      own-within = all_from_slice_get (λ (l : Latch). IsLiteralOf h (stand p.witness l.next)) own (λ q latch there.
+      own-within : All (λ (l : Latch). IsLiteralOf h (substitute p.witness l.next)) own
+      own-within = all_from_slice_get (λ (l : Latch). IsLiteralOf h (substitute p.witness l.next)) own (λ q latch there.
           let from = mine.from q latch there in
-          stand-within h p.witness latch.next parts.witness.within (omega (arith, three.latches from.0 latch from.1, parts.witness.many)))
+          substitute-within h p.witness latch.next parts.witness.within (omega (arith, three.latches from.0 latch from.1, parts.witness.many)))
 
   -- ---- the ended graph has the values of the one before
   alike : AreAlike h ended
@@ -114,14 +114,14 @@ module _ (g h : Graph) (c m w : Netlist) (k : Sharing) (p : Parts) (own : List L
 
     goes-first : (j : ℕ) (latch : Latch) → slice_get c.aig.latches j ≡ Some latch → GoesAs ended j latch (in_circuit c)
     goes-first j latch there =
-        let next : ℕ = stand p.first latch.next in
+        let next : ℕ = substitute p.first latch.next in
         let within : IsLiteralOf c.aig latch.next = one.latches j latch there in
         record {
           is = record { next = next; reset = latch.reset };
           there = ended-latch j latch.reset next (both-first (λ l. l.reset) (λ l. l.reset) c.aig.latches own j latch there)
-              (both-first (λ l. stand p.first l.next) (λ l. stand p.witness l.next) c.aig.latches own j latch there);
+              (both-first (λ l. substitute p.first l.next) (λ l. substitute p.witness l.next) c.aig.latches own j latch there);
           reset = refl;
-          next = λ z u. ended-value z u next (stand-within h p.first latch.next parts.first.within (omega (arith, within, parts.first.many))) ∙ parts.first.values z u latch.next within;
+          next = λ z u. ended-value z u next (substitute-within h p.first latch.next parts.first.within (omega (arith, within, parts.first.many))) ∙ parts.first.values z u latch.next within;
         }
 
     goes-own : (j : ℕ) (latch : Latch) → slice_get k.latches j ≡ Some None → slice_get w.aig.latches j ≡ Some latch
@@ -129,14 +129,14 @@ module _ (g h : Graph) (c m w : Netlist) (k : Sharing) (p : Parts) (own : List L
     goes-own j latch e there =
         let q : ℕ = own_count (take j k.latches) in
         let here : slice_get own q ≡ Some latch = mine.each j latch (slice_get_within k.latches j None e) e there in
-        let next : ℕ = stand p.witness latch.next in
+        let next : ℕ = substitute p.witness latch.next in
         let within : IsLiteralOf w.aig latch.next = three.latches j latch there in
         record {
           is = record { next = next; reset = latch.reset };
           there = ended-latch (length c.aig.latches + q) latch.reset next (both-own (λ l. l.reset) (λ l. l.reset) c.aig.latches own q latch here)
-              (both-own (λ l. stand p.first l.next) (λ l. stand p.witness l.next) c.aig.latches own q latch here);
+              (both-own (λ l. substitute p.first l.next) (λ l. substitute p.witness l.next) c.aig.latches own q latch here);
           reset = refl;
-          next = λ z u. ended-value z u next (stand-within h p.witness latch.next parts.witness.within (omega (arith, within, parts.witness.many))) ∙ parts.witness.values z u latch.next within;
+          next = λ z u. ended-value z u next (substitute-within h p.witness latch.next parts.witness.within (omega (arith, within, parts.witness.many))) ∙ parts.witness.values z u latch.next within;
         }
 
     stays : (lits : List ℕ) → AreLiteralsOf h lits → AreLiteralsOf ended lits

@@ -9,11 +9,11 @@ use Rattle.map_circuits.specs.Growing.{Extends}
 use Rattle.map_circuits.proofs.GrowingLaws.{extends-transitive}
 use Rattle.witness_circuits.specs.declared.sharing.Sharing.{Sharing}
 use Rattle.witness_circuits.specs.Joining.{joined, own_at}
-use Rattle.circuit_instances.specs.Instances.{stand}
+use Rattle.circuit_instances.specs.Instances.{substitute}
 use Rattle.lifted_witnesses.specs.declared.parts.Parts.{Parts}
 use Rattle.lifted_witnesses.specs.Lifting.{in_witness, witness_digits}
 use Rattle.lifted_witnesses.specs.Parts.{AreParts, HasPlaces, IsView, held_by, in_shared}
-use Rattle.lifted_witnesses.proofs.PropertyLaws.{stands-values}
+use Rattle.lifted_witnesses.proofs.PropertyLaws.{substitutes-values}
 use Rattle.lifted_witnesses.proofs.ViewLaws.{view-grows}
 
 -- a graph that grows keeps its places
@@ -25,10 +25,10 @@ places-stay h i c k more p = record {
 
 -- the literals of the map's outputs hold what the map gives
 module _ (h : Graph) (c m w : Netlist) (k : Sharing) (literals : List ℕ) (view : IsView h m.aig (λ z u. value_within m.aig u (λ j. false)) literals) (net : IsNetlist m) where
-  held-same : (z : Digits) (u : State) → held_by h (map (stand literals) m.props.outputs) z u ≡ mapped m u
-  held-same z u = ap (λ (bs : List Bool). λ (j : ℕ). get_or bs j false) (stands-values h m.aig (λ z u. value_within m.aig u (λ j. false)) literals view z u m.props.outputs net.props.outputs)
+  held-same : (z : Digits) (u : State) → held_by h (map (substitute literals) m.props.outputs) z u ≡ mapped m u
+  held-same z u = ap (λ (bs : List Bool). λ (j : ℕ). get_or bs j false) (substitutes-values h m.aig (λ z u. value_within m.aig u (λ j. false)) literals view z u m.props.outputs net.props.outputs)
 
-  pub shared-view : (i : Graph) (seen : List ℕ) → IsView i w.aig (in_shared h (map (stand literals) m.props.outputs) c.aig w.aig k) seen → IsView i w.aig (in_witness c m w k) seen
+  pub shared-view : (i : Graph) (seen : List ℕ) → IsView i w.aig (in_shared h (map (substitute literals) m.props.outputs) c.aig w.aig k) seen → IsView i w.aig (in_witness c m w k) seen
   shared-view i seen p = record {
     many = p.many;
     within = p.within;
@@ -39,7 +39,7 @@ module _ (h : Graph) (c m w : Netlist) (k : Sharing) (literals : List ℕ) (view
 
 -- all three, after the last was added
 pub all-parts : (h1 h2 h3 : Graph) (c m w : Netlist) (k : Sharing) (p : Parts) (outputs : List ℕ) → IsNetlist m → Extends h1 h2 → Extends h2 h3 → IsView h1 c.aig (λ z u. value_within c.aig z u) p.first
-    → IsView h2 m.aig (λ z u. value_within m.aig u (λ j. false)) p.map → outputs ≡ map (stand p.map) m.props.outputs → IsView h3 w.aig (in_shared h2 outputs c.aig w.aig k) p.witness → AreParts h3 c m w k p
+    → IsView h2 m.aig (λ z u. value_within m.aig u (λ j. false)) p.map → outputs ≡ map (substitute p.map) m.props.outputs → IsView h3 w.aig (in_shared h2 outputs c.aig w.aig k) p.witness → AreParts h3 c m w k p
 all-parts h1 h2 h3 c m w k p outputs net one two first of_map are seen = record {
   first = view-grows h1 h3 c.aig (λ z u. value_within c.aig z u) p.first (extends-transitive h1 h2 h3 one two) first;
   map = view-grows h2 h3 m.aig (λ z u. value_within m.aig u (λ j. false)) p.map two of_map;

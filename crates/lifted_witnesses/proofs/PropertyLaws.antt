@@ -15,8 +15,8 @@ use Rattle.state_maps.specs.MapCircuits.{is_kept}
 use Rattle.state_maps.proofs.WithinLaws.{within_laws}
 use Rattle.witness_circuits.specs.declared.sharing.Sharing.{Sharing}
 use Rattle.witness_circuits.specs.Witnesses.{IsGood, bad_states}
-use Rattle.circuit_instances.specs.Instances.{AreAll, stand}
-use Rattle.circuit_instances.proofs.InstanceLaws.{stand-within}
+use Rattle.circuit_instances.specs.Instances.{AreAll, substitute}
+use Rattle.circuit_instances.proofs.InstanceLaws.{substitute-within}
 use Rattle.map_circuits.specs.Growing.{Extends}
 use Rattle.lifted_witnesses.specs.declared.parts.Parts.{Parts}
 use Rattle.lifted_witnesses.specs.Literals.{negated}
@@ -50,27 +50,27 @@ negated-is h valid z u lit = value_signed_as (value_within h z u) (within_laws h
 
 -- the values of what stands for literals
 module _ (h g : Graph) (own : Digits → State → ℕ → Bool) (literals : List ℕ) (view : IsView h g own literals) where
-  pub stands-values : (z : Digits) (u : State) (lits : List ℕ) → AreLiteralsOf g lits → map (value_within h z u) (map (stand literals) lits) ≡ map (own z u) lits
-  stands-values z u lits within =
-      map-map (value_within h z u) (stand literals) lits
-      ∙ map-same (λ lit. IsLiteralOf g lit) (λ lit. value_within h z u (stand literals lit)) (own z u) (λ lit less. view.values z u lit less) lits within
+  pub substitutes-values : (z : Digits) (u : State) (lits : List ℕ) → AreLiteralsOf g lits → map (value_within h z u) (map (substitute literals) lits) ≡ map (own z u) lits
+  substitutes-values z u lits within =
+      map-map (value_within h z u) (substitute literals) lits
+      ∙ map-same (λ lit. IsLiteralOf g lit) (λ lit. value_within h z u (substitute literals lit)) (own z u) (λ lit less. view.values z u lit less) lits within
 
   negations-values : IsGraph h → (z : Digits) (u : State) (lits : List ℕ) → AreLiteralsOf g lits
-      → map (value_within h z u) (map (λ lit. negated (stand literals lit)) lits) ≡ map (λ lit. not (own z u lit)) lits
+      → map (value_within h z u) (map (λ lit. negated (substitute literals lit)) lits) ≡ map (λ lit. not (own z u lit)) lits
   negations-values valid z u lits within =
-      map-map (value_within h z u) (λ lit. negated (stand literals lit)) lits
-      ∙ map-same (λ lit. IsLiteralOf g lit) (λ lit. value_within h z u (negated (stand literals lit))) (λ lit. not (own z u lit))
-      (λ lit less. negated-is h valid z u (stand literals lit) ∙ ap not (view.values z u lit less)) lits within
+      map-map (value_within h z u) (λ lit. negated (substitute literals lit)) lits
+      ∙ map-same (λ lit. IsLiteralOf g lit) (λ lit. value_within h z u (negated (substitute literals lit))) (λ lit. not (own z u lit))
+      (λ lit less. negated-is h valid z u (substitute literals lit) ∙ ap not (view.values z u lit less)) lits within
 
-  pub stands-within : (lits : List ℕ) → AreLiteralsOf g lits → AreLiteralsOf h (map (stand literals) lits)
-  stands-within lits within =
-      All-map (λ l. IsLiteralOf h l) (stand literals) lits (λ k d less. stand-within h literals (get_or lits k d) view.within (omega (arith, within k d less, view.many)))
+  pub substitutes-within : (lits : List ℕ) → AreLiteralsOf g lits → AreLiteralsOf h (map (substitute literals) lits)
+  substitutes-within lits within =
+      All-map (λ l. IsLiteralOf h l) (substitute literals) lits (λ k d less. substitute-within h literals (get_or lits k d) view.within (omega (arith, within k d less, view.many)))
 
-  pub negations-within : (lits : List ℕ) → AreLiteralsOf g lits → AreLiteralsOf h (map (λ lit. negated (stand literals lit)) lits)
+  pub negations-within : (lits : List ℕ) → AreLiteralsOf g lits → AreLiteralsOf h (map (λ lit. negated (substitute literals lit)) lits)
   negations-within lits within =
-      All-map (λ l. IsLiteralOf h l) (λ lit. negated (stand literals lit)) lits (λ k d less.
-      let here : IsLiteralOf h (stand literals (get_or lits k d)) = stand-within h literals (get_or lits k d) view.within (omega (arith, within k d less, view.many)) in
-      omega (arith, here, variable-signed_as 1 (stand literals (get_or lits k d))))
+      All-map (λ l. IsLiteralOf h l) (λ lit. negated (substitute literals lit)) lits (λ k d less.
+      let here : IsLiteralOf h (substitute literals (get_or lits k d)) = substitute-within h literals (get_or lits k d) view.within (omega (arith, within k d less, view.many)) in
+      omega (arith, here, variable-signed_as 1 (substitute literals (get_or lits k d))))
 
   pub all-within : (n : ℕ) (lits : List ℕ) → n ≡ length literals → AreLiteralsOf g lits → All (λ lit. variable lit < n) lits
   all-within n lits same within k d less = omega (arith, within k d less, view.many, same)
@@ -101,14 +101,14 @@ module _ (h : Graph) (c m w : Netlist) (k : Sharing) (p : Parts) (valid : IsGrap
       ↔ (IsAllowed c z u × IsAllowed w (wd z) (ws u) × ((w.props.constraints ≡ []) ⊎ is_kept m u))
   constraints-say z u =
       let V : ℕ → Bool = value_within h z u in
-      let a : List ℕ = map (stand p.first) c.props.constraints in
-      let b : List ℕ = more_constraints w.props.constraints (map (stand p.witness) w.props.constraints) (map (stand p.map) m.props.constraints) in
-      let of_c = ones (map V a) (map (value_within c.aig z u) c.props.constraints) (stands-values h c.aig (λ z u. value_within c.aig z u) p.first parts.first z u c.props.constraints one.props.constraints) in
-      let of_w = ones (map V (map (stand p.witness) w.props.constraints)) (map (in_witness c m w k z u) w.props.constraints)
-      (stands-values h w.aig (in_witness c m w k) p.witness parts.witness z u w.props.constraints three.props.constraints) in
-      let of_m = ones (map V (map (stand p.map) m.props.constraints)) (map (value_within m.aig u (λ j. false)) m.props.constraints)
-      (stands-values h m.aig (λ z u. value_within m.aig u (λ j. false)) p.map parts.map z u m.props.constraints two.props.constraints) in
-      let more = more-says V w.props.constraints (map (stand p.witness) w.props.constraints) (map (stand p.map) m.props.constraints) (IsAllowed w (wd z) (ws u)) (is_kept m u) (none z u) of_w of_m in (
+      let a : List ℕ = map (substitute p.first) c.props.constraints in
+      let b : List ℕ = more_constraints w.props.constraints (map (substitute p.witness) w.props.constraints) (map (substitute p.map) m.props.constraints) in
+      let of_c = ones (map V a) (map (value_within c.aig z u) c.props.constraints) (substitutes-values h c.aig (λ z u. value_within c.aig z u) p.first parts.first z u c.props.constraints one.props.constraints) in
+      let of_w = ones (map V (map (substitute p.witness) w.props.constraints)) (map (in_witness c m w k z u) w.props.constraints)
+      (substitutes-values h w.aig (in_witness c m w k) p.witness parts.witness z u w.props.constraints three.props.constraints) in
+      let of_m = ones (map V (map (substitute p.map) m.props.constraints)) (map (value_within m.aig u (λ j. false)) m.props.constraints)
+      (substitutes-values h m.aig (λ z u. value_within m.aig u (λ j. false)) p.map parts.map z u m.props.constraints two.props.constraints) in
+      let more = more-says V w.props.constraints (map (substitute p.witness) w.props.constraints) (map (substitute p.map) m.props.constraints) (IsAllowed w (wd z) (ws u)) (is_kept m u) (none z u) of_w of_m in (
         λ all.
             let both = all-both (λ b. b ≡ true) (map V a) (map V b) (subst (λ (bs : List Bool). All (λ b. b ≡ true) bs) (map-append V a b) all) in
             let rest = more.0 both.1 in
@@ -120,17 +120,17 @@ module _ (h : Graph) (c m w : Netlist) (k : Sharing) (p : Parts) (valid : IsGrap
       none z u e = subst (λ (lits : List ℕ). All (λ b. b ≡ true) (map (value_within w.aig (wd z) (ws u)) lits)) (sym e) (All-nil (λ b. b ≡ true))
 
   pub demands-within : AreLiteralsOf h (demands m w p)
-  demands-within = All-append (λ l. IsLiteralOf h l) (map (stand p.map) m.props.constraints) (map (λ lit. negated (stand p.witness lit)) (bad_states w.props))
-      (stands-within h m.aig (λ z u. value_within m.aig u (λ j. false)) p.map parts.map m.props.constraints two.props.constraints)
+  demands-within = All-append (λ l. IsLiteralOf h l) (map (substitute p.map) m.props.constraints) (map (λ lit. negated (substitute p.witness lit)) (bad_states w.props))
+      (substitutes-within h m.aig (λ z u. value_within m.aig u (λ j. false)) p.map parts.map m.props.constraints two.props.constraints)
       (negations-within h w.aig (in_witness c m w k) p.witness parts.witness (bad_states w.props) (bad-within w three))
 
   pub demands-say : (z : Digits) (u : State) → All (λ l. value_within h z u l ≡ true) (demands m w p) ↔ (is_kept m u × IsGood w (wd z) (ws u))
   demands-say z u =
       let V : ℕ → Bool = value_within h z u in
-      let a : List ℕ = map (stand p.map) m.props.constraints in
-      let b : List ℕ = map (λ lit. negated (stand p.witness lit)) (bad_states w.props) in
+      let a : List ℕ = map (substitute p.map) m.props.constraints in
+      let b : List ℕ = map (λ lit. negated (substitute p.witness lit)) (bad_states w.props) in
       let of_m = ones (map V a) (map (value_within m.aig u (λ j. false)) m.props.constraints)
-      (stands-values h m.aig (λ z u. value_within m.aig u (λ j. false)) p.map parts.map z u m.props.constraints two.props.constraints) in
+      (substitutes-values h m.aig (λ z u. value_within m.aig u (λ j. false)) p.map parts.map z u m.props.constraints two.props.constraints) in
       let of_w = ones (map V b) (map (λ lit. not (in_witness c m w k z u lit)) (bad_states w.props))
       (negations-values h w.aig (in_witness c m w k) p.witness parts.witness valid z u (bad_states w.props) (bad-within w three)) in
       let turned = all-not (in_witness c m w k z u) (bad_states w.props) in (
@@ -178,12 +178,12 @@ module _ (h : Graph) (c m w : Netlist) (k : Sharing) (p : Parts) (valid : IsGrap
       more-within (lit ∷ lits) own of_map a b = All-append (λ l. IsLiteralOf h l) own of_map a b
 
       constraints-within : AreLiteralsOf h (lifted_constraints c m w p)
-      constraints-within = All-append (λ l. IsLiteralOf h l) (map (stand p.first) c.props.constraints)
-          (more_constraints w.props.constraints (map (stand p.witness) w.props.constraints) (map (stand p.map) m.props.constraints))
-          (stands-within h c.aig (λ z u. value_within c.aig z u) p.first parts.first c.props.constraints one.props.constraints)
-          (more-within w.props.constraints (map (stand p.witness) w.props.constraints) (map (stand p.map) m.props.constraints)
-          (stands-within h w.aig (in_witness c m w k) p.witness parts.witness w.props.constraints three.props.constraints)
-          (stands-within h m.aig (λ z u. value_within m.aig u (λ j. false)) p.map parts.map m.props.constraints two.props.constraints))
+      constraints-within = All-append (λ l. IsLiteralOf h l) (map (substitute p.first) c.props.constraints)
+          (more_constraints w.props.constraints (map (substitute p.witness) w.props.constraints) (map (substitute p.map) m.props.constraints))
+          (substitutes-within h c.aig (λ z u. value_within c.aig z u) p.first parts.first c.props.constraints one.props.constraints)
+          (more-within w.props.constraints (map (substitute p.witness) w.props.constraints) (map (substitute p.map) m.props.constraints)
+          (substitutes-within h w.aig (in_witness c m w k) p.witness parts.witness w.props.constraints three.props.constraints)
+          (substitutes-within h m.aig (λ z u. value_within m.aig u (λ j. false)) p.map parts.map m.props.constraints two.props.constraints))
 
 pub parts-grow : (h i : Graph) (c m w : Netlist) (k : Sharing) (p : Parts) → Extends h i → AreParts h c m w k p → AreParts i c m w k p
 parts-grow h i c m w k p more parts = record {

@@ -14,8 +14,8 @@ use Rattle.state_maps.proofs.WithinLaws.{within_laws}
 use Rattle.map_circuits.specs.Growing.{Extends}
 use Rattle.witness_circuits.specs.declared.sharing.Sharing.{Sharing}
 use Rattle.witness_circuits.specs.Joining.{joined, joined_at, own_at, own_count}
-use Rattle.circuit_instances.specs.Instances.{HaveValues, IsInstance, stand}
-use Rattle.circuit_instances.proofs.InstanceLaws.{stand-value, stand-within}
+use Rattle.circuit_instances.specs.Instances.{HaveValues, IsInstance, substitute}
+use Rattle.circuit_instances.proofs.InstanceLaws.{substitute-value, substitute-within}
 use Rattle.lifted_witnesses.specs.Literals.{AreSources, source_of}
 use Rattle.lifted_witnesses.specs.Parts.{AreWitnessLeaves, HasPlaces, IsFitting, IsView, first_leaves, held_by, in_shared, map_leaves}
 use Rattle.lifted_witnesses.proofs.CountLaws.{count-lt}
@@ -96,7 +96,7 @@ pub instance-view : (h i g : Graph) (leaves literals : List ℕ) (x : Digits →
 instance-view h i g leaves literals x s valid graph p have = record {
   many = p.many;
   within = p.within;
-  values = λ z u lit less. stand-value i g literals graph valid z (x z u) u (s z u) (p.values z (x z u) u (s z u) (have z u)) lit (omega (arith, less, p.many));
+  values = λ z u lit less. substitute-value i g literals graph valid z (x z u) u (s z u) (p.values z (x z u) u (s z u) (have z u)) lit (omega (arith, less, p.many));
 }
 
 -- a view stays one as the graph grows
@@ -104,7 +104,7 @@ pub view-grows : (h i g : Graph) (own : Digits → State → ℕ → Bool) (lite
 view-grows h i g own literals more p = record {
   many = p.many;
   within = λ k d less. more.literals (get_or literals k d) (p.within k d less);
-  values = λ z u lit less. more.values z u (stand literals lit) (stand-within h literals lit p.within (omega (arith, less, p.many))) ∙ p.values z u lit less;
+  values = λ z u lit less. more.values z u (substitute literals lit) (substitute-within h literals lit p.within (omega (arith, less, p.many))) ∙ p.values z u lit less;
 }
 
 -- tables of literals

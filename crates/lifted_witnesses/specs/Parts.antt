@@ -12,7 +12,7 @@ use Rattle.state_maps.specs.MapCircuits.{is_kept}
 use Rattle.witness_circuits.specs.declared.sharing.Sharing.{Sharing}
 use Rattle.witness_circuits.specs.Joining.{joined, own_at, own_count}
 use Rattle.witness_circuits.specs.Witnesses.{IsGood, bad_states}
-use Rattle.circuit_instances.specs.Instances.{stand}
+use Rattle.circuit_instances.specs.Instances.{substitute}
 use Rattle.lifted_witnesses.specs.declared.parts.Parts.{Parts}
 use Rattle.variable_tables.specs.Tables.{table}
 use Rattle.lifted_witnesses.specs.Literals.{AreSources, negated}
@@ -40,7 +40,7 @@ pub record HasPlaces (h : Graph) (c : Graph) (k : Sharing) : Type 0 where
 pub record IsView (h g : Graph) (own : Digits → State → ℕ → Bool) (literals : List ℕ) : Type 0 where
   pub many : length literals ≡ variables_end g
   pub within : AreLiteralsOf h literals
-  pub values : (z : Digits) (u : State) (lit : ℕ) → variable lit < variables_end g → value_within h z u (stand literals lit) ≡ own z u lit
+  pub values : (z : Digits) (u : State) (lit : ℕ) → variable lit < variables_end g → value_within h z u (substitute literals lit) ≡ own z u lit
 
 -- what stands for the constant, the inputs and the latches: the first inputs, and the latches from a first variable on
 abbrev pub first_leaves : ℕ → Graph → List ℕ
@@ -82,12 +82,12 @@ pub record AreLong (c m w : Graph) (p : Parts) : Type 0 where
   pub witness : length p.witness ≡ variables_end w
 
 -- what stands for these literals
-abbrev pub stands : List ℕ → List ℕ → List ℕ
-stands literals lits = map (stand literals) lits
+abbrev pub substitutes : List ℕ → List ℕ → List ℕ
+substitutes literals lits = map (substitute literals) lits
 
 -- what a good state has to be: the constraints of the map, and no bad state of the witness
 abbrev pub demands : Netlist → Netlist → Parts → List ℕ
-demands m w p = map (stand p.map) m.props.constraints ++ map (λ lit. negated (stand p.witness lit)) (bad_states w.props)
+demands m w p = map (substitute p.map) m.props.constraints ++ map (λ lit. negated (substitute p.witness lit)) (bad_states w.props)
 
 -- where a witness has constraints, it stands on them and on the map's
 abbrev pub more_constraints : List ℕ → List ℕ → List ℕ → List ℕ
@@ -96,7 +96,7 @@ more_constraints (lit ∷ lits) own of_map = own ++ of_map
 
 abbrev pub lifted_constraints : Netlist → Netlist → Netlist → Parts → List ℕ
 lifted_constraints c m w p =
-    map (stand p.first) c.props.constraints ++ more_constraints w.props.constraints (map (stand p.witness) w.props.constraints) (map (stand p.map) m.props.constraints)
+    map (substitute p.first) c.props.constraints ++ more_constraints w.props.constraints (map (substitute p.witness) w.props.constraints) (map (substitute p.map) m.props.constraints)
 
 -- what the constraints and the bad states of the lifted witness say
 pub record AreLiftedProps (h : Graph) (c m w : Netlist) (k : Sharing) (p : Props) : Type 0 where
@@ -115,4 +115,4 @@ both_resets first own = map (λ latch. latch.reset) first ++ map (λ latch. latc
 
 -- what stands for their next literals
 abbrev pub both_nexts : Parts → List Latch → List Latch → List ℕ
-both_nexts p first own = map (λ latch. stand p.first latch.next) first ++ map (λ latch. stand p.witness latch.next) own
+both_nexts p first own = map (λ latch. substitute p.first latch.next) first ++ map (λ latch. substitute p.witness latch.next) own

@@ -3,7 +3,7 @@
 ghost use Rattle.std.specs.Prelude.{ℕ, ◌≡◌, ◌<◌, ◌++◌, All, IfOk, OnOk, length, map};
 ghost use Rattle.aig_graph.specs.Circuits.{AreLiteralsOf};
 ghost use Rattle.aig_graph.specs.Graph.{IsGraph, variable};
-ghost use Rattle.circuit_instances.specs.Instances.{stand};
+ghost use Rattle.circuit_instances.specs.Instances.{substitute};
 ghost use Rattle.lifted_witnesses.specs.Latches.{AreOwn, with_nexts};
 
 use crate::literals::is_own;
@@ -48,7 +48,7 @@ pub(crate) fn push_nexts(
 ) -> Result<(), NoMemory>
     requires { All (λ latch. variable latch.next < length instance.now) latches.now }
     ensures { OnOk result (nexts.new.items ≡ nexts.old.items ++ map
-        (λ latch. stand instance.now latch.next) latches.now) }
+        (λ latch. substitute instance.now latch.next) latches.now) }
 {
     for latch in latches {
         nexts.push(instance.literal(latch.next))?;

@@ -4,7 +4,7 @@ ghost use Rattle.aig_graph.specs.declared.literal.TheConstants.{MAX_VARIABLES};
 ghost use Rattle.aig_graph.specs.Graph.{variable};
 ghost use Rattle.variable_tables.specs.Tables.{table};
 ghost use Rattle.witness_circuits.specs.Joining.{is_own, own_count};
-ghost use Rattle.circuit_instances.specs.Instances.{stand};
+ghost use Rattle.circuit_instances.specs.Instances.{substitute};
 ghost use Rattle.lifted_witnesses.specs.Literals.{AreSources, negated, source_of};
 
 use aig_graph::{Lit, NoMemory};
@@ -95,33 +95,34 @@ pub(crate) fn leaves(alloc: Global, inputs: &[Lit], latches: &[Lit]) -> Result<I
 }
 
 /// What stands for each of these literals is put after those before.
-pub(crate) fn push_stands(
-    stands: &mut Vec<Lit>,
+pub(crate) fn push_substitutes(
+    substitutes: &mut Vec<Lit>,
     instance: &Instance,
     lits: &[Lit],
 ) -> Result<(), NoMemory>
     requires { All (λ lit. variable lit < length instance.now) lits.now }
-    ensures { OnOk result (stands.new.items ≡ stands.old.items ++ map (stand instance.now)
+    ensures { OnOk result (substitutes.new.items ≡ substitutes.old.items ++ map (substitute
+        instance.now)
         lits.now) }
 {
     for lit in lits {
-        stands.push(instance.literal(*lit))?;
+        substitutes.push(instance.literal(*lit))?;
     }
     Ok(())
 }
 
 /// The same, of their negations.
 pub(crate) fn push_negations(
-    stands: &mut Vec<Lit>,
+    substitutes: &mut Vec<Lit>,
     instance: &Instance,
     lits: &[Lit],
 ) -> Result<(), NoMemory>
     requires { All (λ lit. variable lit < length instance.now) lits.now }
-    ensures { OnOk result (stands.new.items ≡ stands.old.items ++ map
-        (λ lit. negated (stand instance.now lit)) lits.now) }
+    ensures { OnOk result (substitutes.new.items ≡ substitutes.old.items ++ map
+        (λ lit. negated (substitute instance.now lit)) lits.now) }
 {
     for lit in lits {
-        stands.push(instance.literal(*lit).signed_as(Lit::TRUE))?;
+        substitutes.push(instance.literal(*lit).signed_as(Lit::TRUE))?;
     }
     Ok(())
 }

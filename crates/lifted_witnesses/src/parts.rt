@@ -10,10 +10,10 @@ ghost use Rattle.map_circuits.specs.Growing.{Extends};
 ghost use Rattle.witness_circuits.specs.Joining.{own_count};
 ghost use Rattle.variable_tables.specs.Tables.{table};
 ghost use Rattle.lifted_witnesses.specs.Literals.{AreSources};
-ghost use Rattle.lifted_witnesses.specs.Parts.{AreParts, AreWitnessLeaves, HasPlaces, IsLiftable, IsFitting, IsView, first_leaves, in_shared, map_leaves, over_latches, stands};
+ghost use Rattle.lifted_witnesses.specs.Parts.{AreParts, AreWitnessLeaves, HasPlaces, IsLiftable, IsFitting, IsView, first_leaves, in_shared, map_leaves, over_latches, substitutes};
 
 use crate::errors::LiftError;
-use crate::literals::{leaves, numbered, push_stands, sources};
+use crate::literals::{leaves, numbered, push_substitutes, sources};
 use aig_graph::{Aig, AigBuilder, Circuit, Lit, NoMemory};
 use circuit_instances::{Instance, add_instance};
 use std::alloc::Global;
@@ -152,11 +152,11 @@ fn add_witness(
 /// What stands for the outputs of the map.
 fn outputs_of(alloc: Global, part: &Instance, map: &Circuit) -> Result<Vec<Lit>, NoMemory>
     requires { length part.now ≡ variables_end map.now.aig }
-    ensures { IfOk result (λ lits. lits.items ≡ stands part.now map.now.props.outputs) }
+    ensures { IfOk result (λ lits. lits.items ≡ substitutes part.now map.now.props.outputs) }
 {
     map.known();
     let mut outputs = Vec::new(alloc);
-    push_stands(&mut outputs, part, map.props().outputs.as_slice())?;
+    push_substitutes(&mut outputs, part, map.props().outputs.as_slice())?;
     Ok(outputs)
 }
 

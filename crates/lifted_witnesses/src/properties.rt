@@ -7,7 +7,7 @@ ghost use Rattle.witness_circuits.specs.Witnesses.{bad_states};
 ghost use Rattle.lifted_witnesses.specs.Parts.{AreLiftedProps, AreLong, AreParts, demands, lifted_constraints};
 
 use crate::errors::LiftError;
-use crate::literals::{push_negations, push_stands};
+use crate::literals::{push_negations, push_substitutes};
 use crate::parts::Parts;
 use aig_graph::{AigBuilder, Circuit, Lit, NoMemory, Props, Sequence};
 use circuit_instances::add_conjunction_of;
@@ -41,18 +41,18 @@ fn constraints_of(
     map.known();
     witness.known();
     let mut lits = Vec::new(alloc);
-    push_stands(
+    push_substitutes(
         &mut lits,
         &parts.first,
         first.props().constraints.as_slice(),
     )?;
     if !witness.props().constraints.is_empty() {
-        push_stands(
+        push_substitutes(
             &mut lits,
             &parts.witness,
             witness.props().constraints.as_slice(),
         )?;
-        push_stands(&mut lits, &parts.map, map.props().constraints.as_slice())?;
+        push_substitutes(&mut lits, &parts.map, map.props().constraints.as_slice())?;
     }
     Ok(lits)
 }
@@ -71,7 +71,7 @@ fn demands_of(
     map.known();
     witness.known();
     let mut demands = Vec::new(alloc);
-    push_stands(&mut demands, &parts.map, map.props().constraints.as_slice())?;
+    push_substitutes(&mut demands, &parts.map, map.props().constraints.as_slice())?;
     push_negations(&mut demands, &parts.witness, bad_states(witness.props()))?;
     Ok(demands)
 }

@@ -7,23 +7,23 @@ use Rattle.aig_graph.specs.Value.{signed, signed_as}
 use Rattle.aig_graph.proofs.SignLaws.{value_signed, value_signed_as}
 use Rattle.variable_tables.proofs.PlacesLaws.{slice_get_push}
 use Rattle.map_checks.specs.Shared.{IsNegated}
-use Rattle.map_checks.specs.Equal.{Equal, IsRight, stand_or_own, standing}
+use Rattle.map_checks.specs.Equal.{Equal, IsRight, substitute_or_own, standing}
 
 pub standing-value : (e : Equal) (values : ℕ → Bool) → IsNegated values → IsRight e values → (lit : ℕ) → values (standing e lit) ≡ values lit
 unfolding standing
 standing-value e values negated right lit = elim (cases_lt (variable lit) e.first) [
-  | inl less ↦ ap values (cond-true (nat_lt (variable lit) e.first) lit (stand_or_own lit (slice_get e.stands (variable lit - e.first))) (lt-ltb (variable lit) e.first less))
+  | inl less ↦ ap values (cond-true (nat_lt (variable lit) e.first) lit (substitute_or_own lit (slice_get e.substitutes (variable lit - e.first))) (lt-ltb (variable lit) e.first less))
   | inr more ↦
-      ap values (cond-false (nat_lt (variable lit) e.first) lit (stand_or_own lit (slice_get e.stands (variable lit - e.first))) (le-ltb (variable lit) e.first more))
-      ∙ go more (slice_get e.stands (variable lit - e.first)) refl
+      ap values (cond-false (nat_lt (variable lit) e.first) lit (substitute_or_own lit (slice_get e.substitutes (variable lit - e.first))) (le-ltb (variable lit) e.first more))
+      ∙ go more (slice_get e.substitutes (variable lit - e.first)) refl
 ]
   where
-    go : e.first ≤ variable lit → (o : Option ℕ) → slice_get e.stands (variable lit - e.first) ≡ o → values (stand_or_own lit o) ≡ values lit
+    go : e.first ≤ variable lit → (o : Option ℕ) → slice_get e.substitutes (variable lit - e.first) ≡ o → values (substitute_or_own lit o) ≡ values lit
     go more None found = refl
-    go more (Some stand) found =
+    go more (Some substitute) found =
         let place : 2 * (e.first + (variable lit - e.first)) ≡ 2 * variable lit = omega (arith, more) in
-        value_signed_as values negated lit stand
-        ∙ ap (signed lit) (right (variable lit - e.first) stand found ∙ ap values place)
+        value_signed_as values negated lit substitute
+        ∙ ap (signed lit) (right (variable lit - e.first) substitute found ∙ ap values place)
         ∙ sym (value_signed values negated lit)
 
 -- what a list has, of which one place was set
@@ -43,22 +43,22 @@ signed-twice lit values negated =
     ∙ (let same : signed_as lit lit ≡ 2 * variable lit = omega arith in ap values same)
 
 -- one literal redirected to another of its value
-pub redirected : (e : Equal) (lit to place target : ℕ) (stands : List ℕ) → place ≡ variable lit - e.first → e.first ≤ variable lit → target ≡ signed_as lit to → stands ≡ slice_set e.stands place target
-    → (values : ℕ → Bool) → IsNegated values → values to ≡ values lit → IsRight e values → IsRight (record { first = e.first; stands = stands }) values
-redirected e lit to place target stands here from is set values negated same right j stand found =
-    elim (set-at e.stands place j target stand (ap (λ (xs : List ℕ). slice_get xs j) (sym set) ∙ found)) [
-      | inl before ↦ right j stand before
+pub redirected : (e : Equal) (lit to place target : ℕ) (substitutes : List ℕ) → place ≡ variable lit - e.first → e.first ≤ variable lit → target ≡ signed_as lit to → substitutes ≡ slice_set e.substitutes place target
+    → (values : ℕ → Bool) → IsNegated values → values to ≡ values lit → IsRight e values → IsRight (record { first = e.first; substitutes = substitutes }) values
+redirected e lit to place target substitutes here from is set values negated same right j substitute found =
+    elim (set-at e.substitutes place j target substitute (ap (λ (xs : List ℕ). slice_get xs j) (sym set) ∙ found)) [
+      | inl before ↦ right j substitute before
       | inr now ↦ (
           let at : 2 * variable lit ≡ 2 * (e.first + j) = omega (arith, here, from, now.0) in
           ap values (now.1 ∙ is) ∙ value_signed_as values negated lit to ∙ ap (signed lit) same ∙ signed-twice lit values negated ∙ ap values at)
     ]
 
 -- one more that stands for itself
-pub right-push : (first own : ℕ) (stands more : List ℕ) → more ≡ stands ++ own ∷ [] → own ≡ 2 * (first + length stands) → (values : ℕ → Bool) → IsRight (record { first = first; stands = stands }) values
-    → IsRight (record { first = first; stands = more }) values
-right-push first own stands more pushed is values right j stand found =
-    elim (slice_get_push stands own j stand (ap (λ (xs : List ℕ). slice_get xs j) (sym pushed) ∙ found)) [
-      | inl before ↦ right j stand before
+pub right-push : (first own : ℕ) (substitutes more : List ℕ) → more ≡ substitutes ++ own ∷ [] → own ≡ 2 * (first + length substitutes) → (values : ℕ → Bool) → IsRight (record { first = first; substitutes = substitutes }) values
+    → IsRight (record { first = first; substitutes = more }) values
+right-push first own substitutes more pushed is values right j substitute found =
+    elim (slice_get_push substitutes own j substitute (ap (λ (xs : List ℕ). slice_get xs j) (sym pushed) ∙ found)) [
+      | inl before ↦ right j substitute before
       | inr last ↦ (
           let at : own ≡ 2 * (first + j) = omega (arith, is, last.0) in
           ap values (last.1 ∙ at))

@@ -36,7 +36,7 @@ opening-value values constant negated own b Zero same = constant
 opening-value values constant negated own b One same = negated 0 ∙ ap not constant
 opening-value values constant negated own b Free same = same
 
-pub reset-image : (c m : Graph) (k : Shared) (e : Equal) (leaves copy : Copy) → IsGraph m → m.inputs ≡ length c.latches → m.latches ≡ [] → AreGates k → k.first ≡ first_gate c → e.stands ≡ [] → AreResets c leaves
+pub reset-image : (c m : Graph) (k : Shared) (e : Equal) (leaves copy : Copy) → IsGraph m → m.inputs ≡ length c.latches → m.latches ≡ [] → AreGates k → k.first ≡ first_gate c → e.substitutes ≡ [] → AreResets c leaves
     → IsCopy k e m leaves copy → IsResetImage c m copy
 reset-image c m k e leaves copy valid wide combinational are after none resets is = record {
   long = is.long;

@@ -46,7 +46,7 @@ module _ (c : Graph) (k : Shared) (are : AreGates k) (after : k.first ≡ first_
   }
 
   -- values that respect the gates, from any state
-  pub views-there : (e : Equal) → e.stands ≡ [] → (x : Digits) (s : State) → Views k e c x s (value_within (graph_of c k) x s)
+  pub views-there : (e : Equal) → e.substitutes ≡ [] → (x : Digits) (s : State) → Views k e c x s (value_within (graph_of c k) x s)
   views-there e none x s =
       let laws = within_laws (graph_of c k) IsGraph-graph_of x s in
       record {
@@ -57,7 +57,7 @@ module _ (c : Graph) (k : Shared) (are : AreGates k) (after : k.first ≡ first_
               let place : 2 * (k.first + j) ≡ 2 * (first_gate (graph_of c k) + j) = omega (arith, after, many) in
               ap (value_within (graph_of c k) x s) place ∙ laws.gate j gate e;
         };
-        right = λ place stand found. absurd (none-some stand (sym (ap (λ (xs : List ℕ). slice_get xs place) none) ∙ found));
+        right = λ place substitute found. absurd (none-some substitute (sym (ap (λ (xs : List ℕ). slice_get xs place) none) ∙ found));
         inputs = laws.input;
         latches = λ j less. latch-value (graph_of c k) IsGraph-graph_of x s j (omega (arith, less, many));
       }
@@ -68,7 +68,7 @@ nexts-read [] own j = refl
 nexts-read (latch ∷ latches) own zero = refl
 nexts-read (latch ∷ latches) own (suc j) = nexts-read latches own j
 
-module _ (k : Shared) (e : Equal) (c d m : Netlist) (before later after : Copy) (are : AreGates k) (place : k.first ≡ first_gate c.aig) (none : e.stands ≡ []) (first : IsNetlist c) (second : IsNetlist d) (second_graph : IsGraph d.aig)
+module _ (k : Shared) (e : Equal) (c d m : Netlist) (before later after : Copy) (are : AreGates k) (place : k.first ≡ first_gate c.aig) (none : e.substitutes ≡ []) (first : IsNetlist c) (second : IsNetlist d) (second_graph : IsGraph d.aig)
     (map_is : IsNetlist m) (sides : AreSides k e c d m before later after) (settled : AreSettled c d m before later after) where
   module _ (x : Digits) (s : State) (holds : is_kept m s) where
     abbrev values : ℕ → Bool

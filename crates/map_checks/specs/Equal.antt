@@ -7,19 +7,19 @@ use Rattle.map_checks.specs.Shared.{IsNegated}
 -- by variable, from a first one on, a literal that stands for it; those past the end stand for themselves
 pub record Equal : Type 0 where
   pub first : ℕ
-  pub stands : List ℕ
+  pub substitutes : List ℕ
 
-abbrev pub stand_or_own : ℕ → Option ℕ → ℕ
-stand_or_own lit None = lit
-stand_or_own lit (Some stand) = signed_as lit stand
+abbrev pub substitute_or_own : ℕ → Option ℕ → ℕ
+substitute_or_own lit None = lit
+substitute_or_own lit (Some substitute) = signed_as lit substitute
 
 -- what stands for a literal
 unfoldable pub standing : Equal → ℕ → ℕ
-standing e lit = if nat_lt (variable lit) e.first then lit else stand_or_own lit (slice_get e.stands (variable lit - e.first))
+standing e lit = if nat_lt (variable lit) e.first then lit else substitute_or_own lit (slice_get e.substitutes (variable lit - e.first))
 
 -- what stands for a variable has its value
 abbrev pub IsRight : Equal → (ℕ → Bool) → Type 0
-IsRight e values = (place stand : ℕ) → slice_get e.stands place ≡ Some stand → values stand ≡ values (2 * (e.first + place))
+IsRight e values = (place substitute : ℕ) → slice_get e.substitutes place ≡ Some substitute → values substitute ≡ values (2 * (e.first + place))
 
 -- what was right stays right
 abbrev pub StaysRight : Equal → Equal → Type 0

@@ -13,7 +13,7 @@ use std::marker::Model;
 #[derive(Drop)]
 pub(crate) struct Equalities {
     first: u32,
-    stands: Vec<Lit>,
+    substitutes: Vec<Lit>,
 }
 
 impl Model for Equalities {
@@ -21,17 +21,17 @@ impl Model for Equalities {
 
     ghost Value = { Equal };
 
-    ghost view = { λ e. record { first = e.first; stands = e.stands.items } };
+    ghost view = { λ e. record { first = e.first; substitutes = e.substitutes.items } };
 }
 
 impl Equalities {
     /// Each literal stands for itself; for those before `first` none ever does.
     pub(crate) fn none(alloc: Global, first: u32) -> Equalities
-        ensures { result ≡ record { first = first; stands = [] } }
+        ensures { result ≡ record { first = first; substitutes = [] } }
     {
         Equalities {
             first,
-            stands: Vec::new(alloc),
+            substitutes: Vec::new(alloc),
         }
     }
 
@@ -44,8 +44,8 @@ impl Equalities {
         if var < self.first {
             return lit;
         }
-        match self.stands.get((var - self.first) as usize) {
-            Some(stand) => stand.signed_as(lit),
+        match self.substitutes.get((var - self.first) as usize) {
+            Some(substitute) => substitute.signed_as(lit),
             None => lit,
         }
     }
@@ -60,8 +60,8 @@ impl Equalities {
             return;
         }
         let place = (var - self.first) as usize;
-        if place < self.stands.len() {
-            self.stands[place] = to.signed_as(lit);
+        if place < self.substitutes.len() {
+            self.substitutes[place] = to.signed_as(lit);
         }
     }
 
@@ -92,8 +92,8 @@ impl Equalities {
             return Ok(());
         }
         let end = (var - self.first) as usize + 1;
-        for place in self.stands.len()..end {
-            self.stands
+        for place in self.substitutes.len()..end {
+            self.substitutes
                 .push(Lit::new(self.first + place as u32, false))?;
         }
         Ok(())

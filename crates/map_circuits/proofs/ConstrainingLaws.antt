@@ -13,7 +13,7 @@ use Rattle.state_maps.specs.States.{State}
 use Rattle.state_maps.proofs.FrameMapLaws.{agrees-is, is-agrees}
 use Rattle.map_circuits.specs.Growing.{Extends, IsEquality}
 use Rattle.map_circuits.specs.Following.{literal_at}
-use Rattle.map_circuits.specs.Constraining.{AddsEquality, AddsStands, AreEqual, AreOne, IsStand, stand_function}
+use Rattle.map_circuits.specs.Constraining.{AddsEquality, AddsSubstitutes, AreEqual, AreOne, IsSubstitute, substitute_function}
 use Rattle.map_circuits.proofs.GrowingLaws.{extends-itself, extends-transitive}
 use Rattle.map_circuits.proofs.FollowingLaws.{literal-within}
 
@@ -54,15 +54,15 @@ module _ (g h : Graph) (more : Extends g h) (lits : List ℕ) (all : AreLiterals
   ones-before ones = one-from (value_within g s (λ j. false)) lits (λ k less. sym (kept-value k less) ∙ one-each (value_within h s (λ j. false)) lits ones k less)
 
 -- the function of what stands for a latch is a literal
-pub stand-within : (g : Graph) (first : ℕ) (functions : List ℕ) (lit : ℕ) → IsGraph g → AreLiteralsOf g functions → IsStand first functions lit → IsLiteralOf g (stand_function first functions lit)
-stand-within g first functions lit valid all stand = elim (cases_Bool (nat_eq (variable lit) 0)) [
+pub substitute-within : (g : Graph) (first : ℕ) (functions : List ℕ) (lit : ℕ) → IsGraph g → AreLiteralsOf g functions → IsSubstitute first functions lit → IsLiteralOf g (substitute_function first functions lit)
+substitute-within g first functions lit valid all substitute = elim (cases_Bool (nat_eq (variable lit) 0)) [
   | inl zero_variable ↦ (
-      let same : stand_function first functions lit ≡ lit = cond-true {A = ℕ} (nat_eq (variable lit) 0) lit (literal_at first functions lit) zero_variable in
+      let same : substitute_function first functions lit ≡ lit = cond-true {A = ℕ} (nat_eq (variable lit) 0) lit (literal_at first functions lit) zero_variable in
       let none : variable lit ≡ 0 = eqb-true (variable lit) 0 zero_variable in
       subst (λ (l : ℕ). variable l < variables_end g) (sym same) (omega (arith, none)))
   | inr apart ↦ (
-      let same : stand_function first functions lit ≡ literal_at first functions lit = cond-false {A = ℕ} (nat_eq (variable lit) 0) lit (literal_at first functions lit) apart in
-      subst (λ (l : ℕ). variable l < variables_end g) (sym same) (elim stand [
+      let same : substitute_function first functions lit ≡ literal_at first functions lit = cond-false {A = ℕ} (nat_eq (variable lit) 0) lit (literal_at first functions lit) apart in
+      subst (λ (l : ℕ). variable l < variables_end g) (sym same) (elim substitute [
         | inl none ↦ (let clash : nat_eq (variable lit) 0 ≡ true = ap (λ (n : ℕ). nat_eq n 0) none in absurd (cc))
         | inr covered ↦ literal-within g first functions lit all covered.1
       ]))
@@ -102,23 +102,23 @@ adds-nothing g old a b valid same = record {
   says = λ all s. (λ ones. (ones, ap (value_within g s (λ j. false)) same), λ both. both.0);
 }
 
-module _ (g : Graph) (first : ℕ) (functions stands old : List ℕ) where
-  pub stands-none : IsGraph g → AreLiteralsOf g old → AddsStands g first functions stands 0 g old old
-  stands-none valid all = record {
+module _ (g : Graph) (first : ℕ) (functions substitutes old : List ℕ) where
+  pub substitutes-none : IsGraph g → AreLiteralsOf g old → AddsSubstitutes g first functions substitutes 0 g old old
+  substitutes-none valid all = record {
     extends = extends-itself g valid;
     within = all;
     says = λ s. (λ ones. (ones, λ j less. absurd (omega (arith, less))), λ both. both.0);
   }
 
-  pub stands-more : (h i : Graph) (mid new : List ℕ) (n : ℕ) → IsLiteralOf g (get_or functions n 0) → IsLiteralOf g (stand_function first functions (get_or stands n 0))
-      → AddsStands g first functions stands n h old mid → AddsEquality h i mid new (get_or functions n 0) (stand_function first functions (get_or stands n 0))
-      → AddsStands g first functions stands (n + 1) i old new
-  stands-more h i mid new n in_a in_b p q = record {
+  pub substitutes-more : (h i : Graph) (mid new : List ℕ) (n : ℕ) → IsLiteralOf g (get_or functions n 0) → IsLiteralOf g (substitute_function first functions (get_or substitutes n 0))
+      → AddsSubstitutes g first functions substitutes n h old mid → AddsEquality h i mid new (get_or functions n 0) (substitute_function first functions (get_or substitutes n 0))
+      → AddsSubstitutes g first functions substitutes (n + 1) i old new
+  substitutes-more h i mid new n in_a in_b p q = record {
     extends = extends-transitive g h i p.extends q.extends;
     within = q.within p.within;
     says = λ s.
         let a : ℕ = get_or functions n 0 in
-        let b : ℕ = stand_function first functions (get_or stands n 0) in
+        let b : ℕ = substitute_function first functions (get_or substitutes n 0) in
         let same_a : value_within h s (λ j. false) a ≡ value_within g s (λ j. false) a = p.extends.values s (λ j. false) a in_a in
         let same_b : value_within h s (λ j. false) b ≡ value_within g s (λ j. false) b = p.extends.values s (λ j. false) b in_b in
         let step = q.says p.within s in
@@ -128,7 +128,7 @@ module _ (g : Graph) (first : ℕ) (functions stands old : List ℕ) where
               let rest = before.0 last.0 in (
                 rest.0,
                 λ j less. elim (cases_eq j n) [
-                  | inl here ↦ subst (λ (k : ℕ). AreEqual g s (get_or functions k 0) (stand_function first functions (get_or stands k 0))) (sym here) (sym same_a ∙ last.1 ∙ same_b)
+                  | inl here ↦ subst (λ (k : ℕ). AreEqual g s (get_or functions k 0) (substitute_function first functions (get_or substitutes k 0))) (sym here) (sym same_a ∙ last.1 ∙ same_b)
                   | inr other ↦ rest.1 j (omega (arith, less, other))
                 ],
               ),

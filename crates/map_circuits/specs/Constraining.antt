@@ -14,12 +14,12 @@ abbrev pub AreOne : Graph → List ℕ → State → Type 0
 AreOne g lits s = All (λ b. b ≡ true) (image g s lits)
 
 -- a literal of the constant, or of a latch that has a function
-abbrev pub IsStand : ℕ → List ℕ → ℕ → Type 0
-IsStand first functions lit = (variable lit ≡ 0) ⊎ IsCovered first functions (variable lit)
+abbrev pub IsSubstitute : ℕ → List ℕ → ℕ → Type 0
+IsSubstitute first functions lit = (variable lit ≡ 0) ⊎ IsCovered first functions (variable lit)
 
 -- the function of such a literal
-abbrev pub stand_function : ℕ → List ℕ → ℕ → ℕ
-stand_function first functions lit = if variable lit == 0 then lit else literal_at first functions lit
+abbrev pub substitute_function : ℕ → List ℕ → ℕ → ℕ
+substitute_function first functions lit = if variable lit == 0 then lit else literal_at first functions lit
 
 -- two literals are equal in the state
 abbrev pub AreEqual : Graph → State → ℕ → ℕ → Type 0
@@ -32,11 +32,11 @@ pub record AddsEquality (g h : Graph) (old new : List ℕ) (a b : ℕ) : Type 0 
   pub says : AreLiteralsOf g old → (s : State) → AreOne h new s ↔ (AreOne g old s × AreEqual g s a b)
 
 -- each of the first n functions is equal to that of what stands for its latch
-abbrev pub StandsBelow : Graph → ℕ → List ℕ → List ℕ → ℕ → State → Type 0
-StandsBelow g first functions stands n s = (j : ℕ) → j < n → AreEqual g s (slice_index_or functions j 0) (stand_function first functions (slice_index_or stands j 0))
+abbrev pub SubstitutesBelow : Graph → ℕ → List ℕ → List ℕ → ℕ → State → Type 0
+SubstitutesBelow g first functions substitutes n s = (j : ℕ) → j < n → AreEqual g s (slice_index_or functions j 0) (substitute_function first functions (slice_index_or substitutes j 0))
 
 -- the literals say what those before said, and that for the first n latches
-pub record AddsStands (g : Graph) (first : ℕ) (functions stands : List ℕ) (n : ℕ) (h : Graph) (old new : List ℕ) : Type 0 where
+pub record AddsSubstitutes (g : Graph) (first : ℕ) (functions substitutes : List ℕ) (n : ℕ) (h : Graph) (old new : List ℕ) : Type 0 where
   pub extends : Extends g h
   pub within : AreLiteralsOf h new
-  pub says : (s : State) → AreOne h new s ↔ (AreOne g old s × StandsBelow g first functions stands n s)
+  pub says : (s : State) → AreOne h new s ↔ (AreOne g old s × SubstitutesBelow g first functions substitutes n s)

@@ -2,7 +2,7 @@
 ghost use Rattle.std.specs.Prelude.{◌≡◌, ◌≤◌, All, OnOk, length};
 ghost use Rattle.aig_graph.specs.Circuits.{AreLiteralsOf};
 ghost use Rattle.aig_graph.specs.Graph.{IsGraph, IsLiteralOf};
-ghost use Rattle.map_circuits.specs.Constraining.{AddsEquality, AddsStands, IsStand, stand_function};
+ghost use Rattle.map_circuits.specs.Constraining.{AddsEquality, AddsSubstitutes, IsSubstitute, substitute_function};
 
 use crate::errors::MapError;
 use crate::gates::add_equality;
@@ -10,14 +10,14 @@ use crate::moving::standing;
 use aig_graph::{AigBuilder, Lit};
 
 /// The function of what stands for a latch: a constant, or a literal of a latch.
-fn function_of(functions: &[Lit], first: u32, stand: Lit) -> Lit
-    requires { IsStand first functions.now stand }
-    ensures { result ≡ stand_function first functions.now stand }
+fn function_of(functions: &[Lit], first: u32, substitute: Lit) -> Lit
+    requires { IsSubstitute first functions.now substitute }
+    ensures { result ≡ substitute_function first functions.now substitute }
 {
-    if stand.var() == 0 {
-        stand
+    if substitute.var() == 0 {
+        substitute
     } else {
-        standing(functions, first, stand)
+        standing(functions, first, substitute)
     }
 }
 
@@ -54,18 +54,19 @@ pub fn add_constraints(
     constraints: &mut Vec<Lit>,
     functions: &[Lit],
     first: u32,
-    stands: &[Lit],
+    substitutes: &[Lit],
 ) -> Result<(), MapError>
     requires graph { IsGraph gates.old }
     requires constraints { AreLiteralsOf gates.old constraints.old.items }
     requires functions { AreLiteralsOf gates.old functions.now }
-    requires stands { All (λ stand. IsStand first functions.now stand) stands.now }
-    requires long { length stands.now ≤ length functions.now }
-    ensures { OnOk result (AddsStands gates.old first functions.now stands.now
-        (length stands.now) gates.new constraints.old.items constraints.new.items) }
+    requires substitutes { All (λ substitute. IsSubstitute first functions.now substitute)
+        substitutes.now }
+    requires long { length substitutes.now ≤ length functions.now }
+    ensures { OnOk result (AddsSubstitutes gates.old first functions.now substitutes.now
+        (length substitutes.now) gates.new constraints.old.items constraints.new.items) }
 {
-    for (place, stand) in stands.iter().enumerate() {
-        let function = function_of(functions, first, *stand);
+    for (place, substitute) in substitutes.iter().enumerate() {
+        let function = function_of(functions, first, *substitute);
         add_constraint(gates, constraints, functions[place], function)?;
     }
     Ok(())

@@ -3,16 +3,16 @@ use Rattle.std.proofs.Common.{ℕ, ◌≡◌, List, [], ◌∷◌, map, refl}
 use Rattle.aig_graph.specs.declared.graph.Reset.TheVariants.{Zero, One}
 use Rattle.aig_graph.specs.Graph.{Graph}
 use Rattle.variable_tables.specs.Tables.{table}
-use Rattle.cleaned_circuits.specs.Merged.{merge_gates, stands_after, replaced_graph}
-use Rattle.merged_latches.specs.Readings.{leaves, stands_by, told}
+use Rattle.cleaned_circuits.specs.Merged.{merge_gates, substitutes_after, replaced_graph}
+use Rattle.merged_latches.specs.Readings.{leaves, substitutes_by, told}
 
 -- what each latch is told by a reading
 abbrev all_told : Graph → List ℕ → List ℕ
-all_told g reads = map (told (stands_by g reads)) g.latches
+all_told g reads = map (told (substitutes_by g reads)) g.latches
 
 -- the graph, where latches read so
 abbrev merged_by : Graph → List ℕ → Graph
-merged_by g reads = replaced_graph (stands_by g reads) g
+merged_by g reads = replaced_graph (substitutes_by g reads) g
 
 -- two latches that are 1 until the input was once 0
 once : Graph
@@ -24,7 +24,7 @@ once = record {
 
 -- the second reads as the first, and is told what that one is
 once-told : all_told once (4 ∷ 4 ∷ []) ≡ 9 ∷ 9 ∷ []
-unfolding once leaves table merge_gates stands_after
+unfolding once leaves table merge_gates substitutes_after
 once-told = refl
 
 once-merged : merged_by once (4 ∷ 4 ∷ [])
@@ -33,7 +33,7 @@ once-merged : merged_by once (4 ∷ 4 ∷ [])
       latches = record { next = 8; reset = One } ∷ record { next = 8; reset = One } ∷ [];
       gates = record { rhs0 = 4; rhs1 = 2 } ∷ record { rhs0 = 4; rhs1 = 2 } ∷ [];
     }
-unfolding once leaves table merge_gates stands_after replaced_graph
+unfolding once leaves table merge_gates substitutes_after replaced_graph
 once-merged = refl
 
 -- the second is the complement of the first
@@ -45,7 +45,7 @@ complements = record {
 }
 
 complements-told : all_told complements (4 ∷ 5 ∷ []) ≡ 9 ∷ 9 ∷ []
-unfolding complements leaves table merge_gates stands_after
+unfolding complements leaves table merge_gates substitutes_after
 complements-told = refl
 
 -- stuck behind a gate
@@ -53,7 +53,7 @@ behind : Graph
 behind = record { inputs = 1; latches = record { next = 6; reset = Zero } ∷ []; gates = record { rhs0 = 4; rhs1 = 2 } ∷ [] }
 
 behind-told : all_told behind (0 ∷ []) ≡ 0 ∷ []
-unfolding behind leaves table merge_gates stands_after
+unfolding behind leaves table merge_gates substitutes_after
 behind-told = refl
 
 -- stuck by each other
@@ -61,7 +61,7 @@ each_other : Graph
 each_other = record { inputs = 0; latches = record { next = 4; reset = Zero } ∷ record { next = 2; reset = Zero } ∷ []; gates = [] }
 
 each_other-told : all_told each_other (0 ∷ 0 ∷ []) ≡ 0 ∷ 0 ∷ []
-unfolding each_other leaves table merge_gates stands_after
+unfolding each_other leaves table merge_gates substitutes_after
 each_other-told = refl
 
 -- two that take turns: each is the other's complement, and isn't stuck
@@ -69,15 +69,15 @@ turns : Graph
 turns = record { inputs = 0; latches = record { next = 4; reset = Zero } ∷ record { next = 2; reset = One } ∷ []; gates = [] }
 
 turns-constant : all_told turns (0 ∷ 1 ∷ []) ≡ 1 ∷ 1 ∷ []
-unfolding turns leaves table merge_gates stands_after
+unfolding turns leaves table merge_gates substitutes_after
 turns-constant = refl
 
 turns-told : all_told turns (2 ∷ 3 ∷ []) ≡ 3 ∷ 3 ∷ []
-unfolding turns leaves table merge_gates stands_after
+unfolding turns leaves table merge_gates substitutes_after
 turns-told = refl
 
 turns-merged : merged_by turns (2 ∷ 3 ∷ []) ≡ record { inputs = 0; latches = record { next = 3; reset = Zero } ∷ record { next = 2; reset = One } ∷ []; gates = [] }
-unfolding turns leaves table merge_gates stands_after replaced_graph
+unfolding turns leaves table merge_gates substitutes_after replaced_graph
 turns-merged = refl
 
 -- two registers with one enable: each holds by reading itself, so cleaning sees no twins
@@ -89,5 +89,5 @@ one_enable = record {
 }
 
 one_enable-told : all_told one_enable (6 ∷ 6 ∷ []) ≡ 14 ∷ 14 ∷ []
-unfolding one_enable leaves table merge_gates stands_after
+unfolding one_enable leaves table merge_gates substitutes_after
 one_enable-told = refl

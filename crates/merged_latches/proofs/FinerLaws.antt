@@ -8,8 +8,8 @@ use Rattle.aig_graph.specs.Circuits.{Netlist}
 use Rattle.aig_graph.proofs.KindLaws.{element}
 use Rattle.cleaned_circuits.specs.Merged.{replaced_circuit}
 use Rattle.cleaned_circuits.proofs.LatchLaws.{constant-even}
-use Rattle.cleaned_circuits.proofs.StandLaws.{replaced-variable}
-use Rattle.merged_latches.specs.Readings.{own_literal, read, from_reset, IsReading, leaves, stands_by}
+use Rattle.cleaned_circuits.proofs.SubstituteLaws.{replaced-variable}
+use Rattle.merged_latches.specs.Readings.{own_literal, read, from_reset, IsReading, leaves, substitutes_by}
 use Rattle.merged_latches.specs.declared.counts.MergeCounts.{MergeCounts}
 use Rattle.merged_latches.specs.Counts.{AreCounts, counts_of}
 use Rattle.merged_latches.specs.Partitions.{IsFiner, IsCoarsest, IsMerged}
@@ -54,7 +54,7 @@ module _ (g : Graph) (held : List ℕ) where
 -- so a circuit is merged to one circuit
 pub merged-one : (held : List ℕ) (c d e : Netlist) → IsMerged held c d → IsMerged held c e → d ≡ e
 merged-one held c d e one two =
-    one.circuit ∙ ap (λ (reads : List ℕ). replaced_circuit (stands_by c.aig reads) c) (coarsest-one c.aig held one.reads two.reads one.coarsest two.coarsest) ∙ sym two.circuit
+    one.circuit ∙ ap (λ (reads : List ℕ). replaced_circuit (substitutes_by c.aig reads) c) (coarsest-one c.aig held one.reads two.reads one.coarsest two.coarsest) ∙ sym two.circuit
 
 -- and so many of its latches are merged
 pub counts-one : (g : Graph) (held : List ℕ) (counts other : MergeCounts) → AreCounts g held counts → AreCounts g held other → counts ≡ other

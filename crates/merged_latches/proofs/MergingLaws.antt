@@ -7,43 +7,43 @@ use Rattle.aig_graph.specs.Streams.{SameStreams, chosen}
 use Rattle.aig_graph.proofs.PropsLaws.{mapped-shape}
 use Rattle.aig_graph.proofs.StreamLaws.{same_streams-reflexive}
 use Rattle.cleaned_circuits.specs.Merged.{replaced, replaced_graph, replaced_circuit}
-use Rattle.cleaned_circuits.proofs.StandLaws.{after-within}
-use Rattle.cleaned_circuits.proofs.MergedLaws.{StandsWithin, StandsRight, IsGraph-replaced, IsNetlist-replaced, replaced-properties, replaced-inputs, length-replaced_latches, replaced-free_before}
-use Rattle.merged_latches.specs.Readings.{leaves, stands_by}
+use Rattle.cleaned_circuits.proofs.SubstituteLaws.{after-within}
+use Rattle.cleaned_circuits.proofs.MergedLaws.{SubstitutesWithin, SubstitutesRight, IsGraph-replaced, IsNetlist-replaced, replaced-properties, replaced-inputs, length-replaced_latches, replaced-free_before}
+use Rattle.merged_latches.specs.Readings.{leaves, substitutes_by}
 use Rattle.merged_latches.specs.Partitions.{IsKept, IsMerged}
 use Rattle.merged_latches.proofs.ReadingLaws.{are-leaves}
-use Rattle.merged_latches.proofs.ValueLaws.{stands_by-value}
+use Rattle.merged_latches.proofs.ValueLaws.{substitutes_by-value}
 
 module _ (held reads : List ℕ) (c : Netlist) (valid : IsGraph c.aig) (kept : IsKept c.aig held reads) where
-  abbrev stands : List ℕ
-  stands = stands_by c.aig reads
+  abbrev substitutes : List ℕ
+  substitutes = substitutes_by c.aig reads
 
   -- no literal of a later variable stands for one
-  pub kept-within : StandsWithin c.aig (stands_by c.aig reads)
+  pub kept-within : SubstitutesWithin c.aig (substitutes_by c.aig reads)
   kept-within = after-within c.aig (leaves c.aig reads) (are-leaves c.aig held reads kept.reading) valid
 
-  kept-right : StandsRight c.aig (stands_by c.aig reads)
-  kept-right x f t lit h = stands_by-value c.aig held reads valid kept x f t lit h
+  kept-right : SubstitutesRight c.aig (substitutes_by c.aig reads)
+  kept-right x f t lit h = substitutes_by-value c.aig held reads valid kept x f t lit h
 
   -- what is made of a graph is one
-  pub IsGraph-kept : IsGraph (replaced_circuit (stands_by c.aig reads) c).aig
-  IsGraph-kept = IsGraph-replaced c.aig stands valid kept-within
+  pub IsGraph-kept : IsGraph (replaced_circuit (substitutes_by c.aig reads) c).aig
+  IsGraph-kept = IsGraph-replaced c.aig substitutes valid kept-within
 
   -- and of a circuit
-  pub IsNetlist-kept : IsNetlist c → IsNetlist (replaced_circuit (stands_by c.aig reads) c)
-  IsNetlist-kept netlist = IsNetlist-replaced stands c valid netlist kept-within
+  pub IsNetlist-kept : IsNetlist c → IsNetlist (replaced_circuit (substitutes_by c.aig reads) c)
+  IsNetlist-kept netlist = IsNetlist-replaced substitutes c valid netlist kept-within
 
   -- with its streams
-  pub kept-streams : IsNetlist c → SameStreams c (replaced_circuit (stands_by c.aig reads) c) (all_free c.aig)
+  pub kept-streams : IsNetlist c → SameStreams c (replaced_circuit (substitutes_by c.aig reads) c) (all_free c.aig)
   kept-streams netlist =
-      let d : Netlist = replaced_circuit stands c in
+      let d : Netlist = replaced_circuit substitutes c in
       let same : SameStreams c c (all_free c.aig) = same_streams-reflexive c in
       let free : free_latches d.aig ≡ free_latches c.aig =
-      replaced-free_before stands c.aig (length (replaced_graph stands c.aig).latches) ∙ ap (free_before c.aig) (length-replaced_latches stands c.aig) in
+      replaced-free_before substitutes c.aig (length (replaced_graph substitutes c.aig).latches) ∙ ap (free_before c.aig) (length-replaced_latches substitutes c.aig) in
       record {
-        shape = mapped-shape (replaced stands) c d (replaced-inputs stands c.aig) refl;
+        shape = mapped-shape (replaced substitutes) c d (replaced-inputs substitutes c.aig) refl;
         places = record { rising = same.places.rising; below = same.places.below; each = same.places.each ∙ sym free };
-        values = λ x f t. replaced-properties stands c valid netlist kept-within kept-right x (chosen (all_free c.aig) f) t ∙ same.values x f t;
+        values = λ x f t. replaced-properties substitutes c valid netlist kept-within kept-right x (chosen (all_free c.aig) f) t ∙ same.values x f t;
       }
 
 -- the same of a merged circuit

@@ -12,7 +12,7 @@ use Rattle.variable_tables.proofs.TableLaws.{length-table, table-at}
 use Rattle.cleaned_circuits.specs.Latches.{constant_of}
 use Rattle.cleaned_circuits.specs.Merged.{replaced}
 use Rattle.cleaned_circuits.proofs.LatchLaws.{constant-even}
-use Rattle.cleaned_circuits.proofs.StandLaws.{AreLeaves}
+use Rattle.cleaned_circuits.proofs.SubstituteLaws.{AreLeaves}
 use Rattle.merged_latches.specs.Readings.{own_literal, read, from_reset, ReadsAs, as_itself, as_constant, as_first, IsReading, leaves}
 
 -- negated twice

@@ -10,7 +10,7 @@ use Rattle.aig_graph.specs.declared.graph.Gate.{Gate}
 use Rattle.aig_graph.specs.Graph.{variable}
 use Rattle.aig_graph.specs.Value.{signed_as}
 use Rattle.aig_graph.specs.Building.{gate_of}
-use Rattle.cleaned_circuits.specs.Merged.{replaced, is_gate, known_stand, stand_or_own, kept_after}
+use Rattle.cleaned_circuits.specs.Merged.{replaced, same_fan_ins, known_substitute, substitute_or_own, kept_after}
 
 -- a literal that is found among some gates is found among more
 lookup-more : (test : Gate → Bool) (es : List (Gate × ℕ)) (gate : Gate) (v w : ℕ) → lookup test es ≡ Some w → lookup test (es ++ (gate, v) ∷ []) ≡ Some w
@@ -30,8 +30,8 @@ lookup-last test (e0 ∷ es) gate v passes none = elim (cases_Bool (test e0.0)) 
       ∙ lookup-last test es gate v passes (sym (cond-false (test e0.0) (Some e0.1) (lookup test es) other) ∙ none)
 ]
 
-is_gate-self : (gate : Gate) → is_gate gate gate ≡ true
-is_gate-self gate = and_from (nat_eq gate.rhs0 gate.rhs0) (nat_eq gate.rhs1 gate.rhs1) (eq-eqb gate.rhs0 gate.rhs0 refl) (eq-eqb gate.rhs1 gate.rhs1 refl)
+same_fan_ins-self : (gate : Gate) → same_fan_ins gate gate ≡ true
+same_fan_ins-self gate = and_from (nat_eq gate.rhs0 gate.rhs0) (nat_eq gate.rhs1 gate.rhs1) (eq-eqb gate.rhs0 gate.rhs0 refl) (eq-eqb gate.rhs1 gate.rhs1 refl)
 
 -- what a gate comes down to, where this was found among the kept gates
 abbrev or_found : Gate → Option ℕ → Option ℕ
@@ -72,24 +72,24 @@ comes gate =
     ]
 
 -- a 0 gives 0
-pub comes-zero : (kept : List (Gate × ℕ)) (gate : Gate) → gate.rhs1 ≡ 0 → known_stand kept gate ≡ Some 0
+pub comes-zero : (kept : List (Gate × ℕ)) (gate : Gate) → gate.rhs1 ≡ 0 → known_substitute kept gate ≡ Some 0
 comes-zero kept gate e = cond-true (nat_eq gate.rhs1 0) (Some 0) _ (eq-eqb gate.rhs1 0 e)
 
 -- where the smaller literal isn't 0
 comes-more : (kept : List (Gate × ℕ)) (gate : Gate) (o : Option ℕ) → (gate.rhs1 ≡ 0 → ⊥)
-    → cond (nat_eq gate.rhs1 1) (Some gate.rhs0) (cond (nat_eq gate.rhs0 gate.rhs1) (Some gate.rhs0) (cond (nat_eq (variable gate.rhs0) (variable gate.rhs1)) (Some 0) (lookup (is_gate gate) kept))) ≡ o
-    → known_stand kept gate ≡ o
+    → cond (nat_eq gate.rhs1 1) (Some gate.rhs0) (cond (nat_eq gate.rhs0 gate.rhs1) (Some gate.rhs0) (cond (nat_eq (variable gate.rhs0) (variable gate.rhs1)) (Some 0) (lookup (same_fan_ins gate) kept))) ≡ o
+    → known_substitute kept gate ≡ o
 comes-more kept gate o more e = elim (cases_Bool (nat_eq gate.rhs1 0)) [
   | inl is ↦ absurd (more (eqb-true gate.rhs1 0 is))
   | inr other ↦ cond-false (nat_eq gate.rhs1 0) (Some 0) _ other ∙ e
 ]
 
 -- a 1 gives the other, and so does an equal one
-pub comes-one : (kept : List (Gate × ℕ)) (gate : Gate) → gate.rhs1 ≡ 1 → known_stand kept gate ≡ Some gate.rhs0
+pub comes-one : (kept : List (Gate × ℕ)) (gate : Gate) → gate.rhs1 ≡ 1 → known_substitute kept gate ≡ Some gate.rhs0
 comes-one kept gate e = comes-more kept gate (Some gate.rhs0) (λ is. absurd (omega (arith, is, e))) (cond-true (nat_eq gate.rhs1 1) (Some gate.rhs0) _ (eq-eqb gate.rhs1 1 e))
 
 -- so does an equal one
-pub comes-equal : (kept : List (Gate × ℕ)) (gate : Gate) → gate.rhs0 ≡ gate.rhs1 → known_stand kept gate ≡ Some gate.rhs0
+pub comes-equal : (kept : List (Gate × ℕ)) (gate : Gate) → gate.rhs0 ≡ gate.rhs1 → known_substitute kept gate ≡ Some gate.rhs0
 comes-equal kept gate e = elim (cases_eq gate.rhs1 0) [
   | inl is ↦ comes-zero kept gate is ∙ ap (λ (n : ℕ). Some n) (sym (e ∙ is))
   | inr more ↦ comes-more kept gate (Some gate.rhs0) more (elim (cases_Bool (nat_eq gate.rhs1 1)) [
@@ -99,7 +99,7 @@ comes-equal kept gate e = elim (cases_eq gate.rhs1 0) [
 ]
 
 -- opposite ones give 0
-pub comes-opposite : (kept : List (Gate × ℕ)) (gate : Gate) → gate.rhs1 ≤ gate.rhs0 → (gate.rhs0 ≡ gate.rhs1 → ⊥) → variable gate.rhs0 ≡ variable gate.rhs1 → known_stand kept gate ≡ Some 0
+pub comes-opposite : (kept : List (Gate × ℕ)) (gate : Gate) → gate.rhs1 ≤ gate.rhs0 → (gate.rhs0 ≡ gate.rhs1 → ⊥) → variable gate.rhs0 ≡ variable gate.rhs1 → known_substitute kept gate ≡ Some 0
 comes-opposite kept gate ordered other same = elim (cases_eq gate.rhs1 0) [
   | inl is ↦ comes-zero kept gate is
   | inr more ↦ comes-more kept gate (Some 0) more (elim (cases_Bool (nat_eq gate.rhs1 1)) [
@@ -113,20 +113,20 @@ comes-opposite kept gate ordered other same = elim (cases_eq gate.rhs1 0) [
 ]
 
 -- among more gates a gate comes down to the same, and a kept one to its own literal
-pub known-more : (kept : List (Gate × ℕ)) (own : ℕ) (pair : Gate) (o : Option ℕ) (gate : Gate) (y : ℕ) → known_stand kept gate ≡ Some y → known_stand (kept_after kept own pair o) gate ≡ Some y
+pub known-more : (kept : List (Gate × ℕ)) (own : ℕ) (pair : Gate) (o : Option ℕ) (gate : Gate) (y : ℕ) → known_substitute kept gate ≡ Some y → known_substitute (kept_after kept own pair o) gate ≡ Some y
 known-more kept own pair (Some s) gate y e = e
 known-more kept own pair None gate y e = elim (comes gate) [
-  | by_itself s is ↦ is (lookup (is_gate gate) (kept ++ (pair, own) ∷ [])) ∙ sym (is (lookup (is_gate gate) kept)) ∙ e
-  | as_found is ↦ is (lookup (is_gate gate) (kept ++ (pair, own) ∷ [])) ∙ lookup-more (is_gate gate) kept pair own y (sym (is (lookup (is_gate gate) kept)) ∙ e)
+  | by_itself s is ↦ is (lookup (same_fan_ins gate) (kept ++ (pair, own) ∷ [])) ∙ sym (is (lookup (same_fan_ins gate) kept)) ∙ e
+  | as_found is ↦ is (lookup (same_fan_ins gate) (kept ++ (pair, own) ∷ [])) ∙ lookup-more (same_fan_ins gate) kept pair own y (sym (is (lookup (same_fan_ins gate) kept)) ∙ e)
 ]
 
 -- a kept gate comes down to its own literal
-pub known-own : (kept : List (Gate × ℕ)) (own : ℕ) (pair : Gate) (o : Option ℕ) → known_stand kept pair ≡ o → known_stand (kept_after kept own pair o) pair ≡ Some (stand_or_own own o)
+pub known-own : (kept : List (Gate × ℕ)) (own : ℕ) (pair : Gate) (o : Option ℕ) → known_substitute kept pair ≡ o → known_substitute (kept_after kept own pair o) pair ≡ Some (substitute_or_own own o)
 known-own kept own pair (Some s) e = e
 known-own kept own pair None e = elim (comes pair) [
-  | by_itself s is ↦ absurd (none-some s (sym e ∙ is (lookup (is_gate pair) kept)))
-  | as_found is ↦ is (lookup (is_gate pair) (kept ++ (pair, own) ∷ []))
-      ∙ lookup-last (is_gate pair) kept pair own (is_gate-self pair) (sym (is (lookup (is_gate pair) kept)) ∙ e)
+  | by_itself s is ↦ absurd (none-some s (sym e ∙ is (lookup (same_fan_ins pair) kept)))
+  | as_found is ↦ is (lookup (same_fan_ins pair) (kept ++ (pair, own) ∷ []))
+      ∙ lookup-last (same_fan_ins pair) kept pair own (same_fan_ins-self pair) (sym (is (lookup (same_fan_ins pair) kept)) ∙ e)
 ]
 
 gate_is : (a b c d : ℕ) → a ≡ c → b ≡ d → ◌≡◌ {A = Gate} (record { rhs0 = a; rhs1 = b }) (record { rhs0 = c; rhs1 = d })
@@ -143,18 +143,18 @@ signed_as-joined : (a b base : ℕ) → signed_as (signed_as a b) base ≡ signe
 signed_as-joined a b base = omega arith
 
 -- the sign of a literal stays
-pub replaced-signed : (stands : List ℕ) (lit base : ℕ) → replaced stands (signed_as lit base) ≡ signed_as lit (replaced stands base)
-replaced-signed stands lit base =
+pub replaced-signed : (substitutes : List ℕ) (lit base : ℕ) → replaced substitutes (signed_as lit base) ≡ signed_as lit (replaced substitutes base)
+replaced-signed substitutes lit base =
     let same : variable (signed_as lit base) ≡ variable base = omega arith in
-    ap (λ (v : ℕ). signed_as (signed_as lit base) (get_or stands v 0)) same ∙ signed_as-joined lit base (get_or stands (variable base) 0)
+    ap (λ (v : ℕ). signed_as (signed_as lit base) (get_or substitutes v 0)) same ∙ signed_as-joined lit base (get_or substitutes (variable base) 0)
 
 -- one more entry changes no earlier one
-pub replaced-push : (stands : List ℕ) (y lit : ℕ) → variable lit < length stands → replaced (stands ++ y ∷ []) lit ≡ replaced stands lit
-replaced-push stands y lit h = ap (signed_as lit) (get_or_append_left stands (y ∷ []) 0 (variable lit) h)
+pub replaced-push : (substitutes : List ℕ) (y lit : ℕ) → variable lit < length substitutes → replaced (substitutes ++ y ∷ []) lit ≡ replaced substitutes lit
+replaced-push substitutes y lit h = ap (signed_as lit) (get_or_append_left substitutes (y ∷ []) 0 (variable lit) h)
 
 -- and stands for its own variable
-pub replaced-last : (stands : List ℕ) (y : ℕ) → replaced (stands ++ y ∷ []) (2 * length stands) ≡ y
-replaced-last stands y =
-    let place : variable (2 * length stands) ≡ length stands = omega arith in
-    ap (λ (v : ℕ). signed_as (2 * length stands) (get_or (stands ++ y ∷ []) v 0)) place
-    ∙ ap (signed_as (2 * length stands)) (get_or_push stands y 0 (length stands) refl) ∙ omega arith
+pub replaced-last : (substitutes : List ℕ) (y : ℕ) → replaced (substitutes ++ y ∷ []) (2 * length substitutes) ≡ y
+replaced-last substitutes y =
+    let place : variable (2 * length substitutes) ≡ length substitutes = omega arith in
+    ap (λ (v : ℕ). signed_as (2 * length substitutes) (get_or (substitutes ++ y ∷ []) v 0)) place
+    ∙ ap (signed_as (2 * length substitutes)) (get_or_push substitutes y 0 (length substitutes) refl) ∙ omega arith

@@ -15,8 +15,8 @@ use Rattle.variable_tables.specs.Marking.{has}
 use Rattle.cleaned_circuits.specs.Latches.{constant_of}
 use Rattle.cleaned_circuits.specs.Merged.{replaced}
 use Rattle.cleaned_circuits.proofs.LatchLaws.{constant-even}
-use Rattle.cleaned_circuits.proofs.StandLaws.{replaced_after-value}
-use Rattle.merged_latches.specs.Readings.{own_literal, read, may_merge, from_reset, ReadsAs, as_itself, as_constant, as_first, leaves, stands_by, told}
+use Rattle.cleaned_circuits.proofs.SubstituteLaws.{replaced_after-value}
+use Rattle.merged_latches.specs.Readings.{own_literal, read, may_merge, from_reset, ReadsAs, as_itself, as_constant, as_first, leaves, substitutes_by, told}
 use Rattle.merged_latches.specs.Partitions.{IsKept}
 use Rattle.merged_latches.proofs.ReadingLaws.{leaf-low, leaf-latch, are-leaves}
 
@@ -68,9 +68,9 @@ module _ (g : Graph) (held reads : List ℕ) (valid : IsGraph g) (kept : IsKept 
         ∙ agree (v - first_latch g) there.0 there.1 ∙ ap (λ (w : ℕ). vals t (2 * w)) place)
   ]
 
-  told-value : (t : ℕ) → Agree t → (j : ℕ) (latch : Latch) → slice_get g.latches j ≡ Some latch → vals t (told (stands_by g reads) latch) ≡ flipped latch.reset (vals t latch.next)
+  told-value : (t : ℕ) → Agree t → (j : ℕ) (latch : Latch) → slice_get g.latches j ≡ Some latch → vals t (told (substitutes_by g reads) latch) ≡ flipped latch.reset (vals t latch.next)
   told-value t agree j latch there =
-      from_reset-value t latch.reset (replaced (stands_by g reads) latch.next)
+      from_reset-value t latch.reset (replaced (substitutes_by g reads) latch.next)
       ∙ ap (flipped latch.reset) (replaced_after-value g (leaves g reads) (are-leaves g held reads kept.reading) valid x f t (leaf-value t agree) latch.next (valid.latches j latch there))
 
   begins : (j : ℕ) (latch : Latch) → slice_get g.latches j ≡ Some latch → is_free latch ≡ false → vals 0 (own_literal g j) ≡ flipped latch.reset false
@@ -97,12 +97,12 @@ module _ (g : Graph) (held reads : List ℕ) (valid : IsGraph g) (kept : IsKept 
   at-later : (t : ℕ) → Agree t → (j : ℕ) (latch : Latch) (lit : ℕ) → slice_get g.latches j ≡ Some latch → read reads j ≡ lit → ReadsAs g held reads j latch lit → vals (suc t) lit ≡ vals (suc t) (own_literal g j)
   at-later t agree j latch lit there is (as_itself e) = ap (vals (suc t)) e
   at-later t agree j latch lit there is (as_constant may e) =
-      let zero_told : told (stands_by g reads) latch ≡ 0 = kept.constants j latch there (omega (arith, is, e, constant-even latch.reset)) in
+      let zero_told : told (substitutes_by g reads) latch ≡ 0 = kept.constants j latch there (omega (arith, is, e, constant-even latch.reset)) in
       let stays : flipped latch.reset (vals t latch.next) ≡ false = sym (told-value t agree j latch there) ∙ ap (vals t) zero_told ∙ laws.constant t in
       ap (vals (suc t)) e ∙ constant-value (suc t) latch.reset ∙ ap (flipped latch.reset) (sym stays)
       ∙ flipped-twice latch.reset (vals t latch.next) ∙ sym (later t j latch there)
   at-later t agree j latch lit there is (as_first i first less first_there may may_first own e) =
-      let same : told (stands_by g reads) latch ≡ told (stands_by g reads) first = kept.alike j i latch first there first_there (omega (arith, is, e)) in
+      let same : told (substitutes_by g reads) latch ≡ told (substitutes_by g reads) first = kept.alike j i latch first there first_there (omega (arith, is, e)) in
       let both : flipped first.reset (vals t first.next) ≡ flipped latch.reset (vals t latch.next) =
       sym (told-value t agree i first first_there) ∙ ap (vals t) (sym same) ∙ told-value t agree j latch there in
       first-value (suc t) j i latch first lit e
@@ -115,5 +115,5 @@ module _ (g : Graph) (held reads : List ℕ) (valid : IsGraph g) (kept : IsKept 
   agree-always (suc t) = λ j latch there. at-later t (agree-always t) j latch (read reads j) there refl (kept.reading.each j latch there)
 
   -- what stands for a literal has its value
-  pub stands_by-value : (t lit : ℕ) → variable lit < variables_end g → value g x f t (replaced (stands_by g reads) lit) ≡ value g x f t lit
-  stands_by-value t lit h = replaced_after-value g (leaves g reads) (are-leaves g held reads kept.reading) valid x f t (leaf-value t (agree-always t)) lit h
+  pub substitutes_by-value : (t lit : ℕ) → variable lit < variables_end g → value g x f t (replaced (substitutes_by g reads) lit) ≡ value g x f t lit
+  substitutes_by-value t lit h = replaced_after-value g (leaves g reads) (are-leaves g held reads kept.reading) valid x f t (leaf-value t (agree-always t)) lit h

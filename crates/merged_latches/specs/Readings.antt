@@ -8,7 +8,7 @@ use Rattle.aig_graph.specs.Value.{signed_as}
 use Rattle.variable_tables.specs.Marking.{has}
 use Rattle.variable_tables.specs.Tables.{table}
 use Rattle.cleaned_circuits.specs.Latches.{constant_of}
-use Rattle.cleaned_circuits.specs.Merged.{replaced, stands_after}
+use Rattle.cleaned_circuits.specs.Merged.{replaced, substitutes_after}
 
 -- the literal of latch j
 abbrev pub own_literal : Graph → ℕ → ℕ
@@ -44,9 +44,9 @@ unfoldable pub leaves : Graph → List ℕ → List ℕ
 leaves g reads = table 0 (first_latch g) (λ v. 2 * v) ++ reads
 
 -- by variable what stands for it, where latches read so: gates come down to literals, or to an earlier gate, as in a pass of cleaning
-abbrev pub stands_by : Graph → List ℕ → List ℕ
-stands_by g reads = stands_after g (leaves g reads)
+abbrev pub substitutes_by : Graph → List ℕ → List ℕ
+substitutes_by g reads = substitutes_after g (leaves g reads)
 
 -- what a latch is told: what stands for its next literal, negated where its reset is 1
 abbrev pub told : List ℕ → Latch → ℕ
-told stands latch = from_reset latch.reset (replaced stands latch.next)
+told substitutes latch = from_reset latch.reset (replaced substitutes latch.next)

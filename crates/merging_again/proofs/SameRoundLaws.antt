@@ -6,7 +6,7 @@ use Rattle.variable_tables.specs.Tables.{table}
 use Rattle.variable_tables.proofs.TableLaws.{table-same}
 use Rattle.cleaned_circuits.specs.Merged.{replaced_graph, replaced_latch}
 use Rattle.cleaned_circuits.proofs.MergedLaws.{length-replaced_latches, replaced-latch}
-use Rattle.merged_latches.specs.Readings.{from_reset, may_merge, own_literal, read, stands_by, told}
+use Rattle.merged_latches.specs.Readings.{from_reset, may_merge, own_literal, read, substitutes_by, told}
 use Rattle.latch_merging.specs.Rounds.{first_read, first_round, first_told, is_told, is_told_at, next_read, next_round, or_else, read_first, round_by, started, told_of}
 
 -- what is past a list is past its map
@@ -15,81 +15,81 @@ map-none f [] k e = refl
 map-none f (x ∷ xs) zero e = absurd (cc)
 map-none f (x ∷ xs) (suc k) e = map-none f xs k e
 
-module _ (g : Graph) (held stands : List ℕ) where
-  latch-none : (j : ℕ) → slice_get g.latches j ≡ None → slice_get (replaced_graph stands g).latches j ≡ None
+module _ (g : Graph) (held substitutes : List ℕ) where
+  latch-none : (j : ℕ) → slice_get g.latches j ≡ None → slice_get (replaced_graph substitutes g).latches j ≡ None
   unfolding replaced_graph
-  latch-none j e = map-none (replaced_latch stands) g.latches j e
+  latch-none j e = map-none (replaced_latch substitutes) g.latches j e
 
   module _ (other : List ℕ) (same : (j : ℕ) (latch : Latch) → slice_get g.latches j ≡ Some latch
-      → told (stands_by (replaced_graph stands g) other) (replaced_latch stands latch) ≡ told (stands_by g other) latch) where
+      → told (substitutes_by (replaced_graph substitutes g) other) (replaced_latch substitutes latch) ≡ told (substitutes_by g other) latch) where
     here-same : (a b n : ℕ)
-        → cond (is_told_at held (told_of (replaced_graph stands g) other) (record { class = a; literal = b }) n (slice_get (replaced_graph stands g).latches n))
-        (Some (started (replaced_graph stands g) n (slice_get (replaced_graph stands g).latches n))) None
+        → cond (is_told_at held (told_of (replaced_graph substitutes g) other) (record { class = a; literal = b }) n (slice_get (replaced_graph substitutes g).latches n))
+        (Some (started (replaced_graph substitutes g) n (slice_get (replaced_graph substitutes g).latches n))) None
         ≡ cond (is_told_at held (told_of g other) (record { class = a; literal = b }) n (slice_get g.latches n)) (Some (started g n (slice_get g.latches n))) None
     unfolding replaced_graph
     here-same a b n = go (slice_get g.latches n) refl
       where
         go : (o : Option Latch) → slice_get g.latches n ≡ o
-            → cond (is_told_at held (told_of (replaced_graph stands g) other) (record { class = a; literal = b }) n (slice_get (replaced_graph stands g).latches n))
-            (Some (started (replaced_graph stands g) n (slice_get (replaced_graph stands g).latches n))) None
+            → cond (is_told_at held (told_of (replaced_graph substitutes g) other) (record { class = a; literal = b }) n (slice_get (replaced_graph substitutes g).latches n))
+            (Some (started (replaced_graph substitutes g) n (slice_get (replaced_graph substitutes g).latches n))) None
             ≡ cond (is_told_at held (told_of g other) (record { class = a; literal = b }) n (slice_get g.latches n)) (Some (started g n (slice_get g.latches n))) None
         go None e =
-            ap (λ (x : Option Latch). cond (is_told_at held (told_of (replaced_graph stands g) other) (record { class = a; literal = b }) n x) (Some (started (replaced_graph stands g) n x)) None) (latch-none n e)
+            ap (λ (x : Option Latch). cond (is_told_at held (told_of (replaced_graph substitutes g) other) (record { class = a; literal = b }) n x) (Some (started (replaced_graph substitutes g) n x)) None) (latch-none n e)
             ∙ sym (ap (λ (x : Option Latch). cond (is_told_at held (told_of g other) (record { class = a; literal = b }) n x) (Some (started g n x)) None) e)
         go (Some latch) e =
-            ap (λ (x : Option Latch). cond (is_told_at held (told_of (replaced_graph stands g) other) (record { class = a; literal = b }) n x) (Some (started (replaced_graph stands g) n x)) None)
-            (replaced-latch stands g n latch e)
+            ap (λ (x : Option Latch). cond (is_told_at held (told_of (replaced_graph substitutes g) other) (record { class = a; literal = b }) n x) (Some (started (replaced_graph substitutes g) n x)) None)
+            (replaced-latch substitutes g n latch e)
             ∙ ap (λ (l : ℕ). cond (may_merge held n latch && is_told (record { class = a; literal = b }) (record { class = from_reset latch.reset (read other n); literal = l }))
             (Some (from_reset latch.reset (own_literal g n))) None) (same n latch e)
             ∙ sym (ap (λ (x : Option Latch). cond (is_told_at held (told_of g other) (record { class = a; literal = b }) n x) (Some (started g n x)) None) e)
 
-    first-same : (a b n : ℕ) → first_told (replaced_graph stands g) held (told_of (replaced_graph stands g) other) (record { class = a; literal = b }) n
+    first-same : (a b n : ℕ) → first_told (replaced_graph substitutes g) held (told_of (replaced_graph substitutes g) other) (record { class = a; literal = b }) n
         ≡ first_told g held (told_of g other) (record { class = a; literal = b }) n
     unfolding first_told
     first-same a b zero = refl
     first-same a b (suc n) =
         ap (λ (o : Option ℕ). or_else o
-        (cond (is_told_at held (told_of (replaced_graph stands g) other) (record { class = a; literal = b }) n (slice_get (replaced_graph stands g).latches n))
-        (Some (started (replaced_graph stands g) n (slice_get (replaced_graph stands g).latches n))) None)) (first-same a b n)
+        (cond (is_told_at held (told_of (replaced_graph substitutes g) other) (record { class = a; literal = b }) n (slice_get (replaced_graph substitutes g).latches n))
+        (Some (started (replaced_graph substitutes g) n (slice_get (replaced_graph substitutes g).latches n))) None)) (first-same a b n)
         ∙ ap (or_else (first_told g held (told_of g other) (record { class = a; literal = b }) n)) (here-same a b n)
 
-    read-same : (j : ℕ) → next_read (replaced_graph stands g) held (told_of (replaced_graph stands g) other) j (slice_get (replaced_graph stands g).latches j)
+    read-same : (j : ℕ) → next_read (replaced_graph substitutes g) held (told_of (replaced_graph substitutes g) other) j (slice_get (replaced_graph substitutes g).latches j)
         ≡ next_read g held (told_of g other) j (slice_get g.latches j)
     unfolding replaced_graph
     read-same j = go (slice_get g.latches j) refl
       where
         go : (o : Option Latch) → slice_get g.latches j ≡ o
-            → next_read (replaced_graph stands g) held (told_of (replaced_graph stands g) other) j (slice_get (replaced_graph stands g).latches j)
+            → next_read (replaced_graph substitutes g) held (told_of (replaced_graph substitutes g) other) j (slice_get (replaced_graph substitutes g).latches j)
             ≡ next_read g held (told_of g other) j (slice_get g.latches j)
-        go None e = ap (next_read (replaced_graph stands g) held (told_of (replaced_graph stands g) other) j) (latch-none j e) ∙ sym (ap (next_read g held (told_of g other) j) e)
+        go None e = ap (next_read (replaced_graph substitutes g) held (told_of (replaced_graph substitutes g) other) j) (latch-none j e) ∙ sym (ap (next_read g held (told_of g other) j) e)
         go (Some latch) e =
             let class : ℕ = from_reset latch.reset (read other j) in
-            ap (next_read (replaced_graph stands g) held (told_of (replaced_graph stands g) other) j) (replaced-latch stands g j latch e)
+            ap (next_read (replaced_graph substitutes g) held (told_of (replaced_graph substitutes g) other) j) (replaced-latch substitutes g j latch e)
             ∙ ap (read_first g held j latch)
-            (first-same class (told (stands_by (replaced_graph stands g) other) (replaced_latch stands latch)) j
+            (first-same class (told (substitutes_by (replaced_graph substitutes g) other) (replaced_latch substitutes latch)) j
             ∙ ap (λ (l : ℕ). first_told g held (told_of g other) (record { class = class; literal = l }) j) (same j latch e))
             ∙ sym (ap (next_read g held (told_of g other) j) e)
 
-    pub round-same : next_round (replaced_graph stands g) held other ≡ next_round g held other
+    pub round-same : next_round (replaced_graph substitutes g) held other ≡ next_round g held other
     unfolding round_by
     round-same =
-        ap (λ (n : ℕ). table 0 n (λ j. next_read (replaced_graph stands g) held (told_of (replaced_graph stands g) other) j (slice_get (replaced_graph stands g).latches j)))
-        (length-replaced_latches stands g)
-        ∙ table-same 0 (length g.latches) (λ j. next_read (replaced_graph stands g) held (told_of (replaced_graph stands g) other) j (slice_get (replaced_graph stands g).latches j))
+        ap (λ (n : ℕ). table 0 n (λ j. next_read (replaced_graph substitutes g) held (told_of (replaced_graph substitutes g) other) j (slice_get (replaced_graph substitutes g).latches j)))
+        (length-replaced_latches substitutes g)
+        ∙ table-same 0 (length g.latches) (λ j. next_read (replaced_graph substitutes g) held (told_of (replaced_graph substitutes g) other) j (slice_get (replaced_graph substitutes g).latches j))
         (λ j. next_read g held (told_of g other) j (slice_get g.latches j)) 0 (λ j from below. read-same j)
 
-  begin-same : (j : ℕ) → first_read (replaced_graph stands g) held j (slice_get (replaced_graph stands g).latches j) ≡ first_read g held j (slice_get g.latches j)
+  begin-same : (j : ℕ) → first_read (replaced_graph substitutes g) held j (slice_get (replaced_graph substitutes g).latches j) ≡ first_read g held j (slice_get g.latches j)
   unfolding replaced_graph
   begin-same j = go (slice_get g.latches j) refl
     where
-      go : (o : Option Latch) → slice_get g.latches j ≡ o → first_read (replaced_graph stands g) held j (slice_get (replaced_graph stands g).latches j) ≡ first_read g held j (slice_get g.latches j)
-      go None e = ap (first_read (replaced_graph stands g) held j) (latch-none j e) ∙ sym (ap (first_read g held j) e)
-      go (Some latch) e = ap (first_read (replaced_graph stands g) held j) (replaced-latch stands g j latch e) ∙ sym (ap (first_read g held j) e)
+      go : (o : Option Latch) → slice_get g.latches j ≡ o → first_read (replaced_graph substitutes g) held j (slice_get (replaced_graph substitutes g).latches j) ≡ first_read g held j (slice_get g.latches j)
+      go None e = ap (first_read (replaced_graph substitutes g) held j) (latch-none j e) ∙ sym (ap (first_read g held j) e)
+      go (Some latch) e = ap (first_read (replaced_graph substitutes g) held j) (replaced-latch substitutes g j latch e) ∙ sym (ap (first_read g held j) e)
 
   -- before the first round
-  pub first_round-same : first_round (replaced_graph stands g) held ≡ first_round g held
+  pub first_round-same : first_round (replaced_graph substitutes g) held ≡ first_round g held
   unfolding first_round
   first_round-same =
-      ap (λ (n : ℕ). table 0 n (λ j. first_read (replaced_graph stands g) held j (slice_get (replaced_graph stands g).latches j))) (length-replaced_latches stands g)
-      ∙ table-same 0 (length g.latches) (λ j. first_read (replaced_graph stands g) held j (slice_get (replaced_graph stands g).latches j))
+      ap (λ (n : ℕ). table 0 n (λ j. first_read (replaced_graph substitutes g) held j (slice_get (replaced_graph substitutes g).latches j))) (length-replaced_latches substitutes g)
+      ∙ table-same 0 (length g.latches) (λ j. first_read (replaced_graph substitutes g) held j (slice_get (replaced_graph substitutes g).latches j))
       (λ j. first_read g held j (slice_get g.latches j)) 0 (λ j from below. begin-same j)

@@ -13,9 +13,9 @@ use Rattle.aig_graph.specs.Streams.{chosen}
 use Rattle.aig_graph.specs.Value.{Choice, next_value, opening, opening_at, signed, value_within}
 use Rattle.aig_graph.specs.declared.graph.Latch.{Latch}
 use Rattle.cleaned_circuits.specs.Merged.{replaced, replaced_gate, replaced_latch, replaced_graph, replaced_circuit}
-use Rattle.cleaned_circuits.proofs.StandLaws.{after-within}
-use Rattle.cleaned_circuits.proofs.MergedLaws.{IsGraph-replaced, StandsWithin, length-replaced_latches, replaced-inputs, replaced-first_latch, replaced-first_gate, replaced-latch, replaced-gate, replaced-free_before}
-use Rattle.merged_latches.specs.Readings.{leaves, stands_by}
+use Rattle.cleaned_circuits.proofs.SubstituteLaws.{after-within}
+use Rattle.cleaned_circuits.proofs.MergedLaws.{IsGraph-replaced, SubstitutesWithin, length-replaced_latches, replaced-inputs, replaced-first_latch, replaced-first_gate, replaced-latch, replaced-gate, replaced-free_before}
+use Rattle.merged_latches.specs.Readings.{leaves, substitutes_by}
 use Rattle.merged_latches.specs.Partitions.{IsKept}
 use Rattle.merged_latches.proofs.ReadingLaws.{are-leaves}
 use Rattle.state_maps.specs.States.{Digits, IsStateMap, State, after_step, opening_state}
@@ -25,30 +25,30 @@ use Rattle.state_maps.proofs.MapLaws.{funext, mapped-reads, opening-same, slice_
 use Rattle.state_maps.proofs.WithinLaws.{WithinLaws, within_laws}
 use Rattle.merging_maps.specs.States.{ReadsHold, reads_right}
 use Rattle.merging_maps.specs.Laws.{HasMergingMap, MergingMaps}
-use Rattle.merging_maps.proofs.ReadsHoldLaws.{holds-test, reads-first, reads-keep, stands-value, test-holds}
+use Rattle.merging_maps.proofs.ReadsHoldLaws.{holds-test, reads-first, reads-keep, substitutes-value, test-holds}
 
 module _ (g : Graph) (held reads : List ℕ) (valid : IsGraph g) (kept : IsKept g held reads) where
-  within-each : StandsWithin g (stands_by g reads)
+  within-each : SubstitutesWithin g (substitutes_by g reads)
   within-each = after-within g (leaves g reads) (are-leaves g held reads kept.reading) valid
 
-  whole : IsGraph (replaced_graph (stands_by g reads) g)
-  whole = IsGraph-replaced g (stands_by g reads) valid within-each
+  whole : IsGraph (replaced_graph (substitutes_by g reads) g)
+  whole = IsGraph-replaced g (substitutes_by g reads) valid within-each
 
   -- latches begin as they did
-  merged-first : (f : Choice) → opening_state (replaced_graph (stands_by g reads) g) f ≡ opening_state g f
+  merged-first : (f : Choice) → opening_state (replaced_graph (substitutes_by g reads) g) f ≡ opening_state g f
   unfolding replaced_graph
   merged-first f = funext _ _ at
     where
-      at : (j : ℕ) → opening_state (replaced_graph (stands_by g reads) g) f j ≡ opening_state g f j
+      at : (j : ℕ) → opening_state (replaced_graph (substitutes_by g reads) g) f j ≡ opening_state g f j
       at j = go (slice_get g.latches j) refl
         where
-          go : (o : Option Latch) → slice_get g.latches j ≡ o → opening_state (replaced_graph (stands_by g reads) g) f j ≡ opening_state g f j
+          go : (o : Option Latch) → slice_get g.latches j ≡ o → opening_state (replaced_graph (substitutes_by g reads) g) f j ≡ opening_state g f j
           go None e =
-              ap (opening_at (replaced_graph (stands_by g reads) g) f j) (slice_get-map_none (replaced_latch (stands_by g reads)) g.latches j e)
+              ap (opening_at (replaced_graph (substitutes_by g reads) g) f j) (slice_get-map_none (replaced_latch (substitutes_by g reads)) g.latches j e)
               ∙ sym (ap (opening_at g f j) e)
           go (Some latch) e =
-              ap (opening_at (replaced_graph (stands_by g reads) g) f j) (replaced-latch (stands_by g reads) g j latch e)
-              ∙ ap (λ (n : ℕ). opening latch.reset (f n)) (replaced-free_before (stands_by g reads) g j)
+              ap (opening_at (replaced_graph (substitutes_by g reads) g) f j) (replaced-latch (substitutes_by g reads) g j latch e)
+              ∙ ap (λ (n : ℕ). opening latch.reset (f n)) (replaced-free_before (substitutes_by g reads) g j)
               ∙ sym (ap (opening_at g f j) e)
 
   -- the merged circuit, in one state
@@ -57,16 +57,16 @@ module _ (g : Graph) (held reads : List ℕ) (valid : IsGraph g) (kept : IsKept 
     vals lit = value_within g x s lit
 
     abbrev after : ℕ → Bool
-    after lit = value_within (replaced_graph (stands_by g reads) g) x s lit
+    after lit = value_within (replaced_graph (substitutes_by g reads) g) x s lit
 
     laws : WithinLaws g x s vals
     laws = within_laws g valid x s
 
-    after-laws : WithinLaws (replaced_graph (stands_by g reads) g) x s after
-    after-laws = within_laws (replaced_graph (stands_by g reads) g) whole x s
+    after-laws : WithinLaws (replaced_graph (substitutes_by g reads) g) x s after
+    after-laws = within_laws (replaced_graph (substitutes_by g reads) g) whole x s
 
-    stand-value : (lit : ℕ) → variable lit < variables_end g → vals (replaced (stands_by g reads) lit) ≡ vals lit
-    stand-value lit h = stands-value g held reads valid kept x s holds lit h
+    substitute-value : (lit : ℕ) → variable lit < variables_end g → vals (replaced (substitutes_by g reads) lit) ≡ vals lit
+    substitute-value lit h = substitutes-value g held reads valid kept x s holds lit h
 
     signed-same : (lit : ℕ) → after (2 * variable lit) ≡ vals (2 * variable lit) → after lit ≡ vals lit
     signed-same lit same = value_signed after after-laws.negation lit ∙ ap (signed lit) same ∙ sym (value_signed vals laws.negation lit)
@@ -77,45 +77,45 @@ module _ (g : Graph) (held reads : List ℕ) (valid : IsGraph g) (kept : IsKept 
       | is_constant e ↦ (let zero_is : 2 * v ≡ 0 = omega arith in ap after zero_is ∙ after-laws.constant ∙ sym laws.constant ∙ ap vals (sym zero_is))
       | is_input i less e ↦ (
           let place : 2 * v ≡ 2 * (1 + i) = omega arith in
-          ap after place ∙ after-laws.input i (omega (arith, replaced-inputs (stands_by g reads) g)) ∙ sym (laws.input i less) ∙ ap vals (sym place))
+          ap after place ∙ after-laws.input i (omega (arith, replaced-inputs (substitutes_by g reads) g)) ∙ sym (laws.input i less) ∙ ap vals (sym place))
       | is_latch j latch there e ↦ (
           let place : 2 * v ≡ 2 * (first_latch g + j) = omega arith in
-          let new_place : 2 * v ≡ 2 * (first_latch (replaced_graph (stands_by g reads) g) + j) = omega (arith, replaced-first_latch (stands_by g reads) g) in
-          ap after new_place ∙ after-laws.latch j (replaced_latch (stands_by g reads) latch) (replaced-latch (stands_by g reads) g j latch there) ∙ sym (laws.latch j latch there) ∙ ap vals (sym place))
+          let new_place : 2 * v ≡ 2 * (first_latch (replaced_graph (substitutes_by g reads) g) + j) = omega (arith, replaced-first_latch (substitutes_by g reads) g) in
+          ap after new_place ∙ after-laws.latch j (replaced_latch (substitutes_by g reads) latch) (replaced-latch (substitutes_by g reads) g j latch there) ∙ sym (laws.latch j latch there) ∙ ap vals (sym place))
       | is_gate k gate there e ↦ (
           let at : IsGateAt (first_gate g + k) gate = valid.gates k gate there in
           let place : 2 * v ≡ 2 * (first_gate g + k) = omega arith in
-          let new_place : 2 * v ≡ 2 * (first_gate (replaced_graph (stands_by g reads) g) + k) = omega (arith, replaced-first_gate (stands_by g reads) g) in
-          let low0 : variable (replaced (stands_by g reads) gate.rhs0) ≤ variable gate.rhs0 = within-each gate.rhs0 (omega arith) in
-          let low1 : variable (replaced (stands_by g reads) gate.rhs1) ≤ variable gate.rhs1 = within-each gate.rhs1 (omega arith) in
-          let one : after (replaced (stands_by g reads) gate.rhs0) ≡ vals gate.rhs0 =
-          signed-same (replaced (stands_by g reads) gate.rhs0) (variable-value n (variable (replaced (stands_by g reads) gate.rhs0)) (omega arith) (omega arith)) ∙ stand-value gate.rhs0 (omega arith) in
-          let two : after (replaced (stands_by g reads) gate.rhs1) ≡ vals gate.rhs1 =
-          signed-same (replaced (stands_by g reads) gate.rhs1) (variable-value n (variable (replaced (stands_by g reads) gate.rhs1)) (omega arith) (omega arith)) ∙ stand-value gate.rhs1 (omega arith) in
-          ap after new_place ∙ after-laws.gate k (replaced_gate (stands_by g reads) gate) (replaced-gate (stands_by g reads) g k gate there)
-          ∙ value-gate_of after (replaced (stands_by g reads) gate.rhs0) (replaced (stands_by g reads) gate.rhs1)
-          ∙ ap (λ (b : Bool). b && after (replaced (stands_by g reads) gate.rhs1)) one ∙ ap (λ (b : Bool). vals gate.rhs0 && b) two
+          let new_place : 2 * v ≡ 2 * (first_gate (replaced_graph (substitutes_by g reads) g) + k) = omega (arith, replaced-first_gate (substitutes_by g reads) g) in
+          let low0 : variable (replaced (substitutes_by g reads) gate.rhs0) ≤ variable gate.rhs0 = within-each gate.rhs0 (omega arith) in
+          let low1 : variable (replaced (substitutes_by g reads) gate.rhs1) ≤ variable gate.rhs1 = within-each gate.rhs1 (omega arith) in
+          let one : after (replaced (substitutes_by g reads) gate.rhs0) ≡ vals gate.rhs0 =
+          signed-same (replaced (substitutes_by g reads) gate.rhs0) (variable-value n (variable (replaced (substitutes_by g reads) gate.rhs0)) (omega arith) (omega arith)) ∙ substitute-value gate.rhs0 (omega arith) in
+          let two : after (replaced (substitutes_by g reads) gate.rhs1) ≡ vals gate.rhs1 =
+          signed-same (replaced (substitutes_by g reads) gate.rhs1) (variable-value n (variable (replaced (substitutes_by g reads) gate.rhs1)) (omega arith) (omega arith)) ∙ substitute-value gate.rhs1 (omega arith) in
+          ap after new_place ∙ after-laws.gate k (replaced_gate (substitutes_by g reads) gate) (replaced-gate (substitutes_by g reads) g k gate there)
+          ∙ value-gate_of after (replaced (substitutes_by g reads) gate.rhs0) (replaced (substitutes_by g reads) gate.rhs1)
+          ∙ ap (λ (b : Bool). b && after (replaced (substitutes_by g reads) gate.rhs1)) one ∙ ap (λ (b : Bool). vals gate.rhs0 && b) two
           ∙ sym (laws.gate k gate there) ∙ ap vals (sym place))
     ]
 
-    merged-value : (lit : ℕ) → variable lit < variables_end g → after (replaced (stands_by g reads) lit) ≡ vals lit
+    merged-value : (lit : ℕ) → variable lit < variables_end g → after (replaced (substitutes_by g reads) lit) ≡ vals lit
     merged-value lit within =
-        let low : variable (replaced (stands_by g reads) lit) ≤ variable lit = within-each lit within in
-        signed-same (replaced (stands_by g reads) lit) (variable-value (suc (variable (replaced (stands_by g reads) lit))) (variable (replaced (stands_by g reads) lit)) (omega arith) (omega arith))
-        ∙ stand-value lit within
+        let low : variable (replaced (substitutes_by g reads) lit) ≤ variable lit = within-each lit within in
+        signed-same (replaced (substitutes_by g reads) lit) (variable-value (suc (variable (replaced (substitutes_by g reads) lit))) (variable (replaced (substitutes_by g reads) lit)) (omega arith) (omega arith))
+        ∙ substitute-value lit within
 
     -- so a step is the same
-    merged-step : after_step (replaced_graph (stands_by g reads) g) x s ≡ after_step g x s
+    merged-step : after_step (replaced_graph (substitutes_by g reads) g) x s ≡ after_step g x s
     unfolding replaced_graph
     merged-step = funext _ _ at
       where
-        at : (j : ℕ) → after_step (replaced_graph (stands_by g reads) g) x s j ≡ after_step g x s j
+        at : (j : ℕ) → after_step (replaced_graph (substitutes_by g reads) g) x s j ≡ after_step g x s j
         at j = go (slice_get g.latches j) refl
           where
-            go : (o : Option Latch) → slice_get g.latches j ≡ o → after_step (replaced_graph (stands_by g reads) g) x s j ≡ after_step g x s j
-            go None e = ap (next_value after) (slice_get-map_none (replaced_latch (stands_by g reads)) g.latches j e) ∙ sym (ap (next_value vals) e)
+            go : (o : Option Latch) → slice_get g.latches j ≡ o → after_step (replaced_graph (substitutes_by g reads) g) x s j ≡ after_step g x s j
+            go None e = ap (next_value after) (slice_get-map_none (replaced_latch (substitutes_by g reads)) g.latches j e) ∙ sym (ap (next_value vals) e)
             go (Some latch) e =
-                ap (next_value after) (replaced-latch (stands_by g reads) g j latch e) ∙ merged-value latch.next (valid.latches j latch e) ∙ sym (ap (next_value vals) e)
+                ap (next_value after) (replaced-latch (substitutes_by g reads) g j latch e) ∙ merged-value latch.next (valid.latches j latch e) ∙ sym (ap (next_value vals) e)
 
 -- every choice for the free latches is its own
 chosen-all : (n : ℕ) (f : Choice) (j : ℕ) → j < n → f j ≡ chosen (range_with_len 0 n) f j
@@ -123,11 +123,11 @@ chosen-all n f j h = ap f (sym (get_or-range_with_len 0 n j 0 h ∙ zero-add j))
 
 -- merging maps each state to itself
 module _ (held reads : List ℕ) (c : Netlist) (valid : IsGraph c.aig) (netlist : IsNetlist c) (kept : IsKept c.aig held reads) where
-  replaced-maps : IsStateMap c (replaced_circuit (stands_by c.aig reads) c) (all_free c.aig) (ReadsHold c.aig reads) (λ s. s)
+  replaced-maps : IsStateMap c (replaced_circuit (substitutes_by c.aig reads) c) (all_free c.aig) (ReadsHold c.aig reads) (λ s. s)
   replaced-maps =
-      let d : Netlist = replaced_circuit (stands_by c.aig reads) c in
+      let d : Netlist = replaced_circuit (substitutes_by c.aig reads) c in
       let free : free_latches d.aig ≡ free_latches c.aig =
-      replaced-free_before (stands_by c.aig reads) c.aig (length (replaced_graph (stands_by c.aig reads) c.aig).latches) ∙ ap (free_before c.aig) (length-replaced_latches (stands_by c.aig reads) c.aig) in
+      replaced-free_before (substitutes_by c.aig reads) c.aig (length (replaced_graph (substitutes_by c.aig reads) c.aig).latches) ∙ ap (free_before c.aig) (length-replaced_latches (substitutes_by c.aig reads) c.aig) in
       record {
         holds_first = λ f. reads-first c.aig held reads valid kept f;
         first = λ f.
@@ -135,15 +135,15 @@ module _ (held reads : List ℕ) (c : Netlist) (valid : IsGraph c.aig) (netlist 
             ∙ opening-same d.aig (whole c.aig held reads valid kept) f (chosen (all_free c.aig) f) (λ j h. chosen-all (free_latches c.aig) f j (subst (λ (n : ℕ). j < n) free h));
         keeps = λ x s holds. reads-keep c.aig held reads valid kept x s holds;
         steps = λ x s holds. sym (merged-step c.aig held reads valid kept x s holds);
-        reads = λ x s holds. mapped-reads (replaced (stands_by c.aig reads)) (λ lit. IsLiteralOf c.aig lit) c d x s s refl
+        reads = λ x s holds. mapped-reads (replaced (substitutes_by c.aig reads)) (λ lit. IsLiteralOf c.aig lit) c d x s s refl
             (of_literals (λ lit. IsLiteralOf c.aig lit) c.props (literals_within c.aig c.props netlist.props)) (merged-value c.aig held reads valid kept x s holds);
       }
 
-  replaced-has : HasStateMap c (replaced_circuit (stands_by c.aig reads) c) (all_free c.aig)
+  replaced-has : HasStateMap c (replaced_circuit (substitutes_by c.aig reads) c) (all_free c.aig)
   replaced-has = (
     λ s. reads_right c.aig reads s 0 c.aig.latches,
     λ s. s,
-    restated c (replaced_circuit (stands_by c.aig reads) c) (all_free c.aig) (ReadsHold c.aig reads) (λ s. IsTrue (reads_right c.aig reads s 0 c.aig.latches)) (λ s. s)
+    restated c (replaced_circuit (substitutes_by c.aig reads) c) (all_free c.aig) (ReadsHold c.aig reads) (λ s. IsTrue (reads_right c.aig reads s 0 c.aig.latches)) (λ s. s)
         (λ s h. holds-test c.aig held reads valid kept s h) (λ s h. test-holds c.aig held reads valid kept s h) replaced-maps,
   )
 

@@ -12,10 +12,10 @@ use Rattle.aig_graph.specs.declared.graph.Latch.{Latch}
 use Rattle.aig_graph.specs.declared.graph.Reset.{Reset}
 use Rattle.aig_graph.specs.declared.graph.Reset.TheVariants.{Zero, One, Free}
 use Rattle.cleaned_circuits.specs.Latches.{constant_of}
-use Rattle.cleaned_circuits.specs.Merged.{Merging, replaced, merge_gate, merge_gates, merging_from, stands_after}
+use Rattle.cleaned_circuits.specs.Merged.{Merging, replaced, merge_gate, merge_gates, merging_from, substitutes_after}
 use Rattle.cleaned_circuits.proofs.LatchLaws.{constant-even}
-use Rattle.cleaned_circuits.proofs.StandLaws.{GateOf, IsRight, gates-of, length-stands_after, merge-all, replaced-value, right-merge_gate}
-use Rattle.merged_latches.specs.Readings.{own_literal, read, from_reset, ReadsAs, as_itself, as_constant, as_first, leaves, stands_by, told}
+use Rattle.cleaned_circuits.proofs.SubstituteLaws.{GateOf, IsRight, gates-of, length-substitutes_after, merge-all, replaced-value, right-merge_gate}
+use Rattle.merged_latches.specs.Readings.{own_literal, read, from_reset, ReadsAs, as_itself, as_constant, as_first, leaves, substitutes_by, told}
 use Rattle.merged_latches.specs.Partitions.{IsKept}
 use Rattle.merged_latches.proofs.ReadingLaws.{are-leaves, leaf-low, leaf-latch}
 use Rattle.merged_latches.proofs.ValueLaws.{may-known}
@@ -84,24 +84,24 @@ module _ (g : Graph) (held reads : List ℕ) (valid : IsGraph g) (kept : IsKept 
           kept = λ gate w e. absurd (none-some w e);
         })
       where
-        step : (m : Merging) (gate : Gate) → IsRight (vals g valid x s) (laws g valid x s).negation (laws g valid x s).constant m → GateOf g (length m.stands) gate
+        step : (m : Merging) (gate : Gate) → IsRight (vals g valid x s) (laws g valid x s).negation (laws g valid x s).constant m → GateOf g (length m.substitutes) gate
             → IsRight (vals g valid x s) (laws g valid x s).negation (laws g valid x s).constant (merge_gate m gate)
         step m gate so_far place =
-            let at : IsGateAt (length m.stands) gate = place.at in
-            let here : vals g valid x s (2 * length m.stands) ≡ (vals g valid x s gate.rhs0 && vals g valid x s gate.rhs1) =
+            let at : IsGateAt (length m.substitutes) gate = place.at in
+            let here : vals g valid x s (2 * length m.substitutes) ≡ (vals g valid x s gate.rhs0 && vals g valid x s gate.rhs1) =
             ap (λ (n : ℕ). vals g valid x s (2 * n)) place.variable_is ∙ (laws g valid x s).gate place.place gate place.there in
             right-merge_gate (vals g valid x s) (laws g valid x s).negation (laws g valid x s).constant m so_far gate (omega arith) (omega arith) here
 
-    pub stands-value : (lit : ℕ) → variable lit < variables_end g → value_within g x s (replaced (stands_by g reads) lit) ≡ value_within g x s lit
-    unfolding stands_after
-    stands-value lit h =
-        replaced-value (vals g valid x s) (laws g valid x s).negation (laws g valid x s).constant (stands_by g reads) lit
-        (right-after.each (variable lit) (omega (arith, length-stands_after g (leaves g reads) (are-leaves g held reads kept.reading))))
+    pub substitutes-value : (lit : ℕ) → variable lit < variables_end g → value_within g x s (replaced (substitutes_by g reads) lit) ≡ value_within g x s lit
+    unfolding substitutes_after
+    substitutes-value lit h =
+        replaced-value (vals g valid x s) (laws g valid x s).negation (laws g valid x s).constant (substitutes_by g reads) lit
+        (right-after.each (variable lit) (omega (arith, length-substitutes_after g (leaves g reads) (are-leaves g held reads kept.reading))))
 
-    told-value : (j : ℕ) (latch : Latch) → slice_get g.latches j ≡ Some latch → vals g valid x s (told (stands_by g reads) latch) ≡ flipped latch.reset (vals g valid x s latch.next)
+    told-value : (j : ℕ) (latch : Latch) → slice_get g.latches j ≡ Some latch → vals g valid x s (told (substitutes_by g reads) latch) ≡ flipped latch.reset (vals g valid x s latch.next)
     told-value j latch there =
-        from_reset-value g valid x s latch.reset (replaced (stands_by g reads) latch.next)
-        ∙ ap (flipped latch.reset) (stands-value latch.next (valid.latches j latch there))
+        from_reset-value g valid x s latch.reset (replaced (substitutes_by g reads) latch.next)
+        ∙ ap (flipped latch.reset) (substitutes-value latch.next (valid.latches j latch there))
 
     later : (j : ℕ) (latch : Latch) → slice_get g.latches j ≡ Some latch → after_step g x s j ≡ vals g valid x s latch.next
     later j latch there = ap (next_value (vals g valid x s)) there
@@ -113,13 +113,13 @@ module _ (g : Graph) (held reads : List ℕ) (valid : IsGraph g) (kept : IsKept 
         by : (lit : ℕ) → read reads j ≡ lit → ReadsAs g held reads j latch lit → value_within g y (after_step g x s) lit ≡ after_step g x s j
         by lit is (as_itself e) = ap (vals g valid y (after_step g x s)) e ∙ (laws g valid y (after_step g x s)).latch j latch there
         by lit is (as_constant may e) =
-            let zero_told : told (stands_by g reads) latch ≡ 0 = kept.constants j latch there (omega (arith, is, e, constant-even latch.reset)) in
+            let zero_told : told (substitutes_by g reads) latch ≡ 0 = kept.constants j latch there (omega (arith, is, e, constant-even latch.reset)) in
             let stays : flipped latch.reset (vals g valid x s latch.next) ≡ false =
             sym (told-value j latch there) ∙ ap (vals g valid x s) zero_told ∙ (laws g valid x s).constant in
             ap (vals g valid y (after_step g x s)) e ∙ constant-value g valid y (after_step g x s) latch.reset ∙ ap (flipped latch.reset) (sym stays)
             ∙ flipped-twice latch.reset (vals g valid x s latch.next) ∙ sym (later j latch there)
         by lit is (as_first i first less first_there may may_first own e) =
-            let same : told (stands_by g reads) latch ≡ told (stands_by g reads) first = kept.alike j i latch first there first_there (omega (arith, is, e)) in
+            let same : told (substitutes_by g reads) latch ≡ told (substitutes_by g reads) first = kept.alike j i latch first there first_there (omega (arith, is, e)) in
             let both : flipped first.reset (vals g valid x s first.next) ≡ flipped latch.reset (vals g valid x s latch.next) =
             sym (told-value i first first_there) ∙ ap (vals g valid x s) (sym same) ∙ told-value j latch there in
             first-value g valid y (after_step g x s) i latch first lit first_there e

@@ -1,2 +1,2 @@
-pub mod ReadsStandLaws
+pub mod ReadsSubstituteLaws
 pub mod MergeStepLaws

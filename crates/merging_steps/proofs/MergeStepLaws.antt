@@ -16,7 +16,7 @@ use Rattle.map_circuits.proofs.SteppingLaws.{state-kept}
 use Rattle.merging_maps.specs.States.{ReadsHold}
 use Rattle.merging_maps.proofs.MergedStepLaws.{merging-maps}
 use Rattle.merging_steps.specs.Steps.{MergingStep}
-use Rattle.merging_steps.proofs.ReadsStandLaws.{reads-below, reads-hold}
+use Rattle.merging_steps.proofs.ReadsSubstituteLaws.{reads-below, reads-hold}
 
 -- a list with all its places is itself
 composed-every : (kept : List ℕ) (n : ℕ) → length kept ≡ n → composed kept (range_with_len 0 n) ≡ kept

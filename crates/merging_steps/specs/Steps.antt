@@ -4,7 +4,7 @@ use Rattle.aig_graph.specs.Circuits.{AreLiteralsOf, IsNetlist, Netlist}
 use Rattle.aig_graph.specs.Graph.{Graph, IsGraph, first_latch, free_latches}
 use Rattle.merged_latches.specs.Partitions.{IsMerged}
 use Rattle.merged_latches.specs.Readings.{IsReading}
-use Rattle.map_circuits.specs.Constraining.{AddsStands, AreOne}
+use Rattle.map_circuits.specs.Constraining.{AddsSubstitutes, AreOne}
 use Rattle.map_circuits.specs.Following.{state_of}
 use Rattle.state_maps.specs.States.{IsStateMap}
 
@@ -16,4 +16,4 @@ IsSomeReading g reads = (held : List ℕ) × IsReading g held reads
 abbrev pub MergingStep : Netlist → Netlist → Netlist → List ℕ → List ℕ → Graph → Graph → List ℕ → List ℕ → List ℕ → Type 0
 MergingStep c d e held kept g h functions old new = IsGraph d.aig → IsNetlist d → (merged : IsMerged held d e) → IsGraph g → AreLiteralsOf g functions
     → length functions ≡ length d.aig.latches → length kept ≡ free_latches d.aig → IsStateMap c d kept (AreOne g old) (state_of g functions)
-    → AddsStands g (first_latch d.aig) functions merged.reads (length merged.reads) h old new → IsStateMap c e kept (AreOne h new) (state_of h functions)
+    → AddsSubstitutes g (first_latch d.aig) functions merged.reads (length merged.reads) h old new → IsStateMap c e kept (AreOne h new) (state_of h functions)

@@ -1,7 +1,7 @@
 ghost use Rattle.std.specs.Prelude.{◌≡◌, OnOk, length};
 ghost use Rattle.aig_graph.specs.Circuits.{AreLiteralsOf};
 ghost use Rattle.aig_graph.specs.Graph.{IsGraph, first_latch};
-ghost use Rattle.map_circuits.specs.Constraining.{AddsStands};
+ghost use Rattle.map_circuits.specs.Constraining.{AddsSubstitutes};
 ghost use Rattle.merging_steps.specs.Steps.{IsSomeReading};
 
 use aig_graph::{Aig, AigBuilder, Lit};
@@ -26,7 +26,7 @@ pub fn add_readings(
     requires functions { AreLiteralsOf gates.old functions.now }
     requires many { length functions.now ≡ length aig.now.latches }
     requires reading { IsSomeReading aig.now reads.now }
-    ensures { OnOk result (AddsStands gates.old (first_latch aig.now) functions.now reads.now
+    ensures { OnOk result (AddsSubstitutes gates.old (first_latch aig.now) functions.now reads.now
         (length reads.now) gates.new constraints.old.items constraints.new.items) }
 {
     let first = aig.first_latch();

@@ -16,7 +16,7 @@ use Rattle.aig_graph.proofs.KindLaws.{latch_at-first_latch}
 use Rattle.aig_graph.proofs.SearchLaws.{has_iff_contains}
 use Rattle.variable_tables.specs.Counting.{count_below}
 use Rattle.variable_tables.specs.Marking.{has}
-use Rattle.cleaned_circuits.specs.Merged.{merged_of, stands_of, replaced_graph, replaced_latch}
+use Rattle.cleaned_circuits.specs.Merged.{merged_of, substitutes_of, replaced_graph, replaced_latch}
 use Rattle.cleaned_circuits.specs.Reached.{AreReached}
 use Rattle.cleaned_circuits.specs.Trimmed.{new_variable, new_position, new_name, trimmed_symbols, trimmed_of}
 use Rattle.cleaned_circuits.specs.Cleaned.{IsPass, Cleans, unchanged, after_pass}
@@ -96,16 +96,16 @@ module _ (names : List (List ℕ)) (c : Netlist) (valid : IsCircuit c) (s : ℕ 
   unfolding held_by
   all-reached = reached.holds.all_held
 
-  merged-latch : (j : ℕ) (latch : Latch) → slice_get c.aig.latches j ≡ Some latch → slice_get m.aig.latches j ≡ Some (replaced_latch (stands_of c.aig (held_in names c)) latch)
+  merged-latch : (j : ℕ) (latch : Latch) → slice_get c.aig.latches j ≡ Some latch → slice_get m.aig.latches j ≡ Some (replaced_latch (substitutes_of c.aig (held_in names c)) latch)
   unfolding replaced_graph
-  merged-latch j latch e = slice_get-map_some (replaced_latch (stands_of c.aig (held_in names c))) c.aig.latches j latch e
+  merged-latch j latch e = slice_get-map_some (replaced_latch (substitutes_of c.aig (held_in names c))) c.aig.latches j latch e
 
   entry : (x : Symbol) → x.position < length c.aig.latches → is_reached x.position → held_latch d.aig (new_name m.aig s x) ≡ held_latch c.aig x
   entry x low here =
       let found = latch_there c.aig x.position low in
       let from : first_latch m.aig ≤ new_variable m.aig s (first_latch m.aig + x.position) = new-from m.aig s (first_latch m.aig + x.position) (omega arith) in
       let rank : first_latch m.aig + new_position m.aig s x.position ≡ new_variable m.aig s (first_latch m.aig + x.position) = omega (arith, from) in
-      let read = trimmed-latch m.aig s x.position (new_position m.aig s x.position) (replaced_latch (stands_of c.aig (held_in names c)) found.0) (merged-latch x.position found.0 found.1) here rank in
+      let read = trimmed-latch m.aig s x.position (new_position m.aig s x.position) (replaced_latch (substitutes_of c.aig (held_in names c)) found.0) (merged-latch x.position found.0 found.1) here rank in
       λ i. record { name = x.name; reset = (ap reset_of read ∙ sym (ap reset_of found.1)) i }
 
   trimmed-held : held_latches names d ≡ held_latches names c

@@ -14,7 +14,7 @@ use Rattle.cleaned_circuits.proofs.CleanedLaws.{cleans-one}
 use Rattle.merged_latches.specs.declared.counts.MergeCounts.{MergeCounts}
 use Rattle.merged_latches.specs.Counts.{AreCounts}
 use Rattle.merged_latches.specs.Partitions.{IsMerged}
-use Rattle.merged_latches.specs.Readings.{stands_by}
+use Rattle.merged_latches.specs.Readings.{substitutes_by}
 use Rattle.merged_latches.proofs.FinerLaws.{counts-one, merged-one}
 use Rattle.retimed_circuits.specs.declared.report.Retimed.{Retimed}
 use Rattle.retimed_circuits.specs.Certified.{IsSameRetiming}
@@ -24,25 +24,25 @@ use Rattle.retimed_circuits.specs.Retiming.{IsMergedRetimed, IsRetimed, IsRetime
 use Rattle.retimed_circuits.proofs.RunLaws.{retiming-one, SameEnd}
 
 -- a latch that reads something else has its reset
-replaced-reset : (stands : List ℕ) (latches : List Latch) (j : ℕ) → reset_of (slice_get (map (replaced_latch stands) latches) j) ≡ reset_of (slice_get latches j)
-replaced-reset stands latches j = elim (slice_get_cases latches j).1 [
-  | inl found ↦ ap reset_of (slice_get-map_some (replaced_latch stands) latches j found.0 found.2) ∙ sym (ap reset_of found.2)
-  | inr past ↦ elim (slice_get_cases (map (replaced_latch stands) latches) j).1 [
-    | inl found ↦ absurd (omega (arith, past.0, found.1, length-map latches (replaced_latch stands)))
+replaced-reset : (substitutes : List ℕ) (latches : List Latch) (j : ℕ) → reset_of (slice_get (map (replaced_latch substitutes) latches) j) ≡ reset_of (slice_get latches j)
+replaced-reset substitutes latches j = elim (slice_get_cases latches j).1 [
+  | inl found ↦ ap reset_of (slice_get-map_some (replaced_latch substitutes) latches j found.0 found.2) ∙ sym (ap reset_of found.2)
+  | inr past ↦ elim (slice_get_cases (map (replaced_latch substitutes) latches) j).1 [
+    | inl found ↦ absurd (omega (arith, past.0, found.1, length-map latches (replaced_latch substitutes)))
     | inr beyond ↦ ap reset_of (beyond.1 ∙ sym past.1)
   ]
 ]
 
 -- so each latch that names hold stays as it is held
-replaced-held : (names : List (List ℕ)) (stands : List ℕ) (c : Netlist) → held_latches names (replaced_circuit stands c) ≡ held_latches names c
+replaced-held : (names : List (List ℕ)) (substitutes : List ℕ) (c : Netlist) → held_latches names (replaced_circuit substitutes c) ≡ held_latches names c
 unfolding held_latches replaced_graph
-replaced-held names stands c =
-    let same : (x : Symbol) → held_latch (replaced_graph stands c.aig) x ≡ held_latch c.aig x = λ x. λ i. record { name = x.name; reset = replaced-reset stands c.aig.latches x.position i } in
+replaced-held names substitutes c =
+    let same : (x : Symbol) → held_latch (replaced_graph substitutes c.aig) x ≡ held_latch c.aig x = λ x. λ i. record { name = x.name; reset = replaced-reset substitutes c.aig.latches x.position i } in
     ap (λ (f : Symbol → _). map f (filter (is_named names) c.symbols.latches)) (λ i. λ x. same x i)
 
 -- merging keeps the latches that the names hold
 pub merging-keeps : (names : List (List ℕ)) (c d : Netlist) (held : List ℕ) → IsMerged held c d → held_latches names d ≡ held_latches names c
-merging-keeps names c d held merged = ap (held_latches names) merged.circuit ∙ replaced-held names (stands_by c.aig merged.reads) c
+merging-keeps names c d held merged = ap (held_latches names) merged.circuit ∙ replaced-held names (substitutes_by c.aig merged.reads) c
 
 -- what a circuit is merged to is one
 pub merges-one : (names : List (List ℕ)) (c d e : Netlist) (kept left : List ℕ) (counts other : MergeCounts)

@@ -1,6 +1,6 @@
 pub mod WholeLaws
 pub mod StartLaws
-pub mod StandsLaws
+pub mod SubstitutesLaws
 pub mod StepLaws
 pub mod FrameLaws
 pub mod FinishingLaws

@@ -10,7 +10,7 @@ use Rattle.aig_graph.specs.Laws.{all_free, composed}
 use Rattle.aig_graph.specs.Move.{Move}
 use Rattle.aig_graph.specs.Streams.{AreKept, SameStreams}
 use Rattle.cleaned_circuits.specs.Cleaned.{IsPass}
-use Rattle.cleaned_circuits.specs.Merged.{merged_of, replaced_graph, replaced_latch, stands_of}
+use Rattle.cleaned_circuits.specs.Merged.{merged_of, replaced_graph, replaced_latch, substitutes_of}
 use Rattle.cleaned_circuits.proofs.MergedLaws.{IsGraph-merged}
 use Rattle.cleaned_circuits.proofs.PassLaws.{IsCircuit, IsCircuit-pass, pass-streams}
 use Rattle.rebuild.specs.Moved.{moved_graph, moved_of}
@@ -20,12 +20,12 @@ use Rattle.variable_tables.specs.Counting.{places}
 use Rattle.variable_tables.specs.Tables.{table}
 use Rattle.variable_tables.proofs.TableLaws.{table-from}
 use Rattle.state_maps.specs.States.{IsStateMap, State}
-use Rattle.state_maps.specs.Cleaning.{StandsHold, held_by, trimmed_state}
+use Rattle.state_maps.specs.Cleaning.{SubstitutesHold, held_by, trimmed_state}
 use Rattle.state_maps.specs.Moving.{moved_state}
 use Rattle.state_maps.proofs.FrameMapLaws.{restated}
 use Rattle.state_maps.proofs.MapLaws.{funext, maps-compose, moving-maps}
 use Rattle.state_maps.proofs.PassStepLaws.{cleaning-maps, small-many}
-use Rattle.map_circuits.specs.Constraining.{AddsStands, AreOne}
+use Rattle.map_circuits.specs.Constraining.{AddsSubstitutes, AreOne}
 use Rattle.map_circuits.specs.Following.{state_of}
 use Rattle.map_circuits.specs.Growing.{Extends}
 use Rattle.map_circuits.specs.Stepping.{AreMoved, ArePassed}
@@ -33,17 +33,17 @@ use Rattle.map_circuits.proofs.ConstrainingLaws.{ones-before, ones-later}
 use Rattle.map_circuits.proofs.SteppingLaws.{state-kept}
 use Rattle.retiming_maps.specs.declared.parts.MapParts.{MapParts}
 use Rattle.retiming_maps.specs.Mapping.{IsMapBy, IsMapTo, LeadsOn}
-use Rattle.retiming_maps.proofs.StandsLaws.{latch_stands, stands-below, stands-hold}
+use Rattle.retiming_maps.proofs.SubstitutesLaws.{latch_substitutes, substitutes-below, substitutes-hold}
 
 -- a merged circuit has the latches that stay where the circuit has them
 pass-places : (d : Netlist) (held : List ℕ) (r : ℕ → Bool)
     → places (λ j. r (first_latch (merged_of held d).aig + j)) (length (merged_of held d).aig.latches) ≡ places (λ j. r (first_latch d.aig + j)) (length d.aig.latches)
 unfolding replaced_graph
-pass-places d held r = ap (places (λ j. r (first_latch d.aig + j))) (length-map d.aig.latches (replaced_latch (stands_of d.aig held)))
+pass-places d held r = ap (places (λ j. r (first_latch d.aig + j))) (length-map d.aig.latches (replaced_latch (substitutes_of d.aig held)))
 
 module _ (c d e : Netlist) (held kept second still : List ℕ) (g h : Graph) (functions new old constraints : List ℕ) where
   pub pass-map : IsCircuit d → (pass : IsPass held d e second still) → IsMapBy c d kept g functions old
-      → AddsStands g (first_latch d.aig) functions (latch_stands d.aig held) (length (latch_stands d.aig held)) h old constraints
+      → AddsSubstitutes g (first_latch d.aig) functions (latch_substitutes d.aig held) (length (latch_substitutes d.aig held)) h old constraints
       → ArePassed h functions d.aig pass.reached new → IsMapBy c e (composed kept second) h new constraints
   pass-map valid pass p adds passed = record {
     graph = adds.extends.graph;
@@ -54,10 +54,10 @@ module _ (c d e : Netlist) (held kept second still : List ℕ) (g h : Graph) (fu
     many = passed.many ∙ sym (ap (λ (n : Netlist). length n.aig.latches) pass.circuit ∙ small-many m held r (IsGraph-merged d.aig held valid.graph) pass.are_reached.holds ∙ ap (λ (js : List ℕ). length js) (pass-places d held r));
     each = length-map second (λ i. get_or kept i 0) ∙ streams.places.each;
     maps = subst (λ (to : State → State). IsStateMap c e (composed kept second) (AreOne h constraints) to) (sym whole) (restated c e (composed kept second)
-        (λ s. AreOne g old s × StandsHold d.aig held (state_of g functions s)) (AreOne h constraints) (λ s. trimmed_state m.aig r (state_of g functions s))
-        (λ s both. (adds.says s).1 (both.0, stands-below d.aig held functions p.many g p.graph valid.graph s both.1))
-        (λ s ones. let both = (adds.says s).0 ones in (both.0, stands-hold d.aig held functions p.many g p.graph valid.graph s both.1))
-        (maps-compose c d e kept second (AreOne g old) (StandsHold d.aig held) (state_of g functions) (trimmed_state m.aig r) after.graph streams.places p.maps
+        (λ s. AreOne g old s × SubstitutesHold d.aig held (state_of g functions s)) (AreOne h constraints) (λ s. trimmed_state m.aig r (state_of g functions s))
+        (λ s both. (adds.says s).1 (both.0, substitutes-below d.aig held functions p.many g p.graph valid.graph s both.1))
+        (λ s ones. let both = (adds.says s).0 ones in (both.0, substitutes-hold d.aig held functions p.many g p.graph valid.graph s both.1))
+        (maps-compose c d e kept second (AreOne g old) (SubstitutesHold d.aig held) (state_of g functions) (trimmed_state m.aig r) after.graph streams.places p.maps
         (cleaning-maps held d e second still valid.graph valid.netlist pass)));
   }
     where

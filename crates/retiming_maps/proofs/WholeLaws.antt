@@ -7,7 +7,7 @@ use Rattle.aig_graph.specs.Keep.{held_in}
 use Rattle.aig_graph.specs.Laws.{all_free}
 use Rattle.aig_graph.proofs.HoldingLaws.{held-below}
 use Rattle.variable_tables.proofs.PlacesLaws.{count-bound}
-use Rattle.cleaned_circuits.specs.Merged.{merged_of, stands_of}
+use Rattle.cleaned_circuits.specs.Merged.{merged_of, substitutes_of}
 use Rattle.cleaned_circuits.specs.Reached.{stays}
 use Rattle.cleaned_circuits.specs.Trimmed.{trimmed_graph, new_variable}
 use Rattle.cleaned_circuits.specs.Cleaned.{IsPass, Cleans, unchanged, after_pass}
@@ -26,7 +26,7 @@ module _ (held : List ℕ) (c d : Netlist) (kept still : List ℕ) (pass : IsPas
   merged = merged_of held c
 
   ends : variables_end merged.aig ≡ variables_end c.aig
-  ends = replaced-end (stands_of c.aig held) c.aig
+  ends = replaced-end (substitutes_of c.aig held) c.aig
 
   left : latches_and_gates d.aig ≡ latches_and_gates (trimmed_graph merged.aig pass.reached)
   left = ap (λ (e : Netlist). latches_and_gates e.aig) pass.circuit
@@ -40,7 +40,7 @@ module _ (held : List ℕ) (c d : Netlist) (kept still : List ℕ) (pass : IsPas
         ends,
         trimmed-end merged.aig pass.reached,
         trimmed-first_latch merged.aig pass.reached,
-        replaced-first_latch (stands_of c.aig held) c.aig,
+        replaced-first_latch (substitutes_of c.aig held) c.aig,
         count-bound (stays merged.aig pass.reached) (variables_end merged.aig),
       )
 
@@ -55,16 +55,16 @@ module _ (held : List ℕ) (c d : Netlist) (kept still : List ℕ) (pass : IsPas
         ends,
         trimmed-end merged.aig pass.reached,
         trimmed-first_latch merged.aig pass.reached,
-        replaced-first_latch (stands_of c.aig held) c.aig,
+        replaced-first_latch (substitutes_of c.aig held) c.aig,
         count-bound (stays merged.aig pass.reached) (variables_end merged.aig),
       ) in
       let all : (v : ℕ) → v < variables_end merged.aig → stays merged.aig pass.reached v ≡ true = count-full (stays merged.aig pass.reached) (variables_end merged.aig) full in
       let gate : new_variable merged.aig pass.reached (first_gate merged.aig) ≡ first_gate merged.aig =
       count-all (stays merged.aig pass.reached) (first_gate merged.aig) (λ w less. all w (omega arith)) in
       let latches : length (trimmed_graph merged.aig pass.reached).latches ≡ length c.aig.latches =
-      omega (arith, gate, trimmed-first_gate merged.aig pass.reached, trimmed-first_latch merged.aig pass.reached, length-replaced_latches (stands_of c.aig held) c.aig) in
+      omega (arith, gate, trimmed-first_gate merged.aig pass.reached, trimmed-first_latch merged.aig pass.reached, length-replaced_latches (substitutes_of c.aig held) c.aig) in
       let gates : length (trimmed_graph merged.aig pass.reached).gates ≡ length c.aig.gates =
-      omega (arith, full, trimmed-end merged.aig pass.reached, gate, trimmed-first_gate merged.aig pass.reached, ends, replaced-first_gate (stands_of c.aig held) c.aig) in
+      omega (arith, full, trimmed-end merged.aig pass.reached, gate, trimmed-first_gate merged.aig pass.reached, ends, replaced-first_gate (substitutes_of c.aig held) c.aig) in
       pass.circuit ∙ pass-unchanged held c valid (λ j h. in_range j 0 h) pass.reached pass.are_reached latches gates
 
 -- so does cleaning

@@ -26,13 +26,13 @@ fn follow_pass(
     let _held = held;
     let functions = parts.functions.as_slice();
     let first = circuit.aig().first_latch();
-    let stands = pass.stands.as_slice();
+    let substitutes = pass.substitutes.as_slice();
     add_constraints(
         &mut parts.gates,
         &mut parts.constraints,
         functions,
         first,
-        stands,
+        substitutes,
     )?;
     let stays = pass.stays.as_slice();
     let new = passed_functions(alloc, functions, stays)?;

@@ -19,7 +19,7 @@ use Rattle.least_sets.specs.declared.choice.Choice.{Choice}
 use Rattle.least_sets.specs.declared.choice.Choice.TheVariants.{Greatest, Smallest}
 use Rattle.least_sets.specs.Chosen.{IsChosen}
 use Rattle.cleaned_circuits.specs.Cleaned.{IsPass, Cleans, unchanged, after_pass}
-use Rattle.cleaned_circuits.specs.Latches.{latch_stand}
+use Rattle.cleaned_circuits.specs.Latches.{latch_substitute}
 use Rattle.cleaned_circuits.specs.Merged.{merged_of}
 use Rattle.cleaned_circuits.proofs.LatchLaws.{stands_for, by_constant, by_itself, by_earlier}
 use Rattle.cleaned_circuits.proofs.PassLaws.{IsCircuit, IsCircuit-pass, IsCircuit-cleans, cleans-streams}
@@ -32,9 +32,9 @@ use Rattle.retimed_circuits.specs.Frames.{AfterFrames, IsFrame, IsHelpingSet, cl
 use Rattle.aig_graph.specs.Keep.{held_in}
 use Rattle.variable_tables.proofs.ListLaws.{map-same}
 use Rattle.state_maps.specs.States.{Digits, IsStateMap, State}
-use Rattle.state_maps.specs.Cleaning.{StandsHold, trimmed_state}
+use Rattle.state_maps.specs.Cleaning.{SubstitutesHold, trimmed_state}
 use Rattle.state_maps.specs.Moving.{moved_state}
-use Rattle.state_maps.specs.Retimed.{HasStateMap, RetimingMaps, agrees, stand_right}
+use Rattle.state_maps.specs.Retimed.{HasStateMap, RetimingMaps, agrees, substitute_right}
 use Rattle.state_maps.proofs.MapLaws.{maps-compose, moving-maps}
 use Rattle.state_maps.proofs.PassStepLaws.{cleaning-maps, constant-within}
 use Rattle.state_maps.proofs.WithinLaws.{within_laws}
@@ -52,34 +52,34 @@ is-agrees false false e = refl
 
 -- what stands for the latches, as a test
 module _ (g : Graph) (held : List ℕ) (s : State) where
-  abbrev stand : ℕ → Latch → Bool
-  stand j latch = value_within g (λ i. false) s (latch_stand g held j (Some latch))
+  abbrev substitute : ℕ → Latch → Bool
+  substitute j latch = value_within g (λ i. false) s (latch_substitute g held j (Some latch))
 
-  from-test : (n : ℕ) (latches : List Latch) → stand_right g held s n latches ≡ true → (k : ℕ) (latch : Latch) → slice_get latches k ≡ Some latch → stand (n + k) latch ≡ s (n + k)
-  unfolding stand_right
+  from-test : (n : ℕ) (latches : List Latch) → substitute_right g held s n latches ≡ true → (k : ℕ) (latch : Latch) → slice_get latches k ≡ Some latch → substitute (n + k) latch ≡ s (n + k)
+  unfolding substitute_right
   from-test n [] e k latch there = absurd (none-some latch there)
   from-test n (l ∷ ls) e zero latch there =
       let here : n + 0 ≡ n = omega arith in
-      let parts = and_parts (agrees (stand n l) (s n)) (stand_right g held s (suc n) ls) e in
+      let parts = and_parts (agrees (substitute n l) (s n)) (substitute_right g held s (suc n) ls) e in
       let same : l ≡ latch = same_Some l latch there in
-      ap (λ (j : ℕ). stand j latch) here ∙ ap (stand n) (sym same) ∙ agrees-is (stand n l) (s n) parts.0 ∙ ap s (sym here)
+      ap (λ (j : ℕ). substitute j latch) here ∙ ap (substitute n) (sym same) ∙ agrees-is (substitute n l) (s n) parts.0 ∙ ap s (sym here)
   from-test n (l ∷ ls) e (suc k) latch there =
       let place : suc n + k ≡ n + suc k = omega arith in
-      let parts = and_parts (agrees (stand n l) (s n)) (stand_right g held s (suc n) ls) e in
-      subst (λ (j : ℕ). stand j latch ≡ s j) place (from-test (suc n) ls parts.1 k latch there)
+      let parts = and_parts (agrees (substitute n l) (s n)) (substitute_right g held s (suc n) ls) e in
+      subst (λ (j : ℕ). substitute j latch ≡ s j) place (from-test (suc n) ls parts.1 k latch there)
 
-  to-test : (n : ℕ) (latches : List Latch) → ((k : ℕ) (latch : Latch) → slice_get latches k ≡ Some latch → stand (n + k) latch ≡ s (n + k)) → stand_right g held s n latches ≡ true
-  unfolding stand_right
+  to-test : (n : ℕ) (latches : List Latch) → ((k : ℕ) (latch : Latch) → slice_get latches k ≡ Some latch → substitute (n + k) latch ≡ s (n + k)) → substitute_right g held s n latches ≡ true
+  unfolding substitute_right
   to-test n [] each = refl
   to-test n (l ∷ ls) each =
       let here : n + 0 ≡ n = omega arith in
-      and_from (agrees (stand n l) (s n)) (stand_right g held s (suc n) ls)
-      (is-agrees (stand n l) (s n) (subst (λ (j : ℕ). stand j l ≡ s j) here (each 0 l refl)))
-      (to-test (suc n) ls (λ k latch there. let place : n + suc k ≡ suc n + k = omega arith in subst (λ (j : ℕ). stand j latch ≡ s j) place (each (suc k) latch there)))
+      and_from (agrees (substitute n l) (s n)) (substitute_right g held s (suc n) ls)
+      (is-agrees (substitute n l) (s n) (subst (λ (j : ℕ). substitute j l ≡ s j) here (each 0 l refl)))
+      (to-test (suc n) ls (λ k latch there. let place : n + suc k ≡ suc n + k = omega arith in subst (λ (j : ℕ). substitute j latch ≡ s j) place (each (suc k) latch there)))
 
   -- a literal that stands for a latch has its value whatever comes in
-  pub stand-steady : IsGraph g → (x : Digits) (j : ℕ) (latch : Latch) → slice_get g.latches j ≡ Some latch → value_within g x s (latch_stand g held j (Some latch)) ≡ stand j latch
-  stand-steady valid x j latch there =
+  pub substitute-steady : IsGraph g → (x : Digits) (j : ℕ) (latch : Latch) → slice_get g.latches j ≡ Some latch → value_within g x s (latch_substitute g held j (Some latch)) ≡ substitute j latch
+  substitute-steady valid x j latch there =
       let one = within_laws g valid x s in
       let two = within_laws g valid (λ i. false) s in
       elim (stands_for g held j latch) [
@@ -88,13 +88,13 @@ module _ (g : Graph) (held : List ℕ) (s : State) where
         | by_earlier i less first like known apart e ↦ ap (value_within g x s) e ∙ one.latch i like.other like.there ∙ sym (two.latch i like.other like.there) ∙ sym (ap (value_within g (λ i. false) s) e)
       ]
 
-  pub test-holds : IsGraph g → stand_right g held s 0 g.latches ≡ true → StandsHold g held s
+  pub test-holds : IsGraph g → substitute_right g held s 0 g.latches ≡ true → SubstitutesHold g held s
   test-holds valid e x j latch there =
       let place : 0 + j ≡ j = omega arith in
-      stand-steady valid x j latch there ∙ subst (λ (k : ℕ). stand k latch ≡ s k) place (from-test 0 g.latches e j latch there)
+      substitute-steady valid x j latch there ∙ subst (λ (k : ℕ). substitute k latch ≡ s k) place (from-test 0 g.latches e j latch there)
 
-  pub holds-test : StandsHold g held s → stand_right g held s 0 g.latches ≡ true
-  holds-test holds = to-test 0 g.latches (λ k latch there. let place : k ≡ 0 + k = omega arith in subst (λ (j : ℕ). stand j latch ≡ s j) place (holds (λ i. false) k latch there))
+  pub holds-test : SubstitutesHold g held s → substitute_right g held s 0 g.latches ≡ true
+  holds-test holds = to-test 0 g.latches (λ k latch there. let place : k ≡ 0 + k = omega arith in subst (λ (j : ℕ). substitute j latch ≡ s j) place (holds (λ i. false) k latch there))
 
 -- a map rests on any test that says the same
 pub restated : (c d : Netlist) (kept : List ℕ) (holds other : State → Type 0) (to : State → State) → ((s : State) → holds s → other s) → ((s : State) → other s → holds s)
@@ -109,9 +109,9 @@ restated c d kept holds other to there back p = record {
 
 pass-has : (held : List ℕ) (c d : Netlist) (kept still_held : List ℕ) → IsCircuit c → IsPass held c d kept still_held → HasStateMap c d kept
 pass-has held c d kept still_held valid pass = (
-  λ s. stand_right c.aig held s 0 c.aig.latches,
+  λ s. substitute_right c.aig held s 0 c.aig.latches,
   trimmed_state (merged_of held c).aig pass.reached,
-  restated c d kept (StandsHold c.aig held) (λ s. IsTrue (stand_right c.aig held s 0 c.aig.latches)) (trimmed_state (merged_of held c).aig pass.reached)
+  restated c d kept (SubstitutesHold c.aig held) (λ s. IsTrue (substitute_right c.aig held s 0 c.aig.latches)) (trimmed_state (merged_of held c).aig pass.reached)
       (λ s h. holds-test c.aig held s h) (λ s h. test-holds c.aig held s valid.graph h) (cleaning-maps held c d kept still_held valid.graph valid.netlist pass),
 )
 

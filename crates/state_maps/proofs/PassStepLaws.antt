@@ -13,19 +13,19 @@ use Rattle.aig_graph.specs.declared.graph.Gate.{Gate}
 use Rattle.aig_graph.specs.declared.graph.Latch.{Latch}
 use Rattle.aig_graph.specs.declared.graph.Reset.{Reset}
 use Rattle.aig_graph.specs.declared.graph.Reset.TheVariants.{Zero, One, Free}
-use Rattle.cleaned_circuits.specs.Latches.{constant_of, latch_stand, leaf_stand}
-use Rattle.cleaned_circuits.specs.Merged.{Merging, replaced, replaced_gate, replaced_latch, replaced_graph, stands_of, merged_of, merge_gate, merge_gates, merging_start}
+use Rattle.cleaned_circuits.specs.Latches.{constant_of, latch_substitute, leaf_substitute}
+use Rattle.cleaned_circuits.specs.Merged.{Merging, replaced, replaced_gate, replaced_latch, replaced_graph, substitutes_of, merged_of, merge_gate, merge_gates, merging_start}
 use Rattle.cleaned_circuits.specs.Reached.{stays, HoldsReads}
 use Rattle.cleaned_circuits.specs.Trimmed.{new_variable, renumbered, renumbered_latch, renumbered_gate, trimmed_graph, trimmed_of, kept_free}
-use Rattle.cleaned_circuits.proofs.LatchLaws.{Stuck, by_constant, by_itself, by_earlier, stands_for, stuck_where, latch_stand-value}
-use Rattle.cleaned_circuits.proofs.StandLaws.{IsRight, right-merge_gate, replaced-value, replaced-within, merge-all, gates-in, GateIn, start-entry, start-length, length-stands_of}
+use Rattle.cleaned_circuits.proofs.LatchLaws.{Stuck, by_constant, by_itself, by_earlier, stands_for, stuck_where, latch_substitute-value}
+use Rattle.cleaned_circuits.proofs.SubstituteLaws.{IsRight, right-merge_gate, replaced-value, replaced-within, merge-all, gates-in, GateIn, start-entry, start-length, length-substitutes_of}
 use Rattle.cleaned_circuits.proofs.MergedLaws.{IsGraph-merged, IsNetlist-merged, replaced-inputs, replaced-first_latch, replaced-first_gate, replaced-latch, replaced-gate, replaced-free_before}
 use Rattle.cleaned_circuits.proofs.TrimmedLaws.{LatchFrom, latch_from, latch_in, gate_in, new-low, new-rises, stays-past, stays-reached, trimmed-inputs, trimmed-first_latch, trimmed-first_gate, next-reached, fan_ins-reached, IsGraph-trimmed}
 use Rattle.cleaned_circuits.proofs.KeptFreeLaws.{free-rank, kept_free-at}
 use Rattle.variable_tables.proofs.PlacesLaws.{Ranks, at_rank, rank_at, count-pass, count-fail, count-zero, length-places}
 use Rattle.variable_tables.specs.Counting.{count_below, places}
 use Rattle.state_maps.specs.States.{Digits, IsStateMap, SameReads, State, after_step, opening_state}
-use Rattle.state_maps.specs.Cleaning.{StandsHold, held_by, trimmed_state}
+use Rattle.state_maps.specs.Cleaning.{SubstitutesHold, held_by, trimmed_state}
 use Rattle.state_maps.specs.Laws.{CleaningMaps}
 use Rattle.state_maps.proofs.WithinLaws.{WithinLaws, within_laws}
 use Rattle.state_maps.proofs.MapLaws.{funext, mapped-reads, reads-transitive, slice_get-map_none}
@@ -40,24 +40,24 @@ constant-within g x y s t valid Free = (within_laws g valid x s).constant ∙ sy
 -- what stands for the latches: at the start, and from step to step
 module _ (g : Graph) (held : List ℕ) (valid : IsGraph g) where
   -- what stands for each latch is what it holds at the start
-  pub stands-first : (f : Choice) → StandsHold g held (opening_state g f)
+  pub substitutes-first : (f : Choice) → SubstitutesHold g held (opening_state g f)
   unfolding value latch_value
-  stands-first f x j latch there =
-      latch_stand-value g valid held (λ t. x) f 0 j latch there
+  substitutes-first f x j latch there =
+      latch_substitute-value g valid held (λ t. x) f 0 j latch there
       ∙ (within_laws g valid x (opening_state g f)).latch j latch there
 
   -- and a step later where it was so before
-  pub stands-keep : (x : Digits) (s : State) → StandsHold g held s → StandsHold g held (after_step g x s)
-  stands-keep x s holds y j latch there =
+  pub substitutes-keep : (x : Digits) (s : State) → SubstitutesHold g held s → SubstitutesHold g held (after_step g x s)
+  substitutes-keep x s holds y j latch there =
       let now : WithinLaws g x s (value_within g x s) = within_laws g valid x s in
       let then : WithinLaws g y (after_step g x s) (value_within g y (after_step g x s)) = within_laws g valid y (after_step g x s) in
       let goes : after_step g x s j ≡ value_within g x s latch.next = ap (next_value (value_within g x s)) there in
       elim (stands_for g held j latch) [
         | by_constant stuck e ↦ (
             let why : Stuck g j latch = stuck_where g held j latch stuck in
-            let stand : value_within g x s (constant_of latch.reset) ≡ s j = ap (value_within g x s) (sym e) ∙ holds x j latch there in
+            let substitute : value_within g x s (constant_of latch.reset) ≡ s j = ap (value_within g x s) (sym e) ∙ holds x j latch there in
             let next : value_within g x s latch.next ≡ value_within g x s (constant_of latch.reset) = elim why.next [
-              | inl own ↦ ap (value_within g x s) own ∙ now.latch j latch there ∙ sym stand
+              | inl own ↦ ap (value_within g x s) own ∙ now.latch j latch there ∙ sym substitute
               | inr constant ↦ ap (value_within g x s) constant
             ] in
             ap (value_within g y (after_step g x s)) e ∙ constant-within g y x (after_step g x s) s valid latch.reset ∙ sym next ∙ sym goes)
@@ -68,30 +68,30 @@ module _ (g : Graph) (held : List ℕ) (valid : IsGraph g) where
       ]
 
 -- the merged circuit, in one state
-module _ (g : Graph) (held : List ℕ) (valid : IsGraph g) (x : Digits) (s : State) (holds : StandsHold g held s) where
+module _ (g : Graph) (held : List ℕ) (valid : IsGraph g) (x : Digits) (s : State) (holds : SubstitutesHold g held s) where
   abbrev vals : ℕ → Bool
   vals lit = value_within g x s lit
 
   abbrev after : ℕ → Bool
-  after lit = value_within (replaced_graph (stands_of g held) g) x s lit
+  after lit = value_within (replaced_graph (substitutes_of g held) g) x s lit
 
   laws : WithinLaws g x s vals
   laws = within_laws g valid x s
 
-  after-laws : WithinLaws (replaced_graph (stands_of g held) g) x s after
-  after-laws = within_laws (replaced_graph (stands_of g held) g) (IsGraph-merged g held valid) x s
+  after-laws : WithinLaws (replaced_graph (substitutes_of g held) g) x s after
+  after-laws = within_laws (replaced_graph (substitutes_of g held) g) (IsGraph-merged g held valid) x s
 
-  leaf-value : (v : ℕ) → v < first_gate g → vals (leaf_stand g held v) ≡ vals (2 * v)
-  unfolding leaf_stand
+  leaf-value : (v : ℕ) → v < first_gate g → vals (leaf_substitute g held v) ≡ vals (2 * v)
+  unfolding leaf_substitute
   leaf-value v h =
-      let other : ℕ = latch_stand g held (v - first_latch g) (slice_get g.latches (v - first_latch g)) in
+      let other : ℕ = latch_substitute g held (v - first_latch g) (slice_get g.latches (v - first_latch g)) in
       elim (cases_lt v (first_latch g)) [
         | inl low ↦ ap vals (cond-true (nat_lt v (first_latch g)) (2 * v) other (lt-ltb v (first_latch g) low))
         | inr past ↦ (
             let there = element g.latches (v - first_latch g) (omega arith) in
             let place : 2 * (first_latch g + (v - first_latch g)) ≡ 2 * v = omega arith in
             ap vals (cond-false (nat_lt v (first_latch g)) (2 * v) other (le-ltb v (first_latch g) past))
-            ∙ ap (λ (o : Option Latch). vals (latch_stand g held (v - first_latch g) o)) there.1
+            ∙ ap (λ (o : Option Latch). vals (latch_substitute g held (v - first_latch g) o)) there.1
             ∙ holds x (v - first_latch g) there.0 there.1 ∙ sym (laws.latch (v - first_latch g) there.0 there.1) ∙ ap vals place)
       ]
 
@@ -101,16 +101,16 @@ module _ (g : Graph) (held : List ℕ) (valid : IsGraph g) (x : Digits) (s : Sta
     kept = λ gate w e. absurd (none-some w e);
   })
     where
-      step : (m : Merging) (gate : Gate) → IsRight vals laws.negation laws.constant m → GateIn g held valid (length m.stands) gate → IsRight vals laws.negation laws.constant (merge_gate m gate)
+      step : (m : Merging) (gate : Gate) → IsRight vals laws.negation laws.constant m → GateIn g held valid (length m.substitutes) gate → IsRight vals laws.negation laws.constant (merge_gate m gate)
       step m gate right place =
-          let at : IsGateAt (length m.stands) gate = place.at in
-          let here : vals (2 * length m.stands) ≡ (vals gate.rhs0 && vals gate.rhs1) = ap (λ (n : ℕ). vals (2 * n)) place.variable_is ∙ laws.gate place.place gate place.there in
+          let at : IsGateAt (length m.substitutes) gate = place.at in
+          let here : vals (2 * length m.substitutes) ≡ (vals gate.rhs0 && vals gate.rhs1) = ap (λ (n : ℕ). vals (2 * n)) place.variable_is ∙ laws.gate place.place gate place.there in
           right-merge_gate vals laws.negation laws.constant m right gate (omega arith) (omega arith) here
 
-  stand-value : (lit : ℕ) → variable lit < variables_end g → vals (replaced (stands_of g held) lit) ≡ vals lit
-  unfolding stands_of
-  stand-value lit h =
-      replaced-value vals laws.negation laws.constant (stands_of g held) lit (right-all.each (variable lit) (omega (arith, length-stands_of g held)))
+  substitute-value : (lit : ℕ) → variable lit < variables_end g → vals (replaced (substitutes_of g held) lit) ≡ vals lit
+  unfolding substitutes_of
+  substitute-value lit h =
+      replaced-value vals laws.negation laws.constant (substitutes_of g held) lit (right-all.each (variable lit) (omega (arith, length-substitutes_of g held)))
 
   signed-same : (lit : ℕ) → after (2 * variable lit) ≡ vals (2 * variable lit) → after lit ≡ vals lit
   signed-same lit same = value_signed after after-laws.negation lit ∙ ap (signed lit) same ∙ sym (value_signed vals laws.negation lit)
@@ -118,66 +118,66 @@ module _ (g : Graph) (held : List ℕ) (valid : IsGraph g) (x : Digits) (s : Sta
   variable-value : (n v : ℕ) → v < n → v < variables_end g → after (2 * v) ≡ vals (2 * v)
   variable-value zero v h within = absurd (omega arith)
   variable-value (suc n) v h within =
-      let stands : List ℕ = stands_of g held in
+      let substitutes : List ℕ = substitutes_of g held in
       elim (kind_of g v within) [
         | is_constant e ↦ (let zero_is : 2 * v ≡ 0 = omega arith in ap after zero_is ∙ after-laws.constant ∙ sym laws.constant ∙ ap vals (sym zero_is))
         | is_input i less e ↦ (
             let place : 2 * v ≡ 2 * (1 + i) = omega arith in
-            ap after place ∙ after-laws.input i (omega (arith, replaced-inputs stands g)) ∙ sym (laws.input i less) ∙ ap vals (sym place))
+            ap after place ∙ after-laws.input i (omega (arith, replaced-inputs substitutes g)) ∙ sym (laws.input i less) ∙ ap vals (sym place))
         | is_latch j latch there e ↦ (
             let place : 2 * v ≡ 2 * (first_latch g + j) = omega arith in
-            let new_place : 2 * v ≡ 2 * (first_latch (replaced_graph stands g) + j) = omega (arith, replaced-first_latch stands g) in
-            ap after new_place ∙ after-laws.latch j (replaced_latch stands latch) (replaced-latch stands g j latch there) ∙ sym (laws.latch j latch there) ∙ ap vals (sym place))
+            let new_place : 2 * v ≡ 2 * (first_latch (replaced_graph substitutes g) + j) = omega (arith, replaced-first_latch substitutes g) in
+            ap after new_place ∙ after-laws.latch j (replaced_latch substitutes latch) (replaced-latch substitutes g j latch there) ∙ sym (laws.latch j latch there) ∙ ap vals (sym place))
         | is_gate k gate there e ↦ (
             let at : IsGateAt (first_gate g + k) gate = valid.gates k gate there in
             let place : 2 * v ≡ 2 * (first_gate g + k) = omega arith in
-            let new_place : 2 * v ≡ 2 * (first_gate (replaced_graph stands g) + k) = omega (arith, replaced-first_gate stands g) in
-            let one : after (replaced stands gate.rhs0) ≡ vals gate.rhs0 =
-            signed-same (replaced stands gate.rhs0) (variable-value n (variable (replaced stands gate.rhs0))
-            (omega (arith, replaced-within g held valid gate.rhs0 (omega arith))) (omega (arith, replaced-within g held valid gate.rhs0 (omega arith)))) ∙ stand-value gate.rhs0 (omega arith) in
-            let two : after (replaced stands gate.rhs1) ≡ vals gate.rhs1 =
-            signed-same (replaced stands gate.rhs1) (variable-value n (variable (replaced stands gate.rhs1))
-            (omega (arith, replaced-within g held valid gate.rhs1 (omega arith))) (omega (arith, replaced-within g held valid gate.rhs1 (omega arith)))) ∙ stand-value gate.rhs1 (omega arith) in
-            ap after new_place ∙ after-laws.gate k (replaced_gate stands gate) (replaced-gate stands g k gate there)
-            ∙ value-gate_of after (replaced stands gate.rhs0) (replaced stands gate.rhs1)
-            ∙ ap (λ (b : Bool). b && after (replaced stands gate.rhs1)) one ∙ ap (λ (b : Bool). vals gate.rhs0 && b) two
+            let new_place : 2 * v ≡ 2 * (first_gate (replaced_graph substitutes g) + k) = omega (arith, replaced-first_gate substitutes g) in
+            let one : after (replaced substitutes gate.rhs0) ≡ vals gate.rhs0 =
+            signed-same (replaced substitutes gate.rhs0) (variable-value n (variable (replaced substitutes gate.rhs0))
+            (omega (arith, replaced-within g held valid gate.rhs0 (omega arith))) (omega (arith, replaced-within g held valid gate.rhs0 (omega arith)))) ∙ substitute-value gate.rhs0 (omega arith) in
+            let two : after (replaced substitutes gate.rhs1) ≡ vals gate.rhs1 =
+            signed-same (replaced substitutes gate.rhs1) (variable-value n (variable (replaced substitutes gate.rhs1))
+            (omega (arith, replaced-within g held valid gate.rhs1 (omega arith))) (omega (arith, replaced-within g held valid gate.rhs1 (omega arith)))) ∙ substitute-value gate.rhs1 (omega arith) in
+            ap after new_place ∙ after-laws.gate k (replaced_gate substitutes gate) (replaced-gate substitutes g k gate there)
+            ∙ value-gate_of after (replaced substitutes gate.rhs0) (replaced substitutes gate.rhs1)
+            ∙ ap (λ (b : Bool). b && after (replaced substitutes gate.rhs1)) one ∙ ap (λ (b : Bool). vals gate.rhs0 && b) two
             ∙ sym (laws.gate k gate there) ∙ ap vals (sym place))
       ]
 
-  pub merged-value : (lit : ℕ) → variable lit < variables_end g → after (replaced (stands_of g held) lit) ≡ vals lit
+  pub merged-value : (lit : ℕ) → variable lit < variables_end g → after (replaced (substitutes_of g held) lit) ≡ vals lit
   merged-value lit within =
-      signed-same (replaced (stands_of g held) lit) (variable-value (suc (variable (replaced (stands_of g held) lit))) (variable (replaced (stands_of g held) lit)) (omega arith)
-      (omega (arith, replaced-within g held valid lit within))) ∙ stand-value lit within
+      signed-same (replaced (substitutes_of g held) lit) (variable-value (suc (variable (replaced (substitutes_of g held) lit))) (variable (replaced (substitutes_of g held) lit)) (omega arith)
+      (omega (arith, replaced-within g held valid lit within))) ∙ substitute-value lit within
 
   -- so a step is the same
-  pub merged-step : after_step (replaced_graph (stands_of g held) g) x s ≡ after_step g x s
+  pub merged-step : after_step (replaced_graph (substitutes_of g held) g) x s ≡ after_step g x s
   unfolding replaced_graph
   merged-step = funext _ _ at
     where
-      at : (j : ℕ) → after_step (replaced_graph (stands_of g held) g) x s j ≡ after_step g x s j
+      at : (j : ℕ) → after_step (replaced_graph (substitutes_of g held) g) x s j ≡ after_step g x s j
       at j = go (slice_get g.latches j) refl
         where
-          go : (o : Option Latch) → slice_get g.latches j ≡ o → after_step (replaced_graph (stands_of g held) g) x s j ≡ after_step g x s j
+          go : (o : Option Latch) → slice_get g.latches j ≡ o → after_step (replaced_graph (substitutes_of g held) g) x s j ≡ after_step g x s j
           go None e = ap (next_value after) (none-there j e) ∙ sym (ap (next_value vals) e)
             where
-              none-there : (j : ℕ) → slice_get g.latches j ≡ None → slice_get (replaced_graph (stands_of g held) g).latches j ≡ None
-              none-there j e = slice_get-map_none (replaced_latch (stands_of g held)) g.latches j e
-          go (Some latch) e = ap (next_value after) (replaced-latch (stands_of g held) g j latch e) ∙ merged-value latch.next (valid.latches j latch e) ∙ sym (ap (next_value vals) e)
+              none-there : (j : ℕ) → slice_get g.latches j ≡ None → slice_get (replaced_graph (substitutes_of g held) g).latches j ≡ None
+              none-there j e = slice_get-map_none (replaced_latch (substitutes_of g held)) g.latches j e
+          go (Some latch) e = ap (next_value after) (replaced-latch (substitutes_of g held) g j latch e) ∙ merged-value latch.next (valid.latches j latch e) ∙ sym (ap (next_value vals) e)
 
-  pub merged-first : (f : Choice) → opening_state (replaced_graph (stands_of g held) g) f ≡ opening_state g f
+  pub merged-first : (f : Choice) → opening_state (replaced_graph (substitutes_of g held) g) f ≡ opening_state g f
   unfolding replaced_graph
   merged-first f = funext _ _ at
     where
-      at : (j : ℕ) → opening_state (replaced_graph (stands_of g held) g) f j ≡ opening_state g f j
+      at : (j : ℕ) → opening_state (replaced_graph (substitutes_of g held) g) f j ≡ opening_state g f j
       at j = go (slice_get g.latches j) refl
         where
-          go : (o : Option Latch) → slice_get g.latches j ≡ o → opening_state (replaced_graph (stands_of g held) g) f j ≡ opening_state g f j
+          go : (o : Option Latch) → slice_get g.latches j ≡ o → opening_state (replaced_graph (substitutes_of g held) g) f j ≡ opening_state g f j
           go None e =
-              ap (opening_at (replaced_graph (stands_of g held) g) f j) (slice_get-map_none (replaced_latch (stands_of g held)) g.latches j e)
+              ap (opening_at (replaced_graph (substitutes_of g held) g) f j) (slice_get-map_none (replaced_latch (substitutes_of g held)) g.latches j e)
               ∙ sym (ap (opening_at g f j) e)
           go (Some latch) e =
-              ap (opening_at (replaced_graph (stands_of g held) g) f j) (replaced-latch (stands_of g held) g j latch e)
-              ∙ ap (λ (n : ℕ). opening latch.reset (f n)) (replaced-free_before (stands_of g held) g j)
+              ap (opening_at (replaced_graph (substitutes_of g held) g) f j) (replaced-latch (substitutes_of g held) g j latch e)
+              ∙ ap (λ (n : ℕ). opening latch.reset (f n)) (replaced-free_before (substitutes_of g held) g j)
               ∙ sym (ap (opening_at g f j) e)
 
 opening-by : (r : Reset) (next : ℕ) (a b : Bool) → (is_free (record { next = next; reset = r }) ≡ true → a ≡ b) → opening r a ≡ opening r b
@@ -338,24 +338,24 @@ cleaning-maps held c d kept still_held valid netlist pass =
     let r : ℕ → Bool = pass.reached in
     let whole : IsGraph m.aig = IsGraph-merged c.aig held valid in
     let named : IsNetlist m = IsNetlist-merged held c valid netlist in
-    let P : Netlist → Type 0 = λ e. IsStateMap c e (kept_free m.aig r) (StandsHold c.aig held) (trimmed_state m.aig r) in
-    let Q : List ℕ → Type 0 = λ places. IsStateMap c d places (StandsHold c.aig held) (trimmed_state m.aig r) in
+    let P : Netlist → Type 0 = λ e. IsStateMap c e (kept_free m.aig r) (SubstitutesHold c.aig held) (trimmed_state m.aig r) in
+    let Q : List ℕ → Type 0 = λ places. IsStateMap c d places (SubstitutesHold c.aig held) (trimmed_state m.aig r) in
     subst Q (sym pass.free) (subst P (sym pass.circuit) (record {
-      holds_first = λ f. stands-first c.aig held valid f;
-      first = λ f. ap (trimmed_state m.aig r) (sym (merged-first c.aig held valid (λ i. false) (opening_state c.aig f) (stands-first c.aig held valid f) f)) ∙ trimmed-first m held r whole pass.are_reached.holds f;
-      keeps = λ x s holds. stands-keep c.aig held valid x s holds;
+      holds_first = λ f. substitutes-first c.aig held valid f;
+      first = λ f. ap (trimmed_state m.aig r) (sym (merged-first c.aig held valid (λ i. false) (opening_state c.aig f) (substitutes-first c.aig held valid f) f)) ∙ trimmed-first m held r whole pass.are_reached.holds f;
+      keeps = λ x s holds. substitutes-keep c.aig held valid x s holds;
       steps = λ x s holds. ap (trimmed_state m.aig r) (sym (merged-step c.aig held valid x s holds)) ∙ trimmed-step m held r whole pass.are_reached.holds x s;
       reads = λ x s holds. both-read c held r valid netlist x s holds pass.are_reached.holds;
     }))
   where
-    both-read : (c : Netlist) (held : List ℕ) (r : ℕ → Bool) → IsGraph c.aig → IsNetlist c → (x : Digits) (s : State) → StandsHold c.aig held s
+    both-read : (c : Netlist) (held : List ℕ) (r : ℕ → Bool) → IsGraph c.aig → IsNetlist c → (x : Digits) (s : State) → SubstitutesHold c.aig held s
         → HoldsReads (merged_of held c).aig (merged_of held c).props held r → SameReads c (trimmed_of (merged_of held c) r) x s (trimmed_state (merged_of held c).aig r s)
     both-read c held r valid netlist x s holds reached =
         let m : Netlist = merged_of held c in
         let whole : IsGraph m.aig = IsGraph-merged c.aig held valid in
         let named : IsNetlist m = IsNetlist-merged held c valid netlist in
         let one : SameReads c m x s s =
-        mapped-reads (replaced (stands_of c.aig held)) (λ lit. IsLiteralOf c.aig lit) c m x s s refl
+        mapped-reads (replaced (substitutes_of c.aig held)) (λ lit. IsLiteralOf c.aig lit) c m x s s refl
         (of_literals (λ lit. IsLiteralOf c.aig lit) c.props (literals_within c.aig c.props netlist.props)) (merged-value c.aig held valid x s holds) in
         let two : SameReads m (trimmed_of m r) x s (trimmed_state m.aig r s) =
         mapped-reads (renumbered m.aig r) (λ lit. IsLiteralOf m.aig lit × (stays m.aig r (variable lit) ≡ true)) m (trimmed_of m r) x s (trimmed_state m.aig r s) refl

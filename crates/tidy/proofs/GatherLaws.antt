@@ -7,11 +7,11 @@ use Rattle.std.proofs.lemmas.List.{take_all, length-drop, get_or_past}
 use Rattle.aig_graph.specs.declared.graph.Gate.{Gate}
 use Rattle.aig_graph.specs.Graph.{Graph, variable, first_gate}
 use Rattle.variable_tables.specs.Marking.{Marks, mark_at}
-use Rattle.cleaned_circuits.specs.Merged.{is_gate}
-use Rattle.cleaned_circuits.proofs.StandLaws.{is_gate-is, lookup_push}
+use Rattle.cleaned_circuits.specs.Merged.{same_fan_ins}
+use Rattle.cleaned_circuits.proofs.SubstituteLaws.{same_fan_ins-is, lookup_push}
 use Rattle.tidy.specs.Tidy.{IsPlain, AreLowTidy}
 use Rattle.tidy.specs.Gathered.{AreGathered, AreMarked, AreNew, IsLowCopy, IsShared, IsSpoilt, by_gate, by_pair, is_plain}
-use Rattle.tidy.proofs.CleanLaws.{is_gate-self, lookup-none}
+use Rattle.tidy.proofs.CleanLaws.{same_fan_ins-self, lookup-none}
 
 -- of no copies no pairs are gathered
 pub gathered-start : (copies : List Gate) (start : ℕ) → AreGathered copies start 0 []
@@ -54,7 +54,7 @@ plain-where gate e =
     record { constant = leb-true 2 gate.rhs1 parts.0; apart = ltb-true (variable gate.rhs1) (variable gate.rhs0) parts.1 }
 
 -- a low copy that is plain and has new literals is gathered with those before it
-pub gathered-more : (copies : List Gate) (start n : ℕ) (gate : Gate) (pairs : List (Gate × ℕ)) → slice_get copies n ≡ Some gate → variable gate.rhs1 < start → is_plain gate ≡ true → lookup (is_gate gate) pairs ≡ None
+pub gathered-more : (copies : List Gate) (start n : ℕ) (gate : Gate) (pairs : List (Gate × ℕ)) → slice_get copies n ≡ Some gate → variable gate.rhs1 < start → is_plain gate ≡ true → lookup (same_fan_ins gate) pairs ≡ None
     → AreGathered copies start n pairs → AreGathered copies start (n + 1) (pairs ++ (gate, 0) ∷ [])
 gathered-more copies start n gate pairs there low_here plain new so_far = record {
   plain = λ k other h e low. elim (cases_eq k n) [
@@ -62,19 +62,19 @@ gathered-more copies start n gate pairs there low_here plain new so_far = record
     | inr before ↦ so_far.plain k other (omega (arith, h, before)) e low
   ];
   found = λ k other h e low missing.
-      let parts = lookup-none (is_gate other) pairs gate 0 missing in
+      let parts = lookup-none (same_fan_ins other) pairs gate 0 missing in
       elim (cases_eq k n) [
-        | inl same ↦ both_ways (is_gate other gate) parts.1 (ap (is_gate other) (last k other same e) ∙ is_gate-self other)
+        | inl same ↦ both_ways (same_fan_ins other gate) parts.1 (ap (same_fan_ins other) (last k other same e) ∙ same_fan_ins-self other)
         | inr before ↦ so_far.found k other (omega (arith, h, before)) e low parts.0
       ];
   apart = λ i k other less h e f low. elim (cases_eq k n) [
-    | inl same ↦ so_far.found i other (omega (arith, less, same)) e low (ap (λ (g : Gate). lookup (is_gate g) pairs) (sym (last k other same f)) ∙ new)
+    | inl same ↦ so_far.found i other (omega (arith, less, same)) e low (ap (λ (g : Gate). lookup (same_fan_ins g) pairs) (sym (last k other same f)) ∙ new)
     | inr before ↦ so_far.apart i k other less (omega (arith, h, before)) e f low
   ];
-  from = λ other w e. elim (lookup_push (is_gate other) pairs gate 0 w e) [
+  from = λ other w e. elim (lookup_push (same_fan_ins other) pairs gate 0 w e) [
     | inl before ↦ later copies start n other (so_far.from other w before)
     | inr here ↦ (
-        let one : gate ≡ other = sym (is_gate-is other gate here.0) in
+        let one : gate ≡ other = sym (same_fan_ins-is other gate here.0) in
         let P : Gate → Type 0 = λ g. IsLowCopy copies start (n + 1) g in
         subst P one (record { place = n; before = omega arith; there = there; low = low_here }))
   ];
@@ -84,11 +84,11 @@ gathered-more copies start n gate pairs there low_here plain new so_far = record
     last k other same e = same_Some gate other (sym there ∙ ap (slice_get copies) (sym same) ∙ e)
 
 -- where the first n gates have none of the pairs, nor has the next one, the first n + 1 have none
-pub new-more : (gates : List Gate) (pairs : List (Gate × ℕ)) (n : ℕ) (gate : Gate) → slice_get gates n ≡ Some gate → lookup (is_gate gate) pairs ≡ None → AreNew gates pairs n → AreNew gates pairs (n + 1)
+pub new-more : (gates : List Gate) (pairs : List (Gate × ℕ)) (n : ℕ) (gate : Gate) → slice_get gates n ≡ Some gate → lookup (same_fan_ins gate) pairs ≡ None → AreNew gates pairs n → AreNew gates pairs (n + 1)
 new-more gates pairs n gate there new so_far k other h e = elim (cases_eq k n) [
   | inl same ↦ (
       let one : gate ≡ other = same_Some gate other (sym there ∙ ap (slice_get gates) (sym same) ∙ e) in
-      ap (λ (g : Gate). lookup (is_gate g) pairs) (sym one) ∙ new)
+      ap (λ (g : Gate). lookup (same_fan_ins g) pairs) (sym one) ∙ new)
   | inr before ↦ so_far k other (omega (arith, h, before)) e
 ]
 
@@ -147,11 +147,11 @@ tidy-sliced g gates first start pairs same starts copies outside =
     tidy-where g first start pairs starts (subst Q same (subst P whole copies)) (subst R same outside)
 
 -- why the answer is no
-pub spoilt-pair : (copies : List Gate) (start n : ℕ) (gate : Gate) (pairs : List (Gate × ℕ)) → slice_get copies n ≡ Some gate → is_some (lookup (is_gate gate) pairs) ≡ true
+pub spoilt-pair : (copies : List Gate) (start n : ℕ) (gate : Gate) (pairs : List (Gate × ℕ)) → slice_get copies n ≡ Some gate → is_some (lookup (same_fan_ins gate) pairs) ≡ true
     → AreGathered copies start n pairs → IsSpoilt copies start
-spoilt-pair copies start n gate pairs there found so_far = go (lookup (is_gate gate) pairs) refl found
+spoilt-pair copies start n gate pairs there found so_far = go (lookup (same_fan_ins gate) pairs) refl found
   where
-    go : (o : Option ℕ) → lookup (is_gate gate) pairs ≡ o → is_some o ≡ true → IsSpoilt copies start
+    go : (o : Option ℕ) → lookup (same_fan_ins gate) pairs ≡ o → is_some o ≡ true → IsSpoilt copies start
     go None e h = absurd (cc)
     go (Some w) e h = let low : IsLowCopy copies start n gate = so_far.from gate w e in by_pair low.place n gate low.before low.there there low.low
 
@@ -181,9 +181,9 @@ spoilt g first start starts (by_pair i k gate less e f low) tidy =
 
 shared : (g : Graph) (first start : ℕ) (pairs : List (Gate × ℕ)) → start ≡ first_gate g + first → AreGathered (drop first g.gates) start (length (drop first g.gates)) pairs
     → IsShared (take first g.gates) pairs → AreLowTidy g first → ⊥
-shared g first start pairs starts copies share tidy = go (lookup (is_gate share.gate) pairs) refl share.found
+shared g first start pairs starts copies share tidy = go (lookup (same_fan_ins share.gate) pairs) refl share.found
   where
-    go : (o : Option ℕ) → lookup (is_gate share.gate) pairs ≡ o → is_some o ≡ true → ⊥
+    go : (o : Option ℕ) → lookup (same_fan_ins share.gate) pairs ≡ o → is_some o ≡ true → ⊥
     go None e h = absurd (cc)
     go (Some w) e h =
         let low : IsLowCopy (drop first g.gates) start (length (drop first g.gates)) share.gate = copies.from share.gate w e in
@@ -232,13 +232,13 @@ marked-within marks v e =
 -- where the second variable of a pair is marked too, all pairs with that one are marked
 pub marked-more : (pairs : List (Gate × ℕ)) (marks new : List Bool) (gate : Gate) (var : ℕ) → var ≡ variable gate.rhs1 → var < length marks → Marks 0 marks new (λ v. nat_eq var v)
     → AreMarked pairs marks → AreMarked (pairs ++ (gate, 0) ∷ []) new
-marked-more pairs marks new gate var is within more so_far other w e = elim (lookup_push (is_gate other) pairs gate 0 w e) [
+marked-more pairs marks new gate var is within more so_far other w e = elim (lookup_push (same_fan_ins other) pairs gate 0 w e) [
   | inl before ↦ (
       let v : ℕ = variable other.rhs1 in
       let at = marked-within marks v (so_far other w before) in
       marked-at marks new (λ u. nat_eq var u) v more at.0 (or_left (slice_index_or marks v false) (nat_eq var v) at.1))
   | inr here ↦ (
-      let one : other ≡ gate = is_gate-is other gate here.0 in
+      let one : other ≡ gate = same_fan_ins-is other gate here.0 in
       let v : ℕ = variable other.rhs1 in
       let same : var ≡ v = is ∙ ap (λ (g : Gate). variable g.rhs1) (sym one) in
       marked-at marks new (λ u. nat_eq var u) v more (omega (arith, within, same)) (or_right (slice_index_or marks v false) (nat_eq var v) (eq-eqb var v same)))
@@ -249,9 +249,9 @@ pub marked-none : (marks : List Bool) → AreMarked [] marks
 marked-none marks gate w e = absurd (none-some w e)
 
 -- a gate whose second variable isn't marked has none of the pairs
-pub unmarked : (pairs : List (Gate × ℕ)) (marks : List Bool) (gate : Gate) → AreMarked pairs marks → mark_at 0 marks (variable gate.rhs1) ≡ false → is_some (lookup (is_gate gate) pairs) ≡ false
-unmarked pairs marks gate marked fails = go (lookup (is_gate gate) pairs) refl
+pub unmarked : (pairs : List (Gate × ℕ)) (marks : List Bool) (gate : Gate) → AreMarked pairs marks → mark_at 0 marks (variable gate.rhs1) ≡ false → is_some (lookup (same_fan_ins gate) pairs) ≡ false
+unmarked pairs marks gate marked fails = go (lookup (same_fan_ins gate) pairs) refl
   where
-    go : (o : Option ℕ) → lookup (is_gate gate) pairs ≡ o → is_some o ≡ false
+    go : (o : Option ℕ) → lookup (same_fan_ins gate) pairs ≡ o → is_some o ≡ false
     go None e = refl
     go (Some w) e = absurd (both_ways (mark_at 0 marks (variable gate.rhs1)) fails (marked gate w e))

@@ -13,10 +13,10 @@ use Rattle.aig_graph.specs.Circuits.{Netlist}
 use Rattle.aig_graph.specs.Value.{signed_as}
 use Rattle.aig_graph.proofs.KindLaws.{element}
 use Rattle.variable_tables.specs.Marking.{has}
-use Rattle.cleaned_circuits.specs.Latches.{leaf_stand, latch_stand, is_stuck}
-use Rattle.cleaned_circuits.specs.Merged.{Merging, is_gate, known_stand, merge_gate, merge_gates, merging_start, replaced, replaced_gate, stands_of, with_stand}
+use Rattle.cleaned_circuits.specs.Latches.{leaf_substitute, latch_substitute, is_stuck}
+use Rattle.cleaned_circuits.specs.Merged.{Merging, same_fan_ins, known_substitute, merge_gate, merge_gates, merging_start, replaced, replaced_gate, substitutes_of, with_substitute}
 use Rattle.cleaned_circuits.proofs.LatchLaws.{stands_for, by_constant, by_itself, by_earlier}
-use Rattle.cleaned_circuits.proofs.StandLaws.{GateIn, gate_stands, gates-in, length-stands_of, lookup_push, merge-all, start-entry, start-length, with_earlier, with_equal, with_false, with_opposite, with_true, is_gate-is}
+use Rattle.cleaned_circuits.proofs.SubstituteLaws.{GateIn, gate_substitutes, gates-in, length-substitutes_of, lookup_push, merge-all, start-entry, start-length, with_earlier, with_equal, with_false, with_opposite, with_true, same_fan_ins-is}
 use Rattle.cleaned_circuits.proofs.OwnLaws.{leaf-latch, leaf-low}
 use Rattle.tidy.specs.Tidy.{IsPlain, IsTidy}
 
@@ -34,11 +34,11 @@ ordered-gate gate h =
     ap one first ∙ ap two second
 
 -- a gate whose variables stand for themselves stays
-pub own-gate : (stands : List ℕ) (v : ℕ) (gate : Gate) → IsGateAt v gate → ((w : ℕ) → w < v → get_or stands w 0 ≡ 2 * w) → replaced_gate stands gate ≡ gate
-own-gate stands v gate at own =
-    let first : replaced stands gate.rhs0 ≡ gate.rhs0 = ap (signed_as gate.rhs0) (own (variable gate.rhs0) at.below) ∙ twice gate.rhs0 (variable gate.rhs0) refl in
-    let second : replaced stands gate.rhs1 ≡ gate.rhs1 = ap (signed_as gate.rhs1) (own (variable gate.rhs1) (omega (arith, at.below, at.ordered))) ∙ twice gate.rhs1 (variable gate.rhs1) refl in
-    ap (λ (n : ℕ). gate_of n (replaced stands gate.rhs1)) first ∙ ap (λ (n : ℕ). gate_of gate.rhs0 n) second ∙ ordered-gate gate at.ordered
+pub own-gate : (substitutes : List ℕ) (v : ℕ) (gate : Gate) → IsGateAt v gate → ((w : ℕ) → w < v → get_or substitutes w 0 ≡ 2 * w) → replaced_gate substitutes gate ≡ gate
+own-gate substitutes v gate at own =
+    let first : replaced substitutes gate.rhs0 ≡ gate.rhs0 = ap (signed_as gate.rhs0) (own (variable gate.rhs0) at.below) ∙ twice gate.rhs0 (variable gate.rhs0) refl in
+    let second : replaced substitutes gate.rhs1 ≡ gate.rhs1 = ap (signed_as gate.rhs1) (own (variable gate.rhs1) (omega (arith, at.below, at.ordered))) ∙ twice gate.rhs1 (variable gate.rhs1) refl in
+    ap (λ (n : ℕ). gate_of n (replaced substitutes gate.rhs1)) first ∙ ap (λ (n : ℕ). gate_of gate.rhs0 n) second ∙ ordered-gate gate at.ordered
 
 latch-is : (a b : Latch) → a.next ≡ b.next → a.reset ≡ b.reset → a ≡ b
 latch-is a b next reset =
@@ -47,14 +47,14 @@ latch-is a b next reset =
     ap one next ∙ ap two reset
 
 module _ (held : List ℕ) (c : Netlist) (valid : IsGraph c.aig) (tidy : IsTidy held c) where
-  tidy-leaf : (v : ℕ) → v < first_gate c.aig → leaf_stand c.aig held v ≡ 2 * v
+  tidy-leaf : (v : ℕ) → v < first_gate c.aig → leaf_substitute c.aig held v ≡ 2 * v
   tidy-leaf v h = elim (cases_lt v (first_latch c.aig)) [
     | inl low ↦ leaf-low c.aig held v low
     | inr past ↦ (
         let j : ℕ = v - first_latch c.aig in
         let there = element c.aig.latches j (omega arith) in
         let place : first_latch c.aig + j ≡ v = omega arith in
-        let here : leaf_stand c.aig held v ≡ latch_stand c.aig held j (Some there.0) = ap (leaf_stand c.aig held) (sym place) ∙ leaf-latch c.aig held j there.0 there.1 in
+        let here : leaf_substitute c.aig held v ≡ latch_substitute c.aig held j (Some there.0) = ap (leaf_substitute c.aig held) (sym place) ∙ leaf-latch c.aig held j there.0 there.1 in
         here ∙ elim (stands_for c.aig held j there.0) [
           | by_constant stuck e ↦ absurd (both_ways (is_stuck c.aig held j there.0) (tidy.moving j there.0 there.1) stuck)
           | by_itself moves e ↦ e ∙ ap (λ (w : ℕ). 2 * w) place
@@ -67,42 +67,42 @@ module _ (held : List ℕ) (c : Netlist) (valid : IsGraph c.aig) (tidy : IsTidy 
 
   -- all entries so far are their own, and what was kept are earlier gates
   record AreOwnSoFar (m : Merging) : Type 0 where
-    each : (v : ℕ) → v < length m.stands → get_or m.stands v 0 ≡ 2 * v
-    kept : (gate : Gate) (w : ℕ) → lookup (is_gate gate) m.kept ≡ Some w → (k : ℕ) × (slice_get c.aig.gates k ≡ Some gate) × (first_gate c.aig + k < length m.stands)
+    each : (v : ℕ) → v < length m.substitutes → get_or m.substitutes v 0 ≡ 2 * v
+    kept : (gate : Gate) (w : ℕ) → lookup (same_fan_ins gate) m.kept ≡ Some w → (k : ℕ) × (slice_get c.aig.gates k ≡ Some gate) × (first_gate c.aig + k < length m.substitutes)
 
-  step : (m : Merging) (gate : Gate) → AreOwnSoFar m → GateIn c.aig held valid (length m.stands) gate → AreOwnSoFar (merge_gate m gate)
+  step : (m : Merging) (gate : Gate) → AreOwnSoFar m → GateIn c.aig held valid (length m.substitutes) gate → AreOwnSoFar (merge_gate m gate)
   step m gate so_far place =
-      let at : IsGateAt (length m.stands) gate = place.at in
-      let same : replaced_gate m.stands gate ≡ gate = own-gate m.stands (length m.stands) gate at so_far.each in
-      let P : Gate → Type 0 = λ x. AreOwnSoFar (with_stand m x (known_stand m.kept x)) in
-      subst P (sym same) (go (known_stand m.kept gate) refl)
+      let at : IsGateAt (length m.substitutes) gate = place.at in
+      let same : replaced_gate m.substitutes gate ≡ gate = own-gate m.substitutes (length m.substitutes) gate at so_far.each in
+      let P : Gate → Type 0 = λ x. AreOwnSoFar (with_substitute m x (known_substitute m.kept x)) in
+      subst P (sym same) (go (known_substitute m.kept gate) refl)
     where
       plain : IsPlain gate
       plain = tidy.plain place.place gate place.there
 
-      go : (o : Option ℕ) → known_stand m.kept gate ≡ o → AreOwnSoFar (with_stand m gate o)
-      go (Some stand) some = elim (gate_stands m.kept gate) [
+      go : (o : Option ℕ) → known_substitute m.kept gate ≡ o → AreOwnSoFar (with_substitute m gate o)
+      go (Some substitute) some = elim (gate_substitutes m.kept gate) [
         | with_false a e ↦ absurd (omega (arith, plain.constant, a))
         | with_true a e ↦ absurd (omega (arith, plain.constant, a))
         | with_equal a e ↦ absurd (omega (arith, plain.apart, a))
         | with_opposite a b e ↦ absurd (omega (arith, plain.apart, b))
         | with_earlier e ↦ (
-            let before = so_far.kept gate stand (sym e ∙ some) in
+            let before = so_far.kept gate substitute (sym e ∙ some) in
             let one : before.0 ≡ place.place = tidy.pairs before.0 place.place gate before.1 place.there in
             absurd (omega (arith, one, before.2, place.variable_is)))
       ]
       go None none = record {
-        each = λ v h. elim (cases_eq v (length m.stands)) [
-          | inl last ↦ get_or_push m.stands (2 * length m.stands) 0 v (sym last) ∙ ap (λ (w : ℕ). 2 * w) (sym last)
+        each = λ v h. elim (cases_eq v (length m.substitutes)) [
+          | inl last ↦ get_or_push m.substitutes (2 * length m.substitutes) 0 v (sym last) ∙ ap (λ (w : ℕ). 2 * w) (sym last)
           | inr other ↦ (
-              let less : v < length m.stands = omega (arith, length_push m.stands (2 * length m.stands), h, other) in
-              get_or_append_left m.stands (2 * length m.stands ∷ []) 0 v less ∙ so_far.each v less)
+              let less : v < length m.substitutes = omega (arith, length_push m.substitutes (2 * length m.substitutes), h, other) in
+              get_or_append_left m.substitutes (2 * length m.substitutes ∷ []) 0 v less ∙ so_far.each v less)
         ];
-        kept = λ other w e. elim (lookup_push (is_gate other) m.kept gate (2 * length m.stands) w e) [
-          | inl before ↦ (let there = so_far.kept other w before in (there.0, there.1, omega (arith, there.2, length_push m.stands (2 * length m.stands))))
+        kept = λ other w e. elim (lookup_push (same_fan_ins other) m.kept gate (2 * length m.substitutes) w e) [
+          | inl before ↦ (let there = so_far.kept other w before in (there.0, there.1, omega (arith, there.2, length_push m.substitutes (2 * length m.substitutes))))
           | inr here ↦ (
-              let one : other ≡ gate = is_gate-is other gate here.0 in
-              (place.place, place.there ∙ ap (λ (x : Gate). Some x) (sym one), omega (arith, place.variable_is, length_push m.stands (2 * length m.stands))))
+              let one : other ≡ gate = same_fan_ins-is other gate here.0 in
+              (place.place, place.there ∙ ap (λ (x : Gate). Some x) (sym one), omega (arith, place.variable_is, length_push m.substitutes (2 * length m.substitutes))))
         ];
       }
 
@@ -113,6 +113,6 @@ module _ (held : List ℕ) (c : Netlist) (valid : IsGraph c.aig) (tidy : IsTidy 
   })
 
   -- in a tidy circuit each variable stands for itself in a pass of cleaning
-  pub tidy-own : (v : ℕ) → v < variables_end c.aig → get_or (stands_of c.aig held) v 0 ≡ 2 * v
-  unfolding stands_of
-  tidy-own v h = own-all.each v (omega (arith, h, length-stands_of c.aig held))
+  pub tidy-own : (v : ℕ) → v < variables_end c.aig → get_or (substitutes_of c.aig held) v 0 ≡ 2 * v
+  unfolding substitutes_of
+  tidy-own v h = own-all.each v (omega (arith, h, length-substitutes_of c.aig held))

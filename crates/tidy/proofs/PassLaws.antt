@@ -9,7 +9,7 @@ use Rattle.aig_graph.specs.Streams.{AreKept, property_literals}
 use Rattle.aig_graph.proofs.FoldingLaws.{gate_at-is}
 use Rattle.aig_graph.proofs.KindLaws.{GatePlace, LatchPlace, gate_place, latch_place}
 use Rattle.aig_graph.proofs.PropsLaws.{literals_within}
-use Rattle.cleaned_circuits.specs.Merged.{merged_of, stands_of}
+use Rattle.cleaned_circuits.specs.Merged.{merged_of, substitutes_of}
 use Rattle.cleaned_circuits.specs.Reached.{AreReached, stays}
 use Rattle.cleaned_circuits.specs.Trimmed.{kept_free, new_position, new_variable, trimmed_of}
 use Rattle.cleaned_circuits.specs.Cleaned.{IsPass, Cleans, unchanged}
@@ -88,7 +88,7 @@ module _ (held : List ℕ) (c : Netlist) (valid : IsCircuit c) (in_range : All (
   -- a pass of cleaning changes nothing in a tidy circuit
   pub tidy-pass : IsPass held c c (all_free c.aig) held
   tidy-pass =
-      let merged : merged_of held c ≡ c = replaced_circuit-same (stands_of c.aig held) c valid (tidy-own held c valid.graph tidy) in
+      let merged : merged_of held c ≡ c = replaced_circuit-same (substitutes_of c.aig held) c valid (tidy-own held c valid.graph tidy) in
       let P : Netlist → Type 0 = λ m. Unchanging held c m (is_inner c.aig) in
       let all : Unchanging held c (merged_of held c) (is_inner c.aig) = subst P (sym merged) unchanging in
       record { reached = is_inner c.aig; are_reached = all.are_reached; circuit = all.circuit; free = all.free; positions = all.positions }

@@ -4,7 +4,7 @@
 ghost use Rattle.std.specs.Prelude.{◌≡◌, ◌-◌, ◌≤◌, ◌↔◌, true, false, [], IfOk, IsTrue, is_some, length};
 ghost use Rattle.std.specs.Map.{lookup};
 ghost use Rattle.aig_graph.specs.Graph.{first_gate};
-ghost use Rattle.cleaned_circuits.specs.Merged.{is_gate};
+ghost use Rattle.cleaned_circuits.specs.Merged.{same_fan_ins};
 ghost use Rattle.tidy.specs.Tidy.{AreLowTidy};
 ghost use Rattle.tidy.specs.Gathered.{is_plain, AreGathered, AreMarked, AreNew, IsShared, IsSpoilt};
 
@@ -50,7 +50,7 @@ fn gather(
 /// Whether the gate has one of the pairs. The table is asked only where the mark is set.
 fn is_among(pairs: &Pairs, marks: &[bool], gate: &Gate) -> bool
     requires { AreMarked pairs.now marks.now }
-    ensures { result ≡ is_some (lookup (is_gate gate.now) pairs.now) }
+    ensures { result ≡ is_some (lookup (same_fan_ins gate.now) pairs.now) }
 {
     if mark_at(marks, 0, gate.rhs1.var()) {
         pairs.find(*gate).is_some()

@@ -1,6 +1,6 @@
 ghost use Rattle.std.specs.Prelude.{◌≡◌, ◌++◌, ◌∷◌, [], None, OnOk, is_some};
 ghost use Rattle.std.specs.Map.{lookup};
-ghost use Rattle.cleaned_circuits.specs.Merged.{is_gate};
+ghost use Rattle.cleaned_circuits.specs.Merged.{same_fan_ins};
 
 use aig_graph::{Gate, Lit, NoMemory};
 use indexmap::IndexMap;
@@ -34,14 +34,14 @@ impl Pairs {
 
     /// The literal beside the pair.
     pub(crate) fn find(&self, gate: Gate) -> Option<Lit>
-        ensures { result ≡ lookup (is_gate gate) self.now }
+        ensures { result ≡ lookup (same_fan_ins gate) self.now }
     {
         self.gates.get(&gate).copied()
     }
 
     /// Adds another pair than each one's.
     pub(crate) fn add(&mut self, gate: Gate) -> Result<(), NoMemory>
-        requires { lookup (is_gate gate) self.old ≡ None }
+        requires { lookup (same_fan_ins gate) self.old ≡ None }
         ensures { OnOk result (self.new ≡ self.old ++ (gate, 0) ∷ []) }
     {
         self.gates.insert(gate, Lit::FALSE)?;

@@ -12,11 +12,11 @@ use Rattle.aig_graph.specs.Closed.{is_held, IsClosedSet}
 use Rattle.aig_graph.specs.Move.{move_of}
 use Rattle.aig_graph.specs.Border.{border_size, is_read_outside}
 use Rattle.aig_graph.proofs.ClosedBorderLaws.{closed-border_size}
-use Rattle.frame_net.specs.Capacity.{leaves}
+use Rattle.frame_net.specs.Capacity.{is_observed}
 use Rattle.unit_flows.specs.declared.gate_flow.GateFlow.{GateFlow}
 use Rattle.unit_flows.specs.Units.{unit, nth_gate, nth_flow, ups, downs, comes_after, AreTallies, IsBalanced, arrives, arrivals}
 use Rattle.unit_flows.specs.Onward.{waits, IsFuller}
-use Rattle.unit_flows.proofs.SideLaws.{borders, far_after, far_before, far-outside, first-read, second-read, nth-at, leaves-far, reads-far, fan_in-far, outside-gate, holder-borders}
+use Rattle.unit_flows.proofs.SideLaws.{borders, far_after, far_before, far-outside, first-read, second-read, nth-at, is_observed-far, reads-far, fan_in-far, outside-gate, holder-borders}
 use Rattle.unit_flows.proofs.GateSumLaws.{unit-true, unit-false, unit-le, IsSplit, comes, goes, comes-le}
 
 -- ---- sums
@@ -121,9 +121,9 @@ module _ (c : Netlist) (held r : List ℕ) (flows : List GateFlow) (went came : 
   after-entry : (p : ℕ) → p < latches_and_gates c.aig
       → slice_index went p * weight_after (first_latch c.aig + p) + unit (arrives c held flows went p) ≤ unit (comes_after c.aig flows p) * weight_after (first_latch c.aig + p)
   after-entry p h = entry-parts (slice_index went p) (unit (comes_after c.aig flows p)) (weight_after (first_latch c.aig + p)) (arrives c held flows went p) (balanced.after p h) (unit-le _) (λ arrives.
-      let parts = and_parts (leaves c.aig c.props held (first_latch c.aig + p) && comes_after c.aig flows p) (slice_index went p == 0) arrives in
-      let first = and_parts (leaves c.aig c.props held (first_latch c.aig + p)) (comes_after c.aig flows p) parts.0 in
-      (unit-true _ first.1, eqb-true (slice_index went p) 0 parts.1, unit-true _ (leaves-far c held r set (first_latch c.aig + p) first.0)))
+      let parts = and_parts (is_observed c.aig c.props held (first_latch c.aig + p) && comes_after c.aig flows p) (slice_index went p == 0) arrives in
+      let first = and_parts (is_observed c.aig c.props held (first_latch c.aig + p)) (comes_after c.aig flows p) parts.0 in
+      (unit-true _ first.1, eqb-true (slice_index went p) 0 parts.1, unit-true _ (is_observed-far c held r set (first_latch c.aig + p) first.0)))
 
   latch-entry : (j : ℕ) → j < length c.aig.latches → unit (comes_after c.aig flows j) * weight_after (first_latch c.aig + j) ≤ unit (borders c held r (first_latch c.aig + j))
   latch-entry j h =
@@ -274,9 +274,9 @@ module _ (c : Netlist) (held r : List ℕ) (flows : List GateFlow) (went came : 
   -- there nothing is left on the far side: after no variable ..
   pub left_after-near : border_size (move_of c held r) ≤ arrivals c held flows went → (p : ℕ) → p < latches_and_gates c.aig → waits c held flows went p ≡ true → far_after c held r (first_latch c.aig + p) ≡ false
   left_after-near least p h left = false_from_ne_true (far_after c held r (first_latch c.aig + p)) (λ far.
-      let parts = and_parts (not (leaves c.aig c.props held (first_latch c.aig + p)) && comes_after c.aig flows p) (slice_index went p == 0) left in
-      let first = and_parts (not (leaves c.aig c.props held (first_latch c.aig + p))) (comes_after c.aig flows p) parts.0 in
-      let stays : arrives c held flows went p ≡ false = ap (λ (b : Bool). (b && comes_after c.aig flows p) && (slice_index went p == 0)) (not-true (leaves c.aig c.props held (first_latch c.aig + p)) first.0) in
+      let parts = and_parts (not (is_observed c.aig c.props held (first_latch c.aig + p)) && comes_after c.aig flows p) (slice_index went p == 0) left in
+      let first = and_parts (not (is_observed c.aig c.props held (first_latch c.aig + p))) (comes_after c.aig flows p) parts.0 in
+      let stays : arrives c held flows went p ≡ false = ap (λ (b : Bool). (b && comes_after c.aig flows p) && (slice_index went p == 0)) (not-true (is_observed c.aig c.props held (first_latch c.aig + p)) first.0) in
       let goes : after_goes p ≡ 0 = omega (arith, ap (λ (n : ℕ). n * weight_after (first_latch c.aig + p)) (eqb-true (slice_index went p) 0 parts.1), unit-false _ stays) in
       let comes : after_comes p ≡ 1 = ap₂ (λ (n m : ℕ). n * m) (unit-true _ first.1) (unit-true _ far) in
       omega (

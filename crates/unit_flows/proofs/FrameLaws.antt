@@ -7,19 +7,19 @@ use Rattle.variable_tables.proofs.TableLaws.{length-table}
 use Rattle.aig_graph.specs.declared.graph.Gate.{Gate}
 use Rattle.aig_graph.specs.Graph.{Graph, first_latch, latches_and_gates}
 use Rattle.aig_graph.specs.Circuits.{Netlist}
-use Rattle.frame_net.specs.Capacity.{leaves}
+use Rattle.frame_net.specs.Capacity.{is_observed}
 use Rattle.unit_flows.specs.Units.{nth_gate}
 use Rattle.unit_flows.specs.Shown.{IsCutAt}
 use Rattle.std.proofs.lemmas.Bool.{le-leb}
 use Rattle.std.proofs.lemmas.List.{get_or_default}
 use Rattle.flow_theory.specs.Flow.{sum_below}
 
-pub leaving-long : (c : Netlist) (held : List ℕ) (marks : List Bool) → marks ≡ table (first_latch c.aig) (latches_and_gates c.aig) (leaves c.aig c.props held) → length marks ≡ latches_and_gates c.aig
-leaving-long c held marks filled = ap length filled ∙ length-table (first_latch c.aig) (latches_and_gates c.aig) (leaves c.aig c.props held)
+pub leaving-long : (c : Netlist) (held : List ℕ) (marks : List Bool) → marks ≡ table (first_latch c.aig) (latches_and_gates c.aig) (is_observed c.aig c.props held) → length marks ≡ latches_and_gates c.aig
+leaving-long c held marks filled = ap length filled ∙ length-table (first_latch c.aig) (latches_and_gates c.aig) (is_observed c.aig c.props held)
 
-pub leaving-at : (c : Netlist) (held : List ℕ) (marks : List Bool) (p : ℕ) → marks ≡ table (first_latch c.aig) (latches_and_gates c.aig) (leaves c.aig c.props held) → p < latches_and_gates c.aig
-    → get_or marks p false ≡ leaves c.aig c.props held (first_latch c.aig + p)
-leaving-at c held marks p filled h = AreMarks-table (first_latch c.aig) (latches_and_gates c.aig) marks (leaves c.aig c.props held) filled p (omega (arith, h, leaving-long c held marks filled))
+pub leaving-at : (c : Netlist) (held : List ℕ) (marks : List Bool) (p : ℕ) → marks ≡ table (first_latch c.aig) (latches_and_gates c.aig) (is_observed c.aig c.props held) → p < latches_and_gates c.aig
+    → get_or marks p false ≡ is_observed c.aig c.props held (first_latch c.aig + p)
+leaving-at c held marks p filled h = AreMarks-table (first_latch c.aig) (latches_and_gates c.aig) marks (is_observed c.aig c.props held) filled p (omega (arith, h, leaving-long c held marks filled))
 
 -- the mark of the variable at a place
 pub mark-at-place : (first : ℕ) (marks : List Bool) (p : ℕ) → mark_at first marks (first + p) ≡ get_or marks p false
@@ -28,8 +28,8 @@ mark-at-place first marks p =
     let place : first + p - first ≡ p = omega arith in
     ap (λ (b : Bool). b && get_or marks (first + p - first) false) (le-leb first (first + p) (omega arith)) ∙ ap (λ (i : ℕ). get_or marks i false) place
 
-pub leaving-read : (c : Netlist) (held : List ℕ) (marks : List Bool) (p : ℕ) (r : Bool) → marks ≡ table (first_latch c.aig) (latches_and_gates c.aig) (leaves c.aig c.props held) → p < latches_and_gates c.aig
-    → r ≡ get_or marks p r → r ≡ leaves c.aig c.props held (first_latch c.aig + p)
+pub leaving-read : (c : Netlist) (held : List ℕ) (marks : List Bool) (p : ℕ) (r : Bool) → marks ≡ table (first_latch c.aig) (latches_and_gates c.aig) (is_observed c.aig c.props held) → p < latches_and_gates c.aig
+    → r ≡ get_or marks p r → r ≡ is_observed c.aig c.props held (first_latch c.aig + p)
 leaving-read c held marks p r filled h read =
     read ∙ get_or_default marks p r false (omega (arith, h, leaving-long c held marks filled)) ∙ leaving-at c held marks p filled h
 

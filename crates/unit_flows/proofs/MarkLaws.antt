@@ -8,7 +8,7 @@ use Rattle.variable_tables.proofs.MarkingLaws.{AreMarks-table}
 use Rattle.variable_tables.proofs.TableLaws.{length-table}
 use Rattle.aig_graph.specs.Graph.{first_latch, latches_and_gates}
 use Rattle.aig_graph.specs.Circuits.{Netlist}
-use Rattle.frame_net.specs.Capacity.{leaves}
+use Rattle.frame_net.specs.Capacity.{is_observed}
 use Rattle.unit_flows.specs.declared.gate_flow.GateFlow.{GateFlow}
 use Rattle.unit_flows.specs.Marks.{AreWithin, ReachSink}
 use Rattle.unit_flows.specs.Onward.{AreReachedFromLeft}
@@ -59,7 +59,7 @@ nothing-marked first n v = and_right (nat_le first v) (get_or (replicate n false
 ])
 
 -- before any sweep what leaves is marked after, and nothing before
-pub reach-first : (c : Netlist) (held : List ℕ) (flows : List GateFlow) (n : ℕ) (xs ys : List Bool) → xs ≡ replicate n false → ys ≡ table (first_latch c.aig) (latches_and_gates c.aig) (leaves c.aig c.props held)
+pub reach-first : (c : Netlist) (held : List ℕ) (flows : List GateFlow) (n : ℕ) (xs ys : List Bool) → xs ≡ replicate n false → ys ≡ table (first_latch c.aig) (latches_and_gates c.aig) (is_observed c.aig c.props held)
     → ReachSink c held flows xs ys
 unfolding mark_at
 reach-first c held flows n xs ys none filled b a up = record {
@@ -70,14 +70,14 @@ reach-first c held flows n xs ys none filled b a up = record {
     true_false : true ≡ false → ⊥
     true_false e = absurd (cc)
 
-    leaving : (v : ℕ) → mark_at (first_latch c.aig) ys v ≡ true → leaves c.aig c.props held v ≡ true
+    leaving : (v : ℕ) → mark_at (first_latch c.aig) ys v ≡ true → is_observed c.aig c.props held v ≡ true
     leaving v e =
         let parts = and_parts (nat_le (first_latch c.aig) v) (get_or ys (v - first_latch c.aig) false) e in
         let low : first_latch c.aig ≤ v = leb-true (first_latch c.aig) v parts.0 in
         let place : first_latch c.aig + (v - first_latch c.aig) ≡ v = omega (arith, low) in
-        let long : length ys ≡ latches_and_gates c.aig = ap length filled ∙ length-table (first_latch c.aig) (latches_and_gates c.aig) (leaves c.aig c.props held) in
+        let long : length ys ≡ latches_and_gates c.aig = ap length filled ∙ length-table (first_latch c.aig) (latches_and_gates c.aig) (is_observed c.aig c.props held) in
         elim (cases_lt (v - first_latch c.aig) (length ys)) [
-          | inl below ↦ sym (ap (leaves c.aig c.props held) place) ∙ sym (AreMarks-table (first_latch c.aig) (latches_and_gates c.aig) ys (leaves c.aig c.props held) filled (v - first_latch c.aig) below) ∙ parts.1
+          | inl below ↦ sym (ap (is_observed c.aig c.props held) place) ∙ sym (AreMarks-table (first_latch c.aig) (latches_and_gates c.aig) ys (is_observed c.aig c.props held) filled (v - first_latch c.aig) below) ∙ parts.1
           | inr past ↦ absurd (true_false (sym parts.1 ∙ get_or_past ys (v - first_latch c.aig) false past))
         ]
 

@@ -21,7 +21,7 @@ use Rattle.aig_graph.proofs.ClosedLaws.{is_settled-gate, movable-latch}
 use Rattle.aig_graph.proofs.KindLaws.{latch_at-before}
 use Rattle.aig_graph.proofs.SearchLaws.{has_iff_contains}
 use Rattle.frame_net.specs.Passable.{is_passable}
-use Rattle.frame_net.specs.Capacity.{gate_reads, leaves}
+use Rattle.frame_net.specs.Capacity.{gate_reads, is_observed}
 use Rattle.frame_net.proofs.PassableLaws.{passable-means, passable-at_gate, settled-split}
 use Rattle.frame_cuts.proofs.ReadLaws.{read-split}
 use Rattle.frame_cuts.proofs.NetLaws.{gate-range}
@@ -30,7 +30,7 @@ use Rattle.unit_flows.specs.Units.{unit, nth_gate, nth_flow, AreTallies, IsBalan
 use Rattle.unit_flows.specs.Marks.{HoldsTails, IsUpstream}
 use Rattle.unit_flows.specs.Shown.{is_off, IsCutAt, crosses, IsFullCut}
 use Rattle.unit_flows.specs.Laws.{BorderLaw, ShownLaw}
-use Rattle.unit_flows.proofs.SideLaws.{true_false, is_true, borders, far_after, far_before, far-outside, nth-at, first-read, second-read, leaves-far, reads-far, fan_in-far, outside-gate}
+use Rattle.unit_flows.proofs.SideLaws.{true_false, is_true, borders, far_after, far_before, far-outside, nth-at, first-read, second-read, is_observed-far, reads-far, fan_in-far, outside-gate}
 use Rattle.unit_flows.proofs.GateSumLaws.{unit-true, unit-false, unit-le, full-through, full-first_home, full-second_home, full-first_back, full-second_back}
 use Rattle.unit_flows.proofs.BalanceLaws.{count-sum, split, arrivals-le, full-at}
 
@@ -78,7 +78,7 @@ module _ (c : Netlist) (held r : List ℕ) (flows : List GateFlow) (went came : 
     }
 
   pub upstream : IsUpstream c held flows (far_before c r) (far_after c held r)
-  upstream = record { sink = λ v l. leaves-far c held r set v l; gates = tails }
+  upstream = record { sink = λ v l. is_observed-far c held r set v l; gates = tails }
 
 -- ---- the set off the marks
 
@@ -131,12 +131,12 @@ module _ (c : Netlist) (held : List ℕ) (flows : List GateFlow) (went : List �
 
   -- what is in the border crosses
   border-crosses : (p : ℕ) → p < latches_and_gates c.aig → borders c held s (first_latch c.aig + p) ≡ true → crosses c held before after (first_latch c.aig + p) ≡ true
-  unfolding borders leaves
+  unfolding borders is_observed
   border-crosses p h b =
       let parts = and_parts (is_known (latch_at c.aig (first_latch c.aig + p)) || has s (first_latch c.aig + p)) (is_held c.aig held (first_latch c.aig + p) || is_read_outside c.aig c.props (has s) (first_latch c.aig + p)) b in
       and_from (is_known (latch_at c.aig (first_latch c.aig + p)) || is_off c held before (first_latch c.aig + p)) (after (first_latch c.aig + p))
       (sym (ap (λ (x : Bool). is_known (latch_at c.aig (first_latch c.aig + p)) || x) (members (first_latch c.aig + p))) ∙ parts.0)
-      (elim (cases_Bool (leaves c.aig c.props held (first_latch c.aig + p))) [
+      (elim (cases_Bool (is_observed c.aig c.props held (first_latch c.aig + p))) [
         | inl yes' ↦ cut.sink p h yes'
         | inr no' ↦ by_gate (first_latch c.aig + p) parts.1 (or_parts (is_held c.aig held (first_latch c.aig + p)) (is_read_outside c.aig c.props (is_passable c.aig held) (first_latch c.aig + p)) no')
       ])

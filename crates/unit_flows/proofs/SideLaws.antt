@@ -13,7 +13,7 @@ use Rattle.aig_graph.proofs.FoldingLaws.{gate_at-first_gate}
 use Rattle.aig_graph.proofs.KindLaws.{latch_at-gates, latch_place}
 use Rattle.aig_graph.proofs.SearchLaws.{has_iff_contains}
 use Rattle.frame_net.specs.Passable.{is_passable}
-use Rattle.frame_net.specs.Capacity.{gate_reads, leaves}
+use Rattle.frame_net.specs.Capacity.{gate_reads, is_observed}
 use Rattle.frame_net.proofs.PassableLaws.{passable-means}
 use Rattle.frame_cuts.proofs.ReadLaws.{read-split, read-by_gate}
 use Rattle.frame_cuts.proofs.NetLaws.{gate-range}
@@ -68,9 +68,9 @@ module _ (c : Netlist) (held r : List ℕ) (set : IsClosedSet c.aig held r) wher
   outside-gates v h = false_from_ne_true (has r v) (λ m. omega (arith, h, (gate-range c.aig held v (member-passable v m)).0))
 
   -- what is read from outside the passable gates lies on the far side
-  pub leaves-far : (v : ℕ) → leaves c.aig c.props held v ≡ true → far_after c held r v ≡ true
-  unfolding leaves far_after
-  leaves-far v l = or_right (not (is_known (latch_at c.aig v) || has r v)) _ (elim (or_cases (is_held c.aig held v) (is_read_outside c.aig c.props (is_passable c.aig held) v) l) [
+  pub is_observed-far : (v : ℕ) → is_observed c.aig c.props held v ≡ true → far_after c held r v ≡ true
+  unfolding is_observed far_after
+  is_observed-far v l = or_right (not (is_known (latch_at c.aig v) || has r v)) _ (elim (or_cases (is_held c.aig held v) (is_read_outside c.aig c.props (is_passable c.aig held) v) l) [
     | inl stays ↦ or_left (is_held c.aig held v) (is_read_outside c.aig c.props (has r) v) stays
     | inr read ↦ or_right (is_held c.aig held v) (is_read_outside c.aig c.props (has r) v) (elim (cases_Bool (is_read_outside c.aig c.props (has r) v)) [
       | inl yes' ↦ yes'

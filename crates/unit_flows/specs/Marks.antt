@@ -4,7 +4,7 @@ use Rattle.variable_tables.specs.Marking.{mark_at}
 use Rattle.aig_graph.specs.declared.graph.Gate.{Gate}
 use Rattle.aig_graph.specs.Graph.{variable, first_latch, first_gate}
 use Rattle.aig_graph.specs.Circuits.{Netlist}
-use Rattle.frame_net.specs.Capacity.{leaves}
+use Rattle.frame_net.specs.Capacity.{is_observed}
 use Rattle.unit_flows.specs.declared.gate_flow.GateFlow.{GateFlow}
 use Rattle.unit_flows.specs.Units.{nth_gate, nth_flow}
 
@@ -25,7 +25,7 @@ pub record HoldsTails (before after : ℕ → Bool) (w : ℕ) (gate : Gate) (flo
 
 -- it does so at each gate, and holds the nodes after what is read from outside the passable gates
 pub record IsUpstream (c : Netlist) (held : List ℕ) (flows : List GateFlow) (before after : ℕ → Bool) : Type 0 where
-  pub sink : (v : ℕ) → leaves c.aig c.props held v ≡ true → after v ≡ true
+  pub sink : (v : ℕ) → is_observed c.aig c.props held v ≡ true → after v ≡ true
   pub gates : (k : ℕ) → k < length c.aig.gates → HoldsTails before after (first_gate c.aig + k) (nth_gate c.aig k) (nth_flow flows k)
 
 -- what is marked before and after variables lies in the set

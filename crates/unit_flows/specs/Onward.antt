@@ -4,7 +4,7 @@ use Rattle.variable_tables.specs.Marking.{mark_at}
 use Rattle.aig_graph.specs.declared.graph.Gate.{Gate}
 use Rattle.aig_graph.specs.Graph.{variable, first_latch, first_gate, latches_and_gates, variables_end}
 use Rattle.aig_graph.specs.Circuits.{Netlist}
-use Rattle.frame_net.specs.Capacity.{leaves}
+use Rattle.frame_net.specs.Capacity.{is_observed}
 use Rattle.unit_flows.specs.declared.gate_flow.GateFlow.{GateFlow}
 use Rattle.unit_flows.specs.Units.{unit, nth_gate, nth_flow, comes_after}
 use Rattle.unit_flows.specs.Marks.{AreWithin}
@@ -24,7 +24,7 @@ pub record HoldsHeads (before after : ℕ → Bool) (w : ℕ) (gate : Gate) (flo
 
 -- whether a unit is left after the variable at a place, and can't leave there
 abbrev pub waits : Netlist → List ℕ → List GateFlow → List ℕ → ℕ → Bool
-waits c held flows went p = not (leaves c.aig c.props held (first_latch c.aig + p)) && comes_after c.aig flows p && (slice_index went p == 0)
+waits c held flows went p = not (is_observed c.aig c.props held (first_latch c.aig + p)) && comes_after c.aig flows p && (slice_index went p == 0)
 
 -- more units come to before a gate than go on from there, where so many come from gates that read it
 abbrev pub IsFuller : GateFlow → ℕ → Type 0

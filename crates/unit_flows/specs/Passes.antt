@@ -3,7 +3,7 @@ use Rattle.std.specs.Prelude.{◌≡◌, ℕ, ◌+◌, ◌<◌, ◌≤◌, Bool,
 use Rattle.aig_graph.specs.Graph.{first_latch, first_gate, latches_and_gates}
 use Rattle.aig_graph.specs.Circuits.{Netlist}
 use Rattle.frame_net.specs.Passable.{is_passable}
-use Rattle.frame_net.specs.Capacity.{leaves}
+use Rattle.frame_net.specs.Capacity.{is_observed}
 use Rattle.unit_flows.specs.declared.gate_flow.GateFlow.{GateFlow}
 use Rattle.unit_flows.specs.Units.{nth_gate, nth_flow, IsBalancedAfter, IsBalancedBefore, arrivals}
 use Rattle.unit_flows.specs.Shown.{IsCutAt, crossings}
@@ -16,7 +16,7 @@ pub record GateHolds (c : Netlist) (held : List ℕ) (flows : List GateFlow) (ca
 -- no more goes on from after the variable at a place than comes there, and it is marked where it leaves
 pub record PlaceHolds (c : Netlist) (held : List ℕ) (flows : List GateFlow) (went : List ℕ) (after : ℕ → Bool) (p : ℕ) : Type 0 where
   pub balanced : IsBalancedAfter c.aig flows went p
-  pub marked : leaves c.aig c.props held (first_latch c.aig + p) ≡ true → after (first_latch c.aig + p) ≡ true
+  pub marked : is_observed c.aig c.props held (first_latch c.aig + p) ≡ true → after (first_latch c.aig + p) ≡ true
 
 -- all places do, and no more variables cross than units arrive
 pub record PlacesHold (c : Netlist) (held : List ℕ) (flows : List GateFlow) (went : List ℕ) (before after : ℕ → Bool) : Type 0 where

@@ -5,7 +5,7 @@ use Rattle.aig_graph.specs.declared.graph.Gate.{Gate}
 use Rattle.aig_graph.specs.Graph.{variable, first_latch, first_gate, latches_and_gates, latch_at, is_known}
 use Rattle.aig_graph.specs.Circuits.{Netlist}
 use Rattle.frame_net.specs.Passable.{is_passable}
-use Rattle.frame_net.specs.Capacity.{leaves}
+use Rattle.frame_net.specs.Capacity.{is_observed}
 use Rattle.unit_flows.specs.declared.gate_flow.GateFlow.{GateFlow}
 use Rattle.unit_flows.specs.Units.{unit, nth_gate, AreTallies, IsBalanced, arrivals}
 
@@ -31,7 +31,7 @@ crossings c held before after = sum_below (latches_and_gates c.aig) (λ p. unit 
 
 -- a cut that as many units cross as it has room for
 pub record IsFullCut (c : Netlist) (held : List ℕ) (flows : List GateFlow) (went : List ℕ) (before after : ℕ → Bool) : Type 0 where
-  pub sink : (p : ℕ) → p < latches_and_gates c.aig → leaves c.aig c.props held (first_latch c.aig + p) ≡ true → after (first_latch c.aig + p) ≡ true
+  pub sink : (p : ℕ) → p < latches_and_gates c.aig → is_observed c.aig c.props held (first_latch c.aig + p) ≡ true → after (first_latch c.aig + p) ≡ true
   pub gates : (k : ℕ) → k < length c.aig.gates → is_passable c.aig held (first_gate c.aig + k) ≡ true → IsCutAt (first_gate c.aig) before after (first_gate c.aig + k) (nth_gate c.aig k)
   pub full : crossings c held before after ≤ arrivals c held flows went
 

@@ -5,7 +5,7 @@ use Rattle.flow_theory.specs.Flow.{sum_below}
 use Rattle.aig_graph.specs.declared.graph.Gate.{Gate}
 use Rattle.aig_graph.specs.Graph.{Graph, variable, first_latch, latches_and_gates, latch_at, is_known}
 use Rattle.aig_graph.specs.Circuits.{Netlist}
-use Rattle.frame_net.specs.Capacity.{leaves}
+use Rattle.frame_net.specs.Capacity.{is_observed}
 use Rattle.unit_flows.specs.declared.gate_flow.GateFlow.{GateFlow}
 
 -- the k-th gate, and what a flow does there
@@ -58,7 +58,7 @@ pub record IsBalanced (g : Graph) (flows : List GateFlow) (went came : List ℕ)
 
 -- whether a unit is left after the variable at a place, and is read from outside the passable gates there: so it comes to the sink
 abbrev pub arrives : Netlist → List ℕ → List GateFlow → List ℕ → ℕ → Bool
-arrives c held flows went p = leaves c.aig c.props held (first_latch c.aig + p) && comes_after c.aig flows p && (slice_index went p == 0)
+arrives c held flows went p = is_observed c.aig c.props held (first_latch c.aig + p) && comes_after c.aig flows p && (slice_index went p == 0)
 
 -- how many units come to the sink
 abbrev pub arrivals : Netlist → List ℕ → List GateFlow → List ℕ → ℕ

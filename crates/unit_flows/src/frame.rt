@@ -2,7 +2,7 @@ ghost use Rattle.std.specs.Prelude.{◌≡◌, IfOk};
 ghost use Rattle.variable_tables.specs.Tables.{table};
 ghost use Rattle.aig_graph.specs.Graph.{first_latch, latches_and_gates};
 ghost use Rattle.frame_net.specs.Passable.{IsPassSet};
-ghost use Rattle.frame_net.specs.Capacity.{leaves};
+ghost use Rattle.frame_net.specs.Capacity.{is_observed};
 
 use aig_graph::{Circuit, Keep, NoMemory};
 use frame_net::{PassSet, leaving_marks, passable};
@@ -17,7 +17,8 @@ pub struct Frame<'a> {
     pub leaving: Vec<bool>,
     ghost pass_is: { IsPassSet circuit.now.aig keep.now pass },
     ghost leaving_are: { leaving.items ≡ table (first_latch circuit.now.aig)
-        (latches_and_gates circuit.now.aig) (leaves circuit.now.aig circuit.now.props keep.now) },
+        (latches_and_gates circuit.now.aig) (is_observed circuit.now.aig circuit.now.props
+        keep.now) },
 }
 
 impl<'a> Frame<'a> {

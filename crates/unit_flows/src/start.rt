@@ -15,7 +15,7 @@ pub(crate) enum FanIn {
 /// What stands after a latch or a gate: whether it leaves there, whether its unit is asked for, and whether a unit waits there.
 #[derive(Clone, Copy, Debug)]
 struct Spot {
-    leaves: bool,
+    is_observed: bool,
     asked: bool,
     waits: bool,
 }
@@ -34,10 +34,10 @@ impl Start {
     pub(crate) fn new(alloc: Global, frame: &Frame) -> Result<Start, NoMemory> {
         let aig = frame.circuit.aig();
         let mut spots = Vec::with_capacity(alloc, frame.leaving.len())?;
-        for leaves in &frame.leaving {
+        for is_observed in &frame.leaving {
             spots.push(Spot {
-                leaves: *leaves,
-                asked: *leaves,
+                is_observed: *is_observed,
+                asked: *is_observed,
                 waits: false,
             })?;
         }
@@ -59,7 +59,7 @@ impl Start {
     /// A unit comes after a latch or a gate: from there it goes to the sink, or it waits.
     fn put_after(&mut self, place: usize) {
         if let Some(spot) = self.spots.get_mut(place) {
-            if spot.leaves {
+            if spot.is_observed {
                 self.arrived = self.arrived.saturating_add(1);
             } else {
                 spot.waits = true;

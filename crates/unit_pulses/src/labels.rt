@@ -126,7 +126,7 @@ impl<'a> Search<'a> {
         let mut end = 0u32;
         for (labels, spot) in self.labels.iter_mut().zip(self.spots.iter_mut()) {
             *labels = Labels::NONE;
-            if spot.holds && spot.leaves {
+            if spot.holds && spot.is_observed {
                 labels.after = 1;
             }
             spot.is_open = spot.holds;

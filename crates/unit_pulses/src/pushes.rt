@@ -55,7 +55,11 @@ impl<'a> Search<'a> {
 
     /// The node after a place pushes its unit, or it keeps it and is listed with its new label.
     pub fn push_after(&mut self, place: u32, pulse: &mut Pulse) -> Result<(), NoMemory> {
-        if self.spots.get(place as usize).is_some_and(|it| it.leaves) {
+        if self
+            .spots
+            .get(place as usize)
+            .is_some_and(|it| it.is_observed)
+        {
             self.set_waits(place, false);
             return Ok(());
         }

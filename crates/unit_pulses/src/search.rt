@@ -171,12 +171,12 @@ fn spots_of(alloc: Global, frame: &Frame) -> Result<Vec<Spot>, NoMemory> {
     for place in 0..aig.latches_and_gates() {
         let var = first.wrapping_add(place as u32);
         let holds = frame.pass.has(var) || aig.is_known_latch(var);
-        let leaves = frame.leaving.get(place).copied().unwrap_or(false);
+        let is_observed = frame.leaving.get(place).copied().unwrap_or(false);
         spots.push(Spot {
             excess: 0,
             holds,
-            leaves,
-            waits: holds && !leaves,
+            is_observed,
+            waits: holds && !is_observed,
             is_open: false,
         })?;
     }

@@ -24,7 +24,7 @@ pub(crate) struct Spot {
     /// Whether it is a known latch or a passable gate.
     pub holds: bool,
     /// Whether an arc leads from after it to the sink.
-    pub leaves: bool,
+    pub is_observed: bool,
     pub waits: bool,
     /// Whether it holds, and the node before it had no label as it was last seen.
     pub is_open: bool,

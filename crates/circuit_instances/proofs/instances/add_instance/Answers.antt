@@ -4,14 +4,14 @@ use Rattle.aig_graph.specs.declared.graph.Gate.{Gate}
 use Rattle.aig_graph.specs.Graph.{Graph, IsLiteralOf, variables_end, first_gate}
 use Rattle.map_circuits.specs.Growing.{IsConjunction}
 use Rattle.map_circuits.proofs.GrowingLaws.{extends-itself, extends-transitive}
-use Rattle.circuit_instances.specs.Instances.{StandTo, stand}
-use Rattle.circuit_instances.proofs.InstanceLaws.{fan-ins-there, stand-more, stand-start, stand-within}
+use Rattle.circuit_instances.specs.Instances.{StandTo, substitute}
+use Rattle.circuit_instances.proofs.InstanceLaws.{fan-ins-there, substitute-more, substitute-start, substitute-within}
 use Rattle.circuit_instances.proofs.instances.add_instance.Goals as goal
 
 pub loop-gate-init : goal.loop-gate-init
 loop-gate-init c = record {
   extends = extends-itself c.args.gates.now c.requires.graph;
-  stands = stand-start c.args.gates.now c.args.aig.now c.args.leaves c.gates-gate-items.ensures.graph c.requires.many c.requires.within;
+  substitutes = substitute-start c.args.gates.now c.args.aig.now c.args.leaves c.gates-gate-items.ensures.graph c.requires.many c.requires.within;
 }
 
 pub literal-a-requires : goal.literal-a-requires
@@ -23,7 +23,7 @@ literal-a-requires c =
     let there : slice_get g.gates k ≡ Some gate =
     ap (λ (xs : List Gate). slice_get xs k) (sym c.gates-gate-items.ensures.value) ∙ slice_get_read items (length items) k gate refl c.loop-gate-test.true c.gate-item.is in
     let ins = fan-ins-there c.args.gates.now g c.args.leaves c.gates-gate-items.ensures.graph k gate there in
-    omega (arith, ins.0, c.loop-gate.invariant.stands.many)
+    omega (arith, ins.0, c.loop-gate.invariant.substitutes.many)
 
 pub literal-b-requires : goal.literal-b-requires
 literal-b-requires c =
@@ -34,7 +34,7 @@ literal-b-requires c =
     let there : slice_get g.gates k ≡ Some gate =
     ap (λ (xs : List Gate). slice_get xs k) (sym c.gates-gate-items.ensures.value) ∙ slice_get_read items (length items) k gate refl c.loop-gate-test.true c.gate-item.is in
     let ins = fan-ins-there c.args.gates.now g c.args.leaves c.gates-gate-items.ensures.graph k gate there in
-    omega (arith, ins.1, c.loop-gate.invariant.stands.many)
+    omega (arith, ins.1, c.loop-gate.invariant.substitutes.many)
 
 pub add_conjunction-requires-clause-a : goal.add_conjunction-requires-clause-a
 add_conjunction-requires-clause-a c =
@@ -45,8 +45,8 @@ add_conjunction-requires-clause-a c =
     let there : slice_get g.gates k ≡ Some gate =
     ap (λ (xs : List Gate). slice_get xs k) (sym c.gates-gate-items.ensures.value) ∙ slice_get_read items (length items) k gate refl c.loop-gate-test.true c.gate-item.is in
     let ins = fan-ins-there c.args.gates.now g c.args.leaves c.gates-gate-items.ensures.graph k gate there in
-    let within : IsLiteralOf c.loop-gate.gates (stand c.loop-gate.instance gate.rhs0) =
-    stand-within c.loop-gate.gates c.loop-gate.instance gate.rhs0 c.loop-gate.invariant.stands.within (omega (arith, ins.0, c.loop-gate.invariant.stands.many)) in
+    let within : IsLiteralOf c.loop-gate.gates (substitute c.loop-gate.instance gate.rhs0) =
+    substitute-within c.loop-gate.gates c.loop-gate.instance gate.rhs0 c.loop-gate.invariant.substitutes.within (omega (arith, ins.0, c.loop-gate.invariant.substitutes.many)) in
     subst (λ (l : ℕ). IsLiteralOf c.loop-gate.gates l) (sym c.literal-a.ensures) within
 
 pub add_conjunction-requires-clause-b : goal.add_conjunction-requires-clause-b
@@ -58,8 +58,8 @@ add_conjunction-requires-clause-b c =
     let there : slice_get g.gates k ≡ Some gate =
     ap (λ (xs : List Gate). slice_get xs k) (sym c.gates-gate-items.ensures.value) ∙ slice_get_read items (length items) k gate refl c.loop-gate-test.true c.gate-item.is in
     let ins = fan-ins-there c.args.gates.now g c.args.leaves c.gates-gate-items.ensures.graph k gate there in
-    let within : IsLiteralOf c.loop-gate.gates (stand c.loop-gate.instance gate.rhs1) =
-    stand-within c.loop-gate.gates c.loop-gate.instance gate.rhs1 c.loop-gate.invariant.stands.within (omega (arith, ins.1, c.loop-gate.invariant.stands.many)) in
+    let within : IsLiteralOf c.loop-gate.gates (substitute c.loop-gate.instance gate.rhs1) =
+    substitute-within c.loop-gate.gates c.loop-gate.instance gate.rhs1 c.loop-gate.invariant.substitutes.within (omega (arith, ins.1, c.loop-gate.invariant.substitutes.many)) in
     subst (λ (l : ℕ). IsLiteralOf c.loop-gate.gates l) (sym c.literal-b.ensures) within
 
 pub loop-gate-preserved : goal.loop-gate-preserved
@@ -77,11 +77,11 @@ loop-gate-preserved c =
     ap (λ (xs : List Gate). slice_get xs k) (sym c.gates-gate-items.ensures.value) ∙ slice_get_read items (length items) k gate refl c.loop-gate-test.true c.gate-item.is in
     let ins = fan-ins-there c.args.gates.now g c.args.leaves c.gates-gate-items.ensures.graph k gate there in
     let P : ℕ → ℕ → Type 0 = λ a b. IsConjunction i a b lit in
-    let is : P (stand literals gate.rhs0) (stand literals gate.rhs1) =
-    subst (λ (b : ℕ). P (stand literals gate.rhs0) b) c.literal-b.ensures (subst (λ (a : ℕ). P a c.literal-b.result) c.literal-a.ensures c.in_ok-lit.ensures.is) in
+    let is : P (substitute literals gate.rhs0) (substitute literals gate.rhs1) =
+    subst (λ (b : ℕ). P (substitute literals gate.rhs0) b) c.literal-b.ensures (subst (λ (a : ℕ). P a c.literal-b.result) c.literal-a.ensures c.in_ok-lit.ensures.is) in
     record {
       extends = extends-transitive old h i c.loop-gate.invariant.extends c.in_ok-lit.ensures.extends;
-      stands = stand-more old g c.args.leaves c.gates-gate-items.ensures.graph h i literals c.push.new.self k lit gate there c.loop-gate.invariant.extends.graph c.loop-gate.invariant.stands
+      substitutes = substitute-more old g c.args.leaves c.gates-gate-items.ensures.graph h i literals c.push.new.self k lit gate there c.loop-gate.invariant.extends.graph c.loop-gate.invariant.substitutes
           c.in_ok-lit.ensures.extends is c.in_ok-push.ensures;
     }
 
@@ -90,4 +90,4 @@ returns-clause-is c =
     let g : Graph = c.args.aig.now in
     let end : first_gate g + c.loop-gate.gate-index ≡ variables_end g =
     omega (arith, c.loop-gate-test.false, c.loop-gate.auto.gate-index-end, ap (λ (xs : List Gate). length xs) c.gates-gate-items.ensures.value) in
-    subst (λ (n : ℕ). StandTo c.args.gates.now g c.args.leaves n c.loop-gate.gates c.loop-gate.instance) end c.loop-gate.invariant.stands
+    subst (λ (n : ℕ). StandTo c.args.gates.now g c.args.leaves n c.loop-gate.gates c.loop-gate.instance) end c.loop-gate.invariant.substitutes

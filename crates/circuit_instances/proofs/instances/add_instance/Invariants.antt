@@ -7,5 +7,5 @@ use Rattle.circuit_instances.proofs.instances.add_instance.Given as goal
 abbrev pub invariant-loop-gate : goal.invariant-loop-gate
 invariant-loop-gate l = record {
   extends : Extends l.fn.gates l.gates;
-  stands : StandTo l.fn.gates l.aig l.fn.leaves (first_gate l.aig + l.gate-index) l.gates l.instance;
+  substitutes : StandTo l.fn.gates l.aig l.fn.leaves (first_gate l.aig + l.gate-index) l.gates l.instance;
 }

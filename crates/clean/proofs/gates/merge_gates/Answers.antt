@@ -4,7 +4,7 @@ use Rattle.aig_graph.specs.Graph.{Graph, IsGateAt, first_gate}
 use Rattle.clean.proofs.MappingLaws.{gate-there}
 use Rattle.cleaned_circuits.specs.Merged.{Merging, merge_gate, merge_gates}
 use Rattle.clean.proofs.MergeStepLaws.{merge-more, merge-end}
-use Rattle.cleaned_circuits.proofs.StandLaws.{length-merge_gate}
+use Rattle.cleaned_circuits.proofs.SubstituteLaws.{length-merge_gate}
 use Rattle.clean.specs.Kept.{pairs}
 use Rattle.clean.proofs.gates.merge_gates.Goals as goal
 
@@ -27,21 +27,21 @@ merge_gate-requires-clause-second c =
 pub loop-gate-preserved : goal.loop-gate-preserved
 loop-gate-preserved c =
     let g : Graph = c.args.aig.now in
-    let before : Merging = record { stands = c.loop-gate.stands; kept = pairs c.loop-gate.kept } in
-    let after : Merging = record { stands = c.merge_gate.new.stands; kept = pairs c.merge_gate.new.kept } in
-    let whole : Merging = merge_gates g.gates (record { stands = c.args.stands.now; kept = [] }) in
+    let before : Merging = record { substitutes = c.loop-gate.substitutes; kept = pairs c.loop-gate.kept } in
+    let after : Merging = record { substitutes = c.merge_gate.new.substitutes; kept = pairs c.merge_gate.new.kept } in
+    let whole : Merging = merge_gates g.gates (record { substitutes = c.args.substitutes.now; kept = [] }) in
     let step : after ≡ merge_gate before c.gate-item.result = c.in_ok-merge_gate.ensures in
     let same : c.gates-gate-items.result.now ≡ g.gates = c.gates-gate-items.ensures.value in
     record {
       rest = merge-more g.gates c.loop-gate.gate-index c.gate-item.result before after whole (omega (arith, ap (λ (xs : List Gate). length xs) same, c.loop-gate-test.true))
           (c.gate-item.is ∙ ap (λ (xs : List Gate). get_or xs c.loop-gate.gate-index c.gate-item.result) same) c.loop-gate.invariant.rest step;
-      long = omega (arith, ap (λ (m : Merging). length m.stands) step, length-merge_gate before c.gate-item.result, c.loop-gate.invariant.long);
+      long = omega (arith, ap (λ (m : Merging). length m.substitutes) step, length-merge_gate before c.gate-item.result, c.loop-gate.invariant.long);
     }
 
 pub returns : goal.returns
 returns c =
     let g : Graph = c.args.aig.now in
-    let before : Merging = record { stands = c.loop-gate.stands; kept = pairs c.loop-gate.kept } in
-    let whole : Merging = merge_gates g.gates (record { stands = c.args.stands.now; kept = [] }) in
+    let before : Merging = record { substitutes = c.loop-gate.substitutes; kept = pairs c.loop-gate.kept } in
+    let whole : Merging = merge_gates g.gates (record { substitutes = c.args.substitutes.now; kept = [] }) in
     let same : c.gates-gate-items.result.now ≡ g.gates = c.gates-gate-items.ensures.value in
-    ap (λ (m : Merging). m.stands) (merge-end g.gates c.loop-gate.gate-index before whole (omega (arith, ap (λ (xs : List Gate). length xs) same, c.loop-gate-test.false)) c.loop-gate.invariant.rest)
+    ap (λ (m : Merging). m.substitutes) (merge-end g.gates c.loop-gate.gate-index before whole (omega (arith, ap (λ (xs : List Gate). length xs) same, c.loop-gate-test.false)) c.loop-gate.invariant.rest)

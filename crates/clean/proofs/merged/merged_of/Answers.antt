@@ -2,30 +2,30 @@ use Rattle.std.proofs.Common.{◌≡◌, ◌<◌, ◌∙◌, ap, sym, subst, len
 use Rattle.aig_graph.specs.Graph.{Graph, IsGraph, variable, variables_end}
 use Rattle.aig_graph.specs.declared.properties.Props.{Props}
 use Rattle.aig_graph.specs.Mapped.{OfProps}
-use Rattle.cleaned_circuits.specs.Merged.{replaced_graph, stands_of}
+use Rattle.cleaned_circuits.specs.Merged.{replaced_graph, substitutes_of}
 use Rattle.cleaned_circuits.proofs.MergedLaws.{IsGraph-merged}
-use Rattle.clean.proofs.MappingLaws.{stands-long, props-within}
+use Rattle.clean.proofs.MappingLaws.{substitutes-long, props-within}
 use Rattle.clean.proofs.merged.merged_of.Goals as goal
 
 pub mapped-requires : goal.mapped-requires
 mapped-requires c =
     let g : Graph = c.args.circuit.now.aig in
     let held : List ℕ = c.args.held.now.positions.now in
-    let stands : List ℕ = c.in_ok-stands.stands in
-    let long : length stands ≡ variables_end g = stands-long g held stands (c.in_ok-stands.ensures ∙ ap (λ (h : Graph). stands_of h held) c.aig.ensures.value) in
-    let P : Props → Type 0 = λ p. OfProps (λ lit. variable lit < length stands) p in
-    subst P (sym c.props.ensures.value) (props-within g c.args.circuit.now.props (length stands) c.props.ensures.netlist.props long)
+    let substitutes : List ℕ = c.in_ok-substitutes.substitutes in
+    let long : length substitutes ≡ variables_end g = substitutes-long g held substitutes (c.in_ok-substitutes.ensures ∙ ap (λ (h : Graph). substitutes_of h held) c.aig.ensures.value) in
+    let P : Props → Type 0 = λ p. OfProps (λ lit. variable lit < length substitutes) p in
+    subst P (sym c.props.ensures.value) (props-within g c.args.circuit.now.props (length substitutes) c.props.ensures.netlist.props long)
 
 pub replaced_aig-requires-clause-long : goal.replaced_aig-requires-clause-long
 replaced_aig-requires-clause-long c =
     let same : c.aig.result.now ≡ c.aig-2.result.now = c.aig.ensures.value ∙ sym c.aig-2.ensures.value in
-    stands-long c.aig-2.result.now c.args.held.now.positions.now c.in_ok-stands.stands (c.in_ok-stands.ensures ∙ ap (λ (h : Graph). stands_of h c.args.held.now.positions.now) same)
+    substitutes-long c.aig-2.result.now c.args.held.now.positions.now c.in_ok-substitutes.substitutes (c.in_ok-substitutes.ensures ∙ ap (λ (h : Graph). substitutes_of h c.args.held.now.positions.now) same)
 
 pub replaced_aig-requires-clause-graph : goal.replaced_aig-requires-clause-graph
 replaced_aig-requires-clause-graph c =
     let g : Graph = c.aig-2.result.now in
     let held : List ℕ = c.args.held.now.positions.now in
     let same : c.aig.result.now ≡ g = c.aig.ensures.value ∙ sym c.aig-2.ensures.value in
-    let stands : c.in_ok-stands.stands ≡ stands_of g held = c.in_ok-stands.ensures ∙ ap (λ (h : Graph). stands_of h held) same in
+    let substitutes : c.in_ok-substitutes.substitutes ≡ substitutes_of g held = c.in_ok-substitutes.ensures ∙ ap (λ (h : Graph). substitutes_of h held) same in
     let valid : IsGraph g = subst (λ (h : Graph). IsGraph h) (sym c.aig-2.ensures.value) c.aig-2.ensures.graph in
-    subst (λ (xs : List ℕ). IsGraph (replaced_graph xs g)) (sym stands) (IsGraph-merged g held valid)
+    subst (λ (xs : List ℕ). IsGraph (replaced_graph xs g)) (sym substitutes) (IsGraph-merged g held valid)

@@ -2,7 +2,7 @@ use Rattle.std.proofs.Common.{◌≡◌, ◌∙◌, ◌+◌, ap, sym, ℕ, Bool,
 use Rattle.aig_graph.specs.Circuits.{Netlist}
 use Rattle.aig_graph.specs.Graph.{Graph, first_latch}
 use Rattle.variable_tables.specs.Tables.{table}
-use Rattle.cleaned_circuits.specs.Latches.{latch_stand}
+use Rattle.cleaned_circuits.specs.Latches.{latch_substitute}
 use Rattle.cleaned_circuits.specs.Merged.{merged_of}
 use Rattle.clean.specs.Sweep.{is_marked}
 use Rattle.clean.proofs.PassStepLaws.{merged-props, merged-range}
@@ -29,10 +29,10 @@ returns c =
     let held : List ℕ = c.args.held.now in
     let n : Netlist = c.args.circuit.now in
     let is = c.in_ok-pass.ensures in
-    let by_stands : (g : Graph) (js : List ℕ) → List ℕ = λ g js. table 0 (length g.latches) (λ j. latch_stand g js j (slice_get g.latches j)) in
+    let by_stands : (g : Graph) (js : List ℕ) → List ℕ = λ g js. table 0 (length g.latches) (λ j. latch_substitute g js j (slice_get g.latches j)) in
     let by_marks : (g : Graph) (r : ℕ → Bool) → List Bool = λ g r. table 0 (length g.latches) (λ j. r (first_latch g + j)) in
     record {
       pass = is.pass;
-      stands = c.in_ok-stands.ensures ∙ ap (λ (js : List ℕ). by_stands c.aig-2.result.now js) c.in_ok-marks.ensures.positions ∙ ap (λ (g : Graph). by_stands g held) c.aig-2.ensures.value;
+      substitutes = c.in_ok-substitutes.ensures ∙ ap (λ (js : List ℕ). by_stands c.aig-2.result.now js) c.in_ok-marks.ensures.positions ∙ ap (λ (g : Graph). by_stands g held) c.aig-2.ensures.value;
       stays = c.in_ok-stays.ensures ∙ ap (λ (g : Graph). by_marks g (is_marked c.in_ok-reached.reached)) c.aig-3.ensures.value ∙ ap (by_marks n.aig) (sym is.leaves);
     }

@@ -4,13 +4,13 @@ use Rattle.aig_graph.specs.declared.graph.Latch.{Latch}
 use Rattle.aig_graph.specs.Circuits.{AreLiteralsOf, Netlist}
 use Rattle.aig_graph.specs.Graph.{Graph, variables_end}
 use Rattle.aig_graph.specs.Value.{value_within}
-use Rattle.circuit_instances.specs.Instances.{stand}
+use Rattle.circuit_instances.specs.Instances.{substitute}
 use Rattle.map_circuits.proofs.GrowingLaws.{extends-transitive}
 use Rattle.witness_circuits.specs.declared.sharing.Sharing.{Sharing}
 use Rattle.lifted_witnesses.specs.declared.parts.Parts.{Parts}
 use Rattle.lifted_witnesses.specs.Parts.{HasPlaces, IsFitting, IsView, in_shared, over_latches}
 use Rattle.lifted_witnesses.proofs.PartLaws.{all-parts, places-stay}
-use Rattle.lifted_witnesses.proofs.PropertyLaws.{stands-within}
+use Rattle.lifted_witnesses.proofs.PropertyLaws.{substitutes-within}
 use Rattle.lifted_witnesses.proofs.parts.add_parts.Goals as goal
 
 pub add_first-requires-clause-inputs : goal.add_first-requires-clause-inputs
@@ -51,7 +51,7 @@ add_witness-requires-clause-outputs c =
     let m : Netlist = c.args.map.now in
     let view : IsView h2 m.aig (over_latches m.aig) c.in_ok-of_map.of_map = subst (λ (a : Graph). IsView h2 a (over_latches a) c.in_ok-of_map.of_map) c.aig.ensures.value c.in_ok-of_map.ensures.view in
     subst (λ (ls : List ℕ). AreLiteralsOf h2 ls) (sym (c.as_slice-lits.ensures.value ∙ c.in_ok-outputs.ensures))
-    (stands-within h2 m.aig (over_latches m.aig) c.in_ok-of_map.of_map view m.props.outputs c.known.ensures.netlist.props.outputs)
+    (substitutes-within h2 m.aig (over_latches m.aig) c.in_ok-of_map.of_map view m.props.outputs c.known.ensures.netlist.props.outputs)
 
 pub add_witness-requires-clause-widths : goal.add_witness-requires-clause-widths
 add_witness-requires-clause-widths c =
@@ -60,7 +60,7 @@ add_witness-requires-clause-widths c =
     let w : Graph = c.args.witness.now.aig in
     let k : Sharing = c.args.sharing.now in
     let many : length c.as_slice-lits.result.now ≡ length m.props.outputs =
-    ap (λ (ls : List ℕ). length ls) (c.as_slice-lits.ensures.value ∙ c.in_ok-outputs.ensures) ∙ length-map m.props.outputs (stand c.in_ok-of_map.of_map) in
+    ap (λ (ls : List ℕ). length ls) (c.as_slice-lits.ensures.value ∙ c.in_ok-outputs.ensures) ∙ length-map m.props.outputs (substitute c.in_ok-of_map.of_map) in
     subst (λ (a : Graph). IsFitting a (length c.as_slice-lits.result.now) c.aig-2.result.now k) (sym c.aig-circuit.ensures.value)
     (subst (λ (n : ℕ). IsFitting g n c.aig-2.result.now k) (sym many) (subst (λ (a : Graph). IsFitting g (length m.props.outputs) a k) (sym c.aig-2.ensures.value) c.requires.fits.shares))
 

@@ -15,5 +15,5 @@ returns c =
     c.in_ok-sides.ensures.grows.first ∙ ap (λ (k : Shared). k.first) c.after-shared.ensures ∙ c.first_gate.ensures.value ∙ ap first_gate c.aig.ensures.value in
     if-none c.in_ok-doubt.doubt (λ settled.
     keeps-states c.sides_of.new.shared c.none-equal.result c.args.first.now c.args.second.now c.args.map.now c.in_ok-sides.sides.before c.in_ok-sides.sides.later c.in_ok-sides.sides.after
-    c.known-4.ensures place (ap (λ (e : Equal). e.stands) c.none-equal.ensures) c.known.ensures.netlist c.known-2.ensures.netlist c.known-2.ensures.graph c.known-3.ensures.netlist
+    c.known-4.ensures place (ap (λ (e : Equal). e.substitutes) c.none-equal.ensures) c.known.ensures.netlist c.known-2.ensures.netlist c.known-2.ensures.graph c.known-3.ensures.netlist
     c.in_ok-sides.ensures.sides settled) c.in_ok-doubt.ensures

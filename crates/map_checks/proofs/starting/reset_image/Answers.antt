@@ -17,5 +17,5 @@ returns c =
     let after : c.copy.new.shared.first ≡ first_gate c.args.first.now =
     c.in_ok-image.ensures.grows.first ∙ ap (λ (k : Shared). k.first) c.after-shared.ensures ∙ c.first_gate.ensures.value in
     reset-image c.args.first.now m c.copy.new.shared c.none-equal.result c.in_ok-leaves.leaves c.in_ok-image.image c.aig.ensures.graph c.requires.inputs c.requires.latches c.known.ensures after
-    (ap (λ (e : Equal). e.stands) c.none-equal.ensures) c.in_ok-leaves.ensures
+    (ap (λ (e : Equal). e.substitutes) c.none-equal.ensures) c.in_ok-leaves.ensures
     (subst (λ (h : Graph). IsCopy c.copy.new.shared c.none-equal.result h c.in_ok-leaves.leaves c.in_ok-image.image) c.aig.ensures.value c.in_ok-image.ensures.copies)

@@ -2,12 +2,12 @@ use Rattle.std.proofs.Common.{ℕ, ◌+◌, ◌≡◌, ◌∙◌, Bool, List, ar
 use Rattle.std.specs.List.{All}
 use Rattle.aig_graph.specs.Circuits.{AreLiteralsOf, Netlist}
 use Rattle.aig_graph.specs.Graph.{Graph, first_latch}
-use Rattle.cleaned_circuits.specs.Latches.{latch_stand}
+use Rattle.cleaned_circuits.specs.Latches.{latch_substitute}
 use Rattle.variable_tables.specs.Tables.{table}
 use Rattle.variable_tables.proofs.TableLaws.{length-table}
-use Rattle.map_circuits.specs.Constraining.{AddsStands, IsStand}
+use Rattle.map_circuits.specs.Constraining.{AddsSubstitutes, IsSubstitute}
 use Rattle.map_circuits.specs.Stepping.{ArePassed}
-use Rattle.retiming_maps.proofs.StandsLaws.{all-stands, latch_stands}
+use Rattle.retiming_maps.proofs.SubstitutesLaws.{all-substitutes, latch_substitutes}
 use Rattle.retiming_maps.proofs.StepLaws.{pass-map}
 use Rattle.retiming_maps.proofs.passes.follow_pass.Goals as goal
 
@@ -21,27 +21,27 @@ pub add_constraints-requires-clause-functions : goal.add_constraints-requires-cl
 add_constraints-requires-clause-functions c =
     subst (λ (lits : List ℕ). AreLiteralsOf c.args.parts.now.gates lits) (sym c.as_slice-functions.ensures.value) c.requires.map.2.functions_within
 
-pub add_constraints-requires-clause-stands : goal.add_constraints-requires-clause-stands
-add_constraints-requires-clause-stands c =
+pub add_constraints-requires-clause-substitutes : goal.add_constraints-requires-clause-substitutes
+add_constraints-requires-clause-substitutes c =
     let d : Graph = c.args.circuit.now.aig in
     let held : List ℕ = c.args.held.now in
     let functions : List ℕ = c.args.parts.now.functions.items in
-    let P : ℕ → List ℕ → List ℕ → Type 0 = λ first lits stands. All (λ stand. IsStand first lits stand) stands in
+    let P : ℕ → List ℕ → List ℕ → Type 0 = λ first lits substitutes. All (λ substitute. IsSubstitute first lits substitute) substitutes in
     let start : c.first_latch-first.result ≡ first_latch d = c.first_latch-first.ensures.value ∙ ap first_latch c.aig.ensures.value in
-    let listed : c.as_slice-stands.result.now ≡ latch_stands d held = c.as_slice-stands.ensures.value ∙ c.requires.traced.stands in
-    subst (λ (n : ℕ). P n c.as_slice-functions.result.now c.as_slice-stands.result.now) (sym start)
-    (subst (λ (lits : List ℕ). P (first_latch d) lits c.as_slice-stands.result.now) (sym c.as_slice-functions.ensures.value)
-    (subst (λ (stands : List ℕ). P (first_latch d) functions stands) (sym listed) (all-stands d held functions c.requires.map.2.many)))
+    let listed : c.as_slice-substitutes.result.now ≡ latch_substitutes d held = c.as_slice-substitutes.ensures.value ∙ c.requires.traced.substitutes in
+    subst (λ (n : ℕ). P n c.as_slice-functions.result.now c.as_slice-substitutes.result.now) (sym start)
+    (subst (λ (lits : List ℕ). P (first_latch d) lits c.as_slice-substitutes.result.now) (sym c.as_slice-functions.ensures.value)
+    (subst (λ (substitutes : List ℕ). P (first_latch d) functions substitutes) (sym listed) (all-substitutes d held functions c.requires.map.2.many)))
 
 pub add_constraints-requires-clause-long : goal.add_constraints-requires-clause-long
 add_constraints-requires-clause-long c =
     let d : Graph = c.args.circuit.now.aig in
     let held : List ℕ = c.args.held.now in
-    let listed : c.as_slice-stands.result.now ≡ latch_stands d held = c.as_slice-stands.ensures.value ∙ c.requires.traced.stands in
+    let listed : c.as_slice-substitutes.result.now ≡ latch_substitutes d held = c.as_slice-substitutes.ensures.value ∙ c.requires.traced.substitutes in
     omega (
       arith,
       ap (λ (xs : List ℕ). length xs) listed,
-      length-table 0 (length d.latches) (λ j. latch_stand d held j (slice_get d.latches j)),
+      length-table 0 (length d.latches) (λ j. latch_substitute d held j (slice_get d.latches j)),
       ap (λ (xs : List ℕ). length xs) c.as_slice-functions.ensures.value,
       c.requires.map.2.many,
     )
@@ -77,13 +77,13 @@ returns c = λ b k p.
     let r : ℕ → Bool = traced.pass.reached in
     let same : c.as_slice-functions.result.now ≡ functions = c.as_slice-functions.ensures.value in
     let start : c.first_latch-first.result ≡ first_latch d.aig = c.first_latch-first.ensures.value ∙ ap first_latch c.aig.ensures.value in
-    let listed : c.as_slice-stands.result.now ≡ latch_stands d.aig held = c.as_slice-stands.ensures.value ∙ traced.stands in
+    let listed : c.as_slice-substitutes.result.now ≡ latch_substitutes d.aig held = c.as_slice-substitutes.ensures.value ∙ traced.substitutes in
     let filled : c.as_slice-stays.result.now ≡ table 0 (length d.aig.latches) (λ j. r (first_latch d.aig + j)) = c.as_slice-stays.ensures.value ∙ traced.stays in
-    let P : ℕ → List ℕ → List ℕ → Type 0 = λ first lits stands. AddsStands g first lits stands (length stands) h old constraints in
-    let adds : P (first_latch d.aig) functions (latch_stands d.aig held) =
-    subst (λ (stands : List ℕ). P (first_latch d.aig) functions stands) listed
-    (subst (λ (lits : List ℕ). P (first_latch d.aig) lits c.as_slice-stands.result.now) same
-    (subst (λ (n : ℕ). P n c.as_slice-functions.result.now c.as_slice-stands.result.now) start c.in_ok-add_constraints.ensures)) in
+    let P : ℕ → List ℕ → List ℕ → Type 0 = λ first lits substitutes. AddsSubstitutes g first lits substitutes (length substitutes) h old constraints in
+    let adds : P (first_latch d.aig) functions (latch_substitutes d.aig held) =
+    subst (λ (substitutes : List ℕ). P (first_latch d.aig) functions substitutes) listed
+    (subst (λ (lits : List ℕ). P (first_latch d.aig) lits c.as_slice-substitutes.result.now) same
+    (subst (λ (n : ℕ). P n c.as_slice-functions.result.now c.as_slice-substitutes.result.now) start c.in_ok-add_constraints.ensures)) in
     let within : AreLiteralsOf h functions = λ j a less. adds.extends.literals (get_or functions j a) (p.functions_within j a less) in
     let Q : List ℕ → Type 0 = λ lits. ArePassed h lits d.aig r c.in_ok-new.new.items in
     let passed : Q functions = subst Q same (c.in_ok-new.ensures h d.aig r (subst (λ (lits : List ℕ). AreLiteralsOf h lits) (sym same) within) filled) in

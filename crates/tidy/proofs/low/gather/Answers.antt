@@ -2,7 +2,7 @@ use Rattle.std.proofs.Common.{◌≡◌, ◌∙◌, ℕ, ◌+◌, ◌<◌, ◌�
 use Rattle.aig_graph.specs.declared.graph.Gate.{Gate}
 use Rattle.std.specs.Map.{lookup}
 use Rattle.aig_graph.specs.Graph.{variable}
-use Rattle.cleaned_circuits.specs.Merged.{is_gate}
+use Rattle.cleaned_circuits.specs.Merged.{same_fan_ins}
 use Rattle.std.proofs.lemmas.Option.{slice_get_read}
 use Rattle.tidy.specs.Gathered.{is_plain, AreGathered, AreMarked, by_gate}
 use Rattle.tidy.proofs.GatherLaws.{gathered-more, gathered-skip, marked-more, none-where, spoilt-pair}
@@ -19,7 +19,7 @@ loop-gate-preserved c =
       | then-var-start+else-not-is_plain+else-is_some+in_ok-add w ↦ (
           let low : variable gate.rhs1 < c.args.start = omega (arith, w.if-var-start.true, c.var.ensures.variable) in
           let plain : is_plain gate ≡ true = sym w.is_plain.ensures ∙ w.if-not-is_plain.false in
-          let none : lookup (is_gate gate) c.loop-gate.pairs ≡ None = sym w.find.ensures ∙ none-where w.find.result (sym w.is_some.ensures ∙ w.if-is_some.false) in
+          let none : lookup (same_fan_ins gate) c.loop-gate.pairs ≡ None = sym w.find.ensures ∙ none-where w.find.result (sym w.is_some.ensures ∙ w.if-is_some.false) in
           let P : List (Gate × ℕ) → Type 0 = λ pairs. AreGathered copies c.args.start (k + 1) pairs in
           let pairs_are = w.pairs-is ∙ w.in_ok-add.ensures in
           record {

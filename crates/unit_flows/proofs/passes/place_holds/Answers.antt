@@ -11,7 +11,7 @@ index-requires c = omega (arith, c.requires.place, leaving-long c.args.frame.now
 pub returns : goal.returns
 returns c = λ t.
     let parts = and_parts _ _ t in
-    let leaves = leaving-read c.args.frame.now.circuit.now c.args.frame.now.keep.now c.args.frame.now.leaving.items c.args.place c.index.result.now c.args.frame.now.leaving_are c.requires.place c.index.ensures in
+    let is_observed = leaving-read c.args.frame.now.circuit.now c.args.frame.now.keep.now c.args.frame.now.leaving.items c.args.place c.index.result.now c.args.frame.now.leaving_are c.requires.place c.index.ensures in
     record {
       balanced = omega (
         arith,
@@ -19,5 +19,5 @@ returns c = λ t.
         c.unit-comes.ensures.value,
         ap unit (c.comes_after.ensures ∙ ap (λ (g : Graph). comes_after g c.args.flows.now c.args.place) c.aig.ensures.value),
       );
-      marked = λ l. mark-at-place (first_latch c.args.frame.now.circuit.now.aig) c.args.after.now c.args.place ∙ or-not c.index.result.now (slice_index_or c.args.after.now c.args.place false) parts.1 (leaves ∙ l);
+      marked = λ l. mark-at-place (first_latch c.args.frame.now.circuit.now.aig) c.args.after.now c.args.place ∙ or-not c.index.result.now (slice_index_or c.args.after.now c.args.place false) parts.1 (is_observed ∙ l);
     }

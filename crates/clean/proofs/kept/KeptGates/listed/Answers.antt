@@ -1,7 +1,7 @@
 use Rattle.std.proofs.Common.{ℕ, ◌≡◌, ◌∙◌, ◌-◌, arith, ap, sym, Option, Some, get_or, subst}
 use Rattle.std.proofs.lemmas.Bool.{cond-true, cond-false}
 use Rattle.aig_graph.specs.Graph.{variable}
-use Rattle.cleaned_circuits.specs.Merged.{is_gate}
+use Rattle.cleaned_circuits.specs.Merged.{same_fan_ins}
 use Rattle.clean.specs.declared.kept.KeptGate.{KeptGate}
 use Rattle.clean.specs.Kept.{Kept, AreKept, last_of, on_list}
 use Rattle.clean.proofs.KeptLaws.{last-few, list-start, link-back, list-next, on_list-none}
@@ -24,7 +24,7 @@ returns-then-eq c =
     let x : KeptGate = c.index.result.now in
     let read : x ≡ get_or k.gates (c.loop-link.link - 1) x = c.index.ensures ∙ ap (λ (j : Kept). get_or j.gates (c.loop-link.link - 1) x) c.self.view_is in
     let rest : Option ℕ = on_list k.gates c.args.gate x.before x.before in
-    sym (cond-true (is_gate c.args.gate x.gate) (Some x.lit) rest (sym c.eq.ensures ∙ c.if-eq.true))
+    sym (cond-true (same_fan_ins c.args.gate x.gate) (Some x.lit) rest (sym c.eq.ensures ∙ c.if-eq.true))
     ∙ sym (list-next k kept c.loop-link.link c.loop-link-test.true c.loop-link.invariant.within x read c.args.gate)
     ∙ c.loop-link.invariant.rest
 
@@ -46,7 +46,7 @@ loop-link-preserved c =
     record {
       within = omega (arith, link-back k kept c.loop-link.link c.loop-link-test.true c.loop-link.invariant.within x read, c.loop-link.invariant.within);
       rest =
-          sym (cond-false (is_gate c.args.gate x.gate) (Some x.lit) rest (sym c.eq.ensures ∙ c.if-eq.false))
+          sym (cond-false (same_fan_ins c.args.gate x.gate) (Some x.lit) rest (sym c.eq.ensures ∙ c.if-eq.false))
           ∙ sym (list-next k kept c.loop-link.link c.loop-link-test.true c.loop-link.invariant.within x read c.args.gate)
           ∙ c.loop-link.invariant.rest;
     }

@@ -3,7 +3,7 @@ use Rattle.aig_graph.specs.Graph.{variable, gate_at}
 use Rattle.frame_net.specs.declared.edges.Link.{Link}
 use Rattle.frame_net.specs.Edges.{AreLinks}
 use Rattle.frame_net.specs.Links.{gate_links}
-use Rattle.frame_net.specs.Capacity.{latch_number, before_number, great}
+use Rattle.frame_net.specs.Capacity.{latch_number, before_number, unbounded}
 use Rattle.frame_net.specs.Layout.{capacity_of}
 use Rattle.frame_net.proofs.ArcLaws.{before-links, base_of}
 use Rattle.frame_net.proofs.LayoutLaws.{FanIns, fan_ins-facts, no-gate, number-fits}
@@ -39,8 +39,8 @@ returns-in-Some-clause-links c =
     let second : c.number-second.result ≡ latch_number k.aig.now k.keep.now (variable c.in-Some.gate.rhs0) =
     c.number-second.ensures (omega (arith, c.var-in-Some.ensures.variable, f.from0)) (omega (arith, c.var-in-Some.ensures.variable, f.below0)) ∙ ap (λ (v : ℕ). latch_number g held v) c.var-in-Some.ensures.variable in
     subst (λ (xs : List Link). AreLinks (capacity_of k) (before_number g held c.args.var) xs)
-    (sym (ap (λ (b : ℕ). gate_links (base_of g held) (great g held) b c.number-second.result) first
-    ∙ ap (λ (b : ℕ). gate_links (base_of g held) (great g held) (latch_number g held (variable c.in-Some.gate.rhs1)) b) second))
+    (sym (ap (λ (b : ℕ). gate_links (base_of g held) (unbounded g held) b c.number-second.result) first
+    ∙ ap (λ (b : ℕ). gate_links (base_of g held) (unbounded g held) (latch_number g held (variable c.in-Some.gate.rhs1)) b) second))
     (before-links g k.props.now held k.graph c.args.var c.in-Some.gate there c.requires.node c.requires.from c.requires.below f.has1 f.has0)
 
 pub returns-in-None-clause-links : goal.returns-in-None-clause-links

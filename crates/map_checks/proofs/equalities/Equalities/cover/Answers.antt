@@ -6,7 +6,7 @@ use Rattle.map_checks.proofs.equalities.Equalities.cover.Goals as goal
 pub loop-place-init : goal.loop-place-init
 loop-place-init c = record {
   first = ap (λ (e : Equal). e.first) c.self.view_is;
-  long = omega (arith, c.len-place.ensures, c.self.inside.stands.ok);
+  long = omega (arith, c.len-place.ensures, c.self.inside.substitutes.ok);
   right = λ values negated right. subst (λ (e : Equal). IsRight e values) (sym c.self.view_is) right;
 }
 
@@ -28,6 +28,6 @@ loop-place-preserved c =
       first = c.loop-place.invariant.first;
       long = omega (arith, c.in_ok-push.ensures.len, c.loop-place.invariant.long);
       right = λ values negated right.
-          right-push first own c.loop-place.self-inside.stands.items c.push.new.self.items c.in_ok-push.ensures.items (omega (arith, c.new.ensures, c.loop-place.invariant.long)) values
+          right-push first own c.loop-place.self-inside.substitutes.items c.push.new.self.items c.in_ok-push.ensures.items (omega (arith, c.new.ensures, c.loop-place.invariant.long)) values
           (c.loop-place.invariant.right values negated right);
     }

@@ -5,6 +5,6 @@ use Rattle.map_checks.proofs.equalities.Equalities.cover.Given as goal
 abbrev pub invariant-loop-place : goal.invariant-loop-place
 invariant-loop-place l = record {
   first : l.self-inside.first ≡ l.fn.self.first;
-  long : length l.self-inside.stands.items ≡ l.place;
-  right : StaysRight l.fn.self (record { first = l.self-inside.first; stands = l.self-inside.stands.items });
+  long : length l.self-inside.substitutes.items ≡ l.place;
+  right : StaysRight l.fn.self (record { first = l.self-inside.first; substitutes = l.self-inside.substitutes.items });
 }

@@ -14,7 +14,7 @@ use Rattle.merged_latches.specs.Partitions.{IsKept}
 use Rattle.merged_latches.specs.Readings.{IsReading, ReadsAs, as_constant, as_first, as_itself, read}
 use Rattle.state_maps.specs.States.{State}
 use Rattle.state_maps.proofs.WithinLaws.{within_laws}
-use Rattle.map_circuits.specs.Constraining.{IsStand, StandsBelow, stand_function}
+use Rattle.map_circuits.specs.Constraining.{IsSubstitute, SubstitutesBelow, substitute_function}
 use Rattle.map_circuits.specs.Following.{entry_of, literal_at, state_of}
 use Rattle.merging_maps.specs.States.{ReadsHold}
 use Rattle.merging_maps.proofs.ReadsHoldLaws.{steady}
@@ -23,20 +23,20 @@ module _ (d : Graph) (held reads functions : List ℕ) (reading : IsReading d he
   abbrev first : ℕ
   first = first_latch d
 
-  is-stand : (j : ℕ) (latch : Latch) (lit : ℕ) → slice_get d.latches j ≡ Some latch → ReadsAs d held reads j latch lit → IsStand first functions lit
-  is-stand j latch lit there (as_itself e) = let below : j < length d.latches = slice_get_within d.latches j latch there in inr (omega (arith, e), omega (arith, e, below, many))
-  is-stand j latch lit there (as_constant may e) = inl (omega (arith, e, constant-even latch.reset))
-  is-stand j latch lit there (as_first i other less other_there may may_first own e) =
+  is-substitute : (j : ℕ) (latch : Latch) (lit : ℕ) → slice_get d.latches j ≡ Some latch → ReadsAs d held reads j latch lit → IsSubstitute first functions lit
+  is-substitute j latch lit there (as_itself e) = let below : j < length d.latches = slice_get_within d.latches j latch there in inr (omega (arith, e), omega (arith, e, below, many))
+  is-substitute j latch lit there (as_constant may e) = inl (omega (arith, e, constant-even latch.reset))
+  is-substitute j latch lit there (as_first i other less other_there may may_first own e) =
       let below : i < length d.latches = slice_get_within d.latches i other other_there in
       inr (omega (arith, e), omega (arith, e, below, many))
 
   -- what a latch reads as is a constant, or a literal of a latch
-  read-stand : (j : ℕ) → j < length d.latches → IsStand first functions (read reads j)
-  read-stand j less = let latch = element d.latches j less in is-stand j latch.0 (read reads j) latch.1 (reading.each j latch.0 latch.1)
+  read-substitute : (j : ℕ) → j < length d.latches → IsSubstitute first functions (read reads j)
+  read-substitute j less = let latch = element d.latches j less in is-substitute j latch.0 (read reads j) latch.1 (reading.each j latch.0 latch.1)
 
-  pub all-stands : All (λ stand. IsStand first functions stand) reads
-  all-stands k a less =
-      subst (λ (lit : ℕ). IsStand first functions lit) (sym (get_or_default reads k a 0 less)) (read-stand k (omega (arith, less, reading.long)))
+  pub all-substitutes : All (λ substitute. IsSubstitute first functions substitute) reads
+  all-substitutes k a less =
+      subst (λ (lit : ℕ). IsSubstitute first functions lit) (sym (get_or_default reads k a 0 less)) (read-substitute k (omega (arith, less, reading.long)))
 
   module _ (g : Graph) (graph : IsGraph g) (valid : IsGraph d) (s : State) where
     abbrev here : ℕ → Bool
@@ -55,35 +55,35 @@ module _ (d : Graph) (held reads functions : List ℕ) (reading : IsReading d he
         function-value (v - first) less ∙ sym ((within_laws d valid (λ i. false) (state_of g functions s)).latch (v - first) latch.0 latch.1) ∙ sym (ap there place)
 
     -- the function of what stands for a latch has its value
-    stand-value : (lit : ℕ) → IsStand first functions lit → here (stand_function first functions lit) ≡ there lit
-    stand-value lit stand =
+    substitute-value : (lit : ℕ) → IsSubstitute first functions lit → here (substitute_function first functions lit) ≡ there lit
+    substitute-value lit substitute =
         let one = within_laws g graph s (λ i. false) in
         let two = within_laws d valid (λ i. false) (state_of g functions s) in
         elim (cases_Bool (nat_eq (variable lit) 0)) [
           | inl constant ↦ (
-              let same : stand_function first functions lit ≡ lit = cond-true {A = ℕ} (nat_eq (variable lit) 0) lit (literal_at first functions lit) constant in
+              let same : substitute_function first functions lit ≡ lit = cond-true {A = ℕ} (nat_eq (variable lit) 0) lit (literal_at first functions lit) constant in
               let place : 2 * variable lit ≡ 0 = omega (arith, eqb-true (variable lit) 0 constant) in
               ap here same ∙ value_signed here one.negation lit ∙ ap (signed lit) (ap here place ∙ one.constant ∙ sym (ap there place ∙ two.constant)) ∙ sym (value_signed there two.negation lit))
           | inr apart ↦ (
-              let same : stand_function first functions lit ≡ literal_at first functions lit = cond-false {A = ℕ} (nat_eq (variable lit) 0) lit (literal_at first functions lit) apart in
-              let entry : here (entry_of first functions (variable lit)) ≡ there (2 * variable lit) = elim stand [
+              let same : substitute_function first functions lit ≡ literal_at first functions lit = cond-false {A = ℕ} (nat_eq (variable lit) 0) lit (literal_at first functions lit) apart in
+              let entry : here (entry_of first functions (variable lit)) ≡ there (2 * variable lit) = elim substitute [
                 | inl none ↦ (let clash : nat_eq (variable lit) 0 ≡ true = ap (λ (n : ℕ). nat_eq n 0) none in absurd (cc))
                 | inr covered ↦ entry-value (variable lit) covered.0 covered.1
               ] in
               ap here same ∙ value_signed_as here one.negation lit (entry_of first functions (variable lit)) ∙ ap (signed lit) entry ∙ sym (value_signed there two.negation lit))
         ]
 
-    stand-here : (j : ℕ) → j < length d.latches → here (stand_function first functions (get_or reads j 0)) ≡ there (read reads j)
-    stand-here j less = stand-value (read reads j) (read-stand j less)
+    substitute-here : (j : ℕ) → j < length d.latches → here (substitute_function first functions (get_or reads j 0)) ≡ there (read reads j)
+    substitute-here j less = substitute-value (read reads j) (read-substitute j less)
 
-    pub reads-below : ReadsHold d reads (state_of g functions s) → StandsBelow g first functions reads (length reads) s
+    pub reads-below : ReadsHold d reads (state_of g functions s) → SubstitutesBelow g first functions reads (length reads) s
     reads-below holds j less =
         let below : j < length d.latches = omega (arith, less, reading.long) in
         let latch = element d.latches j below in
-        function-value j (omega (arith, below, many)) ∙ sym (holds (λ i. false) j latch.0 latch.1) ∙ sym (stand-here j below)
+        function-value j (omega (arith, below, many)) ∙ sym (holds (λ i. false) j latch.0 latch.1) ∙ sym (substitute-here j below)
 
-    pub reads-hold : IsKept d held reads → StandsBelow g first functions reads (length reads) s → ReadsHold d reads (state_of g functions s)
+    pub reads-hold : IsKept d held reads → SubstitutesBelow g first functions reads (length reads) s → ReadsHold d reads (state_of g functions s)
     reads-hold kept below x j latch at =
         let less : j < length d.latches = slice_get_within d.latches j latch at in
         steady d held reads valid kept (state_of g functions s) x j latch at
-        ∙ sym (stand-here j less) ∙ sym (below j (omega (arith, less, reading.long))) ∙ function-value j (omega (arith, less, many))
+        ∙ sym (substitute-here j less) ∙ sym (below j (omega (arith, less, reading.long))) ∙ function-value j (omega (arith, less, many))

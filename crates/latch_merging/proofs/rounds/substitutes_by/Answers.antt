@@ -1,14 +1,14 @@
 use Rattle.std.proofs.Common.{◌≡◌, ◌∙◌, ◌++◌, ◌∷◌, [], ◌+◌, ap, sym, arith, length, take, List, ℕ}
 use Rattle.std.proofs.lemmas.List.{length-take-le, take_all}
 use Rattle.aig_graph.specs.Graph.{Graph, first_latch}
-use Rattle.cleaned_circuits.specs.Merged.{merge_gates, merging_from, stands_after}
+use Rattle.cleaned_circuits.specs.Merged.{merge_gates, merging_from, substitutes_after}
 use Rattle.clean.specs.Substitutions.{from_first, own_literals}
 use Rattle.clean.proofs.SubstitutionLaws.{length-from_first, from_first-nil, from_first-push}
 use Rattle.latch_merging.proofs.RoundStepLaws.{leaves-is, take-more}
-use Rattle.latch_merging.proofs.rounds.stands_by.Goals as goal
+use Rattle.latch_merging.proofs.rounds.substitutes_by.Goals as goal
 
 pub loop-lit-init : goal.loop-lit-init
-loop-lit-init c = c.in_ok-stands.ensures ∙ ap own_literals c.first_latch.ensures.value ∙ sym (from_first-nil (first_latch c.args.aig.now))
+loop-lit-init c = c.in_ok-substitutes.ensures ∙ ap own_literals c.first_latch.ensures.value ∙ sym (from_first-nil (first_latch c.args.aig.now))
 
 pub push-requires : goal.push-requires
 push-requires c =
@@ -43,10 +43,10 @@ merge_gates-requires c =
     )
 
 pub returns : goal.returns
-unfolding stands_after
+unfolding substitutes_after
 returns c =
     let g : Graph = c.args.aig.now in
     let reads : List ℕ = c.args.reads.now in
     let all : take c.loop-lit.lit-index reads ≡ reads = take_all c.loop-lit.lit-index reads (omega (arith, c.loop-lit-test.false)) in
     c.in_ok-merge_gates.ensures
-    ∙ ap (λ (xs : List ℕ). (merge_gates g.gates (merging_from xs)).stands) (c.loop-lit.invariant ∙ ap (from_first (first_latch g)) all ∙ leaves-is g reads)
+    ∙ ap (λ (xs : List ℕ). (merge_gates g.gates (merging_from xs)).substitutes) (c.loop-lit.invariant ∙ ap (from_first (first_latch g)) all ∙ leaves-is g reads)

@@ -1,12 +1,12 @@
 use Rattle.std.proofs.Common.{rules, ◌≡◌, ◌∙◌, sym, ap, true, false, ℕ}
 use Rattle.aig_graph.specs.Graph.{is_free}
 use Rattle.variable_tables.specs.Marking.{has}
-use Rattle.cleaned_circuits.specs.Latches.{is_stuck, is_latch}
-use Rattle.cleaned_circuits.specs.Merged.{stand_or_own}
+use Rattle.cleaned_circuits.specs.Latches.{is_stuck, same_latch}
+use Rattle.cleaned_circuits.specs.Merged.{substitute_or_own}
 use Rattle.clean.specs.Firsts.{entries_after}
 use Rattle.std.specs.Map.{lookup}
-use Rattle.clean.proofs.FirstsLaws.{stuck-is, firsts-stuck, firsts-free, firsts-more, stand-first}
-use Rattle.clean.proofs.latches.stand_for_latch.Goals as goal
+use Rattle.clean.proofs.FirstsLaws.{stuck-is, firsts-stuck, firsts-free, firsts-more, substitute-first}
+use Rattle.clean.proofs.latches.substitute_for_latch.Goals as goal
 
 pub returns-then-is_stuck-clause-firsts : goal.returns-then-is_stuck-clause-firsts
 returns-then-is_stuck-clause-firsts c =
@@ -28,7 +28,7 @@ returns-then-is_held-clause-firsts c =
     let sound : is_stuck g held c.args.place c.args.latch ≡ false =
     sym (stuck-is g held c.args.place c.args.latch c.own_literal-own.result c.has-is_held.result c.is_stuck.result c.own_literal-own.ensures c.has-is_held.ensures c.is_stuck.ensures) ∙ c.if-is_stuck.false in
     firsts-more g held c.args.place c.args.latch c.requires.there sound c.args.firsts.now c.requires.firsts c.first_like.new.self
-    (c.in_ok-first.ensures.entries ∙ ap (λ (n : ℕ). entries_after c.args.firsts.now n c.args.latch (lookup (is_latch c.args.latch) c.args.firsts.now)) c.own_literal-own.ensures)
+    (c.in_ok-first.ensures.entries ∙ ap (λ (n : ℕ). entries_after c.args.firsts.now n c.args.latch (lookup (same_latch c.args.latch) c.args.firsts.now)) c.own_literal-own.ensures)
 
 pub returns-else-is_held-clause-firsts : goal.returns-else-is_held-clause-firsts
 returns-else-is_held-clause-firsts c =
@@ -37,7 +37,7 @@ returns-else-is_held-clause-firsts c =
     let sound : is_stuck g held c.args.place c.args.latch ≡ false =
     sym (stuck-is g held c.args.place c.args.latch c.own_literal-own.result c.has-is_held.result c.is_stuck.result c.own_literal-own.ensures c.has-is_held.ensures c.is_stuck.ensures) ∙ c.if-is_stuck.false in
     firsts-more g held c.args.place c.args.latch c.requires.there sound c.args.firsts.now c.requires.firsts c.first_like.new.self
-    (c.in_ok-first.ensures.entries ∙ ap (λ (n : ℕ). entries_after c.args.firsts.now n c.args.latch (lookup (is_latch c.args.latch) c.args.firsts.now)) c.own_literal-own.ensures)
+    (c.in_ok-first.ensures.entries ∙ ap (λ (n : ℕ). entries_after c.args.firsts.now n c.args.latch (lookup (same_latch c.args.latch) c.args.firsts.now)) c.own_literal-own.ensures)
 
 pub returns-else-is_held-clause-literal : goal.returns-else-is_held-clause-literal
 returns-else-is_held-clause-literal c =
@@ -48,5 +48,5 @@ returns-else-is_held-clause-literal c =
     let known : is_free c.args.latch ≡ false = search rules in
     let loose : has held c.args.place ≡ false = sym c.has-is_held.ensures ∙ c.if-is_held.false in
     c.in_ok-first.ensures.literal
-    ∙ ap (λ (n : ℕ). stand_or_own n (lookup (is_latch c.args.latch) c.args.firsts.now)) c.own_literal-own.ensures
-    ∙ stand-first g held c.args.place c.args.latch c.requires.there sound c.args.firsts.now c.requires.firsts known loose
+    ∙ ap (λ (n : ℕ). substitute_or_own n (lookup (same_latch c.args.latch) c.args.firsts.now)) c.own_literal-own.ensures
+    ∙ substitute-first g held c.args.place c.args.latch c.requires.there sound c.args.firsts.now c.requires.firsts known loose

@@ -2,23 +2,28 @@
 //! fan-ins come before it: what stands for them is known when it is met. A gate may make a latch equal to another or stuck, so
 //! passes are repeated (`cleaning`).
 ghost use Rattle.std.specs.Prelude.{◌≡◌, IfOk, length};
-ghost use Rattle.cleaned_circuits.specs.Merged.{stands_of};
+ghost use Rattle.cleaned_circuits.specs.Merged.{substitutes_of};
 
 use crate::gates::merge_gates;
 use crate::held::Held;
-use crate::latches::latch_stands;
+use crate::latches::latch_substitutes;
 use crate::substitution::Substitution;
 use aig_graph::{Aig, NoMemory};
 use std::alloc::Global;
 
 /// What stands for each variable: for a stuck latch its constant, for a latch or a gate the first one like it, and for a
 /// gate that says nothing new the literal that it comes down to.
-pub(crate) fn stands_of(alloc: Global, aig: &Aig, held: &Held<'_>) -> Result<Substitution, NoMemory>
+pub(crate) fn substitutes_of(
+    alloc: Global,
+    aig: &Aig,
+    held: &Held<'_>,
+) -> Result<Substitution, NoMemory>
     requires { length held.now.marks.items ≡ length aig.now.latches }
-    ensures { IfOk result (λ stands. stands ≡ stands_of aig.now held.now.positions.now) }
+    ensures { IfOk result (λ substitutes. substitutes ≡ substitutes_of aig.now
+        held.now.positions.now) }
 {
-    let mut stands = Substitution::new(alloc, aig.first_latch(), aig.latches_and_gates())?;
-    latch_stands(alloc, aig, held, &mut stands)?;
-    merge_gates(alloc, aig, &mut stands)?;
-    Ok(stands)
+    let mut substitutes = Substitution::new(alloc, aig.first_latch(), aig.latches_and_gates())?;
+    latch_substitutes(alloc, aig, held, &mut substitutes)?;
+    merge_gates(alloc, aig, &mut substitutes)?;
+    Ok(substitutes)
 }
