@@ -21,6 +21,7 @@ use Rattle.unit_flows.proofs.GateSumLaws.{unit-true, unit-false, unit-le, IsSpli
 
 -- ---- sums
 
+-- a sum of n + m terms is the sum of the first n and that of the other m
 pub sum-split : (n m : ℕ) (f : ℕ → ℕ) → sum_below (n + m) f ≡ sum_below n f + sum_below m (λ k. f (n + k))
 sum-split n zero f =
     let same : n + 0 ≡ n = omega arith in
@@ -29,6 +30,7 @@ sum-split n (suc m) f =
     let more : n + suc m ≡ suc (n + m) = omega arith in
     omega (arith, ap (λ (i : ℕ). sum_below i f) more, sum-split n m f)
 
+-- those below n + m that pass are those below n, and one for each of the next m that passes
 pub count-sum : (p : ℕ → Bool) (n m : ℕ) → count_below p (n + m) ≡ count_below p n + sum_below m (λ k. unit (p (n + k)))
 count-sum p n zero =
     let same : n + 0 ≡ n = omega arith in

@@ -14,9 +14,11 @@ use Rattle.std.proofs.lemmas.Bool.{le-leb}
 use Rattle.std.proofs.lemmas.List.{get_or_default}
 use Rattle.flow_theory.specs.Flow.{sum_below}
 
+-- the table of which variables are observed has an entry for each latch and gate
 pub leaving-long : (c : Netlist) (held : List ℕ) (marks : List Bool) → marks ≡ table (first_latch c.aig) (latches_and_gates c.aig) (is_observed c.aig c.props held) → length marks ≡ latches_and_gates c.aig
 leaving-long c held marks filled = ap length filled ∙ length-table (first_latch c.aig) (latches_and_gates c.aig) (is_observed c.aig c.props held)
 
+-- the entry at a place of this table says whether the variable there is observed
 pub leaving-at : (c : Netlist) (held : List ℕ) (marks : List Bool) (p : ℕ) → marks ≡ table (first_latch c.aig) (latches_and_gates c.aig) (is_observed c.aig c.props held) → p < latches_and_gates c.aig
     → get_or marks p false ≡ is_observed c.aig c.props held (first_latch c.aig + p)
 leaving-at c held marks p filled h = AreMarks-table (first_latch c.aig) (latches_and_gates c.aig) marks (is_observed c.aig c.props held) filled p (omega (arith, h, leaving-long c held marks filled))
@@ -28,6 +30,7 @@ mark-at-place first marks p =
     let place : first + p - first ≡ p = omega arith in
     ap (λ (b : Bool). b && get_or marks (first + p - first) false) (le-leb first (first + p) (omega arith)) ∙ ap (λ (i : ℕ). get_or marks i false) place
 
+-- what is read at a place of this table says whether the variable there is observed
 pub leaving-read : (c : Netlist) (held : List ℕ) (marks : List Bool) (p : ℕ) (r : Bool) → marks ≡ table (first_latch c.aig) (latches_and_gates c.aig) (is_observed c.aig c.props held) → p < latches_and_gates c.aig
     → r ≡ get_or marks p r → r ≡ is_observed c.aig c.props held (first_latch c.aig + p)
 leaving-read c held marks p r filled h read =
@@ -39,10 +42,12 @@ sum-more f n t u so here =
     let next : n + 1 ≡ suc n = omega arith in
     omega (arith, so, here, ap (λ (i : ℕ). sum_below i f) next)
 
+-- where one thing implies another and the one holds, so does the other
 pub or-not : (i a : Bool) → (not i || a) ≡ true → i ≡ true → a ≡ true
 or-not true a e yes' = e
 or-not false a e yes' = absurd (cc)
 
+-- whether a variable crosses is the same where the three tests that decide this are
 pub cross-same : (k k' o o' r r' : Bool) → k ≡ k' → o ≡ o' → r ≡ r' → ((k || o) && r) ≡ ((k' || o') && r')
 cross-same k k' o o' r r' a b e = rw (a, b, e) refl
 
@@ -54,9 +59,11 @@ cut-same first first' begin begin' var var' gate gate' xs ys a b d e cut =
     (subst (λ (n : ℕ). IsCutAt n (mark_at first xs) (mark_at first ys) var' gate') b
     (subst (λ (n : ℕ). IsCutAt begin (mark_at first xs) (mark_at first ys) n gate') d (subst (λ (x : Gate). IsCutAt begin (mark_at first xs) (mark_at first ys) var x) e cut)))
 
+-- the gate that is read at place k of a graph's gates is the graph's k-th gate
 pub gate-read : (g : Graph) (gates : List Gate) (k : ℕ) (r : Gate) → gates ≡ g.gates → k < length gates → r ≡ get_or gates k r → r ≡ nth_gate g k
 gate-read g gates k r same h read = read ∙ get_or_default gates k r _ h ∙ ap (λ (xs : List Gate). get_or xs k (record { rhs0 = 0; rhs1 = 0 })) same
 
+-- no test both holds and equals one that fails
 pub not-both : (a b : Bool) → a ≡ true → a ≡ b → b ≡ false → ⊥
 not-both true true e f g = absurd (cc)
 not-both true false e f g = absurd (cc)

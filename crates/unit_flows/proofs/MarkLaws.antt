@@ -36,6 +36,7 @@ one wished var v b h e =
     let parts = and_parts wished (var == v) e in
     sym (ap b (eqb-true var v parts.1)) ∙ h parts.0
 
+-- marks before variables stay within a set of nodes as a node of the set is marked there
 pub within-before : (first var : ℕ) (xs new ys : List Bool) (wished : Bool) (b a : ℕ → Bool) → AreWithin first xs ys b a → Marks first xs new (λ v. wished && (var == v)) → (wished ≡ true → b var ≡ true)
     → AreWithin first new ys b a
 within-before first var xs new ys wished b a within marks h = record {
@@ -43,6 +44,7 @@ within-before first var xs new ys wished b a within marks h = record {
   each_after = within.each_after;
 }
 
+-- marks after variables stay within a set of nodes as a node of the set is marked there
 pub within-after : (first var : ℕ) (xs new ys : List Bool) (wished : Bool) (b a : ℕ → Bool) → AreWithin first ys xs b a → Marks first xs new (λ v. wished && (var == v)) → (wished ≡ true → a var ≡ true)
     → AreWithin first ys new b a
 within-after first var xs new ys wished b a within marks h = record {
@@ -81,6 +83,7 @@ reach-first c held flows n xs ys none filled b a up = record {
           | inr past ↦ absurd (true_false (sym parts.1 ∙ get_or_past ys (v - first_latch c.aig) false past))
         ]
 
+-- marks that equal those that all reach the sink all reach the sink
 pub reach-same : (c : Netlist) (held : List ℕ) (flows : List GateFlow) (xs xs' ys ys' : List Bool) → xs' ≡ xs → ys' ≡ ys → ReachSink c held flows xs ys → ReachSink c held flows xs' ys'
 reach-same c held flows xs xs' ys ys' e f reach =
     subst (λ (zs : List Bool). ReachSink c held flows zs ys') (sym e) (subst (λ (zs : List Bool). ReachSink c held flows xs zs) (sym f) reach)
@@ -91,6 +94,7 @@ pub within-before_at : (first first' var var' : ℕ) (xs new ys : List Bool) (wi
 within-before_at first first' var var' xs new ys wished b a e f within marks h =
     within-before first' var' xs new ys wished b a within (subst (λ (n : ℕ). Marks n xs new (λ v. wished && (var' == v))) e (subst (λ (n : ℕ). Marks first xs new (λ v. wished && (n == v))) f marks)) h
 
+-- marks after variables stay within a set as a node of the set is marked, whose place is given by equal numbers
 pub within-after_at : (first first' var var' : ℕ) (xs new ys : List Bool) (wished : Bool) (b a : ℕ → Bool) → first ≡ first' → var ≡ var' → AreWithin first' ys xs b a → Marks first xs new (λ v. wished && (var == v))
     → (wished ≡ true → a var' ≡ true) → AreWithin first' ys new b a
 within-after_at first first' var var' xs new ys wished b a e f within marks h =
@@ -106,6 +110,7 @@ left-first c held flows went came n m xs ys none none' b a down = record {
     true_false' : true ≡ false → ⊥
     true_false' e = absurd (cc)
 
+-- marks that equal those that are all reached from where a unit is left are all reached from there
 pub left-same : (c : Netlist) (held : List ℕ) (flows : List GateFlow) (went came : List ℕ) (xs xs' ys ys' : List Bool) → xs' ≡ xs → ys' ≡ ys → AreReachedFromLeft c held flows went came xs ys → AreReachedFromLeft c held flows went came xs' ys'
 left-same c held flows went came xs xs' ys ys' e f reach =
     subst (λ (zs : List Bool). AreReachedFromLeft c held flows went came zs ys') (sym e) (subst (λ (zs : List Bool). AreReachedFromLeft c held flows went came xs zs) (sym f) reach)

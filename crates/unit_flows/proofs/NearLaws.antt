@@ -49,6 +49,7 @@ module _ (c : Netlist) (held r : List ℕ) (flows : List GateFlow) (went came : 
     gates = λ k h. heads-of (far_before c r) (far_after c held r) (first_gate c.aig + k) (nth_gate c.aig k) (nth_flow flows k) ((upstream c held r flows went came set tallies balanced least).gates k h);
   }
 
+-- a full cut, each of whose gates off the marks is reached from where a unit is left, shows the smallest least set
 pub shown-smallest-law : ShownSmallestLaw
 shown-smallest-law c held flows went came marks_before marks_after s valid tallies balanced cut far rising members =
     let before : ℕ → Bool = mark_at (first_latch c.aig) marks_before in

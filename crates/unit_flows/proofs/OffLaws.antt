@@ -87,14 +87,17 @@ off-members c held before vars v listed = ap (λ (xs : List ℕ). has xs v) list
 
 -- ---- the list of them, place by place
 
+-- no gate off the marks lies before the first latch
 pub off-start : (c : Netlist) (held : List ℕ) (before : ℕ → Bool) → places (is_off c held before) (first_latch c.aig + 0) ≡ []
 off-start c held before = places-none (is_off c held before) (first_latch c.aig + 0) (λ v low. and_left (is_passable c.aig held v) (not (before v)) (passable-before c.aig held v (omega (arith, low))))
 
+-- the list of passing variables up to a place, with the variable there where that passes, is the list up to the next place
 pub off-pass : (p : ℕ → Bool) (first place var : ℕ) (vars new : List ℕ) → var ≡ first + place → p var ≡ true → vars ≡ places p (first + place) → new ≡ vars ++ var ∷ [] → new ≡ places p (first + (place + 1))
 off-pass p first place var vars new at passes listed pushed =
     let next : first + (place + 1) ≡ suc (first + place) = omega arith in
     pushed ∙ ap₂ (λ (xs : List ℕ) (v : ℕ). xs ++ v ∷ []) listed at ∙ sym (places-pass p (first + place) (sym (ap p at) ∙ passes)) ∙ ap (λ (n : ℕ). places p n) (sym next)
 
+-- the list of passing variables up to a place is the list up to the next place where the variable there doesn't pass
 pub off-fail : (p : ℕ → Bool) (first place var : ℕ) (vars new : List ℕ) → var ≡ first + place → p var ≡ false → vars ≡ places p (first + place) → new ≡ vars → new ≡ places p (first + (place + 1))
 off-fail p first place var vars new at fails listed same =
     let next : first + (place + 1) ≡ suc (first + place) = omega arith in

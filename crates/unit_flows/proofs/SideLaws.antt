@@ -19,9 +19,11 @@ use Rattle.frame_cuts.proofs.ReadLaws.{read-split, read-by_gate}
 use Rattle.frame_cuts.proofs.NetLaws.{gate-range}
 use Rattle.unit_flows.specs.Units.{nth_gate}
 
+-- true isn't false
 pub true_false : true ≡ false → ⊥
 true_false e = absurd (cc)
 
+-- a test that holds is true
 pub is_true : (b : Bool) → IsTrue b → b ≡ true
 is_true true t = refl
 is_true false t = absurd (cc)
@@ -41,10 +43,12 @@ far_before c r v = not (nat_lt v (first_gate c.aig) || has r v)
 pub nth-at : (g : Graph) (k : ℕ) → k < length g.gates → gate_at g (first_gate g + k) ≡ Some (nth_gate g k)
 nth-at g k h = gate_at-first_gate g k ∙ slice_get-get_or g.gates k _ h
 
+-- the k-th gate reads the variable of its first fan-in
 pub first-read : (g : Graph) (k : ℕ) → k < length g.gates → gate_reads (variable (nth_gate g k).rhs1) (gate_at g (first_gate g + k)) ≡ true
 first-read g k h = ap (λ (o : Option Gate). gate_reads (variable (nth_gate g k).rhs1) o) (nth-at g k h)
     ∙ or_right (variable (nth_gate g k).rhs0 == variable (nth_gate g k).rhs1) (variable (nth_gate g k).rhs1 == variable (nth_gate g k).rhs1) (eq-eqb _ _ refl)
 
+-- the k-th gate reads the variable of its second fan-in
 pub second-read : (g : Graph) (k : ℕ) → k < length g.gates → gate_reads (variable (nth_gate g k).rhs0) (gate_at g (first_gate g + k)) ≡ true
 second-read g k h = ap (λ (o : Option Gate). gate_reads (variable (nth_gate g k).rhs0) o) (nth-at g k h)
     ∙ or_left (variable (nth_gate g k).rhs0 == variable (nth_gate g k).rhs0) (variable (nth_gate g k).rhs1 == variable (nth_gate g k).rhs0) (eq-eqb _ _ refl)
@@ -61,9 +65,11 @@ border-cases false true o e = e
 border-cases false false o e = absurd (cc)
 
 module _ (c : Netlist) (held r : List ℕ) (set : IsClosedSet c.aig held r) where
+  -- each member of a closed set is passable
   pub member-passable : (v : ℕ) → has r v ≡ true → is_passable c.aig held v ≡ true
   member-passable v m = is_true (is_passable c.aig held v) ((passable-means c.aig held v).1 (set.closed.passable v ((has_iff_contains r v).0 (subst (λ (b : Bool). IsTrue b) (sym m) refl))))
 
+  -- no variable before the first gate is in a closed set
   pub outside-gates : (v : ℕ) → v < first_gate c.aig → has r v ≡ false
   outside-gates v h = false_from_ne_true (has r v) (λ m. omega (arith, h, (gate-range c.aig held v (member-passable v m)).0))
 

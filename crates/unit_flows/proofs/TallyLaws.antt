@@ -23,6 +23,7 @@ sum-change (suc n) p f g d h others here = elim (cases_eq n p) [
 mul-split : (x y w : ℕ) → (x + y) * w ≡ x * w + y * w
 mul-split x y w = omega arith
 
+-- units that are added to an entry weigh as much more as that entry's variable weighs each
 pub weigh-set : (first : ℕ) (xs : List ℕ) (p units : ℕ) (weight : ℕ → ℕ) → p < length xs
     → weigh first (slice_set xs p (slice_index xs p + units)) weight ≡ weigh first xs weight + units * weight (first + p)
 weigh-set first xs p units weight h =
@@ -51,6 +52,7 @@ weigh-zeros first n xs weight zeros =
     none : (w : ℕ) → 0 * w ≡ 0
     none w = omega arith
 
+-- tables of zeros are the tallies of no gates
 pub tallies-none : (g : Graph) (flows : List GateFlow) (went came : List ℕ) → went ≡ replicate (latches_and_gates g) 0 → came ≡ replicate (latches_and_gates g) 0 → AreTallies g flows 0 went came
 tallies-none g flows went came none none' = record {
   as_long = ap length none ∙ length-replicate (latches_and_gates g) 0;
