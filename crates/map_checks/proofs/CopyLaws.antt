@@ -15,11 +15,13 @@ pub copy-low : (c : Copy) (lit : ℕ) → variable lit < c.first → copy_of c l
 unfolding copy_of
 copy-low c lit less = cond-true (nat_lt (variable lit) c.first) lit (signed_as lit (get_or c.literals (variable lit - c.first) 0)) (lt-ltb (variable lit) c.first less)
 
+-- a literal from the first variable on is that which the list has for the variable, with the literal's sign
 pub copy-from : (c : Copy) (lit : ℕ) → c.first ≤ variable lit → copy_of c lit ≡ signed_as lit (get_or c.literals (variable lit - c.first) 0)
 unfolding copy_of
 copy-from c lit more = cond-false (nat_lt (variable lit) c.first) lit (signed_as lit (get_or c.literals (variable lit - c.first) 0)) (le-ltb (variable lit) c.first more)
 
 module _ (c : Copy) (new : ℕ) where
+  -- one literal more leaves the literals of the variables before as they were
   pub copy-before : (lit : ℕ) → variable lit < copied_end c → copy_of (with_literal c new) lit ≡ copy_of c lit
   copy-before lit less = elim (cases_lt (variable lit) c.first) [
     | inl low ↦ copy-low (with_literal c new) lit low ∙ sym (copy-low c lit low)
@@ -29,15 +31,18 @@ module _ (c : Copy) (new : ℕ) where
         ∙ sym (copy-from c lit from)
   ]
 
+  -- the variable that comes next gets the new literal, with the sign of what is copied
   pub copy-last : (lit : ℕ) → variable lit ≡ copied_end c → copy_of (with_literal c new) lit ≡ signed_as lit new
   copy-last lit last =
       let from : c.first ≤ variable lit = omega (arith, last) in
       copy-from (with_literal c new) lit from
       ∙ ap (signed_as lit) (get_or_push c.literals new 0 (variable lit - c.first) (omega (arith, last)))
 
+  -- one literal more moves the copy's end by one variable
   pub end-more : copied_end (with_literal c new) ≡ copied_end c + 1
   end-more = omega (arith, length_push c.literals new)
 
+  -- a copy's literals and a new one that is shared are shared after the gates have grown
   pub shared-push : (k l : Shared) → Grows k l → AreShared k c → IsShared l new → AreShared l (with_literal c new)
   shared-push k l grows within here lit less = elim (cases_lt (variable lit) (copied_end c)) [
     | inl before ↦ (let P : ℕ → Type 0 = λ n. IsShared l n in subst P (sym (copy-before lit before)) (shared-more k l grows (copy_of c lit) (within lit before)))
@@ -49,6 +54,7 @@ module _ (c : Copy) (new : ℕ) where
         subst P (sym (copy-last lit last)) inside)
   ]
 
+  -- a copy follows one variable more where the new literal has the value of that variable
   pub follows-push : (values own : ℕ → Bool) → IsNegated values → IsNegated own → Follows c (copied_end c) values own → values new ≡ own (2 * copied_end c)
       → Follows (with_literal c new) (copied_end c + 1) values own
   follows-push values own negated own_negated follows here lit less = elim (cases_lt (variable lit) (copied_end c)) [
@@ -63,11 +69,13 @@ module _ (c : Copy) (new : ℕ) where
 
 -- one more gate copied: a and b stand for its fan-ins, lit for their conjunction, and new for that
 module _ (g : Graph) (k l : Shared) (grows : Grows k l) (gate : Gate) (i : ℕ) (there : slice_get g.gates i ≡ Some gate) (valid : IsGraph g) (c : Copy) (long : copied_end c ≡ first_gate g + i) where
+  -- the fan-ins of the next gate have been copied
   pub fan-ins-there : (variable gate.rhs0 < copied_end c) × (variable gate.rhs1 < copied_end c)
   fan-ins-there =
       let at : IsGateAt (first_gate g + i) gate = valid.gates i gate there in
       (omega (arith, at.below, long), omega (arith, at.below, at.ordered, long))
 
+  -- with a literal of the value of its fan-ins' conjunction the next gate is followed too
   pub gate-copied : (a b lit new : ℕ) (values own : ℕ → Bool) → Respects l values → Respects (gates_of g) own → IsBoth l a b lit
       → values a ≡ values (copy_of c gate.rhs0) → values b ≡ values (copy_of c gate.rhs1) → values new ≡ values lit → Follows c (copied_end c) values own
       → Follows (with_literal c new) (copied_end c + 1) values own

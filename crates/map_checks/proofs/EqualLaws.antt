@@ -9,6 +9,7 @@ use Rattle.variable_tables.proofs.PlacesLaws.{slice_get_push}
 use Rattle.map_checks.specs.Shared.{IsNegated}
 use Rattle.map_checks.specs.Equal.{Equal, IsRight, substitute_or_own, standing}
 
+-- what stands for a literal has the literal's value, where what stands for each variable has that variable's
 pub standing-value : (e : Equal) (values : ℕ → Bool) → IsNegated values → IsRight e values → (lit : ℕ) → values (standing e lit) ≡ values lit
 unfolding standing
 standing-value e values negated right lit = elim (cases_lt (variable lit) e.first) [

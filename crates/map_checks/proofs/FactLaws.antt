@@ -62,6 +62,7 @@ module _ (g : Graph) (valid : IsGraph g) (lit : ℕ) (both above below : Gate) (
       ∙ sym (gate-value g own respects (variable lit) both here) ∙ ap own (sym at) ∙ is in
       unequal p q whole ∙ sym (negated-literal own respects.negation above.rhs1 side same2 sign2)
 
+  -- an exclusive or of two literals, made of three gates, says that one of them is the other negated
   pub is-compared : IsFact g lit (above.rhs0, side)
   is-compared =
       let place : GatePlace g (variable both.rhs0) above = gate_place g (variable both.rhs0) above one in
@@ -88,6 +89,7 @@ even-of lit false iff e = elim (cases_eq (lit % 2) 0) [
   | inr odd ↦ absurd (false≢true (iff.1 (omega (arith, odd))))
 ]
 
+-- a literal is odd where the test whether the literal is negated holds
 pub odd-of : (lit : ℕ) (b : Bool) → (IsTrue b ↔ (lit % 2 ≡ 1)) → b ≡ true → lit % 2 ≡ 1
 odd-of lit true iff e = iff.0 refl
 odd-of lit false iff e = absurd (false≢true e)

@@ -47,6 +47,7 @@ leaves-follow leaves n values own negated own_negated end low each lit less = el
       ∙ sym (value_signed own own_negated lit))
 ]
 
+-- literals of leaves are shared where each listed one is, and all variables before the first are
 pub leaves-shared : (k : Shared) (leaves : Copy) → leaves.first ≤ end_of k → ((j : ℕ) → j < length leaves.literals → IsShared k (get_or leaves.literals j 0)) → AreShared k leaves
 leaves-shared k leaves few each lit less = elim (cases_lt (variable lit) leaves.first) [
   | inl before ↦ (let P : ℕ → Type 0 = λ n. IsShared k n in subst P (sym (copy-low leaves lit before)) (omega (arith, before, few)))
@@ -62,6 +63,7 @@ pub latches-shared : (k : Shared) (e : Equal) (c : Graph) (first : ℕ) (leaves 
 latches-shared k e c first leaves after few are =
     leaves-shared k leaves (omega (arith, are.from, few, after)) (λ j less. omega (arith, are.below j (omega (arith, less, are.long)), are.long, less, after))
 
+-- values of the shared literals remain such with fewer gates, and with equalities that are right where the old ones are
 pub views-fewer : (k l : Shared) (e f : Equal) (c : Graph) (x : Digits) (s : State) (values : ℕ → Bool) → Grows k l → StaysRight e f → Views l e c x s values → Views k f c x s values
 views-fewer k l e f c x s values grows stays views = record {
   respects = respects-fewer k l grows values views.respects;
@@ -81,6 +83,7 @@ view-later k l e f c g own copy grows stays view within = record {
 -- a copy over leaves that have their values
 module _ (k : Shared) (e f : Equal) (c g : Graph) (own : Digits → State → ℕ → Bool) (leaves copy : Copy) (respects : (x : Digits) (s : State) → Respects (gates_of g) (own x s)) (stays : StaysRight e f)
     (long : copied_end leaves ≡ first_gate g) where
+  -- a copy of a graph over leaves that have their values is a view of the graph
   pub view-of : IsCopy k f g leaves copy
       → ((values : ℕ → Bool) (x : Digits) (s : State) → Views k e c x s values → (v : ℕ) → v < leaves.first → values (2 * v) ≡ own x s (2 * v))
       → ((values : ℕ → Bool) (x : Digits) (s : State) → Views k e c x s values → (j : ℕ) → j < length leaves.literals → values (get_or leaves.literals j 0) ≡ own x s (2 * (leaves.first + j)))
@@ -188,9 +191,11 @@ view-second k l e f c d m before copy valid netlist same many grows view stays i
 
 -- copied lists have their values
 module _ (copy : Copy) (n : ℕ) (values own : ℕ → Bool) (follows : Follows copy n values own) where
+  -- the literals that stand in a copy for those of a list have the values of the list
   pub copied-list : (lits : List ℕ) → All (λ lit. variable lit < n) lits → map values (map (copy_of copy) lits) ≡ map own lits
   copied-list lits all = map-map values (copy_of copy) lits ∙ map-same (λ lit. variable lit < n) (λ lit. values (copy_of copy lit)) own follows lits all
 
+  -- the literals that stand in a copy for those of lists have the values of the lists
   pub copied-lists : (lists : List (List ℕ)) → All (λ lits. All (λ lit. variable lit < n) lits) lists → map (map values) (map (map (copy_of copy)) lists) ≡ map (map own) lists
   copied-lists lists all =
       map-map (map values) (map (copy_of copy)) lists
@@ -248,5 +253,6 @@ learns-of l c m e f h copy valid view stays assumes values x s views kept =
     assumes values (in_map m x s) views.respects.negation (graph-respects m.aig valid s (λ j. false)) (view.follows values x s views) (ones-of (in_map m x s) m.props.constraints kept)
     (stays values views.respects.negation views.right)
 
+-- a copy whose literals are shared has its literals shared after the gates have grown
 pub shared-later : (k l : Shared) (c : Copy) → Grows k l → AreShared k c → AreShared l c
 shared-later k l c grows within lit less = shared-more k l grows (copy_of c lit) (within lit less)

@@ -21,6 +21,7 @@ opening-within n own less Zero = omega (arith, less)
 opening-within n own less One = omega (arith, less)
 opening-within n own less Free = less
 
+-- the literals of what the latches hold at step 0 are shared
 pub resets-shared : (c : Graph) (k : Shared) (leaves : Copy) → k.first ≡ first_gate c → AreResets c leaves → AreShared k leaves
 resets-shared c k leaves after are =
     leaves-shared k leaves (omega (arith, are.first, after)) (λ j less.
@@ -36,6 +37,7 @@ opening-value values constant negated own b Zero same = constant
 opening-value values constant negated own b One same = negated 0 ∙ ap not constant
 opening-value values constant negated own b Free same = same
 
+-- a copy of the map over the resets has, for each choice, the values of the map in that first state
 pub reset-image : (c m : Graph) (k : Shared) (e : Equal) (leaves copy : Copy) → IsGraph m → m.inputs ≡ length c.latches → m.latches ≡ [] → AreGates k → k.first ≡ first_gate c → e.substitutes ≡ [] → AreResets c leaves
     → IsCopy k e m leaves copy → IsResetImage c m copy
 reset-image c m k e leaves copy valid wide combinational are after none resets is = record {

@@ -3,6 +3,7 @@ use Rattle.std.proofs.Common.{◌≡◌, List, ℕ, map, ap, ◌∙◌}
 use Rattle.aig_graph.specs.Mapped.{mapped_props}
 use Rattle.aig_graph.specs.declared.properties.Props.{Props}
 
+-- properties whose literals of each kind are the same under two functions are the same under these
 pub same-props : (f g : ℕ → ℕ) (p q : Props) → map f p.outputs ≡ map g q.outputs → map f p.bad ≡ map g q.bad → map f p.constraints ≡ map g q.constraints → map (map f) p.justice ≡ map (map g) q.justice
     → map f p.fairness ≡ map g q.fairness → mapped_props f p ≡ mapped_props g q
 unfolding mapped_props

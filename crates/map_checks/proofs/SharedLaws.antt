@@ -11,9 +11,11 @@ use Rattle.aig_graph.proofs.SignLaws.{gate_of-below, gate_of-ordered, value-gate
 use Rattle.variable_tables.proofs.PlacesLaws.{slice_get_push, slice_get-append_left}
 use Rattle.map_checks.specs.Shared.{Shared, AreGates, Grows, IsBoth, IsFolded, IsShared, Respects, end_of}
 
+-- shared gates that stay as they are count as grown
 pub grows-itself : (k : Shared) → Grows k k
 grows-itself k = record { first = refl; long = omega arith; gates = λ j gate e. e }
 
+-- shared gates that grow twice have grown from the first to the last
 pub grows-transitive : (k l m : Shared) → Grows k l → Grows l m → Grows k m
 grows-transitive k l m p q = record {
   first = q.first ∙ p.first;
@@ -29,6 +31,7 @@ respects-fewer k l grows values p = record {
   gates = λ j gate e. ap (λ (n : ℕ). values (2 * (n + j))) (sym grows.first) ∙ p.gates j gate (grows.gates j gate e);
 }
 
+-- a literal that is shared stays shared as gates grow
 pub shared-more : (k l : Shared) → Grows k l → (lit : ℕ) → IsShared k lit → IsShared l lit
 shared-more k l grows lit within = omega (arith, grows.first, grows.long, within)
 
@@ -40,6 +43,7 @@ same-gate gate other e =
     let two : ℕ → Gate = λ n. record { rhs0 = other.rhs0; rhs1 = n } in
     ap one (eqb-true gate.rhs0 other.rhs0 parts.0) ∙ ap two (eqb-true gate.rhs1 other.rhs1 parts.1)
 
+-- what a test chooses of two lists of gates is one of them
 pub one-or-other : (b : Bool) (xs ys : List Gate) → (cond b xs ys ≡ xs) ⊎ (cond b xs ys ≡ ys)
 one-or-other true xs ys = inl refl
 one-or-other false xs ys = inr refl
@@ -55,6 +59,7 @@ module _ (first : ℕ) (gates new : List Gate) (gate : Gate) (takes : Takes gate
   abbrev after : Shared
   after = record { first = first; gates = new }
 
+  -- each gate reads what is before, also after one that does so was put at the end where there is room
   pub gates-after : AreGates before → end_of before < MAX_VARIABLES → IsGateAt (end_of before) gate → AreGates after
   gates-after are room at = elim takes [
     | inl same ↦ (let P : List Gate → Type 0 = λ gs. AreGates (record { first = first; gates = gs }) in subst P (sym same) are)
@@ -72,6 +77,7 @@ module _ (first : ℕ) (gates new : List Gate) (gate : Gate) (takes : Takes gate
         }))
   ]
 
+  -- the gates after one was put at the end, or none, have grown from those before
   pub grows-after : Grows before after
   grows-after = elim takes [
     | inl same ↦ (let P : List Gate → Type 0 = λ gs. Grows before (record { first = first; gates = gs }) in subst P (sym same) (grows-itself before))
@@ -91,12 +97,14 @@ both-at k gate place lit there within at = record {
   is = λ values respects. ap values at ∙ respects.gates place gate there;
 }
 
+-- a gate whose second fan-in is 1 folds to the first fan-in
 pub folded-true : (gate : Gate) → gate.rhs1 ≡ 1 → IsFolded gate gate.rhs0
 folded-true gate one = record {
   below = omega arith;
   is = λ values constant negation. sym (ap (λ (n : ℕ). values gate.rhs0 && values n) one ∙ ap (λ (b : Bool). values gate.rhs0 && b) (negation 0 ∙ ap not constant) ∙ and-true (values gate.rhs0));
 }
 
+-- a gate whose fan-ins are equal folds to that fan-in
 pub folded-equal : (gate : Gate) → gate.rhs0 ≡ gate.rhs1 → IsFolded gate gate.rhs0
 folded-equal gate same = record {
   below = omega arith;
@@ -110,12 +118,14 @@ both-folded k a b lit first second folded = record {
   is = λ values respects. folded.is values respects.constant respects.negation ∙ value-gate_of values a b;
 }
 
+-- what is 1 where both fan-ins of the gate of two literals are is 1 where both literals are
 pub both-either : (k : Shared) (a b lit : ℕ) → IsBoth k (gate_of a b).rhs0 (gate_of a b).rhs1 lit → IsBoth k a b lit
 both-either k a b lit both = record {
   within = both.within;
   is = λ values respects. both.is values respects ∙ value-gate_of values a b;
 }
 
+-- the gate of two shared literals may stand at the end of the shared gates
 pub gate-at : (k : Shared) (a b : ℕ) → IsShared k a → IsShared k b → IsGateAt (end_of k) (gate_of a b)
 gate-at k a b first second = record { ordered = gate_of-ordered a b; below = gate_of-below (end_of k) a b first second }
 

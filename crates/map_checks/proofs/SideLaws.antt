@@ -7,9 +7,11 @@ use Rattle.map_checks.specs.Images.{AreSides, IsView, Learns, Views, in_first, i
 use Rattle.map_checks.proofs.SharedLaws.{grows-transitive}
 use Rattle.map_checks.proofs.ImageLaws.{shared-later, view-later, views-fewer}
 
+-- what is right stays right where nothing changes
 pub stays-same : (e : Equal) → StaysRight e e
 stays-same e = λ values negated right. right
 
+-- what stays right from one step to the next, twice, stays right over both
 pub stays-then : (e f h : Equal) → StaysRight e f → StaysRight f h → StaysRight e h
 stays-then e f h one two = λ values negated right. two values negated (one values negated right)
 
@@ -21,6 +23,7 @@ module _ (c d m : Netlist) (k1 k2 k3 k4 k5 : Shared) (e0 e1 e2 e3 e4 : Equal) (i
     (three : Grows k3 k4) (third : StaysRight e3 e4)
     (later_view : (e : Equal) → StaysRight e e3 → IsView k3 e c.aig c.aig (in_first c) before → IsView k4 e c.aig m.aig (in_map_later c m) later)
     (four : Grows k4 k5) (after_view : (e : Equal) → StaysRight e e4 → IsView k4 e c.aig m.aig (in_map m) image → IsView k5 e c.aig d.aig (in_second d m) after) where
+  -- the literals of the map's image are shared once the map a step later was copied
   pub image-later : AreShared k4 image
   image-later = shared-later k2 k4 image (grows-transitive k2 k3 k4 two three) image_view.within
 
@@ -32,6 +35,7 @@ module _ (c d m : Netlist) (k1 k2 k3 k4 k5 : Shared) (e0 e1 e2 e3 e4 : Equal) (i
       after_view e1 (stays-then e1 e2 e4 first (stays-then e2 e3 e4 second third))
       (view-later k2 k4 e1 e1 c.aig m.aig (in_map m) image (grows-transitive k2 k3 k4 two three) (stays-same e1) image_view image-later)
 
+  -- once all are copied, the first circuit, the map a step later and the second circuit have their values in their copies
   pub are-sides : AreSides k5 e0 c d m before later after
   are-sides = record {
     long = record { of_first = before_view.long; of_map = later-is.long; of_second = after-is.long };

@@ -27,6 +27,7 @@ use Rattle.map_checks.specs.Starts.{AreRising, AreStarts, IsFreeLatch, IsOpening
 use Rattle.map_checks.specs.Answers.{Begins}
 use Rattle.map_checks.proofs.ImageLaws.{copied-ones}
 
+-- a rising list that is followed by a number greater than each entry is rising
 pub push-rising : (xs : List ℕ) (g : ℕ) → IsStrictlyIncreasing xs → ((k : ℕ) → k < length xs → get_or xs k 0 < g) → IsStrictlyIncreasing (xs ++ g ∷ [])
 push-rising xs g rising below k h = elim (cases_lt (k + 1) (length xs)) [
   | inl less ↦ (
@@ -50,6 +51,7 @@ below-push xs g n below here k h = elim (cases_lt k (length xs)) [
       omega (arith, this, here))
 ]
 
+-- places that rise, with one more that isn't before the next one, rise and lie before what follows that place
 pub rising-push : (xs new : List ℕ) (next place after : ℕ) → AreRising xs next → next ≤ place → new ≡ xs ++ place ∷ [] → after ≡ place + 1 → AreRising new after
 rising-push xs new next place after are from pushed is =
     let P : List ℕ → Type 0 = λ ys. AreRising ys after in
@@ -63,6 +65,7 @@ pub free-next : (g : Graph) (k : ℕ) (latch : Latch) → slice_get g.latches k 
 free-next g k latch there free =
     count_by_more_yes is_free g.latches k latch (slice_get_within g.latches k latch there) (ap is_free (get_or_from_slice_get g.latches k latch latch there) ∙ free)
 
+-- a latch with a known reset adds none to the free latches before the next one
 pub known-next : (g : Graph) (k : ℕ) (latch : Latch) → slice_get g.latches k ≡ Some latch → is_free latch ≡ false → free_before g (k + 1) ≡ free_before g k
 known-next g k latch there known =
     count_by_more_no is_free g.latches k latch (slice_get_within g.latches k latch there) (ap is_free (get_or_from_slice_get g.latches k latch latch there) ∙ known)
@@ -90,9 +93,11 @@ starts-kept c One lit p q same starts = starts
 starts-kept c Free lit p q same starts = subst (λ (n : ℕ). IsFreeLatch c lit n) (same refl) starts
 
 module _ (c d : Graph) (lits : ℕ → ℕ) where
+  -- an empty list of places says as what the first none of the latches start
   pub starts-none : AreStarts c d lits 0 []
   starts-none = record { each = refl; below = λ k h. absurd (omega arith); starts = λ j latch less there. absurd (omega arith) }
 
+  -- with what a latch takes by reset and literal, the places say as what one latch more starts
   pub starts-more : (n : ℕ) (latch : Latch) (old new : List ℕ) → slice_get d.latches n ≡ Some latch → AreStarts c d lits n old → Takes c latch.reset (lits n) old new → AreStarts c d lits (n + 1) new
   starts-more n latch old new there are takes = go latch.reset refl takes
     where
@@ -190,6 +195,7 @@ module _ (c d m : Netlist) (image : Copy) (kept : List ℕ) (is : IsResetImage c
             ∙ latch-starts latch.reset (copy_of image (get_or m.props.outputs j 0)) (get_or kept (free_before d.aig j) 0) (starts.starts j latch within e)
             ∙ sym (ap (opening_at d.aig (chosen kept f) j) e)
 
+  -- where the map's constraints are 1 at step 0 and the places say as what each latch starts, first states go to first states
   pub begins : Begins c d m kept
   begins = record {
     places = record {

@@ -32,6 +32,7 @@ module _ (c : Graph) (k : Shared) (are : AreGates k) (after : k.first ≡ first_
   many : length (map loose c.latches) ≡ length c.latches
   many = length-map c.latches loose
 
+  -- the shared gates over the inputs and latches of a circuit are a graph
   pub IsGraph-graph_of : IsGraph (graph_of c k)
   IsGraph-graph_of = record {
     small = omega (arith, are.small, after, many);
@@ -108,6 +109,7 @@ module _ (k : Shared) (e : Equal) (c d m : Netlist) (before later after : Copy) 
           fairness = sym (one d.props.fairness second.props.fairness) ∙ ap (λ (p : Props). map values p.fairness) settled.props ∙ two c.props.fairness first.props.fairness;
         }
 
+  -- where the literals that must be one are, each step of the first circuit is one of the second through the map
   pub keeps-states : KeepsStates c d m
   keeps-states = record {
     keeps = keeps-at;
