@@ -30,6 +30,7 @@ use Rattle.lifted_witnesses.specs.Parts.{AreLiftedProps, AreParts, both_nexts, b
 use Rattle.lifted_witnesses.proofs.AgreeLaws.{AreAlike, literal-alike, literals-alike}
 use Rattle.lifted_witnesses.proofs.LatchLaws.{length-with_nexts, next-read}
 
+-- inputs, and latches with any resets and the constant as next literal, are a graph where they are few enough
 pub begun-graph : (inputs : ℕ) (resets : List Reset) → inputs + length resets < MAX_VARIABLES → IsGraph (without_gates inputs resets)
 begun-graph inputs resets room = record {
   small = omega (arith, room, length-map resets (λ (r : Reset). new r));
@@ -56,6 +57,7 @@ module _ {A : Type 0} (f g : Latch → A) (first own : List Latch) where
   length-both : length (map f first ++ map g own) ≡ length first + length own
   length-both = omega (arith, length-append (map f first) (map g own), length-map first f, length-map own g)
 
+-- there are as many resets as latches of the circuit and of the witness's own together
 pub length-both_resets : (first own : List Latch) → length (both_resets first own) ≡ length first + length own
 length-both_resets first own = length-both (λ l. l.reset) (λ l. l.reset) first own
 
@@ -78,6 +80,7 @@ module _ (g h : Graph) (c m w : Netlist) (k : Sharing) (p : Parts) (own : List L
   many-nexts : length nexts ≡ length c.aig.latches + length own
   many-nexts = length-both (λ l. substitute p.first l.next) (λ l. substitute p.witness l.next) c.aig.latches own
 
+  -- there are as many next literals as latches
   pub nexts-long : length nexts ≡ length h.latches
   nexts-long = omega (arith, many-nexts, many-latches)
 
@@ -90,6 +93,7 @@ module _ (g h : Graph) (c m w : Netlist) (k : Sharing) (p : Parts) (own : List L
       next-read nexts h.latches j (new reset) short there
       ∙ ap (λ (n : ℕ). Some (record { next = n; reset = reset })) (get_or_from_slice_get nexts j next 0 of_next)
 
+  -- the next literals are literals of the graph
   pub nexts-within : AreLiteralsOf h nexts
   nexts-within = All-append (λ l. IsLiteralOf h l) (map (λ l. substitute p.first l.next) c.aig.latches) (map (λ l. substitute p.witness l.next) own)
       (All-map (λ l. IsLiteralOf h l) (λ (l : Latch). substitute p.first l.next) c.aig.latches (all_from_slice_get (λ (l : Latch). IsLiteralOf h (substitute p.first l.next)) c.aig.latches (λ j latch there.
@@ -172,6 +176,7 @@ module _ (g h : Graph) (c m w : Netlist) (k : Sharing) (p : Parts) (own : List L
         bad-among [] within = says.within.outputs
         bad-among (lit ∷ lits) within = within
 
+    -- the graph with these next literals and properties is filled
     pub is-filled : IsFilled ended c m w k props
     is-filled = record {
       places = record {

@@ -11,6 +11,7 @@ pub own-none : (o : Option ℕ) → is_own o ≡ true → o ≡ None
 own-none None e = refl
 own-none (Some at) e = absurd (cc)
 
+-- a place that isn't the witness's own is shared with some place of the model
 pub own-some : (o : Option ℕ) → is_own o ≡ false → (at : ℕ) × (o ≡ Some at)
 own-some None e = absurd (cc)
 own-some (Some at) e = (at, refl)
@@ -35,6 +36,7 @@ count-more places k count one o there counted is =
 pub count-shared : (places : List (Option ℕ)) (k at : ℕ) → slice_get places k ≡ Some (Some at) → own_count (take (k + 1) places) ≡ own_count (take k places)
 count-shared places k at there = omega (arith, count-more places k (own_count (take k places)) 0 (Some at) there refl refl)
 
+-- a place of the witness's own adds one
 pub count-own : (places : List (Option ℕ)) (k : ℕ) → slice_get places k ≡ Some None → own_count (take (k + 1) places) ≡ own_count (take k places) + 1
 count-own places k there = sym (count-more places k (own_count (take k places)) 1 None there refl refl)
 
@@ -44,6 +46,7 @@ count-le places zero = omega arith
 count-le [] (suc k) = omega arith
 count-le (o ∷ places) (suc k) = omega (arith, count_by-cons is_own o (take k places), count_by-cons is_own o places, count-le places k)
 
+-- before a place of the witness's own there are fewer of these than in all
 pub count-lt : (places : List (Option ℕ)) (k : ℕ) → slice_get places k ≡ Some None → own_count (take k places) < own_count places
 count-lt [] k e = absurd (none-some None e)
 count-lt (o ∷ places) zero e =

@@ -39,6 +39,7 @@ literal-names-below first n all fits = record {
         ∙ ap (λ (s : Symbol). s.position) (table-at 0 n (literal_name first) k d short) ∙ place
 
 module _ (h : Graph) (c m w : Netlist) (k : Sharing) (props : Props) (filled : IsFilled h c m w k props) where
+  -- the filled graph with its properties and names is a netlist
   pub lifted-netlist : IsNetlist (record { aig = h; props = props; symbols = named c.aig })
   lifted-netlist = record {
     props = filled.props.within;
@@ -53,6 +54,7 @@ module _ (h : Graph) (c m w : Netlist) (k : Sharing) (props : Props) (filled : I
     };
   }
 
+  -- the filled graph with its properties and names is the lifted witness
   pub is-lifted : IsLifted c m w k (record { aig = h; props = props; symbols = named c.aig })
   is-lifted = record {
     inputs = filled.places.inputs;

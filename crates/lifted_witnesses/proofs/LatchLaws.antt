@@ -10,6 +10,7 @@ use Rattle.witness_circuits.specs.Joining.{own_count}
 use Rattle.lifted_witnesses.specs.Latches.{AreOwn, with_nexts}
 use Rattle.lifted_witnesses.proofs.CountLaws.{count-own, count-shared}
 
+-- of no latches none is the witness's own
 pub own-start : (places : List (Option ℕ)) (latches : List Latch) (own : List Latch) → own ≡ [] → AreOwn places latches 0 own
 own-start places latches own none = record {
   many = ap (λ (xs : List Latch). length xs) none;
@@ -59,11 +60,13 @@ next-suc (next ∷ nexts) [] k short less = absurd (omega (arith, less))
 next-suc (next ∷ nexts) (latch ∷ latches) zero short less = refl
 next-suc (next ∷ nexts) (latch ∷ latches) (suc k) short less = ap (λ ls. record latch { next = next } ∷ ls) (next-suc nexts latches k (omega (arith, short)) (omega (arith, less)))
 
+-- latches with the first k next literals, and the k-th set too, have the first k + 1
 pub next-more : (nexts : List ℕ) (latches : List Latch) (k : ℕ) → k < length nexts → k < length latches → next_at (with_nexts (take k nexts) latches) k (get_or nexts k 0) ≡ with_nexts (take (k + 1) nexts) latches
 next-more nexts latches k short less =
     let place : suc k ≡ k + 1 = omega arith in
     next-suc nexts latches k short less ∙ ap (λ (n : ℕ). with_nexts (take n nexts) latches) place
 
+-- there are as many latches after their next literals were set, where these are no more
 pub length-with_nexts : (nexts : List ℕ) (latches : List Latch) → length nexts ≤ length latches → length (with_nexts nexts latches) ≡ length latches
 length-with_nexts [] latches h = refl
 length-with_nexts (next ∷ nexts) [] h = refl

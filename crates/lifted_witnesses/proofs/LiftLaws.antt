@@ -32,6 +32,7 @@ bad-same f g [] o (x ∷ p) q bad outputs = absurd (cc)
 bad-same f g (x ∷ b) o [] q bad outputs = absurd (cc)
 bad-same f g (x ∷ b) o (y ∷ p) q bad outputs = bad
 
+-- the bad states of a netlist, or the outputs that stand for them, are literals of the graph
 pub bad-within : (c : Netlist) → IsNetlist c → AreLiteralsOf c.aig (bad_states c.props)
 bad-within c net = either c.props.bad net.props.bad
   where
@@ -269,9 +270,11 @@ module _ (c d : Netlist) (kept : List ℕ) (m w : Netlist) (k : Sharing) (r : Ne
           let goes : GoesAs r.aig (own_at n k.latches j) latch (in_witness c m w k) = lifted.own j latch e there in
           ap (next_value (value_within r.aig z u)) goes.there ∙ goes.next z u
 
+  -- the lifted witness passes the five checks for the circuit, of which all inputs and latches are shared
   pub witness-lifted : IsWitness c r (first_shared c r)
   witness-lifted = record { reset = reset; transition = transition; property = property; base = base; step = step }
 
+  -- the places of the first inputs and latches, which the lifted witness shares, are those of the circuit
   pub sharing-lifted : IsSharing c r (first_shared c r)
   sharing-lifted = record {
     inputs = length-first_places c.aig.inputs r.aig.inputs (omega (arith, lifted.inputs));
@@ -280,6 +283,7 @@ module _ (c d : Netlist) (kept : List ℕ) (m w : Netlist) (k : Sharing) (r : Ne
     latches_below = λ j place e. let at = place-first n (length r.aig.latches) j place e in omega (arith, at.0, at.1);
   }
 
+-- a witness circuit of the mapped circuit, lifted, is a witness circuit of the circuit
 pub lifts-witnesses : (c d : Netlist) (kept : List ℕ) (m w : Netlist) (k : Sharing) (r : Netlist) → LiftsWitnesses c d kept m w k r
 lifts-witnesses c d kept m w k r valid net graph is sharing passes lifted =
     (sharing-lifted c d kept m w k r valid net graph is sharing passes lifted, witness-lifted c d kept m w k r valid net graph is sharing passes lifted)

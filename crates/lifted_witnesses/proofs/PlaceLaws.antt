@@ -14,6 +14,7 @@ firsts n = map (λ i. Some i) (range_with_len 0 n)
 length-firsts : (n : ℕ) → length (firsts n) ≡ n
 length-firsts n = length-map-range_with_len (λ i. Some i) 0 n
 
+-- a place k below n is shared with place k of the model
 pub first-place : (n all k : ℕ) → k < n → slice_get (first_places n all) k ≡ Some (Some k)
 first-place n all k less =
     let here : slice_get (firsts n) k ≡ Some (Some k) =
@@ -42,5 +43,6 @@ place-first n all k place e = elim (cases_lt k n) [
       | inr beyond ↦ none-some (Some p) (sym (slice_get_past (replicate (all - n) None) i (omega (arith, beyond, length-replicate {A = Option ℕ} (all - n) None))) ∙ there)
     ]
 
+-- there are as many places as inputs or latches in all, where the model has no more of them
 pub length-first_places : (n all : ℕ) → n ≤ all → length (first_places n all) ≡ all
 length-first_places n all h = omega (arith, h, length-append (firsts n) (replicate (all - n) None), length-firsts n, length-replicate {A = Option ℕ} (all - n) None)

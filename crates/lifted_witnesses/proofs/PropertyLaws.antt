@@ -45,11 +45,13 @@ all-not f xs = (
     turned : (b : Bool) → not b ≡ true → b ≡ false
     turned b h = sym (not-not b) ∙ ap not h
 
+-- a negated literal has the other value
 pub negated-is : (h : Graph) → IsGraph h → (z : Digits) (u : State) (lit : ℕ) → value_within h z u (negated lit) ≡ not (value_within h z u lit)
 negated-is h valid z u lit = value_signed_as (value_within h z u) (within_laws h valid z u).negation 1 lit ∙ signed-odd 1 (value_within h z u lit) refl
 
 -- the values of what stands for literals
 module _ (h g : Graph) (own : Digits → State → ℕ → Bool) (literals : List ℕ) (view : IsView h g own literals) where
+  -- what stands for the literals of a list has their values
   pub substitutes-values : (z : Digits) (u : State) (lits : List ℕ) → AreLiteralsOf g lits → map (value_within h z u) (map (substitute literals) lits) ≡ map (own z u) lits
   substitutes-values z u lits within =
       map-map (value_within h z u) (substitute literals) lits
@@ -62,16 +64,19 @@ module _ (h g : Graph) (own : Digits → State → ℕ → Bool) (literals : Lis
       ∙ map-same (λ lit. IsLiteralOf g lit) (λ lit. value_within h z u (negated (substitute literals lit))) (λ lit. not (own z u lit))
       (λ lit less. negated-is h valid z u (substitute literals lit) ∙ ap not (view.values z u lit less)) lits within
 
+  -- what stands for literals of one graph are literals of the other
   pub substitutes-within : (lits : List ℕ) → AreLiteralsOf g lits → AreLiteralsOf h (map (substitute literals) lits)
   substitutes-within lits within =
       All-map (λ l. IsLiteralOf h l) (substitute literals) lits (λ k d less. substitute-within h literals (get_or lits k d) view.within (omega (arith, within k d less, view.many)))
 
+  -- the negations of what stands for literals of one graph are literals of the other
   pub negations-within : (lits : List ℕ) → AreLiteralsOf g lits → AreLiteralsOf h (map (λ lit. negated (substitute literals lit)) lits)
   negations-within lits within =
       All-map (λ l. IsLiteralOf h l) (λ lit. negated (substitute literals lit)) lits (λ k d less.
       let here : IsLiteralOf h (substitute literals (get_or lits k d)) = substitute-within h literals (get_or lits k d) view.within (omega (arith, within k d less, view.many)) in
       omega (arith, here, variable-signed_as 1 (substitute literals (get_or lits k d))))
 
+  -- the variables of a graph's literals lie below the number of literals that stand for its variables
   pub all-within : (n : ℕ) (lits : List ℕ) → n ≡ length literals → AreLiteralsOf g lits → All (λ lit. variable lit < n) lits
   all-within n lits same within k d less = omega (arith, within k d less, view.many, same)
 
@@ -97,6 +102,7 @@ module _ (h : Graph) (c m w : Netlist) (k : Sharing) (p : Parts) (valid : IsGrap
   ones : (xs ys : List Bool) → xs ≡ ys → All (λ b. b ≡ true) xs ↔ All (λ b. b ≡ true) ys
   ones xs ys same = (λ all. subst (λ (bs : List Bool). All (λ b. b ≡ true) bs) same all, λ all. subst (λ (bs : List Bool). All (λ b. b ≡ true) bs) (sym same) all)
 
+  -- the lifted constraints are 1 just where the circuit's and the witness's are, and the map's if the witness has any
   pub constraints-say : (z : Digits) (u : State) → All (λ b. b ≡ true) (map (value_within h z u) (lifted_constraints c m w p))
       ↔ (IsAllowed c z u × IsAllowed w (wd z) (ws u) × ((w.props.constraints ≡ []) ⊎ is_kept m u))
   constraints-say z u =
@@ -119,11 +125,13 @@ module _ (h : Graph) (c m w : Netlist) (k : Sharing) (p : Parts) (valid : IsGrap
       none : (z : Digits) (u : State) → w.props.constraints ≡ [] → IsAllowed w (wd z) (ws u)
       none z u e = subst (λ (lits : List ℕ). All (λ b. b ≡ true) (map (value_within w.aig (wd z) (ws u)) lits)) (sym e) (All-nil (λ b. b ≡ true))
 
+  -- the literals of what a good state has to be are literals of the graph
   pub demands-within : AreLiteralsOf h (demands m w p)
   demands-within = All-append (λ l. IsLiteralOf h l) (map (substitute p.map) m.props.constraints) (map (λ lit. negated (substitute p.witness lit)) (bad_states w.props))
       (substitutes-within h m.aig (λ z u. value_within m.aig u (λ j. false)) p.map parts.map m.props.constraints two.props.constraints)
       (negations-within h w.aig (in_witness c m w k) p.witness parts.witness (bad_states w.props) (bad-within w three))
 
+  -- the literals of what a good state has to be are 1 just where the map's constraints are and the witness is good
   pub demands-say : (z : Digits) (u : State) → All (λ l. value_within h z u l ≡ true) (demands m w p) ↔ (is_kept m u × IsGood w (wd z) (ws u))
   demands-say z u =
       let V : ℕ → Bool = value_within h z u in
@@ -185,6 +193,7 @@ module _ (h : Graph) (c m w : Netlist) (k : Sharing) (p : Parts) (valid : IsGrap
           (substitutes-within h w.aig (in_witness c m w k) p.witness parts.witness w.props.constraints three.props.constraints)
           (substitutes-within h m.aig (λ z u. value_within m.aig u (λ j. false)) p.map parts.map m.props.constraints two.props.constraints))
 
+-- the three circuits remain parts of a graph as the graph grows
 pub parts-grow : (h i : Graph) (c m w : Netlist) (k : Sharing) (p : Parts) → Extends h i → AreParts h c m w k p → AreParts i c m w k p
 parts-grow h i c m w k p more parts = record {
   first = view-grows h i c.aig (λ z u. value_within c.aig z u) p.first more parts.first;

@@ -8,8 +8,11 @@ use Rattle.lifted_witnesses.specs.Literals.{source_of}
 
 -- the first k of them
 pub record AreFirst (places : List (Option ℕ)) (shared : List ℕ) (own k next : ℕ) (lits : List ℕ) : Type 0 where
+  -- there are k literals
   pub many : length lits ≡ k
+  -- the next variable of the witness's own comes after those that the first k places take
   pub next_is : next ≡ own_at own places k
+  -- the literal of each place is what is shared there, or that of a variable of the witness's own
   pub each : (j : ℕ) → j < k → get_or lits j 0 ≡ source_of shared (own_at own places j) (get_or places j None)
 
 -- one more

@@ -24,6 +24,7 @@ use Rattle.lifted_witnesses.proofs.CountLaws.{count-lt}
 pub input-value : (h : Graph) → IsGraph h → (z : Digits) (u : State) (i : ℕ) → i < h.inputs → value_within h z u (2 * (1 + i)) ≡ z i
 input-value h valid z u i less = (within_laws h valid z u).input i less
 
+-- the literal of latch j has the value of that latch in the state
 pub latch-value : (h : Graph) → IsGraph h → (z : Digits) (u : State) (j : ℕ) → j < length h.latches → value_within h z u (2 * (first_latch h + j)) ≡ u j
 latch-value h valid z u j less = let there = element h.latches j less in (within_laws h valid z u).latch j there.0 there.1
 
@@ -36,6 +37,7 @@ module _ (h g : Graph) (inputs latches : List ℕ) (one : IsGraph h) (two : IsGr
   abbrev leaves : List ℕ
   leaves = 0 ∷ (inputs ++ latches)
 
+  -- there is a leaf for each variable before the gates
   pub length-leaves : length leaves ≡ first_gate g
   length-leaves = omega (arith, length-append inputs latches, wide, long)
 
@@ -48,6 +50,7 @@ module _ (h g : Graph) (inputs latches : List ℕ) (one : IsGraph h) (two : IsGr
       read-past 0 (inputs ++ latches) (length inputs + j) 0
       ∙ get_or-append_right inputs latches (length inputs) (length inputs + j) 0 refl (omega arith) ∙ ap (λ (k : ℕ). get_or latches k 0) place
 
+  -- the leaves have the values of a step where the literals of the inputs and of the latches do
   pub leaves-have : (z x : Digits) (u s : State) → ((i : ℕ) → i < g.inputs → value_within h z u (get_or inputs i 0) ≡ x i) → ((j : ℕ) → j < length g.latches → value_within h z u (get_or latches j 0) ≡ s j)
       → HaveValues h leaves z u (value_within g x s)
   leaves-have z x u s of_inputs of_latches v less = elim (cases_eq v 0) [
@@ -74,6 +77,7 @@ module _ (h g : Graph) (inputs latches : List ℕ) (one : IsGraph h) (two : IsGr
     ]
   ]
 
+  -- the leaves are literals of the graph where those of the inputs and of the latches are
   pub leaves-within : AreLiteralsOf h inputs → AreLiteralsOf h latches → AreLiteralsOf h leaves
   leaves-within of_inputs of_latches k d less = elim (cases_eq k 0) [
     | inl none ↦ subst (λ (n : ℕ). IsLiteralOf h (get_or leaves n d)) (sym none) (omega arith)
@@ -192,27 +196,33 @@ sources-within h places shared lits own p of_shared below room k d less =
 
 -- the leaves are one for each variable before the gates, and literals of the graph
 module _ (h : Graph) (valid : IsGraph h) where
+  -- the circuit's leaves are one for each variable before the gates
   pub first-long : (c : Graph) (at : ℕ) → IsGraph c → length (first_leaves at c) ≡ first_gate c
   first-long c at graph = length-leaves h c (table 0 c.inputs (λ i. 2 * (1 + i))) (table 0 (length c.latches) (λ j. 2 * (at + j))) valid graph
       (length-table 0 c.inputs (λ i. 2 * (1 + i))) (length-table 0 (length c.latches) (λ j. 2 * (at + j)))
 
+  -- the circuit's leaves are literals of a graph with as many inputs and latches at least
   pub first-within : (c : Graph) (at : ℕ) → IsGraph c → at ≡ first_latch h → c.inputs ≤ h.inputs → length c.latches ≤ length h.latches → AreLiteralsOf h (first_leaves at c)
   first-within c at graph is wide long = leaves-within h c (table 0 c.inputs (λ i. 2 * (1 + i))) (table 0 (length c.latches) (λ j. 2 * (at + j))) valid graph
       (length-table 0 c.inputs (λ i. 2 * (1 + i))) (length-table 0 (length c.latches) (λ j. 2 * (at + j)))
       (table-within h 1 c.inputs (omega (arith, wide))) (table-within h at (length c.latches) (omega (arith, is, long)))
 
+  -- the map's leaves are one for each variable before the gates
   pub map-long : (m : Graph) (at : ℕ) → IsGraph m → m.latches ≡ [] → length (map_leaves at m) ≡ first_gate m
   map-long m at graph none = length-leaves h m (table 0 m.inputs (λ j. 2 * (at + j))) [] valid graph (length-table 0 m.inputs (λ j. 2 * (at + j))) (ap length (sym none))
 
+  -- the map's leaves are literals of a graph that has a latch for each input of the map
   pub map-within : (m : Graph) (at : ℕ) → IsGraph m → m.latches ≡ [] → at ≡ first_latch h → m.inputs ≤ length h.latches → AreLiteralsOf h (map_leaves at m)
   map-within m at graph none is wide = leaves-within h m (table 0 m.inputs (λ j. 2 * (at + j))) [] valid graph (length-table 0 m.inputs (λ j. 2 * (at + j))) (ap length (sym none))
       (table-within h at m.inputs (omega (arith, is, wide))) (λ k d less. absurd (omega (arith, less)))
 
   module _ (c w : Graph) (outputs leaves : List ℕ) (k : Sharing) (at : ℕ) (graph : IsGraph w) (is : at ≡ first_latch h) (places : HasPlaces h c k) (fits : IsFitting c (length outputs) w k)
       (p : AreWitnessLeaves at c outputs k leaves) where
+    -- the witness's leaves are one for each variable before the gates
     pub witness-long : length leaves ≡ first_gate w
     witness-long = ap length p.are ∙ length-leaves h w p.inputs p.latches valid graph (p.of_inputs.many ∙ fits.inputs) (p.of_latches.many ∙ fits.latches)
 
+    -- the witness's leaves are literals of the graph where the map's outputs are
     pub witness-within : AreLiteralsOf h outputs → AreLiteralsOf h leaves
     witness-within of_outputs = subst (λ (ls : List ℕ). AreLiteralsOf h ls) (sym p.are)
         (leaves-within h w p.inputs p.latches valid graph (p.of_inputs.many ∙ fits.inputs) (p.of_latches.many ∙ fits.latches)
