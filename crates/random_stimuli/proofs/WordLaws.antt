@@ -19,6 +19,7 @@ pub word-drawn : (seed k old new result : ℕ) → old ≡ state_after seed k �
 unfolding word
 word-drawn seed k old new result before drawn = ap (λ (p : ℕ × ℕ). p.0) drawn ∙ ap (λ (s : ℕ). (mix_u64 s).0) before
 
+-- the state that drawing one word leaves is the state after one word more
 pub state-drawn : (seed k old new result : ℕ) → old ≡ state_after seed k → (result, new) ≡ mix_u64 old → new ≡ state_after seed (k + 1)
 state-drawn seed k old new result before drawn = ap (λ (p : ℕ × ℕ). p.1) drawn ∙ ap (λ (s : ℕ). (mix_u64 s).1) before ∙ sym (state-next seed k)
 
@@ -30,9 +31,12 @@ seeded seed state same = same ∙ sym (state-start seed)
 
 -- as many words are drawn as there are begun ones below a place, and the one at hand is that of the place, unless it is the first of one
 pub record HasDrawn (seed place state held : ℕ) : Type 0 where
+  -- the state is that after the words which begin below the place
   pub drawn : state ≡ state_after seed ((place + 63) / 64)
+  -- within a word the one at hand is the word of the place
   pub at : place % 64 ≢ 0 → held ≡ word seed (place / 64)
 
+-- at place 0 no word was drawn, and the state is the seed
 pub drawn-start : (seed state held : ℕ) → state ≡ seed → HasDrawn seed 0 state held
 drawn-start seed state held same = record { drawn = seeded seed state same; at = λ more. absurd (more refl) }
 
@@ -42,14 +46,18 @@ drawn-before seed place state held first h = let same : (place + 63) / 64 ≡ pl
 
 -- the word of a place is at hand
 pub record IsAtHand (seed place state held : ℕ) : Type 0 where
+  -- the state is that after the word of the place
   pub drawn : state ≡ state_after seed (place / 64 + 1)
+  -- the word at hand is that of the place
   pub at : held ≡ word seed (place / 64)
 
+-- within a word the word of the place is at hand
 pub at_hand-same : (seed place state held : ℕ) → place % 64 ≢ 0 → HasDrawn seed place state held → IsAtHand seed place state held
 at_hand-same seed place state held within h =
     let same : (place + 63) / 64 ≡ place / 64 + 1 = omega arith in
     record { drawn = h.drawn ∙ ap (state_after seed) same; at = h.at within }
 
+-- where the word of a place is at hand, the words that begin below the next place were drawn
 pub drawn-more : (seed place state held : ℕ) → IsAtHand seed place state held → HasDrawn seed (place + 1) state held
 drawn-more seed place state held h =
     let all : place / 64 + 1 ≡ (place + 1 + 63) / 64 = omega arith in
@@ -68,6 +76,7 @@ digits-more seed place held old new at before pushed =
 
 -- ---- steps and sequences
 
+-- random steps with a row of the next word's digits are one step more
 pub steps-more : (inputs n seed w : ℕ) (old new : List (List Bool)) (row : List Bool) → old ≡ random_steps inputs n seed → w ≡ word seed (n + 1) → row ≡ digits w inputs
     → new ≡ old ++ row ∷ [] → new ≡ random_steps inputs (n + 1) seed
 steps-more inputs n seed w old new row before drawn is pushed =
@@ -77,14 +86,17 @@ steps-more inputs n seed w old new row before drawn is pushed =
 abbrev made_of : List Bool → List (List Bool) → InputSequence
 made_of choice steps = record { choice = choice; steps = steps }
 
+-- the first word's digits as the choice, and the random steps, are the random sequence
 pub sequence-made : (inputs free count seed w : ℕ) (choice : List Bool) (steps : List (List Bool)) → w ≡ word seed 0 → choice ≡ digits w free → steps ≡ random_steps inputs count seed
     → ◌≡◌ {A = InputSequence} record { choice = choice; steps = steps } (random_sequence inputs free count seed)
 sequence-made inputs free count seed w choice steps drawn chosen are = ap₂ made_of (chosen ∙ ap (λ (v : ℕ). digits v free) drawn) are
 
+-- the random stimulus of no sequences is empty
 pub stimulus-none : (inputs free steps seed : ℕ) → [] ≡ random_stimulus inputs free 0 steps seed
 unfolding random_stimulus
 stimulus-none inputs free steps seed = refl
 
+-- a random stimulus with the random sequence of the next word is one sequence longer
 pub stimulus-more : (inputs free steps seed n w : ℕ) (old new : List InputSequence) (next : InputSequence) → old ≡ random_stimulus inputs free n steps seed → w ≡ word seed n
     → next ≡ random_sequence inputs free steps w → new ≡ old ++ next ∷ [] → new ≡ random_stimulus inputs free (n + 1) steps seed
 unfolding random_stimulus

@@ -39,11 +39,13 @@ use Rattle.state_maps.proofs.MapLaws.{maps-compose, moving-maps}
 use Rattle.state_maps.proofs.PassStepLaws.{cleaning-maps, constant-within}
 use Rattle.state_maps.proofs.WithinLaws.{within_laws}
 
+-- bits that agree are equal
 pub agrees-is : (a b : Bool) → agrees a b ≡ true → a ≡ b
 agrees-is true b e = sym e
 agrees-is false true e = absurd (cc)
 agrees-is false false e = refl
 
+-- equal bits agree
 pub is-agrees : (a b : Bool) → a ≡ b → agrees a b ≡ true
 is-agrees true true e = refl
 is-agrees true false e = absurd (cc)
@@ -88,11 +90,13 @@ module _ (g : Graph) (held : List ℕ) (s : State) where
         | by_earlier i less first like known apart e ↦ ap (value_within g x s) e ∙ one.latch i like.other like.there ∙ sym (two.latch i like.other like.there) ∙ sym (ap (value_within g (λ i. false) s) e)
       ]
 
+  -- where the test of all latches passes, what stands for each latch is what the latch holds
   pub test-holds : IsGraph g → substitute_right g held s 0 g.latches ≡ true → SubstitutesHold g held s
   test-holds valid e x j latch there =
       let place : 0 + j ≡ j = omega arith in
       substitute-steady valid x j latch there ∙ subst (λ (k : ℕ). substitute k latch ≡ s k) place (from-test 0 g.latches e j latch there)
 
+  -- where what stands for each latch is what the latch holds, the test of all latches passes
   pub holds-test : SubstitutesHold g held s → substitute_right g held s 0 g.latches ≡ true
   holds-test holds = to-test 0 g.latches (λ k latch there. let place : k ≡ 0 + k = omega arith in subst (λ (j : ℕ). substitute j latch ≡ s j) place (holds (λ i. false) k latch there))
 
@@ -143,6 +147,7 @@ composed-same n left below =
     map-own (x ∷ xs) = ap (λ (ys : List ℕ). x ∷ ys) (map-own xs)
 
 module _ (choice : Choice) (names : List (List ℕ)) where
+  -- a set that helps is closed
   pub closed-in : (c : Netlist) (s : List ℕ) → IsHelpingSet choice names c s → IsClosedSet c.aig (held_in names c) s
   closed-in c s helps = go choice helps.chosen
     where

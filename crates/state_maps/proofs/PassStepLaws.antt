@@ -144,6 +144,7 @@ module _ (g : Graph) (held : List ℕ) (valid : IsGraph g) (x : Digits) (s : Sta
             ∙ sym (laws.gate k gate there) ∙ ap vals (sym place))
       ]
 
+  -- what stands for a literal has in the merged circuit the value that the literal has in the circuit
   pub merged-value : (lit : ℕ) → variable lit < variables_end g → after (replaced (substitutes_of g held) lit) ≡ vals lit
   merged-value lit within =
       signed-same (replaced (substitutes_of g held) lit) (variable-value (suc (variable (replaced (substitutes_of g held) lit))) (variable (replaced (substitutes_of g held) lit)) (omega arith)
@@ -164,6 +165,7 @@ module _ (g : Graph) (held : List ℕ) (valid : IsGraph g) (x : Digits) (s : Sta
               none-there j e = slice_get-map_none (replaced_latch (substitutes_of g held)) g.latches j e
           go (Some latch) e = ap (next_value after) (replaced-latch (substitutes_of g held) g j latch e) ∙ merged-value latch.next (valid.latches j latch e) ∙ sym (ap (next_value vals) e)
 
+  -- the merged circuit has the first states of the circuit
   pub merged-first : (f : Choice) → opening_state (replaced_graph (substitutes_of g held) g) f ≡ opening_state g f
   unfolding replaced_graph
   merged-first f = funext _ _ at
@@ -210,6 +212,7 @@ module _ (c : Netlist) (held : List ℕ) (r : ℕ → Bool) (valid : IsGraph c.a
   abbrev small : Graph
   small = trimmed_graph c.aig r
 
+  -- a latch that remains has, renumbered, its rank among those that remain as its place in the trimmed circuit
   pub small-latch : (j : ℕ) (latch : Latch) → slice_get c.aig.latches j ≡ Some latch → r (first_latch c.aig + j) ≡ true
       → slice_get small.latches (count_below (remains c.aig r) j) ≡ Some (renumbered_latch c.aig r latch)
   small-latch j latch there reached = latch_in c.aig r j (count_below (remains c.aig r) j) latch there reached (sym (new-rank c.aig r j))
@@ -291,9 +294,11 @@ module _ (c : Netlist) (held : List ℕ) (r : ℕ → Bool) (valid : IsGraph c.a
           ∙ sym (before-laws.gate k gate there) ∙ ap (λ (w : ℕ). before (2 * w)) (sym e))
     ]
 
+    -- a literal that stays has the same value in the trimmed circuit, under its new number
     pub trimmed-value : (lit : ℕ) → variable lit < variables_end c.aig → stays c.aig r (variable lit) ≡ true → trimmed (renumbered c.aig r lit) ≡ before lit
     trimmed-value lit within reached = literal-same lit (reached-value (suc (variable lit)) (variable lit) (omega arith) within reached)
 
+    -- what the latches that remain hold a step later is what the trimmed circuit's latches hold a step later
     pub trimmed-step : trimmed_state c.aig r (after_step c.aig x s) ≡ after_step small x (trimmed_state c.aig r s)
     trimmed-step = funext _ _ at
       where
@@ -311,6 +316,7 @@ module _ (c : Netlist) (held : List ℕ) (r : ℕ → Bool) (valid : IsGraph c.a
                 ∙ sym (trimmed-value latch.next (valid.latches j latch there.1) (next-reached c held r valid holds j latch there.1 ranks.passes))
                 ∙ sym (ap (next_value trimmed) (ap (slice_get small.latches) (sym ranks.rank) ∙ small-latch j latch there.1 ranks.passes))
 
+  -- what the latches that remain hold at step 0 is the first state of the trimmed circuit for the choice of the kept free latches
   pub trimmed-first : (f : Choice) → trimmed_state c.aig r (opening_state c.aig f) ≡ opening_state small (chosen (kept_free c.aig r) f)
   trimmed-first f = funext _ _ at
     where

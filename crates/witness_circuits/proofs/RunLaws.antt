@@ -75,9 +75,13 @@ module _ (c w : Netlist) (k : Sharing) (sharing : IsSharing c w k) (passes : IsW
   state-later n = refl
 
   record At (n : ℕ) : Type 0 where
+    -- what the witness's latches hold
     pub held : State
+    -- the shared latches hold what the model's do at step n
     pub agrees : Agree k.latches (state n) held
+    -- the witness's constraints hold there
     pub allowed : IsAllowed w (digits n) held
+    -- no bad state of the witness is 1 there
     pub good : IsGood w (digits n) held
 
   at-first : IsAllowed c (x 0) (state 0) → At 0
@@ -121,10 +125,12 @@ module _ (c w : Netlist) (k : Sharing) (sharing : IsSharing c w k) (passes : IsW
   along zero allowed = at-first (allowed 0 (omega arith))
   along (suc n) allowed = at-later n (along n (λ t h. allowed t (omega (arith, h)))) (allowed n (omega arith)) (allowed (suc n) (omega arith))
 
+  -- no bad state of the model is 1 at a step up to which the model's constraints hold
   pub stays-good : (n : ℕ) → ((t : ℕ) → t ≤ n → IsAllowed c (x t) (state t)) → IsGood c (x n) (state n)
   stays-good n allowed =
       let now = along n allowed in
       passes.property (x n) (digits n) (state n) now.held (joined-agrees k.inputs (x n) (λ i. false), now.agrees) (allowed n (omega arith)) now.allowed now.good
 
+-- a witness circuit that passes the five checks shows that the model stays good
 pub shows-good : (c w : Netlist) (k : Sharing) → ShowsGood c w k
 shows-good c w k sharing passes x f n allowed = stays-good c w k sharing passes x f n allowed

@@ -49,14 +49,22 @@ said-more first names n place said = (said.0, said.1, omega (arith, said.2), sai
 
 -- what the first n names say
 pub record AreTaken (first count : ℕ) (names : List Symbol) (many n : ℕ) (places : List (Option ℕ)) (taken : List Bool) : Type 0 where
+  -- there is a place for each of the witness's
   pub long : length places ≡ many
+  -- there is a mark for each of the model's
   pub wide : length taken ≡ count
+  -- a shared place is one of the model's, and a name at that position says the literal
   pub shared : (i place : ℕ) → slice_get places i ≡ Some (Some place) → (place < count) × IsSaid names i (2 * (first + place))
+  -- each of the first n names that begins with `= ` has a shared place at the name's position
   pub each : (j : ℕ) (name : Symbol) → j < n → slice_get names j ≡ Some name → IsSaying name.name → (place : ℕ) × (slice_get places name.position ≡ Some (Some place))
+  -- no two positions share one place
   pub once : (i j place : ℕ) → slice_get places i ≡ Some (Some place) → slice_get places j ≡ Some (Some place) → i ≡ j
+  -- each shared place is marked
   pub marks : (i place : ℕ) → slice_get places i ≡ Some (Some place) → slice_get taken place ≡ Some true
+  -- each marked place has a literal that one of the first n names says
   pub said : (place : ℕ) → slice_get taken place ≡ Some true → IsSaidBefore first names n place
 
+-- before the first name nothing is shared, and nothing is marked
 pub taken-none : (first count : ℕ) (names : List Symbol) (many : ℕ) (places : List (Option ℕ)) (taken : List Bool) → places ≡ replicate many None → taken ≡ replicate count false
     → AreTaken first count names many 0 places taken
 taken-none first count names many places taken no_places no_marks =
@@ -167,6 +175,7 @@ module _ (first count : ℕ) (names : List Symbol) (many n : ℕ) (places : List
       ];
     }
 
+  -- what the first n names say, with what the next name takes, is what the first n + 1 names say
   pub taken-more : (new : List (Option ℕ)) (marked : List Bool) → Takes first name places taken new marked → AreTaken first count names many (n + 1) new marked
   taken-more new marked (inl skips) =
       let P : List (Option ℕ) → List Bool → Type 0 = λ ps ms. AreTaken first count names many (n + 1) ps ms in

@@ -23,6 +23,7 @@ one_literal name first a b one two =
     let both : 2 * (first + a) ≡ 2 * (first + b) = same_Some (2 * (first + a)) (2 * (first + b)) (sym one.2 ∙ ap number_of same ∙ two.2) in
     omega (arith, both)
 
+-- a name that says a literal begins with `= `
 pub is_saying : (name : List ℕ) (lit : ℕ) → Says name lit → IsSaying name
 is_saying name lit says = (says.0, says.1)
 
