@@ -12,9 +12,12 @@ use Rattle.circuit_instances.specs.Instances.{AreAll}
 
 -- the literal says that the first n of these are 1
 pub record AreFirst (g : Graph) (lits : List ℕ) (n lit : ℕ) : Type 0 where
+  -- the literal is one of the graph
   pub within : IsLiteralOf g lit
+  -- the literal is 1 just where the first n are
   pub is : (z : Digits) (u : State) → (value_within g z u lit ≡ true) ↔ ((j : ℕ) → j < n → value_within g z u (get_or lits j 0) ≡ true)
 
+-- the constant 1 is the conjunction of the first none of the literals
 pub first-none : (g : Graph) (lits : List ℕ) (lit : ℕ) → IsGraph g → lit ≡ 1 → AreFirst g lits 0 lit
 first-none g lits lit valid one =
     let P : ℕ → Type 0 = λ n. AreFirst g lits 0 n in

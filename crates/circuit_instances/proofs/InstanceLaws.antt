@@ -20,6 +20,7 @@ substitute-within h literals lit all less =
     let here : IsLiteralOf h (get_or literals (variable lit) 0) = all (variable lit) 0 less in
     omega (arith, same, here)
 
+-- what stands for a literal has the literal's value, where what stands for each variable has the variable's
 pub substitute-value : (h c : Graph) (literals : List ℕ) → IsGraph h → IsGraph c → (z x : Digits) (u s : State) → HaveValues h literals z u (value_within c x s) → (lit : ℕ) → variable lit < length literals
     → value_within h z u (substitute literals lit) ≡ value_within c x s lit
 substitute-value h c literals graph valid z x u s have lit less =
@@ -28,6 +29,7 @@ substitute-value h c literals graph valid z x u s have lit less =
     ∙ sym (value_signed (value_within c x s) (within_laws c valid x s).negation lit)
 
 module _ (g c : Graph) (leaves : List ℕ) (valid : IsGraph c) where
+  -- before the first gate the leaves stand for the variables
   pub substitute-start : length leaves ≡ first_gate c → AreLiteralsOf g leaves → StandTo g c leaves (first_gate c + 0) g leaves
   substitute-start many within = record {
     many = omega (arith, many);
@@ -35,6 +37,7 @@ module _ (g c : Graph) (leaves : List ℕ) (valid : IsGraph c) where
     values = λ z x u s have. have;
   }
 
+  -- both fan-ins of a gate are of variables before the gate's
   pub fan-ins-there : (k : ℕ) (gate : Gate) → slice_get c.gates k ≡ Some gate → (variable gate.rhs0 < first_gate c + k) × (variable gate.rhs1 < first_gate c + k)
   fan-ins-there k gate there =
       let at : IsGateAt (first_gate c + k) gate = valid.gates k gate there in

@@ -47,8 +47,10 @@ pub frames_alike : (json : Bool) (task : Retiming) (r s : Retimed) (times : Opti
 frames_alike true task r s times mapped old new result alike p = subst (λ value. EndsPrintingObject Done value old new result) (alike.1 task times mapped) p
 frames_alike false task r s times mapped old new result alike p = subst (λ (text : List ℕ). EndsPrinting Done text old new result) alike.0 p
 
+-- where two retimings are printed alike, what says the frames of the one says those of the other
 pub says_alike : (task : Retiming) (r s : Retimed) (times : Option Times) (mapped : Option MapCounts) (old new : Output) → PrintsAlike r s → SaysFrames task r times mapped old new → SaysFrames task s times mapped old new
 says_alike task r s times mapped old new alike p = record { ended = p.ended; prints = frames_alike task.json task r s times mapped old new p.ended alike p.prints }
 
+-- each retiming is printed as itself
 pub alike_itself : (r : Retimed) → PrintsAlike r r
 alike_itself r = (refl, λ task times mapped. refl)

@@ -118,6 +118,7 @@ prints_retiming task is_terminal input old mid new shown told said r times mappe
   aside = λ taken quiet. subst (SaysFrames task of.answer times mapped shown) (sym (still quiet)) (says_alike task r of.answer times mapped shown told of.alike (says taken));
 }
 
+-- what holds anyway holds where a result is there
 pub if_done : {T E : Type 0} (result : Result T E) (P : Type 0) → P → IfOk result (λ x. P)
 if_done (Ok x) P p = p
 if_done (Err e) P p = tt
@@ -152,6 +153,7 @@ fails_beside : (map certificates : Option Target) (failure : Failure) (old new :
 fails_beside map certificates failure old new (inl failed) = subst (λ (e : Outcome). Prints e old new) (sym (has_failed map failure failed)) tt
 fails_beside map certificates failure old new (inr failed) = subst (λ (e : Outcome). Prints e old new) (sym (has_failed certificates failure failed)) tt
 
+-- a run that ends as the map or the certificates could not be written gives standard output no more than such a run may
 pub stops_beside : {T : Type 0} (map certificates : Option Target) (result : Result T Failure) (failure : Failure) (old new : Output) → IsErrAnd result (λ x. x ≡ failure)
     → HasFailed map failure ⊎ HasFailed certificates failure → IfErr result (λ x. Prints (outcome_of x) old new)
 stops_beside map certificates (Ok x) failure old new is failed = tt

@@ -22,6 +22,7 @@ none-yet : (choice : Choice) (names : List (List ℕ)) (c : Netlist) → AreOfFr
 none-yet choice names c i d kept reports cert run at =
     let within : i < 0 = slice_get_within {A = Certificate} [] i cert at in absurd (omega (arith, within))
 
+-- where no certificates were made yet, those of the first none of the circuits are collected
 pub none-collected : (options : Options) (c : Netlist) (records : Records) → records.certify ≡ options.certify → records.certificates.items ≡ [] → AreCollected options c 0 records
 none-collected options c records wanted empty = record {
   wanted = wanted;
@@ -41,6 +42,7 @@ one-more-certificate choice names c certs cert d kept reports before run is i e 
       subst (IsCertificate choice names e) (sym last.1) (subst (λ (x : Netlist). IsCertificate choice names x cert) same is))
 ]
 
+-- with what is added for the circuit that n frames make, the certificates of the first n + 1 circuits are collected, if wanted
 pub one-collected : (options : Options) (c : Netlist) (n : ℕ) (mid new : Records) (d : Netlist) (kept : List ℕ) (reports : List FrameReport)
     → AreCollected options c n mid → AfterFrames options.choice (names_in options) c n d kept reports → AddsChosen options d mid new → AreCollected options c (suc n) new
 one-collected options c n mid new d kept reports before run adds = record {

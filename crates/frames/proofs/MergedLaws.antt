@@ -58,6 +58,7 @@ by-merging options c r asked is =
     let P : Bool → Type 0 = λ merge. IfOk r (IsRetimedWith merge options.choice c (names_in options) options.max_frames options.certify) in
     subst P (sym asked) is
 
+-- by options that ask for no merging, what is retimed without merging is retimed as the options say
 pub by-frames : {E : Type 0} (options : Options) (c : Netlist) (r : Result Retimed E) → options.merge ≡ false → IfOk r (IsRetimedAsIs options c) → IfOk r (IsRetimedBy options c)
 by-frames options c r unasked is =
     let P : Bool → Type 0 = λ merge. IfOk r (IsRetimedWith merge options.choice c (names_in options) options.max_frames options.certify) in

@@ -43,13 +43,16 @@ none-listed : (reports : List FrameReport) → length reports ≡ 0 → reports 
 none-listed [] none = refl
 none-listed (report ∷ reports) none = absurd (omega (arith, none))
 
+-- a run that took no frames yet has no reports of frames
 pub none-taken : (options : Options) (c : Netlist) (r : Retimed) → IsUnderway options c 0 r → r.frames ≡ []
 none-taken options c r run = none-listed r.frames (many-taken options c 0 r run)
 
 module _ {W : Type 0} (was_told : W → List Told → Type 0) where
+  -- a watcher who stays the same was told nothing more
   pub tells-nothing : (a : W) → Tells was_told a a []
   tells-nothing a = λ before told. subst (was_told a) (sym (append-nil before)) told
 
+  -- a watcher who was told some stages and then others was told both, one after the other
   pub tells-then : (a b c : W) (xs ys : List Told) → Tells was_told a b xs → Tells was_told b c ys → Tells was_told a c (xs ++ ys)
   tells-then a b c xs ys first next = λ before told. subst (was_told c) (append_assoc before xs ys) (next (before ++ xs) (first before told))
 

@@ -57,6 +57,7 @@ module _ (options : Options) (old new : Input) (before after : Output) where
   unwritten-of (Err (Retime (NoSuchName place))) why = why.stop.0
   unwritten-of (Err (Write e)) why = tt
 
+  -- what an answer and an error mean gives each clause of what retiming bytes ensures
   pub facts_of : (r : Result Retimed BytesError) → OnOk r (ReadsToEnd old new) → IfOk r (IsAnswered old before after options)
       → IfErr r (IsBytesError options old new before after) → RetimesBytes options old new before after r
   facts_of r read answer why = record {

@@ -14,6 +14,7 @@ verdict_may_be_printed Retiming old new written = tt
 verdict_may_be_printed (NotShown doubt) old new written = tt
 verdict_may_be_printed ShapesDiffer old new written = inl written
 
+-- a run that prints a verdict, or fails at that, gives standard output what a run that ends so may
 pub verdict_prints : (verdict : Verdict) (old new : Output) (result : Result Outcome Failure)
     → EndsPrinting (outcome_of_verdict verdict) (verdict_text verdict) old new result → Prints (ending result) old new
 verdict_prints verdict old new result p = lines_print (outcome_of_verdict verdict) (verdict_text verdict) old new result (verdict_may_be_printed verdict old new) p
