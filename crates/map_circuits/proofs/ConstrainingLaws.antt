@@ -47,9 +47,11 @@ module _ (g h : Graph) (more : Extends g h) (lits : List ℕ) (all : AreLiterals
   kept-value : (k : ℕ) → k < length lits → value_within h s (λ j. false) (get_or lits k 0) ≡ value_within g s (λ j. false) (get_or lits k 0)
   kept-value k less = more.values s (λ j. false) (get_or lits k 0) (all k 0 less)
 
+  -- literals that are 1 in a state are 1 in that state as the graph grows
   pub ones-later : AreOne g lits s → AreOne h lits s
   ones-later ones = one-from (value_within h s (λ j. false)) lits (λ k less. kept-value k less ∙ one-each (value_within g s (λ j. false)) lits ones k less)
 
+  -- literals that are 1 in a state of the grown graph were 1 before in that state
   pub ones-before : AreOne h lits s → AreOne g lits s
   ones-before ones = one-from (value_within g s (λ j. false)) lits (λ k less. sym (kept-value k less) ∙ one-each (value_within h s (λ j. false)) lits ones k less)
 
@@ -95,6 +97,7 @@ adds-equality g h old new a b lit in_a in_b more is pushed =
           );
     })
 
+-- two literals that are the same need no constraint to be equal
 pub adds-nothing : (g : Graph) (old : List ℕ) (a b : ℕ) → IsGraph g → a ≡ b → AddsEquality g g old old a b
 adds-nothing g old a b valid same = record {
   extends = extends-itself g valid;
@@ -103,6 +106,7 @@ adds-nothing g old a b valid same = record {
 }
 
 module _ (g : Graph) (first : ℕ) (functions substitutes old : List ℕ) where
+  -- for the first none of the latches the constraints need nothing more
   pub substitutes-none : IsGraph g → AreLiteralsOf g old → AddsSubstitutes g first functions substitutes 0 g old old
   substitutes-none valid all = record {
     extends = extends-itself g valid;
@@ -110,6 +114,7 @@ module _ (g : Graph) (first : ℕ) (functions substitutes old : List ℕ) where
     says = λ s. (λ ones. (ones, λ j less. absurd (omega (arith, less))), λ both. both.0);
   }
 
+  -- constraints that also equate the next latch's function with that of what stands for the latch say so of one latch more
   pub substitutes-more : (h i : Graph) (mid new : List ℕ) (n : ℕ) → IsLiteralOf g (get_or functions n 0) → IsLiteralOf g (substitute_function first functions (get_or substitutes n 0))
       → AddsSubstitutes g first functions substitutes n h old mid → AddsEquality h i mid new (get_or functions n 0) (substitute_function first functions (get_or substitutes n 0))
       → AddsSubstitutes g first functions substitutes (n + 1) i old new

@@ -28,6 +28,7 @@ source-from g held set closed w (inr inside) =
     let place : GatePlace g w gate.0 = gate_place g w gate.0 gate.1 in
     omega (arith, place.from)
 
+-- what stands for a literal whose variable has an entry is a literal of the graph
 pub literal-within : (h : Graph) (first : ℕ) (literals : List ℕ) (lit : ℕ) → All (λ l. IsLiteralOf h l) literals → variable lit - first < length literals → IsLiteralOf h (literal_at first literals lit)
 literal-within h first literals lit all less =
     let same : variable (literal_at first literals lit) ≡ variable (entry_of first literals (variable lit)) = variable-signed_as lit (entry_of first literals (variable lit)) in
@@ -38,6 +39,7 @@ module _ (g c : Graph) (functions held set : List ℕ) (valid : IsGraph c) (clos
   abbrev none : ℕ → Bool
   none = λ j. false
 
+  -- before the first gate the functions of the latches follow the circuit
   pub follows-start : IsGraph g → (literals : List ℕ) → literals ≡ functions → length functions ≡ length c.latches → All (λ l. IsLiteralOf g l) functions → Follows g functions c set (first_gate c) g literals
   follows-start graph literals same many all =
       let P : List ℕ → Type 0 = λ ls. Follows g functions c set (first_gate c) g ls in
@@ -64,6 +66,7 @@ module _ (g c : Graph) (functions held set : List ℕ) (valid : IsGraph c) (clos
       ∙ ap (signed lit) (p.values s (variable lit) less source)
       ∙ sym (value_signed (value_within c none (state_of g functions s)) (within_laws c valid none (state_of g functions s)).negation lit)
 
+  -- with a literal of the next gate, for a member the conjunction of its fan-ins' literals, the entries follow one gate more
   pub follows-more : (h i : Graph) (literals new : List ℕ) (v lit : ℕ) (gate : Gate) → gate_at c v ≡ Some gate → IsGraph h → Follows g functions c set v h literals → Extends h i → IsLiteralOf i lit
       → (has set v ≡ true → IsConjunction i (literal_at (first_latch c) literals gate.rhs0) (literal_at (first_latch c) literals gate.rhs1) lit)
       → new ≡ literals ++ lit ∷ [] → Follows g functions c set (v + 1) i new

@@ -14,9 +14,11 @@ use Rattle.state_maps.specs.Retimed.{agrees}
 use Rattle.state_maps.proofs.WithinLaws.{within_laws}
 use Rattle.map_circuits.specs.Growing.{Extends, IsConjunction, IsEquality}
 
+-- a graph with no gates more counts as grown
 pub extends-itself : (g : Graph) → IsGraph g → Extends g g
 extends-itself g valid = record { graph = valid; inputs = refl; latches = refl; literals = λ lit h. h; values = λ x s lit h. refl }
 
+-- a graph that grows twice has grown from the first to the last
 pub extends-transitive : (g h i : Graph) → Extends g h → Extends h i → Extends g i
 extends-transitive g h i p q = record {
   graph = q.graph;
@@ -78,6 +80,7 @@ extends-gate g h a b valid same grown =
       values = λ x s lit within. literal-value g valid (gate_of a b) grown x s lit within;
     })
 
+-- the literal of a new gate of two literals is their conjunction
 pub conjunction-gate : (g h : Graph) (a b lit : ℕ) → IsGraph g → h ≡ with_gate g (gate_of a b) → IsGraph (with_gate g (gate_of a b)) → lit ≡ 2 * variables_end g → IsConjunction h a b lit
 conjunction-gate g h a b lit valid same grown at =
     let P : Graph → Type 0 = λ i. IsConjunction i a b lit in
@@ -171,6 +174,7 @@ equals-one g valid a b within one = record {
     agrees-true true = refl
     agrees-true false = refl
 
+-- the negation of a literal says that the literal is equal to 0
 pub equals-zero : (g : Graph) → IsGraph g → (a na b : ℕ) → IsLiteralOf g a → na / 2 ≡ a / 2 → na % 2 ≢ a % 2 → b ≡ 0 → IsEquality g a b na
 equals-zero g valid a na b within same sign none = record {
   within = omega (arith, within, same);

@@ -9,6 +9,7 @@ no-names : (n : ℕ) → AreNamesBelow n []
 no-names n = record { rising = λ k less. absurd (omega (arith, less)); below = λ k a less. absurd (omega (arith, less)) }
 
 module _ (c d : Netlist) (kept : List ℕ) (m : MapParts) (one : IsNetlist c) (two : IsNetlist d) (map : IsMapTo c d kept m) where
+  -- the parts of a map with the names are a netlist
   pub map-netlist : IsNetlist (map_of m (map_symbols c d))
   map-netlist = record {
     props = record {
@@ -29,5 +30,6 @@ module _ (c d : Netlist) (kept : List ℕ) (m : MapParts) (one : IsNetlist c) (t
     };
   }
 
+  -- the parts of a map with the names are a map as a circuit
   pub map-circuit : IsMapCircuit c d kept (map_of m (map_symbols c d))
   map-circuit = record { graph = map.graph; netlist = map-netlist; inputs = map.inputs; latches = map.latches; outputs = map.many; maps = map.maps }

@@ -42,6 +42,7 @@ unfolding replaced_graph
 pass-places d held r = ap (places (λ j. r (first_latch d.aig + j))) (length-map d.aig.latches (replaced_latch (substitutes_of d.aig held)))
 
 module _ (c d e : Netlist) (held kept second still : List ℕ) (g h : Graph) (functions new old constraints : List ℕ) where
+  -- a map that goes on through a pass, with constraints of what stands for each latch, is a map to what the pass makes
   pub pass-map : IsCircuit d → (pass : IsPass held d e second still) → IsMapBy c d kept g functions old
       → AddsSubstitutes g (first_latch d.aig) functions (latch_substitutes d.aig held) (length (latch_substitutes d.aig held)) h old constraints
       → ArePassed h functions d.aig pass.reached new → IsMapBy c e (composed kept second) h new constraints
@@ -84,6 +85,7 @@ unfolding table
 composed-all n kept many = sym (table-from 0 n (λ i. get_or kept i 0) kept 0 many (λ k less. ap (λ (i : ℕ). get_or kept i 0) (sym (zero-add k))))
 
 module _ (c : Netlist) (m : Move) (kept : List ℕ) (g h : Graph) (functions new constraints : List ℕ) where
+  -- a map that goes on through a move is a map to the moved circuit
   pub move-map : IsCircuit m.circuit → IsClosedSet m.circuit.aig m.held m.set → variables_end (moved_graph m) ≤ MAX_VARIABLES → AreKept m.circuit (moved_of m) (all_free m.circuit.aig)
       → IsMapBy c m.circuit kept g functions constraints → Extends g h → AreMoved g functions m h new → IsMapBy c (moved_of m) kept h new constraints
   move-map valid set room free p extends moved = subst (λ (js : List ℕ). IsMapBy c (moved_of m) js h new constraints) (composed-all (free_latches m.circuit.aig) kept p.each) (record {
