@@ -89,11 +89,13 @@ module _ (g : Graph) (held : List ℕ) where
   pub leaves-own : (reads : List ℕ) (j : ℕ) → replaced (leaves g reads) (own_literal g j) ≡ read reads j
   leaves-own reads j = replaced-latch_literal g held reads (own_literal g j) j (omega arith) ∙ own-even j (read reads j)
 
+  -- what a reading makes of a latch's literal, negated by resets, is what the latch reads as, negated by the same resets
   pub leaves-first : (reads : List ℕ) (a b : Reset) (i : ℕ) → replaced (leaves g reads) (from_reset a (from_reset b (own_literal g i))) ≡ from_reset a (from_reset b (read reads i))
   leaves-first reads a b i =
       replaced-signed (leaves g reads) (constant_of a) (from_reset b (own_literal g i))
       ∙ ap (from_reset a) (replaced-signed (leaves g reads) (constant_of b) (own_literal g i) ∙ ap (from_reset b) (leaves-own reads i))
 
+  -- in each reading the constant of a reset stands for itself
   pub leaves-constant : (reads : List ℕ) (reset : Reset) → replaced (leaves g reads) (constant_of reset) ≡ constant_of reset
   leaves-constant reads reset = replaced-constant g held reads (constant_of reset) (omega (arith, constant-even reset))
 
@@ -157,7 +159,9 @@ module _ (g : Graph) (held : List ℕ) where
 
   -- the latches that a reading holds together are told the same
   pub record AreToldAlike (other : List ℕ) (keys : ℕ → Latch → Told) : Type 0 where
+    -- a latch that reads as the constant of its reset is of the constant's class and told 0
     pub zero : (j : ℕ) (latch : Latch) → slice_get g.latches j ≡ Some latch → read other j ≡ constant_of latch.reset → keys j latch ≡ constant_told
+    -- a latch that reads as another is of the other's class and told the same
     pub same : (j i : ℕ) (latch first : Latch) → slice_get g.latches j ≡ Some latch → slice_get g.latches i ≡ Some first
         → read other j ≡ from_reset latch.reset (from_reset first.reset (own_literal g i)) → keys j latch ≡ keys i first
 
@@ -287,8 +291,11 @@ module _ (g : Graph) (held : List ℕ) where
 
   -- a reading than which each kept one is finer, and what a round makes of it
   pub record IsRound (reads next : List ℕ) : Type 0 where
+    -- the literals that are read are a reading
     pub reading : IsReading g held reads
+    -- the next literals are what a round makes of the reading
     pub next_is : next ≡ next_round g held reads
+    -- each kept reading is finer than this one
     pub coarser : (other : List ℕ) → IsKept g held other → IsFiner g other reads
 
   -- the first round

@@ -131,8 +131,11 @@ module _ (g : Graph) (held : List ℕ) (keys : ℕ → Latch → Told) where
 
   -- a latch that may be merged, by the first of its class that is told what it is
   pub record Led (j : ℕ) (latch : Latch) : Type 0 where
+    -- the literal of the leader
     pub leader : ℕ
+    -- after the round the latch reads as the leader, negated where the latch's reset is 1
     pub reads_as : read (round_by g held keys) j ≡ from_reset latch.reset leader
+    -- the leader is the first of the constant and the latches up to this one that is of the latch's class and told the same
     pub first_one : first (keys j latch) (suc j) ≡ Some leader
 
   -- each latch that may be merged has a leader
