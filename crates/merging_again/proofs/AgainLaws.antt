@@ -27,6 +27,7 @@ module _ (g : Graph) (held reads : List ℕ) (valid : IsGraph g) (coarsest : IsC
 
   -- a coarser reading, and each reading of the circuit
   module _ (other : List ℕ) (reading : IsReading g held other) where
+    -- a reading of the circuit is one of what merging makes of the circuit
     pub reading-same : IsReading (replaced_graph (substitutes_by g reads) g) held other
     unfolding replaced_graph
     reading-same = record {
@@ -61,6 +62,7 @@ module _ (g : Graph) (held reads : List ℕ) (valid : IsGraph g) (coarsest : IsC
           ap (λ (xs : List ℕ). told xs (replaced_latch (substitutes_by g reads) latch)) substitutes-same
           ∙ ap (from_reset latch.reset) (literal-same latch.next (valid.latches j latch there))
 
+      -- the next round of the merged circuit is the next round of the circuit, from any coarser reading
       pub next-same : next_round (replaced_graph (substitutes_by g reads) g) held other ≡ next_round g held other
       next-same = round-same g held (substitutes_by g reads) other told-same
 
@@ -106,15 +108,18 @@ module _ (g : Graph) (held reads : List ℕ) (valid : IsGraph g) (coarsest : IsC
               subst P (coarsest-one g held now reads last coarsest) finer)
         ]
 
+    -- each kept reading of the merged circuit is finer than the coarsest one of the circuit
     pub ends-finer : IsFiner (replaced_graph (substitutes_by g reads) g) other reads
     ends-finer =
         let P : List ℕ → Type 0 = λ xs. IsFiner (replaced_graph (substitutes_by g reads) g) other xs in
         to-the-end (suc (merged_latches g (first_round g held))) (first_round g held) (first-reading g held) (λ q is. first-coarser g held q is.reading)
         (subst P (first_round-same g held (substitutes_by g reads)) (first-coarser (replaced_graph (substitutes_by g reads) g) held other kept.reading)) (omega arith)
 
+  -- the coarsest kept reading of a circuit is the coarsest one of what merging by it makes of the circuit
   pub still-coarsest : IsCoarsest (replaced_graph (substitutes_by g reads) g) held reads
   still-coarsest = record { kept = still-kept; coarser = λ other kept. ends-finer other kept }
 
+-- what a circuit is merged to has the coarsest kept reading that the circuit had
 pub merges-no_more : (held : List ℕ) (c d : Netlist) → IsGraph c.aig → (merged : IsMerged held c d) → IsCoarsest d.aig held merged.reads
 merges-no_more held c d valid merged =
     let P : Netlist → Type 0 = λ e. IsCoarsest e.aig held merged.reads in

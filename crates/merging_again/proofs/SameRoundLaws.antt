@@ -70,6 +70,7 @@ module _ (g : Graph) (held substitutes : List ℕ) where
             ∙ ap (λ (l : ℕ). first_told g held (told_of g other) (record { class = class; literal = l }) j) (same j latch e))
             ∙ sym (ap (next_read g held (told_of g other) j) e)
 
+    -- a round is the same of a circuit and of its replaced one, where all latches are told the same in both
     pub round-same : next_round (replaced_graph substitutes g) held other ≡ next_round g held other
     unfolding round_by
     round-same =

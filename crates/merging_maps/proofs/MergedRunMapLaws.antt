@@ -62,6 +62,7 @@ module _ (choice : Choice) (names : List (List ℕ)) (c : Netlist) (valid : IsCi
       let moved : IsCircuit (moved_of m) = record { graph = IsGraph-moved m whole.graph set small; netlist = IsNetlist-moved m whole.graph set whole.netlist } in
       IsCircuit-cleans e (held_in names (moved_of m)) (moved_of m) left f.cleaned moved
 
+-- a retiming of a circuit that was merged first has a state map
 pub merged-retiming_maps : (choice : Choice) (names : List (List ℕ)) (c : Netlist) (max_frames : ℕ) (certify : Bool) (r : Retimed) → MergedRetimingMaps choice names c max_frames certify r
 merged-retiming_maps choice names c max_frames certify r valid netlist run =
     let whole : IsCircuit c = record { graph = valid; netlist = netlist } in

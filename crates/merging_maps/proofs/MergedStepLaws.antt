@@ -147,11 +147,13 @@ module _ (held reads : List ℕ) (c : Netlist) (valid : IsGraph c.aig) (netlist 
         (λ s h. holds-test c.aig held reads valid kept s h) (λ s h. test-holds c.aig held reads valid kept s h) replaced-maps,
   )
 
+-- merging maps each state in which latches hold what they read as to itself
 pub merging-maps : (held : List ℕ) (c d : Netlist) → MergingMaps held c d
 merging-maps held c d valid netlist merged =
     let P : Netlist → Type 0 = λ e. IsStateMap c e (all_free c.aig) (ReadsHold c.aig merged.reads) (λ s. s) in
     subst P (sym merged.circuit) (replaced-maps held merged.reads c valid netlist merged.coarsest.kept)
 
+-- a merging has a state map that rests on a test
 pub has-merging_map : (held : List ℕ) (c d : Netlist) → HasMergingMap held c d
 has-merging_map held c d valid netlist merged =
     let P : Netlist → Type 0 = λ e. HasStateMap c e (all_free c.aig) in

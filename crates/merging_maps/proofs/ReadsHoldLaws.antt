@@ -92,6 +92,7 @@ module _ (g : Graph) (held reads : List ℕ) (valid : IsGraph g) (kept : IsKept 
             ap (λ (n : ℕ). vals g valid x s (2 * n)) place.variable_is ∙ (laws g valid x s).gate place.place gate place.there in
             right-merge_gate (vals g valid x s) (laws g valid x s).negation (laws g valid x s).constant m so_far gate (omega arith) (omega arith) here
 
+    -- what stands for a literal has its value, in a state in which latches hold what they read as
     pub substitutes-value : (lit : ℕ) → variable lit < variables_end g → value_within g x s (replaced (substitutes_by g reads) lit) ≡ value_within g x s lit
     unfolding substitutes_after
     substitutes-value lit h =
@@ -181,10 +182,12 @@ module _ (g : Graph) (held reads : List ℕ) (valid : IsGraph g) (kept : IsKept 
         by lit (as_first i first less first_there may may_first own e) =
             first-value g valid x s i latch first lit first_there e ∙ sym (first-value g valid (λ i. false) s i latch first lit first_there e)
 
+    -- where the test says so, each latch holds what it reads as
     pub test-holds : reads_right g reads s 0 g.latches ≡ true → ReadsHold g reads s
     test-holds e x j latch there =
         let place : 0 + j ≡ j = omega arith in
         steady x j latch there ∙ subst (λ (k : ℕ). holds_at k ≡ s k) place (from-test 0 g.latches e j latch there)
 
+    -- where each latch holds what it reads as, the test says so
     pub holds-test : ReadsHold g reads s → reads_right g reads s 0 g.latches ≡ true
     holds-test holds = to-test 0 g.latches (λ k latch there. let place : k ≡ 0 + k = omega arith in subst (λ (j : ℕ). holds_at j ≡ s j) place (holds (λ i. false) k latch there))

@@ -29,6 +29,7 @@ composed-every kept n long =
     let there : j < length places = omega (arith, within, length-range_with_len 0 n) in
     get_or-map f places j 0 0 there ∙ ap f (get_or-range_with_len 0 n j 0 within ∙ zero-add j))
 
+-- the constraints of what latches read as make a map to a circuit one to what the circuit is merged to
 pub merging-step : (c d e : Netlist) (held kept : List ℕ) (g h : Graph) (functions old new : List ℕ) → MergingStep c d e held kept g h functions old new
 merging-step c d e held kept g h functions old new valid netlist merged graph all many free p adds =
     let reads : List ℕ = merged.reads in

@@ -34,6 +34,7 @@ module _ (d : Graph) (held reads functions : List ℕ) (reading : IsReading d he
   read-substitute : (j : ℕ) → j < length d.latches → IsSubstitute first functions (read reads j)
   read-substitute j less = let latch = element d.latches j less in is-substitute j latch.0 (read reads j) latch.1 (reading.each j latch.0 latch.1)
 
+  -- what latches read as are constants, or literals of latches
   pub all-substitutes : All (λ substitute. IsSubstitute first functions substitute) reads
   all-substitutes k a less =
       subst (λ (lit : ℕ). IsSubstitute first functions lit) (sym (get_or_default reads k a 0 less)) (read-substitute k (omega (arith, less, reading.long)))
@@ -76,12 +77,14 @@ module _ (d : Graph) (held reads functions : List ℕ) (reading : IsReading d he
     substitute-here : (j : ℕ) → j < length d.latches → here (substitute_function first functions (get_or reads j 0)) ≡ there (read reads j)
     substitute-here j less = substitute-value (read reads j) (read-substitute j less)
 
+    -- where latches hold what they read as in the state of the functions, each function has the value of what its latch reads as
     pub reads-below : ReadsHold d reads (state_of g functions s) → SubstitutesBelow g first functions reads (length reads) s
     reads-below holds j less =
         let below : j < length d.latches = omega (arith, less, reading.long) in
         let latch = element d.latches j below in
         function-value j (omega (arith, below, many)) ∙ sym (holds (λ i. false) j latch.0 latch.1) ∙ sym (substitute-here j below)
 
+    -- where each function has the value of what its latch reads as by a kept reading, latches hold what they read as
     pub reads-hold : IsKept d held reads → SubstitutesBelow g first functions reads (length reads) s → ReadsHold d reads (state_of g functions s)
     reads-hold kept below x j latch at =
         let less : j < length d.latches = slice_get_within d.latches j latch at in
