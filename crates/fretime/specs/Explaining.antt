@@ -1,13 +1,15 @@
 -- What `explain` prints.
 use Rattle.std.specs.Prelude.{ℕ, ◌≡◌, ◌==◌, ◌⊎◌, List, [], ◌∷◌, ◌++◌, Option, Some, None, codes, if◌then◌else◌}
 use Rattle.std.specs.List.{flat_map}
-use Rattle.counted_io.specs.Output.{Output}
+use Rattle.counted_io.specs.Output.{Output, WritesPart}
 use Rattle.fault_pages.specs.Faults.{IsNoName, name_of}
 use Rattle.fault_pages.specs.Files.{smallest_file}
 use Rattle.fault_pages.specs.Pages.{advice_of, meaning_of, rule_of}
 use Rattle.fault_pages.specs.declared.fault.Fault.{Fault}
+use Rattle.circuit_files.specs.Outcomes.{outcome_of}
+use Rattle.circuit_files.specs.declared.outcome.Failure.{Failure}
 use Rattle.circuit_files.specs.declared.outcome.Outcome.{Outcome}
-use Rattle.circuit_files.specs.declared.outcome.Outcome.TheVariants.{CommandLine, Done}
+use Rattle.circuit_files.specs.declared.outcome.Outcome.TheVariants.{CommandLine, Device, Done}
 use Rattle.command_endings.specs.Printing.{EndsWith}
 
 -- a byte of a file; four spaces begin the next line
@@ -47,3 +49,7 @@ pub record IsUnexplained (name : List ℕ) (old new : Output) (ended : Outcome) 
 
 abbrev pub Explains : List ℕ → Output → Output → Outcome → Type 0
 Explains name old new ended = IsExplained name old new ended ⊎ IsUnexplained name old new ended
+
+-- a device fails where a beginning of the page of the fault with this name was printed, and then standard output failed
+abbrev pub FailsToExplain : List ℕ → Output → Output → Failure → Type 0
+FailsToExplain name old new failure = outcome_of failure ≡ Device → (fault : Fault) × (name_of fault ≡ name) × WritesPart old new (page_text fault)

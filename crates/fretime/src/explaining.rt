@@ -1,12 +1,13 @@
 //! The command `explain`.
-ghost use Rattle.std.specs.Prelude.{◌≡◌, IfOk};
+ghost use Rattle.std.specs.Prelude.{◌≡◌, IfErr, IfOk};
 ghost use Rattle.std.specs.List.{flat_map};
 ghost use Rattle.counted_io.specs.Buffered.{Puts};
 ghost use Rattle.counted_io.specs.Output.{Output, Writes};
 ghost use Rattle.fault_pages.specs.Files.{smallest_file};
-ghost use Rattle.circuit_files.specs.declared.outcome.Outcome.TheVariants.{CommandLine};
+ghost use Rattle.circuit_files.specs.Outcomes.{outcome_of};
+ghost use Rattle.circuit_files.specs.declared.outcome.Outcome.TheVariants.{CommandLine, Memory};
 ghost use Rattle.command_endings.specs.Printing.{Prints, ending};
-ghost use Rattle.fretime.specs.Explaining.{Explains, file_part, file_text, indented, indented_byte, page_text};
+ghost use Rattle.fretime.specs.Explaining.{Explains, FailsToExplain, file_part, file_text, indented, indented_byte, page_text};
 
 use circuit_files::{Failure, Outcome};
 use counted_io::{Buffered, CountedWrite, WriteError};
@@ -92,6 +93,7 @@ fn report_missing<'a, E: CountedWrite>(
     err: &mut E,
 ) -> Result<Outcome, Failure<'a>>
     ensures ends { IfOk result (λ ended. ended ≡ CommandLine) }
+    ensures memory { IfErr result (λ failure. outcome_of failure ≡ Memory) }
     ensures prints { (out : Output) → Prints (ending result) out out }
 {
     let Ok(nearest) = Fault::nearest(alloc, name) else {
@@ -119,6 +121,7 @@ pub fn explain<'a, O: CountedWrite, E: CountedWrite>(
     err: &mut E,
 ) -> Result<Outcome, Failure<'a>>
     ensures page { IfOk result (Explains name.now (O.output out.old) (O.output out.new)) }
+    ensures device { IfErr result (FailsToExplain name.now (O.output out.old) (O.output out.new)) }
     ensures prints { Prints (ending result) (O.output out.old) (O.output out.new) }
 {
     match Fault::named(name) {
