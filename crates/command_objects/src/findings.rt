@@ -33,21 +33,24 @@ fn ended<'a>(printed: Result<(), PrintError>, outcome: Outcome) -> Result<Outcom
     }
 }
 
-/// Prints the frames of a retiming, what the written circuit has and why no more latches go, which free latches stayed, what the map
+/// Prints the frames of a retiming, the levels of the circuit that was read, what the written one has and why no more latches go, which free latches stayed, what the map
 /// of states has, and how long the parts of the run took, where that was measured.
 pub fn print_retiming<'a, W: CountedWrite>(
     alloc: Global,
     retimed: &Retimed,
+    levels: Option<u32>,
     remaining: &Remaining,
     times: Option<&Times>,
     map: Option<MapCounts>,
     writer: &mut W,
 ) -> Result<Outcome, Failure<'a>>
     ensures { EndsPrintingObject Done
-        (retiming_data retimed.now remaining.now (option_map (λ t. t.now) times.entry) map)
+        (retiming_data retimed.now levels remaining.now (option_map (λ t. t.now) times.entry) map)
         (W.output writer.old) (W.output writer.new) result }
 {
-    let printed = json_reports::print_retiming(alloc, retimed, remaining, times, map, writer);
+    let printed = json_reports::print_retiming(
+        alloc, retimed, levels, remaining, times, map, writer,
+    );
     ended(printed, Outcome::Done)
 }
 

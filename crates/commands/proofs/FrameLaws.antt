@@ -20,16 +20,16 @@ use Rattle.command_endings.specs.Printing.{EndsPrinting}
 use Rattle.commands.specs.RetimingTasks.{EndsPrintingFrames, PrintsAlike, SaysFrames, remaining_of}
 
 -- an object where it was asked for
-pub frames_as_object : (json : Bool) (task : Retiming) (r : Retimed) (times : Option Times) (mapped : Option MapCounts) (old new : Output) (result : Result Outcome Failure)
-    → json ≡ true → EndsPrintingFrames true task r times mapped old new result → EndsPrintingFrames json task r times mapped old new result
-frames_as_object json task r times mapped old new result asked p = subst (λ (j : Bool). EndsPrintingFrames j task r times mapped old new result) (sym asked) p
+pub frames_as_object : (json : Bool) (task : Retiming) (r : Retimed) (levels : Option ℕ) (times : Option Times) (mapped : Option MapCounts) (old new : Output) (result : Result Outcome Failure)
+    → json ≡ true → EndsPrintingFrames true task r levels times mapped old new result → EndsPrintingFrames json task r levels times mapped old new result
+frames_as_object json task r levels times mapped old new result asked p = subst (λ (j : Bool). EndsPrintingFrames j task r levels times mapped old new result) (sym asked) p
 
 -- by what is left of it, and by the times that were taken
-pub object_of_frames : (task : Retiming) (r : Retimed) (left : Remaining) (took times : Option Times) (mapped : Option MapCounts) (old new : Output) (result : Result Outcome Failure)
-    → left ≡ remaining_of task r → took ≡ times → EndsPrintingObject Done (retiming_data r left took mapped) old new result → EndsPrintingFrames true task r times mapped old new result
-object_of_frames task r left took times mapped old new result is same p =
-    subst (λ (t : Option Times). EndsPrintingObject Done (retiming_data r (remaining_of task r) t mapped) old new result) same
-    (subst (λ (x : Remaining). EndsPrintingObject Done (retiming_data r x took mapped) old new result) is p)
+pub object_of_frames : (task : Retiming) (r : Retimed) (levels : Option ℕ) (left : Remaining) (took times : Option Times) (mapped : Option MapCounts) (old new : Output) (result : Result Outcome Failure)
+    → left ≡ remaining_of task r → took ≡ times → EndsPrintingObject Done (retiming_data r levels left took mapped) old new result → EndsPrintingFrames true task r levels times mapped old new result
+object_of_frames task r levels left took times mapped old new result is same p =
+    subst (λ (t : Option Times). EndsPrintingObject Done (retiming_data r levels (remaining_of task r) t mapped) old new result) same
+    (subst (λ (x : Remaining). EndsPrintingObject Done (retiming_data r levels x took mapped) old new result) is p)
 
 -- what is left, by the names as bytes and the number of frames
 pub remaining_is : (task : Retiming) (r : Retimed) (keep : List (Bor (List ℕ))) (names read : List (Vec ℕ)) (frames : ℕ) → keep ≡ task.keep.items → read ≡ names
@@ -42,15 +42,15 @@ remaining_is task r keep names read frames kept same alike many =
     ∙ ap (λ (n : ℕ). remaining r.circuit (map (λ name. name.now) task.keep.items) (nat_lt n task.frames)) many
 
 -- what is printed alike ends alike
-pub frames_alike : (json : Bool) (task : Retiming) (r s : Retimed) (times : Option Times) (mapped : Option MapCounts) (old new : Output) (result : Result Outcome Failure)
-    → PrintsAlike r s → EndsPrintingFrames json task r times mapped old new result → EndsPrintingFrames json task s times mapped old new result
-frames_alike true task r s times mapped old new result alike p = subst (λ value. EndsPrintingObject Done value old new result) (alike.1 task times mapped) p
-frames_alike false task r s times mapped old new result alike p = subst (λ (text : List ℕ). EndsPrinting Done text old new result) alike.0 p
+pub frames_alike : (json : Bool) (task : Retiming) (r s : Retimed) (levels : Option ℕ) (times : Option Times) (mapped : Option MapCounts) (old new : Output) (result : Result Outcome Failure)
+    → PrintsAlike r s → EndsPrintingFrames json task r levels times mapped old new result → EndsPrintingFrames json task s levels times mapped old new result
+frames_alike true task r s levels times mapped old new result alike p = subst (λ value. EndsPrintingObject Done value old new result) (alike.1 task levels times mapped) p
+frames_alike false task r s levels times mapped old new result alike p = subst (λ (text : List ℕ). EndsPrinting Done text old new result) alike.0 p
 
 -- where two retimings are printed alike, what says the frames of the one says those of the other
-pub says_alike : (task : Retiming) (r s : Retimed) (times : Option Times) (mapped : Option MapCounts) (old new : Output) → PrintsAlike r s → SaysFrames task r times mapped old new → SaysFrames task s times mapped old new
-says_alike task r s times mapped old new alike p = record { ended = p.ended; prints = frames_alike task.json task r s times mapped old new p.ended alike p.prints }
+pub says_alike : (task : Retiming) (r s : Retimed) (levels : Option ℕ) (times : Option Times) (mapped : Option MapCounts) (old new : Output) → PrintsAlike r s → SaysFrames task r levels times mapped old new → SaysFrames task s levels times mapped old new
+says_alike task r s levels times mapped old new alike p = record { ended = p.ended; prints = frames_alike task.json task r s levels times mapped old new p.ended alike p.prints }
 
 -- each retiming is printed as itself
 pub alike_itself : (r : Retimed) → PrintsAlike r r
-alike_itself r = (refl, λ task times mapped. refl)
+alike_itself r = (refl, λ task levels times mapped. refl)

@@ -5,6 +5,9 @@ use Rattle.std.specs.Result.{IfErr, IfOk, IsErrAnd}
 use Rattle.std.proofs.Math.Bool.{true-or}
 use Rattle.std.proofs.lemmas.Bool.{or_parts}
 use Rattle.counted_io.specs.Input.{Input}
+use Rattle.aig_binary.specs.Ending.{Spells}
+use Rattle.aig_binary.specs.declared.reading.SpeltCircuit.{SpeltCircuit}
+use Rattle.aig_binary.proofs.LimitLaws.{reads-within}
 use Rattle.certificate_files.specs.Texts.{file_text}
 use Rattle.counted_io.specs.Output.{Output, WritesAll}
 use Rattle.retimed_circuits.specs.declared.report.Retimed.{Retimed}
@@ -12,8 +15,8 @@ use Rattle.frames.specs.declared.errors.BytesError.{BytesError}
 use Rattle.frames.specs.declared.errors.BytesError.TheVariants.{Read, Retime, Write}
 use Rattle.frames.specs.declared.errors.RetimeError.TheVariants.{NoMemory, NoSuchName}
 use Rattle.frames.specs.declared.options.Options.{Options}
-use Rattle.frames.specs.Answering.{IsAnswered, IsBytesError}
-use Rattle.mapped_answers.specs.Mapping.{IsMappedError}
+use Rattle.frames.specs.Answering.{IsStop}
+use Rattle.mapped_answers.specs.Mapping.{IsMappingStop}
 use Rattle.mapped_answers.specs.declared.mapped.MappedError.{MappedError}
 use Rattle.mapped_answers.specs.declared.mapped.MappedError.TheVariants.{Answer, MapTooLarge}
 use Rattle.stream_paths.specs.Streams.{is_stdin, is_stdout}
@@ -28,47 +31,75 @@ use Rattle.circuit_files.specs.declared.outcome.Failure.TheVariants as fails
 use Rattle.json_reports.specs.declared.times.Times.{Times}
 use Rattle.json_reports.specs.declared.counts.MapCounts.{MapCounts}
 use Rattle.commands.specs.declared.answer.Answer.{Answer as Answered}
-use Rattle.commands.specs.Pipes.{AnswersInput, AnswersPipe, IsPipe, IsToldOf, PrintsRetiming, WritesPipe}
+use Rattle.commands.specs.Pipes.{Answers, AnswersInput, AnswersPipe, IsAnswerTo, IsPipe, IsToldOf, PrintsRetiming, WritesPipe}
 use Rattle.command_endings.specs.Printing.{EndsAside, Prints, ending}
 use Rattle.commands.specs.RetimingTasks.{AreOptionsOf, EndsPrintingFrames, HasFailed, IsFailureOf, IsMappedFailureOf, PrintsAlike, SaysFrames}
 use Rattle.command_endings.proofs.PrintingLaws.{failing_after, prints_after}
 use Rattle.commands.proofs.FrameLaws.{frames_alike, says_alike}
 
--- why there is no whole answer, as the failure of the task
-pub stopped : (task : Retiming) (options : Options) (old new : Input) (before after : Output) (e : BytesError) (f : Failure)
-    → IsFailureOf task e f → IsBytesError options old new before after e → Prints (outcome_of f) before after
-stopped task options old new before after (Read e) f is p = failing_after f before after p.1
-stopped task options old new before after (Retime NoMemory) f is p = failing_after f before after p.stop
-stopped task options old new before after (Retime (NoSuchName place)) f is p = failing_after f before after p.stop.0
-stopped task options old new before after (Write e) f is p = subst (λ (g : Failure). Prints (outcome_of g) before after) (sym is.2) tt
+-- why there is no whole answer of what was read, as the failure of the task
+pub stopped : (task : Retiming) (options : Options) (spelt : SpeltCircuit) (before after : Output) (e : BytesError) (f : Failure)
+    → IsFailureOf task e f → IsStop options spelt before after e → Prints (outcome_of f) before after
+stopped task options spelt before after (Read e) f is p = absurd p
+stopped task options spelt before after (Retime NoMemory) f is p = failing_after f before after p
+stopped task options spelt before after (Retime (NoSuchName place)) f is p = failing_after f before after p.0
+stopped task options spelt before after (Write e) f is p = subst (λ (g : Failure). Prints (outcome_of g) before after) (sym is.2) tt
 
 -- the same where a map is made
-pub stopped_mapped : (task : Retiming) (options : Options) (old new : Input) (before after : Output) (e : MappedError) (f : Failure)
-    → IsMappedFailureOf task e f → IsMappedError options old new before after e → Prints (outcome_of f) before after
-stopped_mapped task options old new before after (Answer e) f is p = stopped task options old new before after e f is p
-stopped_mapped task options old new before after MapTooLarge f is p = failing_after f before after p.1
+pub stopped_mapped : (task : Retiming) (options : Options) (spelt : SpeltCircuit) (before after : Output) (e : MappedError) (f : Failure)
+    → IsMappedFailureOf task e f → IsMappingStop options spelt before after e → Prints (outcome_of f) before after
+stopped_mapped task options spelt before after (Answer e) f is p = stopped task options spelt before after e f is p
+stopped_mapped task options spelt before after MapTooLarge f is p = failing_after f before after p
 
--- the answer of what was read, whatever it was written to
-pub answers_read : {E : Type 0} (task : Retiming) (options : Options) (input : Input) (before after : Output) (result : Result Answered E) → AreOptionsOf task options
-    → IfOk result (λ answer. is_stdin task.input ≡ true → IsAnswered input before after options answer.retimed)
-    → IfOk result (λ answer. is_stdin task.input ≡ true → AnswersInput task input answer.retimed)
-answers_read task options input before after (Ok answer) are answered = λ stdin. record { options = options; are_options = are; before = before; after = after; answered = answered stdin }
-answers_read task options input before after (Err e) are answered = tt
+-- what was read of standard input is answered as its bytes are
+pub answers_pipe : (task : Retiming) (options : Options) (spelt : SpeltCircuit) (input : Input) (old new : Output) (answer : Answered)
+    → AreOptionsOf task options → Spells input spelt → IsAnswerTo task options spelt old new answer → AnswersPipe task input old new answer.retimed answer.levels
+answers_pipe task options spelt input old new answer are read to = record {
+  options = options;
+  are_options = are;
+  answered = record {
+    spelt = spelt;
+    read = read;
+    written = to.written;
+    reads_back = λ left known. to.written.reads_back (reads-within left spelt.circuit (read.circuit.bytes left known));
+  };
+  levels_are = to.levels_are;
+}
+
+-- the same, wherever it was written
+pub answers_input : (task : Retiming) (options : Options) (spelt : SpeltCircuit) (input : Input) (answer : Answered)
+    → AreOptionsOf task options → Spells input spelt → Answers task options spelt answer → AnswersInput task input answer.retimed answer.levels
+answers_input task options spelt input answer are read answers =
+    let written = answers.to.written in
+    record {
+      options = options;
+      are_options = are;
+      before = answers.before;
+      after = answers.after;
+      answered = record {
+        spelt = spelt;
+        read = read;
+        written = written;
+        reads_back = λ left known. written.reads_back (reads-within left spelt.circuit (read.circuit.bytes left known));
+      };
+      levels_are = answers.to.levels_are;
+    }
 
 -- the text of a retiming's certificates
 abbrev pub blocks_text : Retiming → Retimed → List ℕ
 blocks_text task r = file_text (record { choice = task.choice; blocks = r.certificates })
 
 -- what is written beside the answer changes nothing of what is told of it
-pub told_of : (task : Retiming) (input : Input) (old mid new : Output) (before after r : Retimed) → r ≡ after → PrintsAlike after before
-    → (is_stdin task.input ≡ true → AnswersInput task input before) → (IsPipe task → AnswersPipe task input old mid before)
+pub told_of : (task : Retiming) (input : Input) (old mid new : Output) (before after r : Retimed) (levels told : Option ℕ) → told ≡ levels → r ≡ after → PrintsAlike after before
+    → (is_stdin task.input ≡ true → AnswersInput task input before levels) → (IsPipe task → AnswersPipe task input old mid before levels)
     → (writes_stdout task.map ≡ false → writes_stdout task.certificates ≡ false → new ≡ mid) → (is_stdout task.output ≡ false → mid ≡ old)
-    → (writes_stdout task.map ≡ false → writes_stdout task.certificates ≡ true → WritesAll mid new (blocks_text task before)) → IsToldOf task input old new r
-told_of task input old mid new before after r same alike read pipe quiet file certifies = record {
+    → (writes_stdout task.map ≡ false → writes_stdout task.certificates ≡ true → WritesAll mid new (blocks_text task before)) → IsToldOf task input old new r told
+told_of task input old mid new before after r levels told leveled same alike read pipe quiet file certifies = record {
   answer = before;
   alike = subst (λ (x : Retimed). PrintsAlike x before) (sym same) alike;
-  read = read;
-  pipe = λ is. subst (λ (s : Output). AnswersPipe task input old s before) (sym (quiet is.map_aside is.alone)) (pipe is);
+  read = λ stdin. subst (AnswersInput task input before) (sym leveled) (read stdin);
+  pipe = λ is. subst (AnswersPipe task input old new before) (sym leveled)
+      (subst (λ (s : Output). AnswersPipe task input old s before levels) (sym (quiet is.map_aside is.alone)) (pipe is));
   certificates = λ elsewhere map_aside asked. subst (λ (s : Output). WritesAll s new (blocks_text task before)) (file elsewhere) (certifies map_aside asked);
 }
 
@@ -100,22 +131,23 @@ stays_quiet : (old mid new : Output) (result : Result Outcome Failure) → EndsA
 stays_quiet old mid new result aside = aside.quiet
 
 -- what is told of it is printed
-pub prints_retiming : (task : Retiming) (is_terminal : Bool) (input : Input) (old mid new shown told said : Output) (r : Retimed) (times : Option Times) (mapped : Option MapCounts) (result : Result Outcome Failure)
-    → IsToldOf task input old mid r → (takes_stdout task ≡ false → mid ≡ old) → (takes_stdout task ≡ true → EndsAside Done mid new result)
-    → (takes_stdout task ≡ true → SaysFrames task r times mapped shown told) → (takes_stdout task ≡ false → EndsPrintingFrames task.json task r times mapped mid new result)
+pub prints_retiming : (task : Retiming) (is_terminal : Bool) (input : Input) (old mid new shown told said : Output) (r : Retimed) (levels : Option ℕ) (times : Option Times) (mapped : Option MapCounts) (result : Result Outcome Failure)
+    → IsToldOf task input old mid r levels → (takes_stdout task ≡ false → mid ≡ old) → (takes_stdout task ≡ true → EndsAside Done mid new result)
+    → (takes_stdout task ≡ true → SaysFrames task r levels times mapped shown told) → (takes_stdout task ≡ false → EndsPrintingFrames task.json task r levels times mapped mid new result)
     → (is_terminal ≡ false → said ≡ told) → PrintsRetiming task is_terminal input old new said result
-prints_retiming task is_terminal input old mid new shown told said r times mapped result of before aside says frames still = record {
+prints_retiming task is_terminal input old mid new shown told said r levels times mapped result of before aside says frames still = record {
   retimed = of.answer;
+  levels = levels;
   times = times;
   mapped = mapped;
   read = of.read;
-  pipe = λ pipe. subst (λ (s : Output). AnswersPipe task input old s of.answer) (sym (stays_quiet mid mid new result (aside (pipe_takes_stdout task pipe)))) (of.pipe pipe);
+  pipe = λ pipe. subst (λ (s : Output). AnswersPipe task input old s of.answer levels) (sym (stays_quiet mid mid new result (aside (pipe_takes_stdout task pipe)))) (of.pipe pipe);
   certificates = λ elsewhere map_aside asked. subst (λ (s : Output). WritesAll old s (blocks_text task of.answer))
       (sym (stays_quiet mid mid new result (aside (certificates_take_stdout task asked)))) (of.certificates elsewhere map_aside asked);
-  printed = λ free. subst (λ (s : Output). EndsPrintingFrames task.json task of.answer times mapped s new result) (before free)
-      (frames_alike task.json task r of.answer times mapped mid new result of.alike (frames free));
+  printed = λ free. subst (λ (s : Output). EndsPrintingFrames task.json task of.answer levels times mapped s new result) (before free)
+      (frames_alike task.json task r of.answer levels times mapped mid new result of.alike (frames free));
   shown = shown;
-  aside = λ taken quiet. subst (SaysFrames task of.answer times mapped shown) (sym (still quiet)) (says_alike task r of.answer times mapped shown told of.alike (says taken));
+  aside = λ taken quiet. subst (SaysFrames task of.answer levels times mapped shown) (sym (still quiet)) (says_alike task r of.answer levels times mapped shown told of.alike (says taken));
 }
 
 -- what holds anyway holds where a result is there
@@ -124,12 +156,12 @@ if_done (Ok x) P p = p
 if_done (Err e) P p = tt
 
 -- so a pipe has its answer
-pub writes_pipe : {T E : Type 0} (task : Retiming) (input : Input) (old mid new : Output) (r : Retimed) (result : Result Outcome Failure) (ended : Result T E)
-    → IsToldOf task input old mid r → (takes_stdout task ≡ true → EndsAside Done mid new result) → IfOk ended (λ x. IsPipe task → WritesPipe task input old new)
-writes_pipe task input old mid new r result ended of aside =
+pub writes_pipe : {T E : Type 0} (task : Retiming) (input : Input) (old mid new : Output) (r : Retimed) (levels : Option ℕ) (result : Result Outcome Failure) (ended : Result T E)
+    → IsToldOf task input old mid r levels → (takes_stdout task ≡ true → EndsAside Done mid new result) → IfOk ended (λ x. IsPipe task → WritesPipe task input old new)
+writes_pipe task input old mid new r levels result ended of aside =
     let still : IsPipe task → new ≡ mid = λ pipe. stays_quiet mid mid new result (aside (pipe_takes_stdout task pipe)) in
     if_done ended (IsPipe task → WritesPipe task input old new)
-    (λ pipe. record { retimed = of.answer; answers = subst (λ (s : Output). AnswersPipe task input old s of.answer) (sym (still pipe)) (of.pipe pipe) })
+    (λ pipe. record { retimed = of.answer; levels = levels; answers = subst (λ (s : Output). AnswersPipe task input old s of.answer levels) (sym (still pipe)) (of.pipe pipe) })
 
 ends_aside : (old mid new : Output) (result : Result Outcome Failure) → EndsAside Done mid new result → Prints (ending result) old new
 ends_aside old mid new result aside = subst (λ (e : Outcome). Prints e old new) (sym aside.ends) tt

@@ -1,5 +1,5 @@
 -- From standard input to standard output.
-use Rattle.std.specs.Prelude.{◌≡◌, Bool, true, false, Option, Result}
+use Rattle.std.specs.Prelude.{ℕ, ◌≡◌, Bool, true, false, Option, Result}
 use Rattle.counted_io.specs.Input.{Input}
 use Rattle.counted_io.specs.Output.{Output, WritesAll}
 use Rattle.aig_binary.specs.Spellings.{text_in}
@@ -7,7 +7,7 @@ use Rattle.file_words.specs.declared.spelling.Spelling.{Spelling}
 use Rattle.aig_binary.specs.declared.reading.SpeltCircuit.{SpeltCircuit}
 use Rattle.aig_binary.specs.Ending.{Spells}
 use Rattle.retimed_circuits.specs.declared.report.Retimed.{Retimed}
-use Rattle.frames.specs.Answering.{IsAnswered}
+use Rattle.frames.specs.Answering.{IsAnswered, IsWritten}
 use Rattle.frames.specs.declared.options.Options.{Options}
 use Rattle.stream_paths.specs.Streams.{is_stdin, is_stdout}
 use Rattle.command_line.specs.StreamUses.{takes_stdout, writes_stdout}
@@ -18,7 +18,8 @@ use Rattle.json_reports.specs.declared.times.Times.{Times}
 use Rattle.json_reports.specs.declared.counts.MapCounts.{MapCounts}
 use Rattle.circuit_files.specs.declared.outcome.Outcome.{Outcome}
 use Rattle.circuit_files.specs.declared.outcome.Failure.{Failure}
-use Rattle.commands.specs.RetimingTasks.{AreOptionsOf, EndsPrintingFrames, PrintsAlike, SaysFrames}
+use Rattle.commands.specs.RetimingTasks.{AreOptionsOf, EndsPrintingFrames, PrintsAlike, SaysFrames, levels_told}
+use Rattle.commands.specs.declared.answer.Answer.{Answer}
 
 -- a retiming from standard input to standard output, which gets the circuit alone
 pub record IsPipe (task : Retiming) : Type 0 where
@@ -27,19 +28,33 @@ pub record IsPipe (task : Retiming) : Type 0 where
   pub alone : writes_stdout task.certificates ≡ false
   pub map_aside : writes_stdout task.map ≡ false
 
--- the answer by the options of the task, of the bytes that standard input had left, was written, and nothing else
-pub record AnswersPipe (task : Retiming) (input : Input) (old new : Output) (retimed : Retimed) : Type 0 where
+-- of a circuit that was read: its answer by the options was written, and nothing else, and its levels are told where that is asked for
+pub record IsAnswerTo (task : Retiming) (options : Options) (spelt : SpeltCircuit) (old new : Output) (answer : Answer) : Type 0 where
+  pub written : IsWritten options spelt old new answer.retimed
+  pub levels_are : answer.levels ≡ levels_told task spelt.circuit
+
+-- the same, wherever it was written
+pub record Answers (task : Retiming) (options : Options) (spelt : SpeltCircuit) (answer : Answer) : Type 0 where
+  pub before : Output
+  pub after : Output
+  pub to : IsAnswerTo task options spelt before after answer
+
+-- the answer by the options of the task, of the bytes that standard input had left, was written, and nothing else; the levels are those of
+-- the circuit of the bytes
+pub record AnswersPipe (task : Retiming) (input : Input) (old new : Output) (retimed : Retimed) (levels : Option ℕ) : Type 0 where
   pub options : Options
   pub are_options : AreOptionsOf task options
   pub answered : IsAnswered input old new options retimed
+  pub levels_are : levels ≡ levels_told task answered.spelt.circuit
 
--- the answer by the options of the task, of the bytes that standard input had left, wherever it was written
-pub record AnswersInput (task : Retiming) (input : Input) (retimed : Retimed) : Type 0 where
+-- the same, wherever it was written
+pub record AnswersInput (task : Retiming) (input : Input) (retimed : Retimed) (levels : Option ℕ) : Type 0 where
   pub options : Options
   pub are_options : AreOptionsOf task options
   pub before : Output
   pub after : Output
   pub answered : IsAnswered input before after options retimed
+  pub levels_are : levels ≡ levels_told task answered.spelt.circuit
 
 -- where nothing but the certificates of r goes to standard output, it was given their text
 abbrev pub Certifies : Retiming → Retimed → Output → Output → Type 0
@@ -48,30 +63,32 @@ Certifies task r old new =
     → WritesAll old new (certificates_text (record { choice = task.choice; blocks = r.certificates }))
 
 -- what is told of r is told of the answer of what the task reads, which standard output was given where it gets the circuit alone
-pub record IsToldOf (task : Retiming) (input : Input) (old new : Output) (r : Retimed) : Type 0 where
+pub record IsToldOf (task : Retiming) (input : Input) (old new : Output) (r : Retimed) (levels : Option ℕ) : Type 0 where
   pub answer : Retimed
   pub alike : PrintsAlike r answer
-  pub read : is_stdin task.input ≡ true → AnswersInput task input answer
-  pub pipe : IsPipe task → AnswersPipe task input old new answer
+  pub read : is_stdin task.input ≡ true → AnswersInput task input answer levels
+  pub pipe : IsPipe task → AnswersPipe task input old new answer levels
   pub certificates : Certifies task answer old new
 
 -- the retiming of what the task reads was printed: on standard output, or, where a circuit, a map or certificates went there, on standard
 -- error, of which a terminal is told more
 pub record PrintsRetiming (task : Retiming) (is_terminal : Bool) (input : Input) (old new said : Output) (result : Result Outcome Failure) : Type 0 where
   pub retimed : Retimed
+  pub levels : Option ℕ
   pub times : Option Times
   pub mapped : Option MapCounts
-  pub read : is_stdin task.input ≡ true → AnswersInput task input retimed
-  pub pipe : IsPipe task → AnswersPipe task input old new retimed
+  pub read : is_stdin task.input ≡ true → AnswersInput task input retimed levels
+  pub pipe : IsPipe task → AnswersPipe task input old new retimed levels
   pub certificates : Certifies task retimed old new
-  pub printed : takes_stdout task ≡ false → EndsPrintingFrames task.json task retimed times mapped old new result
+  pub printed : takes_stdout task ≡ false → EndsPrintingFrames task.json task retimed levels times mapped old new result
   pub shown : Output
-  pub aside : takes_stdout task ≡ true → is_terminal ≡ false → SaysFrames task retimed times mapped shown said
+  pub aside : takes_stdout task ≡ true → is_terminal ≡ false → SaysFrames task retimed levels times mapped shown said
 
 -- that is so of some retiming
 pub record WritesPipe (task : Retiming) (input : Input) (old new : Output) : Type 0 where
   pub retimed : Retimed
-  pub answers : AnswersPipe task input old new retimed
+  pub levels : Option ℕ
+  pub answers : AnswersPipe task input old new retimed levels
 
 -- the circuit of the bytes that standard input had left was written, in the chosen spelling, else in the one that wasn't read
 pub record ConvertsPipe (chosen : Option Spelling) (input : Input) (old new : Output) : Type 0 where

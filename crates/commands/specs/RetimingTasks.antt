@@ -1,5 +1,5 @@
 -- What the task of a retiming makes of its options, of an error, and of a retiming.
-use Rattle.std.specs.Prelude.{ℕ, ◌≡◌, ◌||◌, Bool, true, false, List, Option, Some, None, Result, is_some, map, length, nat_lt, slice_get}
+use Rattle.std.specs.Prelude.{ℕ, ◌≡◌, ◌||◌, Bool, true, false, List, Option, Some, None, Result, is_some, map, length, nat_lt, slice_get, if◌then◌else◌}
 use Rattle.std.specs.Borrow.{Bor}
 use Rattle.aig_graph.specs.Circuits.{Netlist}
 use Rattle.stream_paths.specs.Streams.{target_name}
@@ -11,6 +11,7 @@ use Rattle.frames.specs.declared.errors.BytesError.TheVariants.{Read, Retime, Wr
 use Rattle.frames.specs.declared.errors.RetimeError.TheVariants.{NoMemory, NoSuchName}
 use Rattle.counted_io.specs.Output.{Output}
 use Rattle.retimed_circuits.specs.declared.report.Retimed.{Retimed}
+use Rattle.circuit_counts.specs.Levels.{levels}
 use Rattle.circuit_counts.specs.Remaining.{remaining}
 use Rattle.circuit_counts.specs.declared.remaining.Remaining.{Remaining}
 use Rattle.reports.specs.Retimings.{retiming_text}
@@ -53,6 +54,10 @@ HasFailed (Some target) failure = (outcome_of failure ≡ Device) × IsAbout (ta
 abbrev pub remaining_of : Retiming → Retimed → Remaining
 remaining_of task r = remaining r.circuit (map (λ name. name.now) task.keep.items) (nat_lt (length r.frames) task.frames)
 
+-- the levels of the circuit that is read, which an object tells
+abbrev pub levels_told : Retiming → Netlist → Option ℕ
+levels_told task c = if task.json then Some (levels c) else None
+
 -- the failure of a run that makes a map: that of the answer, or the map is refused
 abbrev pub IsMappedFailureOf : Retiming → MappedError → Failure → Type 0
 IsMappedFailureOf task (Answer error) failure = IsFailureOf task error failure
@@ -63,16 +68,16 @@ abbrev pub counts_of : Netlist → MapCounts
 counts_of m = record { gates = length m.aig.gates; constraints = length m.props.constraints }
 
 -- how printing a retiming ends, as an object of JSON where that is asked for, else in lines
-abbrev pub EndsPrintingFrames : Bool → Retiming → Retimed → Option Times → Option MapCounts → Output → Output → Result Outcome Failure → Type 0
-EndsPrintingFrames true task r times mapped old new result = EndsPrintingObject Done (retiming_data r (remaining_of task r) times mapped) old new result
-EndsPrintingFrames false task r times mapped old new result = EndsPrinting Done (retiming_text r) old new result
+abbrev pub EndsPrintingFrames : Bool → Retiming → Retimed → Option ℕ → Option Times → Option MapCounts → Output → Output → Result Outcome Failure → Type 0
+EndsPrintingFrames true task r levels times mapped old new result = EndsPrintingObject Done (retiming_data r levels (remaining_of task r) times mapped) old new result
+EndsPrintingFrames false task r levels times mapped old new result = EndsPrinting Done (retiming_text r) old new result
 
 -- so it was printed where nobody asks how that ended
-pub record SaysFrames (task : Retiming) (r : Retimed) (times : Option Times) (mapped : Option MapCounts) (old new : Output) : Type 0 where
+pub record SaysFrames (task : Retiming) (r : Retimed) (levels : Option ℕ) (times : Option Times) (mapped : Option MapCounts) (old new : Output) : Type 0 where
   pub ended : Result Outcome Failure
-  pub prints : EndsPrintingFrames task.json task r times mapped old new ended
+  pub prints : EndsPrintingFrames task.json task r levels times mapped old new ended
 
 -- what is printed of it is the same, certificates or none
 abbrev pub PrintsAlike : Retimed → Retimed → Type 0
 PrintsAlike r s = (retiming_text r ≡ retiming_text s)
-    × ((task : Retiming) (times : Option Times) (mapped : Option MapCounts) → retiming_data r (remaining_of task r) times mapped ≡ retiming_data s (remaining_of task s) times mapped)
+    × ((task : Retiming) (levels : Option ℕ) (times : Option Times) (mapped : Option MapCounts) → retiming_data r levels (remaining_of task r) times mapped ≡ retiming_data s levels (remaining_of task s) times mapped)

@@ -1,24 +1,27 @@
-//! From the bytes that `retime` reads to the circuit that it writes, with a map of states where one is asked for.
+//! From the circuit that `retime` reads to the one that it writes, with a map of states where one is asked for.
 ghost use Rattle.std.specs.Prelude.{◌≡◌, ◌<◌, ◌≤◌, true, false, IfErr, IfOk, option_map};
 ghost use Rattle.aig_binary.specs.Spellings.{text_in};
 ghost use Rattle.counted_io.specs.Output.{Writes};
 ghost use Rattle.stream_paths.specs.Streams.{is_stdout};
-ghost use Rattle.frames.specs.Answering.{IsAnswered};
-ghost use Rattle.mapped_answers.specs.Mapping.{IsMapped, IsMappedError};
+ghost use Rattle.frames.specs.Answering.{IsWritten};
+ghost use Rattle.mapped_answers.specs.Mapping.{IsMappedOf, IsMappingStop};
 ghost use Rattle.circuit_files.specs.Outcomes.{outcome_of};
 ghost use Rattle.command_line.specs.StreamUses.{writes_stdout};
 ghost use Rattle.command_endings.specs.Printing.{Prints};
-ghost use Rattle.commands.specs.RetimingTasks.{AreOptionsOf, HasFailed, IsFailureOf, IsMappedFailureOf, counts_of};
+ghost use Rattle.commands.specs.Pipes.{IsAnswerTo};
+ghost use Rattle.commands.specs.RetimingTasks.{AreOptionsOf, HasFailed, IsFailureOf, IsMappedFailureOf, counts_of, levels_told};
 
 use aig_binary::{SpeltCircuit, write};
+use aig_graph::{Circuit, NoMemory};
+use circuit_counts::levels;
 use circuit_files::{Failure, LazyFile};
 use command_endings::missing_name;
 use command_line::Retiming;
-use counted_io::{Counted, CountedRead, CountedWrite, WriteError};
+use counted_io::{Counted, CountedWrite, WriteError};
 use file_words::ReadError;
-use frames::{BytesError, FrameWatcher, Options, RetimeError, Retimed, retime_bytes_watched};
+use frames::{BytesError, FrameWatcher, Options, RetimeError, Retimed, retime_spelt};
 use json_reports::MapCounts;
-use mapped_answers::{Mapped, MappedError, retime_bytes_mapped};
+use mapped_answers::{Mapped, MappedError, retime_spelt_mapped};
 use pulse::{Crew, OpenGate};
 use std::alloc::Global;
 use std::rt::Files;
@@ -28,10 +31,11 @@ use stream_paths::Target;
 /// The most workers of a crew.
 const MOST_WORKERS: u32 = 64;
 
-/// A retiming whose circuit is written, and its map where one is asked for.
+/// A retiming whose circuit is written, the levels of the circuit that was read, where they are told, and its map where one is asked for.
 #[derive(Drop)]
 pub(crate) struct Answer {
     pub retimed: Retimed,
+    pub levels: Option<u32>,
     pub map: Option<SpeltCircuit>,
 }
 
@@ -65,55 +69,72 @@ fn failure_of_mapped<'a>(error: MappedError, task: &Retiming<'a>, map: Target<'a
     }
 }
 
-/// The answer without a map.
-fn plain_between<'a, R: Threads + Sync, I: CountedRead, W: CountedWrite, V: FrameWatcher>(
+/// The levels of the circuit that was read, where they are told.
+fn levels_for(
+    alloc: Global,
+    circuit: &Circuit,
+    task: &Retiming<'_>,
+) -> Result<Option<u32>, NoMemory>
+    ensures { IfOk result (λ told. told ≡ levels_told task.now circuit.now) }
+{
+    if task.json {
+        Ok(Some(levels(alloc, circuit)?))
+    } else {
+        Ok(None)
+    }
+}
+
+/// The circuit that was read, retimed and written without a map.
+fn plain_to<'a, R: Threads + Sync, W: CountedWrite, V: FrameWatcher>(
     rt: &R,
     alloc: Global,
     task: &Retiming<'a>,
     options: &Options,
-    reader: &mut I,
+    spelt: SpeltCircuit,
     writer: &mut W,
     watcher: &mut V,
-) -> Result<Answer, Failure<'a>>
-    ensures answer { IfOk result (λ answer. IsAnswered (I.input reader.old) (W.output writer.old)
-        (W.output writer.new) options.now answer.retimed) }
+) -> Result<Retimed, Failure<'a>>
+    ensures written { IfOk result (IsWritten options.now spelt (W.output writer.old)
+        (W.output writer.new)) }
     ensures prints { IfErr result (λ failure. Prints (outcome_of failure) (W.output writer.old)
         (W.output writer.new)) }
 {
     let crew = crew(task);
-    match retime_bytes_watched(rt, alloc, reader, writer, options, &crew, watcher) {
-        Ok(retimed) => Ok(Answer { retimed, map: None }),
+    match retime_spelt(rt, alloc, spelt, writer, options, &crew, watcher) {
+        Ok(retimed) => Ok(retimed),
         Err(error) => Err(failure_of(error, task)),
     }
 }
 
-/// The answer with its map.
-fn mapped_between<R: Threads + Sync, I: CountedRead, W: CountedWrite, V: FrameWatcher>(
+/// The same with its map.
+fn mapped_to<R: Threads + Sync, W: CountedWrite, V: FrameWatcher>(
     rt: &R,
     alloc: Global,
     task: &Retiming<'_>,
     options: &Options,
-    reader: &mut I,
+    spelt: SpeltCircuit,
     writer: &mut W,
     watcher: &mut V,
 ) -> Result<Mapped, MappedError>
     requires merge { options.now.merge ≡ false }
-    ensures ok { IfOk result (IsMapped (I.input reader.old) (W.output writer.old)
-        (W.output writer.new) options.now) }
-    ensures err { IfErr result (IsMappedError options.now (I.input reader.old) (I.input reader.new)
-        (W.output writer.old) (W.output writer.new)) }
+    ensures ok { IfOk result (IsMappedOf options.now spelt (W.output writer.old)
+        (W.output writer.new)) }
+    ensures err { IfErr result (IsMappingStop options.now spelt (W.output writer.old)
+        (W.output writer.new)) }
 {
     let crew = crew(task);
-    retime_bytes_mapped(rt, alloc, reader, writer, options, &crew, watcher)
+    retime_spelt_mapped(rt, alloc, spelt, writer, options, &crew, watcher)
 }
 
 /// A retiming with its map, as an answer.
-fn answer_of(mapped: Mapped) -> Answer
-    ensures { result.retimed ≡ mapped.retimed }
+fn answer_of(mapped: Mapped, levels: Option<u32>) -> Answer
+    ensures retimed { result.retimed ≡ mapped.retimed }
+    ensures levels { result.levels ≡ levels }
 {
     let Mapped { retimed, map } = mapped;
     Answer {
         retimed,
+        levels,
         map: Some(map),
     }
 }
@@ -139,37 +160,40 @@ pub(crate) fn map_counts(answer: &Answer) -> Option<MapCounts>
     }
 }
 
-/// Reads the circuit from the one, and writes it, retimed, to the other. No map is made where latches are merged: a command line
-/// doesn't ask for both.
-pub(crate) fn retime_between<
-    'a,
-    R: Threads + Sync,
-    I: CountedRead,
-    W: CountedWrite,
-    V: FrameWatcher,
->(
+/// Writes the circuit that was read, retimed, and tells its levels where the task asks for them. No map is made where latches are merged:
+/// a command line doesn't ask for both.
+pub(crate) fn retime_to<'a, R: Threads + Sync, W: CountedWrite, V: FrameWatcher>(
     rt: &R,
     alloc: Global,
     task: &Retiming<'a>,
     options: &Options,
-    reader: &mut I,
+    spelt: SpeltCircuit,
     writer: &mut W,
     watcher: &mut V,
 ) -> Result<Answer, Failure<'a>>
     requires { AreOptionsOf task.now options.now }
-    ensures answer { IfOk result (λ answer. IsAnswered (I.input reader.old) (W.output writer.old)
-        (W.output writer.new) options.now answer.retimed) }
+    ensures answer { IfOk result (IsAnswerTo task.now options.now spelt (W.output writer.old)
+        (W.output writer.new)) }
     ensures prints { IfErr result (λ failure. Prints (outcome_of failure) (W.output writer.old)
         (W.output writer.new)) }
 {
+    let Ok(levels) = levels_for(alloc, &spelt.circuit, task) else {
+        drop(spelt);
+        return Err(Failure::Memory);
+    };
     match (task.map, task.merge) {
-        (Some(map), false) => {
-            match mapped_between(rt, alloc, task, options, reader, writer, watcher) {
-                Ok(mapped) => Ok(answer_of(mapped)),
-                Err(error) => Err(failure_of_mapped(error, task, map)),
-            }
-        }
-        _ => plain_between(rt, alloc, task, options, reader, writer, watcher),
+        (Some(map), false) => match mapped_to(rt, alloc, task, options, spelt, writer, watcher) {
+            Ok(mapped) => Ok(answer_of(mapped, levels)),
+            Err(error) => Err(failure_of_mapped(error, task, map)),
+        },
+        _ => match plain_to(rt, alloc, task, options, spelt, writer, watcher) {
+            Ok(retimed) => Ok(Answer {
+                retimed,
+                levels,
+                map: None,
+            }),
+            Err(failure) => Err(failure),
+        },
     }
 }
 

@@ -2,21 +2,21 @@
 ghost use Rattle.std.specs.Prelude.{◌≡◌, ◌⊎◌, true, false, IfErr, IfOk, OnOk};
 ghost use Rattle.counted_io.specs.Output.{Writes, WritesAll};
 ghost use Rattle.certificate_files.specs.Texts.{file_text};
-ghost use Rattle.frames.specs.Answering.{IsAnswered};
 ghost use Rattle.stream_paths.specs.Streams.{is_stdin, is_stdout};
 ghost use Rattle.command_line.specs.StreamUses.{takes_stdout, writes_stdout};
 ghost use Rattle.circuit_files.specs.Outcomes.{outcome_of};
 ghost use Rattle.circuit_files.specs.declared.outcome.Outcome.TheVariants.{Done};
-ghost use Rattle.commands.specs.Pipes.{AnswersInput, AnswersPipe, IsPipe, IsToldOf, PrintsRetiming, WritesPipe};
+ghost use Rattle.commands.specs.Pipes.{Answers, AnswersInput, AnswersPipe, IsAnswerTo, IsPipe, IsToldOf, PrintsRetiming, WritesPipe};
 ghost use Rattle.command_endings.specs.Printing.{EndsAside, Prints, ending};
 ghost use Rattle.commands.specs.RetimingTasks.{AreOptionsOf, EndsPrintingFrames, HasFailed, PrintsAlike, SaysFrames, remaining_of};
 
-use crate::answer::{Answer, map_counts, map_written, retime_between, retimed_of};
+use crate::answer::{Answer, map_counts, map_written, retime_to, retimed_of};
+use aig_binary::SpeltCircuit;
 use aig_graph::{NoMemory, Sequence};
 use certificate_files::{CertFile, Choice, write_cert};
 use certificates::Certificate;
 use circuit_counts::Remaining;
-use circuit_files::{Failure, LazyFile, Outcome, opened};
+use circuit_files::{Failure, LazyFile, Outcome, circuit_at};
 use command_endings::{bytes_of_names, ended};
 use command_line::{Retiming, Shown};
 use counted_io::{Counted, CountedRead, CountedWrite, WriteError};
@@ -29,7 +29,7 @@ use std::mem;
 use std::rt::Files;
 use std::thread::Threads;
 use std::time::Clock;
-use stream_paths::{Source, Target};
+use stream_paths::Target;
 
 fn options(alloc: Global, task: &Retiming<'_>) -> Result<Options, AllocError>
     ensures { IfOk result (AreOptionsOf task.now) }
@@ -44,37 +44,35 @@ fn options(alloc: Global, task: &Retiming<'_>) -> Result<Options, AllocError>
     })
 }
 
-/// Reads what the task reads.
-fn retime_input<'a, R: Files + Threads + Sync, I: CountedRead, W: CountedWrite, V: FrameWatcher>(
+/// Writes the circuit that was read, retimed, to what the task writes.
+fn retime_by<'a, R: Files + Threads + Sync, O: CountedWrite, V: FrameWatcher>(
     rt: &R,
     alloc: Global,
     task: &Retiming<'a>,
     options: &Options,
-    stdin: &mut I,
-    writer: &mut W,
+    spelt: SpeltCircuit,
+    out: &mut O,
     watcher: &mut V,
 ) -> Result<Answer, Failure<'a>>
     requires { AreOptionsOf task.now options.now }
-    ensures answer { IfOk result (λ answer. is_stdin task.now.input ≡ true
-        → IsAnswered (I.input stdin.old) (W.output writer.old)
-        (W.output writer.new) options.now answer.retimed) }
-    ensures prints { IfErr result (λ failure. Prints (outcome_of failure) (W.output writer.old)
-        (W.output writer.new)) }
+    ensures answer { IfOk result (λ answer. IsPipe task.now
+        → IsAnswerTo task.now options.now spelt (O.output out.old) (O.output out.new) answer) }
+    ensures read { IfOk result (Answers task.now options.now spelt) }
+    ensures file { is_stdout task.now.output ≡ false → O.output out.new ≡ O.output out.old }
+    ensures prints { IfErr result (λ failure. Prints (outcome_of failure) (O.output out.old)
+        (O.output out.new)) }
 {
-    match task.input {
-        Source::Stdin => retime_between(rt, alloc, task, options, stdin, writer, watcher),
-        Source::File(path) => match opened(rt, path) {
-            Ok(file) => {
-                let mut reader = Counted::new(file);
-                retime_between(rt, alloc, task, options, &mut reader, writer, watcher)
-            }
-            Err(failure) => Err(failure),
-        },
+    match task.output {
+        Target::Stdout => retime_to(rt, alloc, task, options, spelt, out, watcher),
+        Target::File(path) => {
+            let mut writer = Counted::new(LazyFile::new(rt, path));
+            retime_to(rt, alloc, task, options, spelt, &mut writer, watcher)
+        }
     }
 }
 
-/// Reads what the task reads, and writes what it writes.
-fn retime_by<'a, R: Files + Threads + Sync, I: CountedRead, O: CountedWrite, V: FrameWatcher>(
+/// Reads what the task reads, and writes it, retimed, to what it writes.
+fn retime_read<'a, R: Files + Threads + Sync, I: CountedRead, O: CountedWrite, V: FrameWatcher>(
     rt: &R,
     alloc: Global,
     task: &Retiming<'a>,
@@ -84,21 +82,17 @@ fn retime_by<'a, R: Files + Threads + Sync, I: CountedRead, O: CountedWrite, V: 
     watcher: &mut V,
 ) -> Result<Answer, Failure<'a>>
     requires { AreOptionsOf task.now options.now }
-    ensures answer { IfOk result (λ answer. IsPipe task.now
-        → IsAnswered (I.input stdin.old) (O.output out.old)
-        (O.output out.new) options.now answer.retimed) }
+    ensures answer { IfOk result (λ answer. IsPipe task.now → AnswersPipe task.now
+        (I.input stdin.old) (O.output out.old) (O.output out.new) answer.retimed answer.levels) }
     ensures read { IfOk result (λ answer. is_stdin task.now.input ≡ true
-        → AnswersInput task.now (I.input stdin.old) answer.retimed) }
+        → AnswersInput task.now (I.input stdin.old) answer.retimed answer.levels) }
     ensures file { is_stdout task.now.output ≡ false → O.output out.new ≡ O.output out.old }
     ensures prints { IfErr result (λ failure. Prints (outcome_of failure) (O.output out.old)
         (O.output out.new)) }
 {
-    match task.output {
-        Target::Stdout => retime_input(rt, alloc, task, options, stdin, out, watcher),
-        Target::File(path) => {
-            let mut writer = Counted::new(LazyFile::new(rt, path));
-            retime_input(rt, alloc, task, options, stdin, &mut writer, watcher)
-        }
+    match circuit_at(rt, alloc, task.input, stdin) {
+        Ok(spelt) => retime_by(rt, alloc, task, options, spelt, out, watcher),
+        Err(failure) => Err(failure),
     }
 }
 
@@ -111,15 +105,15 @@ fn retimed<'a, R: Files + Threads + Sync, I: CountedRead, O: CountedWrite, V: Fr
     watcher: &mut V,
 ) -> Result<Answer, Failure<'a>>
     ensures answer { IfOk result (λ answer. IsPipe task.now → AnswersPipe task.now
-        (I.input stdin.old) (O.output out.old) (O.output out.new) answer.retimed) }
+        (I.input stdin.old) (O.output out.old) (O.output out.new) answer.retimed answer.levels) }
     ensures read { IfOk result (λ answer. is_stdin task.now.input ≡ true
-        → AnswersInput task.now (I.input stdin.old) answer.retimed) }
+        → AnswersInput task.now (I.input stdin.old) answer.retimed answer.levels) }
     ensures file { is_stdout task.now.output ≡ false → O.output out.new ≡ O.output out.old }
     ensures prints { IfErr result (λ failure. Prints (outcome_of failure) (O.output out.old)
         (O.output out.new)) }
 {
     match options(alloc, task) {
-        Ok(options) => retime_by(rt, alloc, task, &options, stdin, out, watcher),
+        Ok(options) => retime_read(rt, alloc, task, &options, stdin, out, watcher),
         Err(_) => Err(Failure::Memory),
     }
 }
@@ -202,16 +196,19 @@ fn write_beside<'a, R: Files, O: CountedWrite>(
           blocks = answer.old.retimed.certificates;
         }))) }
     ensures frames { PrintsAlike answer.new.retimed answer.old.retimed }
+    ensures levels { answer.new.levels ≡ answer.old.levels }
     ensures err { IfErr result (λ failure. HasFailed task.now.map failure ⊎ HasFailed task.now.certificates failure) }
 {
     map_written(rt, task, answer, out)?;
     certify(rt, alloc, task, &mut answer.retimed, out)
 }
 
-/// A retiming, how long its parts took, where that was measured, and what its map has, where one is written.
+/// A retiming, the levels of the circuit that was read, where they are told, how long the parts of the run took, where that was measured,
+/// and what its map has, where one is written.
 #[derive(Drop)]
 struct Timed {
     retimed: Retimed,
+    levels: Option<u32>,
     times: Option<Times>,
     map: Option<MapCounts>,
 }
@@ -233,7 +230,7 @@ fn certified<
     err: &mut E,
 ) -> Result<Timed, Failure<'a>>
     ensures told { IfOk result (λ timed. IsToldOf task.now (I.input stdin.old)
-        (O.output out.old) (O.output out.new) timed.retimed) }
+        (O.output out.old) (O.output out.new) timed.retimed timed.levels) }
     ensures file { takes_stdout task.now ≡ false → O.output out.new ≡ O.output out.old }
     ensures prints { IfErr result (λ failure. Prints (outcome_of failure) (O.output out.old)
         (O.output out.new)) }
@@ -244,9 +241,11 @@ fn certified<
     let mut answer = ended?;
     write_beside(rt, alloc, task, &mut answer, out)?;
     let map = map_counts(&answer);
+    let levels = answer.levels;
     let retimed = retimed_of(answer);
     Ok(Timed {
         retimed,
+        levels,
         times,
         map,
     })
@@ -268,13 +267,21 @@ fn print_object<'a, W: CountedWrite>(
     timed: &Timed,
     writer: &mut W,
 ) -> Result<Outcome, Failure<'a>>
-    ensures { EndsPrintingFrames true task.now timed.now.retimed timed.now.times timed.now.map
-        (W.output writer.old) (W.output writer.new) result }
+    ensures { EndsPrintingFrames true task.now timed.now.retimed timed.now.levels timed.now.times
+        timed.now.map (W.output writer.old) (W.output writer.new) result }
 {
     match remaining(alloc, task, &timed.retimed) {
         Ok(left) => {
             let times = timed.times.as_ref();
-            command_objects::print_retiming(alloc, &timed.retimed, &left, times, timed.map, writer)
+            command_objects::print_retiming(
+                alloc,
+                &timed.retimed,
+                timed.levels,
+                &left,
+                times,
+                timed.map,
+                writer,
+            )
         }
         Err(_) => Err(Failure::Memory),
     }
@@ -288,8 +295,8 @@ fn print_as<'a, W: CountedWrite>(
     json: bool,
     writer: &mut W,
 ) -> Result<Outcome, Failure<'a>>
-    ensures frames { EndsPrintingFrames json task.now timed.now.retimed timed.now.times timed.now.map
-        (W.output writer.old) (W.output writer.new) result }
+    ensures frames { EndsPrintingFrames json task.now timed.now.retimed timed.now.levels
+        timed.now.times timed.now.map (W.output writer.old) (W.output writer.new) result }
     ensures prints { Prints (ending result) (W.output writer.old) (W.output writer.new) }
 {
     if json {
@@ -328,9 +335,10 @@ fn print_frames<'a, O: CountedWrite, E: CountedWrite>(
     ensures aside { takes_stdout task.now ≡ true
         → EndsAside Done (O.output out.old) (O.output out.new) result }
     ensures says { takes_stdout task.now ≡ true → SaysFrames task.now timed.now.retimed
-        timed.now.times timed.now.map (E.output err.old) (E.output err.new) }
+        timed.now.levels timed.now.times timed.now.map (E.output err.old) (E.output err.new) }
     ensures frames { takes_stdout task.now ≡ false → EndsPrintingFrames task.now.json task.now
-        timed.now.retimed timed.now.times timed.now.map (O.output out.old) (O.output out.new) result }
+        timed.now.retimed timed.now.levels timed.now.times timed.now.map (O.output out.old)
+        (O.output out.new) result }
     ensures prints { takes_stdout task.now ≡ false
         → Prints (ending result) (O.output out.old) (O.output out.new) }
 {

@@ -44,8 +44,13 @@ fn in_range(circuit: &Circuit)
     circuit.known();
 }
 
-/// Retimes the circuit that was read, and writes it. Over the frames only its spelling is kept.
-fn retime_spelt<W: CountedWrite, G: PhaseGate, V: FrameWatcher>(
+/// Retimes a circuit that was read, and writes it: what [`retime_bytes_watched`] does once it has read. Over the frames only the
+/// circuit's spelling is kept.
+///
+/// # Errors
+///
+/// Those of [`retime_bytes`], but for those of reading.
+pub fn retime_spelt<W: CountedWrite, G: PhaseGate, V: FrameWatcher>(
     rt: &(impl Threads + Sync),
     alloc: Global,
     spelt: SpeltCircuit,

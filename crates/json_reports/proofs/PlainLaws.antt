@@ -113,9 +113,9 @@ plain-map : (counts : MapCounts) → Plain 3 (map_data counts)
 plain-map counts = record { whole = refl; nests = omega arith }
 
 -- of a retiming
-pub retiming : (r : Retimed) (left : Remaining) (times : Option Times) (mapped : Option MapCounts) → IsPlain (retiming_data r left times mapped)
-retiming r left times mapped =
-    is_plain {n = 4} (omega arith) (plain-object (plain-member (plain-circuit left.counts) (plain-member record { whole = refl; nests = omega arith }
+pub retiming : (r : Retimed) (levels : Option ℕ) (left : Remaining) (times : Option Times) (mapped : Option MapCounts) → IsPlain (retiming_data r levels left times mapped)
+retiming r levels left times mapped =
+    is_plain {n = 4} (omega arith) (plain-object (plain-member (plain-circuit left.counts) (plain-member (plain-object (plain-member (plain-count r.read_latches) (plain-member (plain-or_null count plain-count levels) plain-none)))
     (plain-member (plain-string _) (plain-member (plain-array frame_data r.frames plain-frame) (plain-member (plain-array count r.kept_free plain-count) (plain-member record { whole = refl; nests = omega arith }
     (plain-member (plain-or_null map_data plain-map mapped) (plain-member (plain-or_null merge_data plain-merge r.merged) (plain-member (plain-or_null times_data plain-times times) (plain-member (plain-count 0) plain-none)))))))))))
 

@@ -15,9 +15,9 @@ use Rattle.json_reports.specs.declared.times.Times.{Times}
 abbrev pub frame_data : FrameReport → Data
 frame_data f = object (member (codes "after") (count f.after) (member (codes "before") (count f.before) (member (codes "gates") (count f.moved) no_members)))
 
--- all latches of the circuit that was read
-abbrev pub before_data : ℕ → Data
-before_data latches = object (member (codes "latches") (count latches) no_members)
+-- all latches of the circuit that was read, and its levels, where they were counted
+abbrev pub before_data : ℕ → Option ℕ → Data
+before_data latches levels = object (member (codes "latches") (count latches) (member (codes "levels") (or_null count levels) no_members))
 
 -- how many latches stay and for what, how many gates are passable, and whether no set of gates leaves fewer latches
 abbrev pub held_back_data : HeldBack → Bool → Data
@@ -28,10 +28,10 @@ held_back_data h is_least =
     (member (codes "passable") (count h.passable)
     (member (codes "read_elsewhere") (count h.read_elsewhere) no_members)))))
 
-abbrev pub retiming_data : Retimed → Remaining → Option Times → Option MapCounts → Data
-retiming_data r left times mapped =
+abbrev pub retiming_data : Retimed → Option ℕ → Remaining → Option Times → Option MapCounts → Data
+retiming_data r levels left times mapped =
     object (member (codes "after") (circuit_data left.counts)
-    (member (codes "before") (before_data r.read_latches)
+    (member (codes "before") (before_data r.read_latches levels)
     (member (codes "command") (string (codes "retime"))
     (member (codes "frames") (array_of frame_data r.frames)
     (member (codes "free_kept") (array_of count r.kept_free)

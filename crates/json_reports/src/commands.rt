@@ -34,16 +34,17 @@ use std::alloc::Global;
 pub fn print_retiming<W: CountedWrite>(
     alloc: Global,
     retimed: &Retimed,
+    levels: Option<u32>,
     remaining: &Remaining,
     times: Option<&Times>,
     map: Option<MapCounts>,
     writer: &mut W,
 ) -> Result<(), PrintError>
     ensures { PrintsLine
-        (retiming_data retimed.now remaining.now (option_map (λ t. t.now) times.entry) map)
+        (retiming_data retimed.now levels remaining.now (option_map (λ t. t.now) times.entry) map)
         (W.output writer.old) (W.output writer.new) result }
 {
-    let object = retiming_object(alloc, retimed, remaining, times, map)?;
+    let object = retiming_object(alloc, retimed, levels, remaining, times, map)?;
     print_object(alloc, &object, writer)
 }
 

@@ -2,7 +2,7 @@
 ghost use Rattle.std.specs.Prelude.{◌≡◌, IfOk, OnOk, option_map};
 ghost use Rattle.serde_json.specs.Data.{no_members, object};
 ghost use Rattle.serde_json.specs.View.{members_view, view};
-ghost use Rattle.json_reports.specs.Members.{array_of, count};
+ghost use Rattle.json_reports.specs.Members.{array_of, count, or_null};
 ghost use Rattle.json_reports.specs.Retimings.{before_data, frame_data, held_back_data, retiming_data};
 
 use crate::counts::{MapCounts, circuit_object, map_value, merged_value};
@@ -40,10 +40,21 @@ fn numbers_array(alloc: Global, numbers: &[u32]) -> Result<Value, AllocError>
     Ok(Value::Array(list))
 }
 
-fn before_object(alloc: Global, latches: u32) -> Result<Value, AllocError>
-    ensures { IfOk result (λ v. view v ≡ before_data latches) }
+/// A number, or null where there is none.
+fn number_or_null(number: Option<u32>) -> Value
+    ensures { view result ≡ or_null count number }
 {
-    json!(in alloc; {"latches": latches})
+    match number {
+        Some(number) => Value::from(number),
+        None => Value::Null,
+    }
+}
+
+fn before_object(alloc: Global, latches: u32, levels: Option<u32>) -> Result<Value, AllocError>
+    ensures { IfOk result (λ v. view v ≡ before_data latches levels) }
+{
+    let levels = number_or_null(levels);
+    json!(in alloc; {"latches": latches, "levels": levels})
 }
 
 fn held_back_object(
@@ -71,13 +82,14 @@ fn put_retiming(
     members: &mut Map<String, Value>,
     alloc: Global,
     retimed: &Retimed,
+    levels: Option<u32>,
     remaining: &Remaining,
     times: Option<&Times>,
     map: Option<MapCounts>,
 ) -> Result<(), AllocError>
     ensures { OnOk result (members_view members.old.entries ≡ no_members
         → object (members_view members.new.entries)
-        ≡ retiming_data retimed.now remaining.now (option_map (λ t. t.now) times.entry) map) }
+        ≡ retiming_data retimed.now levels remaining.now (option_map (λ t. t.now) times.entry) map) }
 {
     let frames = retimed.frames.as_slice();
     let free_kept = retimed.kept_free.as_slice();
@@ -91,7 +103,7 @@ fn put_retiming(
         members,
         alloc,
         "before",
-        before_object(alloc, retimed.read_latches)?,
+        before_object(alloc, retimed.read_latches, levels)?,
     )?;
     put_text(members, alloc, "command", "retime")?;
     serde_json::put(members, alloc, "frames", frames_array(alloc, frames)?)?;
@@ -119,7 +131,7 @@ fn put_retiming(
     Ok(())
 }
 
-/// What `retime` prints: each frame, what the written circuit has and why no more latches go, the places of the free latches that
+/// What `retime` prints: each frame, the levels of the circuit that was read, what the written one has and why no more latches go, the places of the free latches that
 /// stayed among those of the circuit that was read, what the map of states has and how many latches were merged, where these were asked
 /// for, and how long the parts of the run took, where that was measured.
 ///
@@ -129,14 +141,15 @@ fn put_retiming(
 pub fn retiming_object(
     alloc: Global,
     retimed: &Retimed,
+    levels: Option<u32>,
     remaining: &Remaining,
     times: Option<&Times>,
     map: Option<MapCounts>,
 ) -> Result<Value, AllocError>
     ensures { IfOk result (λ v. view v
-        ≡ retiming_data retimed.now remaining.now (option_map (λ t. t.now) times.entry) map) }
+        ≡ retiming_data retimed.now levels remaining.now (option_map (λ t. t.now) times.entry) map) }
 {
     let mut members = Map::new(alloc);
-    put_retiming(&mut members, alloc, retimed, remaining, times, map)?;
+    put_retiming(&mut members, alloc, retimed, levels, remaining, times, map)?;
     Ok(Value::Object(members))
 }

@@ -64,8 +64,12 @@ fn write_made<W: CountedWrite>(
     }
 }
 
-/// Retimes the circuit that was read, makes its map, and writes it.
-fn mapped_spelt<W: CountedWrite, G: PhaseGate, V: FrameWatcher>(
+/// Retimes a circuit that was read, makes its map, and writes it: what [`retime_bytes_mapped`] does once it has read.
+///
+/// # Errors
+///
+/// Those of [`retime_bytes_mapped`], but for those of reading.
+pub fn retime_spelt_mapped<W: CountedWrite, G: PhaseGate, V: FrameWatcher>(
     rt: &(impl Threads + Sync),
     alloc: Global,
     spelt: SpeltCircuit,
@@ -135,7 +139,7 @@ pub fn retime_bytes_mapped<R: CountedRead, W: CountedWrite, G: PhaseGate, V: Fra
         (stages_of options.now.max_frames mapped.retimed ++ Writing ∷ [])) }
 {
     match read_by(reader, AnyReader::new(alloc)) {
-        Ok(spelt) => mapped_spelt(rt, alloc, spelt, writer, options, crew, watcher),
+        Ok(spelt) => retime_spelt_mapped(rt, alloc, spelt, writer, options, crew, watcher),
         Err(error) => Err(MappedError::Answer(BytesError::Read(error))),
     }
 }

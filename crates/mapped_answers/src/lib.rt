@@ -8,5 +8,5 @@ mod mapped;
 mod starting;
 mod underway;
 
-pub use bytes::retime_bytes_mapped;
+pub use bytes::{retime_bytes_mapped, retime_spelt_mapped};
 pub use mapped::{Mapped, MappedError};

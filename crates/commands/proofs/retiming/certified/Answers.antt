@@ -9,7 +9,8 @@ pub returns-clause-told : goal.returns-clause-told
 returns-clause-told g c =
     let written = c.in_ok-write_beside.ensures in
     told_of c.args.task.now (g.I.CountedRead.input c.args.stdin.now) (g.O.CountedWrite.output c.args.out.now) (g.O.CountedWrite.output c.retimed-ended.new.out)
-    (g.O.CountedWrite.output c.write_beside.new.out) c.in_ok-answer.answer.retimed c.write_beside.new.answer.retimed c.retimed_of-retimed.result c.retimed_of-retimed.ensures
+    (g.O.CountedWrite.output c.write_beside.new.out) c.in_ok-answer.answer.retimed c.write_beside.new.answer.retimed c.retimed_of-retimed.result
+    c.in_ok-answer.answer.levels c.write_beside.new.answer.levels written.levels c.retimed_of-retimed.ensures
     written.frames c.in_ok-answer.ensures.read c.in_ok-answer.ensures.answer written.file c.retimed-ended.ensures.file written.certificates
 
 pub returns-in_err-write_beside-clause-prints : goal.returns-in_err-write_beside-clause-prints

@@ -9,7 +9,7 @@ returns-clause-frames g c =
     let timed = c.in_ok-timed in
     if_done printed.result _
     (prints_retiming c.args.task.now c.args.is_terminal (g.I.CountedRead.input c.args.stdin.now) (out c.args.out.now) (out c.certified.new.out) (out printed.new.out)
-    (err c.certified.new.err) (err printed.new.err) (err c.tell_remaining.new.err) timed.timed.retimed timed.timed.times timed.timed.map printed.result
+    (err c.certified.new.err) (err printed.new.err) (err c.tell_remaining.new.err) timed.timed.retimed timed.timed.levels timed.timed.times timed.timed.map printed.result
     timed.ensures.told timed.ensures.file printed.ensures.aside printed.ensures.says printed.ensures.frames c.tell_remaining.ensures)
 
 pub returns-clause-pipe : goal.returns-clause-pipe
@@ -17,4 +17,4 @@ returns-clause-pipe g c =
     let out = g.O.CountedWrite.output in
     let printed = c.print_frames-ended in
     writes_pipe c.args.task.now (g.I.CountedRead.input c.args.stdin.now) (out c.args.out.now) (out c.certified.new.out) (out printed.new.out)
-    c.in_ok-timed.timed.retimed printed.result printed.result c.in_ok-timed.ensures.told printed.ensures.aside
+    c.in_ok-timed.timed.retimed c.in_ok-timed.timed.levels printed.result printed.result c.in_ok-timed.ensures.told printed.ensures.aside

@@ -1,7 +1,7 @@
 use Rattle.std.proofs.lemmas.Result.{IfErr-weaker, IfOk-weaker}
 use Rattle.mapped_answers.specs.Mapping.{IsMadeCutOff, IsMadeWritten, IsMappedOf, IsMappingStop}
 use Rattle.mapped_answers.proofs.MakingLaws.{cut_off-answer, makes-nothing, told-answer, written-answer}
-use Rattle.mapped_answers.proofs.bytes.mapped_spelt.Goals as goal
+use Rattle.mapped_answers.proofs.bytes.retime_spelt_mapped.Goals as goal
 
 pub returns-in-Ok-clause-ok : goal.returns-in-Ok-clause-ok
 returns-in-Ok-clause-ok g c =
