@@ -1,8 +1,9 @@
 //! Which free latches of the first of two circuits the second one has.
-ghost use Rattle.std.specs.Prelude.{◌≡◌, IfOk, true, false};
+ghost use Rattle.std.specs.Prelude.{◌≡◌, IfErr, IfOk, true, false};
 ghost use Rattle.aig_graph.specs.Streams.{AreKept};
+ghost use Rattle.circuit_files.specs.Outcomes.{IsAbout};
 ghost use Rattle.circuit_files.specs.Reading.{IsReadingOfStdin};
-ghost use Rattle.stream_paths.specs.Streams.{is_stdin};
+ghost use Rattle.stream_paths.specs.Streams.{is_stdin, source_name};
 ghost use Rattle.simulation_commands.specs.Keeping.{AreKeptOf, AreSharedAt};
 
 use aig_graph::{Circuit, Sequence};
@@ -31,6 +32,7 @@ fn kept_of<'a>(
     second: &Circuit,
 ) -> Result<Sequence<u32>, Failure<'a>>
     ensures reads { AreKeptOf first.now second.now bytes.now path.entry result }
+    ensures named { IfErr result (IsAbout path.now) }
     ensures places { IfOk result (AreKept first.now second.now) }
 {
     let free = first.aig().free_latches();
@@ -53,6 +55,7 @@ fn kept_at<'a, R: Files, I: CountedRead>(
     ensures stdin { is_stdin list.entry ≡ true → IsReadingOfStdin (I.input stdin.old)
         (I.input stdin.new) (AreKeptOf first.now second.now) result }
     ensures file { is_stdin list.entry ≡ false → I.input stdin.new ≡ I.input stdin.old }
+    ensures named { IfErr result (IsAbout (source_name list.entry)) }
     ensures places { IfOk result (AreKept first.now second.now) }
 {
     let bytes = bytes_at(rt, alloc, list, stdin)?;
