@@ -44,8 +44,12 @@ pub fn composed(alloc: Global, first: &[u32], second: &[u32]) -> Result<Vec<u32>
     Ok(places)
 }
 
-/// The entries of a first list at the places that a second list names, as far as it has them.
-fn picked(alloc: Global, first: &[u32], second: &[u32]) -> Result<Vec<u32>, NoMemory> {
+/// The entries of a first list at the places that a second list names, as far as it has them. A hint: no clause speaks of them.
+///
+/// # Errors
+///
+/// `NoMemory` where the list is refused.
+pub fn picked(alloc: Global, first: &[u32], second: &[u32]) -> Result<Vec<u32>, NoMemory> {
     let mut entries = Vec::with_capacity(alloc, second.len())?;
     for place in second {
         entries.push(first.get(*place as usize).copied().unwrap_or(u32::MAX))?;
@@ -81,32 +85,41 @@ fn next_pass(alloc: Global, last: Pass) -> Result<Pass, NoMemory>
     pass_after(alloc, &last)
 }
 
-/// Whether each latch of what a pass left stands for itself.
-fn is_settled(alloc: Global, last: &Pass) -> Result<bool, NoMemory>
-    requires { All (λ j. j < length last.now.circuit.aig.latches) last.now.held.items }
-    ensures { IfOk result (λ yes. yes ≡ true → AreOwnLatches last.now.circuit.aig
-        last.now.held.items) }
+/// Whether each latch of a circuit stands for itself.
+fn is_settled(alloc: Global, circuit: &Circuit, held: &[u32]) -> Result<bool, NoMemory>
+    requires { All (λ j. j < length circuit.now.aig.latches) held.now }
+    ensures { IfOk result (λ yes. yes ≡ true → AreOwnLatches circuit.now.aig held.now) }
 {
-    let aig = last.circuit.aig();
-    let held = Held::new(alloc, last.held.as_slice(), aig.latches().len())?;
+    let aig = circuit.aig();
+    let held = Held::new(alloc, held, aig.latches().len())?;
     are_own_latches(alloc, aig, &held)
 }
 
-/// Whether another pass is to be made of what the last one left, before which there were so many latches and gates. One that is made in
-/// vain changes nothing, so where memory for a look at the latches is refused, it is made.
-fn has_more(alloc: Global, last: &Pass, before: usize) -> bool
+/// Whether another pass is to be made of what the last one left, with the latches at these positions held, before which there were so
+/// many latches and gates. One that is made in vain changes nothing, so where memory for a look at the latches is refused, it is made.
+pub fn has_more(alloc: Global, circuit: &Circuit, held: &[u32], before: usize) -> bool
+    requires { All (λ j. j < length circuit.now.aig.latches) held.now }
+    ensures fewer { result ≡ true → latches_and_gates circuit.now.aig < before }
+    ensures done { result ≡ false → (before ≤ latches_and_gates circuit.now.aig)
+        ⊎ AreOwnLatches circuit.now.aig held.now }
+{
+    if circuit.aig().latches_and_gates() >= before {
+        return false;
+    }
+    match is_settled(alloc, circuit, held) {
+        Ok(settled) => !settled,
+        Err(NoMemory) => true,
+    }
+}
+
+/// The same of a pass.
+fn goes_on(alloc: Global, last: &Pass, before: usize) -> bool
     requires { All (λ j. j < length last.now.circuit.aig.latches) last.now.held.items }
     ensures fewer { result ≡ true → latches_and_gates last.now.circuit.aig < before }
     ensures done { result ≡ false → (before ≤ latches_and_gates last.now.circuit.aig)
         ⊎ AreOwnLatches last.now.circuit.aig last.now.held.items }
 {
-    if last.circuit.aig().latches_and_gates() >= before {
-        return false;
-    }
-    match is_settled(alloc, last) {
-        Ok(settled) => !settled,
-        Err(NoMemory) => true,
-    }
+    has_more(alloc, &last.circuit, last.held.as_slice(), before)
 }
 
 /// What the last pass leaves.
@@ -143,7 +156,7 @@ pub fn clean(alloc: Global, circuit: &Circuit, keep: &Keep) -> Result<Cleaned, N
 {
     let mut before = circuit.aig().latches_and_gates();
     let mut last = run_pass(alloc, circuit, keep.positions())?;
-    while has_more(alloc, &last, before) {
+    while goes_on(alloc, &last, before) {
         before = last.circuit.aig().latches_and_gates();
         last = next_pass(alloc, last)?;
     }

@@ -28,6 +28,8 @@ pub struct TracedPass {
     pub substitutes: Vec<Lit>,
     /// Whether each latch of the circuit before stays.
     pub stays: Vec<bool>,
+    /// Of each gate that stays, its place among the gates before. A hint: no clause speaks of it.
+    pub kept_gates: Vec<u32>,
 }
 
 /// What stands for each latch.
@@ -76,5 +78,6 @@ pub fn traced_pass(alloc: Global, circuit: &Circuit, held: &[u32]) -> Result<Tra
         held: pass.held,
         substitutes,
         stays,
+        kept_gates: pass.kept_gates,
     })
 }

@@ -73,8 +73,8 @@ fn carried(
     after_cleaning(alloc, kept_gates, moved.as_slice())
 }
 
-/// Carries what the flow did at each gate over a move and a cleaning; where memory is refused, it is lost.
-fn carry(
+/// Carries what the flow did at each gate over a move and a cleaning that keeps gates at these places; where memory is refused, it is lost.
+pub fn carry(
     alloc: Global,
     circuit: &Circuit,
     set: &ClosedSet,

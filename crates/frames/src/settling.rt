@@ -15,7 +15,11 @@ use std::alloc::Global;
 use tidy::{all_places, are_low_tidy};
 
 /// A circuit as what it is cleaned to, which it is if it is tidy. The gates that stay aren't listed, since they all do.
-fn as_cleaned(alloc: Global, circuit: Circuit) -> Result<Cleaned, NoMemory>
+///
+/// # Errors
+///
+/// `NoMemory` where memory is refused.
+pub fn as_cleaned(alloc: Global, circuit: Circuit) -> Result<Cleaned, NoMemory>
     ensures circuit { IfOk result (λ d. d.circuit ≡ circuit) }
     ensures kept_free { IfOk result (λ d. d.kept_free ≡ all_free circuit.aig) }
 {
@@ -45,7 +49,11 @@ fn cleaned_over(alloc: Global, circuit: Circuit, options: &Options) -> Result<Cl
 }
 
 /// Whether the low copies are tidy, of a circuit whose last gates are so many copies.
-fn is_settled(alloc: Global, circuit: &Circuit, copies: usize) -> Result<bool, NoMemory>
+///
+/// # Errors
+///
+/// `NoMemory` where memory is refused.
+pub fn is_settled(alloc: Global, circuit: &Circuit, copies: usize) -> Result<bool, NoMemory>
     requires { copies ≤ length circuit.now.aig.gates }
     ensures lows { IfOk result (λ yes. yes ≡ true → AreLowTidy circuit.now.aig
         (length circuit.now.aig.gates - copies)) }

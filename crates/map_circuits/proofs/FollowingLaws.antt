@@ -3,22 +3,24 @@ use Rattle.std.proofs.Common.{inl, inr, ℕ, ◌+◌, ◌-◌, ◌*◌, ◌<◌,
 use Rattle.std.specs.List.{All}
 use Rattle.std.proofs.Math.Seq.{get_or-append_seam}
 use Rattle.std.proofs.Math.ListN.{get_or-append}
-use Rattle.std.proofs.lemmas.Bool.{cases_eq}
+use Rattle.std.proofs.lemmas.Bool.{cases_Bool, cases_eq}
 use Rattle.std.proofs.lemmas.List.{get_or-map, length_push}
 use Rattle.std.proofs.lemmas.List.Elements.{All-push}
 use Rattle.aig_graph.specs.declared.graph.Gate.{Gate}
 use Rattle.aig_graph.specs.Closed.{IsClosedSet, IsLatchOrIn}
-use Rattle.aig_graph.specs.Graph.{Graph, IsGraph, IsGateAt, IsLiteralOf, variable, first_gate, first_latch, gate_at, variables_end}
+use Rattle.aig_graph.specs.Graph.{Graph, IsGraph, IsGateAt, IsLiteralOf, variable, first_gate, first_latch, gate_at, latches_and_gates, variables_end}
 use Rattle.aig_graph.specs.Value.{signed, value_within}
 use Rattle.aig_graph.proofs.FoldingLaws.{gate_at-is}
 use Rattle.aig_graph.proofs.KindLaws.{GatePlace, LatchPlace, gate_place, latch_place}
 use Rattle.aig_graph.proofs.SearchLaws.{has_iff_contains}
 use Rattle.aig_graph.proofs.SignLaws.{value_signed, value_signed_as, variable-signed_as}
-use Rattle.variable_tables.specs.Marking.{has}
+use Rattle.rebuild.proofs.PlanLaws.{marked-at, members-table}
+use Rattle.variable_tables.specs.Marking.{has, mark_at}
+use Rattle.variable_tables.specs.Tables.{table}
 use Rattle.state_maps.specs.States.{State}
 use Rattle.state_maps.proofs.WithinLaws.{within_laws, within-gate_at, within-latch_at}
 use Rattle.map_circuits.specs.Growing.{Extends, IsConjunction}
-use Rattle.map_circuits.specs.Following.{Follows, entry_of, literal_at, state_of}
+use Rattle.map_circuits.specs.Following.{Follows, IsCovered, entry_of, literal_at, state_of}
 
 -- no member, and no latch, comes before the first latch
 pub source-from : (g : Graph) (held set : List ℕ) → IsClosedSet g held set → (w : ℕ) → IsLatchOrIn g set w → first_latch g ≤ w
@@ -29,6 +31,28 @@ source-from g held set closed w (inr inside) =
     omega (arith, place.from)
 
 -- what stands for a literal whose variable has an entry is a literal of the graph
+-- a mark of a table of the set's members
+pub member-marked : (g : Graph) (held set vars : List ℕ) (items marks : List Bool) (first n v w : ℕ) → IsClosedSet g held set → items ≡ table first n (has vars) → first ≡ first_latch g
+    → n ≡ latches_and_gates g → vars ≡ set → marks ≡ items → w ≡ v → v < variables_end g → mark_at first marks w ≡ has set v
+member-marked g held set vars items marks first n v w closed filled starts long same read here within =
+    let before : (u : ℕ) → u < first_latch g → has set u ≡ false = λ u less. elim (cases_Bool (has set u)) [
+      | inl inside ↦ absurd (omega (arith, less, source-from g held set closed u (inr ((has_iff_contains set u).0 inside))))
+      | inr outside ↦ outside
+    ] in
+    ap (λ (u : ℕ). mark_at first marks u) here ∙ marked-at g (has set) items marks first v read (members-table g first n set vars items filled starts long same) starts before within
+
+-- what a member reads has an entry among those of the variables before it
+pub fan_ins-covered : (g : Graph) (held set : List ℕ) → IsGraph g → IsClosedSet g held set → (v first : ℕ) (gate : Gate) (literals : List ℕ) → gate_at g v ≡ Some gate → first ≡ first_latch g
+    → first_latch g + length literals ≡ v → has set v ≡ true → IsCovered first literals (variable gate.rhs0) × IsCovered first literals (variable gate.rhs1)
+fan_ins-covered g held set valid closed v first gate literals there starts long member =
+    let sources = closed.closed.fan_ins v gate ((has_iff_contains set v).0 member) there in
+    let at : IsGateAt v gate = gate_at-is g valid v gate there in
+    let from0 : first_latch g ≤ variable gate.rhs0 = source-from g held set closed (variable gate.rhs0) sources.0 in
+    let from1 : first_latch g ≤ variable gate.rhs1 = source-from g held set closed (variable gate.rhs1) sources.1 in (
+      (omega (arith, starts, from0), omega (arith, starts, from0, at.below, long)),
+      (omega (arith, starts, from1), omega (arith, starts, from1, at.below, at.ordered, long)),
+    )
+
 pub literal-within : (h : Graph) (first : ℕ) (literals : List ℕ) (lit : ℕ) → All (λ l. IsLiteralOf h l) literals → variable lit - first < length literals → IsLiteralOf h (literal_at first literals lit)
 literal-within h first literals lit all less =
     let same : variable (literal_at first literals lit) ≡ variable (entry_of first literals (variable lit)) = variable-signed_as lit (entry_of first literals (variable lit)) in

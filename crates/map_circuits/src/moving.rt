@@ -1,13 +1,13 @@
 //! What the latches hold after a move: those that stay what they held, and a new one the value of its gate. A gate of the set has
 //! its function before any that reads it is met.
-ghost use Rattle.std.specs.Prelude.{◌≡◌, ◌<◌, ◌≤◌, ◌+◌, ◌-◌, All, IfOk, OnOk, Some, length, map, true};
+ghost use Rattle.std.specs.Prelude.{◌≡◌, ◌<◌, ◌≤◌, ◌-◌, All, IfOk, OnOk, length, true};
 ghost use Rattle.std.specs.List.{slice_index_or};
 ghost use Rattle.aig_graph.specs.Closed.{IsClosedSet};
-ghost use Rattle.aig_graph.specs.Graph.{Graph, IsGraph, IsLiteralOf, gate_at, variable, first_latch, variables_end};
-ghost use Rattle.variable_tables.specs.Marking.{has};
+ghost use Rattle.aig_graph.specs.Graph.{Graph, IsGraph, IsLiteralOf, variable, variables_end};
+ghost use Rattle.rebuild.specs.Marked.{AreMarksOf};
 ghost use Rattle.map_circuits.specs.Growing.{Extends, IsConjunction};
 ghost use Rattle.aig_graph.specs.Move.{move_of};
-ghost use Rattle.map_circuits.specs.Following.{Follows, literal_at};
+ghost use Rattle.map_circuits.specs.Following.{Follows, IsCovered, literal_at};
 ghost use Rattle.map_circuits.specs.Stepping.{AreMoved};
 
 use crate::entries::entries_of;
@@ -16,7 +16,7 @@ use crate::gates::add_conjunction;
 use aig_graph::{Aig, AigBuilder, BuildError, Circuit, ClosedSet, Gate, Keep, Lit};
 use rebuild::MoveMarks;
 use std::alloc::Global;
-use variable_tables::marked_variables;
+use variable_tables::{mark_at, marked_variables, marks_of};
 
 /// What stands for a literal of a variable that has an entry.
 pub(crate) fn standing(literals: &[Lit], first: u32, lit: Lit) -> Lit
@@ -31,26 +31,21 @@ pub(crate) fn standing(literals: &[Lit], first: u32, lit: Lit) -> Lit
 fn add_function(
     gates: &mut AigBuilder,
     literals: &[Lit],
-    aig: &Aig,
-    set: &ClosedSet,
-    keep: &Keep,
-    var: u32,
+    first: u32,
+    is_member: bool,
     gate: Gate,
 ) -> Result<Lit, BuildError>
     requires graph { IsGraph gates.old }
-    requires closed { IsClosedSet aig.now keep.now set.now }
-    requires there { gate_at aig.now var ≡ Some gate }
-    requires long { first_latch aig.now + length literals.now ≡ var }
     requires within { All (λ lit. IsLiteralOf gates.old lit) literals.now }
+    requires fan_ins { is_member ≡ true → IsCovered first literals.now (variable gate.rhs0)
+        × IsCovered first literals.now (variable gate.rhs1) }
     ensures extends { OnOk result (Extends gates.old gates.new) }
     ensures within { IfOk result (IsLiteralOf gates.new) }
-    ensures member { IfOk result (λ lit. has set.now var ≡ true → IsConjunction gates.new
-        (literal_at (first_latch aig.now) literals.now gate.rhs0)
-        (literal_at (first_latch aig.now) literals.now gate.rhs1) lit) }
+    ensures member { IfOk result (λ lit. is_member ≡ true → IsConjunction gates.new
+        (literal_at first literals.now gate.rhs0)
+        (literal_at first literals.now gate.rhs1) lit) }
 {
-    let _keep = keep;
-    if set.has(var) {
-        let first = aig.first_latch();
+    if is_member {
         let a = standing(literals, first, gate.rhs0);
         let b = standing(literals, first, gate.rhs1);
         add_conjunction(gates, a, b)
@@ -76,19 +71,23 @@ pub(crate) fn add_functions(
     ensures follows { IfOk result (λ literals. Follows gates.old functions.now aig.now set.now
         (variables_end aig.now) gates.new literals.items) }
 {
-    let first = aig.first_gate();
-    let mut literals = Vec::with_capacity(alloc, aig.latches_and_gates())?;
+    let _keep = keep;
+    let first = aig.first_latch();
+    let first_gate = aig.first_gate();
+    let entries = aig.latches_and_gates();
+    let members = marks_of(alloc, first, entries, set.vars())?;
+    let mut literals = Vec::with_capacity(alloc, entries)?;
     literals.extend_from_slice(functions)?;
     for (place, gate) in aig.gates().iter().enumerate() {
-        let var = first + place as u32;
-        let lit = add_function(gates, literals.as_slice(), aig, set, keep, var, *gate)?;
+        let is_member = mark_at(members.as_slice(), first, first_gate + place as u32);
+        let lit = add_function(gates, literals.as_slice(), first, is_member, *gate)?;
         literals.push(lit)?;
     }
     Ok(literals)
 }
 
-/// The functions of the latches after a move, by those of the latches before it: their literals. A gate is added for each gate of the
-/// set. One pass over the circuit, with a binary search for each gate.
+/// The functions of the latches after a move, by those of the latches before it and by the marks of the move: their literals. A gate is
+/// added for each gate of the set. Linear in the circuit; inputs cost nothing.
 ///
 /// # Errors
 ///
@@ -101,18 +100,19 @@ pub fn moved_functions(
     circuit: &Circuit,
     set: &ClosedSet,
     keep: &Keep,
+    marks: &MoveMarks,
 ) -> Result<Vec<Lit>, MapError>
     requires graph { IsGraph gates.old }
     requires closed { IsClosedSet circuit.now.aig keep.now set.now }
     requires long { length functions.now ≡ length circuit.now.aig.latches }
     requires within { All (λ lit. IsLiteralOf gates.old lit) functions.now }
+    requires marked { AreMarksOf (move_of circuit.now keep.now set.now) marks.now }
     ensures extends { OnOk result (Extends gates.old gates.new) }
     ensures moved { IfOk result (λ new. AreMoved gates.old functions.now
         (move_of circuit.now keep.now set.now) gates.new new.items) }
 {
     let aig = circuit.aig();
     let first = aig.first_latch();
-    let marks = MoveMarks::new(alloc, circuit, set, keep)?;
     let latched = marked_variables(alloc, first, marks.latched())?;
     let literals = add_functions(alloc, gates, functions, aig, set, keep)?;
     let moved = entries_of(alloc, literals.as_slice(), first, latched.as_slice())?;

@@ -1,2 +1,3 @@
 pub mod MakingLaws
 pub mod FollowingLaws
+pub mod FramingLaws

@@ -3,6 +3,7 @@
 
 mod bytes;
 mod following;
+mod framing;
 mod making;
 mod mapped;
 mod starting;

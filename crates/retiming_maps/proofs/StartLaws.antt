@@ -1,5 +1,5 @@
 -- The states of a circuit are mapped to themselves, by the inputs of a circuit without gates.
-use Rattle.std.proofs.Common.{inl, inr, ℕ, ◌+◌, ◌-◌, ◌*◌, ◌<◌, ◌≤◌, ◌≡◌, suc, zero, Bool, false, ◌&&◌, Option, Some, None, slice_get, List, [], ◌∷◌, length, map, refl, arith, ap, sym, ◌∙◌, subst, zero-add}
+use Rattle.std.proofs.Common.{inl, inr, ℕ, ◌+◌, ◌*◌, ◌<◌, ◌≤◌, ◌≡◌, suc, zero, Bool, false, ◌&&◌, Option, Some, None, slice_get, List, [], ◌∷◌, length, map, refl, arith, ap, sym, ◌∙◌, subst, zero-add}
 use Rattle.std.specs.List.{All}
 use Rattle.std.proofs.Math.ListN.{get_or-eq_default}
 use Rattle.std.proofs.lemmas.Bool.{cases_lt}

@@ -7,7 +7,6 @@ use Rattle.aig_graph.specs.Laws.{composed}
 use Rattle.clean.specs.declared.cleaning.Cleaned.{Cleaned}
 use Rattle.clean.specs.declared.tracing.TracedPass.{TracedPass}
 use Rattle.cleaned_circuits.specs.Cleaned.{Cleans, IsPass}
-use Rattle.retimed_circuits.specs.Frames.{CleansIn, moved_in}
 use Rattle.map_circuits.specs.Constraining.{AreOne}
 use Rattle.map_circuits.specs.Following.{state_of}
 use Rattle.state_maps.specs.States.{IsStateMap}
@@ -56,14 +55,6 @@ pub record IsNextAlong (last : TracedPass) (old new : MapParts) (t : TracedPass)
 pub record IsCleanedAlong (held : List ℕ) (c : Netlist) (old new : MapParts) (d : Cleaned) : Type 0 where
   pub cleaned : Cleans d.circuit held c d.kept_free
   pub leads : LeadsOn c old d.circuit d.kept_free new
-
--- what was a map to c before is one to whatever c is cleaned to, where these latches are held
-abbrev pub LeadsClean : List ℕ → Netlist → MapParts → MapParts → Type 0
-LeadsClean held c old new = (d : Netlist) (kept : List ℕ) → Cleans d held c kept → LeadsOn c old d kept new
-
--- what was a map to c before is one to d, where that is c with its latches moved over the set, and cleaned
-abbrev pub LeadsFrame : List (List ℕ) → Netlist → List ℕ → Netlist → MapParts → MapParts → Type 0
-LeadsFrame names c set d old new = (kept : List ℕ) → CleansIn names (moved_in names c set) d kept → LeadsOn c old d kept new
 
 -- the names of a map: those of the latches of both circuits
 abbrev pub map_symbols : Netlist → Netlist → Symbols

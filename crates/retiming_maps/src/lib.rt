@@ -2,16 +2,15 @@
 //! circuit that was read.
 #![tactic(auto)]
 
-mod frames;
 mod maps;
 mod moves;
 mod parts;
 mod passes;
 mod start;
 
-pub use frames::follow_frame;
 pub use map_circuits::MapError;
 pub use maps::state_map;
+pub use moves::follow_move;
 pub use parts::MapParts;
 pub use passes::cleaned_along;
 pub use start::identity;

@@ -1,12 +1,13 @@
 //! A map that follows a cleaning, pass after pass: what stands for a latch is a constraint, and latches that stay keep their functions.
-ghost use Rattle.std.specs.Prelude.{◌≡◌, ◌<◌, ◌≤◌, All, IfOk, OnOk, false, length, true};
+ghost use Rattle.std.specs.Prelude.{◌≡◌, ◌<◌, ◌≤◌, ◌⊎◌, All, IfOk, OnOk, false, length, true};
 ghost use Rattle.aig_graph.specs.Graph.{free_latches, latches_and_gates};
+ghost use Rattle.clean.specs.Settled.{AreOwnLatches};
 ghost use Rattle.clean.specs.Tracing.{IsTraced};
 ghost use Rattle.retiming_maps.specs.Mapping.{IsCleanedAlong, IsNextAlong, IsPassAlong, IsSomeMapTo, LeadsOn};
 
 use crate::parts::MapParts;
 use aig_graph::{Circuit, Keep, Sequence};
-use clean::{Cleaned, TracedPass, composed, traced_pass};
+use clean::{Cleaned, TracedPass, composed, has_more, picked, traced_pass};
 use map_circuits::{MapError, add_constraints, passed_functions};
 use std::alloc::Global;
 
@@ -77,7 +78,13 @@ fn pass_after(
     last.circuit.known();
     let mut next = passed(alloc, parts, &last.circuit, last.held.as_slice())?;
     let places = composed(alloc, last.kept_free.as_slice(), next.kept_free.as_slice())?;
+    let gates = picked(
+        alloc,
+        last.kept_gates.as_slice(),
+        next.kept_gates.as_slice(),
+    )?;
     next.kept_free = places;
+    next.kept_gates = gates;
     Ok(next)
 }
 
@@ -93,33 +100,35 @@ fn next_pass(alloc: Global, parts: &mut MapParts, last: TracedPass) -> Result<Tr
     next
 }
 
-/// What the last pass leaves. The gates that stay aren't listed.
-fn cleaned_by(alloc: Global, last: TracedPass) -> Cleaned
+/// What the last pass leaves.
+fn cleaned_by(last: TracedPass) -> Cleaned
     ensures circuit { result.circuit ≡ last.circuit }
     ensures kept_free { result.kept_free ≡ last.kept_free.items }
 {
     let TracedPass {
         circuit,
         kept_free,
+        kept_gates,
         ..
     } = last;
     Cleaned {
         circuit,
         kept_free: Sequence::from_vec(kept_free),
-        kept_gates: Vec::new(alloc),
+        kept_gates,
     }
 }
 
-/// Whether a pass left fewer latches or gates than there were before it. One that leaves as many has changed nothing.
-fn leaves_fewer(last: &TracedPass, before: usize) -> bool
+/// Whether another pass is to be made of what the last one left, before which there were so many latches and gates.
+fn goes_on(alloc: Global, last: &TracedPass, before: usize) -> bool
+    requires { All (λ j. j < length last.now.circuit.aig.latches) last.now.held.items }
     ensures fewer { result ≡ true → latches_and_gates last.now.circuit.aig < before }
-    ensures done { result ≡ false → before ≤ latches_and_gates last.now.circuit.aig }
+    ensures done { result ≡ false → (before ≤ latches_and_gates last.now.circuit.aig)
+        ⊎ AreOwnLatches last.now.circuit.aig last.now.held.items }
 {
-    last.circuit.aig().latches_and_gates() < before
+    has_more(alloc, &last.circuit, last.held.as_slice(), before)
 }
 
-/// The circuit, cleaned pass after pass until one changes nothing, as [`clean::clean`] does it, and the map with it. Its `kept_gates` are
-/// none.
+/// The circuit, cleaned pass after pass until one changes nothing, as [`clean::clean`] does it, and the map with it.
 ///
 /// # Errors
 ///
@@ -136,9 +145,9 @@ pub fn cleaned_along(
 {
     let mut before = circuit.aig().latches_and_gates();
     let mut last = passed(alloc, parts, circuit, keep.positions())?;
-    while leaves_fewer(&last, before) {
+    while goes_on(alloc, &last, before) {
         before = last.circuit.aig().latches_and_gates();
         last = next_pass(alloc, parts, last)?;
     }
-    Ok(cleaned_by(alloc, last))
+    Ok(cleaned_by(last))
 }

@@ -14,8 +14,8 @@ loop-before-init c =
     passed-start c.args.keep.now c.args.circuit.now last.circuit c.latches_and_gates-before.result last.kept_free.items last.held.items valid c.requires.in_range (subst P c.positions.ensures.value c.in_ok-last.ensures.pass)
     (c.latches_and_gates-before.ensures.value ∙ ap (λ (g : Graph). latches_and_gates g) c.aig.ensures.value)
 
-pub has_more-requires : goal.has_more-requires
-has_more-requires c =
+pub goes_on-requires : goal.goes_on-requires
+goes_on-requires c =
     let last = c.loop-before.last in
     passed-in_range c.args.keep.now c.args.circuit.now c.loop-before.before last.circuit last.kept_free.items last.held.items c.loop-before.invariant
 
@@ -33,7 +33,7 @@ pub loop-before-preserved : goal.loop-before-preserved
 loop-before-preserved c =
     let last = c.loop-before.last in
     let next = c.in_ok-last-2.last in
-    let less : latches_and_gates last.circuit.aig < c.loop-before.before = c.has_more.ensures.fewer c.loop-before-test.true in
+    let less : latches_and_gates last.circuit.aig < c.loop-before.before = c.goes_on.ensures.fewer c.loop-before-test.true in
     let size : c.latches_and_gates-before-in-loop-before.result ≡ latches_and_gates last.circuit.aig =
     c.latches_and_gates-before-in-loop-before.ensures.value ∙ ap (λ (g : Graph). latches_and_gates g) c.aig-in-loop-before.ensures.value in
     subst (λ (n : ℕ). Passed c.args.keep.now c.args.circuit.now n next.circuit next.kept_free.items next.held.items) (sym size)
@@ -44,7 +44,7 @@ pub returns-clause-cleaned : goal.returns-clause-cleaned
 returns-clause-cleaned c =
     let last = c.loop-before.last in
     let cleaned : Cleans last.circuit c.args.keep.now c.args.circuit.now last.kept_free.items =
-    passed-done c.args.keep.now c.args.circuit.now c.loop-before.before last.circuit last.kept_free.items last.held.items c.loop-before.invariant (c.has_more.ensures.done c.loop-before-test.false) in
+    passed-done c.args.keep.now c.args.circuit.now c.loop-before.before last.circuit last.kept_free.items last.held.items c.loop-before.invariant (c.goes_on.ensures.done c.loop-before-test.false) in
     subst (λ (xs : List ℕ). Cleans c.cleaned_by.result.circuit c.args.keep.now c.args.circuit.now xs) (sym c.cleaned_by.ensures.kept_free)
     (subst (λ d. Cleans d c.args.keep.now c.args.circuit.now last.kept_free.items) (sym c.cleaned_by.ensures.circuit) cleaned)
 
@@ -52,7 +52,7 @@ pub returns-clause-streams : goal.returns-clause-streams
 returns-clause-streams c =
     let last = c.loop-before.last in
     let cleaned : Cleans last.circuit c.args.keep.now c.args.circuit.now last.kept_free.items =
-    passed-done c.args.keep.now c.args.circuit.now c.loop-before.before last.circuit last.kept_free.items last.held.items c.loop-before.invariant (c.has_more.ensures.done c.loop-before-test.false) in
+    passed-done c.args.keep.now c.args.circuit.now c.loop-before.before last.circuit last.kept_free.items last.held.items c.loop-before.invariant (c.goes_on.ensures.done c.loop-before-test.false) in
     let valid : IsCircuit c.args.circuit.now = record { graph = c.aig.ensures.graph; netlist = c.aig.ensures.netlist } in
     subst (λ (xs : List ℕ). SameStreams c.args.circuit.now c.cleaned_by.result.circuit xs) (sym c.cleaned_by.ensures.kept_free)
     (subst (λ d. SameStreams c.args.circuit.now d last.kept_free.items) (sym c.cleaned_by.ensures.circuit)

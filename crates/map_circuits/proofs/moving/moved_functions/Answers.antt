@@ -16,7 +16,7 @@ pub marked_variables-requires : goal.marked_variables-requires
 marked_variables-requires c =
     let m : Move = move_of c.args.circuit.now c.args.keep.now c.args.set.now in
     let g : Graph = c.args.circuit.now.aig in
-    let marks : c.latched.result.now ≡ by_variable g (is_latched m) = c.latched.ensures m c.in_ok-marks.ensures in
+    let marks : c.latched.result.now ≡ by_variable g (is_latched m) = c.latched.ensures m c.requires.marked in
     let start : c.first_latch-first.result ≡ first_latch g = c.first_latch-first.ensures.value ∙ ap first_latch c.aig-aig.ensures.value in
     omega (arith, length-by_variable g (is_latched m) c.latched.result.now marks, start, c.aig-aig.ensures.graph.small)
 
@@ -24,7 +24,7 @@ pub entries_of-requires : goal.entries_of-requires
 entries_of-requires c =
     let m : Move = move_of c.args.circuit.now c.args.keep.now c.args.set.now in
     let g : Graph = c.args.circuit.now.aig in
-    let marks : c.latched.result.now ≡ by_variable g (is_latched m) = c.latched.ensures m c.in_ok-marks.ensures in
+    let marks : c.latched.result.now ≡ by_variable g (is_latched m) = c.latched.ensures m c.requires.marked in
     let start : c.first_latch-first.result ≡ first_latch g = c.first_latch-first.ensures.value ∙ ap first_latch c.aig-aig.ensures.value in
     let all : AreAllMarks (first_latch g) c.latched.result.now (is_latched m) = all-latched m (closed-passable m c.requires.closed.closed) c.latched.result.now marks in
     let P : ℕ → Type 0 = λ n. AreAllMarks n c.latched.result.now (is_latched m) in
@@ -43,7 +43,7 @@ pub returns-clause-moved : goal.returns-clause-moved
 returns-clause-moved c =
     let m : Move = move_of c.args.circuit.now c.args.keep.now c.args.set.now in
     let g : Graph = c.args.circuit.now.aig in
-    let marks : c.latched.result.now ≡ by_variable g (is_latched m) = c.latched.ensures m c.in_ok-marks.ensures in
+    let marks : c.latched.result.now ≡ by_variable g (is_latched m) = c.latched.ensures m c.requires.marked in
     let start : c.first_latch-first.result ≡ first_latch g = c.first_latch-first.ensures.value ∙ ap first_latch c.aig-aig.ensures.value in
     let all : AreAllMarks (first_latch g) c.latched.result.now (is_latched m) = all-latched m (closed-passable m c.requires.closed.closed) c.latched.result.now marks in
     let P : ℕ → Type 0 = λ n. AreAllMarks n c.latched.result.now (is_latched m) in

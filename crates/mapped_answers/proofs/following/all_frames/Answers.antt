@@ -1,16 +1,22 @@
-use Rattle.std.proofs.Common.{◌+◌, ◌≡◌, [], ◌∷◌, Option, ap, length, suc, arith, subst, ℕ, refl}
+use Rattle.std.proofs.Common.{◌+◌, ◌≡◌, [], ◌∷◌, ◌++◌, ◌∙◌, Option, ap, length, suc, arith, subst, sym, ℕ, refl}
 use Rattle.std.specs.Option.{MatchOption}
 use Rattle.aig_graph.specs.Circuits.{Netlist}
 use Rattle.aig_graph.specs.Graph.{known_latches}
+use Rattle.aig_graph.specs.Laws.{composed}
 use Rattle.retimed_circuits.specs.declared.report.FrameReport.{FrameReport}
+use Rattle.retimed_circuits.specs.declared.report.Retimed.{Retimed}
 use Rattle.retimed_circuits.proofs.NameLaws.{names-stay}
 use Rattle.frames.specs.declared.frame.Frame.{Frame}
 use Rattle.frames.specs.Certified.{AreCollected}
 use Rattle.frames.specs.Found.{Moves}
 use Rattle.frames.specs.Named.{names_in}
 use Rattle.frames.specs.Retiming.{NoneSmallerBy}
-use Rattle.frames.specs.Stages.{Moving, Tells}
+use Rattle.frames.specs.Stages.{Moving, Tells, looks_of}
+use Rattle.frames.specs.Underway.{IsRun, IsUnderway}
+use Rattle.retiming_maps.specs.declared.parts.MapParts.{MapParts}
+use Rattle.retiming_maps.specs.Mapping.{IsMapTo}
 use Rattle.mapped_answers.specs.Following.{IsFollowed}
+use Rattle.mapped_answers.specs.Framing.{MovesFollowed}
 use Rattle.frames.proofs.CertificateLaws.{none-collected, one-collected}
 use Rattle.frames.proofs.StageLaws.{many-taken, none-taken, tells-end, tells-frame, tells-limit, tells-start}
 use Rattle.std.proofs.lemmas.Result.{IfOk-from_err}
@@ -27,53 +33,61 @@ loop-init g c =
 pub next_frame-requires-clause-tidy : goal.next_frame-requires-clause-tidy
 next_frame-requires-clause-tidy g c κs within = let begun = c.requires.begun in (c.loop.invariant.0 begun.read begun.followed).0.underway.keeps.tidy
 
+pub next_frame-requires-clause-map : goal.next_frame-requires-clause-map
+next_frame-requires-clause-map g c κs within = let begun = c.requires.begun in (begun.read, c.loop.run.retimed.kept_free, (c.loop.invariant.0 begun.read begun.followed).0.map)
+
 pub next_frame-requires-clause-names : goal.next_frame-requires-clause-names
 next_frame-requires-clause-names g c κs within =
     let begun = c.requires.begun in
     names-stay (names_in c.args.options.now) begun.read c.loop.run.retimed.circuit (c.loop.invariant.0 begun.read begun.followed).0.underway.keeps.held begun.names
 
-pub after_following-requires-clause-followed : goal.after_following-requires-clause-followed
-after_following-requires-clause-followed g c = let begun = c.requires.begun in (begun.read, c.loop.counter, (c.loop.invariant.0 begun.read begun.followed).0)
-
-pub after_following-requires-clause-names : goal.after_following-requires-clause-names
-after_following-requires-clause-names g c =
+pub taken-requires-clause-underway : goal.taken-requires-clause-underway
+taken-requires-clause-underway g c =
     let begun = c.requires.begun in
-    names-stay (names_in c.args.options.now) begun.read c.loop.run.retimed.circuit (c.loop.invariant.0 begun.read begun.followed).0.underway.keeps.held begun.names
+    let P : Retimed → Type 0 = λ r. IsUnderway c.args.options.now begun.read c.loop.counter r in
+    (begun.read, c.loop.counter, subst P (sym c.in-Ok-Some.ensures.same) (c.loop.invariant.0 begun.read begun.followed).0.underway)
 
-pub after_following-requires-clause-moves : goal.after_following-requires-clause-moves
-after_following-requires-clause-moves g c =
+pub taken-requires-clause-moves : goal.taken-requires-clause-moves
+taken-requires-clause-moves g c =
     let options = c.args.options.now in
-    let before = c.loop.run.retimed in
-    let P : Option Frame → Type 0 = λ found. MatchOption found (NoneSmallerBy options before.circuit) (Moves options before.circuit) in
-    subst P c.in-Ok-Some.field-0-is c.in-Ok-Some.ensures.found
+    let before = c.loop.run in
+    let after = c.next_frame.new.run in
+    let P : Option Frame → Type 0 = λ found. MatchOption found (NoneSmallerBy options before.retimed.circuit × (after.parts ≡ before.parts)) (MovesFollowed options before.retimed.circuit before.parts after.parts) in
+    let followed : MovesFollowed options before.retimed.circuit before.parts after.parts c.in-Ok-Some.frame = subst P c.in-Ok-Some.field-0-is c.in-Ok-Some.ensures.found in
+    subst (λ (r : Retimed). Moves options r.circuit c.in-Ok-Some.frame) (sym c.in-Ok-Some.ensures.same) followed.moves
 
 -- the last circuit was looked at, and none counts less
 pub returns-in-Ok-None-clause-run : goal.returns-in-Ok-None-clause-run
 returns-in-Ok-None-clause-run g c = λ d start.
     let options = c.args.options.now in
-    let before = c.loop.run.retimed in
+    let before = c.loop.run in
+    let after = c.next_frame.new.run in
     let so_far = c.loop.invariant.0 d start in
-    let P : Option Frame → Type 0 = λ found. MatchOption found (NoneSmallerBy options before.circuit) (Moves options before.circuit) in
-    let none : NoneSmallerBy options before.circuit = subst P c.in-Ok-None.field-0-is c.in-Ok-None.ensures.found in
+    let P : Option Frame → Type 0 = λ found. MatchOption found (NoneSmallerBy options before.retimed.circuit × (after.parts ≡ before.parts)) (MovesFollowed options before.retimed.circuit before.parts after.parts) in
+    let none : NoneSmallerBy options before.retimed.circuit × (after.parts ≡ before.parts) = subst P c.in-Ok-None.field-0-is c.in-Ok-None.ensures.found in
+    let run : IsRun options d c.next_frame.new.records before.retimed = record {
+      taken = c.loop.counter;
+      underway = so_far.0.underway;
+      within = c.loop.auto.counter-end;
+      last = λ less. none.0;
+      looked = suc c.loop.counter;
+      collected = one-collected options d c.loop.counter c.loop.records c.next_frame.new.records before.retimed.circuit before.retimed.kept_free before.retimed.frames so_far.1 so_far.0.underway.frames
+          c.in-Ok-None.ensures.certificate;
+      limited = λ at. absurd (omega (arith, at, c.loop-test.true));
+      ended = λ less. refl;
+    } in
+    let Q : Retimed → Type 0 = λ r. IsRun options d c.next_frame.new.records r in
+    let R : Retimed → MapParts → Type 0 = λ r m. IsMapTo d r.circuit r.kept_free m in
     record {
-      run = record {
-        taken = c.loop.counter;
-        underway = so_far.0.underway;
-        within = c.loop.auto.counter-end;
-        last = λ less. none;
-        looked = suc c.loop.counter;
-        collected = one-collected options d c.loop.counter c.loop.records c.next_frame.new.records before.circuit before.kept_free before.frames so_far.1 so_far.0.underway.frames
-            c.in-Ok-None.ensures.certificate;
-        limited = λ at. absurd (omega (arith, at, c.loop-test.true));
-        ended = λ less. refl;
-      };
-      map = so_far.0.map;
+      run = subst Q (sym c.in-Ok-None.ensures.same) run;
+      map = subst (λ (r : Retimed). R r after.parts) (sym c.in-Ok-None.ensures.same) (subst (R before.retimed) (sym none.1) so_far.0.map);
     }
 
 pub loop-preserved : goal.loop-preserved
 loop-preserved g c =
     let options = c.args.options.now in
-    let before = c.loop.run.retimed in
+    let before = c.loop.run in
+    let after = c.next_frame.new.run in
     let run = c.in_ok-run-in-Ok-Some.run' in
     let P : ℕ → Netlist → Type 0 = λ n d. IsFollowed options d n run in
     let Q : ℕ → Netlist → Type 0 = λ n d. AreCollected options d n c.next_frame.new.records in
@@ -81,18 +95,26 @@ loop-preserved g c =
     let was_told = g.V.FrameWatcher.was_told in
     let looking = c.enter_looking.new.watcher in
     let moving = c.next_frame.new.watcher in
-    let F : Option Frame → Type 0 = λ found. MatchOption found (NoneSmallerBy options before.circuit) (Moves options before.circuit) in
+    let frame = c.in-Ok-Some.frame in
+    let same : after.retimed ≡ before.retimed = c.in-Ok-Some.ensures.same in
+    let F : Option Frame → Type 0 = λ found. MatchOption found (NoneSmallerBy options before.retimed.circuit × (after.parts ≡ before.parts)) (MovesFollowed options before.retimed.circuit before.parts after.parts) in
     let T : Option Frame → Type 0 = λ found. MatchOption found (Tells was_told looking moving []) (λ _. Tells was_told looking moving (Moving ∷ [])) in
-    let moves : Moves options before.circuit c.in-Ok-Some.frame = subst F c.in-Ok-Some.field-0-is c.in-Ok-Some.ensures.found in
-    let told : Tells was_told looking moving (Moving ∷ []) = subst T c.in-Ok-Some.field-0-is c.in-Ok-Some.ensures.told in (
+    let followed : MovesFollowed options before.retimed.circuit before.parts after.parts frame = subst F c.in-Ok-Some.field-0-is c.in-Ok-Some.ensures.found in
+    let told : Tells was_told looking moving (Moving ∷ []) = subst T c.in-Ok-Some.field-0-is c.in-Ok-Some.ensures.told in
+    let taken : run.retimed.frames ≡ before.retimed.frames ++ frame.report ∷ [] =
+    c.in_ok-run-in-Ok-Some.ensures.frames ∙ ap (λ (r : Retimed). r.frames ++ frame.report ∷ []) same in (
       λ d start.
-          let so_far = c.loop.invariant.0 d start in (
-            subst (λ n. P n d) next (c.in_ok-run-in-Ok-Some.ensures.followed d c.loop.counter so_far.0),
+          let so_far = c.loop.invariant.0 d start in
+          let underway : IsUnderway options d c.loop.counter after.retimed = subst (λ (r : Retimed). IsUnderway options d c.loop.counter r) (sym same) so_far.0.underway in
+          let map : IsMapTo d frame.cleaned.circuit (composed after.retimed.kept_free frame.cleaned.kept_free) after.parts =
+          subst (λ (r : Retimed). IsMapTo d frame.cleaned.circuit (composed r.kept_free frame.cleaned.kept_free) after.parts) (sym same) (followed.leads d before.retimed.kept_free so_far.0.map) in (
+            subst (λ n. P n d) next (c.in_ok-run-in-Ok-Some.ensures.followed d c.loop.counter underway map),
             subst (λ n. Q n d) next
-                (one-collected options d c.loop.counter c.loop.records c.next_frame.new.records before.circuit before.kept_free before.frames so_far.1 so_far.0.underway.frames c.in-Ok-Some.ensures.certificate),
+                (one-collected options d c.loop.counter c.loop.records c.next_frame.new.records before.retimed.circuit before.retimed.kept_free before.retimed.frames so_far.1 so_far.0.underway.frames
+                c.in-Ok-Some.ensures.certificate),
           ),
-      tells-frame was_told c.args.watcher.now c.loop.watcher looking moving before.frames run.retimed.frames c.in-Ok-Some.frame.report (known_latches before.circuit.aig)
-          c.in_ok-run-in-Ok-Some.ensures.frames (ap (λ (r : FrameReport). r.before) moves.moves.reported) c.loop.invariant.1 c.enter_looking.ensures told,
+      tells-frame was_told c.args.watcher.now c.loop.watcher looking moving before.retimed.frames run.retimed.frames frame.report (known_latches before.retimed.circuit.aig) taken
+          (ap (λ (r : FrameReport). r.before) followed.moves.moves.reported) c.loop.invariant.1 c.enter_looking.ensures told,
     )
 
 -- at the limit the last circuit isn't looked at
@@ -131,7 +153,8 @@ returns-in-Ok-None-clause-told g c =
     let many : length before.frames ≡ c.loop.counter = many-taken options begun.read c.loop.counter before (c.loop.invariant.0 begun.read begun.followed).0.underway in
     let T : Option Frame → Type 0 = λ found. MatchOption found (Tells was_told looking after []) (λ _. Tells was_told looking after (Moving ∷ [])) in
     let told : Tells was_told looking after [] = subst T c.in-Ok-None.field-0-is c.in-Ok-None.ensures.told in
-    tells-end was_told c.args.watcher.now c.loop.watcher looking after options.max_frames before (omega (arith, many, c.loop-test.true)) c.loop.invariant.1 c.enter_looking.ensures told
+    subst (λ (r : Retimed). Tells was_told c.args.watcher.now after (looks_of options.max_frames r)) (sym c.in-Ok-None.ensures.same)
+    (tells-end was_told c.args.watcher.now c.loop.watcher looking after options.max_frames before (omega (arith, many, c.loop-test.true)) c.loop.invariant.1 c.enter_looking.ensures told)
 
 pub returns-clause-told : goal.returns-clause-told
 returns-clause-told g c =

@@ -1,5 +1,5 @@
 use Rattle.std.proofs.Common.{ℕ, List, ap, subst, sym, length, ◌∙◌}
-use Rattle.aig_graph.specs.Circuits.{AreLiteralsOf, Netlist}
+use Rattle.aig_graph.specs.Circuits.{AreLiteralsOf}
 use Rattle.aig_graph.specs.Graph.{Graph}
 use Rattle.aig_graph.specs.Move.{Move, move_of}
 use Rattle.map_circuits.specs.Stepping.{AreMoved}

@@ -4,7 +4,7 @@ use Rattle.aig_graph.specs.Graph.{Graph, latches_and_gates}
 use Rattle.aig_graph.specs.Laws.{composed}
 use Rattle.cleaned_circuits.specs.Cleaned.{Cleans, IsPass}
 use Rattle.cleaned_circuits.proofs.PassLaws.{IsCircuit}
-use Rattle.clean.proofs.CleaningLaws.{Passed, passed-start, passed-in_range, passed-more, passed-end, kept-long, next-below}
+use Rattle.clean.proofs.CleaningLaws.{Passed, passed-start, passed-in_range, passed-more, passed-done, kept-long, next-below}
 use Rattle.retiming_maps.specs.Mapping.{LeadsOn}
 use Rattle.retiming_maps.proofs.StepLaws.{leads-more}
 use Rattle.retiming_maps.proofs.passes.cleaned_along.Goals as goal
@@ -19,6 +19,11 @@ loop-before-init c =
           (c.latches_and_gates-before.ensures.value ∙ ap (λ (g : Graph). latches_and_gates g) c.aig.ensures.value);
       leads = c.in_ok-last.ensures.leads;
     }
+
+pub goes_on-requires : goal.goes_on-requires
+goes_on-requires c =
+    let last = c.loop-before.last in
+    passed-in_range c.args.keep.now c.args.circuit.now c.loop-before.before last.circuit last.kept_free.items last.held.items c.loop-before.invariant.passed
 
 pub next_pass-requires-clause-map : goal.next_pass-requires-clause-map
 next_pass-requires-clause-map c =
@@ -41,7 +46,7 @@ loop-before-preserved c =
     let last = c.loop-before.last in
     let next = c.in_ok-last-2.last in
     let step = c.in_ok-last-2.ensures in
-    let less : latches_and_gates last.circuit.aig < c.loop-before.before = c.leaves_fewer.ensures.fewer c.loop-before-test.true in
+    let less : latches_and_gates last.circuit.aig < c.loop-before.before = c.goes_on.ensures.fewer c.loop-before-test.true in
     let size : c.latches_and_gates-before-in-loop-before.result ≡ latches_and_gates last.circuit.aig =
     c.latches_and_gates-before-in-loop-before.ensures.value ∙ ap (λ (g : Graph). latches_and_gates g) c.aig-in-loop-before.ensures.value in
     record {
@@ -59,7 +64,7 @@ returns c =
     let made = c.cleaned_by.result in
     let P : Netlist → List ℕ → Type 0 = λ d js. Cleans d c.args.keep.now before js × LeadsOn before c.args.parts.now d js c.loop-before.parts in
     let both : P last.circuit last.kept_free.items = (
-      passed-end c.args.keep.now before c.loop-before.before last.circuit last.kept_free.items last.held.items c.loop-before.invariant.passed (c.leaves_fewer.ensures.done c.loop-before-test.false),
+      passed-done c.args.keep.now before c.loop-before.before last.circuit last.kept_free.items last.held.items c.loop-before.invariant.passed (c.goes_on.ensures.done c.loop-before-test.false),
       c.loop-before.invariant.leads,
     ) in
     let same : P made.circuit made.kept_free = subst (λ (d : Netlist). P d made.kept_free) (sym c.cleaned_by.ensures.circuit) (subst (P last.circuit) (sym c.cleaned_by.ensures.kept_free) both) in

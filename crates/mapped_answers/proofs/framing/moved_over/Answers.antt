@@ -1,0 +1,102 @@
+use Rattle.std.proofs.Common.{ℕ, List, ◌+◌, ◌-◌, ◌≤◌, ◌≡◌, ◌∙◌, arith, ap, length, sym, subst}
+use Rattle.std.proofs.lemmas.Result.{IfOk-from_err}
+use Rattle.aig_graph.specs.declared.literal.TheConstants.{MAX_VARIABLES}
+use Rattle.aig_graph.specs.Circuits.{Netlist}
+use Rattle.aig_graph.specs.Closed.{IsClosedSet}
+use Rattle.aig_graph.specs.Move.{move_of}
+use Rattle.aig_graph.proofs.GraphLaws.{room}
+use Rattle.rebuild.specs.Moved.{moved_of, moved_size}
+use Rattle.retimed_circuits.specs.Frames.{count_in, move_in, moved_in}
+use Rattle.retimed_circuits.proofs.HeldLaws.{moving-keeps}
+use Rattle.retimed_circuits.proofs.NameLaws.{names-stay}
+use Rattle.tidy.specs.Tidy.{AreLowTidy}
+use Rattle.tidy.proofs.FrameLaws.{copies-within, tidy-moved}
+use Rattle.frames.specs.Named.{NoneMissingBy, names_in}
+use Rattle.frames.specs.Retiming.{IsTidyBy}
+use Rattle.frames.proofs.FrameLaws.{helping-closed}
+use Rattle.retiming_maps.specs.Mapping.{LeadsWhole}
+use Rattle.mapped_answers.proofs.FramingLaws.{moved-followed}
+use Rattle.mapped_answers.proofs.framing.moved_over.Goals as goal
+
+pub moved_by-requires-clause-room : goal.moved_by-requires-clause-room
+moved_by-requires-clause-room c =
+    let before = c.args.circuit.now in
+    let set = c.args.set.now in
+    let P : List ℕ → Type 0 = λ held. moved_size (move_of before held set) ≤ MAX_VARIABLES in
+    subst P (sym c.requires.keep) (room before.aig (count_in (names_in c.args.options.now) before set) c.known.ensures.graph (omega (arith, c.requires.helps.fewer)))
+
+pub settled-requires-clause-names : goal.settled-requires-clause-names
+settled-requires-clause-names c =
+    let options = c.args.options.now in
+    let names = names_in options in
+    let before = c.args.circuit.now in
+    let set = c.args.set.now in
+    let same : c.in_ok-after.after ≡ moved_in names before set = c.in_ok-after.ensures.value ∙ ap (λ (held : List ℕ). moved_of (move_of before held set)) c.requires.keep in
+    subst (NoneMissingBy options) (sym same) (names-stay names before (moved_in names before set) (moving-keeps names before set c.known.ensures.netlist) c.requires.names)
+
+pub settled-requires-clause-copies : goal.settled-requires-clause-copies
+settled-requires-clause-copies c =
+    let m = move_in (names_in c.args.options.now) c.args.circuit.now c.args.set.now in
+    let same : c.in_ok-after.after ≡ moved_of m = c.in_ok-after.ensures.value ∙ ap (λ (held : List ℕ). moved_of (move_of c.args.circuit.now held c.args.set.now)) c.requires.keep in
+    omega (arith, copies-within m, ap (λ (xs : List ℕ). length xs) c.vars-copies.ensures.value, ap (λ (d : Netlist). length d.aig.gates) same)
+
+pub settled-requires-clause-tidy : goal.settled-requires-clause-tidy
+settled-requires-clause-tidy c =
+    let options = c.args.options.now in
+    let names = names_in options in
+    let before = c.args.circuit.now in
+    let set = c.args.set.now in
+    let m = move_in names before set in
+    let same : c.in_ok-after.after ≡ moved_of m = c.in_ok-after.ensures.value ∙ ap (λ (held : List ℕ). moved_of (move_of before held set)) c.requires.keep in
+    let long : length c.vars-copies.result.now ≡ length set = ap (λ (xs : List ℕ). length xs) c.vars-copies.ensures.value in
+    let first : ℕ = length (moved_of m).aig.gates - length c.vars-copies.result.now in
+    let ends : first + length set ≡ length (moved_of m).aig.gates = omega (arith, copies-within m, long) in
+    let P : Netlist → Type 0 = λ d. AreLowTidy d.aig (length d.aig.gates - length c.vars-copies.result.now) → IsTidyBy options d in
+    subst P (sym same) (λ lows. tidy-moved names before set first (record { graph = c.known.ensures.graph; netlist = c.known.ensures.netlist })
+    c.requires.tidy (helping-closed options before set c.requires.helps) ends lows)
+
+pub follow_move-requires-clause-room : goal.follow_move-requires-clause-room
+follow_move-requires-clause-room c =
+    let before = c.args.circuit.now in
+    let set = c.args.set.now in
+    let P : List ℕ → Type 0 = λ held. moved_size (move_of before held set) ≤ MAX_VARIABLES in
+    subst P (sym c.requires.keep) (room before.aig (count_in (names_in c.args.options.now) before set) c.known.ensures.graph (omega (arith, c.requires.helps.fewer)))
+
+pub follow_move-requires-clause-closed : goal.follow_move-requires-clause-closed
+follow_move-requires-clause-closed c =
+    subst (λ (held : List ℕ). IsClosedSet c.args.circuit.now.aig held c.args.set.now) (sym c.requires.keep)
+    (helping-closed c.args.options.now c.args.circuit.now c.args.set.now c.requires.helps)
+
+pub follow_move-requires-clause-marked : goal.follow_move-requires-clause-marked
+follow_move-requires-clause-marked c = c.requires.marked
+
+pub settled-requires-clause-map : goal.settled-requires-clause-map
+settled-requires-clause-map c =
+    let start = c.requires.map in
+    let P : Netlist → Type 0 = λ d. LeadsWhole c.args.circuit.now c.args.parts.now d c.follow_move.new.parts in
+    let whole = subst P (sym c.in_ok-after.ensures.value) c.in_ok-follow_move.ensures in
+    (start.0, start.1, whole start.0 start.1 start.2)
+
+pub moved_by-requires-clause-closed : goal.moved_by-requires-clause-closed
+moved_by-requires-clause-closed c =
+    subst (λ (held : List ℕ). IsClosedSet c.args.circuit.now.aig held c.args.set.now) (sym c.requires.keep)
+    (helping-closed c.args.options.now c.args.circuit.now c.args.set.now c.requires.helps)
+
+pub moved_by-requires-clause-marked : goal.moved_by-requires-clause-marked
+moved_by-requires-clause-marked c = c.requires.marked
+
+pub returns-in_err-follow_move : goal.returns-in_err-follow_move
+returns-in_err-follow_move c = IfOk-from_err c.from_residual.result _ c.from_residual.ensures.0
+
+pub returns-in_err-after : goal.returns-in_err-after
+returns-in_err-after c = IfOk-from_err c.from_residual-in_err-after.result _ c.from_residual-in_err-after.ensures.0
+
+pub returns : goal.returns
+returns c =
+    let options = c.args.options.now in
+    let before = c.args.circuit.now in
+    let set = c.args.set.now in
+    let same = c.in_ok-after.ensures.value ∙ ap (λ (held : List ℕ). moved_of (move_of before held set)) c.requires.keep in
+    let P : Netlist → Type 0 = λ d. LeadsWhole before c.args.parts.now d c.follow_move.new.parts in
+    let whole : P c.in_ok-after.after = subst P (sym c.in_ok-after.ensures.value) c.in_ok-follow_move.ensures in
+    moved-followed options before c.in_ok-after.after set c.args.parts.now c.follow_move.new.parts c.settled.new.parts c.settled.result c.known.ensures.netlist same c.in_ok-after.ensures.streams whole c.settled.ensures

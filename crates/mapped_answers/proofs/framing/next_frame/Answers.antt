@@ -1,0 +1,125 @@
+use Rattle.std.proofs.Common.{List, Option, ◌∙◌, ap, refl, subst, sym, ℕ}
+use Rattle.std.specs.Option.{MatchOption}
+use Rattle.std.proofs.lemmas.Result.{IfOk-from_err}
+use Rattle.aig_graph.specs.Keep.{NoneMissing, held_in, names_of}
+use Rattle.aig_graph.specs.Move.{move_of}
+use Rattle.rebuild.specs.Marked.{AreMarksOf}
+use Rattle.frames.specs.declared.helping.Helping.{Helping}
+use Rattle.frames.specs.Found.{Helps}
+use Rattle.frames.specs.Retiming.{NoneSmallerBy}
+use Rattle.frames.proofs.StageLaws.{tells-nothing}
+use Rattle.mapped_answers.proofs.framing.next_frame.Goals as goal
+
+pub keep_by_names-requires : goal.keep_by_names-requires
+keep_by_names-requires g c = subst (λ names. NoneMissing (names_of names) c.args.run.now.retimed.circuit) (sym c.as_slice.ensures.value) c.requires.names
+
+pub helping_set-requires-after_bounds : goal.helping_set-requires-after_bounds
+helping_set-requires-after_bounds g c κs within = c.in_ok-keep.ensures ∙ ap (λ names. held_in (names_of names) c.args.run.now.retimed.circuit) c.as_slice.ensures.value
+
+pub moved_over-requires-clause-keep : goal.moved_over-requires-clause-keep
+moved_over-requires-clause-keep g c = c.in_ok-keep.ensures ∙ ap (λ names. held_in (names_of names) c.args.run.now.retimed.circuit) c.as_slice.ensures.value
+
+pub moved_over-requires-clause-names : goal.moved_over-requires-clause-names
+moved_over-requires-clause-names g c = c.requires.names
+
+pub moved_over-requires-clause-tidy : goal.moved_over-requires-clause-tidy
+moved_over-requires-clause-tidy g c = c.requires.tidy
+
+pub moved_over-requires-clause-map : goal.moved_over-requires-clause-map
+moved_over-requires-clause-map g c = c.requires.map
+
+pub moved_over-requires-clause-helps : goal.moved_over-requires-clause-helps
+moved_over-requires-clause-helps g c =
+    let options = c.args.options.now in
+    let before = c.args.run.now.retimed.circuit in
+    let P : Option Helping → Type 0 = λ found. MatchOption found (NoneSmallerBy options before) (Helps options before) in
+    let helps : Helps options before c.in-Some.found = subst P c.in-Some.is c.in_ok-found.ensures.found in
+    helps.set
+
+pub returns-in-Some-clause-found : goal.returns-in-Some-clause-found
+returns-in-Some-clause-found g c =
+    let options = c.args.options.now in
+    let before = c.args.run.now.retimed.circuit in
+    let P : Option Helping → Type 0 = λ found. MatchOption found (NoneSmallerBy options before) (Helps options before) in
+    let helps : Helps options before c.in-Some.found = subst P c.in-Some.is c.in_ok-found.ensures.found in
+    let d = c.in_ok-cleaned-in-Some.ensures in
+    record {
+      moves = record {
+        set = helps.set;
+        cleaned = d.moved.cleaned;
+        moves = record { set = c.in-Some.found.set; helps = helps.set; cleaned = d.moved.cleaned; reported = helps.report };
+        keeps = d.moved.keeps;
+      };
+      leads = d.leads;
+    }
+
+pub returns-clause-found : goal.returns-clause-found
+returns-clause-found g c =
+    let options = c.args.options.now in
+    let before = c.args.run.now.retimed.circuit in
+    let P : Option Helping → Type 0 = λ found. MatchOption found (NoneSmallerBy options before) (Helps options before) in
+    (subst P c.in-None.is c.in_ok-found.ensures.found, refl)
+
+pub returns-in_err-keep-clause-found : goal.returns-in_err-keep-clause-found
+returns-in_err-keep-clause-found g c = IfOk-from_err c.from_residual.result _ c.from_residual.ensures.0
+
+pub returns-in_err-keep-clause-certificate : goal.returns-in_err-keep-clause-certificate
+returns-in_err-keep-clause-certificate g c = IfOk-from_err c.from_residual.result _ c.from_residual.ensures.0
+
+pub returns-in_err-keep-clause-told : goal.returns-in_err-keep-clause-told
+returns-in_err-keep-clause-told g c = IfOk-from_err c.from_residual.result _ c.from_residual.ensures.0
+
+pub returns-in_err-found-clause-found : goal.returns-in_err-found-clause-found
+returns-in_err-found-clause-found g c = IfOk-from_err c.from_residual-in_err-found.result _ c.from_residual-in_err-found.ensures.0
+
+pub returns-in_err-found-clause-certificate : goal.returns-in_err-found-clause-certificate
+returns-in_err-found-clause-certificate g c = IfOk-from_err c.from_residual-in_err-found.result _ c.from_residual-in_err-found.ensures.0
+
+pub returns-in_err-found-clause-told : goal.returns-in_err-found-clause-told
+returns-in_err-found-clause-told g c = IfOk-from_err c.from_residual-in_err-found.result _ c.from_residual-in_err-found.ensures.0
+
+pub returns-in_err-cleaned-in-Some-clause-found : goal.returns-in_err-cleaned-in-Some-clause-found
+returns-in_err-cleaned-in-Some-clause-found g c = IfOk-from_err c.from_residual-in_err-cleaned-in-Some.result _ c.from_residual-in_err-cleaned-in-Some.ensures.0
+
+pub returns-in_err-cleaned-in-Some-clause-certificate : goal.returns-in_err-cleaned-in-Some-clause-certificate
+returns-in_err-cleaned-in-Some-clause-certificate g c = IfOk-from_err c.from_residual-in_err-cleaned-in-Some.result _ c.from_residual-in_err-cleaned-in-Some.ensures.0
+
+pub returns-in_err-cleaned-in-Some-clause-told : goal.returns-in_err-cleaned-in-Some-clause-told
+returns-in_err-cleaned-in-Some-clause-told g c = IfOk-from_err c.from_residual-in_err-cleaned-in-Some.result _ c.from_residual-in_err-cleaned-in-Some.ensures.0
+
+pub returns-clause-certificate : goal.returns-clause-certificate
+returns-clause-certificate g c = c.in_ok-found.ensures.certificate
+
+-- the flows that are carried on are none of the certificates' business
+pub returns-in-Some-clause-certificate : goal.returns-in-Some-clause-certificate
+returns-in-Some-clause-certificate g c =
+    let found = c.in_ok-found.ensures.certificate in
+    record {
+      set = found.set;
+      chosen = found.chosen;
+      adds = record { certify = found.adds.certify; added = found.adds.added; none = found.adds.none };
+    }
+
+pub moved_over-requires-clause-marked : goal.moved_over-requires-clause-marked
+moved_over-requires-clause-marked g c =
+    let options = c.args.options.now in
+    let before = c.args.run.now.retimed.circuit in
+    let P : Option Helping → Type 0 = λ found. MatchOption found (NoneSmallerBy options before) (Helps options before) in
+    let helps : Helps options before c.in-Some.found = subst P c.in-Some.is c.in_ok-found.ensures.found in
+    let kept = c.in_ok-keep.ensures ∙ ap (λ names. held_in (names_of names) before) c.as_slice.ensures.value in
+    subst (λ (held : List ℕ). AreMarksOf (move_of before held c.in-Some.found.set) c.in-Some.found.marks) (sym kept) helps.marks
+
+pub returns-clause-told : goal.returns-clause-told
+returns-clause-told g c = tells-nothing g.V.FrameWatcher.was_told c.args.watcher.now
+
+pub returns-in-Some-clause-told : goal.returns-in-Some-clause-told
+returns-in-Some-clause-told g c = c.enter.ensures
+
+pub returns-in_err-keep-clause-same : goal.returns-in_err-keep-clause-same
+returns-in_err-keep-clause-same g c = IfOk-from_err c.from_residual.result _ c.from_residual.ensures.0
+
+pub returns-in_err-found-clause-same : goal.returns-in_err-found-clause-same
+returns-in_err-found-clause-same g c = IfOk-from_err c.from_residual-in_err-found.result _ c.from_residual-in_err-found.ensures.0
+
+pub returns-in_err-cleaned-in-Some-clause-same : goal.returns-in_err-cleaned-in-Some-clause-same
+returns-in_err-cleaned-in-Some-clause-same g c = IfOk-from_err c.from_residual-in_err-cleaned-in-Some.result _ c.from_residual-in_err-cleaned-in-Some.ensures.0
