@@ -2,7 +2,9 @@
 #![tactic(auto)]
 
 mod merging;
+mod reading;
 mod rounds;
 mod told;
 
 pub use merging::{MergedCircuit, merge_latches};
+pub use reading::{latch_reading, merged_by};

@@ -8,9 +8,10 @@ ghost use Rattle.merged_latches.specs.Partitions.{IsCoarsest, IsMerged};
 ghost use Rattle.merged_latches.specs.Counts.{AreCounts, merged_latches};
 ghost use Rattle.latch_merging.specs.Rounds.{first_round, next_round};
 
-use crate::rounds::{counts_of, first_round, merged_latches, next_round, substitutes_by};
+use crate::reading::{latch_reading, merged_by};
+use crate::rounds::{first_round, merged_latches, next_round};
 use aig_graph::{Aig, Circuit, Keep, Lit, NoMemory};
-use clean::{Held, replaced_circuit};
+use clean::Held;
 use merged_latches::MergeCounts;
 use std::alloc::Global;
 
@@ -72,7 +73,11 @@ impl Round {
 }
 
 /// What latches read as by the coarsest kept reading.
-fn coarsest_reading(alloc: Global, aig: &Aig, held: &Held<'_>) -> Result<Vec<Lit>, NoMemory>
+pub(crate) fn coarsest_reading(
+    alloc: Global,
+    aig: &Aig,
+    held: &Held<'_>,
+) -> Result<Vec<Lit>, NoMemory>
     requires { length held.now.marks.items ≡ length aig.now.latches }
     ensures { IfOk result (λ reads. IsCoarsest aig.now held.now.positions.now reads.items) }
 {
@@ -113,16 +118,6 @@ pub fn merge_latches(
     ensures streams { IfOk result (λ after. SameStreams circuit.now after.circuit
         (all_free circuit.now.aig)) }
 {
-    let aig = circuit.aig();
-    let held = Held::new(alloc, keep.positions(), aig.latches().len())?;
-    let reads = coarsest_reading(alloc, aig, &held)?;
-    let literals = reads.as_slice();
-    let counts = counts_of(aig, literals);
-    let substitutes = substitutes_by(alloc, aig, literals)?;
-    drop(reads);
-    let merged = replaced_circuit(alloc, circuit, &substitutes)?;
-    Ok(MergedCircuit {
-        circuit: merged,
-        counts,
-    })
+    let reads = latch_reading(alloc, circuit, keep)?;
+    merged_by(alloc, circuit, keep, reads)
 }

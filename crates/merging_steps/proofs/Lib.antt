@@ -1,2 +1,3 @@
 pub mod ReadsSubstituteLaws
 pub mod MergeStepLaws
+pub mod ReadFunctionLaws

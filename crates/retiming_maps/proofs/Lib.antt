@@ -2,3 +2,4 @@ pub mod StartLaws
 pub mod SubstitutesLaws
 pub mod StepLaws
 pub mod FinishingLaws
+pub mod MergingLaws

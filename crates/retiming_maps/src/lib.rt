@@ -3,6 +3,7 @@
 #![tactic(auto)]
 
 mod maps;
+mod merging;
 mod moves;
 mod parts;
 mod passes;
@@ -10,6 +11,7 @@ mod start;
 
 pub use map_circuits::MapError;
 pub use maps::state_map;
+pub use merging::start_along;
 pub use moves::follow_move;
 pub use parts::MapParts;
 pub use passes::cleaned_along;

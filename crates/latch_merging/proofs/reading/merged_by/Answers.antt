@@ -5,37 +5,28 @@ use Rattle.aig_graph.specs.Laws.{all_free}
 use Rattle.aig_graph.specs.Streams.{SameStreams}
 use Rattle.cleaned_circuits.specs.Merged.{replaced_circuit}
 use Rattle.merged_latches.specs.Readings.{substitutes_by}
-use Rattle.merged_latches.specs.Partitions.{IsCoarsest}
 use Rattle.merged_latches.specs.Counts.{counts_of}
 use Rattle.merged_latches.proofs.MergingLaws.{IsGraph-kept, IsNetlist-kept, kept-streams}
 use Rattle.latch_merging.proofs.RoundStepLaws.{substitutes_by-long}
-use Rattle.latch_merging.proofs.merging.merge_latches.Goals as goal
+use Rattle.latch_merging.proofs.reading.merged_by.Goals as goal
 
--- the reading is the circuit's coarsest, and what stands is what it makes stand
-coarsest : (g h : Graph) (held positions reads : List ℕ) → h ≡ g → positions ≡ held → IsCoarsest h positions reads → IsCoarsest g held reads
-coarsest g h held positions reads same at is =
-    let P : Graph → Type 0 = λ x. IsCoarsest x held reads in
-    let Q : List ℕ → Type 0 = λ xs. IsCoarsest h xs reads in
-    subst P same (subst Q at is)
-
+-- what stands is what the reading makes stand
 substitutes : (g h : Graph) (reads slice given : List ℕ) → h ≡ g → slice ≡ reads → given ≡ substitutes_by h slice → given ≡ substitutes_by g reads
 substitutes g h reads slice given same is by = by ∙ ap (λ (x : Graph). substitutes_by x slice) same ∙ ap (substitutes_by g) is
 
 pub replaced_circuit-requires-clause-long : goal.replaced_circuit-requires-clause-long
 replaced_circuit-requires-clause-long c =
     let g : Graph = c.args.circuit.now.aig in
-    let reads : List ℕ = c.in_ok-reads.reads.items in
-    let is = coarsest g c.aig-aig.result.now c.args.keep.now c.in_ok-held.held.positions.now reads c.aig-aig.ensures.value
-    (c.in_ok-held.ensures.positions ∙ c.positions.ensures.value) c.in_ok-reads.ensures in
+    let reads : List ℕ = c.args.reads.items in
+    let is = c.requires in
     ap (λ (xs : List ℕ). length xs) (substitutes g c.aig-aig.result.now reads c.as_slice-literals.result.now c.in_ok-substitutes.substitutes c.aig-aig.ensures.value c.as_slice-literals.ensures.value c.in_ok-substitutes.ensures)
     ∙ substitutes_by-long g reads is.kept.reading.long
 
 pub replaced_circuit-requires-clause-graph : goal.replaced_circuit-requires-clause-graph
 replaced_circuit-requires-clause-graph c =
     let g : Graph = c.args.circuit.now.aig in
-    let reads : List ℕ = c.in_ok-reads.reads.items in
-    let is = coarsest g c.aig-aig.result.now c.args.keep.now c.in_ok-held.held.positions.now reads c.aig-aig.ensures.value
-    (c.in_ok-held.ensures.positions ∙ c.positions.ensures.value) c.in_ok-reads.ensures in
+    let reads : List ℕ = c.args.reads.items in
+    let is = c.requires in
     let P : List ℕ → Type 0 = λ xs. IsGraph (replaced_circuit xs c.args.circuit.now).aig in
     subst P (sym (substitutes g c.aig-aig.result.now reads c.as_slice-literals.result.now c.in_ok-substitutes.substitutes c.aig-aig.ensures.value c.as_slice-literals.ensures.value c.in_ok-substitutes.ensures))
     (IsGraph-kept c.args.keep.now reads c.args.circuit.now c.aig-aig.ensures.graph is.kept)
@@ -43,9 +34,8 @@ replaced_circuit-requires-clause-graph c =
 pub replaced_circuit-requires-clause-netlist : goal.replaced_circuit-requires-clause-netlist
 replaced_circuit-requires-clause-netlist c =
     let g : Graph = c.args.circuit.now.aig in
-    let reads : List ℕ = c.in_ok-reads.reads.items in
-    let is = coarsest g c.aig-aig.result.now c.args.keep.now c.in_ok-held.held.positions.now reads c.aig-aig.ensures.value
-    (c.in_ok-held.ensures.positions ∙ c.positions.ensures.value) c.in_ok-reads.ensures in
+    let reads : List ℕ = c.args.reads.items in
+    let is = c.requires in
     let P : List ℕ → Type 0 = λ xs. IsNetlist (replaced_circuit xs c.args.circuit.now) in
     subst P (sym (substitutes g c.aig-aig.result.now reads c.as_slice-literals.result.now c.in_ok-substitutes.substitutes c.aig-aig.ensures.value c.as_slice-literals.ensures.value c.in_ok-substitutes.ensures))
     (IsNetlist-kept c.args.keep.now reads c.args.circuit.now c.aig-aig.ensures.graph is.kept c.aig-aig.ensures.netlist)
@@ -53,18 +43,16 @@ replaced_circuit-requires-clause-netlist c =
 pub returns-clause-merged : goal.returns-clause-merged
 returns-clause-merged c =
     let g : Graph = c.args.circuit.now.aig in
-    let reads : List ℕ = c.in_ok-reads.reads.items in
-    let is = coarsest g c.aig-aig.result.now c.args.keep.now c.in_ok-held.held.positions.now reads c.aig-aig.ensures.value
-    (c.in_ok-held.ensures.positions ∙ c.positions.ensures.value) c.in_ok-reads.ensures in
+    let reads : List ℕ = c.args.reads.items in
+    let is = c.requires in
     let by = substitutes g c.aig-aig.result.now reads c.as_slice-literals.result.now c.in_ok-substitutes.substitutes c.aig-aig.ensures.value c.as_slice-literals.ensures.value c.in_ok-substitutes.ensures in
     record { reads = reads; coarsest = is; circuit = c.in_ok-merged.ensures ∙ ap (λ (xs : List ℕ). replaced_circuit xs c.args.circuit.now) by }
 
 pub returns-clause-counted : goal.returns-clause-counted
 returns-clause-counted c =
     let g : Graph = c.args.circuit.now.aig in
-    let reads : List ℕ = c.in_ok-reads.reads.items in
-    let is = coarsest g c.aig-aig.result.now c.args.keep.now c.in_ok-held.held.positions.now reads c.aig-aig.ensures.value
-    (c.in_ok-held.ensures.positions ∙ c.positions.ensures.value) c.in_ok-reads.ensures in
+    let reads : List ℕ = c.args.reads.items in
+    let is = c.requires in
     record {
       reads = reads;
       coarsest = is;
@@ -74,9 +62,8 @@ returns-clause-counted c =
 pub returns-clause-streams : goal.returns-clause-streams
 returns-clause-streams c =
     let g : Graph = c.args.circuit.now.aig in
-    let reads : List ℕ = c.in_ok-reads.reads.items in
-    let is = coarsest g c.aig-aig.result.now c.args.keep.now c.in_ok-held.held.positions.now reads c.aig-aig.ensures.value
-    (c.in_ok-held.ensures.positions ∙ c.positions.ensures.value) c.in_ok-reads.ensures in
+    let reads : List ℕ = c.args.reads.items in
+    let is = c.requires in
     let by = substitutes g c.aig-aig.result.now reads c.as_slice-literals.result.now c.in_ok-substitutes.substitutes c.aig-aig.ensures.value c.as_slice-literals.ensures.value c.in_ok-substitutes.ensures in
     let P : Netlist → Type 0 = λ d. SameStreams c.args.circuit.now d (all_free g) in
     subst P (sym (c.in_ok-merged.ensures ∙ ap (λ (xs : List ℕ). replaced_circuit xs c.args.circuit.now) by))

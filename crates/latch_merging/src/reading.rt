@@ -1,0 +1,57 @@
+//! Merging in its two halves, for who needs the reading as well: what each latch reads as, and the circuit in which the latches read so.
+ghost use Rattle.std.specs.Prelude.{IfOk};
+ghost use Rattle.aig_graph.specs.Laws.{all_free};
+ghost use Rattle.aig_graph.specs.Streams.{SameStreams};
+ghost use Rattle.merged_latches.specs.Counts.{AreCounts};
+ghost use Rattle.merged_latches.specs.Partitions.{IsCoarsest, IsMerged};
+
+use crate::merging::{MergedCircuit, coarsest_reading};
+use crate::rounds::{counts_of, substitutes_by};
+use aig_graph::{Circuit, Keep, Lit, NoMemory};
+use clean::{Held, replaced_circuit};
+use std::alloc::Global;
+
+/// What each latch reads as where latches that always agree are merged: itself, an earlier latch, negated where their resets differ, or
+/// a constant. Costs what merging costs, but for the circuit.
+///
+/// # Errors
+///
+/// `NoMemory` where memory is refused.
+pub fn latch_reading(alloc: Global, circuit: &Circuit, keep: &Keep) -> Result<Vec<Lit>, NoMemory>
+    ensures { IfOk result (λ reads. IsCoarsest circuit.now.aig keep.now reads.items) }
+{
+    let aig = circuit.aig();
+    let held = Held::new(alloc, keep.positions(), aig.latches().len())?;
+    coarsest_reading(alloc, aig, &held)
+}
+
+/// The circuit in which the latches read so, as [`merge_latches`](crate::merge_latches) makes it, where these are held. Linear in the
+/// latches and gates, but for a hash table; the reading is dropped before the circuit is made.
+///
+/// # Errors
+///
+/// `NoMemory` where memory is refused.
+pub fn merged_by(
+    alloc: Global,
+    circuit: &Circuit,
+    keep: &Keep,
+    reads: Vec<Lit>,
+) -> Result<MergedCircuit, NoMemory>
+    requires { IsCoarsest circuit.now.aig keep.now reads.items }
+    ensures merged { IfOk result (λ after. IsMerged keep.now circuit.now after.circuit) }
+    ensures counted { IfOk result (λ after. AreCounts circuit.now.aig keep.now after.counts) }
+    ensures streams { IfOk result (λ after. SameStreams circuit.now after.circuit
+        (all_free circuit.now.aig)) }
+{
+    let _keep = keep;
+    let aig = circuit.aig();
+    let literals = reads.as_slice();
+    let counts = counts_of(aig, literals);
+    let substitutes = substitutes_by(alloc, aig, literals)?;
+    drop(reads);
+    let merged = replaced_circuit(alloc, circuit, &substitutes)?;
+    Ok(MergedCircuit {
+        circuit: merged,
+        counts,
+    })
+}

@@ -1,0 +1,70 @@
+-- A map that follows a merging is one to what is merged, and so is one that follows a cleaning before it.
+use Rattle.std.proofs.Common.{ℕ, ◌≡◌, List, length, Ok, ap, sym, ◌∙◌, subst}
+use Rattle.std.proofs.lemmas.List.{length-map}
+use Rattle.std.proofs.lemmas.List.FromFn.{length-range_with_len}
+use Rattle.aig_graph.specs.Circuits.{Netlist}
+use Rattle.aig_graph.specs.Graph.{Graph, first_latch, free_latches}
+use Rattle.aig_graph.specs.Keep.{held_in}
+use Rattle.aig_graph.specs.Laws.{all_free, composed}
+use Rattle.aig_graph.specs.Streams.{SameStreams}
+use Rattle.clean.specs.declared.cleaning.Cleaned.{Cleaned}
+use Rattle.cleaned_circuits.proofs.MergedLaws.{length-replaced_latches}
+use Rattle.cleaned_circuits.proofs.PassLaws.{IsCircuit, IsCircuit-cleans, cleans-streams}
+use Rattle.frame_start.specs.declared.start.MergedStart.{MergedStart}
+use Rattle.frame_start.proofs.StartLaws.{held-by, merges-by, streams-by}
+use Rattle.merged_latches.specs.Partitions.{IsCoarsest, IsMerged}
+use Rattle.merged_latches.specs.Readings.{substitutes_by}
+use Rattle.merged_latches.proofs.FinerLaws.{coarsest-one}
+use Rattle.merged_latches.proofs.MergingLaws.{merged-streams}
+use Rattle.map_circuits.specs.Constraining.{AddsSubstitutes, AreOne, substitute_function}
+use Rattle.map_circuits.specs.Following.{state_of}
+use Rattle.merging_steps.specs.Steps.{read_functions}
+use Rattle.merging_steps.proofs.ReadFunctionLaws.{merged-step, read-within}
+use Rattle.state_maps.specs.States.{IsStateMap}
+use Rattle.retimed_circuits.specs.Frames.{CleansIn}
+use Rattle.retiming_maps.specs.declared.parts.MapParts.{MapParts}
+use Rattle.retiming_maps.specs.Mapping.{IsMapBy, LeadsOn}
+use Rattle.retiming_maps.specs.Merging.{IsMergedAfter, IsStartAlong}
+
+module _ (b d e : Netlist) (held kept reads : List ℕ) (g h : Graph) (functions old new : List ℕ) where
+  -- a map to a circuit, with the constraints of what its latches read as, is one to what the circuit is merged to, by the functions of what they read as
+  pub merged-map : IsCircuit d → IsCoarsest d.aig held reads → IsMerged held d e → IsMapBy b d kept g functions old
+      → AddsSubstitutes g (first_latch d.aig) functions reads (length reads) h old new → IsMapBy b e kept h (read_functions (first_latch d.aig) functions reads) new
+  merged-map valid coarsest merged p adds = record {
+    graph = adds.extends.graph;
+    inputs = adds.extends.inputs ∙ p.inputs;
+    latches = adds.extends.latches ∙ p.latches;
+    functions_within = read-within d.aig held reads functions coarsest.kept.reading p.many g h old new p.graph p.functions_within adds;
+    constraints_within = adds.within;
+    many = length-map reads (substitute_function (first_latch d.aig) functions) ∙ coarsest.kept.reading.long ∙ sym (ap (λ (n : Netlist). length n.aig.latches) merged.circuit ∙ length-replaced_latches (substitutes_by d.aig merged.reads) d.aig);
+    each = p.each ∙ sym (length-range_with_len 0 (free_latches d.aig)) ∙ streams.places.each;
+    maps = subst Q one (merged-step b d e held kept g h functions old new valid.graph valid.netlist merged p.graph p.functions_within p.many p.each p.maps (subst P (sym one) adds));
+  }
+    where
+      streams : SameStreams d e (all_free d.aig)
+      streams = merged-streams held d e valid.graph valid.netlist merged
+
+      one : merged.reads ≡ reads
+      one = coarsest-one d.aig held merged.reads reads merged.coarsest coarsest
+
+      P : List ℕ → Type 0
+      P = λ xs. AddsSubstitutes g (first_latch d.aig) functions xs (length xs) h old new
+
+      Q : List ℕ → Type 0
+      Q = λ xs. IsStateMap b e kept (AreOne h new) (state_of h (read_functions (first_latch d.aig) functions xs))
+
+-- a map that follows a cleaning and then a merging is one to what frames start from
+pub started : (names : List (List ℕ)) (c : Netlist) (d : Cleaned) (old mid new : MapParts) (m : MergedStart) → IsCircuit c → CleansIn names c d.circuit d.kept_free → LeadsOn c old d.circuit d.kept_free mid
+    → IsMergedAfter names d mid new m → IsStartAlong names c old new m
+started names c d old mid new m valid cleans leads after =
+    let whole : IsCircuit d.circuit = IsCircuit-cleans d.circuit (held_in names c) c d.kept_free cleans valid in
+    let first : SameStreams c d.circuit d.kept_free = cleans-streams d.circuit (held_in names c) c d.kept_free cleans valid in
+    let then : SameStreams d.circuit m.circuit (all_free d.circuit.aig) = merged-streams (held_in names d.circuit) d.circuit m.circuit whole.graph whole.netlist after.merged in
+    let P : List ℕ → Type 0 = λ places. LeadsOn c old m.circuit places new in
+    let E : Type 0 = Unit {0} in
+    record {
+      merges = merges-by {E = E} names c d (Ok m) cleans after.merged after.counted after.kept_free;
+      streams = streams-by {E = E} names c d (Ok m) first then after.kept_free;
+      held = held-by {E = E} names c d (Ok m) valid cleans after.merged;
+      leads = subst P (sym after.kept_free) (λ b kept p. after.leads b (composed kept d.kept_free) (leads b kept p));
+    }

@@ -1,0 +1,128 @@
+//! A map that follows a merging of latches: that each latch is what it reads as is a constraint, and the function of that is its function then.
+//! The cleaning before it comes first, so these constraints are of the functions that the cleaned circuit's latches have.
+ghost use Rattle.std.specs.Prelude.{OnOk, IfOk};
+ghost use Rattle.aig_graph.specs.Keep.{NoneMissing, held_in, names_of};
+ghost use Rattle.merged_latches.specs.Partitions.{IsCoarsest};
+ghost use Rattle.retiming_maps.specs.Mapping.{IsSomeMapTo};
+ghost use Rattle.retiming_maps.specs.Merging.{IsMergedAfter, IsMergedAlong, IsStartAlong, LeadsMerged};
+
+use crate::parts::MapParts;
+use crate::passes::cleaned_along;
+use aig_graph::{Circuit, Keep, Lit, keep_by_names};
+use clean::Cleaned;
+use frame_start::MergedStart;
+use latch_merging::{MergedCircuit, latch_reading, merged_by};
+use map_circuits::MapError;
+use merging_steps::{add_readings, read_functions};
+use std::alloc::Global;
+
+/// Follows a merging that was made with these latches held, by what the latches read as.
+fn follow_merging(
+    alloc: Global,
+    parts: &mut MapParts,
+    circuit: &Circuit,
+    keep: &Keep,
+    reads: &[Lit],
+) -> Result<(), MapError>
+    requires map { IsSomeMapTo circuit.now parts.old }
+    requires coarsest { IsCoarsest circuit.now.aig keep.now reads.now }
+    ensures { OnOk result (LeadsMerged keep.now circuit.now parts.old parts.new) }
+{
+    let _keep = keep;
+    circuit.known();
+    let functions = parts.functions.as_slice();
+    let aig = circuit.aig();
+    add_readings(
+        &mut parts.gates,
+        &mut parts.constraints,
+        functions,
+        aig,
+        reads,
+    )?;
+    let new = read_functions(alloc, functions, aig, reads)?;
+    parts.functions = new;
+    Ok(())
+}
+
+/// The circuit in which latches that always agree are one, and the map with it.
+fn merged_along(
+    alloc: Global,
+    parts: &mut MapParts,
+    circuit: &Circuit,
+    keep: &Keep,
+) -> Result<MergedCircuit, MapError>
+    requires { IsSomeMapTo circuit.now parts.old }
+    ensures { IfOk result (IsMergedAlong keep.now circuit.now parts.old parts.new) }
+{
+    let reads = latch_reading(alloc, circuit, keep)?;
+    follow_merging(alloc, parts, circuit, keep, reads.as_slice())?;
+    let merged = merged_by(alloc, circuit, keep, reads)?;
+    Ok(merged)
+}
+
+/// The same, where the latches that the names hold take no part.
+fn merged_by_names(
+    alloc: Global,
+    parts: &mut MapParts,
+    circuit: &Circuit,
+    names: &[Vec<u8>],
+) -> Result<MergedCircuit, MapError>
+    requires map { IsSomeMapTo circuit.now parts.old }
+    requires names { NoneMissing (names_of names.now) circuit.now }
+    ensures { IfOk result (IsMergedAlong (held_in (names_of names.now) circuit.now) circuit.now
+        parts.old parts.new) }
+{
+    let keep = keep_by_names(alloc, circuit, names)?;
+    merged_along(alloc, parts, circuit, &keep)
+}
+
+/// What a circuit that was cleaned is merged to, and the map with it.
+fn merged_after(
+    alloc: Global,
+    parts: &mut MapParts,
+    cleaned: Cleaned,
+    names: &[Vec<u8>],
+) -> Result<MergedStart, MapError>
+    requires map { IsSomeMapTo cleaned.circuit parts.old }
+    requires names { NoneMissing (names_of names.now) cleaned.circuit }
+    ensures { IfOk result (IsMergedAfter (names_of names.now) cleaned parts.old parts.new) }
+{
+    let Cleaned {
+        circuit: before,
+        kept_free,
+        ..
+    } = cleaned;
+    let merged = merged_by_names(alloc, parts, &before, names);
+    drop(before);
+    match merged {
+        Ok(MergedCircuit { circuit, counts }) => Ok(MergedStart {
+            circuit,
+            kept_free,
+            counts,
+        }),
+        Err(error) => Err(error),
+    }
+}
+
+/// The circuit cleaned, and its latches that always agree merged, as [`frame_start::merged_start`] does it, and the map with it. Its
+/// constraints are those of the cleaning, and then one for each latch that reads as another.
+///
+/// # Errors
+///
+/// `NoMemory` where memory is refused, `TooLarge` where the map would have more variables than a graph may have.
+pub fn start_along(
+    alloc: Global,
+    parts: &mut MapParts,
+    circuit: &Circuit,
+    names: &[Vec<u8>],
+) -> Result<MergedStart, MapError>
+    requires map { IsSomeMapTo circuit.now parts.old }
+    requires names { NoneMissing (names_of names.now) circuit.now }
+    ensures { IfOk result (IsStartAlong (names_of names.now) circuit.now parts.old parts.new) }
+{
+    // That it is a circuit is what its readers ensure.
+    circuit.known();
+    let keep = keep_by_names(alloc, circuit, names)?;
+    let cleaned = cleaned_along(alloc, parts, circuit, &keep)?;
+    merged_after(alloc, parts, cleaned, names)
+}
