@@ -6,7 +6,7 @@ use Rattle.retimed_circuits.specs.declared.report.Retimed.{Retimed}
 use Rattle.retimed_circuits.specs.Merging.{MergesIn}
 use Rattle.retimed_circuits.specs.Names.{held_latches}
 use Rattle.retimed_circuits.specs.Retiming.{since_merged}
-use Rattle.frames.specs.declared.merging.Read.{Read}
+use Rattle.frames.specs.declared.merging.ReadCircuit.{ReadCircuit}
 use Rattle.frames.specs.declared.merging.Start.{Start}
 use Rattle.frames.specs.declared.options.Options.{Options}
 use Rattle.frames.specs.Named.{NoneMissingBy, names_in}
@@ -20,5 +20,5 @@ pub record IsStart (options : Options) (c : Netlist) (start : Start) : Type 0 wh
   pub names : NoneMissingBy options start.circuit
 
 -- what is told of the circuit that was read, where this is what frames start from retimed
-abbrev pub told_of_read : Read → Retimed → Retimed
+abbrev pub told_of_read : ReadCircuit → Retimed → Retimed
 told_of_read read r = since_merged read.latches read.kept_free read.counts r

@@ -24,6 +24,7 @@ pub use helping::{Helping, helping_set};
 pub use laws::answer_law;
 pub use least_sets::Choice;
 pub use merged_latches::MergeCounts;
+pub use merging::{ReadCircuit, told_of_read};
 pub use options::Options;
 pub use retimed_circuits::{FrameReport, Retimed};
 pub use retiming::{after_frame, begun, enter_looking, with_certificates};

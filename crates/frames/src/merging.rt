@@ -24,9 +24,12 @@ use std::thread::Threads;
 
 /// What is told of the circuit that was read, beside what becomes of the one that it was merged to.
 #[derive(Drop)]
-pub(crate) struct Read {
+pub struct ReadCircuit {
+    /// How many latches it has.
     pub latches: u32,
+    /// Of each free latch of the merged circuit the place, from 0, among its free latches.
     pub kept_free: Sequence<u32>,
+    /// How many latches were merged.
     pub counts: MergeCounts,
 }
 
@@ -34,7 +37,7 @@ pub(crate) struct Read {
 #[derive(Drop)]
 pub(crate) struct Start {
     pub circuit: Circuit,
-    pub read: Read,
+    pub read: ReadCircuit,
 }
 
 /// Whether a latch has each of the names.
@@ -61,7 +64,7 @@ fn start_after(merged: MergedStart, latches: u32) -> Start
     } = merged;
     Start {
         circuit,
-        read: Read {
+        read: ReadCircuit {
             latches,
             kept_free,
             counts,
@@ -117,8 +120,12 @@ fn begun_from(alloc: Global, circuit: Circuit, options: &Options) -> Result<Reti
     }
 }
 
-/// The answer, told of the circuit that was read.
-fn told_of_read(alloc: Global, retimed: Retimed, read: Read) -> Result<Retimed, NoMemory>
+/// The merged circuit retimed, told of the circuit that was read.
+///
+/// # Errors
+///
+/// `NoMemory` where memory is refused.
+pub fn told_of_read(alloc: Global, retimed: Retimed, read: ReadCircuit) -> Result<Retimed, NoMemory>
     requires { All (λ place. place < length read.kept_free) retimed.kept_free }
     ensures { IfOk result (λ r. r ≡ told_of_read read retimed) }
 {

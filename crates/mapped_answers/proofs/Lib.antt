@@ -1,3 +1,4 @@
 pub mod MakingLaws
 pub mod FollowingLaws
 pub mod FramingLaws
+pub mod MergingLaws

@@ -1,6 +1,6 @@
 //! From a reader's bytes to a writer's. The map is made before anything is written, so that memory that is refused for it, or its size,
 //! leaves what is written as it was.
-ghost use Rattle.std.specs.Prelude.{◌≡◌, [], ◌∷◌, ◌++◌, false, IfErr, IfOk, OnOk, unwrap_or};
+ghost use Rattle.std.specs.Prelude.{◌≡◌, [], ◌∷◌, ◌++◌, IfErr, IfOk, OnOk, unwrap_or};
 ghost use Rattle.aig_graph.specs.Circuits.{IsNetlist};
 ghost use Rattle.aig_graph.specs.Graph.{IsGraph};
 ghost use Rattle.aig_binary.specs.Ending.{IsReadError, ReadsToEnd, Spells};
@@ -78,7 +78,6 @@ pub fn retime_spelt_mapped<W: CountedWrite, G: PhaseGate, V: FrameWatcher>(
     crew: &Crew<G>,
     watcher: &mut V,
 ) -> Result<Mapped, MappedError>
-    requires merge { options.now.merge ≡ false }
     ensures ok { IfOk result (IsMappedOf options.now spelt (W.output writer.old)
         (W.output writer.new)) }
     ensures err { IfErr result (IsMappingStop options.now spelt (W.output writer.old)
@@ -114,7 +113,7 @@ fn read_by<R: CountedRead, C: CircuitReader + Drop>(
 }
 
 /// Reads a circuit, retimes it and writes it as `frames::retime_bytes` does, and returns its map too, which is made before the
-/// circuit is written. The options merge no latches. The circuit that was read is kept until the map is there. A watcher is told what
+/// circuit is written. The circuit that was read is kept until the map is there. A watcher is told what
 /// `frames::retime_bytes_watched` tells it.
 ///
 /// # Errors
@@ -130,7 +129,6 @@ pub fn retime_bytes_mapped<R: CountedRead, W: CountedWrite, G: PhaseGate, V: Fra
     crew: &Crew<G>,
     watcher: &mut V,
 ) -> Result<Mapped, MappedError>
-    requires merge { options.now.merge ≡ false }
     ensures ok { IfOk result (IsMapped (R.input reader.old) (W.output writer.old)
         (W.output writer.new) options.now) }
     ensures err { IfErr result (IsMappedError options.now (R.input reader.old) (R.input reader.new)

@@ -1,5 +1,5 @@
 //! Frame after frame, each followed by the map of states as it is made.
-ghost use Rattle.std.specs.Prelude.{ℕ, ◌≡◌, suc, [], ◌∷◌, ◌++◌, IfOk};
+ghost use Rattle.std.specs.Prelude.{ℕ, ◌≡◌, suc, List, [], ◌∷◌, ◌++◌, IfOk};
 ghost use Rattle.aig_graph.specs.Circuits.{Netlist};
 ghost use Rattle.aig_graph.specs.Laws.{composed};
 ghost use Rattle.frames.specs.Found.{Moves};
@@ -24,13 +24,13 @@ fn taken(
     frame: Frame,
     options: &Options,
 ) -> Result<Underway, MapError>
-    requires underway { (c : Netlist) × (n : ℕ) × IsUnderway options.now c n run.retimed }
+    requires underway { (d : Netlist) × (n : ℕ) × IsUnderway options.now d n run.retimed }
     requires moves { Moves options.now run.retimed.circuit frame }
-    ensures followed { IfOk result (λ after. (c : Netlist) (n : ℕ)
-        → IsUnderway options.now c n run.retimed
+    ensures followed { IfOk result (λ after. (c d : Netlist) (kept : List ℕ) (n : ℕ)
+        → IsUnderway options.now d n run.retimed
         → IsMapTo c frame.cleaned.circuit
-        (composed run.retimed.kept_free frame.cleaned.kept_free) run.parts
-        → IsFollowed options.now c (suc n) after) }
+        (composed (composed kept run.retimed.kept_free) frame.cleaned.kept_free) run.parts
+        → IsFollowed options.now c d kept (suc n) after) }
     ensures frames { IfOk result (λ after. after.retimed.frames
         ≡ run.retimed.frames ++ frame.report ∷ []) }
 {
@@ -55,12 +55,12 @@ pub(crate) fn all_frames<G: PhaseGate, V: FrameWatcher>(
     records: &mut Records,
     watcher: &mut V,
 ) -> Result<Underway, MapError>
-    requires begun { IsBegunAlong options.now start }
+    requires begun { (c : Netlist) × IsBegunAlong options.now c start }
     requires wanted { records.old.certify ≡ options.now.certify }
     requires none_yet { records.old.certificates.items ≡ [] }
-    ensures run { IfOk result (λ end. (c : Netlist)
-        → IsFollowed options.now c 0 start
-        → EndsFollowed options.now c records.new end) }
+    ensures run { IfOk result (λ end. (c d : Netlist) (kept : List ℕ)
+        → IsFollowed options.now c d kept 0 start
+        → EndsFollowed options.now c d kept records.new end) }
     ensures told { IfOk result (λ end. Tells V.was_told watcher.old watcher.new
         (looks_of options.now.max_frames end.retimed)) }
 {

@@ -6,6 +6,7 @@ mod following;
 mod framing;
 mod making;
 mod mapped;
+mod merging;
 mod starting;
 mod underway;
 

@@ -24,28 +24,28 @@ use Rattle.mapped_answers.proofs.following.all_frames.Goals as goal
 
 pub loop-init : goal.loop-init
 loop-init g c =
-    let begun = c.requires.begun in
+    let begun = c.requires.begun.1 in
     let start = c.args.start in (
-      λ d followed. (followed, none-collected c.args.options.now d c.args.records.now c.requires.wanted c.requires.none_yet),
-      tells-start g.V.FrameWatcher.was_told c.args.watcher.now start.retimed.frames (none-taken c.args.options.now begun.read start.retimed begun.followed.underway),
+      λ read d kept followed. (followed, none-collected c.args.options.now d c.args.records.now c.requires.wanted c.requires.none_yet),
+      tells-start g.V.FrameWatcher.was_told c.args.watcher.now start.retimed.frames (none-taken c.args.options.now begun.start start.retimed begun.followed.underway),
     )
 
 pub next_frame-requires-clause-tidy : goal.next_frame-requires-clause-tidy
-next_frame-requires-clause-tidy g c κs within = let begun = c.requires.begun in (c.loop.invariant.0 begun.read begun.followed).0.underway.keeps.tidy
+next_frame-requires-clause-tidy g c κs within = let begun = c.requires.begun.1 in (c.loop.invariant.0 c.requires.begun.0 begun.start begun.kept begun.followed).0.underway.keeps.tidy
 
 pub next_frame-requires-clause-map : goal.next_frame-requires-clause-map
-next_frame-requires-clause-map g c κs within = let begun = c.requires.begun in (begun.read, c.loop.run.retimed.kept_free, (c.loop.invariant.0 begun.read begun.followed).0.map)
+next_frame-requires-clause-map g c κs within = let begun = c.requires.begun.1 in (c.requires.begun.0, composed begun.kept c.loop.run.retimed.kept_free, (c.loop.invariant.0 c.requires.begun.0 begun.start begun.kept begun.followed).0.map)
 
 pub next_frame-requires-clause-names : goal.next_frame-requires-clause-names
 next_frame-requires-clause-names g c κs within =
-    let begun = c.requires.begun in
-    names-stay (names_in c.args.options.now) begun.read c.loop.run.retimed.circuit (c.loop.invariant.0 begun.read begun.followed).0.underway.keeps.held begun.names
+    let begun = c.requires.begun.1 in
+    names-stay (names_in c.args.options.now) begun.start c.loop.run.retimed.circuit (c.loop.invariant.0 c.requires.begun.0 begun.start begun.kept begun.followed).0.underway.keeps.held begun.names
 
 pub taken-requires-clause-underway : goal.taken-requires-clause-underway
 taken-requires-clause-underway g c =
-    let begun = c.requires.begun in
-    let P : Retimed → Type 0 = λ r. IsUnderway c.args.options.now begun.read c.loop.counter r in
-    (begun.read, c.loop.counter, subst P (sym c.in-Ok-Some.ensures.same) (c.loop.invariant.0 begun.read begun.followed).0.underway)
+    let begun = c.requires.begun.1 in
+    let P : Retimed → Type 0 = λ r. IsUnderway c.args.options.now begun.start c.loop.counter r in
+    (begun.start, c.loop.counter, subst P (sym c.in-Ok-Some.ensures.same) (c.loop.invariant.0 c.requires.begun.0 begun.start begun.kept begun.followed).0.underway)
 
 pub taken-requires-clause-moves : goal.taken-requires-clause-moves
 taken-requires-clause-moves g c =
@@ -58,11 +58,11 @@ taken-requires-clause-moves g c =
 
 -- the last circuit was looked at, and none counts less
 pub returns-in-Ok-None-clause-run : goal.returns-in-Ok-None-clause-run
-returns-in-Ok-None-clause-run g c = λ d start.
+returns-in-Ok-None-clause-run g c = λ read d kept start.
     let options = c.args.options.now in
     let before = c.loop.run in
     let after = c.next_frame.new.run in
-    let so_far = c.loop.invariant.0 d start in
+    let so_far = c.loop.invariant.0 read d kept start in
     let P : Option Frame → Type 0 = λ found. MatchOption found (NoneSmallerBy options before.retimed.circuit × (after.parts ≡ before.parts)) (MovesFollowed options before.retimed.circuit before.parts after.parts) in
     let none : NoneSmallerBy options before.retimed.circuit × (after.parts ≡ before.parts) = subst P c.in-Ok-None.field-0-is c.in-Ok-None.ensures.found in
     let run : IsRun options d c.next_frame.new.records before.retimed = record {
@@ -77,7 +77,7 @@ returns-in-Ok-None-clause-run g c = λ d start.
       ended = λ less. refl;
     } in
     let Q : Retimed → Type 0 = λ r. IsRun options d c.next_frame.new.records r in
-    let R : Retimed → MapParts → Type 0 = λ r m. IsMapTo d r.circuit r.kept_free m in
+    let R : Retimed → MapParts → Type 0 = λ r m. IsMapTo read r.circuit (composed kept r.kept_free) m in
     record {
       run = subst Q (sym c.in-Ok-None.ensures.same) run;
       map = subst (λ (r : Retimed). R r after.parts) (sym c.in-Ok-None.ensures.same) (subst (R before.retimed) (sym none.1) so_far.0.map);
@@ -89,7 +89,6 @@ loop-preserved g c =
     let before = c.loop.run in
     let after = c.next_frame.new.run in
     let run = c.in_ok-run-in-Ok-Some.run' in
-    let P : ℕ → Netlist → Type 0 = λ n d. IsFollowed options d n run in
     let Q : ℕ → Netlist → Type 0 = λ n d. AreCollected options d n c.next_frame.new.records in
     let next : suc c.loop.counter ≡ c.loop.counter + 1 = omega arith in
     let was_told = g.V.FrameWatcher.was_told in
@@ -103,12 +102,13 @@ loop-preserved g c =
     let told : Tells was_told looking moving (Moving ∷ []) = subst T c.in-Ok-Some.field-0-is c.in-Ok-Some.ensures.told in
     let taken : run.retimed.frames ≡ before.retimed.frames ++ frame.report ∷ [] =
     c.in_ok-run-in-Ok-Some.ensures.frames ∙ ap (λ (r : Retimed). r.frames ++ frame.report ∷ []) same in (
-      λ d start.
-          let so_far = c.loop.invariant.0 d start in
+      λ read d kept start.
+          let so_far = c.loop.invariant.0 read d kept start in
           let underway : IsUnderway options d c.loop.counter after.retimed = subst (λ (r : Retimed). IsUnderway options d c.loop.counter r) (sym same) so_far.0.underway in
-          let map : IsMapTo d frame.cleaned.circuit (composed after.retimed.kept_free frame.cleaned.kept_free) after.parts =
-          subst (λ (r : Retimed). IsMapTo d frame.cleaned.circuit (composed r.kept_free frame.cleaned.kept_free) after.parts) (sym same) (followed.leads d before.retimed.kept_free so_far.0.map) in (
-            subst (λ n. P n d) next (c.in_ok-run-in-Ok-Some.ensures.followed d c.loop.counter underway map),
+          let map : IsMapTo read frame.cleaned.circuit (composed (composed kept after.retimed.kept_free) frame.cleaned.kept_free) after.parts =
+          subst (λ (r : Retimed). IsMapTo read frame.cleaned.circuit (composed (composed kept r.kept_free) frame.cleaned.kept_free) after.parts) (sym same)
+          (followed.leads read (composed kept before.retimed.kept_free) so_far.0.map) in (
+            subst (λ n. IsFollowed options read d kept n run) next (c.in_ok-run-in-Ok-Some.ensures.followed read d kept c.loop.counter underway map),
             subst (λ n. Q n d) next
                 (one-collected options d c.loop.counter c.loop.records c.next_frame.new.records before.retimed.circuit before.retimed.kept_free before.retimed.frames so_far.1 so_far.0.underway.frames
                 c.in-Ok-Some.ensures.certificate),
@@ -119,8 +119,8 @@ loop-preserved g c =
 
 -- at the limit the last circuit isn't looked at
 pub returns-clause-run : goal.returns-clause-run
-returns-clause-run g c = λ d start.
-    let so_far = c.loop.invariant.0 d start in
+returns-clause-run g c = λ read d kept start.
+    let so_far = c.loop.invariant.0 read d kept start in
     record {
       run = record {
         taken = c.loop.counter;
@@ -145,12 +145,12 @@ returns-in_err-run-in-Ok-Some-clause-told g c = IfOk-from_err c.from_residual.re
 pub returns-in-Ok-None-clause-told : goal.returns-in-Ok-None-clause-told
 returns-in-Ok-None-clause-told g c =
     let options = c.args.options.now in
-    let begun = c.requires.begun in
+    let begun = c.requires.begun.1 in
     let before = c.loop.run.retimed in
     let was_told = g.V.FrameWatcher.was_told in
     let looking = c.enter_looking.new.watcher in
     let after = c.next_frame.new.watcher in
-    let many : length before.frames ≡ c.loop.counter = many-taken options begun.read c.loop.counter before (c.loop.invariant.0 begun.read begun.followed).0.underway in
+    let many : length before.frames ≡ c.loop.counter = many-taken options begun.start c.loop.counter before (c.loop.invariant.0 c.requires.begun.0 begun.start begun.kept begun.followed).0.underway in
     let T : Option Frame → Type 0 = λ found. MatchOption found (Tells was_told looking after []) (λ _. Tells was_told looking after (Moving ∷ [])) in
     let told : Tells was_told looking after [] = subst T c.in-Ok-None.field-0-is c.in-Ok-None.ensures.told in
     subst (λ (r : Retimed). Tells was_told c.args.watcher.now after (looks_of options.max_frames r)) (sym c.in-Ok-None.ensures.same)
@@ -159,7 +159,7 @@ returns-in-Ok-None-clause-told g c =
 pub returns-clause-told : goal.returns-clause-told
 returns-clause-told g c =
     let options = c.args.options.now in
-    let begun = c.requires.begun in
+    let begun = c.requires.begun.1 in
     let last = c.loop.run.retimed in
-    let many : length last.frames ≡ c.loop.counter = many-taken options begun.read c.loop.counter last (c.loop.invariant.0 begun.read begun.followed).0.underway in
+    let many : length last.frames ≡ c.loop.counter = many-taken options begun.start c.loop.counter last (c.loop.invariant.0 c.requires.begun.0 begun.start begun.kept begun.followed).0.underway in
     tells-limit g.V.FrameWatcher.was_told c.args.watcher.now c.loop.watcher options.max_frames last (omega (arith, many, c.loop-test.false, c.loop.auto.counter-end)) c.loop.invariant.1

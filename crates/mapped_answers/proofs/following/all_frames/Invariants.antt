@@ -1,11 +1,12 @@
+use Rattle.std.proofs.Common.{ℕ, List}
 use Rattle.aig_graph.specs.Circuits.{Netlist}
 use Rattle.frames.specs.Certified.{AreCollected}
 use Rattle.frames.specs.Stages.{Tells, frame_stages}
 use Rattle.mapped_answers.specs.Following.{IsFollowed}
 use Rattle.mapped_answers.proofs.following.all_frames.Given as goal
 
--- whatever circuit the first one is the cleaning of; the watcher has been told of each frame
+-- whatever circuit d the first one is the cleaning of, and c was read; the watcher has been told of each frame
 abbrev pub invariant-loop : goal.invariant-loop
 invariant-loop g l =
-    ((c : Netlist) → IsFollowed l.options c 0 l.fn.start → IsFollowed l.options c l.counter l.run × AreCollected l.options c l.counter l.records)
+    ((c d : Netlist) (kept : List ℕ) → IsFollowed l.options c d kept 0 l.fn.start → IsFollowed l.options c d kept l.counter l.run × AreCollected l.options d l.counter l.records)
     × Tells g.V.FrameWatcher.was_told l.fn.watcher l.watcher (frame_stages 0 l.run.retimed.frames)

@@ -1,18 +1,18 @@
 use Rattle.std.proofs.Common.{◌≡◌, sym, subst}
+use Rattle.aig_graph.specs.Laws.{composed}
 use Rattle.retimed_circuits.specs.declared.report.Retimed.{Retimed}
 use Rattle.state_maps.specs.MapCircuits.{IsMapCircuit}
-use Rattle.frames.specs.Retiming.{IsRetimedBy}
+use Rattle.frames.specs.Retiming.{IsRetimedAsIs}
 use Rattle.frames.proofs.FrameLaws.{ended}
-use Rattle.mapped_answers.proofs.MakingLaws.{as-it-is}
 use Rattle.mapped_answers.proofs.making.finished.Goals as goal
 
 pub state_map-requires : goal.state_map-requires
-state_map-requires c = (c.args.run.retimed.kept_free, c.requires.ends.map)
+state_map-requires c = (composed c.requires.1 c.args.run.retimed.kept_free, c.requires.2.map)
 
 pub returns-in-Ok-clause-made : goal.returns-in-Ok-clause-made
 returns-in-Ok-clause-made c =
     let options = c.args.options.now in
-    let before = c.args.circuit.now in
+    let read = c.args.circuit.now in
     let r = c.args.run.retimed in
     let records = c.args.records in
     let whole = c.with_certificates.ensures in
@@ -25,12 +25,11 @@ returns-in-Ok-clause-made c =
       frames = whole.frames i;
       certificates = whole.certificates i;
     } in
-    let retimed : IsRetimedBy options before s = as-it-is options before s c.requires.merge (ended options before records r c.requires.ends.run) in
-    let map : IsMapCircuit before s.circuit s.kept_free c.in-Ok.map = c.in-Ok.ensures.map r.kept_free c.requires.ends.map in
+    λ d kept ends.
+    let map : IsMapCircuit read s.circuit (composed kept s.kept_free) c.in-Ok.map = c.in-Ok.ensures.map (composed kept r.kept_free) ends.map in
     record {
-      names = c.requires.names;
-      retimed = subst (IsRetimedBy options before) (sym same) retimed;
-      map = subst (λ (x : Retimed). IsMapCircuit before x.circuit x.kept_free c.in-Ok.map) (sym same) map;
+      retimed = subst (IsRetimedAsIs options d) (sym same) (ended options d records r ends.run);
+      map = subst (λ (x : Retimed). IsMapCircuit read x.circuit (composed kept x.kept_free) c.in-Ok.map) (sym same) map;
     }
 
 pub returns-in-Ok-clause-same : goal.returns-in-Ok-clause-same

@@ -3,7 +3,7 @@ use Rattle.frames.proofs.StageLaws.{same-looks}
 use Rattle.mapped_answers.proofs.making.made_from.Goals as goal
 
 pub all_frames-requires-clause-begun : goal.all_frames-requires-clause-begun
-all_frames-requires-clause-begun g c κs within = record { read = c.args.circuit.now; followed = c.requires.start; names = c.requires.names }
+all_frames-requires-clause-begun g c κs within = (c.args.circuit.now, c.requires)
 
 pub all_frames-requires-clause-wanted : goal.all_frames-requires-clause-wanted
 all_frames-requires-clause-wanted g c κs within = c.new-records.ensures.certify
@@ -11,11 +11,14 @@ all_frames-requires-clause-wanted g c κs within = c.new-records.ensures.certify
 pub all_frames-requires-clause-none_yet : goal.all_frames-requires-clause-none_yet
 all_frames-requires-clause-none_yet g c κs within = c.new-records.ensures.certificates
 
-pub finished-requires-clause-ends : goal.finished-requires-clause-ends
-finished-requires-clause-ends g c = c.in-Ok.ensures.run c.args.circuit.now c.requires.start
+pub finished-requires : goal.finished-requires
+finished-requires g c =
+    let begun = c.requires in
+    (begun.start, begun.kept, c.in-Ok.ensures.run c.args.circuit.now begun.start begun.kept begun.followed)
 
 pub returns-in-Ok-clause-made : goal.returns-in-Ok-clause-made
-returns-in-Ok-clause-made g c = c.finished.ensures.made
+returns-in-Ok-clause-made g c =
+    IfOk-weaker c.finished.result _ _ (λ made all. λ d kept start. all d kept (c.in-Ok.ensures.run c.args.circuit.now d kept start)) c.finished.ensures.made
 
 pub returns-in-Ok-clause-told : goal.returns-in-Ok-clause-told
 returns-in-Ok-clause-told g c =
