@@ -30,7 +30,6 @@ source-from g held set closed w (inr inside) =
     let place : GatePlace g w gate.0 = gate_place g w gate.0 gate.1 in
     omega (arith, place.from)
 
--- what stands for a literal whose variable has an entry is a literal of the graph
 -- a mark of a table of the set's members
 pub member-marked : (g : Graph) (held set vars : List ℕ) (items marks : List Bool) (first n v w : ℕ) → IsClosedSet g held set → items ≡ table first n (has vars) → first ≡ first_latch g
     → n ≡ latches_and_gates g → vars ≡ set → marks ≡ items → w ≡ v → v < variables_end g → mark_at first marks w ≡ has set v
@@ -53,6 +52,7 @@ fan_ins-covered g held set valid closed v first gate literals there starts long 
       (omega (arith, starts, from1), omega (arith, starts, from1, at.below, at.ordered, long)),
     )
 
+-- what stands for a literal whose variable has an entry is a literal of the graph
 pub literal-within : (h : Graph) (first : ℕ) (literals : List ℕ) (lit : ℕ) → All (λ l. IsLiteralOf h l) literals → variable lit - first < length literals → IsLiteralOf h (literal_at first literals lit)
 literal-within h first literals lit all less =
     let same : variable (literal_at first literals lit) ≡ variable (entry_of first literals (variable lit)) = variable-signed_as lit (entry_of first literals (variable lit)) in
