@@ -21,6 +21,7 @@ use Rattle.merged_latches.proofs.CoarserLaws.{coarser-substitutes, substitutes_b
 use Rattle.latch_merging.specs.declared.told.Told.{Told}
 use Rattle.merged_latches.specs.Counts.{is_merged, merged_latches}
 use Rattle.latch_merging.specs.Rounds.{constant_told, told_of, next_round, round_by, first_read, first_round}
+use Rattle.latch_merging.specs.Names.{IsRough}
 use Rattle.latch_merging.proofs.RoundLaws.{After, alone, by_constant, by_first, after, Led, led, leader-same, leader-constant, length-round}
 
 -- where q passes as seldom as p, which passes only where q does, they pass together
@@ -116,7 +117,8 @@ module _ (g : Graph) (held : List ℕ) where
       table-at 0 (length g.latches) (λ k. first_read g held k (slice_get g.latches k)) j 0 (slice_get_within g.latches j latch there)
       ∙ ap (λ (k : ℕ). first_read g held k (slice_get g.latches k)) (zero-add j) ∙ ap (first_read g held j) there
 
-  first-may : (j : ℕ) (latch : Latch) → slice_get g.latches j ≡ Some latch → may_merge held j latch ≡ true → read (first_round g held) j ≡ constant_of latch.reset
+  -- a latch that may be merged reads as the constant before the first round
+  pub first-may : (j : ℕ) (latch : Latch) → slice_get g.latches j ≡ Some latch → may_merge held j latch ≡ true → read (first_round g held) j ≡ constant_of latch.reset
   first-may j latch there may = first-at j latch there ∙ cond-true (may_merge held j latch) (constant_of latch.reset) (own_literal g j) may
 
   -- it is a reading
@@ -298,11 +300,14 @@ module _ (g : Graph) (held : List ℕ) where
     -- each kept reading is finer than this one
     pub coarser : (other : List ℕ) → IsKept g held other → IsFiner g other reads
 
-  -- the first round
-  pub round-first : (reads next : List ℕ) → reads ≡ first_round g held → next ≡ next_round g held reads → IsRound reads next
-  round-first reads next is is_next = record {
+  -- the round of a reading that is as coarse as each kept one
+  pub round-first : (reads next : List ℕ) → IsRough g held reads → next ≡ next_round g held reads → IsRound reads next
+  round-first reads next rough is_next = record { reading = rough.reading; next_is = is_next; coarser = rough.coarser }
+
+  -- that of the first round is one
+  pub rough-first : (reads : List ℕ) → reads ≡ first_round g held → IsRough g held reads
+  rough-first reads is = record {
     reading = subst (λ (xs : List ℕ). IsReading g held xs) (sym is) first-reading;
-    next_is = is_next;
     coarser = λ other kept. subst (λ (xs : List ℕ). IsFiner g other xs) (sym is) (first-coarser other kept.reading);
   }
 

@@ -1,5 +1,5 @@
 -- A round of merging latches: by the first latch of each class that is told a literal.
-use Rattle.std.specs.Prelude.{ℕ, ◌++◌, ◌≡◌, ◌==◌, ◌&&◌, not, Bool, false, List, [], ◌∷◌, length, slice_get, zero, suc, Option, Some, None, if◌then◌else◌}
+use Rattle.std.specs.Prelude.{ℕ, ◌++◌, ◌≡◌, ◌==◌, ◌&&◌, Bool, false, List, [], ◌∷◌, length, slice_get, zero, suc, Option, Some, None, if◌then◌else◌}
 use Rattle.std.specs.Map.{lookup}
 use Rattle.aig_graph.specs.declared.graph.Latch.{Latch}
 use Rattle.aig_graph.specs.Graph.{Graph}

@@ -6,10 +6,12 @@ ghost use Rattle.aig_graph.specs.Laws.{all_free};
 ghost use Rattle.aig_graph.specs.Streams.{SameStreams};
 ghost use Rattle.merged_latches.specs.Partitions.{IsCoarsest, IsMerged};
 ghost use Rattle.merged_latches.specs.Counts.{AreCounts, merged_latches};
-ghost use Rattle.latch_merging.specs.Rounds.{first_round, next_round};
+ghost use Rattle.latch_merging.specs.Names.{IsRough};
+ghost use Rattle.latch_merging.specs.Rounds.{next_round};
 
 use crate::reading::{latch_reading, merged_by};
-use crate::rounds::{first_round, merged_latches, next_round};
+use crate::rounds::{merged_latches, next_round};
+use crate::splitting::rough_reading;
 use aig_graph::{Aig, Circuit, Keep, Lit, NoMemory};
 use clean::Held;
 use merged_latches::MergeCounts;
@@ -23,15 +25,15 @@ struct Round {
 }
 
 impl Round {
-    /// The first round.
+    /// The round of a reading by splitting.
     fn first(alloc: Global, aig: &Aig, held: &Held<'_>) -> Result<Round, NoMemory>
         requires { length held.now.marks.items ≡ length aig.now.latches }
-        ensures reads { IfOk result (λ round. round.reads.items
-            ≡ first_round aig.now held.now.positions.now) }
+        ensures reads { IfOk result (λ round. IsRough aig.now held.now.positions.now
+            round.reads.items) }
         ensures next { IfOk result (λ round. round.next.items
             ≡ next_round aig.now held.now.positions.now round.reads.items) }
     {
-        let reads = first_round(alloc, aig, held)?;
+        let reads = rough_reading(alloc, aig, held)?;
         let next = next_round(alloc, aig, held, reads.as_slice())?;
         Ok(Round { reads, next })
     }

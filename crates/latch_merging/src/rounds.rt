@@ -15,7 +15,7 @@ use merged_latches::MergeCounts;
 use std::alloc::Global;
 
 /// Whether the latch at a place may be merged.
-fn may_merge(held: &Held<'_>, place: usize, latch: &Latch) -> bool
+pub(crate) fn may_merge(held: &Held<'_>, place: usize, latch: &Latch) -> bool
     requires { place < length held.now.marks.items }
     ensures { result ≡ may_merge held.now.positions.now place latch.now }
 {
@@ -41,7 +41,7 @@ pub(crate) fn substitutes_by(
 }
 
 /// What a latch reads as before the first round.
-fn first_read(aig: &Aig, held: &Held<'_>, place: usize, latch: &Latch) -> Lit
+pub(crate) fn first_read(aig: &Aig, held: &Held<'_>, place: usize, latch: &Latch) -> Lit
     requires there { slice_get aig.now.latches place ≡ Some latch.now }
     requires held { length held.now.marks.items ≡ length aig.now.latches }
     ensures { result ≡ first_read aig.now held.now.positions.now place (Some latch.now) }
@@ -91,7 +91,7 @@ fn merged_read(firsts: &mut FirstTold, told: Told, own: Lit, reset: Reset) -> Re
 }
 
 /// What the latch at a place reads as after a round, where it is told so and the first ones before it are these.
-fn next_read(
+pub(crate) fn next_read(
     firsts: &mut FirstTold,
     aig: &Aig,
     held: &Held<'_>,

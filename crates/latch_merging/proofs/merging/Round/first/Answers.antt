@@ -1,7 +1,5 @@
 use Rattle.std.proofs.Common.{◌∙◌, ap, length, List, ℕ}
-use Rattle.latch_merging.proofs.CoarsestLaws.{length-first}
 use Rattle.latch_merging.proofs.merging.Round.first.Goals as goal
 
 pub next_round-requires-clause-reads : goal.next_round-requires-clause-reads
-next_round-requires-clause-reads c =
-    ap (λ (xs : List ℕ). length xs) (c.as_slice.ensures.value ∙ c.in_ok-reads.ensures) ∙ length-first c.args.aig.now c.args.held.now.positions.now
+next_round-requires-clause-reads c = ap (λ (xs : List ℕ). length xs) c.as_slice.ensures.value ∙ c.in_ok-reads.ensures.reading.long

@@ -1,0 +1,186 @@
+//! Latches that are told another name than before, in groups of one class that are told one name; and the names that the groups get. A
+//! group that is all of its class, or the largest of those that are, keeps the name of its class, so that few latches are renamed. That
+//! is for speed alone: whatever names the groups get, two latches of one group have one.
+ghost use Rattle.std.specs.Prelude.{◌≡◌};
+ghost use Rattle.std.specs.Map.{lookup};
+ghost use Rattle.latch_merging.specs.Rounds.{is_told};
+ghost use Rattle.latch_merging.specs.Names.{group_name};
+
+use crate::told::Told;
+use aig_graph::{Lit, MAX_VARIABLES, NoMemory};
+use indexmap::IndexMap;
+use std::alloc::Global;
+
+/// Latches of a class that are told the same.
+#[derive(Clone, Copy)]
+struct Group {
+    class: Lit,
+    latches: usize,
+}
+
+/// The groups of a turn, by class and by what is told, each with its name once it has one.
+#[derive(Drop)]
+pub(crate) struct Groups {
+    places: IndexMap<Told, usize>,
+    groups: Vec<Group>,
+    names: Vec<Lit>,
+}
+
+impl Groups {
+    pub(crate) fn none(alloc: Global) -> Groups {
+        Groups {
+            places: IndexMap::new(alloc),
+            groups: Vec::new(alloc),
+            names: Vec::new(alloc),
+        }
+    }
+
+    fn begin(&mut self, told: Told) -> Result<(), NoMemory> {
+        let place = self.groups.len();
+        let group = Group {
+            class: told.class,
+            latches: 1,
+        };
+        self.groups.push(group)?;
+        self.places.insert(told, place)?;
+        Ok(())
+    }
+
+    fn find(&self, told: &Told) -> Option<usize>
+        ensures { result ≡ lookup (is_told told.now) self.now.places.entries }
+    {
+        self.places.get(told).copied()
+    }
+
+    /// One more latch.
+    pub(crate) fn add(&mut self, told: Told) -> Result<(), NoMemory> {
+        match self.find(&told) {
+            Some(place) => {
+                if let Some(group) = self.groups.get_mut(place) {
+                    group.latches = group.latches.saturating_add(1);
+                }
+                Ok(())
+            }
+            None => self.begin(told),
+        }
+    }
+
+    /// The name of a group.
+    pub(crate) fn name(&self, told: &Told) -> Lit
+        ensures { result ≡ group_name self.now.places.entries self.now.names.items told.now }
+    {
+        let place = self.find(told).unwrap_or(0);
+        self.names.get(place).copied().unwrap_or(Lit::FALSE)
+    }
+}
+
+/// How many variables have the name of a class; how many of them leave it in a turn, and one more than the place of their largest group.
+#[derive(Clone, Copy)]
+struct Class {
+    size: usize,
+    leaving: usize,
+    largest: usize,
+}
+
+/// The classes of latches, the constant's first. Each other has for its name the variable that is as many after `first` as it is
+/// after the constant's.
+#[derive(Drop)]
+pub(crate) struct Classes {
+    first: u32,
+    classes: Vec<Class>,
+}
+
+impl Classes {
+    /// The constant's class, with so many latches.
+    pub(crate) fn constant(alloc: Global, first: u32, latches: usize) -> Result<Classes, NoMemory> {
+        let mut classes = Classes {
+            first,
+            classes: Vec::new(alloc),
+        };
+        classes.push(latches.saturating_add(1))?;
+        Ok(classes)
+    }
+
+    fn push(&mut self, size: usize) -> Result<(), NoMemory> {
+        self.classes.push(Class {
+            size,
+            leaving: 0,
+            largest: 0,
+        })?;
+        Ok(())
+    }
+
+    fn place(&self, class: Lit) -> usize {
+        if class.var() == 0 {
+            0
+        } else {
+            class.var().wrapping_sub(self.first) as usize
+        }
+    }
+
+    /// Counts a group, of which the largest before it has so many latches.
+    fn count(&mut self, group: &Group, place: usize, largest: usize) {
+        let at = self.place(group.class);
+        if let Some(class) = self.classes.get_mut(at) {
+            class.leaving = class.leaving.saturating_add(group.latches);
+            if class.largest == 0 || largest < group.latches {
+                class.largest = place.saturating_add(1);
+            }
+        }
+    }
+
+    /// The size of the largest group of a class so far.
+    fn largest(&self, groups: &[Group], class: Lit) -> usize {
+        let place = self
+            .classes
+            .get(self.place(class))
+            .map_or(0, |it| it.largest);
+        groups.get(place.wrapping_sub(1)).map_or(0, |it| it.latches)
+    }
+
+    /// Whether the group at a place keeps the name of its class.
+    fn keeps(&self, group: &Group, place: usize) -> bool {
+        self.classes.get(self.place(group.class)).is_some_and(|it| it.leaving == it.size
+            && it.largest == place.saturating_add(1))
+    }
+
+    /// A group leaves its class for one of its own.
+    fn part(&mut self, group: &Group) -> Result<Lit, NoMemory> {
+        let at = self.place(group.class);
+        if let Some(class) = self.classes.get_mut(at) {
+            class.size = class.size.wrapping_sub(group.latches);
+            class.leaving = class.leaving.wrapping_sub(group.latches);
+        }
+        let var = (self.first as usize).saturating_add(self.classes.len());
+        self.push(group.latches)?;
+        if var < MAX_VARIABLES {
+            Ok(Lit::new(var as u32, false))
+        } else {
+            Ok(Lit::FALSE)
+        }
+    }
+
+    /// Names the groups of a turn.
+    pub(crate) fn name(&mut self, groups: &mut Groups) -> Result<(), NoMemory> {
+        for (place, group) in groups.groups.iter().enumerate() {
+            let largest = self.largest(groups.groups.as_slice(), group.class);
+            self.count(group, place, largest);
+        }
+        for (place, group) in groups.groups.iter().enumerate() {
+            let name = if self.keeps(group, place) {
+                group.class
+            } else {
+                self.part(group)?
+            };
+            groups.names.push(name)?;
+        }
+        for group in groups.groups.iter() {
+            let at = self.place(group.class);
+            if let Some(class) = self.classes.get_mut(at) {
+                class.leaving = 0;
+                class.largest = 0;
+            }
+        }
+        Ok(())
+    }
+}

@@ -1,0 +1,449 @@
+//! A reading that is as coarse as each kept one, by names: latches of one class have one name. All that may be merged begin with the constant's.
+//! In a turn latches are told the name of their next literal, those of a class that leave what they were told get another name, group by group,
+//! and then gates get the name of their fan-ins' pair. What reads a variable that got another name is marked, and what is marked alone
+//! is looked at, so a turn costs what it changes: a delay line no more than it is long.
+ghost use Rattle.std.specs.Prelude.{ℕ, List, true, ◌≡◌, ◌<◌, ◌+◌, ◌++◌, IfOk, OnOk, length, replicate, slice_get, Some};
+ghost use Rattle.aig_graph.specs.declared.graph.Gate.{Gate as Pair};
+ghost use Rattle.aig_graph.specs.Graph.{variable, first_latch, variables_end};
+ghost use Rattle.cleaned_circuits.specs.Merged.{replaced, replaced_gate};
+ghost use Rattle.merged_latches.specs.Readings.{from_reset, leaves};
+ghost use Rattle.latch_merging.specs.Rounds.{first_round, round_by};
+ghost use Rattle.latch_merging.specs.Names.{AreAtRest, AreLeaving, AreNamed, AreReaders, AreRegrouped, AreTold, IsRenamed, IsRough, IsUnmarked, class_of, group_name, renamed_latch, told_by, AreCarried, AreGatesNamed, IsGateNamed, IsLeft};
+
+use crate::groups::{Classes, Groups};
+use crate::marks::Marks;
+use crate::pairs::PairNames;
+use crate::readers::{Marked, Readers};
+use crate::rounds::{first_round, may_merge, next_read};
+use crate::told::{FirstTold, Told};
+use aig_graph::{Aig, Gate, Latch, Lit, NoMemory};
+use clean::{Held, constant_of};
+use std::alloc::Global;
+
+/// The name of a literal, where these are the names of the variables from the first latch on. Each before it is its own name.
+fn named(aig: &Aig, names: &[Lit], lit: Lit) -> Lit
+    requires long { length names.now ≡ length aig.now.latches + length aig.now.gates }
+    requires within { variable lit < variables_end aig.now }
+    ensures { result ≡ replaced (leaves aig.now names.now) lit }
+{
+    let var = lit.var();
+    let first = aig.first_latch();
+    if var < first {
+        lit
+    } else {
+        names[(var - first) as usize].signed_as(lit)
+    }
+}
+
+/// Gives the variable of an entry another name, and marks what reads it.
+fn rename(
+    aig: &Aig,
+    readers: &Readers,
+    marked: &mut Marked,
+    names: &mut Vec<Lit>,
+    entry: usize,
+    name: Lit,
+)
+    requires readers { AreReaders aig.now readers.now.heads.items readers.now.links.items }
+    requires entry { entry < length names.old.items }
+    requires long { length names.old.items ≡ length aig.now.latches + length aig.now.gates }
+    requires latches { length marked.old.latches ≡ length aig.now.latches }
+    requires gates { length marked.old.gates ≡ length aig.now.gates }
+    ensures { IsRenamed aig.now entry name names.old.items names.new.items marked.old.latches
+        marked.new.latches marked.old.gates marked.new.gates }
+{
+    if names[entry] != name {
+        names[entry] = name;
+        readers.mark(aig, entry, marked);
+    }
+}
+
+/// Names the gate at a place, which was marked. Not, where names have run out.
+fn name_gate(
+    aig: &Aig,
+    readers: &Readers,
+    marked: &mut Marked,
+    names: &mut Vec<Lit>,
+    pairs: &mut PairNames,
+    place: usize,
+) -> Result<bool, NoMemory>
+    requires readers { AreReaders aig.now readers.now.heads.items readers.now.links.items }
+    requires place { place < length aig.now.gates }
+    requires long { length names.old.items ≡ length aig.now.latches + length aig.now.gates }
+    requires latches { length marked.old.latches ≡ length aig.now.latches }
+    requires gates { length marked.old.gates ≡ length aig.now.gates }
+    ensures { IfOk result (λ went. went ≡ true → IsGateNamed aig.now place names.old.items
+        names.new.items pairs.old pairs.new marked.old.latches marked.new.latches marked.old.gates
+        marked.new.gates) }
+{
+    let gate = &aig.gates()[place];
+    let pair = Gate::of(
+        named(aig, names.as_slice(), gate.rhs0),
+        named(aig, names.as_slice(), gate.rhs1),
+    );
+    let Some(name) = pairs.name(pair)? else {
+        return Ok(false);
+    };
+    rename(
+        aig,
+        readers,
+        marked,
+        names,
+        aig.latches().len() + place,
+        name,
+    );
+    Ok(true)
+}
+
+/// Names the gates that are marked.
+fn name_gates(
+    aig: &Aig,
+    readers: &Readers,
+    marked: &mut Marked,
+    names: &mut Vec<Lit>,
+    pairs: &mut PairNames,
+) -> Result<bool, NoMemory>
+    requires readers { AreReaders aig.now readers.now.heads.items readers.now.links.items }
+    requires long { length names.old.items ≡ length aig.now.latches + length aig.now.gates }
+    requires latches { length marked.old.latches ≡ length aig.now.latches }
+    requires gates { length marked.old.gates ≡ length aig.now.gates }
+    ensures named { IfOk result (λ went. went ≡ true → AreGatesNamed aig.now names.old.items
+        names.new.items pairs.old pairs.new marked.old.latches marked.new.latches marked.old.gates
+        marked.new.gates) }
+    ensures all { IfOk result (λ went. went ≡ true → IsUnmarked marked.new.gates) }
+{
+    for _ in 0..u64::MAX {
+        let Some(place) = marked.gates.take() else {
+            return Ok(true);
+        };
+        if !name_gate(aig, readers, marked, names, pairs, place)? {
+            return Ok(false);
+        }
+    }
+    Ok(false)
+}
+
+/// The class of a latch, and what it is told.
+fn told_now(aig: &Aig, names: &[Lit], place: usize, latch: &Latch) -> Told
+    requires there { slice_get aig.now.latches place ≡ Some latch.now }
+    requires long { length names.now ≡ length aig.now.latches + length aig.now.gates }
+    ensures { result ≡ told_by aig.now names.now place latch.now }
+{
+    aig.known();
+    let start = constant_of(latch.reset);
+    Told {
+        class: names[place].signed_as(start),
+        literal: named(aig, names, latch.next).signed_as(start),
+    }
+}
+
+/// Marks and groups a latch, if it leaves what it was told.
+fn leave(
+    leaving: &mut Marks,
+    groups: &mut Groups,
+    place: usize,
+    told: Told,
+    leaves: bool,
+) -> Result<(), NoMemory>
+    ensures { OnOk result (IsLeft leaving.old leaving.new place leaves) }
+{
+    if leaves {
+        leaving.add(place);
+        groups.add(told)?;
+    }
+    Ok(())
+}
+
+/// Tells the marked latches what they are told by the names, and marks and groups those that may be merged and leave what they were told.
+fn tell_latches(
+    aig: &Aig,
+    held: &Held<'_>,
+    names: &[Lit],
+    tolds: &mut Vec<Lit>,
+    latches: &mut Marks,
+    leaving: &mut Marks,
+    groups: &mut Groups,
+) -> Result<bool, NoMemory>
+    requires held { length held.now.marks.items ≡ length aig.now.latches }
+    requires names { length names.now ≡ length aig.now.latches + length aig.now.gates }
+    requires tolds { length tolds.old.items ≡ length aig.now.latches }
+    requires latches { length latches.old ≡ length aig.now.latches }
+    requires leaving { length leaving.old ≡ length aig.now.latches }
+    requires told { AreTold aig.now names.now tolds.old.items latches.old }
+    requires none { IsUnmarked leaving.old }
+    ensures left { IfOk result (λ went. went ≡ true → AreLeaving aig.now held.now.positions.now
+        names.now tolds.old.items tolds.new.items leaving.new) }
+    ensures tolds { length tolds.new.items ≡ length tolds.old.items }
+    ensures latches { length latches.new ≡ length latches.old }
+    ensures leaving { OnOk result (length leaving.new ≡ length leaving.old) }
+{
+    for _ in 0..u64::MAX {
+        let Some(place) = latches.take() else {
+            return Ok(true);
+        };
+        let latch = &aig.latches()[place];
+        let told = told_now(aig, names, place, latch);
+        let leaves = may_merge(held, place, latch) & (tolds[place] != told.literal);
+        tolds[place] = told.literal;
+        leave(leaving, groups, place, told, leaves)?;
+    }
+    Ok(false)
+}
+
+/// The name of a latch's group.
+fn name_by_group(groups: &Groups, class: Lit, told: Lit, latch: &Latch) -> Lit
+    ensures { result ≡ renamed_latch groups.now.places.entries groups.now.names.items class told
+        latch.now }
+{
+    let start = constant_of(latch.reset);
+    let key = Told {
+        class: class.signed_as(start),
+        literal: told,
+    };
+    groups.name(&key).signed_as(start)
+}
+
+/// Gives the marked latches the names of their groups.
+fn rename_latches(
+    aig: &Aig,
+    readers: &Readers,
+    marked: &mut Marked,
+    names: &mut Vec<Lit>,
+    tolds: &[Lit],
+    leaving: &mut Marks,
+    groups: &Groups,
+) -> bool
+    requires readers { AreReaders aig.now readers.now.heads.items readers.now.links.items }
+    requires names { length names.old.items ≡ length aig.now.latches + length aig.now.gates }
+    requires tolds { length tolds.now ≡ length aig.now.latches }
+    requires latches { length marked.old.latches ≡ length aig.now.latches }
+    requires gates { length marked.old.gates ≡ length aig.now.gates }
+    requires leaving { length leaving.old ≡ length aig.now.latches }
+    ensures carried { AreCarried aig.now names.old.items names.new.items marked.old.latches
+        marked.new.latches marked.old.gates marked.new.gates }
+    ensures named { (pairs : List (Pair × ℕ)) → AreNamed aig.now names.old.items pairs
+        marked.old.gates → AreNamed aig.now names.new.items pairs marked.new.gates }
+    ensures regrouped { result ≡ true → AreRegrouped aig.now leaving.old names.old.items tolds.now
+        (group_name groups.now.places.entries groups.now.names.items) names.new.items }
+    ensures none { result ≡ true → IsUnmarked leaving.new }
+    ensures leaving { length leaving.new ≡ length leaving.old }
+{
+    for _ in 0..u64::MAX {
+        let Some(place) = leaving.take() else {
+            return true;
+        };
+        let latch = &aig.latches()[place];
+        let name = name_by_group(groups, names[place], tolds[place], latch);
+        rename(aig, readers, marked, names, place, name);
+    }
+    false
+}
+
+/// The names so far, what they were made of, and what is to be looked at again.
+#[derive(Drop)]
+struct Splitting {
+    readers: Readers,
+    marked: Marked,
+    /// By variable from the first latch on.
+    names: Vec<Lit>,
+    /// By latch what it was told.
+    tolds: Vec<Lit>,
+    pairs: PairNames,
+    /// Marks for one turn.
+    leaving: Marks,
+}
+
+impl Splitting {
+    /// Before any gate has a name.
+    fn start(alloc: Global, aig: &Aig, held: &Held<'_>) -> Result<Splitting, NoMemory>
+        requires { length held.now.marks.items ≡ length aig.now.latches }
+        ensures readers { IfOk result (λ s. AreReaders aig.now s.readers.heads.items
+            s.readers.links.items) }
+        ensures rest { IfOk result (λ s. AreAtRest aig.now held.now.positions.now s.names.items
+            s.tolds.items s.pairs s.marked.latches s.marked.gates s.leaving) }
+    {
+        let latches = aig.latches().len();
+        let names = first_names(alloc, aig, held)?;
+        let tolds = vec![in alloc; Lit::FALSE; latches]?;
+        let readers = Readers::of(alloc, aig)?;
+        let marked = Marked {
+            latches: Marks::all(alloc, true, latches)?,
+            gates: Marks::all(alloc, true, aig.gates().len())?,
+        };
+        let leaving = Marks::all(alloc, false, latches)?;
+        Ok(Splitting {
+            readers,
+            marked,
+            names,
+            tolds,
+            pairs: PairNames::none(alloc, aig.first_gate() + latches as u32 + 1),
+            leaving,
+        })
+    }
+
+    /// Names the gates that are marked.
+    fn name_gates(&mut self, aig: &Aig) -> Result<bool, NoMemory>
+        requires readers { AreReaders aig.now self.old.readers.heads.items
+            self.old.readers.links.items }
+        requires names { length self.old.names.items
+            ≡ length aig.now.latches + length aig.now.gates }
+        requires latches { length self.old.marked.latches ≡ length aig.now.latches }
+        requires gates { length self.old.marked.gates ≡ length aig.now.gates }
+        ensures readers { self.new.readers ≡ self.old.readers }
+        ensures tolds { self.new.tolds.items ≡ self.old.tolds.items }
+        ensures leaving { self.new.leaving ≡ self.old.leaving }
+        ensures named { IfOk result (λ went. went ≡ true → AreGatesNamed aig.now
+            self.old.names.items self.new.names.items self.old.pairs self.new.pairs
+            self.old.marked.latches self.new.marked.latches self.old.marked.gates
+            self.new.marked.gates) }
+        ensures all { IfOk result (λ went. went ≡ true → IsUnmarked self.new.marked.gates) }
+    {
+        name_gates(
+            aig,
+            &self.readers,
+            &mut self.marked,
+            &mut self.names,
+            &mut self.pairs,
+        )
+    }
+
+    /// One turn. Whether it went to its end.
+    fn turn(
+        &mut self,
+        alloc: Global,
+        aig: &Aig,
+        held: &Held<'_>,
+        classes: &mut Classes,
+    ) -> Result<bool, NoMemory>
+        requires held { length held.now.marks.items ≡ length aig.now.latches }
+        requires readers { AreReaders aig.now self.old.readers.heads.items
+            self.old.readers.links.items }
+        requires rest { AreAtRest aig.now held.now.positions.now self.old.names.items
+            self.old.tolds.items self.old.pairs self.old.marked.latches self.old.marked.gates
+            self.old.leaving }
+        requires settled { IsUnmarked self.old.marked.gates }
+        ensures readers { AreReaders aig.now self.new.readers.heads.items
+            self.new.readers.links.items }
+        ensures rest { IfOk result (λ went. went ≡ true → AreAtRest aig.now held.now.positions.now
+            self.new.names.items self.new.tolds.items self.new.pairs self.new.marked.latches
+            self.new.marked.gates self.new.leaving) }
+        ensures settled { IfOk result (λ went. went ≡ true → IsUnmarked self.new.marked.gates) }
+    {
+        aig.known();
+        let mut groups = Groups::none(alloc);
+        let told = tell_latches(
+            aig,
+            held,
+            self.names.as_slice(),
+            &mut self.tolds,
+            &mut self.marked.latches,
+            &mut self.leaving,
+            &mut groups,
+        )?;
+        classes.name(&mut groups)?;
+        let renamed = rename_latches(
+            aig,
+            &self.readers,
+            &mut self.marked,
+            &mut self.names,
+            self.tolds.as_slice(),
+            &mut self.leaving,
+            &groups,
+        );
+        drop(groups);
+        let named = self.name_gates(aig)?;
+        Ok(told & renamed & named)
+    }
+
+    /// Turns until nothing is marked.
+    fn run(
+        &mut self,
+        alloc: Global,
+        aig: &Aig,
+        held: &Held<'_>,
+        classes: &mut Classes,
+    ) -> Result<bool, NoMemory>
+        requires held { length held.now.marks.items ≡ length aig.now.latches }
+        requires readers { AreReaders aig.now self.old.readers.heads.items
+            self.old.readers.links.items }
+        requires rest { AreAtRest aig.now held.now.positions.now self.old.names.items
+            self.old.tolds.items self.old.pairs self.old.marked.latches self.old.marked.gates
+            self.old.leaving }
+        ensures { IfOk result (λ went. went ≡ true → AreAtRest aig.now held.now.positions.now
+            self.new.names.items self.new.tolds.items self.new.pairs self.new.marked.latches
+            self.new.marked.gates self.new.leaving) }
+    {
+        let mut goes_on = self.name_gates(aig)?;
+        for _ in 0..u64::MAX {
+            if !goes_on {
+                return Ok(false);
+            }
+            if !self.marked.latches.any() {
+                return Ok(true);
+            }
+            goes_on = self.turn(alloc, aig, held, classes)?;
+        }
+        Ok(false)
+    }
+}
+
+/// The names before the first turn: those of the latches before the first round, and any for the gates.
+fn first_names(alloc: Global, aig: &Aig, held: &Held<'_>) -> Result<Vec<Lit>, NoMemory>
+    requires { length held.now.marks.items ≡ length aig.now.latches }
+    ensures { IfOk result (λ names. names.items ≡ first_round aig.now held.now.positions.now
+        ++ replicate (length aig.now.gates) 0) }
+{
+    let mut names = first_round(alloc, aig, held)?;
+    for gate in 0..aig.gates().len() {
+        let _gate = gate;
+        names.push(Lit::FALSE)?;
+    }
+    Ok(names)
+}
+
+/// The class of a latch by its name.
+fn class_by(name: Lit, latch: &Latch) -> Told
+    ensures class { result.class ≡ from_reset latch.now.reset name }
+    ensures literal { result.literal ≡ 0 }
+{
+    Told {
+        class: name.signed_as(constant_of(latch.reset)),
+        literal: Lit::FALSE,
+    }
+}
+
+/// The reading in which each latch reads as the first of its name.
+fn reading_by_names(
+    alloc: Global,
+    aig: &Aig,
+    held: &Held<'_>,
+    names: &[Lit],
+) -> Result<Vec<Lit>, NoMemory>
+    requires held { length held.now.marks.items ≡ length aig.now.latches }
+    requires names { length names.now ≡ length aig.now.latches + length aig.now.gates }
+    ensures { IfOk result (λ reads. reads.items
+        ≡ round_by aig.now held.now.positions.now (class_of names.now)) }
+{
+    let mut firsts = FirstTold::new(alloc)?;
+    let mut reads = Vec::with_capacity(alloc, aig.latches().len())?;
+    for (place, latch) in aig.latches().iter().enumerate() {
+        let class = class_by(names[place], latch);
+        let lit = next_read(&mut firsts, aig, held, class, place, latch)?;
+        reads.push(lit)?;
+    }
+    Ok(reads)
+}
+
+/// A reading that is as coarse as each kept one. It is kept too, but where names run out.
+pub(crate) fn rough_reading(alloc: Global, aig: &Aig, held: &Held<'_>) -> Result<Vec<Lit>, NoMemory>
+    requires { length held.now.marks.items ≡ length aig.now.latches }
+    ensures { IfOk result (λ reads. IsRough aig.now held.now.positions.now reads.items) }
+{
+    let mut splitting = Splitting::start(alloc, aig, held)?;
+    let mut classes = Classes::constant(alloc, aig.first_gate(), aig.latches().len())?;
+    if splitting.run(alloc, aig, held, &mut classes)? {
+        reading_by_names(alloc, aig, held, splitting.names.as_slice())
+    } else {
+        first_round(alloc, aig, held)
+    }
+}
