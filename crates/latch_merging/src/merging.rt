@@ -1,6 +1,6 @@
-//! Latches that always agree, merged. All that may be merged begin in one class, with the constant; each round parts the classes by
-//! what their latches are told, until none is parted. A round parts a class exactly where one latch more reads as itself, so the number of those
-//! that read as another says when it was the last. There are as many rounds as the longest delay line is long, at most one more than latches.
+//! Latches that always agree, merged. Splitting by names makes a reading that is as coarse as each kept one. A round over the whole circuit then parts
+//! each class by what its latches are told, and shows that none is parted any more; where names ran out, rounds go on until none is. A round
+//! parts a class exactly where one latch more reads as itself, so the number of those that read as another says when it was the last.
 ghost use Rattle.std.specs.Prelude.{◌≡◌, ◌<◌, IfOk, length, nat_lt};
 ghost use Rattle.aig_graph.specs.Laws.{all_free};
 ghost use Rattle.aig_graph.specs.Streams.{SameStreams};
@@ -105,7 +105,8 @@ pub struct MergedCircuit {
 /// aren't held, in which those of a class are told the same by their next literals. Each reads as the first of its class, negated where
 /// their resets differ, or as the constant. All latches, gates and names stay, and what nothing reads any more goes in cleaning.
 ///
-/// A round is linear in the latches and gates, but for two hash tables.
+/// Classes are parted by what changed since they were looked at, so the cost is that of the latches and gates that read what was parted, each time
+/// it is; a last round is linear in the latches and gates, but for two hash tables.
 ///
 /// # Errors
 ///

@@ -53,7 +53,8 @@ fn mark_reader(marked: &mut Marked, latches: usize, place: usize)
 fn link(heads: &mut Vec<u32>, links: &mut Vec<u32>, first: u32, var: u32) -> Result<(), NoMemory>
     requires var { first ≤ var → var < first + length heads.old.items }
     requires few { length links.old.items < 2 ^ 31 }
-    ensures { OnOk result (IsLinked first var heads.old.items heads.new.items links.old.items links.new.items) }
+    ensures { OnOk result (IsLinked first var heads.old.items heads.new.items links.old.items
+        links.new.items) }
 {
     let link = links.len() as u32 + 1;
     if var < first {
@@ -69,7 +70,8 @@ fn link(heads: &mut Vec<u32>, links: &mut Vec<u32>, first: u32, var: u32) -> Res
 impl Readers {
     /// Those of a circuit.
     pub(crate) fn of(alloc: Global, aig: &Aig) -> Result<Readers, NoMemory>
-        ensures { IfOk result (λ readers. AreReaders aig.now readers.heads.items readers.links.items) }
+        ensures { IfOk result (λ readers. AreReaders aig.now readers.heads.items
+            readers.links.items) }
     {
         let sources = sources_of(alloc, aig)?;
         let first = aig.first_latch();
