@@ -41,7 +41,11 @@ pub(crate) fn push_resets(resets: &mut Vec<Reset>, latches: &[Latch]) -> Result<
 }
 
 /// What stands for the next literals of latches is put after those before.
-pub(crate) fn push_nexts(
+///
+/// # Errors
+///
+/// `NoMemory` where memory is refused; some may have been put then.
+pub fn push_nexts(
     nexts: &mut Vec<Lit>,
     instance: &Instance,
     latches: &[Latch],

@@ -12,7 +12,11 @@ use circuit_instances::Instance;
 use std::alloc::Global;
 
 /// The literals of this many variables, from a first one on.
-pub(crate) fn numbered(alloc: Global, first: u32, count: usize) -> Result<Vec<Lit>, NoMemory>
+///
+/// # Errors
+///
+/// `NoMemory` where memory is refused.
+pub fn numbered(alloc: Global, first: u32, count: usize) -> Result<Vec<Lit>, NoMemory>
     requires { first + count ≤ MAX_VARIABLES }
     ensures { IfOk result (λ lits. lits.items ≡ table 0 count (λ k. 2 * (first + k))) }
 {
@@ -84,7 +88,11 @@ pub(crate) fn sources(
 }
 
 /// A table of leaves: the constant, these inputs and these latches.
-pub(crate) fn leaves(alloc: Global, inputs: &[Lit], latches: &[Lit]) -> Result<Instance, NoMemory>
+///
+/// # Errors
+///
+/// `NoMemory` where memory is refused.
+pub fn leaves(alloc: Global, inputs: &[Lit], latches: &[Lit]) -> Result<Instance, NoMemory>
     ensures { IfOk result (λ leaves. leaves ≡ 0 ∷ (inputs.now ++ latches.now)) }
 {
     let mut literals = Vec::new(alloc);
@@ -95,7 +103,11 @@ pub(crate) fn leaves(alloc: Global, inputs: &[Lit], latches: &[Lit]) -> Result<I
 }
 
 /// What stands for each of these literals is put after those before.
-pub(crate) fn push_substitutes(
+///
+/// # Errors
+///
+/// `NoMemory` where memory is refused; some may have been put then.
+pub fn push_substitutes(
     substitutes: &mut Vec<Lit>,
     instance: &Instance,
     lits: &[Lit],

@@ -1,0 +1,18 @@
+use Rattle.std.proofs.Common.{ℕ, List, arith, sym, subst}
+use Rattle.aig_graph.specs.Graph.{Graph}
+use Rattle.aig_graph.specs.Value.{value_within}
+use Rattle.circuit_instances.specs.Instances.{HaveValues}
+use Rattle.lifted_witnesses.proofs.ViewLaws.{instance-view, leaves-have}
+use Rattle.map_miters.proofs.images.add_over.Goals as goal
+
+pub returns-clause-view : goal.returns-clause-view
+returns-clause-view c =
+    let h : Graph = c.args.gates.now in
+    let g : Graph = c.args.aig.now in
+    let inputs : List ℕ = c.args.inputs.now in
+    let latches : List ℕ = c.args.latches.now in
+    λ x s of_inputs of_latches.
+    instance-view h c.add_instance.new.gates g c.in_ok-leaves.leaves c.in_ok-part.part x s c.known.ensures c.in_ok-part.ensures.extends.graph c.in_ok-part.ensures.is
+    (λ z u. subst (λ (ls : List ℕ). HaveValues h ls z u (value_within g (x z u) (s z u))) (sym c.in_ok-leaves.ensures)
+    (leaves-have h g inputs latches c.requires.graph c.known.ensures c.requires.wide c.requires.long z (x z u) u (s z u)
+    (λ i less. of_inputs.values z u i (omega (arith, less, c.requires.wide))) (λ j less. of_latches.values z u j (omega (arith, less, c.requires.long)))))

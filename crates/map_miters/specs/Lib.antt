@@ -1,0 +1,5 @@
+pub mod Comparing
+pub mod Holding
+pub mod Questions
+pub mod Asking
+pub mod Miters

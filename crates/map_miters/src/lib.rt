@@ -1,0 +1,15 @@
+//! Miters of maps of states: what a map has to meet, as circuits that any solver or model checker reads.
+#![tactic(auto)]
+
+mod assembling;
+mod comparing;
+mod errors;
+mod free;
+mod images;
+mod leaves;
+mod questions;
+mod resets;
+mod steps;
+
+pub use assembling::miter;
+pub use errors::MiterError;

@@ -1,0 +1,94 @@
+//! A step of a circuit from the state that literals hold.
+ghost use Rattle.std.specs.Prelude.{◌≡◌, ◌<◌, ◌++◌, All, IfOk, OnOk, length, map};
+ghost use Rattle.std.specs.List.{flat_map};
+ghost use Rattle.aig_graph.specs.Circuits.{AreLiteralsOf};
+ghost use Rattle.aig_graph.specs.Graph.{IsGraph, variable, variables_end};
+ghost use Rattle.aig_graph.specs.Streams.{property_literals};
+ghost use Rattle.map_circuits.specs.Growing.{Extends};
+ghost use Rattle.circuit_instances.specs.Instances.{substitute};
+ghost use Rattle.map_miters.specs.Holding.{Held, HoldAs, IsStep};
+
+use crate::errors::MiterError;
+use crate::images::{add_over, substitutes_of};
+use aig_graph::{AigBuilder, Circuit, Latch, Lit, NoMemory, Props};
+use circuit_instances::Instance;
+use lifted_witnesses::push_nexts;
+use std::alloc::Global;
+
+/// What the latches hold after a step, and what the properties are in it.
+#[derive(Drop)]
+pub(crate) struct Step {
+    pub(crate) nexts: Vec<Lit>,
+    pub(crate) props: Vec<Lit>,
+}
+
+/// Puts literals at the end.
+fn append(literals: &mut Vec<Lit>, more: &[Lit]) -> Result<(), NoMemory>
+    ensures { OnOk result (literals.new.items ≡ literals.old.items ++ more.now) }
+{
+    for lit in more {
+        literals.push(*lit)?;
+    }
+    Ok(())
+}
+
+/// The literals of the properties, kind after kind.
+fn property_literals(alloc: Global, props: &Props) -> Result<Vec<Lit>, NoMemory>
+    ensures { IfOk result (λ literals. literals.items ≡ property_literals props.now) }
+{
+    let mut literals = Vec::new(alloc);
+    append(&mut literals, props.outputs.as_slice())?;
+    append(&mut literals, props.bad.as_slice())?;
+    append(&mut literals, props.constraints.as_slice())?;
+    for property in props.justice.as_slice() {
+        append(&mut literals, property.as_slice())?;
+    }
+    append(&mut literals, props.fairness.as_slice())?;
+    Ok(literals)
+}
+
+/// What stands for the next literals of latches.
+fn nexts_of(alloc: Global, part: &Instance, latches: &[Latch]) -> Result<Vec<Lit>, NoMemory>
+    requires { All (λ latch. variable latch.next < length part.now) latches.now }
+    ensures { IfOk result (λ nexts. nexts.items
+        ≡ map (λ latch. substitute part.now latch.next) latches.now) }
+{
+    let mut nexts = Vec::new(alloc);
+    push_nexts(&mut nexts, part, latches)?;
+    Ok(nexts)
+}
+
+/// What stands for the literals of the properties.
+fn props_of(alloc: Global, part: &Instance, circuit: &Circuit) -> Result<Vec<Lit>, NoMemory>
+    requires { length part.now ≡ variables_end circuit.now.aig }
+    ensures { IfOk result (λ found. found.items
+        ≡ map (substitute part.now) (property_literals circuit.now.props)) }
+{
+    circuit.known();
+    let literals = property_literals(alloc, circuit.props())?;
+    substitutes_of(alloc, part, literals.as_slice())
+}
+
+/// Adds a step of a circuit whose inputs and latches are these literals.
+pub(crate) fn add_step(
+    alloc: Global,
+    gates: &mut AigBuilder,
+    circuit: &Circuit,
+    inputs: &[Lit],
+    state: &[Lit],
+) -> Result<Step, MiterError>
+    requires graph { IsGraph gates.old }
+    requires wide { length inputs.now ≡ circuit.now.aig.inputs }
+    requires long { length state.now ≡ length circuit.now.aig.latches }
+    requires inputs { AreLiteralsOf gates.old inputs.now }
+    requires state { AreLiteralsOf gates.old state.now }
+    ensures extends { OnOk result (Extends gates.old gates.new) }
+    ensures step { IfOk result (λ step. (x s : Held) → HoldAs gates.old inputs.now x
+        → HoldAs gates.old state.now s → IsStep gates.new circuit.now x s step) }
+{
+    circuit.known();
+    let part = add_over(alloc, gates, circuit.aig(), inputs, state)?;
+    let nexts = nexts_of(alloc, &part, circuit.aig().latches())?;
+    let props = props_of(alloc, &part, circuit)?;
+    Ok(Step { nexts, props })
+}
