@@ -61,11 +61,17 @@ IsDone count latches gates e = (e < count → is_marked latches e ≡ true) × (
 
 -- a walk over a variable's readers: all from the link on are marked
 pub record IsWalk (count v : ℕ) (sources : List ℕ) (link : ℕ) (latches latches_new gates gates_new : List Bool) : Type 0 where
+  -- the list of the latches' marks is as long as before
   pub long_latches : length latches_new ≡ length latches
+  -- the list of the gates' marks is as long as before
   pub long_gates : length gates_new ≡ length gates
+  -- a latch that was marked is marked still
   pub latches_stay : (k : ℕ) → is_marked latches k ≡ true → is_marked latches_new k ≡ true
+  -- a gate that was marked is marked still
   pub gates_stay : (k : ℕ) → is_marked gates k ≡ true → is_marked gates_new k ≡ true
+  -- the link is 0, or one more than the place of a fan-in that reads the variable
   pub last : IsLast sources v (length sources) link
+  -- the reader of each fan-in that reads the variable, from the link on, is marked
   pub done : (e : ℕ) → link ≤ e → e < length sources → get_or sources e 0 ≡ v → IsDone count latches_new gates_new e
 
 module _ (g : Graph) (heads links : List ℕ) (readers : AreReaders g heads links) (entry : ℕ) (within : entry < length heads) (latches gates : List Bool)
@@ -213,9 +219,13 @@ linked-more first sources heads heads_new links links_new n w long reads within 
 
 -- the first latches' and gates' fan-ins
 pub record AreSourcesSo (g : Graph) (sources : List ℕ) (n m : ℕ) : Type 0 where
+  -- the list has an entry for each of the first n latches and two for each of the first m gates
   pub long : length sources ≡ n + 2 * m
+  -- entry j is the variable of the next literal of latch j, for each of the first n latches
   pub latches : (j : ℕ) (latch : Latch) → j < n → slice_get g.latches j ≡ Some latch → get_or sources j 0 ≡ variable latch.next
+  -- entry n + 2 i is the variable of the first fan-in of gate i, for each of the first m gates
   pub firsts : (i : ℕ) (gate : Gate) → i < m → slice_get g.gates i ≡ Some gate → get_or sources (n + 2 * i) 0 ≡ variable gate.rhs0
+  -- entry n + 2 i + 1 is the variable of the second fan-in of gate i, for each of the first m gates
   pub seconds : (i : ℕ) (gate : Gate) → i < m → slice_get g.gates i ≡ Some gate → get_or sources (n + 2 * i + 1) 0 ≡ variable gate.rhs1
 
 -- before any

@@ -97,6 +97,7 @@ module _ (g : Graph) (k name : ℕ) (names names_new : List ℕ) (latches latche
     ];
   }
 
+  -- the renamed variable has the new name, if there is an entry for this variable
   pub renamed-here : k < length names → read names_new k ≡ name
   renamed-here h = ap (λ (xs : List ℕ). get_or xs k 0) renamed.set ∙ get_or-set_same names k name 0 h
 
@@ -181,9 +182,13 @@ gates-more g i names names_now names_new pairs pairs_now pairs_new latches latch
 
 -- latches that are still to be told, and those that are
 pub record AreTelling (g : Graph) (held names old new : List ℕ) (latches leaving : List Bool) : Type 0 where
+  -- what latches are told now has an entry for each latch
   pub long : length new ≡ length g.latches
+  -- each latch has an entry among the marks of those that are still to be told
   pub long_latches : length latches ≡ length g.latches
+  -- each latch has an entry among the marks of those that leave what they were told
   pub long_leaving : length leaving ≡ length g.latches
+  -- each latch either waits, told as before and not marked as leaving, or is told anew, and marked so exactly if the latch leaves
   pub each : (j : ℕ) (latch : Latch) → slice_get g.latches j ≡ Some latch
       → ((is_marked latches j ≡ true) × (read new j ≡ read old j) × (is_marked leaving j ≡ false))
       ⊎ ((read new j ≡ told (leaves g names) latch) × (is_marked leaving j ≡ is_leaving g held names old j latch))
@@ -272,9 +277,13 @@ module _ (g : Graph) (held names old : List ℕ) where
 
 -- latches that are still to get the names of their groups, and those that have them
 pub record AreRenaming (g : Graph) (tolds : List ℕ) (group : Told → ℕ) (names names_new : List ℕ) (leaving leaving_new latches latches_new gates gates_new : List Bool) : Type 0 where
+  -- names and marks are as many as before, and what unmarked latches were told still agrees with the names
   pub carried : AreCarried g names names_new latches latches_new gates gates_new
+  -- if unmarked gates had the names of their fan-ins' names before, the gates that are unmarked now have theirs too
   pub named : (pairs : List (Gate × ℕ)) → AreNamed g names pairs gates → AreNamed g names_new pairs gates_new
+  -- the list of the marks of latches that leave is as long as before
   pub long_leaving : length leaving_new ≡ length leaving
+  -- each latch either waits, marked and named as before, or is unmarked, with its group's name if it was marked, else its old name
   pub each : (j : ℕ) (latch : Latch) → slice_get g.latches j ≡ Some latch
       → ((is_marked leaving_new j ≡ true) × (is_marked leaving j ≡ true) × (read names_new j ≡ read names j))
       ⊎ ((is_marked leaving_new j ≡ false) × (read names_new j ≡ regrouped leaving names tolds group j latch))

@@ -7,13 +7,17 @@ use Rattle.aig_graph.specs.declared.graph.Latch.{Latch}
 use Rattle.map_miters.specs.Holding.{AreResets, opening_literal}
 
 pub record AreFirstResets (latches : List Latch) (own : List ℕ) (n : ℕ) (lits : List ℕ) : Type 0 where
+  -- there are n literals
   pub many : length lits ≡ n
+  -- literal j is that of what latch j holds at step 0, for each of the first n latches
   pub each : (j : ℕ) (latch : Latch) → j < n → slice_get latches j ≡ Some latch → get_or lits j 0 ≡ opening_literal latch.reset (get_or own j 0)
 
 module _ (latches : List Latch) (own : List ℕ) where
+  -- the empty list has the literals of the first 0 latches
   pub first-none : AreFirstResets latches own 0 []
   first-none = record { many = refl; each = λ j latch less there. absurd (omega (arith, less)) }
 
+  -- the literals of the first n latches, then that of what latch n holds at step 0, are those of the first n + 1
   pub first-more : (n lit : ℕ) (latch : Latch) (old new : List ℕ) → slice_get latches n ≡ Some latch → lit ≡ opening_literal latch.reset (get_or own n 0) → AreFirstResets latches own n old
       → new ≡ old ++ lit ∷ [] → AreFirstResets latches own (n + 1) new
   first-more n lit latch old new there here p pushed =
@@ -31,6 +35,7 @@ module _ (latches : List Latch) (own : List ℕ) where
         ];
       })
 
+  -- the literals of the first n latches are those of all, if there are n latches
   pub first-all : (n : ℕ) (lits : List ℕ) → n ≡ length latches → AreFirstResets latches own n lits → AreResets latches own lits
   first-all n lits end p = record {
     many = p.many ∙ end;

@@ -35,6 +35,7 @@ holds-grow g h lits x more p = record {
 pub holds-itself : (h : Graph) (lits : List ℕ) → AreLiteralsOf h lits → HoldAs h lits (λ z u. λ k. value_within h z u (get_or lits k 0))
 holds-itself h lits within = record { within = within; values = λ z u k less. refl }
 
+-- an empty list of literals holds whatever is asked
 pub holds-none : (h : Graph) (lits : List ℕ) (x : Held) → lits ≡ [] → HoldAs h lits x
 holds-none h lits x none = subst (λ (ls : List ℕ). HoldAs h ls x) (sym none) (record {
   within = λ k d less. absurd (omega (arith, less));
@@ -46,6 +47,7 @@ pub below-end : (g : Graph) (lits given : List ℕ) (n : ℕ) → lits ≡ given
 below-end g lits given n same within long =
     subst (λ (ls : List ℕ). All (λ lit. variable lit < n) ls) (sym same) (λ k d less. omega (arith, within k d less, long))
 
+-- literals of what the map gives for a state stay such literals as the graph grows
 pub image-grows : (g h : Graph) (m : Netlist) (s : Held) (image : Image) → Extends g h → IsImage g m s image → IsImage h m s image
 image-grows g h m s image more p = record {
   within = more.literals image.kept p.within;
@@ -56,6 +58,7 @@ image-grows g h m s image more p = record {
   outputs = holds-grow g h image.outputs.items (λ z u. mapped m (s z u)) more p.outputs;
 }
 
+-- literals of a step of a circuit from a state stay such literals as the graph grows
 pub step-grows : (g h : Graph) (c : Netlist) (x s : Held) (step : Step) → Extends g h → IsStep g c x s step → IsStep h c x s step
 step-grows g h c x s step more p = record {
   many_nexts = p.many_nexts;
@@ -66,6 +69,7 @@ step-grows g h c x s step more p = record {
 
 -- what stands for literals of a graph holds their values
 module _ (h g : Graph) (own : Digits → State → ℕ → Bool) (part : List ℕ) (view : IsView h g own part) where
+  -- the literals of h that stand for literals of g hold the values of those, entry by entry
   pub substitutes-hold : (lits : List ℕ) → AreLiteralsOf g lits → HoldAs h (map (substitute part) lits) (λ z u. λ k. get_or (map (own z u) lits) k false)
   substitutes-hold lits within = record {
     within = substitutes-within h g own part view lits within;
@@ -109,6 +113,7 @@ module _ (h : Graph) (c : Netlist) (x s : Held) (part : List ℕ) (valid : IsGra
   next-read : (k : ℕ) (latch : Latch) (d : ℕ) → slice_get c.aig.latches k ≡ Some latch → k < length c.aig.latches → get_or (map next_of c.aig.latches) k d ≡ next_of latch
   next-read k latch d there less = get_or-map next_of c.aig.latches k latch d less ∙ ap next_of (get_or_from_slice_get c.aig.latches k latch latch there)
 
+  -- what stands for the latches' next literals holds what the latches hold after the step
   pub nexts-hold : HoldAs h (map next_of c.aig.latches) (λ z u. after_step c.aig (x z u) (s z u))
   nexts-hold = record {
     within = λ k d less.
@@ -128,6 +133,7 @@ module _ (h : Graph) (c : Netlist) (x s : Held) (part : List ℕ) (valid : IsGra
       one : (lit : ℕ) → IsLiteralOf c.aig lit → AreLiteralsOf c.aig (lit ∷ [])
       one lit within k d less = let at : k ≡ 0 = omega (arith, less) in subst (λ (n : ℕ). IsLiteralOf c.aig (get_or (lit ∷ []) n d)) (sym at) within
 
+  -- what stands for the latches' next literals and for the properties' literals is a step of the circuit from the state
   pub step-is : (step : Step) → AreLiteralsOf c.aig (property_literals c.props) → step.nexts.items ≡ map next_of c.aig.latches
       → step.props.items ≡ map (substitute part) (property_literals c.props) → IsStep h c x s step
   step-is step net nexts props = record {
@@ -149,6 +155,7 @@ opening-within h Zero own within = omega arith
 opening-within h One own within = omega arith
 opening-within h Free own within = within
 
+-- the literals of resets hold what the latches hold at step 0, where the latches' own literals hold a state
 pub resets-hold : (h : Graph) → IsGraph h → (latches : List Latch) (own lits : List ℕ) (s : Held) → length own ≡ length latches → AreResets latches own lits → HoldAs h own s
     → HoldAs h lits (λ z u. λ j. reset_at (s z u j) (slice_get latches j))
 resets-hold h valid latches own lits s long resets p = record {

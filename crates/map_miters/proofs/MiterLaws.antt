@@ -46,6 +46,7 @@ leaves-hold h c leaves valid begun inputs latches =
       latches = subst (λ (ls : List ℕ). HoldAs h ls (asked_state c)) (sym latches) (inputs-hold h valid c.inputs (length c.latches) (sym wide));
     }
 
+-- the leaves' literals stay those of the inputs and of what the latches hold as the graph grows
 pub leaves-grow : (g h c : Graph) (leaves : Leaves) → Extends g h → AreLeaves g c leaves → AreLeaves h c leaves
 leaves-grow g h c leaves more p = record {
   wide = p.wide;
@@ -94,6 +95,7 @@ module _ (g : Graph) (c d m : Netlist) (outputs : List ℕ) (asked : AsksIn g c 
       (All-cons P asked.failures.keep (asked.failures.next ∷ asked.failures.read ∷ []) asked.fail.keep.within
       (All-cons P asked.failures.next (asked.failures.read ∷ []) asked.fail.next.within (All-cons P asked.failures.read [] asked.fail.read.within (All-nil P)))))
 
+  -- the graph of the questions, with their outputs and names, is a netlist
   pub miter-netlist : IsNetlist made
   miter-netlist = record {
     props = record {
@@ -122,6 +124,7 @@ module _ (g : Graph) (c d m : Netlist) (outputs : List ℕ) (asked : AsksIn g c 
       ap (λ (ls : List ℕ). value_within g z (λ j. false) (get_or ls k 0)) asked.are ∙ ap (value_within g z (λ j. false)) at in
       (λ e. (p.is z (λ j. false)).0 (sym same ∙ e), λ has. same ∙ (p.is z (λ j. false)).1 has)
 
+  -- the graph of the questions, with their outputs and names, is a miter of the map
   pub is-miter : IsMiter c d m made
   is-miter = record {
     inputs = asked.inputs;

@@ -94,6 +94,7 @@ module _ (c d m : Netlist) (s : Held) where
   pub stays : (b : Bool) → IsTrue b ↔ FreeStay c d m → b ≡ true → FreeStay c d m
   stays b is holds = is.0 holds
 
+  -- where the answer of the tests is false, the free latches don't stay
   pub stays-not : (b : Bool) → IsTrue b ↔ FreeStay c d m → b ≡ false → FreeStay c d m → ⊥
   stays-not b is fails stay = clash b (is.1 stay) fails
 

@@ -88,6 +88,7 @@ where-same : (g : Graph) (sides : Sides) (z : Digits) (u : State) (holds : Digit
 where-same g sides z u holds kept wanted given same = (λ says k. same.0 (says (given.1 k)), λ says e. same.1 (says (given.0 e)))
 
 module _ (g : Graph) (c d m : Netlist) (sides : Sides) (askable : IsAskable c d m) (are : AreSides g c d m sides) where
+  -- what is compared of the sides are literals of the graph, as many on both sides, if the circuits can be asked
   pub comparable : AreComparable g sides
   comparable = record {
     image = are.image.within;
@@ -131,6 +132,7 @@ module _ (g : Graph) (c d m : Netlist) (sides : Sides) (askable : IsAskable c d 
               ∙ sym (are.before.props.values z u k (omega (arith, less, are.after.many_props, as_many, are.before.many_props))),
         )
 
+  -- literals that are 0 exactly where the sides compare well are 0 exactly where the map keeps, steps and reads
   pub step-failures : (h : Graph) (found : Compared) → AreCompared g h sides found → AreStepFailures h c d m (asked_state c.aig) found
   step-failures h found p = record {
     keep = fails-same h found.keep (WhereKept g sides (λ z u. value_within g z u sides.later.kept ≡ true)) (λ z u. Keeps c m z (asked_state c.aig z u))
