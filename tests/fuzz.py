@@ -166,7 +166,8 @@ def compare_certificates(rng, comparison):
 def compare_maps(rng, comparison):
     """What `--map` writes, and that the checker of maps accepts it with what was read and written."""
     c = random_files.tree(rng) if rng.random() < 0.7 else random_files.pipeline(rng, rng.choice([4, 8]), rng.randint(1, 3))
-    data, words = random_files.any_file(rng, c), [word for word in options(rng, c) if word != '--merge']
+    c = random_files.with_copies(rng, c) if rng.random() < 0.3 else c
+    data, words = random_files.any_file(rng, c), options(rng, c)
     retimed = comparison.run(['retime', 'in', 'OUT', *words, '--map', 'MAP'], {'in': data})
     if not retimed:
         return

@@ -1,10 +1,11 @@
 """The map of states of a retiming: a combinational circuit from the latches of the read circuit to those of the written one.
 
 While the run goes on, each latch has its function of the latches that were read, as a literal of the map. A latch that stays keeps
-it, and a new latch's is that of its gate over those of the latches before the move. A latch that cleaning replaces has the value of
-what stands for it: these equalities are the constraints."""
+it, and a new latch's is that of its gate over those of the latches before the move. A latch that cleaning or merging replaces has the
+value of what is read in its place: these equalities are the constraints."""
 from reference.circuit import Circuit, ordered
 from reference.cleaning import cleaned_once, left_after
+from reference.merging import coarsest, merged, readings
 from reference.retiming import frames_of, held_latches, latched_after, moved
 
 
@@ -30,12 +31,16 @@ class StateMap:
         """That of a literal of a latch, or a constant."""
         return (self.functions[lit // 2 - c.first_latch()] if lit > 1 else 0) ^ lit & 1
 
+    def equate(self, c, replacements):
+        """A constraint for each latch that isn't read any more: it is equal to what is read in its place."""
+        for k, function in enumerate(self.functions):
+            other = self.function(c, replacements.get(c.first_latch() + k, 2 * (c.first_latch() + k)))
+            if other != function:
+                self.constraints.append(self.equality(function, other))
+
     def clean_once(self, c, held):
         replacements, _, _, left = left_after(c, held)
-        for k, function in enumerate(self.functions):
-            stands = self.function(c, replacements.get(c.first_latch() + k, 2 * (c.first_latch() + k)))
-            if stands != function:
-                self.constraints.append(self.equality(function, stands))
+        self.equate(c, replacements)
         self.functions = [self.functions[v - c.first_latch()] for v in left if v < c.first_gate()]
         return cleaned_once(c, held)
 
@@ -45,6 +50,12 @@ class StateMap:
             if (len(d.latches), len(d.gates)) == (len(c.latches), len(c.gates)):
                 return d, positions
             c, held = d, positions
+
+    def merge(self, c, held):
+        reads = readings(c, coarsest(c, held))
+        self.equate(c, reads)
+        self.functions = [self.function(c, reads.get(v, 2 * v)) for v in range(c.first_latch(), c.first_gate())]
+        return merged(c, held)
 
     def move(self, c, members, held):
         staying, new = latched_after(c, members, held)
@@ -60,11 +71,13 @@ class StateMap:
         return m
 
 
-def state_map(c, most=None, names=(), smallest=False):
+def state_map(c, most=None, names=(), smallest=False, merge=False):
     """The map of the retiming of c, and what it is retimed to."""
     m = StateMap(c)
     d, held = m.clean(c, held_latches(c, names))
-    for _, _, count, members in frames_of(c, most, names, smallest):
+    if merge:
+        d, held = m.clean(m.merge(d, held), held)
+    for _, _, count, members in frames_of(c, most, names, smallest, merge):
         if count < d.known_latches():
             d, held = m.clean(*m.move(d, members, held))
     return m.circuit(c.symbols['l'], d.symbols['l']), d

@@ -91,8 +91,6 @@ def parsed(words):
         raise Ends(2, 'error: a depth of no neighbourhood')
     if command == 'dot' and '--merge' in options and '--frame' not in options:
         raise Ends(2, 'error: --merge without --frame')
-    if {'--map', '--merge'} <= set(options):
-        raise Ends(2, 'error: --map with --merge')
     outputs = paths[-1:] if command in WRITING else []
     if (paths[:len(paths) - len(outputs)] + options.get('--kept', [])).count('-') > 1:
         raise Ends(2, 'error: standard input is read once')

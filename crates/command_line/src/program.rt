@@ -60,13 +60,12 @@ fn certificates<'a>(alloc: Global) -> Arg<'a> {
         .help("Write a certificate of each frame to FILE")
 }
 
-fn map<'a>(alloc: Global) -> Result<Arg<'a>, AllocError> {
+fn map<'a>(alloc: Global) -> Arg<'a> {
     Arg::new(alloc, "map")
         .long("map")
         .value_name("MAP")
         .action(ArgAction::Set)
         .help("Write how OUT's latches follow from IN's to MAP")
-        .conflicts_with("merge")
 }
 
 fn names<'a>(alloc: Global) -> Arg<'a> {
@@ -234,7 +233,7 @@ fn retime<'a>(alloc: Global) -> Result<Command<'a>, AllocError> {
     let command = with_spelling(alloc, with_files(alloc, command));
     let command = with_limits(alloc, command, "Threads that work on the flow");
     let command = with(command, certificates(alloc));
-    let command = with_flag(command, map(alloc));
+    let command = with(command, map(alloc));
     let command = with_progress(alloc, command);
     let command = with_names(alloc, command);
     with(command, json(alloc))

@@ -32,7 +32,7 @@ pub struct Retiming<'a> {
     pub choice: Choice,
     /// What the certificates are written to; `None` asks for none.
     pub certificates: Option<Target<'a>>,
-    /// What the map of states is written to; `None` asks for none. It isn't asked for where latches are merged.
+    /// What the map of states is written to; `None` asks for none.
     pub map: Option<Target<'a>>,
     /// What is shown of the run.
     pub shown: Shown,

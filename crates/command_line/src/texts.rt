@@ -44,8 +44,7 @@ With --map, MAP gets a circuit whose inputs are the latches of IN and whose
 outputs are those of OUT: step for step each latch of OUT holds what its output
 says, wherever the constraints of MAP are 1, which they always are. So a SAT
 solver can check the run, and what is proved of OUT is carried back to IN.
-Nothing is written where MAP would have too many variables. No map is made with
---merge.
+Nothing is written where MAP would have too many variables.
 
 Where OUT, MAP or FILE is '-', standard output, the lines that are printed go to
 standard error.

@@ -116,7 +116,6 @@ fn mapped_to<R: Threads + Sync, W: CountedWrite, V: FrameWatcher>(
     writer: &mut W,
     watcher: &mut V,
 ) -> Result<Mapped, MappedError>
-    requires merge { options.now.merge ≡ false }
     ensures ok { IfOk result (IsMappedOf options.now spelt (W.output writer.old)
         (W.output writer.new)) }
     ensures err { IfErr result (IsMappingStop options.now spelt (W.output writer.old)
@@ -160,8 +159,7 @@ pub(crate) fn map_counts(answer: &Answer) -> Option<MapCounts>
     }
 }
 
-/// Writes the circuit that was read, retimed, and tells its levels where the task asks for them. No map is made where latches are merged:
-/// a command line doesn't ask for both.
+/// Writes the circuit that was read, retimed, and tells its levels where the task asks for them.
 pub(crate) fn retime_to<'a, R: Threads + Sync, W: CountedWrite, V: FrameWatcher>(
     rt: &R,
     alloc: Global,
@@ -181,12 +179,12 @@ pub(crate) fn retime_to<'a, R: Threads + Sync, W: CountedWrite, V: FrameWatcher>
         drop(spelt);
         return Err(Failure::Memory);
     };
-    match (task.map, task.merge) {
-        (Some(map), false) => match mapped_to(rt, alloc, task, options, spelt, writer, watcher) {
+    match task.map {
+        Some(map) => match mapped_to(rt, alloc, task, options, spelt, writer, watcher) {
             Ok(mapped) => Ok(answer_of(mapped, levels)),
             Err(error) => Err(failure_of_mapped(error, task, map)),
         },
-        _ => match plain_to(rt, alloc, task, options, spelt, writer, watcher) {
+        None => match plain_to(rt, alloc, task, options, spelt, writer, watcher) {
             Ok(retimed) => Ok(Answer {
                 retimed,
                 levels,
