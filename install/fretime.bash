@@ -46,11 +46,11 @@ _fretime() {
     local word=${COMP_WORDS[COMP_CWORD]} before=${COMP_WORDS[COMP_CWORD - 1]} options
     COMPREPLY=()
     if [ "$COMP_CWORD" = 1 ]; then
-        mapfile -t COMPREPLY < <(compgen -W "retime batch stat convert sim same verify check lift dot witness explain help --help --version" -- "$word")
+        mapfile -t COMPREPLY < <(compgen -W "retime batch stat convert sim same verify check miter lift dot witness explain help --help --version" -- "$word")
         return
     fi
     case ${COMP_WORDS[1]} in
-        retime | batch | convert | verify | dot | stat | same | sim | witness | check | lift) options=$(_fretime_options) ;;
+        retime | batch | convert | verify | dot | stat | same | sim | witness | check | miter | lift) options=$(_fretime_options) ;;
         explain)
             if [ "$COMP_CWORD" = 2 ]; then
                 mapfile -t COMPREPLY < <(compgen -W "--help BadHeader TooLarge MaxIndex BadLine BadLiteral DefinedTwice Undefined Cycle \
@@ -61,7 +61,7 @@ _fretime() {
             ;;
         help)
             if [ "$COMP_CWORD" = 2 ]; then
-                mapfile -t COMPREPLY < <(compgen -W "retime batch stat convert sim same verify check lift dot witness explain help" -- "$word")
+                mapfile -t COMPREPLY < <(compgen -W "retime batch stat convert sim same verify check miter lift dot witness explain help" -- "$word")
             fi
             return
             ;;

@@ -24,6 +24,7 @@ complete -c fretime -n __fish_use_subcommand -f -a sim -d 'Prints the values of 
 complete -c fretime -n __fish_use_subcommand -f -a same -d 'Finds the first difference of two circuits under a stimulus'
 complete -c fretime -n __fish_use_subcommand -f -a verify -d 'Checks the certificates that \'retime --cert\' wrote'
 complete -c fretime -n __fish_use_subcommand -f -a check -d 'Checks by a map of states that a circuit is a retiming of another'
+complete -c fretime -n __fish_use_subcommand -f -a miter -d 'Writes what a map of states has to meet as a circuit'
 complete -c fretime -n __fish_use_subcommand -f -a lift -d 'Carries a proof of a retimed circuit back to what it was made of'
 complete -c fretime -n __fish_use_subcommand -f -a dot -d 'Writes a picture of a circuit, for Graphviz'
 complete -c fretime -n __fish_use_subcommand -f -a witness -d 'Carries a witness of a retimed circuit back to what it was made of'
@@ -31,7 +32,7 @@ complete -c fretime -n __fish_use_subcommand -f -a explain -d 'Says what a fault
 complete -c fretime -n __fish_use_subcommand -f -a help -d 'Print this message or the help of the given subcommand(s)'
 complete -c fretime -n __fish_use_subcommand -s V -l version -d 'Print version'
 complete -c fretime -n 'not __fish_seen_subcommand_from help' -s h -l help -d 'Print help'
-complete -c fretime -n '__fish_seen_subcommand_from help' -f -a 'retime batch stat convert sim same verify check lift dot witness explain help'
+complete -c fretime -n '__fish_seen_subcommand_from help' -f -a 'retime batch stat convert sim same verify check miter lift dot witness explain help'
 
 complete -c fretime -n '__fish_seen_subcommand_from retime' -l ascii -d 'Write ASCII'
 complete -c fretime -n '__fish_seen_subcommand_from retime' -l binary -d 'Write binary'
@@ -75,6 +76,9 @@ complete -c fretime -n '__fish_seen_subcommand_from verify' -x -l keep -d 'Hold 
 complete -c fretime -n '__fish_seen_subcommand_from verify' -r -l keep-from -d 'Hold the latches that the lines of FILE name'
 complete -c fretime -n '__fish_seen_subcommand_from verify' -l merge -d 'IN was retimed with --merge'
 complete -c fretime -n '__fish_seen_subcommand_from verify' -l json -d 'Print an object of JSON in place of the lines'
+
+complete -c fretime -n '__fish_seen_subcommand_from miter' -l ascii -d 'Write ASCII'
+complete -c fretime -n '__fish_seen_subcommand_from miter' -l binary -d 'Write binary'
 
 complete -c fretime -n '__fish_seen_subcommand_from lift' -l ascii -d 'Write ASCII'
 complete -c fretime -n '__fish_seen_subcommand_from lift' -l binary -d 'Write binary'

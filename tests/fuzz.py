@@ -176,6 +176,7 @@ def compare_maps(rng, comparison):
     parts = [map_checker.read_circuit(part) for part in (data, retimed, maps[1])]
     comparison.count(map_checker.Judge().shows(*parts), f'the checker of maps refuses {words} on {data}\n{maps[1]}')
     compare_checks(rng, comparison, data, retimed, maps[1])
+    compare_miters(rng, comparison, data, retimed, maps[1])
     compare_lifts(rng, comparison, data, retimed, maps[1])
 
 
@@ -216,6 +217,17 @@ def named(rng, c, d):
         for position, place in zip(sorted(chosen), rng.sample(range(count), min(count, len(chosen)))):
             symbols[kind][position] = b'= %d' % (2 * (first + place) + (rng.random() < 0.02))
     return dataclasses.replace(c, symbols=symbols)
+
+
+def compare_miters(rng, comparison, data, retimed, map_data):
+    """What `miter` writes of a map, and where something was changed; and of three files in another order."""
+    words = rng.choice([[], ['--ascii'], ['--binary']])
+    comparison.run(['miter', 'in', 'other', 'map', 'OUT', *words], {'in': data, 'other': retimed, 'map': map_data})
+    comparison.run(['miter', *rng.sample(['in', 'other', 'map'], 3), 'OUT'], {})
+    parts = [read(part)[0] for part in (data, retimed, map_data)]
+    for chosen in (0, 1, 2):
+        worse = [changed(rng, part) if k == chosen else part for k, part in enumerate(parts)]
+        comparison.run(['miter', 'in', 'other', 'map', 'OUT'], dict(zip(('in', 'other', 'map'), (text(part, rng.choice(['aag', 'aig'])) for part in worse))))
 
 
 def compare_lifts(rng, comparison, data, retimed, map_data):

@@ -8,21 +8,22 @@ from reference.circuit import text
 from reference.lifts import NoSuchLiteral, lifted
 from reference.maps import state_map
 from reference.merging import merge_counts
+from reference.miters import miter
 from reference.pictures import MOST_NODES, middle, neighbourhood, nodes, picture
 from reference.reading import Fault, read
 from reference.retiming import NoSuchName, frames_of, held_latches, passable, retimed
 from reference.simulation import difference_text, is_too_long, random_stimulus, read_kept, read_stimulus, trace, trace_text
 from reference.witnesses import carried_text
 
-PATHS = {'retime': 2, 'batch': 1, 'stat': 1, 'convert': 2, 'sim': 2, 'same': 3, 'verify': 2, 'check': 3, 'lift': 5, 'dot': 2,
+PATHS = {'retime': 2, 'batch': 1, 'stat': 1, 'convert': 2, 'sim': 2, 'same': 3, 'verify': 2, 'check': 3, 'miter': 4, 'lift': 5, 'dot': 2,
          'witness': 3}
 OPTIONS = {'retime': {'--ascii', '--binary', '--workers', '--frames', '--near', '--merge', '--keep', '--cert', '--map', '--progress',
                       '--quiet'},
            'verify': {'--keep', '--merge'}, 'dot': {'--frame', '--merge', '--keep', '--around', '--depth'},
            'batch': {'--ascii', '--binary', '--workers', '--frames', '--near', '--merge'}, 'convert': {'--ascii', '--binary'},
-           'lift': {'--ascii', '--binary'}, 'stat': {'--merge'}, 'witness': {'--merge'}, 'sim': {'--random', '--steps', '--seed'},
+           'miter': {'--ascii', '--binary'}, 'lift': {'--ascii', '--binary'}, 'stat': {'--merge'}, 'witness': {'--merge'}, 'sim': {'--random', '--steps', '--seed'},
            'same': {'--random', '--steps', '--seed', '--kept'}}
-WRITING = {'retime', 'convert', 'dot', 'lift'}
+WRITING = {'retime', 'convert', 'dot', 'miter', 'lift'}
 GREATEST = {'--workers': 64, '--frames': 2**28, '--depth': 100, '--random': 2**20, '--steps': 2**22, '--seed': 2**32 - 1}
 LEAST = {'--seed': 0}
 VALUED = {'--workers', '--frames', '--keep', '--cert', '--map', '--around', '--depth', '--random', '--steps', '--seed', '--kept'}
@@ -301,6 +302,16 @@ def check(paths, _):
     return status, said
 
 
+def asked(paths, options):
+    c, d, m = (circuit_of(path) for path in paths[:3])
+    if not is_map(m[0]):
+        raise Ends(1, f'{source_name(paths[2])}: NotAMap')
+    if not are_fitting(c[0], d[0], m[0]):
+        return 1, 'shapes differ\n'
+    write(paths[3], text(miter(c[0], d[0], m[0]), letters_of(options, m[1])))
+    return 0, ''
+
+
 def lift(paths, options):
     c, d, m, w = (circuit_of(path) for path in paths[:4])
     if not is_map(m[0]):
@@ -355,7 +366,7 @@ def witness(paths, options):
 
 
 COMMANDS = {'retime': retime, 'batch': batch, 'stat': stat, 'convert': convert, 'sim': sim, 'same': same, 'verify': verify,
-            'check': check, 'lift': lift, 'dot': dot, 'witness': witness}
+            'check': check, 'miter': asked, 'lift': lift, 'dot': dot, 'witness': witness}
 
 
 def run(words):

@@ -25,9 +25,10 @@ use Rattle.command_line.specs.declared.task.Drawing.{Drawing}
 use Rattle.command_line.specs.declared.task.Counting.{Counting}
 use Rattle.command_line.specs.declared.task.Carrying.{Carrying}
 use Rattle.command_line.specs.declared.task.Checking.{Checking}
+use Rattle.command_line.specs.declared.task.Asking.{Asking}
 use Rattle.command_line.specs.declared.task.Lifting.{Lifting}
 use Rattle.command_line.specs.declared.task.Task.{Task}
-use Rattle.command_line.specs.declared.task.Task.TheVariants.{Retime, Batch, Stat, Convert, Sim, Same, Verify, Check, Lift, Dot, Witness, Explain}
+use Rattle.command_line.specs.declared.task.Task.TheVariants.{Retime, Batch, Stat, Convert, Sim, Same, Verify, Check, Miter, Lift, Dot, Witness, Explain}
 
 -- the text is the first value of the argument with this id
 abbrev pub IsGiven : ArgMatches → List ℕ → Bor (List ℕ) → Type 0
@@ -175,6 +176,14 @@ pub record IsChecking (matches : ArgMatches) (checking : Checking) : Type 0 wher
   pub retimed : IsSource matches (codes "OUT") checking.retimed
   pub mapping : IsSource matches (codes "MAP") checking.map
 
+-- the paths of the circuits, of the map and of its miter, and the flags of what is written, are the values of their own arguments
+pub record IsAsking (matches : ArgMatches) (asking : Asking) : Type 0 where
+  pub input : IsSource matches (codes "IN") asking.input
+  pub retimed : IsSource matches (codes "OUT") asking.retimed
+  pub mapping : IsSource matches (codes "MAP") asking.map
+  pub output : IsTarget matches (codes "MITER") asking.output
+  pub spelling : IsSpelling matches asking.spelling
+
 -- the paths of the files that a witness circuit is lifted by, and the flags of what is written, are the values of their own arguments
 pub record IsLifting (matches : ArgMatches) (lifting : Lifting) : Type 0 where
   pub input : IsSource matches (codes "IN") lifting.input
@@ -194,6 +203,7 @@ AsksFor matches (Sim simulation) = IsSimulation matches simulation
 AsksFor matches (Same comparison) = IsComparison matches comparison
 AsksFor matches (Verify verification) = IsVerification matches verification
 AsksFor matches (Check checking) = IsChecking matches checking
+AsksFor matches (Miter asking) = IsAsking matches asking
 AsksFor matches (Lift lifting) = IsLifting matches lifting
 AsksFor matches (Dot drawing) = IsDrawing matches drawing
 AsksFor matches (Witness carrying) = IsCarrying matches carrying
@@ -209,6 +219,7 @@ command_of (Sim simulation) = codes "sim"
 command_of (Same comparison) = codes "same"
 command_of (Verify verification) = codes "verify"
 command_of (Check checking) = codes "check"
+command_of (Miter asking) = codes "miter"
 command_of (Lift lifting) = codes "lift"
 command_of (Dot drawing) = codes "dot"
 command_of (Witness carrying) = codes "witness"

@@ -14,7 +14,7 @@ use Rattle.command_line.specs.declared.task.Simulation.{Simulation}
 use Rattle.command_line.specs.declared.task.Stimuli.{Stimuli}
 use Rattle.command_line.specs.declared.task.Stimuli.TheVariants.{Read, Random}
 use Rattle.command_line.specs.declared.task.Task.{Task}
-use Rattle.command_line.specs.declared.task.Task.TheVariants.{Retime, Batch, Stat, Convert, Sim, Same, Verify, Check, Lift, Dot, Witness, Explain}
+use Rattle.command_line.specs.declared.task.Task.TheVariants.{Retime, Batch, Stat, Convert, Sim, Same, Verify, Check, Miter, Lift, Dot, Witness, Explain}
 
 -- what follows what else is read: a stimulus, unless it is made of random sequences
 abbrev pub with_stimulus : Stimuli → List Source
@@ -45,6 +45,7 @@ sources_of (Sim simulation) = sources_of_simulation simulation
 sources_of (Same comparison) = sources_of_comparison comparison
 sources_of (Verify verification) = verification.input ∷ verification.certificates ∷ []
 sources_of (Check checking) = checking.input ∷ checking.retimed ∷ checking.map ∷ []
+sources_of (Miter asking) = asking.input ∷ asking.retimed ∷ asking.map ∷ []
 sources_of (Lift lifting) = sources_of_lifting lifting
 sources_of (Dot drawing) = drawing.input ∷ []
 sources_of (Witness carrying) = carrying.input ∷ carrying.retimed ∷ carrying.witness ∷ []
@@ -69,6 +70,7 @@ targets_of (Sim simulation) = []
 targets_of (Same comparison) = []
 targets_of (Verify verification) = []
 targets_of (Check checking) = []
+targets_of (Miter asking) = asking.output ∷ []
 targets_of (Lift lifting) = lifting.output ∷ []
 targets_of (Dot drawing) = drawing.output ∷ []
 targets_of (Witness carrying) = []
@@ -107,6 +109,7 @@ covers_circuit (Sim simulation) = false
 covers_circuit (Same comparison) = false
 covers_circuit (Verify verification) = false
 covers_circuit (Check checking) = false
+covers_circuit (Miter asking) = false
 covers_circuit (Lift lifting) = false
 covers_circuit (Dot drawing) = false
 covers_circuit (Witness carrying) = false

@@ -10,6 +10,6 @@ mod texts;
 
 pub use parse::parse_arguments;
 pub use task::{
-    Batch, Carrying, Checking, Comparison, Counting, Drawing, Lifting, Retiming, Sequences, Shown,
-    Simulation, Stimuli, Task, Verification,
+    Asking, Batch, Carrying, Checking, Comparison, Counting, Drawing, Lifting, Retiming, Sequences,
+    Shown, Simulation, Stimuli, Task, Verification,
 };

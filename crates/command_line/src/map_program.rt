@@ -17,6 +17,21 @@ pub(crate) fn check<'a>(alloc: Global) -> Result<Command<'a>, AllocError> {
     with(command, path(alloc, "MAP", "The map of states"))
 }
 
+pub(crate) fn miter<'a>(alloc: Global) -> Result<Command<'a>, AllocError> {
+    let command = command(
+        alloc,
+        "miter",
+        texts::MITER_ABOUT,
+        texts::MITER_LONG_ABOUT,
+        texts::MITER_EXAMPLE,
+    );
+    let command = command.arg(path(alloc, "IN", "The AIGER file that was retimed"));
+    let command = with(command, retimed(alloc));
+    let command = with(command, path(alloc, "MAP", "The map of states"));
+    let command = with(command, path(alloc, "MITER", "The AIGER file to write"));
+    with_spelling(alloc, command)
+}
+
 pub(crate) fn lift<'a>(alloc: Global) -> Result<Command<'a>, AllocError> {
     let command = command(
         alloc,

@@ -9,8 +9,8 @@ ghost use Rattle.command_line.specs.declared.task.Task.TheVariants.{Dot, Retime,
 use crate::program::program;
 use crate::stream_uses::stream_conflict;
 use crate::task::{
-    Batch, Carrying, Checking, Comparison, Counting, Drawing, Lifting, Retiming, Sequences, Shown,
-    Simulation, Stimuli, Task, Verification,
+    Asking, Batch, Carrying, Checking, Comparison, Counting, Drawing, Lifting, Retiming, Sequences,
+    Shown, Simulation, Stimuli, Task, Verification,
 };
 use clap::error::ErrorKind;
 use clap::{ArgMatches, Command, Error};
@@ -313,6 +313,18 @@ fn check<'a>(matches: &ArgMatches<'a>) -> Option<Task<'a>>
     }))
 }
 
+fn miter<'a>(matches: &ArgMatches<'a>) -> Option<Task<'a>>
+    ensures { IfSome result (Asks (codes "miter") matches.now) }
+{
+    Some(Task::Miter(Asking {
+        input: source(matches, "IN")?,
+        retimed: source(matches, "OUT")?,
+        map: source(matches, "MAP")?,
+        output: target(matches, "MITER")?,
+        spelling: spelling(matches),
+    }))
+}
+
 fn lifting<'a>(matches: &ArgMatches<'a>) -> Option<Task<'a>>
     ensures { IfSome result (Asks (codes "lift") matches.now) }
 {
@@ -344,6 +356,7 @@ fn task_without_names<'a>(name: &str, matches: &ArgMatches<'a>) -> Option<Task<'
         "same" => comparison(matches),
         "witness" => witness(matches),
         "check" => check(matches),
+        "miter" => miter(matches),
         "lift" => lifting(matches),
         "explain" => explanation(matches),
         _ => None,

@@ -1,6 +1,6 @@
 //! The commands with their options, as the command-line library wants them. Each of its calls returns a command or a refusal of
 //! memory, so a step takes what the one before returned.
-use crate::map_program::{check, lift};
+use crate::map_program::{check, lift, miter};
 use crate::texts;
 use clap::builder::ValueParser;
 use clap::{Arg, ArgAction, Command};
@@ -476,6 +476,7 @@ fn with_inquiries<'a>(
 ) -> Result<Command<'a>, AllocError> {
     let program = with_command(program, verify(alloc));
     let program = with_command(program, check(alloc));
+    let program = with_command(program, miter(alloc));
     let program = with_command(program, lift(alloc));
     let program = with_command(program, dot(alloc));
     let program = with_command(program, witness(alloc));

@@ -67,6 +67,7 @@ fn stdin_uses(task: &Task<'_>) -> usize
         }
         Task::Verify(verification) => stdin_count(&[verification.input, verification.certificates]),
         Task::Check(checking) => stdin_count(&[checking.input, checking.retimed, checking.map]),
+        Task::Miter(asking) => stdin_count(&[asking.input, asking.retimed, asking.map]),
         Task::Lift(lifting) => stdin_uses_of_lifting(lifting),
         Task::Dot(drawing) => stdin_count(&[drawing.input]),
         Task::Explain(_) => 0,
@@ -94,6 +95,7 @@ fn stdout_uses(task: &Task<'_>) -> usize
         Task::Retime(retiming) => stdout_uses_of(retiming),
         Task::Convert(_, output, _) => stdout_count(&[*output]),
         Task::Dot(drawing) => stdout_count(&[drawing.output]),
+        Task::Miter(asking) => stdout_count(&[asking.output]),
         Task::Lift(lifting) => stdout_count(&[lifting.output]),
         Task::Batch(_)
         | Task::Stat(_)
@@ -165,6 +167,7 @@ fn covers_circuit(task: &Task<'_>) -> bool
         | Task::Dot(_)
         | Task::Witness(_)
         | Task::Check(_)
+        | Task::Miter(_)
         | Task::Lift(_)
         | Task::Explain(_) => false,
     }

@@ -176,6 +176,21 @@ pub struct Checking<'a> {
     pub map: Source<'a>,
 }
 
+/// What `miter` is to do.
+#[derive(Clone, Copy)]
+pub struct Asking<'a> {
+    /// The circuit.
+    pub input: Source<'a>,
+    /// The circuit that was made of it.
+    pub retimed: Source<'a>,
+    /// The map of the states of the one to those of the other.
+    pub map: Source<'a>,
+    /// What the miter is written to.
+    pub output: Target<'a>,
+    /// The spelling of the written file; `None` is that of the map.
+    pub spelling: Option<Spelling>,
+}
+
 /// What `lift` is to do.
 #[derive(Clone, Copy)]
 pub struct Lifting<'a> {
@@ -212,6 +227,8 @@ pub enum Task<'a> {
     Verify(Verification<'a>),
     /// Check by a map of states that a circuit is a retiming of another.
     Check(Checking<'a>),
+    /// Write what a map of states has to meet as a circuit.
+    Miter(Asking<'a>),
     /// Write a witness circuit for a circuit, of one for the circuit that was made of it.
     Lift(Lifting<'a>),
     /// Write a picture of a circuit.

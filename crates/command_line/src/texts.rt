@@ -137,6 +137,31 @@ bad, constraint, justice or fairness of OUT ('read').
 Exit status: 0 a retiming, 1 a file is refused, MAP is no map, or shapes differ,
 2 command line, 3 device, 4 out of memory, 5 not shown.";
 
+pub(crate) const MITER_ABOUT: &str = "Writes what a map of states has to meet as a circuit";
+
+pub(crate) const MITER_LONG_ABOUT: &str =
+    "Reads a circuit, the circuit that was made of it, and a map of the states of the
+one to those of the other, as 'retime --map' writes it, and writes a circuit
+without latches that is 1 where the map fails, in the spelling of MAP where none
+is chosen. Its inputs are those of IN, then one for what each latch of IN holds.
+
+It has four outputs. 'reset' is 1 where from a first state of IN a constraint of
+MAP doesn't hold or MAP gives no first state of OUT; the others where the
+constraints of MAP hold: 'keep' where after a step they don't, 'next' where MAP
+then gives another state than the step of OUT, 'read' where a property of OUT
+isn't that of IN. So MAP shows that OUT is a retiming of IN where no output is
+ever 1, as any SAT solver or equivalence checker can find.";
+
+pub(crate) const MITER_EXAMPLE: &str = "Example:
+  fretime retime counter.aag smaller.aag --map counter.map
+  fretime miter counter.aag smaller.aag counter.map counter.aig --binary
+
+MITER is made at its first byte: where something is refused, it stays as it was.
+'shapes differ' is printed where IN, OUT and MAP don't fit together.
+
+Exit status: 0 done, 1 a file is refused, MAP is no map, or shapes differ,
+2 command line, 3 device, 4 out of memory.";
+
 pub(crate) const LIFT_ABOUT: &str =
     "Carries a proof of a retimed circuit back to what it was made of";
 

@@ -4,7 +4,7 @@ use Rattle.std.specs.Borrow.{Bor}
 use Rattle.counted_io.specs.Output.{Output}
 use Rattle.command_line.specs.StreamUses.{takes_stdout}
 use Rattle.command_line.specs.declared.task.Task.{Task}
-use Rattle.command_line.specs.declared.task.Task.TheVariants.{Retime, Batch, Stat, Convert, Sim, Same, Verify, Check, Lift, Dot, Witness, Explain}
+use Rattle.command_line.specs.declared.task.Task.TheVariants.{Retime, Batch, Stat, Convert, Sim, Same, Verify, Check, Miter, Lift, Dot, Witness, Explain}
 use Rattle.circuit_files.specs.Codes.{status_of}
 use Rattle.circuit_files.specs.Outcomes.{outcome_of}
 use Rattle.circuit_files.specs.declared.outcome.Outcome.{Outcome}
@@ -40,6 +40,7 @@ object_command (Batch batch) = None
 object_command (Convert input output spelling) = None
 object_command (Sim simulation) = None
 object_command (Check checking) = None
+object_command (Miter asking) = None
 object_command (Lift lifting) = None
 object_command (Dot drawing) = None
 object_command (Witness carrying) = None
@@ -55,6 +56,7 @@ prints_aside (Sim simulation) = false
 prints_aside (Same comparison) = false
 prints_aside (Verify verification) = false
 prints_aside (Check checking) = false
+prints_aside (Miter asking) = false
 prints_aside (Lift lifting) = false
 prints_aside (Dot drawing) = false
 prints_aside (Witness carrying) = false

@@ -7,7 +7,7 @@ use Rattle.json_reports.specs.Differences.{shapes_data}
 use Rattle.json_reports.specs.Lines.{json_line}
 use Rattle.stream_paths.specs.Streams.{is_stdin, is_stdout}
 use Rattle.command_line.specs.declared.task.Task.{Task}
-use Rattle.command_line.specs.declared.task.Task.TheVariants.{Retime, Batch, Stat, Convert, Sim, Same, Verify, Check, Lift, Dot, Witness, Explain}
+use Rattle.command_line.specs.declared.task.Task.TheVariants.{Retime, Batch, Stat, Convert, Sim, Same, Verify, Check, Miter, Lift, Dot, Witness, Explain}
 use Rattle.circuit_files.specs.Codes.{status_of}
 use Rattle.circuit_files.specs.Outcomes.{outcome_of}
 use Rattle.circuit_files.specs.declared.outcome.Outcome.{Outcome}
@@ -15,6 +15,7 @@ use Rattle.circuit_files.specs.declared.outcome.Failure.{Failure}
 use Rattle.command_objects.specs.Objects.{PrintsRefusal}
 use Rattle.simulation_commands.specs.Comparing.{PrintsFinding}
 use Rattle.map_commands.specs.Checking.{PrintsCheck}
+use Rattle.map_commands.specs.Asking.{PrintsMiter}
 use Rattle.map_commands.specs.Lifted.{PrintsLift}
 use Rattle.commands.specs.Drawings.{PrintsPicture}
 use Rattle.commands.specs.Fates.{PrintsFate}
@@ -44,6 +45,7 @@ Does (Sim simulation) before after old new ended = PrintsTrace simulation before
 Does (Same comparison) before after old new ended = PrintsFinding comparison before after old new ended
 Does (Verify verification) before after old new ended = PrintsAuditOf verification before after old new ended
 Does (Check checking) before after old new ended = PrintsCheck checking before after old new ended
+Does (Miter asking) before after old new ended = PrintsMiter asking before after old new ended
 Does (Lift lifting) before after old new ended = PrintsLift lifting before after old new ended
 Does (Dot drawing) before after old new ended = PrintsPicture drawing before after old new ended
 Does (Witness carrying) before after old new ended = PrintsFate carrying before after old new ended

@@ -20,7 +20,7 @@ use commands::{
     convert, print_retimed, print_statistics, print_verification, print_witness_back, write_picture,
 };
 use counted_io::{Buffered, CountedRead, CountedWrite};
-use map_commands::{print_check, write_lifted};
+use map_commands::{print_check, write_lifted, write_miter};
 use simulation_commands::{print_comparison, print_simulation};
 use std::alloc::Global;
 use std::fmt::Write;
@@ -62,6 +62,7 @@ fn run_task<
         Task::Same(comparison) => print_comparison(rt, alloc, comparison, stdin, out),
         Task::Verify(verification) => print_verification(rt, alloc, verification, stdin, out, err),
         Task::Check(checking) => print_check(rt, alloc, checking, stdin, out),
+        Task::Miter(asking) => write_miter(rt, alloc, asking, stdin, out),
         Task::Lift(lifting) => write_lifted(rt, alloc, lifting, stdin, out),
         Task::Dot(drawing) => { write_picture(rt, alloc, drawing, is_terminal, stdin, out, err) }
         Task::Witness(carrying) => print_witness_back(rt, alloc, carrying, stdin, out),

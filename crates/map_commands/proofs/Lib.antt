@@ -1,2 +1,3 @@
 mod CheckLaws
 mod LiftLaws
+mod MiterLaws

@@ -17,8 +17,9 @@ use Rattle.command_line.specs.declared.task.Lifting.{Lifting}
 use Rattle.circuit_files.specs.declared.outcome.Outcome.{Outcome}
 use Rattle.circuit_files.specs.declared.outcome.Failure.{Failure}
 use Rattle.map_commands.specs.declared.given.Given.{Given}
-use Rattle.map_commands.specs.declared.lift.Lifted.{Lifted}
-use Rattle.map_commands.specs.Lifted.{AreGiven, EndsLifting, IsLiftedBy, IsLiftedOf, IsLiftOf, PrintsLift}
+use Rattle.map_commands.specs.declared.made.Made.{Made}
+use Rattle.map_commands.specs.Making.{EndsMaking}
+use Rattle.map_commands.specs.Lifted.{AreGiven, IsLiftedBy, IsLiftedOf, IsLiftOf, PrintsLift}
 
 -- where the map fits both circuits and the witness shares with the second, it can be lifted
 pub liftable : (c d m w : Netlist) (k : Sharing) → IsMap m → AreFitting c d m → IsSharing d w k → IsLiftable c m w k
@@ -46,9 +47,9 @@ pub lifted-of : (c d m w : Netlist) (k : Sharing) (result : Result Netlist Failu
 lifted-of c d m w k result shared by = IfOk-weaker result _ _ (λ r is. record { sharing = k; shared = shared; lifted = is }) by
 
 -- what is made of what was read is written, in the spelling that is chosen
-pub prints-lift : {before after : Input} (old new : Output) (task : Lifting) (given : Given) (lifted : Lifted) (spelling : Spelling) (result : Result Outcome Failure)
+pub prints-lift : {before after : Input} (old new : Output) (task : Lifting) (given : Given) (lifted : Made) (spelling : Spelling) (result : Result Outcome Failure)
     → AreGiven task before after given → IsLiftedOf given lifted → spelling ≡ unwrap_or task.spelling given.witness.spelling
-    → IfOk result (EndsLifting lifted spelling task.output old new) → IfOk result (PrintsLift task before after old new)
+    → IfOk result (EndsMaking lifted spelling task.output old new) → IfOk result (PrintsLift task before after old new)
 prints-lift {before} {after} old new task given lifted spelling result read is chosen printed =
-    let P : Spelling → Type 0 = λ s. IfOk result (EndsLifting lifted s task.output old new) in
+    let P : Spelling → Type 0 = λ s. IfOk result (EndsMaking lifted s task.output old new) in
     IfOk-weaker result _ _ (λ ended ends. record { given = given; read = read; lifted = lifted; is = is; printed = ends }) (subst P chosen printed)

@@ -1,3 +1,6 @@
 pub mod Doubts
 pub mod Checking
+pub mod Reading
+pub mod Making
 pub mod Lifted
+pub mod Asking

@@ -1,5 +1,5 @@
 -- What `lift` makes of a witness circuit, and what is written.
-use Rattle.std.specs.Prelude.{ℕ, ◌≡◌, true, false, List, unwrap_or}
+use Rattle.std.specs.Prelude.{ℕ, ◌≡◌, List, unwrap_or}
 use Rattle.aig_graph.specs.Circuits.{Netlist}
 use Rattle.state_maps.specs.MapCircuits.{IsMapCircuit}
 use Rattle.witness_circuits.specs.declared.sharing.Sharing.{Sharing}
@@ -9,24 +9,19 @@ use Rattle.lifted_witnesses.specs.Laws.{first_shared}
 use Rattle.lifted_witnesses.specs.Lifting.{IsLifted}
 use Rattle.map_checks.specs.Answers.{AreFitting, IsMap}
 use Rattle.file_words.specs.declared.fault.ReadError.TheVariants.{TooLarge}
-use Rattle.file_words.specs.declared.spelling.Spelling.{Spelling}
-use Rattle.aig_binary.specs.Spellings.{text_in}
-use Rattle.reports.specs.Differences.{shapes_text}
 use Rattle.counted_io.specs.Input.{Input}
-use Rattle.counted_io.specs.Output.{Output, WritesAll}
-use Rattle.stream_paths.specs.Streams.{is_stdout, source_name, target_name}
-use Rattle.stream_paths.specs.declared.target.Target.{Target}
+use Rattle.counted_io.specs.Output.{Output}
+use Rattle.stream_paths.specs.Streams.{source_name, target_name}
 use Rattle.command_line.specs.declared.task.Lifting.{Lifting}
 use Rattle.circuit_files.specs.declared.outcome.Outcome.{Outcome}
-use Rattle.circuit_files.specs.declared.outcome.Outcome.TheVariants as ends
 use Rattle.circuit_files.specs.declared.outcome.Failure.{Failure}
 use Rattle.circuit_files.specs.declared.outcome.Failure.TheVariants as fails
-use Rattle.command_endings.specs.Printing.{EndsWith}
 use Rattle.command_endings.specs.Sources.{IsCircuitAt}
 use Rattle.map_commands.specs.declared.given.Given.{Given}
-use Rattle.map_commands.specs.declared.given.Pair.{Pair}
-use Rattle.map_commands.specs.declared.lift.Lifted.{Lifted}
-use Rattle.map_commands.specs.declared.lift.Lifted.TheVariants.{Witness, ShapesDiffer}
+use Rattle.map_commands.specs.declared.made.Made.{Made}
+use Rattle.map_commands.specs.declared.made.Made.TheVariants.{Circuit, ShapesDiffer}
+use Rattle.map_commands.specs.Making.{EndsMaking}
+use Rattle.map_commands.specs.Reading.{ArePair}
 
 -- r is the witness circuit for c that is made of w, which shares this with d: where m maps the states of c to those of d and w passes the
 -- five checks for d, r passes them for c
@@ -41,8 +36,8 @@ pub record IsLiftOf (c d m w r : Netlist) : Type 0 where
   pub lifted : IsLiftedBy c d m w sharing r
 
 -- what is made of the circuits, the map and the witness circuit that are read
-abbrev pub IsLiftedOf : Given → Lifted → Type 0
-IsLiftedOf given (Witness r) = IsMap given.map.circuit × AreFitting given.pair.first.circuit given.pair.second.circuit given.map.circuit
+abbrev pub IsLiftedOf : Given → Made → Type 0
+IsLiftedOf given (Circuit r) = IsMap given.map.circuit × AreFitting given.pair.first.circuit given.pair.second.circuit given.map.circuit
     × IsLiftOf given.pair.first.circuit given.pair.second.circuit given.map.circuit given.witness.circuit r
 IsLiftedOf given ShapesDiffer = IsMap given.map.circuit × (AreFitting given.pair.first.circuit given.pair.second.circuit given.map.circuit → ⊥)
 
@@ -55,30 +50,18 @@ IsFailureToLift task given (fails.Refused path fault) = (path.now ≡ target_nam
 IsFailureToLift task given fails.Memory = Unit {0}
 IsFailureToLift task given failure = ⊥
 
--- both circuits are read in this order
-pub record ArePair (task : Lifting) (before after : Input) (pair : Pair) : Type 0 where
-  pub between : Input
-  pub first : IsCircuitAt task.input before between pair.first
-  pub second : IsCircuitAt task.retimed between after pair.second
-
--- and then the map and the witness circuit
+-- both circuits are read, and then the map and the witness circuit
 pub record AreGiven (task : Lifting) (before after : Input) (given : Given) : Type 0 where
   pub circuits : Input
   pub between : Input
-  pub pair : ArePair task before circuits given.pair
+  pub pair : ArePair task.input task.retimed before circuits given.pair
   pub mapping : IsCircuitAt task.map circuits between given.map
   pub witness : IsCircuitAt task.witness between after given.witness
-
--- it is written to standard output, which a file leaves as it was
-abbrev pub EndsLifting : Lifted → Spelling → Target → Output → Output → Outcome → Type 0
-EndsLifting (Witness r) spelling target old new ended =
-    (ended ≡ ends.Done) × (is_stdout target ≡ true → WritesAll old new (text_in spelling r)) × (is_stdout target ≡ false → new ≡ old)
-EndsLifting ShapesDiffer spelling target old new ended = EndsWith ends.ShapesDiffer shapes_text old new ended
 
 -- what is made of the files that are read is written, in the spelling that is chosen, else in that of the witness circuit
 pub record PrintsLift (task : Lifting) (before after : Input) (old new : Output) (ended : Outcome) : Type 0 where
   pub given : Given
   pub read : AreGiven task before after given
-  pub lifted : Lifted
+  pub lifted : Made
   pub is : IsLiftedOf given lifted
-  pub printed : EndsLifting lifted (unwrap_or task.spelling given.witness.spelling) task.output old new ended
+  pub printed : EndsMaking lifted (unwrap_or task.spelling given.witness.spelling) task.output old new ended

@@ -1,14 +1,17 @@
-//! What `lift` reads.
+//! What `lift` and `miter` read.
 ghost use Rattle.std.specs.Prelude.{IfOk};
 ghost use Rattle.command_endings.specs.Sources.{IsCircuitAt};
-ghost use Rattle.map_commands.specs.Lifted.{AreGiven, ArePair};
+ghost use Rattle.map_commands.specs.Asking.{AreMapped};
+ghost use Rattle.map_commands.specs.Lifted.{AreGiven};
+ghost use Rattle.map_commands.specs.Reading.{ArePair};
 
 use aig_binary::SpeltCircuit;
 use circuit_files::{Failure, circuit_at};
-use command_line::Lifting;
+use command_line::{Asking, Lifting};
 use counted_io::CountedRead;
 use std::alloc::Global;
 use std::rt::Files;
+use stream_paths::Source;
 
 /// A circuit, and the one that was made of it.
 #[derive(Drop)]
@@ -25,18 +28,41 @@ pub(crate) struct Given {
     pub(crate) witness: SpeltCircuit,
 }
 
+/// The circuits and a map of the states of the one to those of the other.
+#[derive(Drop)]
+pub(crate) struct Mapped {
+    pub(crate) pair: Pair,
+    pub(crate) map: SpeltCircuit,
+}
+
 /// Reads both circuits, in this order.
-fn pair_for<'a, R: Files, I: CountedRead>(
+fn pair_at<'a, R: Files, I: CountedRead>(
     rt: &R,
     alloc: Global,
-    task: &Lifting<'a>,
+    input: Source<'a>,
+    retimed: Source<'a>,
     stdin: &mut I,
 ) -> Result<Pair, Failure<'a>>
-    ensures { IfOk result (ArePair task.now (I.input stdin.old) (I.input stdin.new)) }
+    ensures { IfOk result (ArePair input.entry retimed.entry (I.input stdin.old)
+        (I.input stdin.new)) }
 {
-    let first = circuit_at(rt, alloc, task.input, stdin)?;
-    let second = circuit_at(rt, alloc, task.retimed, stdin)?;
+    let first = circuit_at(rt, alloc, input, stdin)?;
+    let second = circuit_at(rt, alloc, retimed, stdin)?;
     Ok(Pair { first, second })
+}
+
+/// Reads the circuits and the map, in this order.
+pub(crate) fn mapped_for<'a, R: Files, I: CountedRead>(
+    rt: &R,
+    alloc: Global,
+    task: &Asking<'a>,
+    stdin: &mut I,
+) -> Result<Mapped, Failure<'a>>
+    ensures { IfOk result (AreMapped task.now (I.input stdin.old) (I.input stdin.new)) }
+{
+    let pair = pair_at(rt, alloc, task.input, task.retimed, stdin)?;
+    let map = circuit_at(rt, alloc, task.map, stdin)?;
+    Ok(Mapped { pair, map })
 }
 
 /// Reads the circuits, the map and the witness circuit, in this order.
@@ -48,7 +74,7 @@ pub(crate) fn given_for<'a, R: Files, I: CountedRead>(
 ) -> Result<Given, Failure<'a>>
     ensures { IfOk result (AreGiven task.now (I.input stdin.old) (I.input stdin.new)) }
 {
-    let pair = pair_for(rt, alloc, task, stdin)?;
+    let pair = pair_at(rt, alloc, task.input, task.retimed, stdin)?;
     let map = circuit_at(rt, alloc, task.map, stdin)?;
     let witness = circuit_at(rt, alloc, task.witness, stdin)?;
     Ok(Given { pair, map, witness })

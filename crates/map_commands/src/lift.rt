@@ -7,33 +7,21 @@ ghost use Rattle.map_checks.specs.Answers.{AreFitting, IsMap};
 ghost use Rattle.circuit_files.specs.declared.outcome.Failure.TheVariants.{NotAMap};
 ghost use Rattle.command_endings.specs.HeldNames.{OfSource};
 ghost use Rattle.command_endings.specs.Printing.{Prints, ending};
-ghost use Rattle.map_commands.specs.Lifted.{EndsLifting, IsFailureToLift, IsLiftOf, IsLiftedBy, IsLiftedOf, PrintsLift};
+ghost use Rattle.map_commands.specs.Lifted.{IsFailureToLift, IsLiftOf, IsLiftedBy, IsLiftedOf, PrintsLift};
 
 use crate::given::{Given, given_for};
-use aig_binary::Spelling;
+use crate::made::{Made, write_made};
 use aig_graph::Circuit;
 use circuit_files::{Failure, Outcome};
-use command_endings::{ended, write_circuit};
 use command_line::Lifting;
 use counted_io::{CountedRead, CountedWrite};
 use file_words::ReadError;
 use lifted_witnesses::{LiftError, lift_law, lifted_witness};
 use map_checks::{are_fitting, is_map};
-use reports::print_shapes_differ;
 use std::alloc::Global;
 use std::rt::Files;
-use stream_paths::Target;
 use witness_circuits::Sharing;
 use witness_sharing::{SharingError, sharing_of};
-
-/// What is made of a witness circuit.
-#[derive(Drop)]
-enum Lifted {
-    /// The witness circuit for the first circuit.
-    Witness(Circuit),
-    /// The circuits and the map don't fit together.
-    ShapesDiffer,
-}
 
 /// The witness circuit for the first circuit, where it is known what the one for the second shares with that.
 fn lifted_by<'a>(
@@ -94,7 +82,7 @@ fn lifted_of<'a>(alloc: Global, given: &Given, task: &Lifting<'a>) -> Result<Cir
 }
 
 /// What is made of the witness circuit that is read. That the map isn't one is found first, then that it doesn't fit the circuits.
-fn lifted_for<'a>(alloc: Global, given: &Given, task: &Lifting<'a>) -> Result<Lifted, Failure<'a>>
+fn lifted_for<'a>(alloc: Global, given: &Given, task: &Lifting<'a>) -> Result<Made, Failure<'a>>
     ensures lifted { IfOk result (IsLiftedOf given.now) }
     ensures failed { IfErr result (IsFailureToLift task.now given.now) }
     ensures not_a_map { (IsMap given.now.map.circuit → ⊥) → OfSource task.now.map
@@ -105,32 +93,11 @@ fn lifted_for<'a>(alloc: Global, given: &Given, task: &Lifting<'a>) -> Result<Li
         return Err(Failure::NotAMap(task.map.name()));
     }
     if !are_fitting(&given.pair.first.circuit, &given.pair.second.circuit, map) {
-        return Ok(Lifted::ShapesDiffer);
+        return Ok(Made::ShapesDiffer);
     }
     match lifted_of(alloc, given, task) {
-        Ok(circuit) => Ok(Lifted::Witness(circuit)),
+        Ok(circuit) => Ok(Made::Circuit(circuit)),
         Err(failure) => Err(failure),
-    }
-}
-
-/// Writes what is made of a witness circuit, or prints that the circuits and the map don't fit together.
-fn write_result<'a, R: Files, O: CountedWrite>(
-    rt: &R,
-    lifted: &Lifted,
-    spelling: Spelling,
-    output: Target<'a>,
-    out: &mut O,
-) -> Result<Outcome, Failure<'a>>
-    ensures written { IfOk result (EndsLifting lifted.now spelling output.entry
-        (O.output out.old) (O.output out.new)) }
-    ensures prints { Prints (ending result) (O.output out.old) (O.output out.new) }
-{
-    match lifted {
-        Lifted::Witness(circuit) => match write_circuit(rt, circuit, spelling, output, out) {
-            Ok(()) => Ok(Outcome::Done),
-            Err(failure) => Err(failure),
-        },
-        Lifted::ShapesDiffer => ended(print_shapes_differ(out), Outcome::ShapesDiffer),
     }
 }
 
@@ -153,7 +120,7 @@ pub fn write_lifted<'a, R: Files, I: CountedRead, O: CountedWrite>(
     drop(given);
     match found {
         Ok(lifted) => {
-            let written = write_result(rt, &lifted, spelling, task.output, out);
+            let written = write_made(rt, &lifted, spelling, task.output, out);
             drop(lifted);
             written
         }

@@ -25,6 +25,9 @@ returns-in-Verify-clause-prints g c = by_command c.print_verification.result _ _
 pub returns-in-Check-clause-prints : goal.returns-in-Check-clause-prints
 returns-in-Check-clause-prints g c = by_command c.print_check.result _ _ c.print_check.ensures.prints
 
+pub returns-in-Miter-clause-prints : goal.returns-in-Miter-clause-prints
+returns-in-Miter-clause-prints g c = by_command c.write_miter.result _ _ c.write_miter.ensures.prints
+
 pub returns-in-Lift-clause-prints : goal.returns-in-Lift-clause-prints
 returns-in-Lift-clause-prints g c = by_command c.write_lifted.result _ _ c.write_lifted.ensures.prints
 

@@ -1,4 +1,4 @@
-use Rattle.map_commands.proofs.given.pair_for.Goals as goal
+use Rattle.map_commands.proofs.given.pair_at.Goals as goal
 
 pub returns : goal.returns
 returns g c = record {
