@@ -201,7 +201,7 @@ def retime(paths, options):
         raise no_such_name(paths[0], c, missing.args[0]) from missing
     write(paths[1], text(d, letters_of(options, letters)))
     for path in options.get('--map', []):
-        write(path, text(state_map(c, most, names, smallest)[0], letters_of(options, letters)))
+        write(path, text(state_map(c, most, names, smallest, merge)[0], letters_of(options, letters)))
     for path in options.get('--cert', []):
         write(path, written('smallest' if smallest else 'greatest', certificates(c, most, names, smallest, merge)))
     lines = [f'frame {k + 1}: {before} to {after}\n' for k, (before, after) in enumerate(frames)]
