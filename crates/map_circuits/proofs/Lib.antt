@@ -2,3 +2,4 @@ pub mod GrowingLaws
 pub mod FollowingLaws
 pub mod SteppingLaws
 pub mod ConstrainingLaws
+pub mod SubstituteLaws

@@ -1,14 +1,11 @@
 -- The constraints of a pass say that what stands for each latch is what it holds.
-use Rattle.std.proofs.Common.{inl, inr, ℕ, ◌+◌, ◌-◌, ◌*◌, ◌<◌, ◌≤◌, ◌≡◌, nat_eq, Bool, true, false, Some, slice_get, List, length, get_or, arith, ap, sym, ◌∙◌, subst, zero-add}
+use Rattle.std.proofs.Common.{inl, inr, ℕ, ◌<◌, ◌≡◌, Bool, false, Some, slice_get, List, length, get_or, arith, ap, sym, ◌∙◌, subst, zero-add}
 use Rattle.std.specs.List.{All}
-use Rattle.std.proofs.lemmas.Bool.{cases_Bool, eqb-true, cond-true, cond-false}
-use Rattle.std.proofs.lemmas.List.{get_or-map}
 use Rattle.std.proofs.lemmas.Option.{slice_get_within}
 use Rattle.aig_graph.specs.declared.graph.Latch.{Latch}
-use Rattle.aig_graph.specs.Graph.{Graph, IsGraph, first_latch, variable}
-use Rattle.aig_graph.specs.Value.{signed, value_within}
+use Rattle.aig_graph.specs.Graph.{Graph, IsGraph, first_latch}
+use Rattle.aig_graph.specs.Value.{value_within}
 use Rattle.aig_graph.proofs.KindLaws.{element}
-use Rattle.aig_graph.proofs.SignLaws.{value_signed, value_signed_as}
 use Rattle.cleaned_circuits.specs.Latches.{latch_substitute}
 use Rattle.cleaned_circuits.proofs.LatchLaws.{constant-even, stands_for, by_constant, by_itself, by_earlier}
 use Rattle.variable_tables.specs.Tables.{table}
@@ -16,9 +13,9 @@ use Rattle.variable_tables.proofs.TableLaws.{length-table, table-at}
 use Rattle.state_maps.specs.States.{State}
 use Rattle.state_maps.specs.Cleaning.{SubstitutesHold}
 use Rattle.state_maps.proofs.FrameMapLaws.{substitute-steady}
-use Rattle.state_maps.proofs.WithinLaws.{within_laws}
 use Rattle.map_circuits.specs.Constraining.{IsSubstitute, SubstitutesBelow, substitute_function}
-use Rattle.map_circuits.specs.Following.{entry_of, literal_at, state_of}
+use Rattle.map_circuits.specs.Following.{state_of}
+use Rattle.map_circuits.proofs.SubstituteLaws.{function-value, substitute-value}
 
 -- what stands for the latches of a circuit
 abbrev pub latch_substitutes : Graph → List ℕ → List ℕ
@@ -56,37 +53,12 @@ module _ (d : Graph) (held functions : List ℕ) (many : length functions ≡ le
     abbrev there : ℕ → Bool
     there = value_within d (λ i. false) (state_of g functions s)
 
-    function-value : (j : ℕ) → j < length functions → here (get_or functions j 0) ≡ state_of g functions s j
-    function-value j less = sym (get_or-map here functions j 0 false less)
-
-    entry-value : (v : ℕ) → first ≤ v → v - first < length functions → here (entry_of first functions v) ≡ there (2 * v)
-    entry-value v from less =
-        let latch = element d.latches (v - first) (omega (arith, less, many)) in
-        let place : 2 * v ≡ 2 * (first + (v - first)) = omega (arith, from) in
-        function-value (v - first) less ∙ sym ((within_laws d valid (λ i. false) (state_of g functions s)).latch (v - first) latch.0 latch.1) ∙ sym (ap there place)
-
-    -- the function of what stands for a latch has its value
-    substitute-value : (lit : ℕ) → IsSubstitute first functions lit → here (substitute_function first functions lit) ≡ there lit
-    substitute-value lit substitute =
-        let one = within_laws g graph s (λ i. false) in
-        let two = within_laws d valid (λ i. false) (state_of g functions s) in
-        elim (cases_Bool (nat_eq (variable lit) 0)) [
-          | inl constant ↦ (
-              let same : substitute_function first functions lit ≡ lit = cond-true {A = ℕ} (nat_eq (variable lit) 0) lit (literal_at first functions lit) constant in
-              let place : 2 * variable lit ≡ 0 = omega (arith, eqb-true (variable lit) 0 constant) in
-              ap here same ∙ value_signed here one.negation lit ∙ ap (signed lit) (ap here place ∙ one.constant ∙ sym (ap there place ∙ two.constant)) ∙ sym (value_signed there two.negation lit))
-          | inr apart ↦ (
-              let same : substitute_function first functions lit ≡ literal_at first functions lit = cond-false {A = ℕ} (nat_eq (variable lit) 0) lit (literal_at first functions lit) apart in
-              let entry : here (entry_of first functions (variable lit)) ≡ there (2 * variable lit) = elim substitute [
-                | inl none ↦ (let clash : nat_eq (variable lit) 0 ≡ true = ap (λ (n : ℕ). nat_eq n 0) none in absurd (cc))
-                | inr covered ↦ entry-value (variable lit) covered.0 covered.1
-              ] in
-              ap here same ∙ value_signed_as here one.negation lit (entry_of first functions (variable lit)) ∙ ap (signed lit) entry ∙ sym (value_signed there two.negation lit))
-        ]
+    value-of-function : (j : ℕ) → j < length functions → here (get_or functions j 0) ≡ state_of g functions s j
+    value-of-function = function-value d valid functions many g graph s
 
     substitute-here : (j : ℕ) (latch : Latch) → slice_get d.latches j ≡ Some latch → here (substitute_function first functions (get_or (latch_substitutes d held) j 0)) ≡ there (latch_substitute d held j (Some latch))
     substitute-here j latch at =
-        ap (λ (lit : ℕ). here (substitute_function first functions lit)) (substitute-at j 0 latch at) ∙ substitute-value (latch_substitute d held j (Some latch)) (is-substitute j latch at)
+        ap (λ (lit : ℕ). here (substitute_function first functions lit)) (substitute-at j 0 latch at) ∙ substitute-value d valid functions many g graph s (latch_substitute d held j (Some latch)) (is-substitute j latch at)
 
     -- where each function equals that of what stands for its latch, what stands for each latch is what the latch holds
     pub substitutes-hold : SubstitutesBelow g first functions (latch_substitutes d held) (length (latch_substitutes d held)) s → SubstitutesHold d held (state_of g functions s)
@@ -94,11 +66,11 @@ module _ (d : Graph) (held functions : List ℕ) (many : length functions ≡ le
         let less : j < length d.latches = slice_get_within d.latches j latch at in
         let listed : j < length (latch_substitutes d held) = omega (arith, less, length-table 0 (length d.latches) (λ k. latch_substitute d held k (slice_get d.latches k))) in
         substitute-steady d held (state_of g functions s) valid x j latch at
-        ∙ sym (substitute-here j latch at) ∙ sym (below j listed) ∙ function-value j (omega (arith, less, many))
+        ∙ sym (substitute-here j latch at) ∙ sym (below j listed) ∙ value-of-function j (omega (arith, less, many))
 
     -- where what stands for each latch is what the latch holds, each function equals that of what stands for its latch
     pub substitutes-below : SubstitutesHold d held (state_of g functions s) → SubstitutesBelow g first functions (latch_substitutes d held) (length (latch_substitutes d held)) s
     substitutes-below holds j less =
         let below : j < length d.latches = omega (arith, less, length-table 0 (length d.latches) (λ k. latch_substitute d held k (slice_get d.latches k))) in
         let latch = element d.latches j below in
-        function-value j (omega (arith, below, many)) ∙ sym (holds (λ i. false) j latch.0 latch.1) ∙ sym (substitute-here j latch.0 latch.1)
+        value-of-function j (omega (arith, below, many)) ∙ sym (holds (λ i. false) j latch.0 latch.1) ∙ sym (substitute-here j latch.0 latch.1)
