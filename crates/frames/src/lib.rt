@@ -15,7 +15,7 @@ mod runs;
 mod settling;
 mod watcher;
 
-pub use bytes::{retime_bytes, retime_bytes_watched, retime_spelt};
+pub use bytes::{read_by, retime_bytes, retime_bytes_watched, retime_spelt};
 pub use certificates::Certificate;
 pub use chosen_cuts::Records;
 pub use errors::{BytesError, RetimeError};

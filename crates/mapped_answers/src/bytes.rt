@@ -1,9 +1,8 @@
 //! From a reader's bytes to a writer's. The map is made before anything is written, so that memory that is refused for it, or its size,
 //! leaves what is written as it was.
-ghost use Rattle.std.specs.Prelude.{◌≡◌, [], ◌∷◌, ◌++◌, IfErr, IfOk, OnOk, unwrap_or};
+ghost use Rattle.std.specs.Prelude.{[], ◌∷◌, ◌++◌, IfErr, IfOk};
 ghost use Rattle.aig_graph.specs.Circuits.{IsNetlist};
 ghost use Rattle.aig_graph.specs.Graph.{IsGraph};
-ghost use Rattle.aig_binary.specs.Ending.{IsReadError, ReadsToEnd, Spells};
 ghost use Rattle.aig_binary.specs.Spellings.{text_in};
 ghost use Rattle.counted_io.specs.Output.{Writes};
 ghost use Rattle.frames.specs.Stages.{Tells, Writing, stages_of};
@@ -11,11 +10,10 @@ ghost use Rattle.mapped_answers.specs.Mapping.{IsMadeCutOff, IsMadeWritten, IsMa
 
 use crate::making::{Made, made_over};
 use crate::mapped::{Mapped, MappedError};
-use aig_binary::{AnyReader, CircuitReader, Spelling, SpeltCircuit, read_circuit, write};
+use aig_binary::{AnyReader, Spelling, SpeltCircuit, write};
 use aig_graph::Circuit;
 use counted_io::{CountedRead, CountedWrite, WriteError};
-use file_words::ReadError;
-use frames::{BytesError, FrameWatcher, Options, Stage};
+use frames::{BytesError, FrameWatcher, Options, Stage, read_by};
 use pulse::{Crew, PhaseGate};
 use std::alloc::Global;
 use std::thread::Threads;
@@ -97,19 +95,6 @@ pub fn retime_spelt_mapped<W: CountedWrite, G: PhaseGate, V: FrameWatcher>(
         }
         Err(error) => Err(error),
     }
-}
-
-/// The circuit of a reader's bytes, by a reader of circuits that has been fed nothing yet.
-fn read_by<R: CountedRead, C: CircuitReader + Drop>(
-    reader: &mut R,
-    mut circuits: C,
-) -> Result<SpeltCircuit, ReadError>
-    requires { C.holds circuits [] }
-    ensures read { OnOk result (ReadsToEnd (R.input reader.old) (R.input reader.new)) }
-    ensures circuit { IfOk result (Spells (R.input reader.old)) }
-    ensures err { IfErr result (IsReadError (R.input reader.old) (R.input reader.new)) }
-{
-    read_circuit(reader, &mut circuits)
 }
 
 /// Reads a circuit, retimes it and writes it as `frames::retime_bytes` does, and returns its map too, which is made before the
