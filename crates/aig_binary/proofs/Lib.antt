@@ -11,3 +11,4 @@ pub mod RoundTripLaws
 pub mod LineNameLaws
 pub mod PropsLimitLaws
 pub mod LimitLaws
+pub mod GateTextLaws

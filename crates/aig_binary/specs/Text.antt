@@ -4,7 +4,10 @@ use Rattle.aig_graph.specs.declared.graph.Gate.{Gate}
 use Rattle.aig_graph.specs.declared.graph.Latch.{Latch}
 use Rattle.aig_graph.specs.Graph.{first_latch, first_gate}
 use Rattle.aig_graph.specs.Circuits.{Netlist}
+use Rattle.counted_io.specs.Buffered.{Puts}
 use Rattle.counted_io.specs.Line.{line, numbered_lines}
+use Rattle.counted_io.specs.Output.{Output}
+use Rattle.counted_io.specs.declared.buffered.Buffered.{Buffered}
 use Rattle.file_words.specs.Text.{header_row, reset_row, numbered_rows, property_rows, all_symbols}
 use Rattle.binary_file.specs.Deltas.{delta_of}
 
@@ -21,3 +24,7 @@ unfoldable pub text_binary : Netlist → List ℕ
 text_binary c =
     codes "aig " ++ line (header_row c) ++ numbered_rows next_row (first_latch c.aig) c.aig.latches ++ property_rows c.props
     ++ numbered_lines gate_deltas (first_gate c.aig) c.aig.gates ++ all_symbols c.symbols
+
+-- What is put after the bytes that wait now ends in what would have been put after those that waited.
+abbrev pub KeepsText : {W : Type 0} → (W → Output) → Buffered W → List ℕ → Buffered W → List ℕ → Type 0
+KeepsText {W} output old before new after = (end : Buffered W) (more : List ℕ) → Puts output new end (after ++ more) → Puts output old end (before ++ more)

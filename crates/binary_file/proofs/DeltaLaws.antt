@@ -166,39 +166,39 @@ ends_once (a ∷ c ∷ xs) (b ∷ d ∷ ys) rest other ends1 ends2 e =
     (ends_once (c ∷ xs) (d ∷ ys) rest other (rest-delta a c xs ends1) (rest-delta b d ys ends2) (rest-same e))
 
 -- so many bytes of a number stand, and what is left of it is spelt by those that follow
-abbrev pub Spells : List ℕ → ℕ → ℕ → ℕ → Type 0
-Spells items counter rest number =
-    (length items ≡ counter) × (rest < 128 ^ (5 - counter)) × (items ++ bytes_within (4 - counter) rest ≡ delta_of number)
+abbrev pub Spells : List ℕ → List ℕ → ℕ → ℕ → ℕ → Type 0
+Spells before items counter rest number =
+    (length items ≡ length before + counter) × (rest < 128 ^ (5 - counter)) × (items ++ bytes_within (4 - counter) rest ≡ before ++ delta_of number)
 
 -- one byte more, with the top bit set, leaves the number without these seven bits to spell
-pub Spells-more : (items more : List ℕ) (counter rest number : ℕ) → counter < 4 → 128 ≤ rest → Spells items counter rest number
-    → more ≡ items ++ (rest % 128 + 128) ∷ [] → Spells more (counter + 1) (rest / 128) number
-Spells-more items more counter rest number turn high h pushed =
+pub Spells-more : (before items more : List ℕ) (counter rest number : ℕ) → counter < 4 → 128 ≤ rest → Spells before items counter rest number
+    → more ≡ items ++ (rest % 128 + 128) ∷ [] → Spells before more (counter + 1) (rest / 128) number
+Spells-more before items more counter rest number turn high h pushed =
     let room : 5 - counter ≡ suc (suc (3 - counter)) = omega arith in
     let left : 4 - counter ≡ suc (3 - counter) = omega arith in
     let next_room : 5 - (counter + 1) ≡ suc (3 - counter) = omega arith in
     let next_left : 4 - (counter + 1) ≡ 3 - counter = omega arith in
     let small : rest < 128 ^ (suc (suc (3 - counter))) = subst (λ (k : ℕ). rest < 128 ^ k) room h.1 in
-    let whole : items ++ bytes_within (suc (3 - counter)) rest ≡ delta_of number =
-    subst (λ (k : ℕ). items ++ bytes_within k rest ≡ delta_of number) left h.2 in
-    let opened : items ++ (rest % 128 + 128) ∷ bytes_within (3 - counter) (rest / 128) ≡ delta_of number =
+    let whole : items ++ bytes_within (suc (3 - counter)) rest ≡ before ++ delta_of number =
+    subst (λ (k : ℕ). items ++ bytes_within k rest ≡ before ++ delta_of number) left h.2 in
+    let opened : items ++ (rest % 128 + 128) ∷ bytes_within (3 - counter) (rest / 128) ≡ before ++ delta_of number =
     sym (ap (λ l. items ++ l) (bytes-high (3 - counter) rest high)) ∙ whole in
     let longer : length more ≡ length items + 1 = ap length pushed ∙ length-append items ((rest % 128 + 128) ∷ []) in (
-      omega arith,
+      omega (arith, longer, h.0),
       subst (λ (k : ℕ). rest / 128 < 128 ^ k) (sym next_room) (fewer (suc (3 - counter)) rest small),
-      subst (λ (k : ℕ). more ++ bytes_within k (rest / 128) ≡ delta_of number) (sym next_left)
+      subst (λ (k : ℕ). more ++ bytes_within k (rest / 128) ≡ before ++ delta_of number) (sym next_left)
           (ap (λ l. l ++ bytes_within (3 - counter) (rest / 128)) pushed
           ∙ append_assoc items ((rest % 128 + 128) ∷ []) (bytes_within (3 - counter) (rest / 128)) ∙ opened),
     )
 
 -- with what is left as its last byte, the number's shortest delta stands
-pub Spells-end : (items : List ℕ) (counter rest number : ℕ) → counter ≤ 4 → (4 ≤ counter) ⊎ (rest < 128) → Spells items counter rest number
-    → items ++ rest ∷ [] ≡ delta_of number
+pub Spells-end : (before items : List ℕ) (counter rest number : ℕ) → counter ≤ 4 → (4 ≤ counter) ⊎ (rest < 128) → Spells before items counter rest number
+    → items ++ rest ∷ [] ≡ before ++ delta_of number
 unfolding bytes_within
-Spells-end items counter rest number within (inl done) h =
+Spells-end before items counter rest number within (inl done) h =
     let none : 4 - counter ≡ 0 = omega arith in
-    subst (λ (k : ℕ). items ++ bytes_within k rest ≡ delta_of number) none h.2
-Spells-end items counter rest number within (inr low) h =
+    subst (λ (k : ℕ). items ++ bytes_within k rest ≡ before ++ delta_of number) none h.2
+Spells-end before items counter rest number within (inr low) h =
     sym (ap (λ l. items ++ l) (bytes-low (4 - counter) rest low)) ∙ h.2
 
 -- bytes with the top bit set, and one without it, are a delta

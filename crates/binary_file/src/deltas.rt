@@ -4,4 +4,4 @@ mod decode;
 mod encode;
 
 pub use decode::{DeltaError, DeltaReader};
-pub use encode::{DeltaBytes, delta_bytes};
+pub use encode::push_delta;

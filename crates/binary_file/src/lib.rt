@@ -6,5 +6,5 @@
 mod deltas;
 mod laws;
 
-pub use deltas::{DeltaBytes, DeltaError, DeltaReader, delta_bytes};
+pub use deltas::{DeltaError, DeltaReader, push_delta};
 pub use laws::{counts_law, delta_laws, pieces_law, reading_law};

@@ -1,16 +1,14 @@
-ghost use Rattle.std.specs.Prelude.{◌≡◌, ◌<◌, ◌^◌};
+ghost use Rattle.std.specs.Prelude.{◌≡◌, ◌+◌, ◌<◌, ◌≤◌, ◌^◌, ◌++◌, length};
 ghost use Rattle.binary_file.specs.Deltas.{delta_of};
 
 use arrayvec::ArrayVec;
 
-/// The bytes of one delta.
-pub type DeltaBytes = ArrayVec<u8, 5>;
-
-/// The delta of a number, in as few bytes as can be. Takes no memory.
-pub fn delta_bytes(number: u32) -> DeltaBytes
-    ensures { result.items ≡ delta_of number }
+/// Appends the delta of a number, in as few bytes as can be: five at most. Takes no memory.
+pub fn push_delta<const N: usize>(bytes: &mut ArrayVec<u8, N>, number: u32)
+    requires { length bytes.old.items + 5 ≤ N }
+    ensures items { bytes.new.items ≡ bytes.old.items ++ delta_of number }
+    ensures few { length bytes.new.items ≤ length bytes.old.items + 5 }
 {
-    let mut bytes = ArrayVec::new();
     let mut rest = number;
     for _ in 0..4u32 {
         if rest < 128 {
@@ -20,5 +18,4 @@ pub fn delta_bytes(number: u32) -> DeltaBytes
         rest /= 128;
     }
     bytes.push(rest as u8);
-    bytes
 }
