@@ -180,6 +180,21 @@ def compare_maps(rng, comparison):
     compare_lifts(rng, comparison, data, retimed, maps[1])
 
 
+def compare_merging(rng, comparison):
+    """A circuit with a line of latches, and mostly with copies, whose latches are merged: that what is written is that of the reference, and
+    that it is the same under random sequences."""
+    c = random_files.tree(rng) if rng.random() < 0.6 else random_files.circuit(rng, 3, 5, 9)
+    c = random_files.with_line(rng, c)
+    c = random_files.with_copies(rng, c) if rng.random() < 0.7 else c
+    data = random_files.any_file(rng, c)
+    retimed = comparison.run(['retime', 'in', 'OUT', '--merge', *rng.choice([[], ['--near']])], {'in': data})
+    comparison.run(['stat', 'in', '--merge'], {'in': data})
+    if retimed and read(retimed)[0].free_latches() == c.free_latches():
+        write('other', retimed)
+        said = ran([comparison.program, 'same', 'in', 'other', '--random', '70', '--steps', '30'])
+        comparison.count(said == (0, 'same\n', ''), f'{data} merged is {retimed}: {said}')
+
+
 def changed(rng, c):
     """The circuit with one thing changed: the sign of a fan-in or of a next literal, a reset, a property, or one constraint less."""
     kind = rng.choice([name for name in ('gates', 'latches', 'outputs', 'bad', 'constraints', 'fairness') if getattr(c, name)] or ['outputs'])
@@ -301,13 +316,13 @@ def compare_with_one_worker(comparison, family):
 def compare_all(comparison, count, rng):
     """All comparisons, in the current folder: a small circuit of each family of bench/families.py; large ones, on which crews are
     compared with one worker; then small circuits with all sections in both spellings, pipelines of several frames, damaged files,
-    certificates, and maps of states."""
+    certificates, maps of states, and merged latches."""
     for family in FAMILIES:
         compare_crews(comparison, circuit_of(family))
     for family in LARGE:
         compare_with_one_worker(comparison, family)
     for k in range(count):
-        several = [compare_small, compare_small, compare_two, compare_damaged, compare_certificates, compare_maps]
+        several = [compare_small, compare_small, compare_two, compare_damaged, compare_certificates, compare_maps, compare_merging]
         compare = rng.choice(several) if k % 10 != 9 else compare_pipeline
         compare(rng, comparison)
 

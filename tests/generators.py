@@ -61,6 +61,38 @@ def pair_then_chain_moved(gates):
     return ''.join(lines)
 
 
+def shifted(previous, own, first_gate):
+    """The gates of a bit that takes the previous one while the second input is 1; the last of them is its next value, negated."""
+    taken, kept = 2 * first_gate, 2 * first_gate + 2
+    gates = [(taken, previous, 4) if previous > 4 else (taken, 4, previous), (kept, own, 5), (kept + 2, kept + 1, taken + 1)]
+    return [' '.join(map(str, gate)) + '\n' for gate in gates], kept + 3
+
+
+def registers(length, opposites):
+    """A shift register under an enable, and, where there are to be opposites, one that begins with 1s and holds the opposite bits."""
+    many = length * (2 if opposites else 1)
+    first_gate = 3 + many
+    latches, gates = [], []
+    for k in range(many):
+        own, sign = 2 * (3 + k), int(k >= length)
+        more, following = shifted(2 if k % length == 0 else own - 2 + sign, own + sign, first_gate + 3 * k)
+        latches.append(f'{own} {following ^ sign}{" 1" * sign}\n')
+        gates += more
+    last = 4 + 2 * length
+    outputs = [last, 4 + 2 * many if opposites else last + 1]
+    return ''.join([header(2, many, 2, 3 * many), '2\n4\n', *latches, *(f'{lit}\n' for lit in outputs), *gates])
+
+
+def shift_registers(length):
+    """Two shift registers under one enable, of which the second holds the opposites; and the last bit of each."""
+    return registers(length, opposites=True)
+
+
+def shift_register(length):
+    """The first of them alone; its last bit, and the opposite of that."""
+    return registers(length, opposites=False)
+
+
 def outputs(count):
     """One input that many outputs have."""
     return header(1, 0, count, 0) + '2\n' + '2\n' * count
@@ -170,4 +202,5 @@ def bare_sequences(count):
 GENERATORS = {it.__name__: it for it in (
     chain, chain_in_binary, pair_then_chain, pair_then_chain_moved, backward, refused_early, outputs, properties, drawn_properties,
     zeros, empty, long_literal, alternating_stimulus, alternating_trace, sequences, bare_sequences, entries, entries_and_a_bad_one,
+    shift_registers, shift_register,
 )}

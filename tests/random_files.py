@@ -91,6 +91,31 @@ def tree(rng):
     return Circuit(inputs, list(zip(next_lits, resets)), gates, outputs, symbols=symbols(rng, counts))
 
 
+def with_line(rng, c):
+    """The circuit with a line of latches more, half of them under an enable, of which merging parts one after another; two are shown."""
+    many, first = rng.randint(4, 12), c.first_gate()
+
+    def now(lit):
+        return lit + 2 * many if lit // 2 >= first else lit
+
+    source, enable = (now(rng.randrange(2, 2 * c.end())) for _ in range(2)) if c.end() > 1 else (0, 1)
+    latches = [(now(lit), reset) for lit, reset in c.latches]
+    gates = [tuple(map(now, fan_ins)) for fan_ins in c.gates]
+    before = source
+    for k in range(many):
+        reset = rng.randrange(2)
+        own, new = 2 * (first + k) + reset, 2 * (first + many + len(gates))
+        if rng.random() < 0.5:
+            gates += [ordered(before, enable), ordered(own, enable ^ 1), ordered(new + 1, new + 3)]
+            before = new + 5
+        latches.append((before ^ reset, reset))
+        before = own
+    shown = [2 * (first + rng.randrange(many)) + rng.randrange(2), before]
+    longer = c.with_parts(latches, gates, now, c.symbols['l'])
+    longer.outputs += shown
+    return longer
+
+
 def with_copies(rng, c):
     """The circuit with its latches and gates there twice, some latches as their negations; each property reads one of the two. A free
     latch is read by all, and its copy by none."""
