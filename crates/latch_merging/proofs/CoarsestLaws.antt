@@ -311,6 +311,13 @@ module _ (g : Graph) (held : List ℕ) where
     coarser = λ other kept. subst (λ (xs : List ℕ). IsFiner g other xs) (sym is) (first-coarser other kept.reading);
   }
 
+  -- what a round makes of one is one
+  pub round-rough : IsGraph g → (reads next : List ℕ) → IsRough g held reads → next ≡ next_round g held reads → IsRough g held next
+  round-rough valid reads next rough is = record {
+    reading = subst (λ (xs : List ℕ). IsReading g held xs) (sym is) (round-reading (told_of g reads));
+    coarser = λ other kept. subst (λ (xs : List ℕ). IsFiner g other xs) (sym is) (round-finer reads rough.reading valid other kept (rough.coarser other kept));
+  }
+
   -- a round has a literal for each latch
   pub round-long : (reads next : List ℕ) → IsRound reads next → length next ≡ length g.latches
   round-long reads next round = ap (λ (xs : List ℕ). length xs) round.next_is ∙ length-round g held (told_of g reads)

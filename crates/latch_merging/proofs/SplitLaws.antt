@@ -8,16 +8,14 @@ use Rattle.aig_graph.specs.declared.graph.Latch.{Latch}
 use Rattle.aig_graph.specs.Graph.{Graph, IsGraph, IsGateAt, variable, first_latch, first_gate}
 use Rattle.aig_graph.specs.Value.{signed_as}
 use Rattle.aig_graph.specs.Building.{gate_of}
-use Rattle.cleaned_circuits.specs.Latches.{constant_of}
 use Rattle.cleaned_circuits.specs.Merged.{replaced, replaced_gate, known_substitute}
-use Rattle.cleaned_circuits.proofs.LatchLaws.{constant-even}
-use Rattle.merged_latches.specs.Readings.{own_literal, read, may_merge, from_reset, ReadsAs, as_itself, as_constant, as_first, leaves, told}
+use Rattle.merged_latches.specs.Readings.{read, may_merge, from_reset, leaves, told}
 use Rattle.merged_latches.specs.Partitions.{IsKept}
-use Rattle.merged_latches.proofs.ReadingLaws.{leaf-low, leaf-latch, from_reset-constant}
+use Rattle.merged_latches.proofs.ReadingLaws.{leaf-low, leaf-latch, from_reset-constant, from_reset-twice}
 use Rattle.latch_merging.specs.declared.told.Told.{Told}
-use Rattle.latch_merging.specs.Rounds.{constant_told, first_round, round_by}
+use Rattle.latch_merging.specs.Rounds.{round_by}
 use Rattle.latch_merging.specs.Names.{is_marked, IsTaken, IsLeft, AreMarkedReaders, IsRenamed, IsNamed, AreNamed, AreTold, AreCarried, IsGateNamed, AreGatesNamed, is_leaving, AreLeaving, key_of, class_of, AreToldAlike, AreAlike, regrouped, AreRegrouped, IsUnmarked, AreAtRest, IsRough}
-use Rattle.latch_merging.proofs.CoarsestLaws.{told_is, first-may, length-first, alike-finer, round-reading}
+use Rattle.latch_merging.proofs.CoarsestLaws.{told_is, leaves-constant, leaves-first, alike-finer, round-reading}
 use Rattle.latch_merging.proofs.NameLaws.{turn-alike}
 
 -- the name of a literal of a latch or gate
@@ -416,11 +414,11 @@ rest-renamed g valid held names names_new tolds tolds_new pairs group latches la
 }
 
 -- before any turn
-pub rest-start : (g : Graph) (held names tolds : List ℕ) (latches gates leaving : List Bool) → names ≡ first_round g held ++ replicate (length g.gates) 0 → tolds ≡ replicate (length g.latches) 0
+pub rest-start : (g : Graph) (held reads names tolds : List ℕ) (latches gates leaving : List Bool) → IsRough g held reads → names ≡ reads ++ replicate (length g.gates) 0 → tolds ≡ replicate (length g.latches) 0
     → latches ≡ replicate (length g.latches) true → gates ≡ replicate (length g.gates) true → leaving ≡ replicate (length g.latches) false → AreAtRest g held names tolds [] latches gates leaving
-rest-start g held names tolds latches gates leaving names_is tolds_is latches_is gates_is leaving_is = record {
+rest-start g held reads names tolds latches gates leaving rough names_is tolds_is latches_is gates_is leaving_is = record {
   long = record {
-    long_names = ap (λ (xs : List ℕ). length xs) names_is ∙ omega (arith, length-append (first_round g held) (replicate (length g.gates) 0), length-first g held, length-replicate {A = ℕ} (length g.gates) 0);
+    long_names = ap (λ (xs : List ℕ). length xs) names_is ∙ omega (arith, length-append reads (replicate (length g.gates) 0), rough.reading.long, length-replicate {A = ℕ} (length g.gates) 0);
     long_tolds = ap (λ (xs : List ℕ). length xs) tolds_is ∙ length-replicate {A = ℕ} (length g.latches) 0;
     long_latches = ap (λ (xs : List Bool). length xs) latches_is ∙ length-replicate (length g.latches) true;
     long_gates = ap (λ (xs : List Bool). length xs) gates_is ∙ length-replicate (length g.gates) true;
@@ -430,8 +428,15 @@ rest-start g held names tolds latches gates leaving names_is tolds_is latches_is
   told = λ j latch there. inl (ap (λ (xs : List Bool). is_marked xs j) latches_is ∙ get_or-replicate (length g.latches) j true false (slice_get_within g.latches j latch there));
   none = λ k. ap (λ (xs : List Bool). is_marked xs k) leaving_is ∙ none-replicate k;
   alike = λ other kept. record {
-    zero = λ j latch there e. zero-key other kept j latch there e (kept.reading.each j latch there);
-    same = λ j i latch first there first_there e. same-key other kept j i latch first there first_there e (kept.reading.each j latch there);
+    zero = λ j latch there e.
+        told_is (from_reset latch.reset (read names j)) (read tolds j) 0 0
+        (ap (from_reset latch.reset) (name-at j latch there ∙ as-other other kept j latch there ∙ ap (replaced (leaves g reads)) e ∙ leaves-constant g held reads latch.reset) ∙ from_reset-constant latch.reset)
+        (told-zero j latch there);
+    same = λ j i latch first there first_there e.
+        told_is (from_reset latch.reset (read names j)) (read tolds j) (from_reset first.reset (read names i)) (read tolds i)
+        (ap (from_reset latch.reset) (name-at j latch there ∙ as-other other kept j latch there ∙ ap (replaced (leaves g reads)) e ∙ leaves-first g held reads latch.reset first.reset i)
+        ∙ from_reset-twice latch.reset (from_reset first.reset (read reads i)) ∙ ap (from_reset first.reset) (sym (name-at i first first_there)))
+        (told-zero j latch there ∙ sym (told-zero i first first_there));
   };
 }
   where
@@ -444,32 +449,13 @@ rest-start g held names tolds latches gates leaving names_is tolds_is latches_is
     told-zero : (j : ℕ) (latch : Latch) → slice_get g.latches j ≡ Some latch → read tolds j ≡ 0
     told-zero j latch there = ap (λ (xs : List ℕ). read xs j) tolds_is ∙ get_or-replicate {A = ℕ} (length g.latches) j 0 0 (slice_get_within g.latches j latch there)
 
-    key-zero : (j : ℕ) (latch : Latch) → slice_get g.latches j ≡ Some latch → may_merge held j latch ≡ true → key_of names tolds j latch ≡ constant_told
-    key-zero j latch there may =
-        let at : read names j ≡ constant_of latch.reset =
+    name-at : (j : ℕ) (latch : Latch) → slice_get g.latches j ≡ Some latch → read names j ≡ read reads j
+    name-at j latch there =
         ap (λ (xs : List ℕ). read xs j) names_is
-        ∙ get_or_append_left (first_round g held) (replicate (length g.gates) 0) 0 j (omega (arith, slice_get_within g.latches j latch there, length-first g held))
-        ∙ first-may g held j latch there may in
-        told_is (from_reset latch.reset (read names j)) (read tolds j) 0 0 (ap (from_reset latch.reset) at ∙ from_reset-constant latch.reset) (told-zero j latch there)
+        ∙ get_or_append_left reads (replicate (length g.gates) 0) 0 j (omega (arith, slice_get_within g.latches j latch there, rough.reading.long))
 
-    zero-key : (other : List ℕ) → IsKept g held other → (j : ℕ) (latch : Latch) → slice_get g.latches j ≡ Some latch → read other j ≡ constant_of latch.reset → ReadsAs g held other j latch (read other j)
-        → key_of names tolds j latch ≡ constant_told
-    zero-key other kept j latch there e (as_itself own) = absurd (omega (arith, e, own, constant-even latch.reset))
-    zero-key other kept j latch there e (as_constant may is) = key-zero j latch there may
-    zero-key other kept j latch there e (as_first k one less at may may_one own is) = absurd (omega (arith, e, is, constant-even latch.reset))
-
-    same-key : (other : List ℕ) → IsKept g held other → (j i : ℕ) (latch first : Latch) → slice_get g.latches j ≡ Some latch → slice_get g.latches i ≡ Some first
-        → read other j ≡ from_reset latch.reset (from_reset first.reset (own_literal g i)) → ReadsAs g held other j latch (read other j) → key_of names tolds j latch ≡ key_of names tolds i first
-    same-key other kept j i latch first there first_there e (as_itself own) =
-        let same : j ≡ i = omega (arith, e, own) in
-        let one : latch ≡ first = same_Some latch first (sym there ∙ ap (λ (n : ℕ). slice_get g.latches n) same ∙ first_there) in
-        ap (λ (n : ℕ). key_of names tolds n latch) same ∙ ap (key_of names tolds i) one
-    same-key other kept j i latch first there first_there e (as_constant may is) = absurd (omega (arith, e, is, constant-even latch.reset))
-    same-key other kept j i latch first there first_there e (as_first k one less at may may_one own is) =
-        let same : k ≡ i = omega (arith, e, is) in
-        let is_first : one ≡ first = same_Some one first (sym at ∙ ap (λ (n : ℕ). slice_get g.latches n) same ∙ first_there) in
-        let may_first : may_merge held i first ≡ true = sym (ap (λ (n : ℕ). may_merge held n one) same ∙ ap (may_merge held i) is_first) ∙ may_one in
-        key-zero j latch there may ∙ sym (key-zero i first first_there may_first)
+    as-other : (other : List ℕ) → IsKept g held other → (j : ℕ) (latch : Latch) → slice_get g.latches j ≡ Some latch → read reads j ≡ replaced (leaves g reads) (read other j)
+    as-other other kept j latch there = sym (rough.coarser other kept j (slice_get_within g.latches j latch there))
 
 -- the reading of the names' classes is as coarse as each kept one
 pub rough-names : (g : Graph) (held names tolds : List ℕ) → AreAlike g held (key_of names tolds) → IsRough g held (round_by g held (class_of names))

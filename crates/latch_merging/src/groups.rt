@@ -7,7 +7,7 @@ ghost use Rattle.latch_merging.specs.Rounds.{is_told};
 ghost use Rattle.latch_merging.specs.Names.{group_name};
 
 use crate::told::Told;
-use aig_graph::{Lit, MAX_VARIABLES, NoMemory};
+use aig_graph::{Aig, Lit, MAX_VARIABLES, NoMemory};
 use indexmap::IndexMap;
 use std::alloc::Global;
 
@@ -15,7 +15,7 @@ use std::alloc::Global;
 #[derive(Clone, Copy)]
 struct Group {
     class: Lit,
-    latches: usize,
+    latches: u32,
 }
 
 /// The groups of a turn, by class and by what is told, each with its name once it has one.
@@ -77,31 +77,55 @@ impl Groups {
 /// How many variables have the name of a class; how many of them leave it in a turn, and one more than the place of their largest group.
 #[derive(Clone, Copy)]
 struct Class {
-    size: usize,
-    leaving: usize,
-    largest: usize,
+    size: u32,
+    leaving: u32,
+    largest: u32,
 }
 
-/// The classes of latches, the constant's first. Each other has for its name the variable that is as many after `first` as it is
-/// after the constant's.
+/// A class that nothing is of.
+const NO_CLASS: Class = Class {
+    size: 0,
+    leaving: 0,
+    largest: 0,
+};
+
+/// A place in 32 bits, which has as many as there can be latches.
+fn short(place: usize) -> u32 {
+    place.min(u32::MAX as usize) as u32
+}
+
+/// The classes of latches, the constant's first, and then one for each latch that others may read as. Each but the constant's has for its name
+/// the variable that is as many after `before` as it is after the constant's.
 #[derive(Drop)]
 pub(crate) struct Classes {
-    first: u32,
+    before: u32,
     classes: Vec<Class>,
 }
 
 impl Classes {
-    /// The constant's class, with so many latches.
-    pub(crate) fn constant(alloc: Global, first: u32, latches: usize) -> Result<Classes, NoMemory> {
+    /// Those of a reading.
+    pub(crate) fn of(alloc: Global, aig: &Aig, reads: &[Lit]) -> Result<Classes, NoMemory> {
+        let none = vec![in alloc; NO_CLASS; reads.len().saturating_add(1)]?;
         let mut classes = Classes {
-            first,
-            classes: Vec::new(alloc),
+            before: aig.first_latch().wrapping_sub(1),
+            classes: none,
         };
-        classes.push(latches.saturating_add(1))?;
+        classes.grow(Lit::FALSE);
+        for lit in reads {
+            classes.grow(*lit);
+        }
         Ok(classes)
     }
 
-    fn push(&mut self, size: usize) -> Result<(), NoMemory> {
+    /// One more variable has the name of a class.
+    fn grow(&mut self, class: Lit) {
+        let at = self.place(class);
+        if let Some(class) = self.classes.get_mut(at) {
+            class.size = class.size.saturating_add(1);
+        }
+    }
+
+    fn push(&mut self, size: u32) -> Result<(), NoMemory> {
         self.classes.push(Class {
             size,
             leaving: 0,
@@ -114,12 +138,12 @@ impl Classes {
         if class.var() == 0 {
             0
         } else {
-            class.var().wrapping_sub(self.first) as usize
+            class.var().wrapping_sub(self.before) as usize
         }
     }
 
     /// Counts a group, of which the largest before it has so many latches.
-    fn count(&mut self, group: &Group, place: usize, largest: usize) {
+    fn count(&mut self, group: &Group, place: u32, largest: u32) {
         let at = self.place(group.class);
         if let Some(class) = self.classes.get_mut(at) {
             class.leaving = class.leaving.saturating_add(group.latches);
@@ -130,16 +154,18 @@ impl Classes {
     }
 
     /// The size of the largest group of a class so far.
-    fn largest(&self, groups: &[Group], class: Lit) -> usize {
+    fn largest(&self, groups: &[Group], class: Lit) -> u32 {
         let place = self
             .classes
             .get(self.place(class))
             .map_or(0, |it| it.largest);
-        groups.get(place.wrapping_sub(1)).map_or(0, |it| it.latches)
+        groups
+            .get(place.wrapping_sub(1) as usize)
+            .map_or(0, |it| it.latches)
     }
 
     /// Whether the group at a place keeps the name of its class.
-    fn keeps(&self, group: &Group, place: usize) -> bool {
+    fn keeps(&self, group: &Group, place: u32) -> bool {
         self.classes.get(self.place(group.class)).is_some_and(|it| it.leaving == it.size
             && it.largest == place.saturating_add(1))
     }
@@ -151,7 +177,7 @@ impl Classes {
             class.size = class.size.wrapping_sub(group.latches);
             class.leaving = class.leaving.wrapping_sub(group.latches);
         }
-        let var = (self.first as usize).saturating_add(self.classes.len());
+        let var = (self.before as usize).saturating_add(self.classes.len());
         self.push(group.latches)?;
         if var < MAX_VARIABLES {
             Ok(Lit::new(var as u32, false))
@@ -164,10 +190,10 @@ impl Classes {
     pub(crate) fn name(&mut self, groups: &mut Groups) -> Result<(), NoMemory> {
         for (place, group) in groups.groups.iter().enumerate() {
             let largest = self.largest(groups.groups.as_slice(), group.class);
-            self.count(group, place, largest);
+            self.count(group, short(place), largest);
         }
         for (place, group) in groups.groups.iter().enumerate() {
-            let name = if self.keeps(group, place) {
+            let name = if self.keeps(group, short(place)) {
                 group.class
             } else {
                 self.part(group)?

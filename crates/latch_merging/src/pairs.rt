@@ -4,67 +4,51 @@ ghost use Rattle.std.specs.Map.{lookup};
 ghost use Rattle.cleaned_circuits.specs.Merged.{known_substitute, same_fan_ins};
 ghost use Rattle.latch_merging.specs.Names.{IsNamed};
 
-use aig_graph::{Gate, Lit, MAX_VARIABLES, NoMemory};
-use indexmap::IndexMap;
+use aig_graph::{Aig, Gate, Lit, MAX_VARIABLES, NoMemory};
+use clean::{KeptGates, known_substitute};
 use std::alloc::Global;
 use std::marker::Model;
 
 /// The names of pairs that come down to neither.
 #[derive(Drop)]
 pub(crate) struct PairNames {
-    /// The variable of the first name; each other is the one after the last.
-    first: u32,
-    names: IndexMap<Gate, Lit>,
+    /// The variable of the next name.
+    next: u32,
+    names: KeptGates,
 }
 
 impl Model for PairNames {
     ghost use Rattle.std.specs.Prelude.{List, ℕ};
     ghost use Rattle.aig_graph.specs.declared.graph.Gate.{Gate};
+    ghost use Rattle.clean.specs.Kept.{pairs};
 
     ghost Value = { List (Gate × ℕ) };
 
-    ghost view = { λ p. p.names.entries };
+    ghost view = { λ p. pairs p.names };
 }
 
 impl PairNames {
     /// None, where names begin with this variable.
-    pub(crate) fn none(alloc: Global, first: u32) -> PairNames
-        ensures { result ≡ [] }
+    pub(crate) fn none(alloc: Global, aig: &Aig, first: u32) -> Result<PairNames, NoMemory>
+        ensures { IfOk result (λ pairs. pairs ≡ []) }
     {
-        PairNames {
-            first,
-            names: IndexMap::new(alloc),
-        }
-    }
-
-    fn find(&self, pair: &Gate) -> Option<Lit>
-        ensures { result ≡ lookup (same_fan_ins pair.now) self.now }
-    {
-        self.names.get(pair).copied()
+        let names = KeptGates::of(alloc, aig)?;
+        Ok(PairNames { next: first, names })
     }
 
     /// The name that a pair comes down to, or has.
     fn known(&self, pair: &Gate) -> Option<Lit>
         ensures { result ≡ known_substitute self.now pair.now }
     {
-        if pair.rhs1 == Lit::FALSE {
-            Some(Lit::FALSE)
-        } else if pair.rhs1 == Lit::TRUE {
-            Some(pair.rhs0)
-        } else if pair.rhs0 == pair.rhs1 {
-            Some(pair.rhs0)
-        } else if pair.rhs0.var() == pair.rhs1.var() {
-            Some(Lit::FALSE)
-        } else {
-            self.find(pair)
-        }
+        known_substitute(&self.names, pair)
     }
 
     fn add(&mut self, pair: Gate, name: Lit) -> Result<(), NoMemory>
         requires { lookup (same_fan_ins pair) self.old ≡ None }
         ensures { OnOk result (self.new ≡ self.old ++ (pair, name) ∷ []) }
     {
-        self.names.insert(pair, name)?;
+        self.names.add(pair, name)?;
+        self.next = self.next.saturating_add(1);
         Ok(())
     }
 
@@ -73,9 +57,9 @@ impl PairNames {
         requires { known_substitute self.old pair ≡ None }
         ensures { IfOk result (IsNamed self.old self.new pair) }
     {
-        let var = (self.first as usize).saturating_add(self.names.len());
-        if var < MAX_VARIABLES {
-            let name = Lit::new(var as u32, false);
+        let var = self.next;
+        if (var as usize) < MAX_VARIABLES {
+            let name = Lit::new(var, false);
             self.add(pair, name)?;
             Ok(Some(name))
         } else {

@@ -26,7 +26,8 @@ pub(crate) struct Readers {
 fn sources_of(alloc: Global, aig: &Aig) -> Result<Vec<u32>, NoMemory>
     ensures { IfOk result (λ sources. AreSources aig.now sources.items) }
 {
-    let mut sources = Vec::with_capacity(alloc, aig.latches().len())?;
+    let room = aig.latches_and_gates().saturating_add(aig.gates().len());
+    let mut sources = Vec::with_capacity(alloc, room)?;
     for latch in aig.latches() {
         sources.push(latch.next.var())?;
     }

@@ -1,5 +1,5 @@
-//! A reading that is as coarse as each kept one, by names: latches of one class have one name. All that may be merged begin with the constant's.
-//! In a turn latches are told the name of their next literal, those of a class that leave what they were told get another name, group by group,
+//! A reading that is as coarse as each kept one, by names: latches of one class have one name. They begin with those of such a reading. In a turn
+//! latches are told the name of their next literal, those of a class that leave what they were told get another name, group by group,
 //! and then gates get the name of their fan-ins' pair. What reads a variable that got another name is marked, and what is marked alone
 //! is looked at, so a turn costs what it changes: a delay line no more than it is long.
 ghost use Rattle.std.specs.Prelude.{ℕ, List, true, ◌≡◌, ◌<◌, ◌+◌, ◌++◌, IfOk, OnOk, length, replicate, slice_get, Some};
@@ -7,14 +7,14 @@ ghost use Rattle.aig_graph.specs.declared.graph.Gate.{Gate as Pair};
 ghost use Rattle.aig_graph.specs.Graph.{variable, first_latch, variables_end};
 ghost use Rattle.cleaned_circuits.specs.Merged.{replaced, replaced_gate};
 ghost use Rattle.merged_latches.specs.Readings.{from_reset, leaves};
-ghost use Rattle.latch_merging.specs.Rounds.{first_round, round_by};
+ghost use Rattle.latch_merging.specs.Rounds.{round_by};
 ghost use Rattle.latch_merging.specs.Names.{AreAtRest, AreLeaving, AreNamed, AreReaders, AreRegrouped, AreTold, IsRenamed, IsRough, IsUnmarked, class_of, group_name, renamed_latch, told_by, AreCarried, AreGatesNamed, IsGateNamed, IsLeft};
 
 use crate::groups::{Classes, Groups};
 use crate::marks::Marks;
 use crate::pairs::PairNames;
 use crate::readers::{Marked, Readers};
-use crate::rounds::{first_round, may_merge, next_read};
+use crate::rounds::{may_merge, next_read};
 use crate::told::{FirstTold, Told};
 use aig_graph::{Aig, Gate, Latch, Lit, NoMemory};
 use clean::{Held, constant_of};
@@ -254,29 +254,30 @@ struct Splitting {
 }
 
 impl Splitting {
-    /// Before any gate has a name.
-    fn start(alloc: Global, aig: &Aig, held: &Held<'_>) -> Result<Splitting, NoMemory>
-        requires { length held.now.marks.items ≡ length aig.now.latches }
+    /// Before any gate has a name; latches have those of a reading.
+    fn start(alloc: Global, aig: &Aig, reads: &[Lit]) -> Result<Splitting, NoMemory>
         ensures readers { IfOk result (λ s. AreReaders aig.now s.readers.heads.items
             s.readers.links.items) }
-        ensures rest { IfOk result (λ s. AreAtRest aig.now held.now.positions.now s.names.items
-            s.tolds.items s.pairs s.marked.latches s.marked.gates s.leaving) }
+        ensures rest { IfOk result (λ s. (held : List ℕ) → IsRough aig.now held reads.now
+            → AreAtRest aig.now held s.names.items s.tolds.items s.pairs s.marked.latches
+            s.marked.gates s.leaving) }
     {
         let latches = aig.latches().len();
-        let names = first_names(alloc, aig, held)?;
-        let tolds = vec![in alloc; Lit::FALSE; latches]?;
         let readers = Readers::of(alloc, aig)?;
+        let names = first_names(alloc, aig, reads)?;
+        let tolds = vec![in alloc; Lit::FALSE; latches]?;
         let marked = Marked {
             latches: Marks::all(alloc, true, latches)?,
             gates: Marks::all(alloc, true, aig.gates().len())?,
         };
         let leaving = Marks::all(alloc, false, latches)?;
+        let pairs = PairNames::none(alloc, aig, aig.first_gate() + latches as u32 + 1)?;
         Ok(Splitting {
             readers,
             marked,
             names,
             tolds,
-            pairs: PairNames::none(alloc, aig.first_gate() + latches as u32 + 1),
+            pairs,
             leaving,
         })
     }
@@ -387,13 +388,12 @@ impl Splitting {
     }
 }
 
-/// The names before the first turn: those of the latches before the first round, and any for the gates.
-fn first_names(alloc: Global, aig: &Aig, held: &Held<'_>) -> Result<Vec<Lit>, NoMemory>
-    requires { length held.now.marks.items ≡ length aig.now.latches }
-    ensures { IfOk result (λ names. names.items ≡ first_round aig.now held.now.positions.now
-        ++ replicate (length aig.now.gates) 0) }
+/// The names before the first turn: what latches read as, and any for the gates.
+fn first_names(alloc: Global, aig: &Aig, reads: &[Lit]) -> Result<Vec<Lit>, NoMemory>
+    ensures { IfOk result (λ names. names.items ≡ reads.now ++ replicate (length aig.now.gates) 0) }
 {
-    let mut names = first_round(alloc, aig, held)?;
+    let mut names = Vec::with_capacity(alloc, aig.latches_and_gates())?;
+    names.extend_from_slice(reads)?;
     for gate in 0..aig.gates().len() {
         let _gate = gate;
         names.push(Lit::FALSE)?;
@@ -434,16 +434,22 @@ fn reading_by_names(
     Ok(reads)
 }
 
-/// A reading that is as coarse as each kept one. It is kept too, but where names run out.
-pub(crate) fn rough_reading(alloc: Global, aig: &Aig, held: &Held<'_>) -> Result<Vec<Lit>, NoMemory>
-    requires { length held.now.marks.items ≡ length aig.now.latches }
-    ensures { IfOk result (λ reads. IsRough aig.now held.now.positions.now reads.items) }
+/// What splitting makes of a reading that is as coarse as each kept one: another one that is, and that is kept too, but where names run out.
+pub(crate) fn split_reading(
+    alloc: Global,
+    aig: &Aig,
+    held: &Held<'_>,
+    reads: Vec<Lit>,
+) -> Result<Vec<Lit>, NoMemory>
+    requires held { length held.now.marks.items ≡ length aig.now.latches }
+    requires rough { IsRough aig.now held.now.positions.now reads.items }
+    ensures { IfOk result (λ finer. IsRough aig.now held.now.positions.now finer.items) }
 {
-    let mut splitting = Splitting::start(alloc, aig, held)?;
-    let mut classes = Classes::constant(alloc, aig.first_gate(), aig.latches().len())?;
+    let mut classes = Classes::of(alloc, aig, reads.as_slice())?;
+    let mut splitting = Splitting::start(alloc, aig, reads.as_slice())?;
     if splitting.run(alloc, aig, held, &mut classes)? {
         reading_by_names(alloc, aig, held, splitting.names.as_slice())
     } else {
-        first_round(alloc, aig, held)
+        Ok(reads)
     }
 }

@@ -9,7 +9,7 @@ use Rattle.latch_merging.proofs.merging.coarsest_reading.Goals as goal
 pub loop-alloc-init : goal.loop-alloc-init
 loop-alloc-init c =
     let round = c.in_ok-round.round in
-    round-first c.args.aig.now c.args.held.now.positions.now round.reads.items round.next.items c.in_ok-round.ensures.reads c.in_ok-round.ensures.next
+    round-first c.args.aig.now c.args.held.now.positions.now round.reads.items round.next.items c.in_ok-round.ensures.rough c.in_ok-round.ensures.next
 
 pub parts-requires-clause-next : goal.parts-requires-clause-next
 parts-requires-clause-next c =

@@ -1,9 +1,6 @@
-use Rattle.std.proofs.Common.{rules, ◌∙◌, ◌++◌, ◌∷◌, [], ap, ℕ, List}
+use Rattle.std.proofs.Common.{◌∙◌, ◌++◌, ◌∷◌, [], ap, ℕ, List}
 use Rattle.aig_graph.specs.declared.graph.Gate.{Gate}
-use Rattle.indexmap.proofs.CallerLemmas.{insert_entry-new}
 use Rattle.latch_merging.proofs.pairs.PairNames.add.Goals as goal
 
 pub returns : goal.returns
-returns c =
-    c.in_ok-insert.ensures.entries ∙ insert_entry-new _ c.self.inside.names c.args.pair c.args.name (search rules)
-    ∙ ap (λ (xs : List (Gate × ℕ)). xs ++ (c.args.pair, c.args.name) ∷ []) c.self.view_is
+returns c = c.in_ok-add.ensures ∙ ap (λ (xs : List (Gate × ℕ)). xs ++ (c.args.pair, c.args.name) ∷ []) c.self.view_is
