@@ -16,3 +16,8 @@ pub record AddsOne (c : Netlist) (held : List ℕ) (old new : Records) (set : Li
   pub certify : new.certify ≡ old.certify
   pub added : old.certify ≡ true → (cert : Certificate) × Certifies c held set cert × (new.certificates.items ≡ old.certificates.items ++ cert ∷ [])
   pub none : old.certify ≡ false → new.certificates.items ≡ old.certificates.items
+
+-- the certificates, and whether they are wanted, stay as they are
+pub record AddsNone (old new : Records) : Type 0 where
+  pub certify : new.certify ≡ old.certify
+  pub certificates : new.certificates.items ≡ old.certificates.items

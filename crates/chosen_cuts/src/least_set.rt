@@ -1,14 +1,14 @@
-//! From a circuit to its chosen least set: network, maximum preflow, and of that either the far side, or the near side of the
-//! routes that its units take. Routes are also what a certificate consists of, so for the greatest set they are looked for only
-//! where one is wanted.
-ghost use Rattle.std.specs.Prelude.{IfOk, IfSome, IsTrue, false, ◌≡◌};
+//! From a circuit to its chosen least set: by a flow of units that shows it, whose units' ways are the routes of a certificate; or by network,
+//! maximum preflow, and of that either the far side, or the near side of the routes that its units take.
+ghost use Rattle.std.specs.Prelude.{IfOk, IfSome, MatchOption, ◌≡◌};
 ghost use Rattle.aig_graph.specs.Border.{IsGreatestLeast, IsLeast, IsSmallestLeast};
-ghost use Rattle.chosen_cuts.specs.Certified.{AddsOne};
+ghost use Rattle.chosen_cuts.specs.Certified.{AddsOne, AddsNone};
 ghost use Rattle.cut_cert.specs.Shown.{AreLeastRoutes};
 ghost use Rattle.frame_cuts.specs.Cuts.{IsNetworkOf};
 ghost use Rattle.least_sets.specs.Chosen.{IsChosen};
 ghost use Rattle.pulse.specs.Conditions.{IsMaxPreflow};
 
+use crate::claiming::certify_by_units;
 use crate::records::Records;
 use aig_graph::{Circuit, ClosedSet, Keep, NoMemory};
 use certificates::Routes;
@@ -137,15 +137,39 @@ fn residuals_of(alloc: Global, net: &Net, preflow: MaxPreflow) -> Vec<u32> {
     preflow.into_residuals(alloc)
 }
 
-/// Whether flows of units are judged before a network is made: where no certificate is wanted, and not for a crew of two or more on a small
-/// circuit, whose first pulses are large for it and are shared out.
-fn looks_at_units<G: PhaseGate>(circuit: &Circuit, crew: &Crew<G>, records: &Records) -> bool
-    ensures { IsTrue result → records.now.certify ≡ false }
-{
-    !records.certify && (crew.workers() < 2 || circuit.aig().latches_and_gates() >= MANY_PLACES)
+/// Whether flows of units are judged before a network is made: not for a crew of two or more on a small circuit, whose first pulses are large
+/// for it and are shared out.
+fn looks_at_units<G: PhaseGate>(circuit: &Circuit, crew: &Crew<G>) -> bool {
+    crew.workers() < 2 || circuit.aig().latches_and_gates() >= MANY_PLACES
 }
 
-/// The chosen least set, where a flow of units is looked at and shows it. Nothing of the records changes but the flows.
+/// The set, where its certificate is added by the routes of the units of the records' flows, or none is wanted.
+fn certified(
+    alloc: Global,
+    circuit: &Circuit,
+    keep: &Keep,
+    set: ClosedSet,
+    records: &mut Records,
+) -> Result<Option<ClosedSet>, NoMemory>
+    ensures set { IfOk result (λ shown. IfSome shown (λ same. same ≡ set)) }
+    ensures certificate { IfOk result (λ shown. MatchOption shown (AddsNone records.old records.new)
+        (AddsOne circuit.now keep.now records.old records.new)) }
+{
+    match certify_by_units(alloc, circuit, keep, &set, records) {
+        Ok(true) => Ok(Some(set)),
+        Ok(false) => {
+            drop(set);
+            Ok(None)
+        }
+        Err(error) => {
+            drop(set);
+            Err(error)
+        }
+    }
+}
+
+/// The chosen least set, where a flow of units is looked at and shows it, with its certificate. Where there is none, nothing of the records
+/// changes but the flows.
 fn shown_by_units<G: PhaseGate>(
     alloc: Global,
     circuit: &Circuit,
@@ -155,14 +179,15 @@ fn shown_by_units<G: PhaseGate>(
     records: &mut Records,
 ) -> Result<Option<ClosedSet>, NoMemory>
     ensures set { IfOk result (λ shown. IfSome shown (IsChosen choice circuit.now keep.now)) }
-    ensures none_wanted { IfOk result (λ shown. IfSome shown (λ set. records.old.certify ≡ false)) }
-    ensures certify { records.new.certify ≡ records.old.certify }
-    ensures certificates { records.new.certificates.items ≡ records.old.certificates.items }
+    ensures certificate { IfOk result (λ shown. MatchOption shown (AddsNone records.old records.new)
+        (AddsOne circuit.now keep.now records.old records.new)) }
 {
-    if looks_at_units(circuit, crew, records) {
-        chosen_least_brought(alloc, circuit, keep, choice, &mut records.flows)
-    } else {
-        Ok(None)
+    if !looks_at_units(circuit, crew) {
+        return Ok(None);
+    }
+    match chosen_least_brought(alloc, circuit, keep, choice, &mut records.flows)? {
+        Some(set) => certified(alloc, circuit, keep, set, records),
+        None => Ok(None),
     }
 }
 
@@ -199,7 +224,7 @@ fn chosen_by_flow<G: PhaseGate>(
 /// this flow did at the circuit's gates. They are hints: the set is the same whatever they say. Where the records want certificates, one
 /// of the set is added to them, which passes all tests of `certificates::check`.
 ///
-/// Where a flow of units shows the set, no network is made. Else what is made on the way (the network, its flow, for the smallest set the
+/// Where a flow of units shows the set, and its units' ways pass those tests, no network is made. Else what is made on the way (the network, its flow, for the smallest set the
 /// routes of the flow) is dropped, but for the memory of a small network's tables by arc, of its flow's residuals and of its pushes, which the
 /// records keep for the next circuit.
 ///

@@ -1,5 +1,7 @@
+//! What a run keeps from circuit to circuit: flows, memory, and the certificates of the sets that were found.
+
 use aig_graph::{Circuit, ClosedSet, Keep, NoMemory};
-use certificates::{Certificate, Routes};
+use certificates::{Certificate, Routes, Verdict, check};
 use cut_cert::certificate_of;
 use frame_net::Tables;
 use gate_flows::GateFlow;
@@ -22,10 +24,10 @@ pub struct Records {
 }
 
 impl Records {
-    ghost use Rattle.std.specs.Prelude.{◌≡◌, [], OnOk};
+    ghost use Rattle.std.specs.Prelude.{◌≡◌, [], IfOk, OnOk, IsTrue, true, false};
     ghost use Rattle.aig_graph.specs.Border.{IsLeast};
     ghost use Rattle.cut_cert.specs.Shown.{AreLeastRoutes};
-    ghost use Rattle.chosen_cuts.specs.Certified.{AddsOne};
+    ghost use Rattle.chosen_cuts.specs.Certified.{AddsOne, AddsNone};
 
     /// Nothing is known yet.
     pub fn new(alloc: Global, certify: bool) -> Records
@@ -59,5 +61,34 @@ impl Records {
             self.certificates.push(certificate)?;
         }
         Ok(())
+    }
+
+    /// Adds a certificate where it passes all tests, whoever made it. Whether it does; else nothing changes. Certificates are wanted.
+    pub(crate) fn add_checked(
+        &mut self,
+        alloc: Global,
+        circuit: &Circuit,
+        keep: &Keep,
+        certificate: Certificate,
+    ) -> Result<bool, NoMemory>
+        requires wanted { self.old.certify ≡ true }
+        ensures adds { IfOk result (λ passes. IsTrue passes
+            → AddsOne circuit.now keep.now self.old self.new certificate.gates) }
+        ensures kept { IfOk result (λ passes. passes ≡ false → AddsNone self.old self.new) }
+    {
+        match check(alloc, circuit, &certificate, keep) {
+            Ok(Verdict::Yes) => {
+                self.certificates.push(certificate)?;
+                Ok(true)
+            }
+            Ok(Verdict::No(_)) => {
+                drop(certificate);
+                Ok(false)
+            }
+            Err(error) => {
+                drop(certificate);
+                Err(error)
+            }
+        }
     }
 }

@@ -13,8 +13,7 @@ pub struct Options {
     pub max_frames: u32,
     /// Over which of the least sets latches move.
     pub choice: Choice,
-    /// Whether a certificate is made of each circuit that is looked at. The rest of the answer is the same without them. Where they aren't
-    /// wanted, no route is looked for, but by the smallest choice, which takes routes.
+    /// Whether a certificate is made of each circuit that is looked at. The rest of the answer is the same without them.
     pub certify: bool,
     /// The latches whose symbol has one of these names are held: they stay, with their resets and names.
     pub keep: Vec<Vec<u8>>,
