@@ -4,6 +4,7 @@
 mod blocks;
 mod fault;
 mod file;
+mod filling;
 mod forms;
 mod laws;
 mod lines;

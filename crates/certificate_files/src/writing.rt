@@ -7,6 +7,7 @@ ghost use Rattle.counted_io.specs.Output.{Writes};
 ghost use Rattle.certificate_files.specs.Texts.{sign_code, point_text, route_text, gate_text, frame_text, block_text, choice_text, file_text};
 
 use crate::file::CertFile;
+use crate::filling::Line;
 use aig_graph::Sequence;
 use certificates::Certificate;
 use counted_io::{Buffered, CountedWrite, WriteError};
@@ -36,7 +37,8 @@ fn put_points<W: CountedWrite>(out: &mut Buffered<'_, W>, points: &[Point])
     }
 }
 
-fn put_route<W: CountedWrite>(out: &mut Buffered<'_, W>, points: &[Point])
+/// Puts the line of a route piece by piece.
+fn put_long_route<W: CountedWrite>(out: &mut Buffered<'_, W>, points: &[Point])
     ensures { Puts W.output out.old out.new (route_text points.now) }
 {
     out.put(b"r");
@@ -44,26 +46,32 @@ fn put_route<W: CountedWrite>(out: &mut Buffered<'_, W>, points: &[Point])
     out.put_byte(b'\n');
 }
 
-fn put_routes<W: CountedWrite>(out: &mut Buffered<'_, W>, routes: &[Sequence<Point>])
-    ensures { Puts W.output out.old out.new (flat_map route_text routes.now) }
+fn put_route<W: CountedWrite>(out: &mut Buffered<'_, W>, line: &mut Line, points: &[Point])
+    ensures { Puts W.output out.old out.new (route_text points.now) }
 {
-    for points in routes {
-        put_route(out, points.as_slice());
+    match line.route(points) {
+        Some(text) => out.put(text),
+        None => put_long_route(out, points),
     }
 }
 
-fn put_gate<W: CountedWrite>(out: &mut Buffered<'_, W>, gate: u32)
-    ensures { Puts W.output out.old out.new (gate_text gate) }
+fn put_routes<W: CountedWrite>(
+    out: &mut Buffered<'_, W>,
+    line: &mut Line,
+    routes: &[Sequence<Point>],
+)
+    ensures { Puts W.output out.old out.new (flat_map route_text routes.now) }
 {
-    out.put(b"g ");
-    out.put_line(&[u64::from(gate)]);
+    for points in routes {
+        put_route(out, line, points.as_slice());
+    }
 }
 
-fn put_gates<W: CountedWrite>(out: &mut Buffered<'_, W>, gates: &[u32])
+fn put_gates<W: CountedWrite>(out: &mut Buffered<'_, W>, line: &mut Line, gates: &[u32])
     ensures { Puts W.output out.old out.new (flat_map gate_text gates.now) }
 {
     for gate in gates {
-        put_gate(out, *gate);
+        out.put(line.gate(*gate));
     }
 }
 
@@ -78,19 +86,20 @@ fn put_frame<W: CountedWrite>(out: &mut Buffered<'_, W>, block: &Certificate)
     out.put_line(&[count, gates, routes]);
 }
 
-fn put_block<W: CountedWrite>(out: &mut Buffered<'_, W>, block: &Certificate)
+fn put_block<W: CountedWrite>(out: &mut Buffered<'_, W>, line: &mut Line, block: &Certificate)
     ensures { Puts W.output out.old out.new (block_text block.now) }
 {
     put_frame(out, block);
-    put_gates(out, block.gates.as_slice());
-    put_routes(out, block.routes.as_slice());
+    put_gates(out, line, block.gates.as_slice());
+    put_routes(out, line, block.routes.as_slice());
 }
 
 fn put_blocks<W: CountedWrite>(out: &mut Buffered<'_, W>, blocks: &[Certificate])
     ensures { Puts W.output out.old out.new (flat_map block_text blocks.now) }
 {
+    let mut line = Line::new();
     for block in blocks {
-        put_block(out, block);
+        put_block(out, &mut line, block);
     }
 }
 
