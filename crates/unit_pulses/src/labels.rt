@@ -3,7 +3,8 @@
 //! gates alone whose nodes have no label yet. Sweeps go through memory in order, where a walk back from the sink jumps.
 
 use crate::search::{FanIns, Search};
-use crate::spots::{FAR, Labels, label_before, labels_at};
+use crate::spots::{FAR, Labels, Spot, label_before, labels_at};
+use aig_graph::Gate;
 use unit_flows::GateFlow;
 
 /// More sweeps than these are never made. Nodes without a label are left to the network.
@@ -76,46 +77,56 @@ fn see(labels: &mut [Labels], place: u32, fan_ins: &FanIns, flow: &GateFlow) -> 
     is_new
 }
 
+/// Sees the gate at a place, if the sweep does. Whether a node is newly labelled.
+#[inline(always)]
+fn look(
+    labels: &mut [Labels],
+    spots: &mut [Spot],
+    place: u32,
+    gate: &Gate,
+    first: u32,
+    flow: &GateFlow,
+    seen: Seen,
+) -> bool {
+    let Some(spot) = spots.get_mut(place as usize) else {
+        return false;
+    };
+    if !(spot.is_open || (spot.holds && seen == Seen::All)) {
+        return false;
+    }
+    let is_new = see(labels, place, &FanIns::of(gate, first), flow);
+    spot.is_open = label_before(labels, place) == FAR;
+    is_new
+}
+
 impl<'a> Search<'a> {
-    /// Whether a sweep sees a place.
-    fn is_seen(&self, place: u32, seen: Seen) -> bool {
-        self.spots
-            .get(place as usize)
-            .is_some_and(|it| it.is_open || (it.holds && seen == Seen::All))
-    }
-
-    /// Sees the gate at a place, if the sweep does. Whether a node is newly labelled.
-    fn see(&mut self, place: u32, seen: Seen) -> bool {
-        if !self.is_seen(place, seen) {
-            return false;
-        }
-        let Some(fan_ins) = self.fan_ins(place) else {
-            return false;
-        };
-        let flow = self.flow(place);
-        let labels = self.labels.as_mut_slice();
-        let is_new = see(labels, place, &fan_ins, &flow);
-        let is_open = label_before(labels, place) == FAR;
-        if let Some(spot) = self.spots.get_mut(place as usize) {
-            spot.is_open = is_open;
-        }
-        is_new
-    }
-
-    /// Sees the gates below a place from the last to the first. Whether a node is newly labelled.
+    /// Sees the gates from the last to the first, where all places end here. Whether a node is newly labelled.
     fn sweep_down(&mut self, end: u32, seen: Seen) -> bool {
+        let (gates, first) = (self.gates, self.first);
+        let flows = self.flows.as_slice();
+        let labels = self.labels.as_mut_slice();
+        let spots = self.spots.as_mut_slice();
         let mut is_new = false;
-        for place in (self.latches..end).rev() {
-            is_new |= self.see(place, seen);
+        let mut place = end;
+        for k in (0..gates.len()).rev() {
+            place = place.wrapping_sub(1);
+            if let Some(flow) = flows.get(k) {
+                is_new |= look(labels, spots, place, &gates[k], first, flow, seen);
+            }
         }
         is_new
     }
 
-    /// Sees the gates below a place from the first to the last. Whether a node is newly labelled.
-    fn sweep_up(&mut self, end: u32, seen: Seen) -> bool {
+    /// Sees the gates from the first to the last. Whether a node is newly labelled.
+    fn sweep_up(&mut self, seen: Seen) -> bool {
+        let (gates, first) = (self.gates, self.first);
+        let labels = self.labels.as_mut_slice();
+        let spots = self.spots.as_mut_slice();
         let mut is_new = false;
-        for place in self.latches..end {
-            is_new |= self.see(place, seen);
+        let mut place = self.latches;
+        for (gate, flow) in gates.iter().zip(self.flows.iter()) {
+            is_new |= look(labels, spots, place, gate, first, flow, seen);
+            place = place.wrapping_add(1);
         }
         is_new
     }
@@ -140,9 +151,9 @@ impl<'a> Search<'a> {
     pub fn label(&mut self) {
         let end = self.begin();
         self.sweep_down(end, Seen::All);
-        self.sweep_up(end, Seen::All);
+        self.sweep_up(Seen::All);
         for _ in 0..MOST_ROUNDS {
-            if !self.sweep_down(end, Seen::Open) || !self.sweep_up(end, Seen::Open) {
+            if !self.sweep_down(end, Seen::Open) || !self.sweep_up(Seen::Open) {
                 return;
             }
         }

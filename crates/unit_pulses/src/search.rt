@@ -14,6 +14,14 @@ pub(crate) struct FanIns {
 }
 
 impl FanIns {
+    /// Those of a gate, where places begin at this variable.
+    pub fn of(gate: &Gate, first: u32) -> FanIns {
+        FanIns {
+            smaller: gate.rhs1.var().wrapping_sub(first),
+            larger: gate.rhs0.var().wrapping_sub(first),
+        }
+    }
+
     /// The place of the second or the first fan-in.
     pub fn at(&self, second: bool) -> u32 {
         if second { self.larger } else { self.smaller }
@@ -28,8 +36,8 @@ impl FanIns {
 /// A flow of units over the gates of a frame, and what its pulses need to know.
 #[derive(Drop)]
 pub(crate) struct Search<'a> {
-    gates: &'a [Gate],
-    first: u32,
+    pub gates: &'a [Gate],
+    pub first: u32,
     /// How many latches there are, the place of the first gate.
     pub latches: u32,
     /// As many units as an arc without a bound carries at most.
@@ -98,10 +106,7 @@ impl<'a> Search<'a> {
     /// The fan-ins of the gate at a place.
     pub fn fan_ins(&self, place: u32) -> Option<FanIns> {
         let gate = self.gates.get(self.number(place))?;
-        Some(FanIns {
-            smaller: gate.rhs1.var().wrapping_sub(self.first),
-            larger: gate.rhs0.var().wrapping_sub(self.first),
-        })
+        Some(FanIns::of(gate, self.first))
     }
 
     /// What the flow does at the gate at a place.
