@@ -3,10 +3,14 @@ ghost use Rattle.std.specs.Prelude.{IfOk, IfSome};
 ghost use Rattle.least_sets.specs.Chosen.{IsChosen};
 
 use crate::bringing::bring;
+use crate::extending::extend;
 use aig_graph::{Circuit, ClosedSet, Keep, NoMemory};
 use least_sets::Choice;
 use std::alloc::Global;
 use unit_flows::{Frame, GateFlow, greatest_least_shown, shown_chosen, smallest_least_shown};
+
+/// Fewer units cost less by pulses than a judge that may say no.
+const MANY_BROUGHT: usize = 64;
 
 /// By a start.
 fn shown_by_start(
@@ -24,19 +28,70 @@ fn shown_by_start(
     }
 }
 
-/// By pulses from the flow of a start.
+/// By more of a start along the last flow, where that brings many units.
+fn shown_by_more(
+    alloc: Global,
+    frame: &Frame,
+    choice: Choice,
+    flows: &mut Vec<GateFlow>,
+) -> Result<Option<ClosedSet>, NoMemory>
+    ensures { IfOk result (λ shown. IfSome shown (IsChosen choice frame.now.circuit.now
+        frame.now.keep.now)) }
+{
+    let brought = extend(alloc, frame, flows.as_mut_slice())?;
+    if brought < MANY_BROUGHT {
+        return Ok(None);
+    }
+    shown_chosen(alloc, frame, choice, flows.as_slice())
+}
+
+/// By pulses.
 fn shown_by_pulses(
+    alloc: Global,
+    frame: &Frame,
+    choice: Choice,
+    flows: &mut Vec<GateFlow>,
+) -> Result<Option<ClosedSet>, NoMemory>
+    ensures { IfOk result (λ shown. IfSome shown (IsChosen choice frame.now.circuit.now
+        frame.now.keep.now)) }
+{
+    bring(alloc, frame, flows)?;
+    shown_chosen(alloc, frame, choice, flows.as_slice())
+}
+
+/// By what follows a start that shows none: more of it, where it was one along the last flow, or pulses.
+fn shown_in(
+    alloc: Global,
+    frame: &Frame,
+    choice: Choice,
+    is_first: bool,
+    flows: &mut Vec<GateFlow>,
+) -> Result<Option<ClosedSet>, NoMemory>
+    ensures { IfOk result (λ shown. IfSome shown (IsChosen choice frame.now.circuit.now
+        frame.now.keep.now)) }
+{
+    if is_first {
+        return shown_by_pulses(alloc, frame, choice, flows);
+    }
+    match shown_by_more(alloc, frame, choice, flows)? {
+        Some(set) => Ok(Some(set)),
+        None => shown_by_pulses(alloc, frame, choice, flows),
+    }
+}
+
+/// The same of a circuit.
+fn shown_after_start(
     alloc: Global,
     circuit: &Circuit,
     keep: &Keep,
     choice: Choice,
+    is_first: bool,
     flows: &mut Vec<GateFlow>,
 ) -> Result<Option<ClosedSet>, NoMemory>
     ensures { IfOk result (λ shown. IfSome shown (IsChosen choice circuit.now keep.now)) }
 {
     let frame = Frame::new(alloc, circuit, keep)?;
-    bring(alloc, &frame, flows)?;
-    shown_chosen(alloc, &frame, choice, flows.as_slice())
+    shown_in(alloc, &frame, choice, is_first, flows)
 }
 
 /// The chosen least set of a circuit whose held latches stay where they are, where a flow of units shows it: that of a start along `flows`,
@@ -55,8 +110,9 @@ pub fn chosen_least_brought(
 ) -> Result<Option<ClosedSet>, NoMemory>
     ensures { IfOk result (λ shown. IfSome shown (IsChosen choice circuit.now keep.now)) }
 {
+    let is_first = flows.is_empty();
     match shown_by_start(alloc, circuit, keep, choice, flows)? {
         Some(set) => Ok(Some(set)),
-        None => shown_by_pulses(alloc, circuit, keep, choice, flows),
+        None => shown_after_start(alloc, circuit, keep, choice, is_first, flows),
     }
 }

@@ -6,6 +6,7 @@
 
 mod active;
 mod bringing;
+mod extending;
 mod labels;
 mod least_set;
 mod nodes;
