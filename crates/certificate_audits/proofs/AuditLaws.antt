@@ -1,6 +1,7 @@
 -- Audits, block after block.
-use Rattle.std.proofs.Common.{ℕ, ◌+◌, ◌≡◌, ◌≢◌, ◌<◌, ◌≤◌, suc, List, [], ◌∷◌, length, drop, get_or, nat_eq, true, false, refl, arith, ap, sym, ◌∙◌, subst}
-use Rattle.std.proofs.lemmas.List.{drop_more, length-drop}
+use Rattle.std.proofs.Common.{ℕ, ◌+◌, ◌≡◌, ◌≢◌, ◌<◌, ◌≤◌, suc, List, [], ◌∷◌, length, drop, get_or, nat_eq, true, false, refl, arith, ap, sym, ◌∙◌, subst, Option, Some, None, Result, Ok, Err}
+use Rattle.std.specs.Result.{IfOk}
+use Rattle.std.proofs.lemmas.List.{drop_all, drop_more, length-drop}
 use Rattle.aig_graph.specs.Circuits.{Netlist}
 use Rattle.certificates.specs.declared.certificate.Certificate.{Certificate}
 use Rattle.certificates.specs.declared.verdict.Verdict.TheVariants.{Yes}
@@ -10,9 +11,11 @@ use Rattle.retimed_circuits.specs.Names.{held_latches}
 use Rattle.retimed_circuits.specs.Frames.{NoneSmaller}
 use Rattle.certificate_audits.specs.declared.outcome.Audit.{Audit}
 use Rattle.certificate_audits.specs.declared.outcome.End.{End}
-use Rattle.certificate_audits.specs.declared.outcome.End.TheVariants.{NoBlocks, Certified}
-use Rattle.certificate_audits.specs.Audits.{Audits, IsVerdictIn, SavesNone, IsNext, IsAudit, no_blocks, objected, open_end, certified_end, past_end, goes_on}
-use Rattle.certificate_audits.specs.Findings.{GoesOn}
+use Rattle.certificate_audits.specs.declared.outcome.End.TheVariants.{NoBlocks, Certified, Open, BlocksFollow, Objected}
+use Rattle.certificate_audits.specs.declared.outcome.Replay.{Replay}
+use Rattle.certificate_audits.specs.Audits.{Audits, IsVerdictIn, Saves, SavesNone, IsNext, IsAudit, IsMergedAudit, no_blocks, objected, open_end, certified_end, past_end, goes_on}
+use Rattle.certificate_audits.specs.Findings.{EndsWith, GoesOn, IsLastOf}
+use Rattle.certificate_audits.specs.Replays.{EndIn, IsLast, IsMergedReplay, IsReplay, Replays, no_more, at_end, after_move}
 use Rattle.certificate_audits.specs.Laws.{IsLeastIn, AreLeast, IsCertified, last, move}
 
 -- a list whose length isn't 0 isn't empty
@@ -40,6 +43,8 @@ pub record LeadsTo (names : List (List ℕ)) (first : Netlist) (blocks : List Ce
   pub held : held_latches names circuit ≡ held_latches names first
   -- where there are blocks, there is one at place k
   pub another : 0 < length blocks → k < length blocks
+  -- what the blocks from k on end in, all blocks end in
+  pub makes : (e : Netlist) → EndIn names circuit (drop k blocks) e → EndIn names first blocks e
 
 -- before the first block the circuit is the first one
 pub leads-first : (names : List (List ℕ)) (first : Netlist) (blocks : List Certificate) → LeadsTo names first blocks 0 first
@@ -47,6 +52,7 @@ leads-first names first blocks = record {
   onward = λ n end audits. let same : n ≡ 0 + n = omega arith in subst (λ (m : ℕ). Audits names first blocks m end) same audits;
   held = refl;
   another = λ some. some;
+  makes = λ e ends. ends;
 }
 
 -- the k-th block, and those after it
@@ -66,6 +72,9 @@ leads-next names first circuit d blocks k block within there goes next held lead
       subst (λ (m : ℕ). Audits names first blocks m end) same (leads.onward (suc n) end all);
   held = held ∙ leads.held;
   another = λ some. omega (arith, filled (drop (k + 1) blocks) goes.follows, length-drop (k + 1) blocks);
+  makes = λ e ends.
+      let rest : List Certificate = drop (k + 1) blocks in
+      leads.makes e (subst (λ (bs : List Certificate). EndIn names circuit bs e) (sym (here blocks k block within there)) (after_move circuit d e block rest goes.saves next ends));
 }
 
 -- what the audit finds from this block on ends, with k more confirmed, the audit of all blocks
@@ -79,9 +88,84 @@ pub none-left : (names : List (List ℕ)) (first circuit : Netlist) (blocks : Li
 none-left names first circuit [] k past leads = no_blocks first
 none-left names first circuit (block ∷ rest) k past leads = absurd (omega (arith, past, leads.another (omega arith)))
 
+-- ---- what blocks end in
+
+-- what ends with a block of c is an audit of it and of those after it
+pub ends-audits : (names : List (List ℕ)) (c : Netlist) (block : Certificate) (rest : List Certificate) (n : ℕ) (end : End) → EndsWith names c block rest n end → Audits names c (block ∷ rest) n end
+ends-audits names c block rest n NoBlocks p = absurd p
+ends-audits names c block rest n (Objected objection) p = subst (λ (m : ℕ). Audits names c (block ∷ rest) m (Objected objection)) (sym p.0) (objected c block rest objection p.1)
+ends-audits names c block rest n Open p =
+    let P : ℕ → List Certificate → Type 0 = λ m bs. Audits names c (block ∷ bs) m Open in subst (λ (m : ℕ). P m rest) (sym p.0) (subst (P 1) (sym p.2) (open_end c block p.1))
+ends-audits names c block rest n Certified p =
+    let P : ℕ → List Certificate → Type 0 = λ m bs. Audits names c (block ∷ bs) m Certified in subst (λ (m : ℕ). P m rest) (sym p.0) (subst (P 1) (sym p.2) (certified_end c block p.1))
+ends-audits names c block rest n BlocksFollow p = subst (λ (m : ℕ). Audits names c (block ∷ rest) m BlocksFollow) (sym p.0) (past_end c block rest p.1 p.2)
+
+-- and the circuit at which it ends is what the block and those after it end in
+pub ends-last : (names : List (List ℕ)) (c : Netlist) (block : Certificate) (rest : List Certificate) (n : ℕ) (end : End) (made : Option Netlist) → EndsWith names c block rest n end
+    → IsLastOf names c block end made → IsLast names c (block ∷ rest) end made
+ends-last names c block rest n NoBlocks made p is = absurd p
+ends-last names c block rest n Open (Some d) p is = after_move c d d block rest p.1 is (subst (λ (bs : List Certificate). EndIn names d bs d) (sym p.2) (no_more d))
+ends-last names c block rest n Open None p is = is
+ends-last names c block rest n Certified (Some d) p is =
+    let P : List Certificate → Netlist → Type 0 = λ bs e. EndIn names c (block ∷ bs) e in subst (λ (e : Netlist). P rest e) (sym is) (subst (λ (bs : List Certificate). P bs c) (sym p.2) (at_end c block p.1))
+ends-last names c block rest n Certified None p is = is
+ends-last names c block rest n BlocksFollow (Some d) p is = absurd is
+ends-last names c block rest n BlocksFollow None p is = is
+ends-last names c block rest n (Objected objection) (Some d) p is = absurd is
+ends-last names c block rest n (Objected objection) None p is = is
+
+-- what the blocks from k on end in, all blocks end in, where nothing speaks against one
+all-last : (names : List (List ℕ)) (first circuit : Netlist) (blocks : List Certificate) (k : ℕ) (block : Certificate) (end : End) (made : Option Netlist) → k < length blocks
+    → block ≡ get_or blocks k block → LeadsTo names first blocks k circuit → IsLast names circuit (block ∷ drop (k + 1) blocks) end made → IsLast names first blocks end made
+all-last names first circuit blocks k block end None within there leads is = is
+all-last names first circuit blocks k block end (Some d) within there leads is =
+    leads.makes d (subst (λ (bs : List Certificate). EndIn names circuit bs d) (sym (here blocks k block within there)) is)
+
+-- a replay that ends with the k-th block is that of all blocks
+replays-at : (names : List (List ℕ)) (first circuit : Netlist) (blocks : List Certificate) (k : ℕ) (block : Certificate) (n : ℕ) (end : End) (replay : Replay) → k < length blocks
+    → block ≡ get_or blocks k block → EndsWith names circuit block (drop (k + 1) blocks) n end → LeadsTo names first blocks k circuit
+    → replay.audit ≡ record { confirmed = k + n; end = end } → IsLastOf names circuit block end replay.last → Replays names first blocks replay
+replays-at names first circuit blocks k block n end replay within there ends leads found made =
+    let rest : List Certificate = drop (k + 1) blocks in
+    let audits : Audits names first blocks (k + n) end = ends-at names first circuit blocks k block n end within there (ends-audits names circuit block rest n end ends) leads in
+    let is : IsLast names first blocks end replay.last = all-last names first circuit blocks k block end replay.last within there leads (ends-last names circuit block rest n end replay.last ends made) in
+    record {
+      audits = subst (λ (a : Audit). Audits names first blocks a.confirmed a.end) (sym found) audits;
+      last = subst (λ (a : Audit). IsLast names first blocks a.end replay.last) (sym found) is;
+    }
+
+-- the same of one that was made, unless memory was wanting
+pub replayed-at : {E : Type 0} (names : List (List ℕ)) (first circuit : Netlist) (blocks : List Certificate) (k : ℕ) (block : Certificate) (n : ℕ) (end : End) (result : Result Replay E) → k < length blocks
+    → block ≡ get_or blocks k block → EndsWith names circuit block (drop (k + 1) blocks) n end → LeadsTo names first blocks k circuit
+    → IfOk result (λ replay. replay.audit ≡ record { confirmed = k + n; end = end }) → IfOk result (λ replay. IsLastOf names circuit block end replay.last)
+    → IfOk result (Replays names first blocks)
+replayed-at names first circuit blocks k block n end (Ok replay) within there ends leads found made = replays-at names first circuit blocks k block n end replay within there ends leads found made
+replayed-at names first circuit blocks k block n end (Err error) within there ends leads found made = tt
+
+-- where there is no block, they end in the circuit
+pub replays-none : (names : List (List ℕ)) (first circuit : Netlist) (blocks : List Certificate) (k : ℕ) → length blocks ≤ k → LeadsTo names first blocks k circuit
+    → Replays names first blocks (record { audit = record { confirmed = 0; end = NoBlocks }; last = Some circuit })
+replays-none names first circuit blocks k past leads = record {
+  audits = none-left names first circuit blocks k past leads;
+  last = leads.makes circuit (subst (λ (bs : List Certificate). EndIn names circuit bs circuit) (sym (drop_all k blocks past)) (no_more circuit));
+}
+
+-- where the audit is open, the block that ended it saves latches
+pub still-saves : (names : List (List ℕ)) (c : Netlist) (block : Certificate) (rest : List Certificate) (n : ℕ) (end : End) → EndsWith names c block rest n end → end ≡ Open → Saves names c block
+still-saves names c block rest n end ends is_open = let is : EndsWith names c block rest n Open = subst (λ (e : End). EndsWith names c block rest n e) is_open ends in is.1
+
+-- the audit of a replay
+pub replay-audit : (names : List (List ℕ)) (c : Netlist) (blocks : List Certificate) (replay : Replay) → IsReplay names c blocks replay → IsAudit names c blocks replay.audit
+replay-audit names c blocks replay is = record { first = is.first; kept = is.kept; cleaned = is.cleaned; audits = is.replays.audits }
+
+-- and that of one of what c is merged to
+pub merged-replay-audit : (names : List (List ℕ)) (c : Netlist) (blocks : List Certificate) (replay : Replay) → IsMergedReplay names c blocks replay → IsMergedAudit names c blocks replay.audit
+merged-replay-audit names c blocks replay is = record { start = is.start; kept = is.kept; counts = is.counts; merges = is.merges; of_start = replay-audit names is.start blocks replay is.of_start }
+
 -- ---- what an audit shows
 
-least-in : (names : List (List ℕ)) (c : Netlist) (block : Certificate) → IsVerdictIn names c block Yes → IsLeastIn names c block
+-- a block that is confirmed has a least set
+pub least-in : (names : List (List ℕ)) (c : Netlist) (block : Certificate) → IsVerdictIn names c block Yes → IsLeastIn names c block
 least-in names c block verdict = let shown = yes-law c (held_in names c) block verdict in record { least = shown.0; counted = shown.1 }
 
 none-smaller : (names : List (List ℕ)) (c : Netlist) (block : Certificate) → SavesNone names c block → NoneSmaller names c

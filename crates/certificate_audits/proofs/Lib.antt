@@ -1,2 +1,3 @@
 pub mod AuditLaws
 pub mod UniqueLaws
+pub mod ReplayLaws

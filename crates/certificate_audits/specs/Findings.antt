@@ -1,11 +1,14 @@
 -- What one block shows of its circuit.
-use Rattle.std.specs.Prelude.{ℕ, ◌≢◌, List, []}
+use Rattle.std.specs.Prelude.{ℕ, ◌≡◌, ◌≢◌, false, List, [], Option, MatchOption}
 use Rattle.aig_graph.specs.Circuits.{Netlist}
 use Rattle.certificates.specs.declared.certificate.Certificate.{Certificate}
 use Rattle.certificates.specs.declared.verdict.Verdict.TheVariants.{No}
 use Rattle.certificate_audits.specs.declared.judging.Finding.{Finding}
 use Rattle.certificate_audits.specs.declared.judging.Finding.TheVariants.{Objected, Fewer, NotFewer}
-use Rattle.certificate_audits.specs.Audits.{IsVerdictIn, Saves, SavesNone}
+use Rattle.certificate_audits.specs.declared.outcome.End.{End}
+use Rattle.certificate_audits.specs.declared.outcome.End.TheVariants as ends
+use Rattle.certificate_audits.specs.Audits.{IsNext, IsVerdictIn, Saves, SavesNone}
+use Rattle.certificate_audits.specs.Ends.{is_accepted}
 
 abbrev pub IsFinding : List (List ℕ) → Netlist → Certificate → Finding → Type 0
 IsFinding names c block (Objected objection) = IsVerdictIn names c block (No objection)
@@ -16,3 +19,23 @@ IsFinding names c block NotFewer = SavesNone names c block
 pub record GoesOn (names : List (List ℕ)) (c : Netlist) (block : Certificate) (rest : List Certificate) : Type 0 where
   pub saves : Saves names c block
   pub follows : rest ≢ []
+
+-- the audit ends with the block, which these others follow, so many being confirmed of it, and so
+abbrev pub EndsWith : List (List ℕ) → Netlist → Certificate → List Certificate → ℕ → End → Type 0
+EndsWith names c block rest n ends.NoBlocks = ⊥
+EndsWith names c block rest n (ends.Objected objection) = (n ≡ 0) × IsVerdictIn names c block (No objection)
+EndsWith names c block rest n ends.Open = (n ≡ 1) × Saves names c block × (rest ≡ [])
+EndsWith names c block rest n ends.Certified = (n ≡ 1) × SavesNone names c block × (rest ≡ [])
+EndsWith names c block rest n ends.BlocksFollow = (n ≡ 1) × SavesNone names c block × (rest ≢ [])
+
+-- what the blocks end in, where the audit ends so with this block of c: after a last move, or at c itself
+abbrev pub IsEndOf : List (List ℕ) → Netlist → Certificate → End → Netlist → Type 0
+IsEndOf names c block ends.NoBlocks d = d ≡ c
+IsEndOf names c block ends.Certified d = d ≡ c
+IsEndOf names c block ends.Open d = IsNext names c block d
+IsEndOf names c block ends.BlocksFollow d = ⊥
+IsEndOf names c block (ends.Objected objection) d = ⊥
+
+-- the same, or none where something speaks against the block
+abbrev pub IsLastOf : List (List ℕ) → Netlist → Certificate → End → Option Netlist → Type 0
+IsLastOf names c block end last = MatchOption last (is_accepted end ≡ false) (IsEndOf names c block end)

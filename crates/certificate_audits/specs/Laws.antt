@@ -1,14 +1,17 @@
 -- What an audit shows.
-use Rattle.std.specs.Prelude.{ℕ, ◌≡◌, ◌<◌, List, [], ◌∷◌, length}
-use Rattle.aig_graph.specs.Graph.{known_latches}
-use Rattle.aig_graph.specs.Circuits.{Netlist}
+use Rattle.std.specs.Prelude.{ℕ, ◌≡◌, ◌<◌, List, [], ◌∷◌, length, IfSome}
+use Rattle.aig_graph.specs.Graph.{IsGraph, known_latches}
+use Rattle.aig_graph.specs.Circuits.{IsNetlist, Netlist}
+use Rattle.aig_graph.specs.Streams.{SameStreams}
 use Rattle.aig_graph.specs.Border.{IsLeast}
 use Rattle.certificates.specs.declared.certificate.Certificate.{Certificate}
 use Rattle.aig_graph.specs.Keep.{held_in}
 use Rattle.retimed_circuits.specs.Frames.{CleansIn, NoneSmaller, count_in}
 use Rattle.certificate_audits.specs.declared.outcome.Audit.{Audit}
 use Rattle.certificate_audits.specs.declared.outcome.End.TheVariants.{Certified}
+use Rattle.certificate_audits.specs.declared.outcome.Replay.{Replay}
 use Rattle.certificate_audits.specs.Audits.{IsAudit, IsMergedAudit, IsNext}
+use Rattle.certificate_audits.specs.Replays.{IsMergedReplay, IsReplay}
 
 -- the block's gates are a least set of c, and its count is what they count
 pub record IsLeastIn (names : List (List ℕ)) (c : Netlist) (block : Certificate) : Type 0 where
@@ -42,3 +45,15 @@ MergedCertifiedLaw names c blocks = (audit : Audit) (is : IsMergedAudit names c 
 
 abbrev pub MergedAuditLaw : List (List ℕ) → Netlist → List Certificate → Type 0
 MergedAuditLaw names c blocks = (a b : Audit) → IsMergedAudit names c blocks a → IsMergedAudit names c blocks b → a ≡ b
+
+-- d has the values of all properties of c, step by step, by some of c's free latches
+abbrev pub HasStreamsOf : Netlist → Netlist → Type 0
+HasStreamsOf c d = (kept : List ℕ) × SameStreams c d kept
+
+-- what the blocks end in has c's streams
+abbrev pub ReplayLaw : List (List ℕ) → Netlist → List Certificate → Type 0
+ReplayLaw names c blocks = (replay : Replay) → IsGraph c.aig → IsNetlist c → IsReplay names c blocks replay → IfSome replay.last (HasStreamsOf c)
+
+-- also where latches were merged first
+abbrev pub MergedReplayLaw : List (List ℕ) → Netlist → List Certificate → Type 0
+MergedReplayLaw names c blocks = (replay : Replay) → IsGraph c.aig → IsNetlist c → IsMergedReplay names c blocks replay → IfSome replay.last (HasStreamsOf c)

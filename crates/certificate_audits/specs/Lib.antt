@@ -1,4 +1,5 @@
 pub mod Ends
 pub mod Audits
 pub mod Findings
+pub mod Replays
 pub mod Laws

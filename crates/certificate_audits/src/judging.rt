@@ -1,8 +1,7 @@
 //! What one block shows of its circuit, and whether an audit ends with it.
-ghost use Rattle.std.specs.Prelude.{◌∷◌, IfOk, MatchOption};
+ghost use Rattle.std.specs.Prelude.{IfOk, MatchOption};
 ghost use Rattle.aig_graph.specs.Keep.{NoneMissing, names_of};
-ghost use Rattle.certificate_audits.specs.Audits.{Audits};
-ghost use Rattle.certificate_audits.specs.Findings.{GoesOn, IsFinding};
+ghost use Rattle.certificate_audits.specs.Findings.{EndsWith, GoesOn, IsFinding};
 
 use crate::outcome::{Audit, End};
 use aig_graph::{Circuit, NoMemory, keep_by_names};
@@ -49,8 +48,8 @@ pub(crate) fn end_at(
     requires { NoneMissing (names_of names.now) circuit.now }
     ensures { IfOk result (λ found. MatchOption found
         (GoesOn (names_of names.now) circuit.now block.now rest.now)
-        (λ audit. Audits (names_of names.now) circuit.now
-        (block.now ∷ rest.now) audit.confirmed audit.end)) }
+        (λ audit. EndsWith (names_of names.now) circuit.now block.now rest.now
+        audit.confirmed audit.end)) }
 {
     let (confirmed, end) = match judge(alloc, circuit, block, names)? {
         Finding::Objected(objection) => (0, End::Objected(objection)),

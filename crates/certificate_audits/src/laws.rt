@@ -1,7 +1,7 @@
 ghost use Rattle.std.specs.Prelude.{ℕ, List};
 ghost use Rattle.aig_graph.specs.Circuits.{Netlist};
 ghost use Rattle.certificates.specs.declared.certificate.Certificate.{Certificate as Block};
-ghost use Rattle.certificate_audits.specs.Laws.{AuditLaw, CertifiedLaw, MergedAuditLaw, MergedCertifiedLaw};
+ghost use Rattle.certificate_audits.specs.Laws.{AuditLaw, CertifiedLaw, MergedAuditLaw, MergedCertifiedLaw, MergedReplayLaw, ReplayLaw};
 
 /// Where an audit ends certified, all blocks are confirmed, each set is least in its circuit, its count is the number of known
 /// latches after the move over it, and no closed set of the last circuit needs fewer latches than it has.
@@ -22,4 +22,13 @@ pub fn merged_audit_laws()
         → MergedCertifiedLaw names c blocks }
     ensures one { (names : List (List ℕ)) (c : Netlist) (blocks : List Block)
         → MergedAuditLaw names c blocks }
+{}
+
+/// What blocks end in behaves as the circuit: it has the same values of all properties at every step, for all inputs and every choice of
+/// what free latches hold at the start. So it is whoever made the blocks, and where latches were merged first.
+pub fn replay_laws()
+    ensures streams { (names : List (List ℕ)) (c : Netlist) (blocks : List Block)
+        → ReplayLaw names c blocks }
+    ensures merged { (names : List (List ℕ)) (c : Netlist) (blocks : List Block)
+        → MergedReplayLaw names c blocks }
 {}

@@ -9,7 +9,7 @@ mod moving;
 mod outcome;
 mod run;
 
-pub use laws::{audit_law, certified_law, merged_audit_laws};
-pub use merged::audit_merged;
-pub use outcome::{Audit, End};
-pub use run::audit_blocks;
+pub use laws::{audit_law, certified_law, merged_audit_laws, replay_laws};
+pub use merged::{audit_merged, replay_merged};
+pub use outcome::{Audit, End, Replay};
+pub use run::{audit_blocks, replay_blocks};

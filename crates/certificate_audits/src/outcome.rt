@@ -1,5 +1,6 @@
 ghost use Rattle.std.specs.Prelude.{◌≡◌};
 
+use aig_graph::Circuit;
 use certificates::Objection;
 
 /// How an audit ended.
@@ -38,4 +39,23 @@ pub struct Audit {
     pub confirmed: usize,
     /// How the audit ended.
     pub end: End,
+}
+
+/// What an audit found, and the circuit that its blocks end in.
+#[derive(Drop)]
+pub struct Replay {
+    /// What the audit found.
+    pub audit: Audit,
+    /// What the circuit is after its latches moved over the set of each block that saves latches, cleaned after each move; none where
+    /// something speaks against a block.
+    pub last: Option<Circuit>,
+}
+
+/// What an audit found; the circuit is dropped.
+pub(crate) fn audit_of(replay: Replay) -> Audit
+    ensures { result ≡ replay.audit }
+{
+    let Replay { audit, last } = replay;
+    drop(last);
+    audit
 }

@@ -2,37 +2,83 @@
 ghost use Rattle.std.specs.Prelude.{ℕ, ◌≡◌, IfOk, OnOk, IsErrOf};
 ghost use Rattle.aig_graph.specs.Keep.{IsFirstMissing, NoneMissing, held_in, names_of};
 ghost use Rattle.aig_graph.specs.declared.holding.KeepError.TheVariants.{NoSuchName};
-ghost use Rattle.certificate_audits.specs.Audits.{Audits, IsAudit};
+ghost use Rattle.certificate_audits.specs.Audits.{IsAudit, Saves};
+ghost use Rattle.certificate_audits.specs.Findings.{IsLastOf};
+ghost use Rattle.certificate_audits.specs.Replays.{IsReplay, Replays};
 
 use crate::judging::end_at;
 use crate::moving::{after_block, circuit_of};
-use crate::outcome::{Audit, End};
+use crate::outcome::{Audit, End, Replay, audit_of};
 use aig_graph::{Circuit, Keep, KeepError, NoMemory, keep_of};
 use certificates::Certificate;
 use clean::clean;
 use std::alloc::Global;
 
-/// The audit of blocks, the first of which is for this circuit.
-fn audit_from(
+/// What blocks end in, of which the last one, of this circuit, ended their audit so.
+fn last_circuit(
+    alloc: Global,
+    circuit: Circuit,
+    block: &Certificate,
+    end: End,
+    names: &[Vec<u8>],
+) -> Result<Option<Circuit>, NoMemory>
+    requires names { NoneMissing (names_of names.now) circuit }
+    requires saves { end ≡ End.Open → Saves (names_of names.now) circuit block.now }
+    ensures { IfOk result (IsLastOf (names_of names.now) circuit block.now end) }
+{
+    match end {
+        End::Open => match after_block(alloc, circuit, block, names) {
+            Ok(next) => Ok(Some(next)),
+            Err(error) => Err(error),
+        },
+        End::NoBlocks | End::Certified => Ok(Some(circuit)),
+        End::BlocksFollow | End::Objected(_) => {
+            drop(circuit);
+            Ok(None)
+        }
+    }
+}
+
+/// What an audit found that ends with this block of this circuit, and what the blocks end in.
+fn ended_with(
+    alloc: Global,
+    circuit: Circuit,
+    block: &Certificate,
+    audit: Audit,
+    names: &[Vec<u8>],
+) -> Result<Replay, NoMemory>
+    requires names { NoneMissing (names_of names.now) circuit }
+    requires saves { audit.end ≡ End.Open → Saves (names_of names.now) circuit block.now }
+    ensures audit { IfOk result (λ replay. replay.audit ≡ audit) }
+    ensures last { IfOk result (λ replay. IsLastOf (names_of names.now) circuit block.now
+        audit.end replay.last) }
+{
+    match last_circuit(alloc, circuit, block, audit.end, names) {
+        Ok(last) => Ok(Replay { audit, last }),
+        Err(error) => Err(error),
+    }
+}
+
+/// The audit of blocks, the first of which is for this circuit, and what they end in.
+fn replay_from(
     alloc: Global,
     first: Circuit,
     blocks: &[Certificate],
     names: &[Vec<u8>],
-) -> Result<Audit, NoMemory>
+) -> Result<Replay, NoMemory>
     requires { NoneMissing (names_of names.now) first }
-    ensures { IfOk result (λ audit. Audits (names_of names.now) first blocks.now audit.confirmed
-        audit.end) }
+    ensures { IfOk result (Replays (names_of names.now) first blocks.now) }
 {
     let mut circuit = first;
     for (place, block) in blocks.iter().enumerate() {
         match end_at(alloc, &circuit, block, &blocks[place + 1..], names) {
             Ok(None) => circuit = after_block(alloc, circuit, block, names)?,
             Ok(Some(last)) => {
-                drop(circuit);
-                return Ok(Audit {
+                let audit = Audit {
                     confirmed: place + last.confirmed,
                     end: last.end,
-                });
+                };
+                return ended_with(alloc, circuit, block, audit, names);
             }
             Err(error) => {
                 drop(circuit);
@@ -40,29 +86,57 @@ fn audit_from(
             }
         }
     }
-    drop(circuit);
-    Ok(Audit {
-        confirmed: 0,
-        end: End::NoBlocks,
+    Ok(Replay {
+        audit: Audit {
+            confirmed: 0,
+            end: End::NoBlocks,
+        },
+        last: Some(circuit),
     })
 }
 
-/// The audit of blocks, the first of which is for the circuit cleaned.
-pub(crate) fn audit_held(
+/// The audit of blocks, the first of which is for the circuit cleaned, and what they end in.
+pub(crate) fn replay_held(
     alloc: Global,
     circuit: &Circuit,
     keep: &Keep,
     blocks: &[Certificate],
     names: &[Vec<u8>],
-) -> Result<Audit, NoMemory>
+) -> Result<Replay, NoMemory>
     requires keep { keep.now ≡ held_in (names_of names.now) circuit.now }
     requires names { NoneMissing (names_of names.now) circuit.now }
-    ensures { IfOk result (IsAudit (names_of names.now) circuit.now blocks.now) }
+    ensures { IfOk result (IsReplay (names_of names.now) circuit.now blocks.now) }
 {
     // That the held latches are among the circuit's is what its readers ensure.
     circuit.known();
     let first = clean(alloc, circuit, keep)?;
-    audit_from(alloc, circuit_of(first), blocks, names)
+    replay_from(alloc, circuit_of(first), blocks, names)
+}
+
+/// [`audit_blocks`], and the circuit that the blocks end in: where they are those of a whole run of `retime`, or of one that the limit of
+/// frames ended, it is what the run wrote.
+///
+/// Where the last block saves latches, it takes one move and one cleaning more.
+///
+/// # Errors
+///
+/// `NoSuchName` where a name is that of no latch of the circuit, which is found first; `NoMemory` where memory is refused.
+pub fn replay_blocks(
+    alloc: Global,
+    circuit: &Circuit,
+    blocks: &[Certificate],
+    names: &[Vec<u8>],
+) -> Result<Replay, KeepError>
+    ensures replay { IfOk result (IsReplay (names_of names.now) circuit.now blocks.now) }
+    ensures none_missing { OnOk result (NoneMissing (names_of names.now) circuit.now) }
+    ensures missing { (place : ℕ) → IsErrOf result (NoSuchName place)
+        → IsFirstMissing (names_of names.now) circuit.now place }
+{
+    let keep = keep_of(alloc, circuit, names)?;
+    match replay_held(alloc, circuit, &keep, blocks, names) {
+        Ok(replay) => Ok(replay),
+        Err(NoMemory) => Err(KeepError::NoMemory),
+    }
 }
 
 /// Audits blocks of certificates, frame by frame, as a circuit was retimed by: the first is judged for the circuit cleaned, and each
@@ -87,9 +161,8 @@ pub fn audit_blocks(
     ensures missing { (place : ℕ) → IsErrOf result (NoSuchName place)
         → IsFirstMissing (names_of names.now) circuit.now place }
 {
-    let keep = keep_of(alloc, circuit, names)?;
-    match audit_held(alloc, circuit, &keep, blocks, names) {
-        Ok(audit) => Ok(audit),
-        Err(NoMemory) => Err(KeepError::NoMemory),
+    match replay_blocks(alloc, circuit, blocks, names) {
+        Ok(replay) => Ok(audit_of(replay)),
+        Err(error) => Err(error),
     }
 }

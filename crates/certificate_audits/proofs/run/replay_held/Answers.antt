@@ -8,16 +8,16 @@ use Rattle.cleaned_circuits.specs.Cleaned.{Cleans}
 use Rattle.retimed_circuits.specs.Names.{held_latches}
 use Rattle.retimed_circuits.proofs.HeldLaws.{cleaning-keeps}
 use Rattle.retimed_circuits.proofs.NameLaws.{names-stay}
-use Rattle.certificate_audits.specs.Audits.{Audits, IsAudit}
-use Rattle.certificate_audits.proofs.run.audit_held.Goals as goal
+use Rattle.certificate_audits.specs.Replays.{IsReplay, Replays}
+use Rattle.certificate_audits.proofs.run.replay_held.Goals as goal
 
 pub clean-requires : goal.clean-requires
 clean-requires c =
     let P : List ℕ → Type 0 = λ js. All (λ (j : ℕ). j < length c.args.circuit.now.aig.latches) js in
     record { in_range = subst P (sym c.requires.keep) (held-below (names_of c.args.names.now) c.args.circuit.now c.known.ensures.netlist) }
 
-pub audit_from-requires : goal.audit_from-requires
-audit_from-requires c =
+pub replay_from-requires : goal.replay_from-requires
+replay_from-requires c =
     let names = names_of c.args.names.now in
     let before = c.args.circuit.now in
     let first = c.in_ok-first.first in
@@ -33,11 +33,11 @@ returns c =
     let first = c.in_ok-first.first in
     let P : List ℕ → Type 0 = λ held. Cleans first.circuit held before first.kept_free in
     let Q : Netlist → Type 0 = λ d. Cleans d (held_in names before) before first.kept_free in
-    IfOk-weaker c.audit_from.result (λ audit. Audits names c.circuit_of.result blocks audit.confirmed audit.end) (IsAudit names before blocks)
-    (λ audit audits. record {
+    IfOk-weaker c.replay_from.result (Replays names c.circuit_of.result blocks) (IsReplay names before blocks)
+    (λ replay replays. record {
       first = c.circuit_of.result;
       kept = first.kept_free;
       cleaned = subst Q (sym c.circuit_of.ensures) (subst P c.requires.keep c.in_ok-first.ensures.cleaned);
-      audits = audits;
+      replays = replays;
     })
-    c.audit_from.ensures
+    c.replay_from.ensures
