@@ -1,0 +1,3 @@
+mod DumpLaws
+mod NameLaws
+mod ProbeLaws

@@ -1,0 +1,7 @@
+use Rattle.std.proofs.Common.{◌≡◌}
+use Rattle.variable_tables.specs.Tables.{table}
+use Rattle.waves.specs.Probes.{literal}
+use Rattle.waves.proofs.probes.leaf_literals.Given as goal
+
+abbrev pub invariant-loop-k : goal.invariant-loop-k
+invariant-loop-k l = l.literals.items ≡ table 1 l.k literal

@@ -1,0 +1,3 @@
+pub mod Probes
+pub mod Names
+pub mod Dumps
