@@ -1,14 +1,16 @@
 -- Names of latches by rising position, as marks come and go.
-use Rattle.std.proofs.Common.{ℕ, suc, zero, ◌+◌, ◌<◌, ◌≤◌, ◌≡◌, ◌==◌, List, [], ◌∷◌, length, map, fold, drop, insert, get_or, All, AllPairs, Bool, true, false, cond, ◌||◌, nat_lt, refl, sym, ap, subst, ◌∙◌, arith}
+use Rattle.std.proofs.Common.{ℕ, suc, zero, ◌+◌, ◌<◌, ◌≤◌, ◌≡◌, ◌==◌, List, [], ◌∷◌, length, map, fold, drop, insert, get_or, Option, Some, None, MatchOption, All, AllPairs, Bool, true, false, cond, nat_lt, refl, sym, ap, subst, ◌∙◌, arith}
 use Rattle.std.specs.List.{AllByRecursion, filter, list_any}
 use Rattle.std.specs.List.Sorted.{IsStrictlyIncreasing}
-use Rattle.std.proofs.lemmas.Bool.{cond-false, cond-true, cond_both, eqb-false, le-ltb, lt-ltb, ltb-false, ltb-true, or_parts}
+use Rattle.std.proofs.lemmas.Bool.{cond-false, cond-true, cond_both, eqb-false, le-ltb, leb-false, lt-ltb, ltb-false, ltb-true, or_parts}
 use Rattle.std.proofs.lemmas.List.{length-map}
 use Rattle.std.proofs.lemmas.List.Kept.{AllPairs-from_increasing}
-use Rattle.aig_graph.specs.Circuits.{AreNamesBelow}
+use Rattle.std.proofs.lemmas.List.Elements.{All-append, All-filter, All-from_get_or, All-map}
+use Rattle.aig_graph.specs.Circuits.{AreNamesBelow, IsNetlist, Netlist}
+use Rattle.aig_graph.specs.Keep.{held_by, is_named}
 use Rattle.aig_graph.specs.declared.properties.Symbol.{Symbol}
 use Rattle.ascii_file.specs.Meaning.{with_name}
-use Rattle.latch_marks.specs.Marks.{has_name_at, has_own_name, is_marked, mark, marked_if, marked_names, named_at, own_names, own_symbol}
+use Rattle.latch_marks.specs.Marks.{AreLatches, AreRightBefore, IsFirstNoLatch, held_places, has_name_at, has_own_name, is_marked, mark, marked_if, marked_names, named_at, own_names, own_symbol}
 
 -- a name more, after all names of latches before its own and before the next one
 pub inserted : (names : List Symbol) (k : ℕ) (s d : Symbol) → k ≤ length names → ((j : ℕ) → j < k → (get_or names j d).position ≤ s.position)
@@ -158,3 +160,23 @@ own-below n names are =
     let rise = rise-from n names are in
     rise-to n _ (rise-map n own_symbol own_same (filter has_own_name names)
     (record { up = up_filter has_own_name names rise.up; below = all_filter (λ (s : Symbol). s.position < n) has_own_name names rise.below }))
+
+-- places of which none is wrong are those of latches
+pub are-latches : (n : ℕ) (places : List ℕ) → AreRightBefore n places (length places) → AreLatches n places
+are-latches n places right = All-from_get_or (λ (place : ℕ). place < n) places 0 (λ k less. leb-false n (get_or places k 0) (right k less))
+
+-- of as many latches: each place is right, or the first that isn't
+pub found-wrong : (m n : ℕ) (places : List ℕ) (found : Option ℕ) → m ≡ n → MatchOption found (AreRightBefore m places (length places)) (IsFirstNoLatch m places)
+    → MatchOption found (AreLatches n places) (IsFirstNoLatch n places)
+found-wrong m n places None same right = are-latches n places (subst (λ (k : ℕ). AreRightBefore k places (length places)) same right)
+found-wrong m n places (Some k) same first = subst (λ (l : ℕ). IsFirstNoLatch l places k) same first
+
+-- the positions that names and places hold are those of latches
+pub held-below : (names : List (List ℕ)) (places : List ℕ) (c : Netlist) → IsNetlist c → AreLatches (length c.aig.latches) places → AreLatches (length c.aig.latches) (held_places names places c)
+unfolding held_by
+held-below names places c is within =
+    let n = length c.aig.latches in
+    let IsBelow : ℕ → Type 0 = λ place. place < n in
+    let held = filter (is_named names) c.symbols.latches in
+    All-append IsBelow (map (λ (s : Symbol). s.position) held) places
+    (All-map IsBelow (λ (s : Symbol). s.position) held (All-filter (is_named names) (λ (s : Symbol). s.position < n) c.symbols.latches is.symbols.latches.below)) within

@@ -1,11 +1,12 @@
 -- Latches that are held by their places: while that lasts each has a name that begins with a newline, as no name of a file does.
-use Rattle.std.specs.Prelude.{ℕ, ◌≡◌, ◌<◌, ◌==◌, ◌&&◌, Bool, true, false, nat_le, not, List, [], ◌∷◌, map, filter, fold, take, drop, get_or, length, if◌then◌else◌}
+use Rattle.std.specs.Prelude.{ℕ, ◌≡◌, ◌<◌, ◌==◌, ◌&&◌, ◌++◌, All, Bool, true, false, nat_le, not, List, [], ◌∷◌, map, filter, fold, drop, get_or, length, if◌then◌else◌}
 use Rattle.std.specs.List.{list_any}
 use Rattle.aig_graph.specs.Circuits.{Netlist}
+use Rattle.aig_graph.specs.Keep.{held_in}
 use Rattle.aig_graph.specs.declared.properties.Symbol.{Symbol}
 use Rattle.ascii_file.specs.Meaning.{with_name}
 use Rattle.latch_marks.specs.declared.places.MarkError.{MarkError}
-use Rattle.latch_marks.specs.declared.places.MarkError.TheVariants.{NoSuchLatch, HeldTwice, NoMemory}
+use Rattle.latch_marks.specs.declared.places.MarkError.TheVariants.{NoSuchName, NoSuchLatch, NoMemory}
 
 -- what the name of a held latch begins with
 abbrev pub mark : ℕ
@@ -44,32 +45,31 @@ own_symbol s = if is_marked s.name then record { position = s.position; name = d
 unfoldable pub own_names : List Symbol → List Symbol
 own_names names = map own_symbol (filter has_own_name names)
 
--- whether the k-th of the places is that of no latch among n, and whether it stands before among them
+-- the positions of the latches that the names and the places hold
+abbrev pub held_places : List (List ℕ) → List ℕ → Netlist → List ℕ
+held_places names places c = held_in names c ++ places
+
+-- each of the places is that of one of n latches
+abbrev pub AreLatches : ℕ → List ℕ → Type 0
+AreLatches n places = All (λ place. place < n) places
+
+-- whether the k-th of the places is that of none of n latches, and no place before the k-th is
 abbrev pub is_no_latch : ℕ → List ℕ → ℕ → Bool
 is_no_latch n places k = nat_le n (get_or places k 0)
 
-abbrev pub is_again : List ℕ → ℕ → Bool
-is_again places k = list_any (λ place. place == get_or places k 0) (take k places)
-
--- neither is so of those before the k-th
 abbrev pub AreRightBefore : ℕ → List ℕ → ℕ → Type 0
-AreRightBefore n places k = (j : ℕ) → j < k → (is_no_latch n places j ≡ false) × (is_again places j ≡ false)
+AreRightBefore n places k = (j : ℕ) → j < k → is_no_latch n places j ≡ false
 
--- the k-th is the first at fault: it is that of no latch, or stands before among the places
+-- the k-th is the first that is that of none
 pub record IsFirstNoLatch (n : ℕ) (places : List ℕ) (k : ℕ) : Type 0 where
   pub within : k < length places
   pub none : is_no_latch n places k ≡ true
   pub before : AreRightBefore n places k
 
-pub record IsFirstAgain (n : ℕ) (places : List ℕ) (k : ℕ) : Type 0 where
-  pub within : k < length places
-  pub again : is_again places k ≡ true
-  pub before : AreRightBefore n places k
-
 -- the number of a fault
 abbrev pub mark_error_code : MarkError → ℕ
-mark_error_code (NoSuchLatch k) = 1
-mark_error_code (HeldTwice k) = 2
+mark_error_code (NoSuchName k) = 1
+mark_error_code (NoSuchLatch k) = 2
 mark_error_code NoMemory = 3
 
 -- the circuit with these names of its latches
@@ -86,3 +86,22 @@ unmarked c = with_latch_names c (own_names c.symbols.latches)
 -- the marked names: those that hold
 abbrev pub marks_of : Netlist → List (List ℕ)
 marks_of c = map (λ s. s.name) (filter (λ s. is_marked s.name) c.symbols.latches)
+
+-- The circuit while the names and the places hold latches, and the names by which it does. Where there are places, each held latch has a
+-- marked name.
+abbrev pub circuit_held : List (List ℕ) → List ℕ → Netlist → Netlist
+circuit_held names [] c = c
+circuit_held names (place ∷ places) c = marked (held_places names (place ∷ places) c) c
+
+abbrev pub names_held : List (List ℕ) → List ℕ → Netlist → List (List ℕ)
+names_held names [] c = names
+names_held names (place ∷ places) c = marks_of c
+
+-- the circuit when they are let go
+abbrev pub circuit_freed : List ℕ → Netlist → Netlist
+circuit_freed [] c = c
+circuit_freed (place ∷ places) c = unmarked c
+
+-- a map of states, whose inputs and outputs have the names of latches, without marks
+abbrev pub unmarked_map : Netlist → Netlist
+unmarked_map m = record m { symbols = record m.symbols { inputs = own_names m.symbols.inputs; outputs = own_names m.symbols.outputs } }

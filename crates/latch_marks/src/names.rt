@@ -68,7 +68,7 @@ fn name_at(alloc: Global, names: &mut Vec<Symbol>, place: u32) -> Result<(), NoM
 }
 
 /// A copy of names.
-fn copied(alloc: Global, names: &[Symbol]) -> Result<Vec<Symbol>, NoMemory>
+pub(crate) fn copied(alloc: Global, names: &[Symbol]) -> Result<Vec<Symbol>, NoMemory>
     ensures { IfOk result (λ copies. copies.items ≡ names.now) }
 {
     let mut copies = Vec::with_capacity(alloc, names.len())?;

@@ -1,6 +1,6 @@
 //! Latches that are held by their places, in circuits that are read.
 use aag_text::{Counted, read_aag, write_aag};
-use aig_graph::{Circuit, keep_of};
+use aig_graph::{Circuit, NoMemory, keep_of};
 use latch_marks::{MarkError, mark_latches, marks_of, unmark_latches};
 use std::alloc::Global;
 use std::test::Fail;
@@ -47,8 +47,14 @@ fn is_given_back(alloc: Global, circuit: &Circuit) -> bool {
 }
 
 /// Whether the places can be held, these are held then, and the circuit is itself again after that.
-fn are_held(alloc: Global, circuit: &Circuit, places: &[u32], wanted: &[u32]) -> bool {
-    match mark_latches(alloc, circuit, places) {
+fn are_held(
+    alloc: Global,
+    circuit: &Circuit,
+    names: &[Vec<u8>],
+    places: &[u32],
+    wanted: &[u32],
+) -> bool {
+    match mark_latches(alloc, circuit, names, places) {
         Ok(marked) => {
             let held = marks_hold(alloc, &marked, wanted) && is_given_back(alloc, &marked);
             drop(marked);
@@ -58,10 +64,10 @@ fn are_held(alloc: Global, circuit: &Circuit, places: &[u32], wanted: &[u32]) ->
     }
 }
 
-fn read_and_held(alloc: Global, places: &[u32], wanted: &[u32]) -> bool {
+fn read_and_held(alloc: Global, names: &[Vec<u8>], places: &[u32], wanted: &[u32]) -> bool {
     match read_aag(alloc, TEXT) {
         Ok(circuit) => {
-            let held = are_held(alloc, &circuit, places, wanted);
+            let held = are_held(alloc, &circuit, names, places, wanted);
             drop(circuit);
             held
         }
@@ -69,8 +75,27 @@ fn read_and_held(alloc: Global, places: &[u32], wanted: &[u32]) -> bool {
     }
 }
 
+/// The name of the second latch, in a list.
+fn named(alloc: Global) -> Result<Vec<Vec<u8>>, NoMemory> {
+    let mut names = Vec::new(alloc);
+    names.push(Vec::from_slice(alloc, b"b")?)?;
+    Ok(names)
+}
+
+/// Whether the second latch's name and the places hold these latches.
+fn named_and_held(alloc: Global, places: &[u32], wanted: &[u32]) -> bool {
+    match named(alloc) {
+        Ok(names) => {
+            let held = read_and_held(alloc, names.as_slice(), places, wanted);
+            drop(names);
+            held
+        }
+        Err(_) => false,
+    }
+}
+
 fn fault_in(alloc: Global, circuit: &Circuit, places: &[u32]) -> Option<MarkError> {
-    match mark_latches(alloc, circuit, places) {
+    match mark_latches(alloc, circuit, &[], places) {
         Ok(marked) => {
             drop(marked);
             None
@@ -93,24 +118,36 @@ fn fault_of(alloc: Global, places: &[u32]) -> Option<MarkError> {
 
 #[test]
 fn latches_with_a_name_and_without(rt: HostRuntime) -> Result<(), Fail> {
-    assert!(rt; read_and_held(rt.alloc(), &[2, 1], &[1, 2]));
+    assert!(rt; read_and_held(rt.alloc(), &[], &[2, 1], &[1, 2]));
     Ok(())
 }
 
 #[test]
 fn no_latch(rt: HostRuntime) -> Result<(), Fail> {
-    assert!(rt; read_and_held(rt.alloc(), &[], &[]));
+    assert!(rt; read_and_held(rt.alloc(), &[], &[], &[]));
+    Ok(())
+}
+
+#[test]
+fn a_place_twice(rt: HostRuntime) -> Result<(), Fail> {
+    assert!(rt; read_and_held(rt.alloc(), &[], &[1, 0, 1, 0], &[0, 1]));
+    Ok(())
+}
+
+#[test]
+fn by_name_and_by_place(rt: HostRuntime) -> Result<(), Fail> {
+    assert!(rt; named_and_held(rt.alloc(), &[2, 1], &[1, 2]));
+    Ok(())
+}
+
+#[test]
+fn by_name_beside_a_place(rt: HostRuntime) -> Result<(), Fail> {
+    assert!(rt; named_and_held(rt.alloc(), &[0], &[0, 1]));
     Ok(())
 }
 
 #[test]
 fn a_place_past_the_last_latch(rt: HostRuntime) -> Result<(), Fail> {
     assert!(rt; fault_of(rt.alloc(), &[0, 3, 4]) == Some(MarkError::NoSuchLatch(1)));
-    Ok(())
-}
-
-#[test]
-fn a_place_twice(rt: HostRuntime) -> Result<(), Fail> {
-    assert!(rt; fault_of(rt.alloc(), &[1, 0, 1, 3]) == Some(MarkError::HeldTwice(2)));
     Ok(())
 }

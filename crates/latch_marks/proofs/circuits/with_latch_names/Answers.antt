@@ -1,30 +1,30 @@
 use Rattle.std.proofs.Common.{◌≡◌, ◌∙◌, ap, sym, subst}
-use Rattle.aig_graph.specs.Circuits.{IsNetlist, Netlist}
+use Rattle.std.proofs.lemmas.Result.{IfOk-weaker}
+use Rattle.aig_graph.specs.Circuits.{AreSymbolsOf}
 use Rattle.aig_graph.specs.declared.properties.Symbols.{Symbols}
-use Rattle.latch_marks.specs.Marks.{with_latch_names}
 use Rattle.latch_marks.proofs.circuits.with_latch_names.Goals as goal
 
-pub new-requires : goal.new-requires
-new-requires c =
+pub with_symbols-requires : goal.with_symbols-requires
+with_symbols-requires c =
     let circuit = c.args.circuit.now in
     let names = c.args.names in
-    let were = c.known.ensures.netlist in
-    let are : IsNetlist (with_latch_names circuit names) = record {
-      props = were.props;
-      symbols = record {
-        inputs = were.symbols.inputs;
-        latches = c.requires;
-        outputs = were.symbols.outputs;
-        bad = were.symbols.bad;
-        constraints = were.symbols.constraints;
-        justice = were.symbols.justice;
-        fairness = were.symbols.fairness;
-      };
-    } in
-    let made : Netlist = record { aig = c.in_ok-aig.aig; props = c.in_ok-props.props; symbols = c.in_ok-symbols.symbols } in
-    let same : made ≡ with_latch_names circuit names = λ i. record {
-      aig = (c.in_ok-aig.ensures ∙ c.aig.ensures.value) i;
-      props = (c.in_ok-props.ensures ∙ c.props.ensures.value) i;
-      symbols = (c.in_ok-symbols.ensures ∙ ap (λ (s : Symbols). record s { latches = names }) c.symbols.ensures.value) i;
-    } in
-    subst IsNetlist (sym same) are
+    let were = c.known.ensures.netlist.symbols in
+    let same : c.in_ok-symbols.symbols ≡ record circuit.symbols { latches = names } =
+    c.in_ok-symbols.ensures ∙ ap (λ (s : Symbols). record s { latches = names }) c.symbols.ensures.value in
+    subst (AreSymbolsOf circuit.aig circuit.props) (sym same) (record {
+      inputs = were.inputs;
+      latches = c.requires;
+      outputs = were.outputs;
+      bad = were.bad;
+      constraints = were.constraints;
+      justice = were.justice;
+      fairness = were.fairness;
+    })
+
+pub returns : goal.returns
+returns c =
+    let circuit = c.args.circuit.now in
+    let names = c.args.names in
+    let same : c.in_ok-symbols.symbols ≡ record circuit.symbols { latches = names } =
+    c.in_ok-symbols.ensures ∙ ap (λ (s : Symbols). record s { latches = names }) c.symbols.ensures.value in
+    IfOk-weaker c.with_symbols.result _ _ (λ copy is. is ∙ ap (λ (s : Symbols). record circuit { symbols = s }) same) c.with_symbols.ensures
