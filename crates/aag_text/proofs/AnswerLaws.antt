@@ -10,13 +10,14 @@ use Rattle.aig_graph.specs.Graph.{variable}
 use Rattle.aig_graph.specs.Circuits.{Netlist}
 use Rattle.gate_order.specs.Order.{ordered}
 use Rattle.file_words.specs.declared.fault.ReadError.{ReadError}
+use Rattle.file_words.specs.declared.fault.ReadError.TheVariants.{NoMemory}
+use Rattle.file_words.specs.Answering.{Fails, Gives}
 use Rattle.reader_parts.specs.declared.places.Places.{Places}
 use Rattle.reader_parts.specs.Places.{place_of}
 use Rattle.ascii_file.specs.declared.raw.RawLatch.{RawLatch}
 use Rattle.ascii_file.specs.Raw.{RawSymbol}
 use Rattle.ascii_file.specs.Meaning.{gate_reads}
 use Rattle.ascii_file.specs.Reading.{is_resolved, resolve}
-use Rattle.ascii_file.specs.Answering.{Fails, Gives}
 use Rattle.reader_parts.specs.Parts.{AreNamesWithin}
 use Rattle.reader_parts.proofs.PartLaws.{within}
 use Rattle.aag_text.specs.declared.circuit.lists.RawLists.{RawLists}
@@ -118,8 +119,8 @@ module _ (l : RawLists) (symbols : List RawSymbol) (read : AreRead l symbols) wh
 
   -- a fault of the lists by places is that of the raw circuit
   pub fails_by_places : (e : ReadError)
-      → Fails e (placed_lists l.places (length l.inputs.items + length l.latches.items + length l.gates.items) l.latches.items l.properties.safety l.properties.liveness l.gates.items)
-      → Fails e (resolve l.header (raw_of l symbols))
+      → Fails NoMemory e (placed_lists l.places (length l.inputs.items + length l.latches.items + length l.gates.items) l.latches.items l.properties.safety l.properties.liveness l.gates.items)
+      → Fails NoMemory e (resolve l.header (raw_of l symbols))
   fails_by_places e fails = placing_fails l.header (raw_of l symbols) e _ by_places fails
 
   module _ (resolved : is_resolved (raw_of l symbols) ≡ true) where
@@ -128,7 +129,7 @@ module _ (l : RawLists) (symbols : List RawSymbol) (read : AreRead l symbols) wh
         reads_are (raw_of l symbols) read.apart resolved (1 + l.header.inputs + l.header.latches) (omega (arith, read.counted.inputs, read.counted.latches))
 
     answered : (sizes : List ℕ) → sizes ≡ l.properties.sizes → (result : Result Netlist ReadError) → IfOk result (λ c. IsOrdered l.header sizes (by_position (raw_of l symbols)) l.names c)
-        → IfErr result (λ e. Fails e (order_or_cycle (ordered (placed_reads l.header (by_position (raw_of l symbols)))))) → Gives (λ c. c) result (resolve l.header (raw_of l symbols))
+        → IfErr result (λ e. Fails NoMemory e (order_or_cycle (ordered (placed_reads l.header (by_position (raw_of l symbols)))))) → Gives NoMemory (λ c. c) result (resolve l.header (raw_of l symbols))
     answered sizes same (Ok c) ok err =
         resolved_is l.header (raw_of l symbols) (Some ok.order) resolved (ap ordered (sym reads_same) ∙ ok.computed)
         ∙ ap (λ (d : Netlist). Ok d) (sym (ok.arranged.circuit
@@ -139,9 +140,9 @@ module _ (l : RawLists) (symbols : List RawSymbol) (read : AreRead l symbols) wh
   -- the circuit in the order found, or the fault of the order, is what the raw circuit gives where all that it reads is defined
   pub answers : (sizes : List ℕ) → sizes ≡ l.properties.sizes → (p : PlacedLists)
       → placed_lists l.places (length l.inputs.items + length l.latches.items + length l.gates.items) l.latches.items l.properties.safety l.properties.liveness l.gates.items ≡ Ok p
-      → (result : Result Netlist ReadError) → IfOk result (λ c. IsOrdered l.header sizes p l.names c) → IfErr result (λ e. Fails e (order_or_cycle (ordered (placed_reads l.header p))))
-      → Gives (λ c. c) result (resolve l.header (raw_of l symbols))
+      → (result : Result Netlist ReadError) → IfOk result (λ c. IsOrdered l.header sizes p l.names c) → IfErr result (λ e. Fails NoMemory e (order_or_cycle (ordered (placed_reads l.header p))))
+      → Gives NoMemory (λ c. c) result (resolve l.header (raw_of l symbols))
   answers sizes same p placed result ok err =
       let parts = known_value (is_resolved (raw_of l symbols)) (by_position (raw_of l symbols)) p (sym by_places ∙ placed) in
       answered parts.0 sizes same result (subst (λ (q : PlacedLists). IfOk result (λ c. IsOrdered l.header sizes q l.names c)) (sym parts.1) ok)
-      (subst (λ (q : PlacedLists). IfErr result (λ e. Fails e (order_or_cycle (ordered (placed_reads l.header q))))) (sym parts.1) err)
+      (subst (λ (q : PlacedLists). IfErr result (λ e. Fails NoMemory e (order_or_cycle (ordered (placed_reads l.header q))))) (sym parts.1) err)

@@ -4,15 +4,15 @@ use Rattle.aig_graph.specs.Circuits.{Netlist}
 use Rattle.file_words.specs.declared.fault.ReadError.{ReadError}
 use Rattle.file_words.specs.declared.fault.ReadError.TheVariants.{NoMemory}
 use Rattle.file_words.specs.Cuts.{HasNoNewline, Cuts}
+use Rattle.file_words.specs.Answering.{◌>>=◌, Fails, Gives}
 use Rattle.file_words.proofs.DecimalLaws.{lacks-append}
 use Rattle.ascii_file.specs.declared.header.Header.{Header}
 use Rattle.ascii_file.specs.Headers.{header_of}
 use Rattle.ascii_file.specs.Raw.{Raw, nothing_yet}
-use Rattle.ascii_file.specs.Reading.{◌>>=◌, AtHeader, InItems, read_header, take_line, take_lines, finish, read_bytes}
+use Rattle.ascii_file.specs.Reading.{AtHeader, InItems, read_header, take_line, take_lines, finish, read_bytes}
 use Rattle.ascii_file.specs.Pieces.{ended_lines, open_line, fed, with_last_line}
-use Rattle.ascii_file.specs.Answering.{Fails, Gives}
 use Rattle.ascii_file.proofs.PieceLaws.{part_taken, end_taken, the_pieces_law}
-use Rattle.ascii_file.proofs.AnsweringLaws.{Gives-same}
+use Rattle.file_words.proofs.AnsweringLaws.{Fails-where, Fails-with, Gives-same}
 use Rattle.reader_parts.specs.declared.header.HeaderLine.{HeaderLine}
 use Rattle.reader_parts.specs.Header.{header_row, header_with}
 use Rattle.aag_text.specs.declared.sections.Sections.{Sections}
@@ -22,11 +22,6 @@ use Rattle.aag_text.specs.Beginning.{Awaits}
 use Rattle.aag_text.specs.Standing.{StandAt, Hold}
 use Rattle.aag_text.proofs.FeedingLaws.{fails_stays, fed-newline, behind_line}
 use Rattle.aag_text.proofs.FinishingLaws.{read-closed, Closes}
-
--- an error that is the reading's
-pub fails_as : {Y : Type 0} (e : ReadError) (r : Result Y ReadError) → r ≡ Err e → Fails e r
-fails_as NoMemory r is = tt
-fails_as e r is = is
 
 -- ---- bytes of one line
 
@@ -70,8 +65,8 @@ module _ (line : HeaderLine) (bytes part rest piece : List ℕ) (cuts : Cuts 10 
   led r is = fed-first (bytes ++ part) awaits.one_line ∙ ap (λ (x : Result Header ReadError). x >>= λ h. Ok (InItems h nothing_yet (length (bytes ++ part) + 1))) (header_is line (bytes ++ part) r awaits is)
 
   -- a fault of the header, once its line has ended, is one of the bytes
-  pub header_fails : (e : ReadError) → IsHeaderOf line (Err e) → Fails e (fed (bytes ++ piece))
-  header_fails e is = subst (λ (xs : List ℕ). Fails e (fed xs)) whole_piece (fails_stays e to_line_end rest (fails_as e (fed to_line_end) (led (Err e) is)))
+  pub header_fails : (e : ReadError) → IsHeaderOf line (Err e) → Fails NoMemory e (fed (bytes ++ piece))
+  header_fails e is = subst (λ (xs : List ℕ). Fails NoMemory e (fed xs)) whole_piece (fails_stays e to_line_end rest (Fails-with e (fed to_line_end) (led (Err e) is)))
 
   -- a header that is read, once its line has ended, leaves the items where its line leads
   pub items_begin : (h : Header) (items : Items) (end at : ℕ) → IsHeaderOf line (Ok h) → length (bytes ++ piece) ≡ end → at ≡ end - length rest → items.at ≡ at → StandAt items.sections items.line at (InItems h nothing_yet at) []
@@ -107,17 +102,16 @@ module _ (line : HeaderLine) (bytes : List ℕ) (awaits : Awaits line bytes) whe
   read_as r is = finish-first bytes awaits.one_line ∙ ap (λ (x : Result Header ReadError). (x >>= λ h. Ok (InItems h nothing_yet (length bytes + 1))) >>= finish (length bytes)) (header_is line bytes r awaits is)
 
   -- a file whose first line, which no newline ends, is no header has that fault
-  pub first_fails : (e : ReadError) → IsHeaderOf line (Err e) → Fails e (read_bytes bytes)
-  first_fails e is = fails_as e (read_bytes bytes) (read_as (Err e) is)
+  pub first_fails : (e : ReadError) → IsHeaderOf line (Err e) → Fails NoMemory e (read_bytes bytes)
+  first_fails e is = Fails-with e (read_bytes bytes) (read_as (Err e) is)
 
   -- a file whose header no newline ends gives what the end gives after it
   pub first_closes : {X : Type 0} (view : X → Netlist) (r : Result X ReadError) (h : Header) (m : Sections) (len : ℕ) → IsHeaderOf line (Ok h) → len ≡ length bytes → m.header ≡ h → raw_of m [] ≡ nothing_yet → IsAt m []
-      → Closes len view r m → Gives view r (read_bytes bytes)
+      → Closes len view r m → Gives NoMemory view r (read_bytes bytes)
   first_closes view r h m len is counts header raw stands closes =
-      Gives-same view r _ _ (ap₂ (λ (g : Header) (x : Raw). finish len (InItems g x (length bytes + 1))) header raw ∙ ap (λ (n : ℕ). finish n (InItems h nothing_yet (length bytes + 1))) counts ∙ sym (read_as (Ok h) is))
+      Gives-same NoMemory view r _ _ (ap₂ (λ (g : Header) (x : Raw). finish len (InItems g x (length bytes + 1))) header raw ∙ ap (λ (n : ℕ). finish n (InItems h nothing_yet (length bytes + 1))) counts ∙ sym (read_as (Ok h) is))
       (closes [] false (length bytes + 1) stands (λ e. absurd (cc)))
 
 -- a fault of what was fed is the file's
-pub failed_reads : (e : ReadError) (bytes : List ℕ) → Fails e (fed bytes) → Fails e (read_bytes bytes)
-failed_reads NoMemory bytes fails = tt
-failed_reads e bytes fails = (the_pieces_law bytes []).fault e fails
+pub failed_reads : (e : ReadError) (bytes : List ℕ) → Fails NoMemory e (fed bytes) → Fails NoMemory e (read_bytes bytes)
+failed_reads e bytes fails = Fails-where e (fed bytes) (read_bytes bytes) ((the_pieces_law bytes []).fault e) fails

@@ -3,11 +3,11 @@ use Rattle.std.proofs.Common.{ℕ, ◌≡◌, ◌+◌, ◌-◌, Bool, List, [], 
 use Rattle.file_words.specs.declared.fault.ReadError.{ReadError}
 use Rattle.file_words.specs.declared.fault.ReadError.TheVariants.{NoMemory}
 use Rattle.file_words.specs.Cuts.{HasNoNewline, Cuts}
-use Rattle.ascii_file.specs.Reading.{◌>>=◌, State, AtHeader, is_complete, take_line, take_lines}
+use Rattle.file_words.specs.Answering.{◌>>=◌, Fails}
+use Rattle.ascii_file.specs.Reading.{State, AtHeader, is_complete, take_line, take_lines}
 use Rattle.ascii_file.specs.Pieces.{ended_lines, open_line, fed}
-use Rattle.ascii_file.specs.Answering.{Fails}
 use Rattle.ascii_file.proofs.PieceLaws.{part_taken, end_taken, take_lines-append, the_pieces_law}
-use Rattle.ascii_file.proofs.AnsweringLaws.{Fails-same}
+use Rattle.file_words.proofs.AnsweringLaws.{Fails-where, Fails-same}
 use Rattle.aag_text.specs.declared.sections.Sections.{Sections}
 use Rattle.aag_text.specs.Taking.{raw_of}
 use Rattle.aag_text.specs.declared.lines.OpenLine.{OpenLine}
@@ -18,9 +18,8 @@ use Rattle.aag_text.specs.Standing.{state_of, StandAt, Hold, HoldBefore}
 -- ---- the bytes alone
 
 -- a fault of what was fed stays
-pub fails_stays : (e : ReadError) (bytes more : List ℕ) → Fails e (fed bytes) → Fails e (fed (bytes ++ more))
-fails_stays NoMemory bytes more fails = tt
-fails_stays e bytes more fails = (the_pieces_law bytes more).stays e fails
+pub fails_stays : (e : ReadError) (bytes more : List ℕ) → Fails NoMemory e (fed bytes) → Fails NoMemory e (fed (bytes ++ more))
+fails_stays e bytes more fails = Fails-where e (fed bytes) (fed (bytes ++ more)) ((the_pieces_law bytes more).stays e) fails
 
 -- a part without a newline ends no line
 pub fed-part : (part bytes : List ℕ) → HasNoNewline part → fed (bytes ++ part) ≡ fed bytes
@@ -73,7 +72,7 @@ part_held items new bytes part one_line same_kind goes_on hold =
 
 module _ (items : Items) (bytes : List ℕ) (hold : Hold items bytes) where
   -- a fault of the open line is one of the bytes once its newline has come
-  pub newline_fails : (e : ReadError) → ((state : State) (line : List ℕ) → StandAt items.sections items.line items.at state line → Fails e (take_line state line)) → Fails e (fed (bytes ++ 10 ∷ []))
+  pub newline_fails : (e : ReadError) → ((state : State) (line : List ℕ) → StandAt items.sections items.line items.at state line → Fails NoMemory e (take_line state line)) → Fails NoMemory e (fed (bytes ++ 10 ∷ []))
   newline_fails e fails = Fails-same e _ _ (sym (fed-newline bytes hold.state hold.leads)) (fails hold.state (open_line bytes) hold.stands)
 
   -- an open line that is taken once its newline has come leaves the new items after it
@@ -107,9 +106,9 @@ module _ (items : Items) (new_line : OpenLine) (part rest left bytes : List ℕ)
   part_taken_in = part_held items new_line before.taken part cuts.clean same_kind goes_on before.hold
 
   -- a fault of the next line of what is left is one of the bytes
-  pub line_fails_in : (e : ReadError) → ((state : State) (line : List ℕ) → StandAt items.sections new_line items.at state line → Fails e (take_line state line)) → Fails e (fed bytes)
+  pub line_fails_in : (e : ReadError) → ((state : State) (line : List ℕ) → StandAt items.sections new_line items.at state line → Fails NoMemory e (take_line state line)) → Fails NoMemory e (fed bytes)
   line_fails_in e fails =
-      subst (λ (xs : List ℕ). Fails e (fed xs)) (behind_line before.taken part rest left bytes cuts before.parts)
+      subst (λ (xs : List ℕ). Fails NoMemory e (fed xs)) (behind_line before.taken part rest left bytes cuts before.parts)
       (fails_stays e ((before.taken ++ part) ++ 10 ∷ []) rest (newline_fails with_part (before.taken ++ part) part_taken_in e fails))
 
   -- a next line that is taken leaves the new items before the rest

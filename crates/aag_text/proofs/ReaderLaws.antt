@@ -1,12 +1,12 @@
 -- A reader by its phase.
 use Rattle.std.proofs.Common.{ℕ, ◌≡◌, ◌⊎◌, inl, inr, IfErr, List, Result, Ok, Err, IsOk, refl, sym, subst}
 use Rattle.file_words.specs.declared.fault.ReadError.{ReadError}
+use Rattle.file_words.specs.Answering.{Fails, Gives}
 use Rattle.aig_graph.specs.Circuits.{Netlist}
 use Rattle.file_words.specs.declared.fault.ReadError.TheVariants.{NoMemory}
 use Rattle.ascii_file.specs.Reading.{read_bytes, IsFaultOf}
 use Rattle.ascii_file.proofs.FaultLaws.{fault_of_bytes}
 use Rattle.ascii_file.specs.Pieces.{fed}
-use Rattle.ascii_file.specs.Answering.{Fails, Gives}
 use Rattle.aag_text.specs.declared.reader.Phase.{Phase}
 use Rattle.aag_text.specs.declared.reader.Phase.TheVariants.{Header, Items, Failed}
 use Rattle.aag_text.specs.Standing.{Follows}
@@ -29,11 +29,11 @@ follows_more P Q (Err e) read more follows = follows
 
 -- ---- a whole file
 
-fails_by : (bytes : List ℕ) (e : ReadError) → Fails e (read_bytes bytes) → (e ≡ NoMemory) ⊎ IsFaultOf bytes e
-fails_by bytes NoMemory fails = inl refl
-fails_by bytes e fails = inr (record { read = fails; of_bytes = fault_of_bytes bytes e fails })
+fails_by : (bytes : List ℕ) (e : ReadError) → Fails NoMemory e (read_bytes bytes) → (e ≡ NoMemory) ⊎ IsFaultOf bytes e
+fails_by bytes e (inl none) = inl none
+fails_by bytes e (inr is) = inr (record { read = is; of_bytes = fault_of_bytes bytes e is })
 
 -- an error of a reader's answer is want of memory or a fault of the bytes
-pub gives_fault : {X : Type 0} (view : X → Netlist) (r : Result X ReadError) (bytes : List ℕ) → Gives view r (read_bytes bytes) → IfErr r (λ e. (e ≡ NoMemory) ⊎ IsFaultOf bytes e)
+pub gives_fault : {X : Type 0} (view : X → Netlist) (r : Result X ReadError) (bytes : List ℕ) → Gives NoMemory view r (read_bytes bytes) → IfErr r (λ e. (e ≡ NoMemory) ⊎ IsFaultOf bytes e)
 gives_fault view (Ok x) bytes gives = tt
 gives_fault view (Err e) bytes gives = fails_by bytes e gives

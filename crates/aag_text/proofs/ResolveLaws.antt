@@ -15,7 +15,8 @@ use Rattle.aig_graph.specs.Circuits.{Netlist}
 use Rattle.gate_order.specs.declared.reads.Reads.{Reads}
 use Rattle.gate_order.specs.Order.{IsOrder, ordered}
 use Rattle.file_words.specs.declared.fault.ReadError.{ReadError}
-use Rattle.file_words.specs.declared.fault.ReadError.TheVariants.{Undefined, Cycle}
+use Rattle.file_words.specs.declared.fault.ReadError.TheVariants.{Undefined, Cycle, NoMemory}
+use Rattle.file_words.specs.Answering.{◌>>=◌, Fails}
 use Rattle.reader_parts.specs.declared.places.Places.{Places}
 use Rattle.reader_parts.specs.Places.{place_of}
 use Rattle.ascii_file.specs.declared.header.Header.{Header}
@@ -25,9 +26,8 @@ use Rattle.ascii_file.specs.Raw.{Raw, defined}
 use Rattle.ascii_file.specs.Files.{DefinesApart}
 use Rattle.ascii_file.specs.Meaning as meaning
 use Rattle.ascii_file.specs.Meaning.{gate_place, gate_reads, with_gates_at, in_order, literal_in, reset_of, props_of, symbols_of, circuit_of}
-use Rattle.ascii_file.specs.Reading.{◌>>=◌, is_known_among, is_resolved, circuit_in_order, resolve}
-use Rattle.ascii_file.specs.Answering.{Fails}
-use Rattle.ascii_file.proofs.AnsweringLaws.{Fails-same, Fails-err, Fails-ok}
+use Rattle.ascii_file.specs.Reading.{is_known_among, is_resolved, circuit_in_order, resolve}
+use Rattle.file_words.proofs.AnsweringLaws.{Fails-same, Fails-err, Fails-ok}
 use Rattle.aag_text.specs.Numbering.{is_placed, placed, if_known, placed_lists, PlacedLists}
 use Rattle.aag_text.specs.Arranging.{AreRanks, gate_read, reads_of, moved, moved_latch, moved_gate, no_gate, order_or_cycle}
 use Rattle.aag_text.specs.Resolving.{arranged}
@@ -140,12 +140,12 @@ placed_is raw places count same are =
     ∙ ap (λ (b : Bool). if_known b (by_position raw)) (sym (resolved_parts raw))
 
 -- what isn't known fails both
-unknown_fails : {A B : Type 0} (e : ReadError) (known : Bool) (x : A) (read : Result B ReadError) → Fails e (if_known known x) → Fails e (cond known read (Err Undefined))
+unknown_fails : {A B : Type 0} (e : ReadError) (known : Bool) (x : A) (read : Result B ReadError) → Fails NoMemory e (if_known known x) → Fails NoMemory e (cond known read (Err Undefined))
 unknown_fails e true x read fails = Fails-ok e x read fails
 unknown_fails e false x read fails = Fails-err e Undefined (Err Undefined) (Err Undefined) refl refl fails
 
 -- a fault of the lists by places is that of the raw circuit
-pub placing_fails : (h : Header) (raw : Raw) (e : ReadError) (read : Result PlacedLists ReadError) → read ≡ if_known (is_resolved raw) (by_position raw) → Fails e read → Fails e (resolve h raw)
+pub placing_fails : (h : Header) (raw : Raw) (e : ReadError) (read : Result PlacedLists ReadError) → read ≡ if_known (is_resolved raw) (by_position raw) → Fails NoMemory e read → Fails NoMemory e (resolve h raw)
 placing_fails h raw e read is fails = unknown_fails e (is_resolved raw) (by_position raw) (circuit_in_order h (in_order raw)) (Fails-same e read (if_known (is_resolved raw) (by_position raw)) is fails)
 
 -- what is known passes the test, and is the value
@@ -312,11 +312,11 @@ circuit_is h raw apart resolved inputs latches order ranks is are =
 pub resolved_is : (h : Header) (raw : Raw) (found : Option (List ℕ)) → is_resolved raw ≡ true → ordered (gate_reads raw) ≡ found → resolve h raw ≡ circuit_in_order h (option_map (with_gates_at raw) found)
 resolved_is h raw found resolved is = cond-true _ _ _ resolved ∙ ap (λ (o : Option (List ℕ)). circuit_in_order h (option_map (with_gates_at raw) o)) is
 
-cycle_fails : (h : Header) (raw : Raw) (e : ReadError) (o : Option (List ℕ)) → Fails e (order_or_cycle o) → Fails e (circuit_in_order h (option_map (with_gates_at raw) o))
+cycle_fails : (h : Header) (raw : Raw) (e : ReadError) (o : Option (List ℕ)) → Fails NoMemory e (order_or_cycle o) → Fails NoMemory e (circuit_in_order h (option_map (with_gates_at raw) o))
 cycle_fails h raw e None fails = Fails-err e Cycle (order_or_cycle None) (circuit_in_order h None) refl refl fails
 cycle_fails h raw e (Some order) fails = Fails-ok e order (circuit_in_order h (Some (with_gates_at raw order))) fails
 
 -- an error of the order
-pub ordering_fails : (h : Header) (raw : Raw) (reads : List Reads) (e : ReadError) → is_resolved raw ≡ true → reads ≡ gate_reads raw → Fails e (order_or_cycle (ordered reads)) → Fails e (resolve h raw)
+pub ordering_fails : (h : Header) (raw : Raw) (reads : List Reads) (e : ReadError) → is_resolved raw ≡ true → reads ≡ gate_reads raw → Fails NoMemory e (order_or_cycle (ordered reads)) → Fails NoMemory e (resolve h raw)
 ordering_fails h raw reads e resolved same fails =
     Fails-same e (circuit_in_order h (option_map (with_gates_at raw) (ordered reads))) (resolve h raw) (sym (resolved_is h raw (ordered reads) resolved (ap ordered (sym same)))) (cycle_fails h raw e (ordered reads) fails)

@@ -5,14 +5,14 @@ use Rattle.std.proofs.lemmas.List.{length_push}
 use Rattle.variable_tables.specs.Marking.{has}
 use Rattle.aig_graph.specs.Graph.{variable}
 use Rattle.file_words.specs.declared.fault.ReadError.{ReadError}
-use Rattle.file_words.specs.declared.fault.ReadError.TheVariants.{DefinedTwice}
+use Rattle.file_words.specs.declared.fault.ReadError.TheVariants.{DefinedTwice, NoMemory}
+use Rattle.file_words.specs.Answering.{◌>>=◌, Fails}
 use Rattle.ascii_file.specs.declared.header.Header.{Header}
 use Rattle.ascii_file.specs.Raw.{Raw, RawSymbol, defined}
 use Rattle.ascii_file.specs.Items.{Item, section_of}
-use Rattle.ascii_file.specs.Reading.{◌>>=◌, unless, past_greatest, is_undefinable, checks, definition_checks, with_item, take_item, next_section}
-use Rattle.ascii_file.specs.Answering.{Fails}
+use Rattle.ascii_file.specs.Reading.{unless, past_greatest, is_undefinable, checks, definition_checks, with_item, take_item, next_section}
 use Rattle.ascii_file.proofs.CheckLaws.{Passes, unless_ok, unless_passes, Fits, passes_where_fits}
-use Rattle.ascii_file.proofs.AnsweringLaws.{Fails-same, Fails-bind, Fails-is}
+use Rattle.file_words.proofs.AnsweringLaws.{Fails-same, Fails-bind, Fails-is}
 use Rattle.reader_parts.specs.Names.{AreNamesOf}
 use Rattle.aag_text.specs.declared.sections.Sections.{Sections}
 use Rattle.aag_text.specs.Filling.{IsRead}
@@ -27,7 +27,7 @@ unless-bind ((true, fault) ∷ more) value = refl
 unless-bind ((false, fault) ∷ more) value = unless-bind more value
 
 -- a fault of the checks is one of what follows them
-pub checks-fail : {Y : Type 0} (e : ReadError) (list : List (Bool × ReadError)) (value : Result Y ReadError) → Err e ≡ unless list (Ok (tt {0})) → Fails e (unless list value)
+pub checks-fail : {Y : Type 0} (e : ReadError) (list : List (Bool × ReadError)) (value : Result Y ReadError) → Err e ≡ unless list (Ok (tt {0})) → Fails NoMemory e (unless list value)
 checks-fail e list value fails = Fails-same e _ _ (sym (unless-bind list value)) (Fails-bind e (unless list (Ok (tt {0}))) (λ _. value) (Fails-is e (unless list (Ok (tt {0}))) fails))
 
 -- ---- the symbols don't matter for the section
@@ -75,7 +75,7 @@ module _ (old new : Sections) (symbols : List RawSymbol) (at : ℕ) (fault : Rea
 -- ---- a fault
 
 -- a fault of an item's checks is that of taking it
-pub faulty : (h : Header) (raw : Raw) (at : ℕ) (fault e : ReadError) (item : Item) (found : Option Item) → found ≡ Some item → Fails e (unless (checks h raw at item) (Ok (with_item raw item))) → Fails e (take_item h raw at fault found)
+pub faulty : (h : Header) (raw : Raw) (at : ℕ) (fault e : ReadError) (item : Item) (found : Option Item) → found ≡ Some item → Fails NoMemory e (unless (checks h raw at item) (Ok (with_item raw item))) → Fails NoMemory e (take_item h raw at fault found)
 faulty h raw at fault e item found is fails = Fails-same e _ _ (ap (take_item h raw at fault) (sym is)) fails
 
 -- ---- the checks of a definition

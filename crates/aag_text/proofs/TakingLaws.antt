@@ -1,14 +1,15 @@
 -- A line more.
 use Rattle.std.proofs.Common.{ℕ, ◌≡◌, ◌+◌, Bool, true, false, List, [], length, Result, Ok, cond, ◌&&◌, Option, Some, None, ◌∷◌, refl, ap, ap₂, sym, ◌∙◌, subst}
 use Rattle.file_words.specs.declared.fault.ReadError.{ReadError}
+use Rattle.file_words.specs.declared.fault.ReadError.TheVariants.{NoMemory}
+use Rattle.file_words.specs.Answering.{◌>>=◌, Fails}
 use Rattle.ascii_file.specs.declared.header.Header.{Header}
 use Rattle.ascii_file.specs.declared.raw.Section.{Section}
 use Rattle.ascii_file.specs.Raw.{Raw, RawSymbol}
 use Rattle.ascii_file.specs.declared.raw.SymbolKind.{SymbolKind}
 use Rattle.ascii_file.specs.Items.{Item, InputItem, LatchItem, SafetyItem, SizeItem, LivenessItem, GateItem, SymbolItem, begins_comment, symbol_of, kind_of}
-use Rattle.ascii_file.specs.Reading.{◌>>=◌, State, InItems, InComment, is_complete, is_symbols, next_section, read_line, take_line}
-use Rattle.ascii_file.specs.Answering.{Fails}
-use Rattle.ascii_file.proofs.AnsweringLaws.{Fails-same, Fails-bind}
+use Rattle.ascii_file.specs.Reading.{State, InItems, InComment, is_complete, is_symbols, next_section, read_line, take_line}
+use Rattle.file_words.proofs.AnsweringLaws.{Fails-same, Fails-bind}
 use Rattle.reader_parts.specs.declared.symbols.SymbolText.TheVariants as text
 use Rattle.reader_parts.specs.Symbols.{unnamed, text_without, text_of, text_of_item}
 use Rattle.aag_text.specs.declared.sections.Sections.{Sections}
@@ -91,7 +92,7 @@ module _ (m : Sections) (symbols : List RawSymbol) (at : ℕ) (bytes : List ℕ)
   line_read = ap (λ (b : Bool). cond {A = Result State ReadError} b (Ok (InComment m.header (raw_of m symbols))) (read_line m.header (raw_of m symbols) at bytes >>= λ more. Ok (InItems m.header more (at + length bytes + 1)))) item
 
   -- a fault of an item's line is one of taking the line
-  pub line_fails : (e : ReadError) → Fails e (read_line m.header (raw_of m symbols) at bytes) → Fails e (take_line (InItems m.header (raw_of m symbols) at) bytes)
+  pub line_fails : (e : ReadError) → Fails NoMemory e (read_line m.header (raw_of m symbols) at bytes) → Fails NoMemory e (take_line (InItems m.header (raw_of m symbols) at) bytes)
   line_fails e fails = Fails-same e _ _ (sym line_read) (Fails-bind e (read_line m.header (raw_of m symbols) at bytes) (λ more. Ok (InItems m.header more (at + length bytes + 1))) fails)
 
   -- an item's line that goes on as reading does leaves the sections at the next line

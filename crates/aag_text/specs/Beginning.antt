@@ -1,9 +1,10 @@
 -- A file whose first line is open.
 use Rattle.std.specs.Prelude.{ℕ, ◌≡◌, List, ◌++◌, Option, Some, None, Result, Ok, Err, codes}
 use Rattle.file_words.specs.declared.fault.ReadError.{ReadError}
+use Rattle.file_words.specs.declared.fault.ReadError.TheVariants.{NoMemory}
 use Rattle.file_words.specs.Cuts.{HasNoNewline}
+use Rattle.file_words.specs.Answering.{Fails}
 use Rattle.ascii_file.specs.Pieces.{fed}
-use Rattle.ascii_file.specs.Answering.{Fails}
 use Rattle.reader_parts.specs.declared.header.HeaderLine.{HeaderLine}
 use Rattle.reader_parts.specs.Header.{header_row, header_with}
 use Rattle.aag_text.specs.declared.items.Items.{Items}
@@ -18,4 +19,4 @@ pub record Awaits (line : HeaderLine) (bytes : List ℕ) : Type 0 where
 abbrev pub Begins : HeaderLine → List ℕ → Result (Option Items) ReadError → Type 0
 Begins line bytes (Ok None) = Awaits line bytes
 Begins line bytes (Ok (Some items)) = Hold items bytes
-Begins line bytes (Err error) = Fails error (fed bytes)
+Begins line bytes (Err error) = Fails NoMemory error (fed bytes)

@@ -8,10 +8,10 @@ use Rattle.reader_parts.specs.declared.places.Places.{Places}
 use Rattle.reader_parts.specs.Places.{place_of}
 use Rattle.file_words.specs.declared.fault.ReadError.{ReadError}
 use Rattle.file_words.specs.declared.fault.ReadError.TheVariants.{Undefined}
+use Rattle.file_words.specs.Answering.{◌>>=◌}
 use Rattle.ascii_file.specs.declared.raw.RawGate.{RawGate}
 use Rattle.ascii_file.specs.declared.raw.RawLatch.{RawLatch}
 use Rattle.ascii_file.specs.Meaning.{reset_of}
-use Rattle.ascii_file.specs.Reading.{◌>>=◌}
 
 -- whether a place is there, and below the number of places
 abbrev pub has_place : ℕ → Option ℕ → Bool

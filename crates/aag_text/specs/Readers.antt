@@ -2,9 +2,9 @@
 use Rattle.std.specs.Prelude.{ℕ, ◌≡◌, List, length, Result, Ok, Err}
 use Rattle.aig_graph.specs.Circuits.{Netlist}
 use Rattle.file_words.specs.declared.fault.ReadError.{ReadError}
-use Rattle.file_words.specs.declared.fault.ReadError.TheVariants.{BadHeader}
+use Rattle.file_words.specs.declared.fault.ReadError.TheVariants.{BadHeader, NoMemory}
+use Rattle.file_words.specs.Answering.{Fails}
 use Rattle.ascii_file.specs.Pieces.{fed}
-use Rattle.ascii_file.specs.Answering.{Fails}
 use Rattle.aag_text.specs.declared.reader.AagReader.{AagReader}
 use Rattle.aag_text.specs.declared.reader.Phase.{Phase}
 use Rattle.aag_text.specs.declared.reader.Phase.TheVariants.{Header, Items, Failed}
@@ -21,7 +21,7 @@ PhaseReads (Failed fault) len bytes = ⊥
 abbrev pub PhaseHolds : Phase → ℕ → List ℕ → Type 0
 PhaseHolds (Header line) len bytes = PhaseReads (Header line) len bytes
 PhaseHolds (Items items) len bytes = PhaseReads (Items items) len bytes
-PhaseHolds (Failed fault) len bytes = Fails fault (fed bytes)
+PhaseHolds (Failed fault) len bytes = Fails NoMemory fault (fed bytes)
 
 abbrev pub Reads : AagReader → List ℕ → Type 0
 Reads reader bytes = PhaseReads reader.phase reader.taken bytes

@@ -1,10 +1,11 @@
 -- Where the items stand that have been read.
 use Rattle.std.specs.Prelude.{ℕ, ◌≡◌, ◌+◌, Bool, true, false, List, [], ◌++◌, length, Result, Ok, Err}
 use Rattle.file_words.specs.declared.fault.ReadError.{ReadError}
+use Rattle.file_words.specs.declared.fault.ReadError.TheVariants.{NoMemory}
+use Rattle.file_words.specs.Answering.{Fails}
 use Rattle.ascii_file.specs.Raw.{RawSymbol}
 use Rattle.ascii_file.specs.Reading.{State, InItems, InComment, is_complete, take_line}
 use Rattle.ascii_file.specs.Pieces.{open_line, fed}
-use Rattle.ascii_file.specs.Answering.{Fails}
 use Rattle.aag_text.specs.declared.sections.Sections.{Sections}
 use Rattle.aag_text.specs.Taking.{raw_of, IsAt}
 use Rattle.aag_text.specs.declared.lines.OpenLine.{OpenLine}
@@ -39,12 +40,12 @@ pub record HoldBefore (items : Items) (left bytes : List ℕ) : Type 0 where
 -- What a function returned: Ok where P holds, or the fault that reading gives, unless memory ran out.
 abbrev pub Follows : {X Y : Type 0} → Type 0 → Result X ReadError → Result Y ReadError → Type 0
 Follows P (Ok x) read = P
-Follows P (Err error) read = Fails error read
+Follows P (Err error) read = Fails NoMemory error read
 
 -- What a function returned is what reading gives, and Stands holds of that; unless memory ran out.
 abbrev pub Leads : {X Y : Type 0} → (Y → Type 0) → Result X ReadError → Result Y ReadError → Type 0
 Leads {Y} Stands (Ok x) read = (y : Y) × (read ≡ Ok y) × Stands y
-Leads Stands (Err error) read = Fails error read
+Leads Stands (Err error) read = Fails NoMemory error read
 
 -- What taking the open line returned, whose bytes are these: the state after it, at which the new items stand with no byte of the next
 -- line; or its fault.

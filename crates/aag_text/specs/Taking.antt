@@ -1,8 +1,9 @@
 -- The sections as they are taken, item after item.
 use Rattle.std.specs.Prelude.{ℕ, ◌≡◌, ◌==◌, List, Result, Ok, Err, position}
 use Rattle.file_words.specs.declared.fault.ReadError.{ReadError}
+use Rattle.file_words.specs.declared.fault.ReadError.TheVariants.{NoMemory}
+use Rattle.file_words.specs.Answering.{Fails}
 use Rattle.ascii_file.specs.Raw.{Raw, RawSymbol, defined}
-use Rattle.ascii_file.specs.Answering.{Fails}
 use Rattle.reader_parts.specs.declared.places.Places.{Places}
 use Rattle.reader_parts.specs.Places.{place_of}
 use Rattle.reader_parts.specs.Names.{AreNamesOf}
@@ -41,4 +42,4 @@ pub record GoesOn (old new : Sections) (read : Result Raw ReadError) : Type 0 wh
 -- What taking an item returned is what reading gives, unless memory ran out.
 abbrev pub Takes : Sections → Sections → Result (Unit {0}) ReadError → Result Raw ReadError → Type 0
 Takes old new (Ok _) read = GoesOn old new read
-Takes old new (Err error) read = Fails error read
+Takes old new (Err error) read = Fails NoMemory error read

@@ -4,7 +4,8 @@
 ghost use Rattle.std.specs.Prelude.{List, ◌≡◌, true};
 ghost use Rattle.ascii_file.specs.Raw.{RawSymbol};
 ghost use Rattle.ascii_file.specs.Reading as reading;
-ghost use Rattle.ascii_file.specs.Answering.{Gives};
+ghost use Rattle.file_words.specs.declared.fault.ReadError.TheVariants.{NoMemory};
+ghost use Rattle.file_words.specs.Answering.{Gives};
 ghost use Rattle.aag_text.specs.Taking.{raw_of, IsAt};
 
 mod arranging;
@@ -24,7 +25,7 @@ use std::alloc::Global;
 pub(crate) fn resolve(alloc: Global, sections: Sections) -> Result<Circuit, ReadError>
     ensures { (symbols : List RawSymbol) → IsAt sections symbols
         → reading.is_complete sections.header (raw_of sections symbols) ≡ true
-        → Gives (λ circuit. circuit) result
+        → Gives NoMemory (λ circuit. circuit) result
         (reading.resolve sections.header (raw_of sections symbols)) }
 {
     let Sections {

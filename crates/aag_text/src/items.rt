@@ -7,7 +7,8 @@
 ghost use Rattle.std.specs.Prelude.{ℕ, List, ◌≡◌, Bool, true};
 ghost use Rattle.ascii_file.specs.Raw.{RawSymbol};
 ghost use Rattle.ascii_file.specs.Reading as reading;
-ghost use Rattle.ascii_file.specs.Answering.{Gives};
+ghost use Rattle.file_words.specs.declared.fault.ReadError.TheVariants.{NoMemory};
+ghost use Rattle.file_words.specs.Answering.{Gives};
 ghost use Rattle.aag_text.specs.Taking.{raw_of, IsAt};
 ghost use Rattle.aag_text.specs.Standing.{state_of};
 
@@ -37,7 +38,8 @@ impl Items {
     ghost use Rattle.ascii_file.specs.Headers.{IsHeaderWithin};
     ghost use Rattle.ascii_file.specs.Pieces.{fed};
     ghost use Rattle.ascii_file.specs.Reading as reading;
-    ghost use Rattle.ascii_file.specs.Answering.{Gives};
+    ghost use Rattle.file_words.specs.declared.fault.ReadError.TheVariants.{NoMemory};
+    ghost use Rattle.file_words.specs.Answering.{Gives};
     ghost use Rattle.reader_parts.specs.Rows.{row_of};
     ghost use Rattle.reader_parts.specs.Open.{numbers_with};
     ghost use Rattle.reader_parts.specs.Symbols.{text_of, text_with};
@@ -81,7 +83,7 @@ impl Items {
     /// The circuit of the items, which end at the offset.
     pub(crate) fn finish(self, end: u64) -> Result<Circuit, ReadError>
         ensures { (bytes : List ℕ) → Hold self bytes → length bytes ≡ end
-            → Gives (λ circuit. circuit) result (reading.read_bytes bytes) }
+            → Gives NoMemory (λ circuit. circuit) result (reading.read_bytes bytes) }
     {
         let mut items = self;
         if items.at < end {
@@ -149,7 +151,7 @@ impl Items {
 pub(crate) fn close(alloc: Global, sections: Sections, end: u64) -> Result<Circuit, ReadError>
     ensures { (symbols : List RawSymbol) (in_comment : Bool) (at : ℕ) → IsAt sections symbols
         → (in_comment ≡ true → reading.is_complete sections.header (raw_of sections symbols) ≡ true)
-        → Gives (λ circuit. circuit) result
+        → Gives NoMemory (λ circuit. circuit) result
         (reading.finish end (state_of sections symbols in_comment at)) }
 {
     match sections.section() {

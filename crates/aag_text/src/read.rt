@@ -1,7 +1,7 @@
 ghost use Rattle.std.specs.Prelude.{ℕ, List, ◌≡◌, ◌⊎◌, ◌++◌, Ok, IfOk, IfErr};
 ghost use Rattle.file_words.specs.declared.fault.ReadError.TheVariants.{NoMemory};
 ghost use Rattle.ascii_file.specs.Reading as reading;
-ghost use Rattle.ascii_file.specs.Answering.{Gives};
+ghost use Rattle.file_words.specs.Answering.{Gives};
 ghost use Rattle.aag_text.specs.Readers.{Holds};
 
 use crate::reader::AagReader;
@@ -23,7 +23,7 @@ pub fn read_aag(alloc: Global, bytes: &[u8]) -> Result<Circuit, ReadError>
 }
 
 fn read(alloc: Global, bytes: &[u8]) -> Result<Circuit, ReadError>
-    ensures { Gives (λ circuit. circuit) result (reading.read_bytes bytes.now) }
+    ensures { Gives NoMemory (λ circuit. circuit) result (reading.read_bytes bytes.now) }
 {
     let mut reader = AagReader::new(alloc);
     let circuit = read_rest(&mut reader, bytes);
@@ -34,7 +34,7 @@ fn read(alloc: Global, bytes: &[u8]) -> Result<Circuit, ReadError>
 /// The circuit of a file that ends with these bytes.
 fn read_rest(reader: &mut AagReader, bytes: &[u8]) -> Result<Circuit, ReadError>
     ensures { (before : List ℕ) → Holds reader.old before
-        → Gives (λ circuit. circuit) result (reading.read_bytes (before ++ bytes.now)) }
+        → Gives NoMemory (λ circuit. circuit) result (reading.read_bytes (before ++ bytes.now)) }
 {
     reader.feed(bytes)?;
     reader.finish()

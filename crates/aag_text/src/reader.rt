@@ -5,7 +5,7 @@
 ghost use Rattle.std.specs.Prelude.{ℕ, List, ◌≡◌, ◌+◌, length, MatchResult};
 ghost use Rattle.file_words.specs.declared.fault.ReadError.TheVariants.{NoMemory};
 ghost use Rattle.ascii_file.specs.Reading as reading;
-ghost use Rattle.ascii_file.specs.Answering.{Gives};
+ghost use Rattle.file_words.specs.Answering.{Gives};
 ghost use Rattle.aag_text.specs.Readers.{PhaseHolds, phase_standing};
 
 use crate::header::begin;
@@ -41,7 +41,8 @@ impl AagReader {
     ghost use Rattle.file_words.specs.declared.fault.ReadError.{ReadError};
     ghost use Rattle.ascii_file.specs.Reading as reading;
     ghost use Rattle.ascii_file.specs.Pieces.{fed};
-    ghost use Rattle.ascii_file.specs.Answering.{Gives};
+    ghost use Rattle.file_words.specs.declared.fault.ReadError.TheVariants.{NoMemory};
+    ghost use Rattle.file_words.specs.Answering.{Gives};
     ghost use Rattle.aag_text.specs.Standing.{Follows};
     ghost use Rattle.aag_text.specs.Readers.{Reads, Holds, standing, after_finish};
 
@@ -87,7 +88,7 @@ impl AagReader {
     /// further call answers `BadHeader` at 0.
     pub fn finish(&mut self) -> Result<Circuit, ReadError>
         ensures gives { (bytes : List ℕ) → Holds self.old bytes
-            → Gives (λ circuit. circuit) result (reading.read_bytes bytes) }
+            → Gives NoMemory (λ circuit. circuit) result (reading.read_bytes bytes) }
         ensures after { standing self.new ≡ Err (after_finish result) }
         ensures again { (fault : ReadError) → standing self.old ≡ Err fault → result ≡ Err fault }
         ensures stays { (fault : ReadError) → standing self.old ≡ Err fault
@@ -149,7 +150,7 @@ fn joined_len(taken: u64, piece: &[u8]) -> Result<u64, ReadError>
 /// The circuit of a file of this length that has come so far.
 fn end(alloc: Global, phase: Phase, len: u64) -> Result<Circuit, ReadError>
     ensures gives { (bytes : List ℕ) → PhaseHolds phase len bytes
-        → Gives (λ circuit. circuit) result (reading.read_bytes bytes) }
+        → Gives NoMemory (λ circuit. circuit) result (reading.read_bytes bytes) }
     ensures stays { (fault : ReadError) → phase_standing phase ≡ Err fault → result ≡ Err fault }
 {
     match phase {

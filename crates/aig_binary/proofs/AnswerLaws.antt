@@ -4,10 +4,10 @@ use Rattle.std.specs.Prelude.{IsOk}
 use Rattle.std.proofs.lemmas.Bool.{lt-ltb, le-ltb, cond-true, cond-false}
 use Rattle.aig_graph.specs.Circuits.{Netlist}
 use Rattle.file_words.specs.declared.fault.ReadError.{ReadError}
-use Rattle.file_words.specs.declared.fault.ReadError.TheVariants.{BadHeader}
-use Rattle.ascii_file.specs.Reading.{◌>>=◌, read_bytes}
+use Rattle.file_words.specs.declared.fault.ReadError.TheVariants.{BadHeader, NoMemory}
+use Rattle.file_words.specs.Answering.{◌>>=◌, Gives}
+use Rattle.ascii_file.specs.Reading.{read_bytes}
 use Rattle.ascii_file.specs.Pieces.{fed}
-use Rattle.ascii_file.specs.Answering.{Gives}
 use Rattle.aag_text.specs.Standing.{Follows}
 use Rattle.binary_file.specs.Reading.{State, AtHeader, feed, read_binary}
 use Rattle.binary_reader.specs.Holding.{Answers}
@@ -15,7 +15,7 @@ use Rattle.file_words.specs.declared.spelling.Spelling.{Spelling}
 use Rattle.file_words.specs.declared.spelling.Spelling.TheVariants.{Ascii, Binary}
 use Rattle.aig_binary.specs.Spellings.{spelling_of, read_in, read_any}
 use Rattle.aig_binary.specs.Fed.{ascii_fed, binary_fed, fed_in, fed_any}
-use Rattle.ascii_file.proofs.AnsweringLaws.{Fails-bind}
+use Rattle.file_words.proofs.AnsweringLaws.{Fails-bind}
 use Rattle.aig_binary.proofs.LetterLaws.{none_short}
 
 -- a reading without a fault is none where its value is dropped
@@ -29,12 +29,12 @@ unfolding fed_any
 by_spelling bytes spelling named = ap (λ (s : Option Spelling). fed_in s bytes) named
 
 -- the answer of the ASCII reader
-pub ascii_gives : (result : Result (Unit {0}) ReadError) (bytes : List ℕ) → Follows (IsOk (fed bytes)) result (fed bytes) → Gives (λ u. u) result (ascii_fed bytes)
+pub ascii_gives : (result : Result (Unit {0}) ReadError) (bytes : List ℕ) → Follows (IsOk (fed bytes)) result (fed bytes) → Gives NoMemory (λ u. u) result (ascii_fed bytes)
 ascii_gives (Ok u) bytes follows = ok_then (fed bytes) follows
 ascii_gives (Err fault) bytes follows = Fails-bind fault (fed bytes) (λ state. Ok tt) follows
 
 -- the answer of the binary reader
-pub binary_gives : (result : Result (Unit {0}) ReadError) (bytes : List ℕ) → Answers result bytes → Gives (λ u. u) result (binary_fed bytes)
+pub binary_gives : (result : Result (Unit {0}) ReadError) (bytes : List ℕ) → Answers result bytes → Gives NoMemory (λ u. u) result (binary_fed bytes)
 binary_gives (Ok u) bytes answers = ap (λ (r : Result State ReadError). r >>= λ state. Ok tt) answers.1
 binary_gives (Err fault) bytes answers = Fails-bind fault (feed (AtHeader []) bytes) (λ state. Ok tt) answers
 
@@ -52,17 +52,17 @@ pub fed_neither : (bytes : List ℕ) → spelling_of bytes ≡ None → 2 < leng
 fed_neither bytes neither many = by_spelling bytes None neither ∙ cond-false (nat_lt (length bytes) 3) (Ok tt) (Err (BadHeader 0)) (le-ltb (length bytes) 3 (omega (arith, many)))
 
 -- the answers of the readers are those of the spelling
-pub fed_ascii : (result : Result (Unit {0}) ReadError) (bytes : List ℕ) → spelling_of bytes ≡ Some Ascii → Follows (IsOk (fed bytes)) result (fed bytes) → Gives (λ u. u) result (fed_any bytes)
-fed_ascii result bytes spelt follows = subst (λ (read : Result (Unit {0}) ReadError). Gives (λ u. u) result read) (sym (by_spelling bytes (Some Ascii) spelt)) (ascii_gives result bytes follows)
+pub fed_ascii : (result : Result (Unit {0}) ReadError) (bytes : List ℕ) → spelling_of bytes ≡ Some Ascii → Follows (IsOk (fed bytes)) result (fed bytes) → Gives NoMemory (λ u. u) result (fed_any bytes)
+fed_ascii result bytes spelt follows = subst (λ (read : Result (Unit {0}) ReadError). Gives NoMemory (λ u. u) result read) (sym (by_spelling bytes (Some Ascii) spelt)) (ascii_gives result bytes follows)
 
 -- what the binary reader answers to bytes of its spelling is what feeding them gives
-pub fed_binary : (result : Result (Unit {0}) ReadError) (bytes : List ℕ) → spelling_of bytes ≡ Some Binary → Answers result bytes → Gives (λ u. u) result (fed_any bytes)
-fed_binary result bytes spelt answers = subst (λ (read : Result (Unit {0}) ReadError). Gives (λ u. u) result read) (sym (by_spelling bytes (Some Binary) spelt)) (binary_gives result bytes answers)
+pub fed_binary : (result : Result (Unit {0}) ReadError) (bytes : List ℕ) → spelling_of bytes ≡ Some Binary → Answers result bytes → Gives NoMemory (λ u. u) result (fed_any bytes)
+fed_binary result bytes spelt answers = subst (λ (read : Result (Unit {0}) ReadError). Gives NoMemory (λ u. u) result read) (sym (by_spelling bytes (Some Binary) spelt)) (binary_gives result bytes answers)
 
 -- what the ASCII reader reads of bytes of its spelling is what reading them gives
-pub read_ascii : (result : Result Netlist ReadError) (bytes : List ℕ) → spelling_of bytes ≡ Some Ascii → Gives (λ c. c) result (read_bytes bytes) → Gives (λ c. c) result (read_any bytes)
-read_ascii result bytes spelt gives = subst (λ (read : Result Netlist ReadError). Gives (λ c. c) result read) (sym (read_by_spelling bytes (Some Ascii) spelt)) gives
+pub read_ascii : (result : Result Netlist ReadError) (bytes : List ℕ) → spelling_of bytes ≡ Some Ascii → Gives NoMemory (λ c. c) result (read_bytes bytes) → Gives NoMemory (λ c. c) result (read_any bytes)
+read_ascii result bytes spelt gives = subst (λ (read : Result Netlist ReadError). Gives NoMemory (λ c. c) result read) (sym (read_by_spelling bytes (Some Ascii) spelt)) gives
 
 -- what the binary reader reads of bytes of its spelling is what reading them gives
-pub read_of_binary : (result : Result Netlist ReadError) (bytes : List ℕ) → spelling_of bytes ≡ Some Binary → Gives (λ c. c) result (read_binary bytes) → Gives (λ c. c) result (read_any bytes)
-read_of_binary result bytes spelt gives = subst (λ (read : Result Netlist ReadError). Gives (λ c. c) result read) (sym (read_by_spelling bytes (Some Binary) spelt)) gives
+pub read_of_binary : (result : Result Netlist ReadError) (bytes : List ℕ) → spelling_of bytes ≡ Some Binary → Gives NoMemory (λ c. c) result (read_binary bytes) → Gives NoMemory (λ c. c) result (read_any bytes)
+read_of_binary result bytes spelt gives = subst (λ (read : Result Netlist ReadError). Gives NoMemory (λ c. c) result read) (sym (read_by_spelling bytes (Some Binary) spelt)) gives

@@ -5,11 +5,11 @@ use Rattle.std.specs.Fmt.{digits}
 use Rattle.file_words.specs.declared.fault.ReadError.TheVariants.{BadHeader}
 use Rattle.file_words.specs.Lines.{pieces, numbers_of}
 use Rattle.file_words.specs.Text.{text, latch_row, gate_row, symbol_line}
+use Rattle.file_words.specs.Answering.{◌>>=◌}
 use Rattle.counted_io.specs.Line.{line, spaced}
 use Rattle.binary_file.specs.Deltas.{delta_value, bytes_within}
 use Rattle.ascii_file.specs.Items.{item_of, begins_comment}
 use Rattle.ascii_file.specs.Meaning.{props_of, symbols_of}
-use Rattle.ascii_file.specs.Reading.{◌>>=◌}
 use Rattle.ascii_file.specs.Reading as ascii
 use Rattle.binary_file.specs.Headers.{header_of}
 use Rattle.binary_file.specs.Items.{next_section}

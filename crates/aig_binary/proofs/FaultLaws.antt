@@ -5,11 +5,12 @@ use Rattle.aig_graph.specs.Circuits.{Netlist}
 use Rattle.file_words.specs.declared.fault.ReadError.{ReadError}
 use Rattle.file_words.specs.declared.fault.ReadError.TheVariants.{BadHeader, NoMemory}
 use Rattle.file_words.specs.Codes.{is_fault_of_bytes}
-use Rattle.ascii_file.specs.Reading.{◌>>=◌, read_bytes}
+use Rattle.file_words.specs.Answering.{◌>>=◌, Fails, Gives}
+use Rattle.ascii_file.specs.Reading.{read_bytes}
 use Rattle.ascii_file.specs.Pieces.{fed}
 use Rattle.ascii_file.proofs.PieceLaws as ascii
 use Rattle.ascii_file.proofs.FaultLaws as ascii_faults
-use Rattle.ascii_file.specs.Answering.{Fails, Gives}
+use Rattle.file_words.proofs.AnsweringLaws.{Fails-where}
 use Rattle.binary_file.specs.Reading.{AtHeader, feed, read_binary}
 use Rattle.binary_file.proofs.PieceLaws as binary
 use Rattle.binary_file.proofs.FaultLaws as binary_faults
@@ -70,25 +71,24 @@ fault_of_bytes bytes e is = fault_in (spelling_of bytes) bytes e (sym (read_by_s
 
 -- ---- what a reader of circuits is to answer
 
-feed_fails : (bytes : List ℕ) (e : ReadError) → Fails e (fed_any bytes) → IsFeedError bytes e
-feed_fails bytes NoMemory fails = inl refl
-feed_fails bytes e fails = inr (record { of_bytes = fault_of_bytes (bytes ++ []) e (fault_stays bytes [] e fails); fault = λ rest. fault_stays bytes rest e fails })
+feed_fails : (bytes : List ℕ) (e : ReadError) → Fails NoMemory e (fed_any bytes) → IsFeedError bytes e
+feed_fails bytes e (inl none) = inl none
+feed_fails bytes e (inr is) = inr (record { of_bytes = fault_of_bytes (bytes ++ []) e (fault_stays bytes [] e is); fault = λ rest. fault_stays bytes rest e is })
 
-finish_fails : (bytes : List ℕ) (e : ReadError) → Fails e (read_any bytes) → IsFinishError bytes e
-finish_fails bytes NoMemory fails = inl refl
-finish_fails bytes e fails = inr (record { of_bytes = fault_of_bytes bytes e fails; fault = fails })
+finish_fails : (bytes : List ℕ) (e : ReadError) → Fails NoMemory e (read_any bytes) → IsFinishError bytes e
+finish_fails bytes e (inl none) = inl none
+finish_fails bytes e (inr is) = inr (record { of_bytes = fault_of_bytes bytes e is; fault = is })
 
 -- an error that feeding gives is memory's, or a fault of the bytes whatever follows
-pub feed_error : (result : Result (Unit {0}) ReadError) (bytes : List ℕ) → Gives (λ u. u) result (fed_any bytes) → IfErr result (IsFeedError bytes)
+pub feed_error : (result : Result (Unit {0}) ReadError) (bytes : List ℕ) → Gives NoMemory (λ u. u) result (fed_any bytes) → IfErr result (IsFeedError bytes)
 feed_error (Ok u) bytes gives = tt
 feed_error (Err e) bytes gives = feed_fails bytes e gives
 
 -- an error that finishing gives is memory's, or a fault of the bytes where nothing follows
-pub finish_error : (result : Result Netlist ReadError) (bytes : List ℕ) → Gives (λ c. c) result (read_any bytes) → IfErr result (IsFinishError bytes)
+pub finish_error : (result : Result Netlist ReadError) (bytes : List ℕ) → Gives NoMemory (λ c. c) result (read_any bytes) → IfErr result (IsFinishError bytes)
 finish_error (Ok c) bytes gives = tt
 finish_error (Err e) bytes gives = finish_fails bytes e gives
 
 -- a fault of a part is one of the whole
-pub part_fails : (bytes : List ℕ) (e : ReadError) → Fails e (fed_any bytes) → Fails e (read_any bytes)
-part_fails bytes NoMemory fails = tt
-part_fails bytes e fails = subst (λ (list : List ℕ). read_any list ≡ Err e) (append-nil bytes) (fault_stays bytes [] e fails)
+pub part_fails : (bytes : List ℕ) (e : ReadError) → Fails NoMemory e (fed_any bytes) → Fails NoMemory e (read_any bytes)
+part_fails bytes e fails = Fails-where e (fed_any bytes) (read_any bytes) (λ is. subst (λ (list : List ℕ). read_any list ≡ Err e) (append-nil bytes) (fault_stays bytes [] e is)) fails

@@ -2,7 +2,7 @@
 use Rattle.std.specs.Prelude.{ℕ, nat_lt, List, [], length, Option, Some, None, Result, Ok, Err, if◌then◌else◌}
 use Rattle.file_words.specs.declared.fault.ReadError.{ReadError}
 use Rattle.file_words.specs.declared.fault.ReadError.TheVariants.{BadHeader}
-use Rattle.ascii_file.specs.Reading.{◌>>=◌}
+use Rattle.file_words.specs.Answering.{◌>>=◌}
 use Rattle.ascii_file.specs.Pieces.{fed}
 use Rattle.binary_file.specs.Reading.{AtHeader, feed}
 use Rattle.file_words.specs.declared.spelling.Spelling.{Spelling}

@@ -33,8 +33,8 @@ pub struct AnyReader {
 impl AnyReader {
     ghost use Rattle.std.specs.Prelude.{ℕ, List, [], ◌≡◌, ◌++◌, Err, Some, None, OnOk, IfErr};
     ghost use Rattle.file_words.specs.declared.fault.ReadError.{ReadError};
-    ghost use Rattle.file_words.specs.declared.fault.ReadError.TheVariants.{BadHeader};
-    ghost use Rattle.ascii_file.specs.Answering.{Gives};
+    ghost use Rattle.file_words.specs.declared.fault.ReadError.TheVariants.{BadHeader, NoMemory};
+    ghost use Rattle.file_words.specs.Answering.{Gives};
     ghost use Rattle.aig_binary.specs.Spellings.{spelling_of, read_any};
     ghost use Rattle.aig_binary.specs.Fed.{fed_any};
     ghost use Rattle.aig_binary.specs.Readers.{Holds, fault_of, spelling_read};
@@ -73,7 +73,7 @@ impl AnyReader {
         ensures holds { (bytes : List ℕ) → Holds self.old bytes
             → Holds self.new (bytes ++ piece.now) }
         ensures fed { (bytes : List ℕ) → Holds self.old bytes
-            → Gives (λ u. u) result (fed_any (bytes ++ piece.now)) }
+            → Gives NoMemory (λ u. u) result (fed_any (bytes ++ piece.now)) }
         ensures fails { IfErr result (λ fault. fault_of self.new ≡ Some fault) }
         ensures stays { (fault : ReadError) → fault_of self.old ≡ Some fault → result ≡ Err fault }
     {
@@ -97,7 +97,7 @@ impl AnyReader {
     /// further call answers `BadHeader` at 0.
     pub fn finish(&mut self) -> Result<Circuit, ReadError>
         ensures gives { (bytes : List ℕ) → Holds self.old bytes
-            → Gives (λ circuit. circuit) result (read_any bytes) }
+            → Gives NoMemory (λ circuit. circuit) result (read_any bytes) }
         ensures ends { OnOk result (fault_of self.new ≡ Some (BadHeader 0)) }
         ensures fails { IfErr result (λ fault. fault_of self.new ≡ Some fault) }
         ensures stays { (fault : ReadError) → fault_of self.old ≡ Some fault → result ≡ Err fault }

@@ -1,5 +1,6 @@
 ghost use Rattle.std.specs.Prelude.{◌≡◌, ◌++◌, Some, IfErr};
-ghost use Rattle.ascii_file.specs.Answering.{Gives};
+ghost use Rattle.file_words.specs.declared.fault.ReadError.TheVariants.{NoMemory};
+ghost use Rattle.file_words.specs.Answering.{Gives};
 ghost use Rattle.file_words.specs.declared.spelling.Spelling.TheVariants.{Ascii, Binary};
 ghost use Rattle.aig_binary.specs.Spellings.{spelling_of};
 ghost use Rattle.aig_binary.specs.Fed.{fed_any};
@@ -24,7 +25,7 @@ pub(crate) struct Begun {
 fn begin_ascii(alloc: Global, begun: &[u8], piece: &[u8]) -> Begun
     requires { spelling_of (begun.now ++ piece.now) ≡ Some Ascii }
     ensures holds { PhaseHolds result.phase (begun.now ++ piece.now) }
-    ensures fed { Gives (λ u. u) result.answer (fed_any (begun.now ++ piece.now)) }
+    ensures fed { Gives NoMemory (λ u. u) result.answer (fed_any (begun.now ++ piece.now)) }
     ensures fails { IfErr result.answer (λ fault. phase_fault result.phase ≡ Some fault) }
 {
     let mut ascii = AagReader::new(alloc);
@@ -39,7 +40,7 @@ fn begin_ascii(alloc: Global, begun: &[u8], piece: &[u8]) -> Begun
 fn begin_binary(alloc: Global, begun: &[u8], piece: &[u8]) -> Begun
     requires { spelling_of (begun.now ++ piece.now) ≡ Some Binary }
     ensures holds { PhaseHolds result.phase (begun.now ++ piece.now) }
-    ensures fed { Gives (λ u. u) result.answer (fed_any (begun.now ++ piece.now)) }
+    ensures fed { Gives NoMemory (λ u. u) result.answer (fed_any (begun.now ++ piece.now)) }
     ensures fails { IfErr result.answer (λ fault. phase_fault result.phase ≡ Some fault) }
 {
     let mut binary = AigReader::new(alloc);
@@ -54,7 +55,7 @@ fn begin_binary(alloc: Global, begun: &[u8], piece: &[u8]) -> Begun
 /// Takes a piece after fewer than three bytes.
 pub(crate) fn begin(alloc: Global, begun: &[u8], piece: &[u8]) -> Begun
     ensures holds { PhaseHolds result.phase (begun.now ++ piece.now) }
-    ensures fed { Gives (λ u. u) result.answer (fed_any (begun.now ++ piece.now)) }
+    ensures fed { Gives NoMemory (λ u. u) result.answer (fed_any (begun.now ++ piece.now)) }
     ensures fails { IfErr result.answer (λ fault. phase_fault result.phase ≡ Some fault) }
 {
     let letters = first_letters(begun, piece);

@@ -1,6 +1,6 @@
 ghost use Rattle.std.specs.Prelude.{ℕ, List, ◌≡◌, ◌⊎◌, ◌++◌, Ok, Err, IfOk, IfErr};
 ghost use Rattle.file_words.specs.declared.fault.ReadError.TheVariants.{NoMemory};
-ghost use Rattle.ascii_file.specs.Answering.{Gives};
+ghost use Rattle.file_words.specs.Answering.{Gives};
 ghost use Rattle.aig_binary.specs.Spellings.{read_any};
 ghost use Rattle.aig_binary.specs.Readers.{Holds};
 
@@ -23,7 +23,7 @@ pub fn read_any(alloc: Global, bytes: &[u8]) -> Result<Circuit, ReadError>
 }
 
 fn read(alloc: Global, bytes: &[u8]) -> Result<Circuit, ReadError>
-    ensures { Gives (λ circuit. circuit) result (read_any bytes.now) }
+    ensures { Gives NoMemory (λ circuit. circuit) result (read_any bytes.now) }
 {
     let mut reader = AnyReader::new(alloc);
     let circuit = read_rest(&mut reader, bytes);
@@ -35,7 +35,7 @@ fn read(alloc: Global, bytes: &[u8]) -> Result<Circuit, ReadError>
 /// The circuit of a file that ends with these bytes.
 fn read_rest(reader: &mut AnyReader, bytes: &[u8]) -> Result<Circuit, ReadError>
     ensures { (before : List ℕ) → Holds reader.old before
-        → Gives (λ circuit. circuit) result (read_any (before ++ bytes.now)) }
+        → Gives NoMemory (λ circuit. circuit) result (read_any (before ++ bytes.now)) }
 {
     match reader.feed(bytes) {
         Ok(()) => reader.finish(),

@@ -5,6 +5,7 @@ use Rattle.file_words.specs.declared.fault.ReadError.{ReadError}
 use Rattle.file_words.specs.declared.fault.ReadError.TheVariants.{Undefined, Truncated}
 use Rattle.file_words.specs.Codes.{is_fault_of_bytes}
 use Rattle.file_words.specs.Lines.{lines}
+use Rattle.file_words.specs.Answering.{◌>>=◌}
 use Rattle.ascii_file.specs.declared.header.Header.{Header}
 use Rattle.ascii_file.specs.declared.raw.Section.{Section}
 use Rattle.ascii_file.specs.declared.raw.Section.TheVariants.{Inputs, Latches, Safety, Sizes, Liveness, Gates, Symbols}
@@ -13,7 +14,7 @@ use Rattle.ascii_file.specs.Raw.{Raw, nothing_yet}
 use Rattle.ascii_file.specs.Headers.{header_of}
 use Rattle.ascii_file.specs.Items.{Item, InputItem, LatchItem, SafetyItem, SizeItem, LivenessItem, GateItem, SymbolItem, item_of, kind_of, begins_comment}
 use Rattle.ascii_file.specs.Meaning.{in_order}
-use Rattle.ascii_file.specs.Reading.{◌>>=◌, unless, header_checks, checked_header, read_header, checks, next_section, with_item, malformed_symbol, malformed, take_item, read_line, State, AtHeader, InItems, InComment, is_complete, take_line, take_lines, is_resolved, circuit_in_order, resolve, finish, read_bytes}
+use Rattle.ascii_file.specs.Reading.{unless, header_checks, checked_header, read_header, checks, next_section, with_item, malformed_symbol, malformed, take_item, read_line, State, AtHeader, InItems, InComment, is_complete, take_line, take_lines, is_resolved, circuit_in_order, resolve, finish, read_bytes}
 
 -- a value, or a fault of the bytes
 abbrev pub IsFaultOrOk : {A : Type 0} → Result A ReadError → Type 0

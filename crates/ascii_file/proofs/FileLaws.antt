@@ -19,13 +19,14 @@ use Rattle.gate_order.proofs.CycleLaws.{exists_law}
 use Rattle.file_words.specs.declared.fault.ReadError.{ReadError}
 use Rattle.file_words.specs.declared.fault.ReadError.TheVariants.{Undefined, Truncated}
 use Rattle.file_words.specs.Lines.{lines}
+use Rattle.file_words.specs.Answering.{◌>>=◌}
 use Rattle.ascii_file.specs.declared.header.Header.{Header}
 use Rattle.ascii_file.specs.declared.raw.RawGate.{RawGate}
 use Rattle.ascii_file.specs.Raw.{Raw, nothing_yet, defined, read_literals}
 use Rattle.ascii_file.specs.Headers.{header_of, IsHeaderWithin}
 use Rattle.ascii_file.specs.Items.{items_of, begins_comment}
 use Rattle.ascii_file.specs.Meaning.{gate_place, gate_reads, with_gates_at, in_order, circuit_of}
-use Rattle.ascii_file.specs.Reading.{◌>>=◌, unless, header_checks, checked_header, read_header, read_line, State, AtHeader, InItems, InComment, is_complete, take_lines, is_known_among, is_resolved, circuit_in_order, resolve, finish, read_bytes}
+use Rattle.ascii_file.specs.Reading.{unless, header_checks, checked_header, read_header, read_line, State, AtHeader, InItems, InComment, is_complete, take_lines, is_known_among, is_resolved, circuit_in_order, resolve, finish, read_bytes}
 use Rattle.ascii_file.specs.Files.{Spells, IsComment, Lines, IsKnownAmong, IsAsciiFile}
 use Rattle.ascii_file.specs.Laws.{IsCircuitOf, ReadingLaw}
 use Rattle.ascii_file.proofs.CheckLaws.{unless_ok, unless_passes, same_ok}

@@ -15,5 +15,4 @@ pub mod TextLineLaws
 pub mod OwnLiteralLaws
 pub mod RoundTripLaws
 pub mod PieceLaws
-pub mod AnsweringLaws
 pub mod OneLineLaws

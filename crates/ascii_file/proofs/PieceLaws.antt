@@ -4,7 +4,8 @@ use Rattle.std.proofs.lemmas.Bool.{cond-false, and_parts, not-true}
 use Rattle.file_words.specs.declared.fault.ReadError.{ReadError}
 use Rattle.file_words.specs.Lines.{with_front, lines}
 use Rattle.file_words.specs.Cuts.{lacks}
-use Rattle.ascii_file.specs.Reading.{◌>>=◌, State, AtHeader, take_line, take_lines, finish, read_bytes}
+use Rattle.file_words.specs.Answering.{◌>>=◌}
+use Rattle.ascii_file.specs.Reading.{State, AtHeader, take_line, take_lines, finish, read_bytes}
 use Rattle.ascii_file.specs.Pieces.{with_first, with_open, ended_lines, open_line, fed, with_last_line, closed, PiecesLaw}
 
 -- the open line, if it has a byte

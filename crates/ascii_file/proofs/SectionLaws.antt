@@ -4,11 +4,12 @@ use Rattle.std.specs.List.{AllZip}
 use Rattle.std.proofs.lemmas.List.{length_push}
 use Rattle.std.proofs.lemmas.Bool.{and_parts}
 use Rattle.file_words.specs.declared.fault.ReadError.{ReadError}
+use Rattle.file_words.specs.Answering.{◌>>=◌}
 use Rattle.ascii_file.specs.declared.header.Header.{Header}
 use Rattle.ascii_file.specs.declared.raw.Section.{Section}
 use Rattle.ascii_file.specs.Raw.{Raw}
 use Rattle.ascii_file.specs.Items.{Item, section_of, begins_comment}
-use Rattle.ascii_file.specs.Reading.{◌>>=◌, next_section, with_item, read_line, State, InItems, InComment, is_symbols, is_complete, take_lines}
+use Rattle.ascii_file.specs.Reading.{next_section, with_item, read_line, State, InItems, InComment, is_symbols, is_complete, take_lines}
 use Rattle.ascii_file.specs.Files.{Spells, IsComment}
 use Rattle.ascii_file.proofs.CheckLaws.{same_ok, Fits}
 use Rattle.ascii_file.proofs.StepLaws.{bind_ok, LineRead, line_was_read, item_taken}

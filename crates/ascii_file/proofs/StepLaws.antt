@@ -6,13 +6,14 @@ use Rattle.std.specs.Option.{option_and_then, option_map}
 use Rattle.std.proofs.lemmas.Bool.{and_left, and_right, and_parts, not_from_true, cond-false}
 use Rattle.file_words.specs.declared.fault.ReadError.{ReadError}
 use Rattle.file_words.specs.Lines.{is_number, digits_value, numbers_of}
+use Rattle.file_words.specs.Answering.{◌>>=◌}
 use Rattle.ascii_file.specs.declared.header.Header.{Header}
 use Rattle.ascii_file.specs.declared.raw.Section.{Section}
 use Rattle.ascii_file.specs.declared.raw.Section.TheVariants.{Inputs, Latches, Safety, Sizes, Liveness, Gates, Symbols}
 use Rattle.ascii_file.specs.declared.raw.SymbolKind.{SymbolKind}
 use Rattle.ascii_file.specs.Raw.{Raw}
 use Rattle.ascii_file.specs.Items.{Item, InputItem, LatchItem, SafetyItem, SizeItem, LivenessItem, GateItem, SymbolItem, section_of, single, latch_in, gate_in, kind_of, cut_at_space, symbol_in, symbol_of, item_of, begins_comment}
-use Rattle.ascii_file.specs.Reading.{◌>>=◌, checks, next_section, with_item, malformed, take_item, read_line, InItems, InComment, is_symbols, is_complete, take_line}
+use Rattle.ascii_file.specs.Reading.{checks, next_section, with_item, malformed, take_item, read_line, InItems, InComment, is_symbols, is_complete, take_line}
 use Rattle.ascii_file.specs.Files.{Spells}
 use Rattle.ascii_file.proofs.CheckLaws.{unless_ok, unless_passes, same_ok, Fits, passes_where_fits, fits_where_passes}
 

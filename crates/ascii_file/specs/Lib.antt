@@ -6,4 +6,3 @@ pub mod Reading
 pub mod Files
 pub mod Laws
 pub mod Pieces
-pub mod Answering

@@ -2,7 +2,8 @@
 use Rattle.std.specs.Prelude.{ℕ, ◌≡◌, ◌==◌, List, [], ◌∷◌, ◌++◌, length, Result, Ok, Err, if◌then◌else◌}
 use Rattle.aig_graph.specs.Circuits.{Netlist}
 use Rattle.file_words.specs.declared.fault.ReadError.{ReadError}
-use Rattle.ascii_file.specs.Reading.{◌>>=◌, State, AtHeader, take_line, take_lines, finish, read_bytes}
+use Rattle.file_words.specs.Answering.{◌>>=◌}
+use Rattle.ascii_file.specs.Reading.{State, AtHeader, take_line, take_lines, finish, read_bytes}
 
 -- a byte more in front of the first line, if there is one
 abbrev pub with_first : ℕ → List (List ℕ) → List (List ℕ)

@@ -6,6 +6,7 @@ use Rattle.aig_graph.specs.Graph.{variable}
 use Rattle.aig_graph.specs.Circuits.{Netlist}
 use Rattle.file_words.specs.declared.fault.ReadError.{ReadError}
 use Rattle.file_words.specs.declared.fault.ReadError.TheVariants.{BadHeader, TooLarge, MaxIndex, BadLine, BadLiteral, DefinedTwice, Undefined, Cycle, BadReset, Truncated, BadSymbol, Trailing}
+use Rattle.file_words.specs.Answering.{◌>>=◌}
 use Rattle.file_words.specs.Codes.{is_fault_of_bytes}
 use Rattle.file_words.specs.Lines.{lines}
 use Rattle.ascii_file.specs.declared.header.Header.{Header}
@@ -17,12 +18,6 @@ use Rattle.ascii_file.specs.Raw.{Raw, RawSymbol, nothing_yet, defined, read_lite
 use Rattle.ascii_file.specs.Headers.{header_of}
 use Rattle.ascii_file.specs.Items.{Item, InputItem, LatchItem, SafetyItem, SizeItem, LivenessItem, GateItem, SymbolItem, item_of, kind_of, begins_comment}
 use Rattle.ascii_file.specs.Meaning.{in_order, circuit_of}
-
--- what comes next, unless there was a fault
-infixl 10 ◌>>=◌
-abbrev pub ◌>>=◌ : {A B : Type 0} → Result A ReadError → (A → Result B ReadError) → Result B ReadError
-(Ok x) >>= f = f x
-(Err e) >>= f = Err e
 
 -- the value, unless a check fails: the fault is that of the first one that does
 abbrev pub unless : {A : Type 0} → List (Bool × ReadError) → Result A ReadError → Result A ReadError

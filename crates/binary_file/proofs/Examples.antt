@@ -6,12 +6,12 @@ use Rattle.file_words.specs.declared.fault.ReadError.{ReadError}
 use Rattle.file_words.specs.declared.fault.ReadError.TheVariants.{BadHeader, TooLarge, MaxIndex, BadLine, BadReset, BadDelta, Truncated, BadSymbol, Trailing}
 use Rattle.file_words.specs.Lines.{pieces, numbers_of}
 use Rattle.file_words.specs.Text.{text, latch_row, gate_row, symbol_line}
+use Rattle.file_words.specs.Answering.{◌>>=◌}
 use Rattle.counted_io.specs.Line.{line, spaced}
 use Rattle.binary_file.specs.Deltas.{delta_value, delta_of, bytes_within}
 use Rattle.ascii_file.specs.Raw.{nothing_yet}
 use Rattle.ascii_file.specs.Items.{item_of, begins_comment}
 use Rattle.ascii_file.specs.Meaning.{props_of, symbols_of}
-use Rattle.ascii_file.specs.Reading.{◌>>=◌}
 use Rattle.ascii_file.specs.Reading as ascii
 use Rattle.binary_file.specs.Headers.{header_of}
 use Rattle.binary_file.specs.Items.{next_section}

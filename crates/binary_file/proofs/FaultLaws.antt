@@ -4,11 +4,12 @@ use Rattle.aig_graph.specs.Circuits.{Netlist}
 use Rattle.file_words.specs.declared.fault.ReadError.{ReadError}
 use Rattle.file_words.specs.declared.fault.ReadError.TheVariants.{BadDelta, Truncated}
 use Rattle.file_words.specs.Codes.{is_fault_of_bytes}
+use Rattle.file_words.specs.Answering.{◌>>=◌}
 use Rattle.binary_file.specs.Deltas.{delta_value}
 use Rattle.ascii_file.specs.declared.header.Header.{Header}
 use Rattle.ascii_file.specs.Raw.{Raw, nothing_yet}
 use Rattle.ascii_file.specs.Items.{Item, InputItem, LatchItem, SafetyItem, SizeItem, LivenessItem, GateItem, SymbolItem, begins_comment}
-use Rattle.ascii_file.specs.Reading.{◌>>=◌, with_item, malformed, is_symbols}
+use Rattle.ascii_file.specs.Reading.{with_item, malformed, is_symbols}
 use Rattle.ascii_file.proofs.FaultLaws.{IsFaultOrOk, AreOfBytes, choice, in_turn, checked, item_checks, form}
 use Rattle.binary_file.specs.Headers.{header_of, header_checks}
 use Rattle.binary_file.specs.Items.{next_section, next_gate, item_in}

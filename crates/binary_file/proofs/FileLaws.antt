@@ -4,12 +4,13 @@ use Rattle.std.proofs.lemmas.Bool.{and_parts, and_from, cond-true, cond-false}
 use Rattle.aig_graph.specs.Circuits.{Netlist}
 use Rattle.file_words.specs.declared.fault.ReadError.{ReadError}
 use Rattle.file_words.specs.declared.fault.ReadError.TheVariants.{Truncated}
+use Rattle.file_words.specs.Answering.{◌>>=◌}
 use Rattle.ascii_file.specs.declared.header.Header.{Header}
 use Rattle.ascii_file.specs.declared.raw.Section.{Section}
 use Rattle.ascii_file.specs.declared.raw.Section.TheVariants.{Inputs, Latches, Safety, Sizes, Liveness, Gates, Symbols}
 use Rattle.ascii_file.specs.Raw.{Raw, nothing_yet}
 use Rattle.ascii_file.specs.Items.{Item, InputItem, LatchItem, SafetyItem, SizeItem, LivenessItem, GateItem, SymbolItem, begins_comment}
-use Rattle.ascii_file.specs.Reading.{◌>>=◌, with_item, is_symbols}
+use Rattle.ascii_file.specs.Reading.{with_item, is_symbols}
 use Rattle.ascii_file.proofs.CheckLaws.{same_ok}
 use Rattle.ascii_file.proofs.StepLaws.{bind_ok}
 use Rattle.binary_file.specs.Headers.{header_of}

@@ -4,13 +4,14 @@ use Rattle.std.proofs.lemmas.Bool.{cond-true, ltb-false, le-ltb, eqb-false, ne_e
 use Rattle.std.proofs.lemmas.List.{length-append}
 use Rattle.file_words.specs.declared.fault.ReadError.{ReadError}
 use Rattle.file_words.specs.declared.fault.ReadError.TheVariants.{BadDelta}
+use Rattle.file_words.specs.Answering.{◌>>=◌}
 use Rattle.binary_file.specs.Deltas.{is_delta, delta_value}
 use Rattle.ascii_file.specs.declared.header.Header.{Header}
 use Rattle.ascii_file.specs.declared.raw.RawGate.{RawGate}
 use Rattle.ascii_file.specs.declared.raw.Section.TheVariants.{Gates}
 use Rattle.ascii_file.specs.Raw.{Raw}
 use Rattle.ascii_file.specs.Items.{GateItem}
-use Rattle.ascii_file.specs.Reading.{◌>>=◌, with_item}
+use Rattle.ascii_file.specs.Reading.{with_item}
 use Rattle.ascii_file.proofs.CheckLaws.{unless_ok, unless_passes, same_ok}
 use Rattle.binary_file.specs.Items.{next_section, next_gate}
 use Rattle.binary_file.specs.Reading.{State, InLine, InFirst, InSecond, is_gates, before_item, end_first, end_second, feed, finish}

@@ -4,12 +4,13 @@ use Rattle.std.specs.Option.{option_and_then}
 use Rattle.std.proofs.lemmas.Bool.{ltb-false, le-ltb, eqb-true, eq-eqb, not-false, not_from_true, cond-false}
 use Rattle.file_words.specs.declared.fault.ReadError.{ReadError}
 use Rattle.file_words.specs.Lines.{numbers_of}
+use Rattle.file_words.specs.Answering.{◌>>=◌}
 use Rattle.ascii_file.specs.declared.header.Header.{Header}
 use Rattle.ascii_file.specs.declared.raw.Section.{Section}
 use Rattle.ascii_file.specs.declared.raw.Section.TheVariants.{Inputs, Latches, Safety, Sizes, Liveness, Gates, Symbols}
 use Rattle.ascii_file.specs.Raw.{Raw}
 use Rattle.ascii_file.specs.Items.{Item, InputItem, LatchItem, SafetyItem, SizeItem, LivenessItem, GateItem, SymbolItem, section_of, item_of, begins_comment}
-use Rattle.ascii_file.specs.Reading.{◌>>=◌, with_item, malformed, is_symbols}
+use Rattle.ascii_file.specs.Reading.{with_item, malformed, is_symbols}
 use Rattle.ascii_file.proofs.CheckLaws as ascii
 use Rattle.ascii_file.proofs.CheckLaws.{Passes, unless_ok, unless_passes, same_ok, passes_where_reset, reset_where_it_passes}
 use Rattle.ascii_file.proofs.StepLaws.{section_is, no_comment}

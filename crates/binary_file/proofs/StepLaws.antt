@@ -4,11 +4,12 @@ use Rattle.std.proofs.lemmas.Bool.{and_parts, and_from, cond-true, cond-false, l
 use Rattle.std.proofs.lemmas.List.{length_push}
 use Rattle.file_words.specs.declared.fault.ReadError.{ReadError}
 use Rattle.file_words.specs.declared.fault.ReadError.TheVariants.{BadDelta}
+use Rattle.file_words.specs.Answering.{◌>>=◌}
 use Rattle.binary_file.specs.Deltas.{is_delta}
 use Rattle.ascii_file.specs.declared.header.Header.{Header}
 use Rattle.ascii_file.specs.Raw.{Raw}
 use Rattle.ascii_file.specs.Items.{begins_comment}
-use Rattle.ascii_file.specs.Reading.{◌>>=◌, is_symbols}
+use Rattle.ascii_file.specs.Reading.{is_symbols}
 use Rattle.ascii_file.proofs.StepLaws.{bind_ok}
 use Rattle.binary_file.specs.Items.{next_section, first_line, after_line}
 use Rattle.binary_file.specs.Reading.{State, AtHeader, InLine, InFirst, InComment, is_gates, before_item, end_header, read_header, read_line, end_line, delta_step, step, feed, complete, finish}

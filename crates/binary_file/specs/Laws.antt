@@ -2,9 +2,9 @@
 use Rattle.std.specs.Prelude.{ℕ, ◌≡◌, List, [], ◌++◌, Ok, Err, ◌≤◌, length, IsTrue}
 use Rattle.aig_graph.specs.Circuits.{Netlist}
 use Rattle.file_words.specs.declared.fault.ReadError.{ReadError}
+use Rattle.file_words.specs.Answering.{◌>>=◌}
 use Rattle.ascii_file.specs.declared.header.Header.{Header}
 use Rattle.ascii_file.specs.Raw.{Raw}
-use Rattle.ascii_file.specs.Reading.{◌>>=◌}
 use Rattle.ascii_file.specs.Files.{IsCountedBy}
 use Rattle.binary_file.specs.Files.{IsBinaryFile}
 use Rattle.binary_file.specs.Reading.{AtHeader, feed, circuit_of, read_binary, IsFaultOf}

@@ -4,6 +4,7 @@ use Rattle.aig_graph.specs.Circuits.{Netlist}
 use Rattle.file_words.specs.declared.fault.ReadError.{ReadError}
 use Rattle.file_words.specs.declared.fault.ReadError.TheVariants.{BadHeader, MaxIndex, BadReset, BadDelta, Truncated}
 use Rattle.file_words.specs.Codes.{is_fault_of_bytes}
+use Rattle.file_words.specs.Answering.{◌>>=◌}
 use Rattle.binary_file.specs.Deltas.{delta_value}
 use Rattle.ascii_file.specs.declared.header.Header.{Header}
 use Rattle.ascii_file.specs.declared.raw.Section.{Section}
@@ -11,7 +12,7 @@ use Rattle.ascii_file.specs.declared.raw.Section.TheVariants.{Gates}
 use Rattle.ascii_file.specs.Raw.{Raw, nothing_yet}
 use Rattle.ascii_file.specs.Items.{Item, LatchItem, GateItem, begins_comment}
 use Rattle.ascii_file.specs.Meaning.{reset_of, props_of, symbols_of}
-use Rattle.ascii_file.specs.Reading.{◌>>=◌, unless, past_greatest, is_bad_reset, checks, with_item, malformed, is_symbols}
+use Rattle.ascii_file.specs.Reading.{unless, past_greatest, is_bad_reset, checks, with_item, malformed, is_symbols}
 use Rattle.binary_file.specs.Headers.{header_of, header_checks}
 use Rattle.binary_file.specs.Items.{next_section, next_gate, item_in}
 

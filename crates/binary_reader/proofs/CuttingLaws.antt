@@ -4,10 +4,10 @@ use Rattle.std.proofs.lemmas.Bool.{cond-true, cond-false, lt-ltb, le-ltb, eq-eqb
 use Rattle.std.proofs.lemmas.List.{length_push, length-append, take_rest}
 use Rattle.file_words.specs.declared.fault.ReadError.{ReadError}
 use Rattle.file_words.specs.declared.fault.ReadError.TheVariants.{BadDelta}
+use Rattle.file_words.specs.Answering.{◌>>=◌}
 use Rattle.binary_file.specs.Deltas.{is_delta, delta_value}
 use Rattle.binary_file.specs.declared.deltas.decode.DeltaError.{DeltaError}
 use Rattle.binary_file.specs.declared.deltas.decode.DeltaError.TheVariants.{TooLong}
-use Rattle.ascii_file.specs.Reading.{◌>>=◌}
 use Rattle.binary_file.specs.Reading.{State, feed}
 use Rattle.binary_file.proofs.StepLaws.{delta_fed}
 use Rattle.binary_reader.specs.Cutting.{BeginsWithDelta, IsShortDelta, AreDeltaStates, IsTaken}

@@ -2,13 +2,12 @@
 use Rattle.std.proofs.Common.{ℕ, ◌≡◌, ◌+◌, ◌-◌, ◌<◌, List, [], ◌∷◌, length, Result, Ok, Err, nat_eq, nat_lt, ◌||◌, sym, ap, ◌∙◌, arith}
 use Rattle.std.proofs.lemmas.Bool.{or_parts, eqb-false, ltb-false}
 use Rattle.file_words.specs.declared.fault.ReadError.{ReadError}
-use Rattle.file_words.specs.declared.fault.ReadError.TheVariants.{BadDelta}
+use Rattle.file_words.specs.declared.fault.ReadError.TheVariants.{BadDelta, NoMemory}
+use Rattle.file_words.specs.Answering.{◌>>=◌, Fails}
 use Rattle.ascii_file.specs.declared.header.Header.{Header}
 use Rattle.ascii_file.specs.Raw.{Raw}
-use Rattle.ascii_file.specs.Reading.{◌>>=◌}
-use Rattle.ascii_file.specs.Answering.{Fails}
 use Rattle.ascii_file.proofs.CheckLaws.{unless_ok, same_ok}
-use Rattle.ascii_file.proofs.AnsweringLaws.{Fails-as, Fails-bind, Fails-with}
+use Rattle.file_words.proofs.AnsweringLaws.{Fails-as, Fails-bind, Fails-with}
 use Rattle.binary_file.specs.Deltas.{delta_value}
 use Rattle.binary_file.specs.Items.{next_gate}
 use Rattle.binary_file.specs.Reading.{InSecond, before_item, end_first, end_second}
@@ -36,7 +35,7 @@ module _ (h : Header) (raw : Raw) (at after number : ℕ) (delta : List ℕ) (va
   first_done rhs0 e = first_ends ∙ ap (λ (r : Result ℕ ReadError). r >>= λ rhs0. Ok (InSecond h raw after rhs0 [])) (sym e)
 
   -- a first delta that gives none is a fault of reading
-  pub first_failed : (fault : ReadError) → Err fault ≡ read_first h raw at number → Fails fault (end_first h raw at delta)
+  pub first_failed : (fault : ReadError) → Err fault ≡ read_first h raw at number → Fails NoMemory fault (end_first h raw at delta)
   first_failed fault e = Fails-with fault (end_first h raw at delta) (first_ends ∙ ap (λ (r : Result ℕ ReadError). r >>= λ rhs0. Ok (InSecond h raw after rhs0 [])) (sym e))
 
   second_ends : (rhs0 : ℕ) → end_second h raw at rhs0 delta ≡ (read_second h raw at rhs0 number >>= λ more. Ok (before_item h more after))
@@ -49,5 +48,5 @@ module _ (h : Header) (raw : Raw) (at after number : ℕ) (delta : List ℕ) (va
   second_done rhs0 more e = second_ends rhs0 ∙ ap (λ (r : Result Raw ReadError). r >>= λ more. Ok (before_item h more after)) e
 
   -- a second delta that gives none is a fault of reading
-  pub second_failed : (rhs0 : ℕ) (fault : ReadError) → Fails fault (read_second h raw at rhs0 number) → Fails fault (end_second h raw at rhs0 delta)
+  pub second_failed : (rhs0 : ℕ) (fault : ReadError) → Fails NoMemory fault (read_second h raw at rhs0 number) → Fails NoMemory fault (end_second h raw at rhs0 delta)
   second_failed rhs0 fault fails = Fails-as fault _ (end_second h raw at rhs0 delta) (second_ends rhs0) (Fails-bind fault (read_second h raw at rhs0 number) (λ more. Ok (before_item h more after)) fails)

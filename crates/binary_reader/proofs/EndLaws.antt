@@ -2,12 +2,13 @@
 use Rattle.std.proofs.Common.{ℕ, ◌≡◌, ◌+◌, List, length, Result, Ok, true, false, ◌&&◌, ap, ◌∙◌}
 use Rattle.std.proofs.lemmas.Bool.{cond-true, cond-false, and_from, and_left, and_right}
 use Rattle.file_words.specs.declared.fault.ReadError.{ReadError}
+use Rattle.file_words.specs.declared.fault.ReadError.TheVariants.{NoMemory}
+use Rattle.file_words.specs.Answering.{◌>>=◌, Fails}
 use Rattle.ascii_file.specs.declared.header.Header.{Header}
 use Rattle.ascii_file.specs.Raw.{Raw}
 use Rattle.ascii_file.specs.Items.{begins_comment}
-use Rattle.ascii_file.specs.Reading.{◌>>=◌, is_symbols}
-use Rattle.ascii_file.specs.Answering.{Fails}
-use Rattle.ascii_file.proofs.AnsweringLaws.{Fails-bind, Fails-as}
+use Rattle.ascii_file.specs.Reading.{is_symbols}
+use Rattle.file_words.proofs.AnsweringLaws.{Fails-bind, Fails-as}
 use Rattle.reader_parts.specs.declared.numbers.NumberLine.{NumberLine}
 use Rattle.reader_parts.specs.declared.symbols.SymbolLine.{SymbolLine}
 use Rattle.binary_file.specs.Items.{next_section}
@@ -39,7 +40,7 @@ module _ (h : Header) (raw more : Raw) (at offset after : ℕ) (line : List ℕ)
       ended h raw at offset line state is place item ∙ ap (λ (r : Result Raw ReadError). r >>= λ more. Ok (before_item h more (offset + 1))) read ∙ ap (λ (n : ℕ). Ok (before_item h more n)) next
 
 failed : (h : Header) (raw : Raw) (at offset : ℕ) (line : List ℕ) (state : State) (e : ReadError) → state ≡ InLine h raw at line → at + length line ≡ offset → (is_symbols (next_section h raw) && begins_comment line) ≡ false
-    → Fails e (read_line h raw at line) → Fails e (step state 10)
+    → Fails NoMemory e (read_line h raw at line) → Fails NoMemory e (step state 10)
 failed h raw at offset line state e is place item fails =
     Fails-as e _ (step state 10) (ended h raw at offset line state is place item) (Fails-bind e (read_line h raw at line) (λ more. Ok (before_item h more (offset + 1))) fails)
 
@@ -50,7 +51,7 @@ module _ (c : Contents) (at offset : ℕ) (line : NumberLine) (state : State) (i
   numbers_done after more next read = done is.h is.raw more at offset after is.bytes state is.is is.place next (and_left (is_symbols (next_section is.h is.raw)) (begins_comment is.bytes) is.section) read
 
   -- a fault of a line of numbers is the one that its newline brings
-  pub numbers_failed : (e : ReadError) → Fails e (read_line is.h is.raw at is.bytes) → Fails e (step state 10)
+  pub numbers_failed : (e : ReadError) → Fails NoMemory e (read_line is.h is.raw at is.bytes) → Fails NoMemory e (step state 10)
   numbers_failed e fails = failed is.h is.raw at offset is.bytes state e is.is is.place (and_left (is_symbols (next_section is.h is.raw)) (begins_comment is.bytes) is.section) fails
 
 -- of a line after the gates
@@ -60,7 +61,7 @@ module _ (c : Contents) (at offset : ℕ) (line : SymbolLine) (state : State) (i
   symbol_done after more next begins read = done is.h is.raw more at offset after is.bytes state is.is is.place next (and_right (is_symbols (next_section is.h is.raw)) (begins_comment is.bytes) begins) read
 
   -- a fault of a symbol's line is the one that its newline brings
-  pub symbol_failed : (e : ReadError) → begins_comment is.bytes ≡ false → Fails e (read_line is.h is.raw at is.bytes) → Fails e (step state 10)
+  pub symbol_failed : (e : ReadError) → begins_comment is.bytes ≡ false → Fails NoMemory e (read_line is.h is.raw at is.bytes) → Fails NoMemory e (step state 10)
   symbol_failed e begins fails = failed is.h is.raw at offset is.bytes state e is.is is.place (and_right (is_symbols (next_section is.h is.raw)) (begins_comment is.bytes) begins) fails
 
   -- the newline after a line that begins as the comment does leads into it

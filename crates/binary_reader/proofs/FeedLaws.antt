@@ -3,12 +3,12 @@ use Rattle.std.proofs.Common.{ℕ, Option, Some, None, ◌≡◌, ◌+◌, ◌-�
 use Rattle.std.proofs.lemmas.Bool.{and_parts, cond-false, eqb-true, not-true}
 use Rattle.std.proofs.lemmas.List.{append-nil, append_assoc, length-append, take_rest, drop_all}
 use Rattle.file_words.specs.declared.fault.ReadError.{ReadError}
+use Rattle.file_words.specs.declared.fault.ReadError.TheVariants.{NoMemory}
 use Rattle.file_words.specs.Cuts.{lacks, HasNoNewline, Cuts}
+use Rattle.file_words.specs.Answering.{◌>>=◌, Fails}
 use Rattle.ascii_file.specs.declared.header.Header.{Header}
 use Rattle.ascii_file.specs.Raw.{Raw}
-use Rattle.ascii_file.specs.Reading.{◌>>=◌}
-use Rattle.ascii_file.specs.Answering.{Fails}
-use Rattle.ascii_file.proofs.AnsweringLaws.{Fails-bind, Fails-as}
+use Rattle.file_words.proofs.AnsweringLaws.{Fails-bind, Fails-as}
 use Rattle.reader_parts.specs.declared.numbers.NumberLine.{NumberLine}
 use Rattle.reader_parts.specs.declared.symbols.SymbolLine.{SymbolLine}
 use Rattle.reader_parts.specs.Rows.{row_of}
@@ -54,7 +54,7 @@ after_end new end after state piece left read fed place reached =
     record { next = reached.0; offset = after; stands = reached.2; place = place; fed = fed ∙ ap (λ (r : Result State ReadError). r >>= λ s. feed s left) reached.1 }
 
 -- a fault of what ends an item is one of the piece
-pub fault_at_end : (e : ReadError) (state : State) (piece left : List ℕ) (read : Result State ReadError) → feed state piece ≡ (read >>= λ s. feed s left) → Fails e read → Fails e (feed state piece)
+pub fault_at_end : (e : ReadError) (state : State) (piece left : List ℕ) (read : Result State ReadError) → feed state piece ≡ (read >>= λ s. feed s left) → Fails NoMemory e read → Fails NoMemory e (feed state piece)
 fault_at_end e state piece left read fed fails = Fails-as e (read >>= λ s. feed s left) (feed state piece) fed (Fails-bind e read (λ s. feed s left) fails)
 
 -- nothing of the piece is left

@@ -3,15 +3,15 @@ use Rattle.std.proofs.Common.{ℕ, ◌≡◌, ◌+◌, List, [], ◌∷◌, leng
 use Rattle.std.proofs.lemmas.Bool.{cond-true, cond-false, and_from, and_right}
 use Rattle.aig_graph.specs.Circuits.{Netlist}
 use Rattle.file_words.specs.declared.fault.ReadError.{ReadError}
-use Rattle.file_words.specs.declared.fault.ReadError.TheVariants.{Truncated}
+use Rattle.file_words.specs.declared.fault.ReadError.TheVariants.{Truncated, NoMemory}
+use Rattle.file_words.specs.Answering.{◌>>=◌, Fails, Gives}
 use Rattle.ascii_file.specs.declared.header.Header.{Header}
 use Rattle.ascii_file.specs.declared.raw.Section.{Section}
 use Rattle.ascii_file.specs.declared.raw.Section.TheVariants.{Inputs, Latches, Safety, Sizes, Liveness, Gates, Symbols}
 use Rattle.ascii_file.specs.Raw.{Raw}
 use Rattle.ascii_file.specs.Items.{begins_comment}
-use Rattle.ascii_file.specs.Reading.{◌>>=◌, is_symbols}
-use Rattle.ascii_file.specs.Answering.{Gives, Fails}
-use Rattle.ascii_file.proofs.AnsweringLaws.{Fails-as, Fails-bind}
+use Rattle.ascii_file.specs.Reading.{is_symbols}
+use Rattle.file_words.proofs.AnsweringLaws.{Fails-as, Fails-bind}
 use Rattle.binary_file.specs.Items.{next_section}
 use Rattle.binary_file.specs.Reading.{State, InLine, InFirst, InSecond, InComment, is_gates, before_item, complete, finish, end_line, read_line, circuit_of}
 use Rattle.binary_reader.specs.Taking.{circuit_at_end}
@@ -72,7 +72,7 @@ module _ (end : ℕ) (h : Header) (raw : Raw) (at : ℕ) (bytes : List ℕ) (sta
   item_done more item read = item_read item ∙ ap (λ (r : Result Raw ReadError). r >>= λ more. circuit_at_end end h more) read
 
   -- a fault of the line that the end of the input ends is that of the whole
-  pub item_failed : (e : ReadError) → (is_symbols (next_section h raw) && begins_comment bytes) ≡ false → Fails e (read_line h raw at bytes) → Fails e (circuit_at end state)
+  pub item_failed : (e : ReadError) → (is_symbols (next_section h raw) && begins_comment bytes) ≡ false → Fails NoMemory e (read_line h raw at bytes) → Fails NoMemory e (circuit_at end state)
   item_failed e item fails = Fails-as e _ (circuit_at end state) (item_read item) (Fails-bind e (read_line h raw at bytes) (λ more. circuit_at_end end h more) fails)
 
   -- the end of the input in the comment's first line gives the circuit
@@ -107,5 +107,5 @@ in_second end h raw at rhs0 [] state is place = ap (circuit_at end) is ∙ ap (�
 in_second end h raw at rhs0 (b ∷ delta) state is place = ap (circuit_at end) is
 
 -- an answer that is right of what reading gives is right of what is equal to it
-pub gives_same : (result read same : Result Netlist ReadError) → read ≡ same → Gives (λ c. c) result same → Gives (λ c. c) result read
-gives_same result read same e gives = subst (λ (r : Result Netlist ReadError). Gives (λ c. c) result r) (sym e) gives
+pub gives_same : (result read same : Result Netlist ReadError) → read ≡ same → Gives NoMemory (λ c. c) result same → Gives NoMemory (λ c. c) result read
+gives_same result read same e gives = subst (λ (r : Result Netlist ReadError). Gives NoMemory (λ c. c) result r) (sym e) gives

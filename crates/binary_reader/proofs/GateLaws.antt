@@ -3,12 +3,13 @@ use Rattle.std.proofs.Common.{ℕ, ◌+◌, ◌-◌, ◌≤◌, ◌≡◌, List,
 use Rattle.std.proofs.lemmas.List.{map_push}
 use Rattle.std.proofs.lemmas.Bool.{cond-false, le-ltb}
 use Rattle.file_words.specs.declared.fault.ReadError.TheVariants.{BadDelta}
+use Rattle.file_words.specs.Answering.{◌>>=◌}
 use Rattle.aig_graph.specs.declared.graph.Gate.{Gate}
 use Rattle.binary_file.specs.Deltas.{delta_value}
 use Rattle.ascii_file.specs.declared.header.Header.{Header}
 use Rattle.ascii_file.specs.Raw.{Raw}
 use Rattle.ascii_file.specs.Items.{GateItem}
-use Rattle.ascii_file.specs.Reading.{◌>>=◌, with_item}
+use Rattle.ascii_file.specs.Reading.{with_item}
 use Rattle.binary_file.specs.Items.{next_gate}
 use Rattle.binary_file.specs.Reading.{InSecond, before_item, end_first, end_second}
 use Rattle.binary_reader.specs.Contents.{Contents, gate_of, contents_of, IsAt}

@@ -3,9 +3,10 @@ use Rattle.std.proofs.Common.{ℕ, ◌+◌, ◌-◌, ◌^◌, ◌≤◌, ◌≡�
 use Rattle.std.proofs.lemmas.Bool.{ltb-false, eq-eqb, ne_eqb, eqb-true, eqb-false}
 use Rattle.std.specs.Option.{option_and_then}
 use Rattle.file_words.specs.declared.fault.ReadError.TheVariants.{MaxIndex}
+use Rattle.file_words.specs.Answering.{◌>>=◌}
 use Rattle.ascii_file.specs.declared.header.Header.{Header}
 use Rattle.ascii_file.specs.Headers.{header_in}
-use Rattle.ascii_file.specs.Reading.{◌>>=◌, unless}
+use Rattle.ascii_file.specs.Reading.{unless}
 use Rattle.ascii_file.proofs.CheckLaws.{Passes, unless_ok, same_ok}
 use Rattle.reader_parts.specs.Header.{header_row}
 use Rattle.reader_parts.specs.Limits.{limits, limited}

@@ -3,12 +3,12 @@ use Rattle.std.proofs.Common.{ℕ, ◌≡◌, ◌+◌, List, [], ◌∷◌, ◌+
 use Rattle.std.proofs.lemmas.Bool.{cond-false}
 use Rattle.std.proofs.lemmas.List.{append_assoc, append-nil, length-append}
 use Rattle.file_words.specs.declared.fault.ReadError.{ReadError}
+use Rattle.file_words.specs.declared.fault.ReadError.TheVariants.{NoMemory}
 use Rattle.file_words.specs.Cuts.{HasNoNewline}
+use Rattle.file_words.specs.Answering.{◌>>=◌, Fails}
 use Rattle.ascii_file.specs.declared.header.Header.{Header}
 use Rattle.ascii_file.specs.Raw.{nothing_yet}
-use Rattle.ascii_file.specs.Reading.{◌>>=◌}
-use Rattle.ascii_file.specs.Answering.{Fails}
-use Rattle.ascii_file.proofs.AnsweringLaws.{Fails-as, Fails-bind, Fails-where, Fails-with}
+use Rattle.file_words.proofs.AnsweringLaws.{Fails-as, Fails-bind, Fails-where, Fails-with}
 use Rattle.reader_parts.specs.declared.header.HeaderLine.{HeaderLine}
 use Rattle.reader_parts.specs.Header.{header_row, header_with}
 use Rattle.binary_file.specs.Headers.{header_of}
@@ -30,7 +30,7 @@ pub then_fed : (bytes piece : List ℕ) (state : State) → feed (AtHeader []) b
 then_fed bytes piece state reading = joined bytes piece ∙ ap (λ (r : Result State ReadError). r >>= λ s. feed s piece) reading
 
 -- a fault of the bytes so far is one with a piece after them
-pub fault_stays : (fault : ReadError) (bytes piece : List ℕ) → Fails fault (feed (AtHeader []) bytes) → Fails fault (feed (AtHeader []) (bytes ++ piece))
+pub fault_stays : (fault : ReadError) (bytes piece : List ℕ) → Fails NoMemory fault (feed (AtHeader []) bytes) → Fails NoMemory fault (feed (AtHeader []) (bytes ++ piece))
 fault_stays fault bytes piece fails = Fails-as fault _ (feed (AtHeader []) (bytes ++ piece)) (joined bytes piece) (Fails-bind fault (feed (AtHeader []) bytes) (λ s. feed s piece) fails)
 
 -- items after a piece
@@ -43,7 +43,7 @@ items_held new bytes piece end state reading place reached = record {
 }
 
 -- a fault of a piece after bytes that had none is one of both together
-pub items_failed : (fault : ReadError) (bytes piece : List ℕ) (state : State) → feed (AtHeader []) bytes ≡ Ok state → Fails fault (feed state piece) → Fails fault (feed (AtHeader []) (bytes ++ piece))
+pub items_failed : (fault : ReadError) (bytes piece : List ℕ) (state : State) → feed (AtHeader []) bytes ≡ Ok state → Fails NoMemory fault (feed state piece) → Fails NoMemory fault (feed (AtHeader []) (bytes ++ piece))
 items_failed fault bytes piece state reading fails = Fails-as fault (feed state piece) (feed (AtHeader []) (bytes ++ piece)) (then_fed bytes piece state reading) fails
 
 -- ---- the first line
@@ -73,7 +73,7 @@ module _ (bytes part left piece : List ℕ) (reading : feed (AtHeader []) bytes 
   header_ended = then_fed bytes piece (AtHeader bytes) reading ∙ line_fed AtHeader in_header part bytes left piece none parts
 
   -- a fault of the first line, once its newline has come, is one of the bytes
-  pub header_failed : (fault : ReadError) → Err fault ≡ read_header (bytes ++ part) → Fails fault (feed (AtHeader []) (bytes ++ piece))
+  pub header_failed : (fault : ReadError) → Err fault ≡ read_header (bytes ++ part) → Fails NoMemory fault (feed (AtHeader []) (bytes ++ piece))
   header_failed fault e =
       Fails-with fault (feed (AtHeader []) (bytes ++ piece))
       (header_ended ∙ ap (λ (r : Result Header ReadError). (r >>= λ h. Ok (before_item h nothing_yet (length (bytes ++ part) + 1))) >>= λ s. feed s left) (sym e))
@@ -106,7 +106,7 @@ unfolding read_binary read_raw
 read_at bytes state reading = ap (λ (r : Result State ReadError). circuit (r >>= finish (length bytes))) reading
 
 -- a fault of the bytes so far is one of reading them as a whole
-pub read_failed : (fault : ReadError) (bytes : List ℕ) → Fails fault (feed (AtHeader []) bytes) → Fails fault (read_binary bytes)
+pub read_failed : (fault : ReadError) (bytes : List ℕ) → Fails NoMemory fault (feed (AtHeader []) bytes) → Fails NoMemory fault (read_binary bytes)
 unfolding read_binary read_raw
 read_failed fault bytes fails = Fails-where fault (feed (AtHeader []) bytes) (read_binary bytes) (λ e. ap (λ (r : Result State ReadError). circuit (r >>= finish (length bytes))) e) fails
 
@@ -125,7 +125,7 @@ module _ (bytes : List ℕ) (reading : feed (AtHeader []) bytes ≡ Ok (AtHeader
   header_alone h e = read_at bytes (AtHeader bytes) reading ∙ header_at_end (length bytes) bytes ∙ ap (λ (r : Result Header ReadError). r >>= λ h. circuit_at_end (length bytes) h nothing_yet) (sym e)
 
   -- an input that is a first line alone, which is no header, has its fault
-  pub header_alone_failed : (fault : ReadError) → Err fault ≡ read_header bytes → Fails fault (read_binary bytes)
+  pub header_alone_failed : (fault : ReadError) → Err fault ≡ read_header bytes → Fails NoMemory fault (read_binary bytes)
   header_alone_failed fault e =
       Fails-with fault (read_binary bytes)
       (read_at bytes (AtHeader bytes) reading ∙ header_at_end (length bytes) bytes ∙ ap (λ (r : Result Header ReadError). r >>= λ h. circuit_at_end (length bytes) h nothing_yet) (sym e))

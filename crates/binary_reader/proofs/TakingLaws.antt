@@ -2,9 +2,10 @@
 use Rattle.std.proofs.Common.{◌≡◌, Result, Ok, Err, subst, ◌∙◌}
 use Rattle.file_words.specs.declared.fault.ReadError.{ReadError}
 use Rattle.file_words.specs.declared.fault.ReadError.TheVariants.{NoMemory}
+use Rattle.file_words.specs.Answering.{Fails, Gives}
 use Rattle.ascii_file.specs.declared.header.Header.{Header}
 use Rattle.ascii_file.specs.Raw.{Raw}
-use Rattle.ascii_file.specs.Answering.{Fails, Gives}
+use Rattle.file_words.proofs.AnsweringLaws.{Fails-where}
 use Rattle.binary_file.specs.Headers.{IsHeaderWithin}
 use Rattle.binary_reader.specs.Contents.{Contents, IsAt}
 use Rattle.binary_reader.specs.Taking.{Takes}
@@ -14,13 +15,12 @@ abbrev pub Agrees : Header → Result Contents ReadError → Result Raw ReadErro
 Agrees h (Ok c) read = (raw : Raw) × (read ≡ Ok raw) × IsAt c h raw
 Agrees h (Err error) read = read ≡ Err error
 
-taken_fails : (h : Header) (error : ReadError) (taken : Result Contents ReadError) (read : Result Raw ReadError) → Fails error taken → Agrees h taken read → Fails error read
-taken_fails h NoMemory taken read fails agrees = tt
-taken_fails h error taken read fails agrees = subst (λ (t : Result Contents ReadError). Agrees h t read) fails agrees
+taken_fails : (h : Header) (error : ReadError) (taken : Result Contents ReadError) (read : Result Raw ReadError) → Fails NoMemory error taken → Agrees h taken read → Fails NoMemory error read
+taken_fails h error taken read fails agrees = Fails-where error taken read (λ is. subst (λ (t : Result Contents ReadError). Agrees h t read) is agrees) fails
 
 -- a call that gives the contents with an item takes it as reading does, where the contents agree with reading
 pub given_takes : {X : Type 0} (h : Header) (new : Contents) (r : Result X ReadError) (taken : Result Contents ReadError) (read : Result Raw ReadError)
-    → Gives (λ _. new) r taken → Agrees h taken read → Takes h new r read
+    → Gives NoMemory (λ _. new) r taken → Agrees h taken read → Takes h new r read
 given_takes h new (Ok x) taken read gives agrees = subst (λ (t : Result Contents ReadError). Agrees h t read) gives agrees
 given_takes h new (Err error) taken read gives agrees = taken_fails h error taken read gives agrees
 

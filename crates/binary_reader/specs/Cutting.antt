@@ -1,8 +1,8 @@
 -- Pieces and the deltas in them.
 use Rattle.std.specs.Prelude.{ℕ, ◌+◌, ◌<◌, ◌≤◌, ◌≡◌, true, List, [], ◌∷◌, ◌++◌, length, drop, Option, Some, None, Result}
 use Rattle.file_words.specs.declared.fault.ReadError.{ReadError}
+use Rattle.file_words.specs.Answering.{◌>>=◌}
 use Rattle.binary_file.specs.Deltas.{is_delta, delta_value}
-use Rattle.ascii_file.specs.Reading.{◌>>=◌}
 use Rattle.binary_file.specs.Reading.{State, step, feed, delta_step}
 
 -- the bytes begin with a delta of at most five bytes

@@ -1,7 +1,8 @@
 -- The bytes that were fed to a reader.
 use Rattle.std.specs.Prelude.{ℕ, ◌≡◌, List, [], length, Option, None, Result, Ok, Err}
 use Rattle.file_words.specs.declared.fault.ReadError.{ReadError}
-use Rattle.ascii_file.specs.Answering.{Fails}
+use Rattle.file_words.specs.declared.fault.ReadError.TheVariants.{NoMemory}
+use Rattle.file_words.specs.Answering.{Fails}
 use Rattle.binary_file.specs.Reading.{State, AtHeader, feed}
 use Rattle.binary_reader.specs.declared.reader.AigReader.{AigReader}
 use Rattle.binary_reader.specs.Stages.{HoldsStage, failure}
@@ -15,7 +16,7 @@ pub record Holds (reader : AigReader) (bytes : List ℕ) : Type 0 where
 -- on Ok the bytes have no fault so far; an error is their fault, unless memory ran out
 abbrev pub Answers : Result (Unit {0}) ReadError → List ℕ → Type 0
 Answers (Ok x) bytes = (state : State) × (feed (AtHeader []) bytes ≡ Ok state)
-Answers (Err fault) bytes = Fails fault (feed (AtHeader []) bytes)
+Answers (Err fault) bytes = Fails NoMemory fault (feed (AtHeader []) bytes)
 
 -- the fault that every call answers from now on, if there is one
 abbrev pub fault_of : AigReader → Option ReadError

@@ -7,10 +7,11 @@ use Rattle.aig_graph.specs.declared.graph.Reset.{Reset}
 use Rattle.aig_graph.specs.declared.graph.Reset.TheVariants.{Zero, One, Free}
 use Rattle.file_words.specs.declared.fault.ReadError.{ReadError}
 use Rattle.file_words.specs.declared.fault.ReadError.TheVariants.{TooLarge, MaxIndex, BadLine, BadReset, BadSymbol}
+use Rattle.file_words.specs.Answering.{◌>>=◌}
 use Rattle.ascii_file.specs.declared.header.Header.{Header}
 use Rattle.ascii_file.specs.Raw.{RawSymbol, count_of}
 use Rattle.ascii_file.specs.Meaning.{symbols_of}
-use Rattle.ascii_file.specs.Reading.{is_of_same, ◌>>=◌}
+use Rattle.ascii_file.specs.Reading.{is_of_same}
 use Rattle.binary_reader.specs.Contents.{Contents, latch_literal}
 
 abbrev pub with_latch : Contents → Latch → Contents

@@ -1,12 +1,13 @@
 -- The item that has begun, beside where reading stands: what was read before it, its offset, and how many bytes have come.
 use Rattle.std.specs.Prelude.{ℕ, ◌≡◌, ◌+◌, ◌<◌, Bool, true, false, List, ◌++◌, length, Result, Ok, Err}
 use Rattle.file_words.specs.declared.fault.ReadError.{ReadError}
+use Rattle.file_words.specs.declared.fault.ReadError.TheVariants.{NoMemory}
+use Rattle.file_words.specs.Answering.{Fails}
 use Rattle.ascii_file.specs.declared.header.Header.{Header}
 use Rattle.ascii_file.specs.declared.raw.Section.TheVariants.{Gates, Symbols}
 use Rattle.ascii_file.specs.Raw.{Raw}
 use Rattle.ascii_file.specs.Items.{begins_comment}
 use Rattle.ascii_file.specs.Reading.{is_symbols}
-use Rattle.ascii_file.specs.Answering.{Fails}
 use Rattle.reader_parts.specs.declared.numbers.NumberLine.{NumberLine}
 use Rattle.reader_parts.specs.declared.symbols.SymbolLine.{SymbolLine}
 use Rattle.reader_parts.specs.Rows.{row_of}
@@ -82,4 +83,4 @@ IsOpened c at offset Comment state = IsInComment c state
 abbrev pub TakesText : Header → Contents → Raw → ℕ → List ℕ → Result Bool ReadError → Type 0
 TakesText h new raw at bytes (Ok true) = (begins_comment bytes ≡ false) × Takes h new (Ok true) (read_line h raw at bytes)
 TakesText h new raw at bytes (Ok false) = (begins_comment bytes ≡ true) × IsAt new h raw
-TakesText h new raw at bytes (Err error) = (begins_comment bytes ≡ false) × Fails error (read_line h raw at bytes)
+TakesText h new raw at bytes (Err error) = (begins_comment bytes ≡ false) × Fails NoMemory error (read_line h raw at bytes)

@@ -1,7 +1,8 @@
 -- What a reader holds of the bytes that were fed.
 use Rattle.std.specs.Prelude.{ℕ, ◌≡◌, List, [], ◌++◌, length, Option, Some, None, Result, Ok, Err, codes}
 use Rattle.file_words.specs.declared.fault.ReadError.{ReadError}
-use Rattle.ascii_file.specs.Answering.{Fails}
+use Rattle.file_words.specs.declared.fault.ReadError.TheVariants.{NoMemory}
+use Rattle.file_words.specs.Answering.{Fails}
 use Rattle.reader_parts.specs.declared.header.HeaderLine.{HeaderLine}
 use Rattle.reader_parts.specs.Header.{header_row, header_with}
 use Rattle.binary_file.specs.Reading.{State, AtHeader, feed}
@@ -29,13 +30,13 @@ HoldsOpen (stage.Failed fault) bytes = ⊥
 
 -- the same, or the fault of the bytes, unless memory ran out
 abbrev pub HoldsStage : Stage → List ℕ → Type 0
-HoldsStage (stage.Failed fault) bytes = Fails fault (feed (AtHeader []) bytes)
+HoldsStage (stage.Failed fault) bytes = Fails NoMemory fault (feed (AtHeader []) bytes)
 HoldsStage sound bytes = HoldsOpen sound bytes
 
 -- what was made of the bytes
 abbrev pub HoldsResult : Result Stage ReadError → List ℕ → Type 0
 HoldsResult (Ok sound) bytes = HoldsOpen sound bytes
-HoldsResult (Err fault) bytes = Fails fault (feed (AtHeader []) bytes)
+HoldsResult (Err fault) bytes = Fails NoMemory fault (feed (AtHeader []) bytes)
 
 -- the fault that every call answers
 abbrev pub failure : Stage → Option ReadError

@@ -3,8 +3,8 @@ use Rattle.std.specs.Prelude.{ℕ, ◌≡◌, ◌+◌, List, length, Result, Ok,
 use Rattle.std.specs.Borrow.{Bor}
 use Rattle.aig_graph.specs.Circuits.{Netlist}
 use Rattle.file_words.specs.declared.fault.ReadError.{ReadError}
-use Rattle.ascii_file.specs.Reading.{◌>>=◌}
-use Rattle.ascii_file.specs.Answering.{Fails}
+use Rattle.file_words.specs.declared.fault.ReadError.TheVariants.{NoMemory}
+use Rattle.file_words.specs.Answering.{◌>>=◌, Fails}
 use Rattle.binary_file.specs.Reading.{State, feed, finish, circuit_of}
 use Rattle.binary_reader.specs.declared.items.Items.{Items}
 use Rattle.binary_reader.specs.Opened.{IsOpened}
@@ -16,7 +16,7 @@ Stands items offset state = IsOpened items.sections items.at offset items.opened
 -- on Ok the reader stands where reading does then; an error is the fault of reading, unless memory ran out
 abbrev pub Reaches : {X : Type 0} → Items → ℕ → Result X ReadError → Result State ReadError → Type 0
 Reaches new offset (Ok x) read = (next : State) × (read ≡ Ok next) × Stands new offset next
-Reaches new offset (Err error) read = Fails error read
+Reaches new offset (Err error) read = Fails NoMemory error read
 
 -- bytes of a piece that ends at an offset were taken: reading the piece is reading what is left
 pub record IsFed (new : Items) (end : ℕ) (state : State) (piece left : List ℕ) : Type 0 where
@@ -28,7 +28,7 @@ pub record IsFed (new : Items) (end : ℕ) (state : State) (piece left : List �
 
 abbrev pub Feeds : Items → ℕ → State → List ℕ → Result (Bor (List ℕ)) ReadError → Type 0
 Feeds new end state piece (Ok left) = IsFed new end state piece left.now
-Feeds new end state piece (Err error) = Fails error (feed state piece)
+Feeds new end state piece (Err error) = Fails NoMemory error (feed state piece)
 
 -- the circuit of an input of this length, where reading stands at its end
 abbrev pub circuit_at : ℕ → State → Result Netlist ReadError

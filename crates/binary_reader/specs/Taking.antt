@@ -2,12 +2,12 @@
 use Rattle.std.specs.Prelude.{ℕ, ◌≡◌, ◌-◌, ◌==◌, ◌||◌, nat_lt, [], ◌∷◌, Result, Ok, Err, if◌then◌else◌}
 use Rattle.aig_graph.specs.Circuits.{Netlist}
 use Rattle.file_words.specs.declared.fault.ReadError.{ReadError}
-use Rattle.file_words.specs.declared.fault.ReadError.TheVariants.{BadDelta, Truncated}
+use Rattle.file_words.specs.declared.fault.ReadError.TheVariants.{BadDelta, Truncated, NoMemory}
+use Rattle.file_words.specs.Answering.{Fails}
 use Rattle.ascii_file.specs.declared.header.Header.{Header}
 use Rattle.ascii_file.specs.Raw.{Raw}
 use Rattle.ascii_file.specs.Items.{GateItem}
 use Rattle.ascii_file.specs.Reading.{unless, with_item, is_symbols}
-use Rattle.ascii_file.specs.Answering.{Fails}
 use Rattle.binary_file.specs.Items.{next_section, next_gate}
 use Rattle.binary_file.specs.Reading.{circuit_of}
 use Rattle.binary_reader.specs.Contents.{Contents, IsAt}
@@ -15,7 +15,7 @@ use Rattle.binary_reader.specs.Contents.{Contents, IsAt}
 -- After Ok the contents are those of the raw circuit that reading gives; an error is the fault of reading, unless memory ran out.
 abbrev pub Takes : {X : Type 0} → Header → Contents → Result X ReadError → Result Raw ReadError → Type 0
 Takes h new (Ok x) read = (raw : Raw) × (read ≡ Ok raw) × IsAt new h raw
-Takes h new (Err error) read = Fails error read
+Takes h new (Err error) read = Fails NoMemory error read
 
 -- the first fan-in of the next gate, by its delta at an offset
 abbrev pub read_first : Header → Raw → ℕ → ℕ → Result ℕ ReadError

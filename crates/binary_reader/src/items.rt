@@ -6,7 +6,8 @@
 //! The open item is taken out by value while a piece is fed, and `Comment` stands in its place, since it owns nothing and
 //! dropping it takes no step. Where the piece has a fault, the items are dropped, and nobody looks at the stand-in.
 ghost use Rattle.std.specs.Prelude.{ℕ, ◌≡◌, ◌+◌, length};
-ghost use Rattle.ascii_file.specs.Answering.{Gives};
+ghost use Rattle.file_words.specs.declared.fault.ReadError.TheVariants.{NoMemory};
+ghost use Rattle.file_words.specs.Answering.{Gives};
 ghost use Rattle.binary_file.specs.Reading.{State};
 ghost use Rattle.binary_reader.specs.Opened.{IsInNumbers, IsInSymbol};
 ghost use Rattle.binary_reader.specs.Standing.{circuit_at};
@@ -36,7 +37,8 @@ impl Items {
     ghost use Rattle.ascii_file.specs.declared.header.Header.{Header};
     ghost use Rattle.ascii_file.specs.declared.raw.Section.TheVariants.{Gates};
     ghost use Rattle.ascii_file.specs.Raw.{Raw, nothing_yet};
-    ghost use Rattle.ascii_file.specs.Answering.{Gives};
+    ghost use Rattle.file_words.specs.declared.fault.ReadError.TheVariants.{NoMemory};
+    ghost use Rattle.file_words.specs.Answering.{Gives};
     ghost use Rattle.binary_file.specs.Deltas.{delta_value};
     ghost use Rattle.binary_file.specs.Headers.{IsHeaderWithin};
     ghost use Rattle.binary_file.specs.Items.{next_section, next_gate};
@@ -287,7 +289,7 @@ impl Items {
     /// The circuit of an input that ends here, at the offset.
     pub(crate) fn finish(self, alloc: Global, end: u64) -> Result<Circuit, ReadError>
         ensures { (state : State) → Stands self end state
-            → Gives (λ c. c) result (circuit_at end state) }
+            → Gives NoMemory (λ c. c) result (circuit_at end state) }
     {
         let Items {
             sections,
@@ -319,7 +321,7 @@ fn finish_numbers(
     end: u64,
 ) -> Result<Circuit, ReadError>
     ensures { (state : State) → IsInNumbers sections at end line state
-        → Gives (λ c. c) result (circuit_at end state) }
+        → Gives NoMemory (λ c. c) result (circuit_at end state) }
 {
     if at == end {
         return sections.finish(alloc, end);
@@ -343,7 +345,7 @@ fn finish_symbol(
     end: u64,
 ) -> Result<Circuit, ReadError>
     ensures { (state : State) → IsInSymbol sections at end line state
-        → Gives (λ c. c) result (circuit_at end state) }
+        → Gives NoMemory (λ c. c) result (circuit_at end state) }
 {
     if at == end {
         drop(line);

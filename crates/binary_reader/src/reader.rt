@@ -3,7 +3,8 @@
 //!     first line open ──newline──► items ──finish──► ended, which answers BadHeader at 0
 //!     either ──fault──► failed, which answers that fault from then on
 ghost use Rattle.std.specs.Prelude.{ℕ, List, ◌≡◌, ◌++◌};
-ghost use Rattle.ascii_file.specs.Answering.{Gives};
+ghost use Rattle.file_words.specs.declared.fault.ReadError.TheVariants.{NoMemory};
+ghost use Rattle.file_words.specs.Answering.{Gives};
 ghost use Rattle.binary_file.specs.Reading.{read_binary};
 ghost use Rattle.binary_reader.specs.Holding.{Holds};
 
@@ -27,8 +28,8 @@ pub struct AigReader {
 impl AigReader {
     ghost use Rattle.std.specs.Prelude.{ℕ, List, ◌≡◌, ◌++◌, [], Err, Some, None, OnOk, IfErr};
     ghost use Rattle.file_words.specs.declared.fault.ReadError.{ReadError};
-    ghost use Rattle.file_words.specs.declared.fault.ReadError.TheVariants.{BadHeader};
-    ghost use Rattle.ascii_file.specs.Answering.{Gives};
+    ghost use Rattle.file_words.specs.declared.fault.ReadError.TheVariants.{BadHeader, NoMemory};
+    ghost use Rattle.file_words.specs.Answering.{Gives};
     ghost use Rattle.binary_file.specs.Reading.{read_binary};
     ghost use Rattle.binary_reader.specs.Holding.{Holds, Answers, fault_of};
 
@@ -82,7 +83,7 @@ impl AigReader {
     /// The first fault of the file; `NoMemory`. Every later call answers the same.
     pub fn finish(&mut self) -> Result<Circuit, ReadError>
         ensures circuit { (bytes : List ℕ) → Holds self.old bytes
-            → Gives (λ c. c) result (read_binary bytes) }
+            → Gives NoMemory (λ c. c) result (read_binary bytes) }
         ensures ends { OnOk result (fault_of self.new ≡ Some (BadHeader 0)) }
         ensures fails { IfErr result (λ fault. fault_of self.new ≡ Some fault) }
         ensures stays { (fault : ReadError) → fault_of self.old ≡ Some fault → result ≡ Err fault }
@@ -111,7 +112,7 @@ impl AigReader {
 ///
 /// The first fault of the bytes; `NoMemory`. Never `Device`.
 pub fn read_aig(alloc: Global, bytes: &[u8]) -> Result<Circuit, ReadError>
-    ensures { Gives (λ c. c) result (read_binary bytes.now) }
+    ensures { Gives NoMemory (λ c. c) result (read_binary bytes.now) }
 {
     let mut reader = AigReader::new(alloc);
     let circuit = read_rest(&mut reader, bytes);
@@ -122,7 +123,7 @@ pub fn read_aig(alloc: Global, bytes: &[u8]) -> Result<Circuit, ReadError>
 /// The circuit of a file that ends with these bytes.
 fn read_rest(reader: &mut AigReader, bytes: &[u8]) -> Result<Circuit, ReadError>
     ensures { (before : List ℕ) → Holds reader.old before
-        → Gives (λ c. c) result (read_binary (before ++ bytes.now)) }
+        → Gives NoMemory (λ c. c) result (read_binary (before ++ bytes.now)) }
 {
     match reader.feed(bytes) {
         Ok(()) => reader.finish(),

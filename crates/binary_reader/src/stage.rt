@@ -2,7 +2,8 @@
 //! what a fault leaves of it is dropped here.
 ghost use Rattle.std.specs.Prelude.{ℕ, List, ◌≡◌, ◌+◌, ◌++◌, [], length, Ok};
 ghost use Rattle.ascii_file.specs.Raw.{nothing_yet};
-ghost use Rattle.ascii_file.specs.Answering.{Gives};
+ghost use Rattle.file_words.specs.declared.fault.ReadError.TheVariants.{NoMemory};
+ghost use Rattle.file_words.specs.Answering.{Gives};
 ghost use Rattle.binary_file.specs.Headers.{IsHeaderWithin};
 ghost use Rattle.binary_file.specs.Reading.{State, feed, before_item, read_binary};
 ghost use Rattle.binary_file.specs.Reading as reading;
@@ -32,7 +33,8 @@ pub(crate) enum Stage {
 impl Stage {
     ghost use Rattle.std.specs.Prelude.{ℕ, List, [], ◌≡◌, ◌+◌, ◌++◌, length, Err, Some, None};
     ghost use Rattle.file_words.specs.declared.fault.ReadError.{ReadError};
-    ghost use Rattle.ascii_file.specs.Answering.{Fails, Gives};
+    ghost use Rattle.file_words.specs.declared.fault.ReadError.TheVariants.{NoMemory};
+    ghost use Rattle.file_words.specs.Answering.{Fails, Gives};
     ghost use Rattle.binary_file.specs.Reading.{read_binary};
     ghost use Rattle.binary_file.specs.Reading as reading;
     ghost use Rattle.binary_reader.specs.Stages.{HoldsStage, HoldsResult, failure};
@@ -55,7 +57,7 @@ impl Stage {
     pub(crate) fn finish(self, alloc: Global, end: u64) -> Result<Circuit, ReadError>
         ensures circuit { (bytes : List ℕ) → HoldsStage self bytes
             → (failure self ≡ None → length bytes ≡ end)
-            → Gives (λ c. c) result (read_binary bytes) }
+            → Gives NoMemory (λ c. c) result (read_binary bytes) }
         ensures stays { (fault : ReadError) → failure self ≡ Some fault → result ≡ Err fault }
     {
         match self {
@@ -68,7 +70,7 @@ impl Stage {
     /// Why a piece is refused whose end has no offset.
     pub(crate) fn refusal(&self) -> ReadError
         ensures held { (bytes more : List ℕ) → HoldsStage self.now bytes
-            → Fails result (reading.feed (reading.AtHeader []) (bytes ++ more)) }
+            → Fails NoMemory result (reading.feed (reading.AtHeader []) (bytes ++ more)) }
         ensures stays { (fault : ReadError) → failure self.now ≡ Some fault → result ≡ fault }
     {
         match self {
@@ -134,7 +136,7 @@ fn feed_header(alloc: Global, line: HeaderLine, end: u64, piece: &[u8]) -> Resul
 /// The circuit of an input that ends in the first line.
 fn finish_header(alloc: Global, line: HeaderLine, end: u64) -> Result<Circuit, ReadError>
     ensures { (bytes : List ℕ) → HoldsHeader line bytes → length bytes ≡ end
-        → Gives (λ c. c) result (read_binary bytes) }
+        → Gives NoMemory (λ c. c) result (read_binary bytes) }
 {
     let mut line = line;
     match binary_header(&mut line) {

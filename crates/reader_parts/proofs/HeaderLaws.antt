@@ -7,9 +7,10 @@ use Rattle.std.specs.Option.{option_and_then}
 use Rattle.file_words.specs.declared.fault.ReadError.{ReadError}
 use Rattle.file_words.specs.declared.fault.ReadError.TheVariants.{BadHeader, TooLarge, MaxIndex}
 use Rattle.file_words.specs.Lines.{numbers_of}
+use Rattle.file_words.specs.Answering.{◌>>=◌}
 use Rattle.ascii_file.specs.declared.header.Header.{Header}
 use Rattle.ascii_file.specs.Headers.{number_at, header_in, header_of}
-use Rattle.ascii_file.specs.Reading.{◌>>=◌, unless, checked_header, read_header}
+use Rattle.ascii_file.specs.Reading.{unless, checked_header, read_header}
 use Rattle.ascii_file.proofs.CheckLaws.{Passes}
 use Rattle.reader_parts.specs.Rows.{clamped, up_to_nine, row_of}
 use Rattle.reader_parts.specs.declared.numbers.NumberLine.{NumberLine}

@@ -24,7 +24,8 @@ impl RawLists {
     ghost use Rattle.std.specs.List.{sum};
     ghost use Rattle.ascii_file.specs.Raw.{safety_count};
     ghost use Rattle.ascii_file.specs.Headers.{IsHeaderWithin};
-    ghost use Rattle.ascii_file.specs.Answering.{Gives};
+    ghost use Rattle.file_words.specs.declared.fault.ReadError.TheVariants.{NoMemory};
+    ghost use Rattle.file_words.specs.Answering.{Gives};
     ghost use Rattle.aag_text.specs.Numbering.{placed_lists};
     ghost use Rattle.aag_text.specs.Resolving.{IsConsistent};
 
@@ -64,7 +65,7 @@ impl RawLists {
     pub(crate) fn placed(&self, alloc: Global) -> Result<Placed, ReadError>
         requires { 1 + length self.now.inputs.items + length self.now.latches.items + length
             self.now.gates.items ≤ 2 ^ 28 }
-        ensures { Gives (λ p. p) result (placed_lists self.now.places
+        ensures { Gives NoMemory (λ p. p) result (placed_lists self.now.places
             (length self.now.inputs.items + length self.now.latches.items + length
             self.now.gates.items)
             self.now.latches.items self.now.properties.safety self.now.properties.liveness

@@ -1,7 +1,8 @@
 //! Literals by the places of their variables.
 ghost use Rattle.std.specs.Prelude.{◌≡◌, ◌<◌, ◌^◌, Some, None, if◌then◌else◌};
 ghost use Rattle.ascii_file.specs.Meaning as meaning;
-ghost use Rattle.ascii_file.specs.Answering.{Gives};
+ghost use Rattle.file_words.specs.declared.fault.ReadError.TheVariants.{NoMemory};
+ghost use Rattle.file_words.specs.Answering.{Gives};
 ghost use Rattle.aag_text.specs.Numbering.{is_placed, is_gate_placed, placed, placed_gate, placed_literals, placed_latches, placed_gates};
 
 use aig_graph::{Gate, Latch, Lit, Reset};
@@ -33,7 +34,7 @@ pub(crate) fn literals(
     lits: &[u32],
 ) -> Result<Vec<Lit>, ReadError>
     requires few { count < 2 ^ 28 }
-    ensures { Gives (λ v. v.items) result (placed_literals places.now count lits.now) }
+    ensures { Gives NoMemory (λ v. v.items) result (placed_literals places.now count lits.now) }
 {
     let mut found = Vec::with_capacity(alloc, lits.len())?;
     for lit in lits {
@@ -64,7 +65,7 @@ pub(crate) fn latches(
     raws: &[RawLatch],
 ) -> Result<Vec<Latch>, ReadError>
     requires few { count < 2 ^ 28 }
-    ensures { Gives (λ v. v.items) result (placed_latches places.now count raws.now) }
+    ensures { Gives NoMemory (λ v. v.items) result (placed_latches places.now count raws.now) }
 {
     let mut found = Vec::with_capacity(alloc, raws.len())?;
     for latch in raws {
@@ -98,7 +99,7 @@ pub(crate) fn gates(
     raws: &[RawGate],
 ) -> Result<Vec<Gate>, ReadError>
     requires few { count < 2 ^ 28 }
-    ensures { Gives (λ v. v.items) result (placed_gates places.now count raws.now) }
+    ensures { Gives NoMemory (λ v. v.items) result (placed_gates places.now count raws.now) }
 {
     let mut found = Vec::with_capacity(alloc, raws.len())?;
     for raw in raws {

@@ -1,7 +1,8 @@
 //! The order of the gates.
 ghost use Rattle.std.specs.Prelude.{◌≡◌, ◌<◌, ◌≤◌, ◌^◌, length, map, All, IfOk};
 ghost use Rattle.gate_order.specs.Order.{ordered, IsOrder, AreReadsInFile};
-ghost use Rattle.ascii_file.specs.Answering.{Gives};
+ghost use Rattle.file_words.specs.declared.fault.ReadError.TheVariants as faults;
+ghost use Rattle.file_words.specs.Answering.{Gives};
 ghost use Rattle.aag_text.specs.Arranging as arranging;
 ghost use Rattle.aag_text.specs.Arranging.{gate_read, order_or_cycle, AreRanks, AreDistinct, IsGateBelow};
 
@@ -39,7 +40,7 @@ fn reads_of(alloc: Global, first: u32, gates: &[Gate]) -> Result<Vec<Reads>, NoM
 pub(crate) fn order(alloc: Global, first: u32, gates: &[Gate]) -> Result<Vec<u32>, ReadError>
     requires few { length gates.now < 2 ^ 28 }
     requires in_file { AreReadsInFile (map (arranging.reads_of first) gates.now) }
-    ensures { Gives (λ order. order.items) result (order_or_cycle
+    ensures { Gives faults.NoMemory (λ order. order.items) result (order_or_cycle
         (ordered (map (arranging.reads_of first) gates.now))) }
 {
     let Ok(reads) = reads_of(alloc, first, gates) else {

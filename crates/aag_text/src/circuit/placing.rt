@@ -1,5 +1,6 @@
 ghost use Rattle.std.specs.Prelude.{◌<◌, ◌^◌};
-ghost use Rattle.ascii_file.specs.Answering.{Gives};
+ghost use Rattle.file_words.specs.declared.fault.ReadError.TheVariants.{NoMemory};
+ghost use Rattle.file_words.specs.Answering.{Gives};
 ghost use Rattle.aag_text.specs.Numbering.{placed_lists};
 
 use crate::circuit::numbering;
@@ -38,7 +39,7 @@ pub(crate) fn place_all(
     gates: &[RawGate],
 ) -> Result<Placed, ReadError>
     requires few { count < 2 ^ 28 }
-    ensures { Gives (λ p. p) result (placed_lists places.now count latches.now safety.now
+    ensures { Gives NoMemory (λ p. p) result (placed_lists places.now count latches.now safety.now
         liveness.now gates.now) }
 {
     let latches = numbering::latches(alloc, places, count, latches)?;

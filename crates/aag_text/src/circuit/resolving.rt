@@ -9,7 +9,8 @@ ghost use Rattle.ascii_file.specs.Raw.{RawSymbol};
 ghost use Rattle.ascii_file.specs.Headers.{IsHeaderWithin};
 ghost use Rattle.ascii_file.specs.Meaning.{props_of};
 ghost use Rattle.ascii_file.specs.Reading as reading;
-ghost use Rattle.ascii_file.specs.Answering.{Fails, Gives};
+ghost use Rattle.file_words.specs.declared.fault.ReadError.TheVariants as faults;
+ghost use Rattle.file_words.specs.Answering.{Fails, Gives};
 ghost use Rattle.reader_parts.specs.Parts.{AreNamesWithin};
 ghost use Rattle.aag_text.specs.Arranging.{AreRanks, graph_in_order, moved, order_or_cycle};
 ghost use Rattle.aag_text.specs.Resolving.{AreRead, ArePlaced, IsArranged, IsConsistent, IsOrdered, placed_reads, raw_of};
@@ -139,7 +140,7 @@ fn in_order(
     requires placed { ArePlaced header.now sizes.now placed }
     requires names { AreNamesWithin header.now names }
     ensures ok { IfOk result (λ circuit. IsOrdered header.now sizes.now placed names circuit) }
-    ensures err { IfErr result (λ e. Fails e (order_or_cycle
+    ensures err { IfErr result (λ e. Fails faults.NoMemory e (order_or_cycle
         (ordered (placed_reads header.now placed)))) }
 {
     let first = 1 + header.inputs + header.latches;
@@ -165,7 +166,8 @@ pub fn resolve(alloc: Global, lists: RawLists) -> Result<Circuit, ReadError>
     requires small { 1 + length lists.inputs.items + length lists.latches.items + length
         lists.gates.items ≤ 2 ^ 28 }
     ensures { (symbols : List RawSymbol) → AreRead lists symbols
-        → Gives (λ circuit. circuit) result (reading.resolve lists.header (raw_of lists symbols)) }
+        → Gives faults.NoMemory (λ circuit. circuit) result
+        (reading.resolve lists.header (raw_of lists symbols)) }
 {
     if !lists.are_consistent() {
         drop(lists);

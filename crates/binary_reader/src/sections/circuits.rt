@@ -9,7 +9,8 @@ impl Sections {
     ghost use Rattle.ascii_file.specs.declared.header.Header.{Header};
     ghost use Rattle.ascii_file.specs.declared.raw.Section.TheVariants.{Symbols};
     ghost use Rattle.ascii_file.specs.Raw.{Raw};
-    ghost use Rattle.ascii_file.specs.Answering.{Gives};
+    ghost use Rattle.file_words.specs.declared.fault.ReadError.TheVariants.{NoMemory};
+    ghost use Rattle.file_words.specs.Answering.{Gives};
     ghost use Rattle.binary_reader.specs.Contents.{IsAt, section_of, netlist_of};
     ghost use Rattle.binary_reader.specs.Taking.{circuit_at_end};
 
@@ -20,7 +21,7 @@ impl Sections {
     /// `Truncated` where an item is missing; `NoMemory`.
     pub fn finish(self, alloc: Global, end: u64) -> Result<Circuit, ReadError>
         ensures { (h : Header) (raw : Raw) → IsAt self h raw
-            → Gives (λ c. c) result (circuit_at_end end h raw) }
+            → Gives NoMemory (λ c. c) result (circuit_at_end end h raw) }
     {
         match self.section() {
             Section::Symbols => self.into_circuit(alloc),
@@ -30,7 +31,7 @@ impl Sections {
 
     fn into_circuit(self, alloc: Global) -> Result<Circuit, ReadError>
         requires { section_of self ≡ Symbols }
-        ensures { Gives (λ c. c) result (Ok (netlist_of self)) }
+        ensures { Gives NoMemory (λ c. c) result (Ok (netlist_of self)) }
     {
         let Sections {
             header,

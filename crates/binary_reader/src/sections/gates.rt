@@ -8,7 +8,8 @@ impl Sections {
     ghost use Rattle.ascii_file.specs.declared.header.Header.{Header};
     ghost use Rattle.ascii_file.specs.declared.raw.Section.TheVariants.{Gates};
     ghost use Rattle.ascii_file.specs.Raw.{Raw};
-    ghost use Rattle.ascii_file.specs.Answering.{Gives};
+    ghost use Rattle.file_words.specs.declared.fault.ReadError.TheVariants.{NoMemory};
+    ghost use Rattle.file_words.specs.Answering.{Gives};
     ghost use Rattle.binary_file.specs.Items.{next_section, next_gate};
     ghost use Rattle.binary_reader.specs.Contents.{IsAt, section_of, gate_literal};
     ghost use Rattle.binary_reader.specs.Items.{with_gate};
@@ -50,7 +51,7 @@ impl Sections {
     fn push_gate(&mut self, at: u64, rhs0: u32, rhs1: u32) -> Result<(), ReadError>
         requires { rhs1 ≤ rhs0 }
         ensures { section_of self.old ≡ Gates → rhs0 < gate_literal self.old
-            → Gives (λ _. self.new) result
+            → Gives NoMemory (λ _. self.new) result
             (Ok (with_gate self.old (record { rhs0 = rhs0; rhs1 = rhs1 }))) }
     {
         let is_missing = self.gates.len() < self.header.gates as usize;

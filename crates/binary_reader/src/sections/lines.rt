@@ -15,7 +15,8 @@ impl Sections {
     ghost use Rattle.ascii_file.specs.declared.raw.Section.TheVariants as section;
     ghost use Rattle.ascii_file.specs.Raw.{Raw};
     ghost use Rattle.ascii_file.specs.Reading.{is_symbols};
-    ghost use Rattle.ascii_file.specs.Answering.{Gives};
+    ghost use Rattle.file_words.specs.declared.fault.ReadError.TheVariants.{NoMemory};
+    ghost use Rattle.file_words.specs.Answering.{Gives};
     ghost use Rattle.reader_parts.specs.Rows.{row_of};
     ghost use Rattle.binary_file.specs.Items.{next_section};
     ghost use Rattle.binary_file.specs.Reading.{read_line};
@@ -53,7 +54,7 @@ impl Sections {
 
     fn take_latch(&mut self, at: u64, numbers: &[u32]) -> Result<(), ReadError>
         requires { section_of self.old ≡ section.Latches }
-        ensures { Gives (λ _. self.new) result (latch_taken self.old at numbers.now) }
+        ensures { Gives NoMemory (λ _. self.new) result (latch_taken self.old at numbers.now) }
     {
         let (next, reset) = latch_numbers(at, numbers)?;
         let next = literal_within(&self.header, at, next)?;
@@ -75,7 +76,7 @@ impl Sections {
 
     fn take_safety(&mut self, at: u64, numbers: &[u32]) -> Result<(), ReadError>
         requires { section_of self.old ≡ section.Safety }
-        ensures { Gives (λ _. self.new) result (safety_taken self.old at numbers.now) }
+        ensures { Gives NoMemory (λ _. self.new) result (safety_taken self.old at numbers.now) }
     {
         let number = only_number(at, numbers)?;
         let lit = literal_within(&self.header, at, number)?;
@@ -85,7 +86,7 @@ impl Sections {
 
     fn take_size(&mut self, at: u64, numbers: &[u32]) -> Result<(), ReadError>
         requires { section_of self.old ≡ section.Sizes }
-        ensures { Gives (λ _. self.new) result (size_taken self.old at numbers.now) }
+        ensures { Gives NoMemory (λ _. self.new) result (size_taken self.old at numbers.now) }
     {
         let size = only_number(at, numbers)?;
         if size > MAX_SIZES - self.properties.size_sum() {
@@ -97,7 +98,7 @@ impl Sections {
 
     fn take_liveness(&mut self, at: u64, numbers: &[u32]) -> Result<(), ReadError>
         requires { section_of self.old ≡ section.Liveness }
-        ensures { Gives (λ _. self.new) result (liveness_taken self.old at numbers.now) }
+        ensures { Gives NoMemory (λ _. self.new) result (liveness_taken self.old at numbers.now) }
     {
         let number = only_number(at, numbers)?;
         let lit = literal_within(&self.header, at, number)?;

@@ -11,7 +11,8 @@ impl Sections {
     ghost use Rattle.ascii_file.specs.Raw.{Raw, RawSymbol};
     ghost use Rattle.ascii_file.specs.Items.{begins_comment};
     ghost use Rattle.ascii_file.specs.Meaning.{symbols_of};
-    ghost use Rattle.ascii_file.specs.Answering.{Gives};
+    ghost use Rattle.file_words.specs.declared.fault.ReadError.TheVariants.{NoMemory};
+    ghost use Rattle.file_words.specs.Answering.{Gives};
     ghost use Rattle.reader_parts.specs.Symbols.{text_of};
     ghost use Rattle.binary_file.specs.Items.{next_section};
     ghost use Rattle.binary_file.specs.Reading.{read_line};
@@ -49,7 +50,7 @@ impl Sections {
         name: Sequence<u8>,
     ) -> Result<(), ReadError>
         ensures { (symbols : List RawSymbol) → self.old.names ≡ symbols_of symbols
-            → Gives (λ _. self.new) result
+            → Gives NoMemory (λ _. self.new) result
             (symbol_taken self.old symbols at (symbol_at kind position name)) }
     {
         if position >= self.header.count_of(kind) {

@@ -1,7 +1,8 @@
 use Rattle.std.proofs.Common.{ℕ, List, ◌-◌, length, refl, ap, ◌∙◌, subst}
 use Rattle.std.proofs.lemmas.Result.{err_from_is_err_and}
 use Rattle.ascii_file.specs.Pieces.{fed}
-use Rattle.ascii_file.specs.Answering.{Fails}
+use Rattle.file_words.specs.declared.fault.ReadError.TheVariants.{NoMemory}
+use Rattle.file_words.specs.Answering.{Fails}
 use Rattle.aag_text.specs.Standing.{Hold}
 use Rattle.aag_text.proofs.BeginningLaws.{awaits_more, to_line_end, whole_piece, header_fails, items_begin}
 use Rattle.aag_text.proofs.header.begin.Goals as goal
@@ -22,7 +23,7 @@ returns-in-Err c bytes awaits whole =
     let first = awaits_more c.args.line.now line bytes part cuts.clean c.extend-2.ensures awaits in
     let held = items_begin line bytes part rest c.args.piece.now cuts first c.in_ok-header.header c.new-items.result c.args.end (c.args.end - length rest) c.in_ok-header.ensures.value whole refl c.new-items.ensures.at c.new-items.ensures.stands in
     let joined = whole_piece line bytes part rest c.args.piece.now cuts first in
-    subst (λ (xs : List ℕ). Fails c.in-Err.fault (fed xs)) joined (c.in-Err.ensures (to_line_end line bytes part rest c.args.piece.now cuts first) held (ap length joined ∙ whole))
+    subst (λ (xs : List ℕ). Fails NoMemory c.in-Err.fault (fed xs)) joined (c.in-Err.ensures (to_line_end line bytes part rest c.args.piece.now cuts first) held (ap length joined ∙ whole))
 
 pub returns-in-Ok : goal.returns-in-Ok
 returns-in-Ok c bytes awaits whole =

@@ -1,4 +1,4 @@
-use Rattle.std.proofs.Common.{ℕ, List, ◌<◌, ◌≤◌, ◌++◌, ◌∙◌, length, ap, sym, subst, arith}
+use Rattle.std.proofs.Common.{ℕ, List, ◌<◌, ◌≤◌, ◌++◌, ◌∙◌, inr, length, ap, sym, subst, arith}
 use Rattle.aig_binary.specs.Spellings.{spelling_of}
 use Rattle.aig_binary.proofs.LetterLaws.{short_whole, three_many, by_letters}
 use Rattle.aig_binary.proofs.AnswerLaws.{fed_short, fed_neither}
@@ -13,5 +13,5 @@ returns-then-len-lt-LETTERS-clause-fed c =
 pub returns-in-None-clause-fed : goal.returns-in-None-clause-fed
 returns-in-None-clause-fed c =
     let all = c.args.begun.now ++ c.args.piece.now in
-    fed_neither all (sym (by_letters all) ∙ sym (ap spelling_of (c.as_slice.ensures.value ∙ c.first_letters-letters.ensures)) ∙ sym c.spelling.ensures ∙ c.in-None.is)
-    (three_many all (subst (λ (l : List ℕ). 3 ≤ length l) c.first_letters-letters.ensures (omega (arith, c.len.ensures.value, c.if-len-lt-LETTERS.false))))
+    inr (fed_neither all (sym (by_letters all) ∙ sym (ap spelling_of (c.as_slice.ensures.value ∙ c.first_letters-letters.ensures)) ∙ sym c.spelling.ensures ∙ c.in-None.is)
+    (three_many all (subst (λ (l : List ℕ). 3 ≤ length l) c.first_letters-letters.ensures (omega (arith, c.len.ensures.value, c.if-len-lt-LETTERS.false)))))

@@ -1,8 +1,9 @@
 use Rattle.std.proofs.Common.{[], ◌∷◌, Result, Ok, sym, ap, ◌∙◌}
 use Rattle.file_words.specs.declared.fault.ReadError.{ReadError}
 use Rattle.file_words.specs.declared.fault.ReadError.TheVariants.{MaxIndex}
+use Rattle.file_words.specs.Answering.{◌>>=◌}
 use Rattle.ascii_file.specs.declared.header.Header.{Header}
-use Rattle.ascii_file.specs.Reading.{◌>>=◌, unless}
+use Rattle.ascii_file.specs.Reading.{unless}
 use Rattle.binary_reader.specs.Header.{is_off}
 use Rattle.binary_reader.proofs.HeaderLaws.{read-header}
 use Rattle.binary_reader.proofs.header.binary_header.Goals as goal

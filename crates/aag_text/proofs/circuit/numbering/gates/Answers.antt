@@ -1,10 +1,11 @@
+use Rattle.std.proofs.Common.{inr}
 use Rattle.aag_text.specs.Numbering.{is_gate_placed, placed_gate}
 use Rattle.aag_text.proofs.CollectingLaws.{made_more, made_all, made_unknown}
 use Rattle.aag_text.proofs.circuit.numbering.gates.Goals as goal
 
 pub returns-in_default : goal.returns-in_default
 returns-in_default c =
-    made_unknown (is_gate_placed c.args.places.now c.args.count) (placed_gate c.args.places.now) c.args.raws.now c.loop-raw.raw-index (record { lhs = 0; rhs0 = 0; rhs1 = 0 }) _ c.loop-raw-test.true c.in_default.ensures
+    inr (made_unknown (is_gate_placed c.args.places.now c.args.count) (placed_gate c.args.places.now) c.args.raws.now c.loop-raw.raw-index (record { lhs = 0; rhs0 = 0; rhs1 = 0 }) _ c.loop-raw-test.true c.in_default.ensures)
 
 pub loop-raw-preserved : goal.loop-raw-preserved
 loop-raw-preserved c =

@@ -1,9 +1,10 @@
+use Rattle.std.proofs.Common.{inr}
 use Rattle.aag_text.specs.Numbering.{is_placed, placed}
 use Rattle.aag_text.proofs.CollectingLaws.{made_all, made_unknown}
 use Rattle.aag_text.proofs.circuit.numbering.literals.Goals as goal
 
 pub returns-in_default : goal.returns-in_default
-returns-in_default c = made_unknown (is_placed c.args.places.now c.args.count) (placed c.args.places.now) c.args.lits.now c.loop-lit.lit-index 0 _ c.loop-lit-test.true c.in_default.ensures
+returns-in_default c = inr (made_unknown (is_placed c.args.places.now c.args.count) (placed c.args.places.now) c.args.lits.now c.loop-lit.lit-index 0 _ c.loop-lit-test.true c.in_default.ensures)
 
 pub returns : goal.returns
 returns c = made_all (is_placed c.args.places.now c.args.count) (placed c.args.places.now) c.args.lits.now c.loop-lit.lit-index c.loop-lit.found.items c.loop-lit-test.false c.loop-lit.invariant

@@ -1,4 +1,4 @@
-use Rattle.std.proofs.Common.{sym, subst, ◌∙◌, ◌≡◌, ℕ, false, List, Option, Some, None, Result, MatchOption, Bor}
+use Rattle.std.proofs.Common.{inr, sym, subst, ◌∙◌, ◌≡◌, ℕ, false, List, Option, Some, None, Result, MatchOption, Bor}
 use Rattle.file_words.specs.declared.fault.ReadError.{ReadError}
 use Rattle.file_words.specs.declared.fault.ReadError.TheVariants.{BadLine}
 use Rattle.ascii_file.specs.declared.raw.Section.{Section}
@@ -26,7 +26,7 @@ by_numbers old new result symbols at line stands left numbers ns is row section 
 
 pub returns-in_default : goal.returns-in_default
 returns-in_default c =
-    λ symbols line stands left row. unspelt c.args.self.now.header (raw_of c.args.self.now symbols) c.args.at line stands.read left (subst (AreOf line) c.in_default.is row)
+    λ symbols line stands left row. inr (unspelt c.args.self.now.header (raw_of c.args.self.now symbols) c.args.at line stands.read left (subst (AreOf line) c.in_default.is row))
 
 pub returns-in-Inputs : goal.returns-in-Inputs
 returns-in-Inputs c =

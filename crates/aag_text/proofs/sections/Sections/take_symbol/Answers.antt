@@ -1,4 +1,4 @@
-use Rattle.std.proofs.Common.{sym, ap, ◌∙◌}
+use Rattle.std.proofs.Common.{inr, sym, ap, ◌∙◌}
 use Rattle.reader_parts.specs.declared.symbols.SymbolText.{SymbolText}
 use Rattle.aag_text.specs.Taking.{raw_of}
 use Rattle.aag_text.proofs.CountLaws.{symbols_next}
@@ -9,14 +9,14 @@ use Rattle.aag_text.proofs.sections.Sections.take_symbol.Goals as goal
 pub returns-in-NoSymbol : goal.returns-in-NoSymbol
 returns-in-NoSymbol c =
     λ symbols line stands complete plain is.
-    line_by_text c.args.self.now.header (raw_of c.args.self.now symbols) c.args.at stands.read.within complete line plain
-    ∙ ap (λ (t : SymbolText). by_text c.args.self.now.header (raw_of c.args.self.now symbols) c.args.at t) (sym is ∙ c.in-NoSymbol.is)
+    inr (line_by_text c.args.self.now.header (raw_of c.args.self.now symbols) c.args.at stands.read.within complete line plain
+    ∙ ap (λ (t : SymbolText). by_text c.args.self.now.header (raw_of c.args.self.now symbols) c.args.at t) (sym is ∙ c.in-NoSymbol.is))
 
 pub returns-in-Malformed : goal.returns-in-Malformed
 returns-in-Malformed c =
     λ symbols line stands complete plain is.
-    line_by_text c.args.self.now.header (raw_of c.args.self.now symbols) c.args.at stands.read.within complete line plain
-    ∙ ap (λ (t : SymbolText). by_text c.args.self.now.header (raw_of c.args.self.now symbols) c.args.at t) (sym is ∙ c.in-Malformed.is)
+    inr (line_by_text c.args.self.now.header (raw_of c.args.self.now symbols) c.args.at stands.read.within complete line plain
+    ∙ ap (λ (t : SymbolText). by_text c.args.self.now.header (raw_of c.args.self.now symbols) c.args.at t) (sym is ∙ c.in-Malformed.is))
 
 pub returns-in-Name : goal.returns-in-Name
 returns-in-Name c =

@@ -1,4 +1,4 @@
-use Rattle.std.proofs.Common.{◌++◌, ◌∙◌, length-append, subst, arith}
+use Rattle.std.proofs.Common.{◌++◌, ◌∙◌, inr, length-append, subst, arith}
 use Rattle.file_words.specs.declared.spelling.Spelling.TheVariants.{Ascii, Binary}
 use Rattle.aig_binary.specs.declared.any_reader.Phase.{Phase}
 use Rattle.aig_binary.specs.declared.any_reader.Phase.TheVariants.{InAscii, InBinary, Neither}
@@ -32,4 +32,4 @@ returns-in-InBinary-clause-fed c = λ bytes held.
 pub returns-in-Neither-clause-fed : goal.returns-in-Neither-clause-fed
 returns-in-Neither-clause-fed c = λ bytes held.
     let holds : PhaseHolds (Neither) bytes = subst (λ (p : Phase). PhaseHolds p bytes) c.in-Neither.is held in
-    fed_neither (bytes ++ c.args.piece.now) (letters_stay bytes c.args.piece.now holds.1 ∙ holds.0) (omega (arith, holds.1, length-append bytes c.args.piece.now))
+    inr (fed_neither (bytes ++ c.args.piece.now) (letters_stay bytes c.args.piece.now holds.1 ∙ holds.0) (omega (arith, holds.1, length-append bytes c.args.piece.now)))

@@ -1,4 +1,4 @@
-use Rattle.std.proofs.Common.{None, subst}
+use Rattle.std.proofs.Common.{None, inr, subst}
 use Rattle.aig_binary.specs.declared.any_reader.Phase.{Phase}
 use Rattle.aig_binary.specs.declared.any_reader.Phase.TheVariants.{Letters, InAscii, InBinary, Neither}
 use Rattle.aig_binary.specs.Readers.{PhaseHolds}
@@ -19,9 +19,9 @@ returns-in-InBinary-clause-gives c = λ bytes held.
 pub returns-in-Letters-clause-gives : goal.returns-in-Letters-clause-gives
 returns-in-Letters-clause-gives c = λ bytes held.
     let holds : PhaseHolds (Letters c.in-Letters.field-0) bytes = subst (λ (p : Phase). PhaseHolds p bytes) c.in-Letters.is held in
-    read_by_spelling bytes None (none_short bytes holds.1)
+    inr (read_by_spelling bytes None (none_short bytes holds.1))
 
 pub returns-in-Neither-clause-gives : goal.returns-in-Neither-clause-gives
 returns-in-Neither-clause-gives c = λ bytes held.
     let holds : PhaseHolds (Neither) bytes = subst (λ (p : Phase). PhaseHolds p bytes) c.in-Neither.is held in
-    read_by_spelling bytes None holds.0
+    inr (read_by_spelling bytes None holds.0)

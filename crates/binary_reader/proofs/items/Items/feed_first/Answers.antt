@@ -1,4 +1,4 @@
-use Rattle.std.proofs.Common.{◌+◌, length, refl, ap, ◌∙◌}
+use Rattle.std.proofs.Common.{◌+◌, inr, length, refl, ap, ◌∙◌}
 use Rattle.binary_file.specs.Reading.{State, feed, InFirst, end_first}
 use Rattle.binary_reader.proofs.FeedLaws.{after_end, fault_at_end, delta_ended, delta_open}
 use Rattle.binary_reader.proofs.items.Items.feed_first.Goals as goal
@@ -28,4 +28,4 @@ returns-in-Ok-None-default-clause-fed c state offset is place =
     }
 
 pub returns-in-Err-clause-fed : goal.returns-in-Err-clause-fed
-returns-in-Err-clause-fed c state offset is place = ap (λ (s : State). feed s c.args.piece.now) is.is ∙ c.in-Err.ensures.too_long c.args.self.now.at (InFirst is.h is.raw c.args.self.now.at) (end_first is.h is.raw c.args.self.now.at) (λ delta b. refl)
+returns-in-Err-clause-fed c state offset is place = inr (ap (λ (s : State). feed s c.args.piece.now) is.is ∙ c.in-Err.ensures.too_long c.args.self.now.at (InFirst is.h is.raw c.args.self.now.at) (end_first is.h is.raw c.args.self.now.at) (λ delta b. refl))

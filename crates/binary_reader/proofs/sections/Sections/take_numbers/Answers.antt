@@ -1,4 +1,4 @@
-use Rattle.std.proofs.Common.{◌≡◌, ◌∙◌, sym, subst, List, ℕ, Option, Some, None, MatchOption, Bor}
+use Rattle.std.proofs.Common.{◌≡◌, ◌∙◌, inr, sym, subst, List, ℕ, Option, Some, None, MatchOption, Bor}
 use Rattle.reader_parts.specs.Rows.{row_of}
 use Rattle.binary_reader.proofs.TakingLaws.{given_takes, header_within}
 use Rattle.binary_reader.proofs.LineLaws.{line_latch, line_safety, line_size, line_liveness, line_refused, no_lines}
@@ -9,7 +9,7 @@ abbrev AreOf : List ℕ → Option (Bor (List ℕ)) → Type 0
 AreOf line numbers = MatchOption numbers (row_of line ≡ None) (λ ns. row_of line ≡ Some ns.now)
 
 pub returns-in_default : goal.returns-in_default
-returns-in_default c h raw line is lines numbers = line_refused h raw c.args.at line lines (subst (AreOf line) c.in_default.is numbers)
+returns-in_default c h raw line is lines numbers = inr (line_refused h raw c.args.at line lines (subst (AreOf line) c.in_default.is numbers))
 
 pub returns-in-Latches : goal.returns-in-Latches
 returns-in-Latches c h raw line is lines numbers =
@@ -38,5 +38,5 @@ returns-in-Liveness c h raw line is lines numbers =
 pub returns-in_default-section : goal.returns-in_default-section
 returns-in_default-section c h raw line is lines numbers =
     let next = c.section.ensures.next h raw is in
-    no_lines h raw c.args.at line (λ e. c.in_default-section.not-Latches (next ∙ e)) (λ e. c.in_default-section.not-Safety (next ∙ e)) (λ e. c.in_default-section.not-Sizes (next ∙ e))
-    (λ e. c.in_default-section.not-Liveness (next ∙ e)) lines
+    inr (no_lines h raw c.args.at line (λ e. c.in_default-section.not-Latches (next ∙ e)) (λ e. c.in_default-section.not-Safety (next ∙ e)) (λ e. c.in_default-section.not-Sizes (next ∙ e))
+    (λ e. c.in_default-section.not-Liveness (next ∙ e)) lines)

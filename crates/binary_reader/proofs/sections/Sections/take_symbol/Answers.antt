@@ -1,4 +1,4 @@
-use Rattle.std.proofs.Common.{◌∙◌, sym, subst, ap}
+use Rattle.std.proofs.Common.{◌∙◌, inr, sym, subst, ap}
 use Rattle.reader_parts.specs.declared.symbols.SymbolText.TheVariants.{NoSymbol, Comment, Malformed, Name}
 use Rattle.binary_file.specs.Reading.{read_line}
 use Rattle.reader_parts.specs.Names.{symbol_at}
@@ -16,11 +16,11 @@ returns-in-Name c h raw line is here no_comment text =
 
 pub returns-in-Malformed : goal.returns-in-Malformed
 returns-in-Malformed c h raw line is here no_comment text =
-    line_text h (header_within _ _ h raw c.self.view_is is c.self.invariant.within) raw c.args.at line Malformed here no_comment (sym c.in-Malformed.is ∙ text)
+    inr (line_text h (header_within _ _ h raw c.self.view_is is c.self.invariant.within) raw c.args.at line Malformed here no_comment (sym c.in-Malformed.is ∙ text))
 
 pub returns-in-NoSymbol : goal.returns-in-NoSymbol
 returns-in-NoSymbol c h raw line is here no_comment text =
-    line_text h (header_within _ _ h raw c.self.view_is is c.self.invariant.within) raw c.args.at line NoSymbol here no_comment (sym c.in-NoSymbol.is ∙ text)
+    inr (line_text h (header_within _ _ h raw c.self.view_is is c.self.invariant.within) raw c.args.at line NoSymbol here no_comment (sym c.in-NoSymbol.is ∙ text))
 
 pub returns-in-Comment : goal.returns-in-Comment
 returns-in-Comment c h raw line is here no_comment text =

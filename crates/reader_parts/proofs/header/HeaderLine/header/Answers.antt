@@ -1,10 +1,11 @@
 use Rattle.std.proofs.Common.{[], ◌∷◌, Result, Ok, sym, ap, ◌∙◌}
 use Rattle.file_words.specs.declared.fault.ReadError.{ReadError}
 use Rattle.file_words.specs.declared.fault.ReadError.TheVariants.{MaxIndex}
+use Rattle.file_words.specs.Answering.{◌>>=◌}
 use Rattle.ascii_file.specs.declared.header.Header.{Header}
 use Rattle.std.specs.Option.{option_and_then}
 use Rattle.ascii_file.specs.Headers.{header_in}
-use Rattle.ascii_file.specs.Reading.{◌>>=◌, unless}
+use Rattle.ascii_file.specs.Reading.{unless}
 use Rattle.reader_parts.specs.Header.{header_with}
 use Rattle.reader_parts.specs.Limits.{is_past}
 use Rattle.reader_parts.proofs.HeaderLaws.{read-header}
