@@ -38,9 +38,9 @@ module _ {W : Type 0} {output : W → Output} where
       → now ≡ room ++ f (first + k) x → KeepsText output b (numbered_lines f first (take (k + 1) xs)) d now
   keeps-more {b = b} {d = d} f first xs k x waits room now h there before left pushed end more after =
       subst (λ (ys : List ℕ). Puts output b end ys)
-          (sym (append_assoc (numbered_lines f first (take k xs)) (f (first + k) x) more) ∙ ap (λ (ys : List ℕ). ys ++ more) (sym (numbered-more f first xs k x h there)))
-          (before end (f (first + k) x ++ more) (left end (f (first + k) x ++ more) (subst (λ (ys : List ℕ). Puts output d end ys)
-              (ap (λ (ys : List ℕ). ys ++ more) pushed ∙ append_assoc room (f (first + k) x) more) after)))
+      (sym (append_assoc (numbered_lines f first (take k xs)) (f (first + k) x) more) ∙ ap (λ (ys : List ℕ). ys ++ more) (sym (numbered-more f first xs k x h there)))
+      (before end (f (first + k) x ++ more) (left end (f (first + k) x ++ more) (subst (λ (ys : List ℕ). Puts output d end ys)
+      (ap (λ (ys : List ℕ). ys ++ more) pushed ∙ append_assoc room (f (first + k) x) more) after)))
 
   -- what waits at the end is put
   pub keeps-end : {X : Type 0} {b c d : Buffered W} (f : ℕ → X → List ℕ) (first : ℕ) (xs : List X) (k : ℕ) (waits : List ℕ)
