@@ -1,6 +1,7 @@
 -- What a command line asks for, by the texts of its arguments.
-use Rattle.std.specs.Prelude.{ℕ, ◌≡◌, ◌<◌, ◌^◌, Bool, true, false, List, [], Option, Some, None, codes, map, option_map, unwrap_or}
+use Rattle.std.specs.Prelude.{ℕ, ◌≡◌, ◌<◌, ◌^◌, Bool, true, false, List, [], ◌∷◌, Option, Some, None, codes, length, map, nat_lt, ◌&&◌, option_map, unwrap_or, if◌then◌else◌}
 use Rattle.std.specs.Borrow.{Bor}
+use Rattle.std.specs.Char.{digit_value}
 use Rattle.std.specs.Str.Parse.{IsNumeral, digits_value, without_leading_plus}
 use Rattle.clap.specs.Words.{first_value, found_of, matched_of, one_text, raw_values}
 use Rattle.clap.specs.declared.parser.matches.ArgMatches.{ArgMatches}
@@ -85,6 +86,19 @@ pub record IsNumber (matches : ArgMatches) (id : List ℕ) (default number : ℕ
   pub value : (text : List ℕ) → one_text (found_of matches) id ≡ Some text → IsNumeral 10 (without_leading_plus text) → digits_value 10 (without_leading_plus text) < 2 ^ 32
       → number ≡ digits_value 10 (without_leading_plus text)
 
+-- whether each byte is a decimal digit
+abbrev pub are_digits : List ℕ → Bool
+are_digits [] = true
+are_digits (c ∷ cs) = nat_lt (digit_value c) 10 && are_digits cs
+
+-- whether a text is a numeral of 32 bits
+abbrev pub is_numeral : List ℕ → Bool
+is_numeral digits = (nat_lt 0 (length digits) && are_digits digits) && nat_lt (digits_value 10 digits) (2 ^ 32)
+
+-- the number that it is then, else 0
+unfoldable pub number_of : List ℕ → ℕ
+number_of text = if is_numeral (without_leading_plus text) then digits_value 10 (without_leading_plus text) else 0
+
 -- all values of the argument with this id
 abbrev pub values_of : ArgMatches → List ℕ → List (List ℕ)
 values_of matches id = unwrap_or (option_map raw_values (matched_of (found_of matches) id)) []
@@ -101,6 +115,7 @@ pub record IsRetiming (matches : ArgMatches) (retiming : Retiming) : Type 0 wher
   pub mapping : IsSomeTarget matches (codes "map") retiming.map
   pub shown : IsShown matches retiming.shown
   pub names : map (λ name. name.now) retiming.keep.items ≡ values_of matches (codes "keep")
+  pub places : retiming.keep_latches.items ≡ map number_of (values_of matches (codes "keep-latch"))
   pub merge : IsFlag matches (codes "merge") retiming.merge
   pub json : IsFlag matches (codes "json") retiming.json
 
@@ -118,7 +133,9 @@ pub record IsBatch (matches : ArgMatches) (batch : Batching) : Type 0 where
 pub record IsVerification (matches : ArgMatches) (verification : Verification) : Type 0 where
   pub input : IsSource matches (codes "IN") verification.input
   pub certificates : IsSource matches (codes "CERT") verification.certificates
+  pub retimed : IsSomeSource matches (codes "out") verification.retimed
   pub names : map (λ name. name.now) verification.keep.items ≡ values_of matches (codes "keep")
+  pub places : verification.keep_latches.items ≡ map number_of (values_of matches (codes "keep-latch"))
   pub merge : IsFlag matches (codes "merge") verification.merge
   pub json : IsFlag matches (codes "json") verification.json
 
@@ -138,6 +155,7 @@ AreStimuli matches (Random sequences) = AreSequences matches sequences
 pub record IsSimulation (matches : ArgMatches) (simulation : Simulation) : Type 0 where
   pub input : IsSource matches (codes "IN") simulation.input
   pub stimuli : AreStimuli matches simulation.stimuli
+  pub waves : IsSomeTarget matches (codes "vcd") simulation.waves
 
 -- the paths and the flag of a comparison are the values of their own arguments
 pub record IsComparison (matches : ArgMatches) (comparison : Comparison) : Type 0 where
@@ -156,6 +174,7 @@ pub record IsDrawing (matches : ArgMatches) (drawing : Drawing) : Type 0 where
   pub around : option_map (λ name. name.now) drawing.around ≡ first_value (found_of matches) (codes "around")
   pub depth : IsNumber matches (codes "depth") 2 drawing.depth
   pub names : map (λ name. name.now) drawing.keep.items ≡ values_of matches (codes "keep")
+  pub places : drawing.keep_latches.items ≡ map number_of (values_of matches (codes "keep-latch"))
 
 -- the path and the flags of a count are the values of their own arguments
 pub record IsCounting (matches : ArgMatches) (counting : Counting) : Type 0 where
@@ -182,6 +201,7 @@ pub record IsAsking (matches : ArgMatches) (asking : Asking) : Type 0 where
   pub retimed : IsSource matches (codes "OUT") asking.retimed
   pub mapping : IsSource matches (codes "MAP") asking.map
   pub output : IsTarget matches (codes "MITER") asking.output
+  pub certificate : IsSomeTarget matches (codes "certificate") asking.certificate
   pub spelling : IsSpelling matches asking.spelling
 
 -- the paths of the files that a witness circuit is lifted by, and the flags of what is written, are the values of their own arguments

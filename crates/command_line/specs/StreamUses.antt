@@ -7,6 +7,7 @@ use Rattle.stream_paths.specs.declared.source.Source.{Source}
 use Rattle.stream_paths.specs.declared.source.Source.TheVariants as sources
 use Rattle.stream_paths.specs.declared.target.Target.{Target}
 use Rattle.stream_paths.specs.declared.target.Target.TheVariants as targets
+use Rattle.command_line.specs.declared.task.Asking.{Asking}
 use Rattle.command_line.specs.declared.task.Comparison.{Comparison}
 use Rattle.command_line.specs.declared.task.Lifting.{Lifting}
 use Rattle.command_line.specs.declared.task.Retiming.{Retiming}
@@ -14,6 +15,7 @@ use Rattle.command_line.specs.declared.task.Simulation.{Simulation}
 use Rattle.command_line.specs.declared.task.Stimuli.{Stimuli}
 use Rattle.command_line.specs.declared.task.Stimuli.TheVariants.{Read, Random}
 use Rattle.command_line.specs.declared.task.Task.{Task}
+use Rattle.command_line.specs.declared.task.Verification.{Verification}
 use Rattle.command_line.specs.declared.task.Task.TheVariants.{Retime, Batch, Stat, Convert, Sim, Same, Verify, Check, Miter, Lift, Dot, Witness, Explain}
 
 -- what follows what else is read: a stimulus, unless it is made of random sequences
@@ -32,6 +34,12 @@ with_source (Some source) sources = source ∷ sources
 abbrev pub sources_of_comparison : Comparison → List Source
 sources_of_comparison comparison = comparison.first ∷ comparison.second ∷ with_source comparison.kept (with_stimulus comparison.stimuli)
 
+abbrev pub sources_of_verification : Verification → List Source
+sources_of_verification verification = verification.input ∷ verification.certificates ∷ with_source verification.retimed []
+
+abbrev pub sources_of_asking : Asking → List Source
+sources_of_asking asking = asking.input ∷ asking.retimed ∷ asking.map ∷ []
+
 abbrev pub sources_of_lifting : Lifting → List Source
 sources_of_lifting lifting = lifting.input ∷ lifting.retimed ∷ lifting.map ∷ lifting.witness ∷ []
 
@@ -43,9 +51,9 @@ sources_of (Stat counting) = counting.input ∷ []
 sources_of (Convert input output spelling) = input ∷ []
 sources_of (Sim simulation) = sources_of_simulation simulation
 sources_of (Same comparison) = sources_of_comparison comparison
-sources_of (Verify verification) = verification.input ∷ verification.certificates ∷ []
+sources_of (Verify verification) = sources_of_verification verification
 sources_of (Check checking) = checking.input ∷ checking.retimed ∷ checking.map ∷ []
-sources_of (Miter asking) = asking.input ∷ asking.retimed ∷ asking.map ∷ []
+sources_of (Miter asking) = sources_of_asking asking
 sources_of (Lift lifting) = sources_of_lifting lifting
 sources_of (Dot drawing) = drawing.input ∷ []
 sources_of (Witness carrying) = carrying.input ∷ carrying.retimed ∷ carrying.witness ∷ []
@@ -60,17 +68,25 @@ with_target (Some target) targets = target ∷ targets
 abbrev pub retiming_targets : Target → Option Target → Option Target → List Target
 retiming_targets output map certificates = output ∷ with_target map (with_target certificates [])
 
--- what a task writes, but for the lines that it prints
+-- what a simulation writes: the trace, which is printed, and the waves
+abbrev pub simulation_targets : Option Target → List Target
+simulation_targets waves = targets.Stdout ∷ with_target waves []
+
+-- the miter and the certificate that are written
+abbrev pub asking_targets : Asking → List Target
+asking_targets asking = asking.output ∷ with_target asking.certificate []
+
+-- what a task writes, but for the lines that it prints beside that
 abbrev pub targets_of : Task → List Target
 targets_of (Retime retiming) = retiming_targets retiming.output retiming.map retiming.certificates
 targets_of (Batch batch) = []
 targets_of (Stat counting) = []
 targets_of (Convert input output spelling) = output ∷ []
-targets_of (Sim simulation) = []
+targets_of (Sim simulation) = simulation_targets simulation.waves
 targets_of (Same comparison) = []
 targets_of (Verify verification) = []
 targets_of (Check checking) = []
-targets_of (Miter asking) = asking.output ∷ []
+targets_of (Miter asking) = asking_targets asking
 targets_of (Lift lifting) = lifting.output ∷ []
 targets_of (Dot drawing) = drawing.output ∷ []
 targets_of (Witness carrying) = []
@@ -99,24 +115,44 @@ are_one_file (Some targets.Stdout) second = false
 are_one_file (Some (targets.File path)) None = false
 are_one_file (Some (targets.File path)) (Some other) = is_written_to path.now other
 
--- whether the map or certificates go to the file of the circuit, or to one file
+-- whether something goes to the file of something that is read
+abbrev pub is_over : Option Target → Source → Bool
+is_over None source = false
+is_over (Some targets.Stdout) source = false
+is_over (Some (targets.File path)) source = is_read_from path.now source
+
+-- so to the file of a stimulus, where it is read
+abbrev pub is_over_stimulus : Option Target → Stimuli → Bool
+is_over_stimulus target (Read source) = is_over target source
+is_over_stimulus target (Random sequences) = false
+
+-- whether waves go to the file of the circuit or of the stimulus
+abbrev pub covers_simulated : Simulation → Bool
+covers_simulated simulation = is_over simulation.waves simulation.input || is_over_stimulus simulation.waves simulation.stimuli
+
+-- whether the certificate of a miter goes to the file of a circuit, of the map, or of the miter
+abbrev pub covers_asked : Asking → Bool
+covers_asked asking = is_over asking.certificate asking.input || is_over asking.certificate asking.retimed || is_over asking.certificate asking.map
+    || are_one_file asking.certificate (Some asking.output)
+
+-- whether a map, certificates or waves go to a file that is read or written beside them
 abbrev pub covers_circuit : Task → Bool
 covers_circuit (Retime retiming) = covers retiming retiming.certificates || covers retiming retiming.map || are_one_file retiming.map retiming.certificates
 covers_circuit (Batch batch) = false
 covers_circuit (Stat counting) = false
 covers_circuit (Convert input output spelling) = false
-covers_circuit (Sim simulation) = false
+covers_circuit (Sim simulation) = covers_simulated simulation
 covers_circuit (Same comparison) = false
 covers_circuit (Verify verification) = false
 covers_circuit (Check checking) = false
-covers_circuit (Miter asking) = false
+covers_circuit (Miter asking) = covers_asked asking
 covers_circuit (Lift lifting) = false
 covers_circuit (Dot drawing) = false
 covers_circuit (Witness carrying) = false
 covers_circuit (Explain name) = false
 
--- standard input is read once at most, and standard output written once, but for printed lines; and a map and certificates have
--- files of their own
+-- standard input is read once at most, and standard output written once, but for printed lines beside that; and a map, certificates
+-- and waves have files of their own
 pub record UsesStreamsOnce (task : Task) : Type 0 where
   pub stdin : count_by is_stdin (sources_of task) ≤ 1
   pub stdout : count_by is_stdout (targets_of task) ≤ 1

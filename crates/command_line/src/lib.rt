@@ -1,10 +1,12 @@
 //! What the words of a command line ask for, read by `clap`.
 #![tactic(auto)]
 
-mod map_program;
+mod argument;
+mod arguments;
 mod parse;
 mod program;
 mod stream_uses;
+mod subcommands;
 mod task;
 mod texts;
 

@@ -2,7 +2,7 @@
 //! which argument it comes from; that the library matched the words as it should is only tested.
 ghost use Rattle.std.specs.Prelude.{◌≡◌, ◌^◌, IfOk, IfSome, MatchOption, None, codes, map};
 ghost use Rattle.clap.specs.Words.{first_value, found_of};
-ghost use Rattle.command_line.specs.Asking.{AreSequences, AreStimuli, Asks, AsksFor, IsChoice, IsFlag, IsNumber, IsShown, IsSomeSource, IsSomeTarget, IsSource, IsSpelling, values_of};
+ghost use Rattle.command_line.specs.Asking.{AreSequences, AreStimuli, Asks, AsksFor, IsChoice, IsFlag, IsNumber, IsShown, IsSomeSource, IsSomeTarget, IsSource, IsSpelling, number_of, values_of};
 ghost use Rattle.command_line.specs.StreamUses.{UsesStreamsOnce};
 ghost use Rattle.command_line.specs.declared.task.Task.TheVariants.{Dot, Retime, Verify};
 
@@ -104,6 +104,33 @@ fn keep<'a>(alloc: Global, matches: &ArgMatches<'a>) -> Result<Vec<&'a str>, All
     Vec::from_slice(alloc, matches.get_strs("keep").unwrap_or(&[]))
 }
 
+/// The number that a text is, else 0.
+fn number_of(text: &str) -> u32
+    ensures { result ≡ number_of text.now }
+{
+    text.parse().unwrap_or(0)
+}
+
+/// The numbers that texts are.
+fn numbers_of(alloc: Global, texts: &[&str]) -> Result<Vec<u32>, AllocError>
+    ensures { IfOk result (λ numbers. numbers.items
+        ≡ map number_of (map (λ text. text.now) texts.now)) }
+{
+    let mut numbers = Vec::new(alloc);
+    for text in texts {
+        numbers.push(number_of(text))?;
+    }
+    Ok(numbers)
+}
+
+/// The positions of the latches that are held.
+fn keep_latches(alloc: Global, matches: &ArgMatches<'_>) -> Result<Vec<u32>, AllocError>
+    ensures { IfOk result (λ places. places.items
+        ≡ map number_of (values_of matches.now (codes "keep-latch"))) }
+{
+    numbers_of(alloc, matches.get_strs("keep-latch").unwrap_or(&[]))
+}
+
 /// Whether an object of JSON is printed.
 fn json(matches: &ArgMatches<'_>) -> bool
     ensures { IsFlag matches.now (codes "json") result }
@@ -138,6 +165,7 @@ fn retiming<'a>(alloc: Global, matches: &ArgMatches<'a>) -> Result<Option<Retimi
         json: json(matches),
         shown: shown(matches),
         keep: keep(alloc, matches)?,
+        keep_latches: keep_latches(alloc, matches)?,
     }))
 }
 
@@ -166,9 +194,11 @@ fn verification<'a>(
     Ok(Some(Verification {
         input,
         certificates,
+        retimed: source_if_given(matches, "out"),
         merge: merge(matches),
         json: json(matches),
         keep: keep(alloc, matches)?,
+        keep_latches: keep_latches(alloc, matches)?,
     }))
 }
 
@@ -204,6 +234,7 @@ fn drawing<'a>(alloc: Global, matches: &ArgMatches<'a>) -> Result<Option<Drawing
         around: matches.get_str("around"),
         depth: depth(matches),
         keep: keep(alloc, matches)?,
+        keep_latches: keep_latches(alloc, matches)?,
     }))
 }
 
@@ -277,6 +308,7 @@ fn simulation<'a>(matches: &ArgMatches<'a>) -> Option<Task<'a>>
     Some(Task::Sim(Simulation {
         input: source(matches, "IN")?,
         stimuli: stimuli(matches)?,
+        waves: target(matches, "vcd"),
     }))
 }
 
@@ -321,6 +353,7 @@ fn miter<'a>(matches: &ArgMatches<'a>) -> Option<Task<'a>>
         retimed: source(matches, "OUT")?,
         map: source(matches, "MAP")?,
         output: target(matches, "MITER")?,
+        certificate: target(matches, "certificate"),
         spelling: spelling(matches),
     }))
 }
@@ -387,6 +420,14 @@ fn task_of<'a>(alloc: Global, matches: &ArgMatches<'a>) -> Result<Option<Task<'a
     }
 }
 
+/// The same with a refusal of memory as an error of a command line.
+fn or_error<'a>(asked: Result<Option<Task<'a>>, AllocError>) -> Result<Option<Task<'a>>, Error> {
+    match asked {
+        Ok(task) => Ok(task),
+        Err(error) => Err(Error::from(error)),
+    }
+}
+
 /// What the command-line arguments ask a program for.
 fn asked_of<'a>(
     alloc: Global,
@@ -394,7 +435,11 @@ fn asked_of<'a>(
     words: &'a [String],
 ) -> Result<Option<Task<'a>>, Error> {
     match program.try_get_matches_from_mut(words) {
-        Ok(matches) => Ok(task_of(alloc, &matches)?),
+        Ok(matches) => {
+            let task = task_of(alloc, &matches);
+            drop(matches);
+            or_error(task)
+        }
         Err(error) => Err(error),
     }
 }

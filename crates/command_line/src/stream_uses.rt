@@ -1,12 +1,12 @@
-//! Standard input is read once, and standard output written once. A map and certificates are written last, so on the circuit's own
-//! file they would take its place.
+//! Standard input is read once, and standard output written once. A map, certificates and waves are written last, so on the circuit's
+//! own file they would take its place.
 ghost use Rattle.std.specs.Prelude.{◌≡◌, ◌≤◌, IfNone};
 ghost use Rattle.std.specs.List.{count_by};
 ghost use Rattle.stream_paths.specs.Streams.{is_stdin, is_stdout};
-ghost use Rattle.command_line.specs.StreamUses.{UsesStreamsOnce, are_one_file, covers, covers_circuit, is_read_from, is_written_to, retiming_targets, sources_of, sources_of_comparison, sources_of_lifting, sources_of_simulation, targets_of};
+ghost use Rattle.command_line.specs.StreamUses.{UsesStreamsOnce, are_one_file, asking_targets, covers, covers_asked, covers_circuit, covers_simulated, is_over, is_read_from, is_written_to, retiming_targets, simulation_targets, sources_of, sources_of_comparison, sources_of_lifting, sources_of_simulation, sources_of_verification, targets_of};
 ghost use Rattle.command_line.specs.StreamUses as wanted;
 
-use crate::task::{Comparison, Lifting, Retiming, Simulation, Stimuli, Task};
+use crate::task::{Asking, Comparison, Lifting, Retiming, Simulation, Stimuli, Task, Verification};
 use stream_paths::{Source, Target};
 
 fn stdin_count(sources: &[Source<'_>]) -> usize
@@ -44,6 +44,17 @@ fn stdin_uses_of_comparison(comparison: &Comparison<'_>) -> usize
     }
 }
 
+/// How many of the circuits and the certificates are standard input.
+fn stdin_uses_of_verification(verification: &Verification<'_>) -> usize
+    ensures { result ≡ count_by is_stdin (sources_of_verification verification.now) }
+{
+    let (input, certificates) = (verification.input, verification.certificates);
+    match verification.retimed {
+        Some(retimed) => stdin_count(&[input, certificates, retimed]),
+        None => stdin_count(&[input, certificates]),
+    }
+}
+
 /// How many of the circuits, the map and the witness circuit are standard input.
 fn stdin_uses_of_lifting(lifting: &Lifting<'_>) -> usize
     ensures { result ≡ count_by is_stdin (sources_of_lifting lifting.now) }
@@ -65,7 +76,7 @@ fn stdin_uses(task: &Task<'_>) -> usize
         Task::Witness(carrying) => {
             stdin_count(&[carrying.input, carrying.retimed, carrying.witness])
         }
-        Task::Verify(verification) => stdin_count(&[verification.input, verification.certificates]),
+        Task::Verify(verification) => stdin_uses_of_verification(verification),
         Task::Check(checking) => stdin_count(&[checking.input, checking.retimed, checking.map]),
         Task::Miter(asking) => stdin_count(&[asking.input, asking.retimed, asking.map]),
         Task::Lift(lifting) => stdin_uses_of_lifting(lifting),
@@ -87,6 +98,26 @@ fn stdout_uses_of(retiming: &Retiming<'_>) -> usize
     }
 }
 
+/// How many of the trace and the waves go to standard output.
+fn stdout_uses_of_simulation(simulation: &Simulation<'_>) -> usize
+    ensures { result ≡ count_by is_stdout (simulation_targets simulation.now.waves) }
+{
+    match simulation.waves {
+        Some(waves) => stdout_count(&[Target::Stdout, waves]),
+        None => stdout_count(&[Target::Stdout]),
+    }
+}
+
+/// How many of the miter and the certificate go to standard output.
+fn stdout_uses_of_asking(asking: &Asking<'_>) -> usize
+    ensures { result ≡ count_by is_stdout (asking_targets asking.now) }
+{
+    match asking.certificate {
+        Some(certificate) => stdout_count(&[asking.output, certificate]),
+        None => stdout_count(&[asking.output]),
+    }
+}
+
 /// How many of the things that a task writes are standard output.
 fn stdout_uses(task: &Task<'_>) -> usize
     ensures { result ≡ count_by is_stdout (targets_of task.now) }
@@ -95,11 +126,11 @@ fn stdout_uses(task: &Task<'_>) -> usize
         Task::Retime(retiming) => stdout_uses_of(retiming),
         Task::Convert(_, output, _) => stdout_count(&[*output]),
         Task::Dot(drawing) => stdout_count(&[drawing.output]),
-        Task::Miter(asking) => stdout_count(&[asking.output]),
+        Task::Sim(simulation) => stdout_uses_of_simulation(simulation),
+        Task::Miter(asking) => stdout_uses_of_asking(asking),
         Task::Lift(lifting) => stdout_count(&[lifting.output]),
         Task::Batch(_)
         | Task::Stat(_)
-        | Task::Sim(_)
         | Task::Same(_)
         | Task::Verify(_)
         | Task::Witness(_)
@@ -148,7 +179,38 @@ fn are_one_file(first: Option<Target<'_>>, second: Option<Target<'_>>) -> bool
     }
 }
 
-/// Whether a task writes a map or certificates over a circuit, that which it reads or that which it writes, or both to one file.
+/// Whether something is written over something that is read.
+fn is_over(target: Option<Target<'_>>, source: Source<'_>) -> bool
+    ensures { result ≡ is_over target.entry source.entry }
+{
+    match target {
+        Some(Target::File(path)) => is_read_from(path, source),
+        Some(Target::Stdout) | None => false,
+    }
+}
+
+/// Whether waves are written over the circuit or the stimulus.
+fn covers_simulated(simulation: &Simulation<'_>) -> bool
+    ensures { result ≡ covers_simulated simulation.now }
+{
+    is_over(simulation.waves, simulation.input)
+        || match simulation.stimuli {
+            Stimuli::Read(stimulus) => is_over(simulation.waves, stimulus),
+            Stimuli::Random(_) => false,
+        }
+}
+
+/// Whether the certificate of a miter is written over what is read, or over the miter.
+fn covers_asked(asking: &Asking<'_>) -> bool
+    ensures { result ≡ covers_asked asking.now }
+{
+    is_over(asking.certificate, asking.input)
+        || is_over(asking.certificate, asking.retimed)
+        || is_over(asking.certificate, asking.map)
+        || are_one_file(asking.certificate, Some(asking.output))
+}
+
+/// Whether a task writes a map, certificates or waves over a circuit, that which it reads or that which it writes, or over each other.
 fn covers_circuit(task: &Task<'_>) -> bool
     ensures { result ≡ covers_circuit task.now }
 {
@@ -158,35 +220,57 @@ fn covers_circuit(task: &Task<'_>) -> bool
                 || covers(retiming, retiming.map)
                 || are_one_file(retiming.map, retiming.certificates)
         }
+        Task::Sim(simulation) => covers_simulated(simulation),
+        Task::Miter(asking) => covers_asked(asking),
         Task::Batch(_)
         | Task::Stat(_)
         | Task::Convert(_, _, _)
-        | Task::Sim(_)
         | Task::Same(_)
         | Task::Verify(_)
         | Task::Dot(_)
         | Task::Witness(_)
         | Task::Check(_)
-        | Task::Miter(_)
         | Task::Lift(_)
         | Task::Explain(_) => false,
     }
 }
 
-/// What is wrong where a task has more than one use for a standard stream, or a map or certificates have no file of their own.
+/// What is said of a task that writes standard output twice.
+fn stdout_message(task: &Task<'_>) -> &'static str {
+    match task {
+        Task::Sim(_) => "standard output has the values: --vcd wants a file of its own",
+        Task::Miter(_) => {
+            "standard output is written once: '-' can stand for one of MITER and CERT only"
+        }
+        _ => {
+            "standard output is written once: '-' can stand for one of OUT, MAP and the file of certificates only"
+        }
+    }
+}
+
+/// What is said of a task that writes something over a file that it reads or writes.
+fn cover_message(task: &Task<'_>) -> &'static str {
+    match task {
+        Task::Sim(_) => "waves have a file of their own: it can't be that of IN or STIM",
+        Task::Miter(_) => {
+            "a certificate has a file of its own: it can't be that of IN, OUT, MAP or MITER"
+        }
+        _ => {
+            "a map and certificates have files of their own: neither can be that of IN or OUT, nor both one"
+        }
+    }
+}
+
+/// What is wrong where a task has more than one use for a standard stream, or a map, certificates or waves have no file of their own.
 pub(crate) fn stream_conflict(task: &Task<'_>) -> Option<&'static str>
     ensures { IfNone result (UsesStreamsOnce task.now) }
 {
     if stdin_uses(task) > 1 {
         Some("standard input is read once: '-' can stand for one of these files only")
     } else if stdout_uses(task) > 1 {
-        Some(
-            "standard output is written once: '-' can stand for one of OUT, MAP and the file of certificates only",
-        )
+        Some(stdout_message(task))
     } else if covers_circuit(task) {
-        Some(
-            "a map and certificates have files of their own: neither can be that of IN or OUT, nor both one",
-        )
+        Some(cover_message(task))
     } else {
         None
     }

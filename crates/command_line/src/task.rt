@@ -38,6 +38,8 @@ pub struct Retiming<'a> {
     pub shown: Shown,
     /// The names of the latches that are held in their places.
     pub keep: Vec<&'a str>,
+    /// The positions of the latches that are held in their places.
+    pub keep_latches: Vec<u32>,
     /// Whether latches that always agree are merged before the first frame.
     pub merge: bool,
     /// Whether an object of JSON is printed in place of the lines.
@@ -51,8 +53,12 @@ pub struct Verification<'a> {
     pub input: Source<'a>,
     /// The certificates.
     pub certificates: Source<'a>,
+    /// The circuit that the retiming is to end in; `None` doesn't ask for it.
+    pub retimed: Option<Source<'a>>,
     /// The names of the latches that were held in their places.
     pub keep: Vec<&'a str>,
+    /// The positions of the latches that were held in their places.
+    pub keep_latches: Vec<u32>,
     /// Whether latches that always agree were merged before the first frame.
     pub merge: bool,
     /// Whether an object of JSON is printed in place of the lines.
@@ -86,6 +92,8 @@ pub struct Simulation<'a> {
     pub input: Source<'a>,
     /// What it is simulated under.
     pub stimuli: Stimuli<'a>,
+    /// What the waves are written to; `None` asks for none.
+    pub waves: Option<Target<'a>>,
 }
 
 /// What `same` is to do.
@@ -135,6 +143,8 @@ pub struct Drawing<'a> {
     pub merge: bool,
     /// The names of the latches that are held in their places.
     pub keep: Vec<&'a str>,
+    /// The positions of the latches that are held in their places.
+    pub keep_latches: Vec<u32>,
     /// The name of what the picture shows the neighbourhood of; `None` asks for the whole circuit.
     pub around: Option<&'a str>,
     /// How many edges the neighbourhood reaches, from 1 to 100.
@@ -187,6 +197,8 @@ pub struct Asking<'a> {
     pub map: Source<'a>,
     /// What the miter is written to.
     pub output: Target<'a>,
+    /// What the pair of both with its invariant, a witness circuit, is written to; `None` asks for none.
+    pub certificate: Option<Target<'a>>,
     /// The spelling of the written file; `None` is that of the map.
     pub spelling: Option<Spelling>,
 }

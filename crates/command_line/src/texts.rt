@@ -63,7 +63,7 @@ latches:
 In a pipe:
   zcat counter.aig.gz | fretime retime - - | gzip > smaller.aig.gz
 
-Exit status: 0 done, 1 IN is no circuit or has no latch NAME, 2 command line,
+Exit status: 0 done, 1 IN is no circuit or has no such latch, 2 command line,
 3 device, 4 out of memory.";
 
 pub(crate) const BATCH_ABOUT: &str = "Retimes the circuits of a list, many at once";
@@ -94,8 +94,11 @@ pub(crate) const VERIFY_LONG_ABOUT: &str =
 circuit of its frame, without any flow.
 
 'yes' says that no set of gates leaves fewer latches than the certificate's. The
-circuit of the next frame is made from IN by the certificate's set. Name the
-latches that were held, and give --merge, as for 'retime'.";
+circuit of the next frame is made from IN by the certificate's set. Say which
+latches were held, and give --merge, as for 'retime'.
+
+With --out it compares OUT with what 'retime' writes of the circuit that all of
+them make of IN, byte for byte.";
 
 pub(crate) const VERIFY_EXAMPLE: &str = "Example:
   fretime retime counter.aag smaller.aag --cert counter.cert
@@ -106,9 +109,11 @@ be left with fewer latches ('open') or not:
   block 0: yes, count 1
   block 1: yes, count 1
   end certified
+With --out 'out same' follows, or 'out differs at' the offset of a byte.
 
-Exit status: 0 all are confirmed, 1 a file is refused or IN has no latch NAME,
-2 command line, 3 device, 4 out of memory, 5 a certificate is rejected.";
+Exit status: 0 all are confirmed, 1 a file is refused or IN has no such latch,
+2 command line, 3 device, 4 out of memory, 5 a certificate is rejected or OUT
+differs.";
 
 pub(crate) const CHECK_ABOUT: &str =
     "Checks by a map of states that a circuit is a retiming of another";
@@ -150,7 +155,11 @@ MAP doesn't hold or MAP gives no first state of OUT; the others where the
 constraints of MAP hold: 'keep' where after a step they don't, 'next' where MAP
 then gives another state than the step of OUT, 'read' where a property of OUT
 isn't that of IN. So MAP shows that OUT is a retiming of IN where no output is
-ever 1, as any SAT solver or equivalence checker can find.";
+ever 1, as any SAT solver or equivalence checker can find.
+
+With --certificate, MITER is IN and OUT side by side, under the same inputs: a
+model that is bad where a property of theirs differs. CERT is the same with an
+inductive invariant by MAP: a witness circuit for that model, as of 'lift'.";
 
 pub(crate) const MITER_EXAMPLE: &str = "Example:
   fretime retime counter.aag smaller.aag --map counter.map
@@ -192,6 +201,8 @@ was. 'shapes differ' is printed where IN, OUT and MAP don't fit together.
 Exit status: 0 done, 1 a file is refused, MAP is no map, CERT names what OUT
 hasn't, or shapes differ, 2 command line, 3 device, 4 out of memory.";
 
+pub(crate) const STAT_ABOUT: &str = "Counts what a circuit has, as it was read";
+
 pub(crate) const STAT_EXAMPLE: &str =
     "Latches are free where they have no known reset; free latches never move.
 
@@ -203,6 +214,11 @@ and how many of these never change:
 Exit status: 0 done, 1 IN is no circuit, 2 command line, 3 device, 4 out of
 memory.";
 
+pub(crate) const CONVERT_ABOUT: &str =
+    "Writes a circuit as it was read; without a flag in the other spelling";
+
+pub(crate) const SIM_ABOUT: &str = "Prints the values of all properties under a stimulus";
+
 pub(crate) const SIM_EXAMPLE: &str =
     "A stimulus is lines: '=' with a digit for each free latch begins a sequence, ':'
 with a digit for each input is its next step.
@@ -211,8 +227,13 @@ Without one at hand: --random 256 --steps 1000. The digits follow from the seed
 alone; more sequences, or longer ones, begin with these, and inputs are the same
 whatever latches are free.
 
+With --vcd the values of inputs and latches are written, too, for a viewer of
+waves: a scope for each sequence.
+
 Exit status: 0 done, 1 a file is refused or so many steps take too much memory,
 2 command line, 3 device, 4 out of memory.";
+
+pub(crate) const SAME_ABOUT: &str = "Finds the first difference of two circuits under a stimulus";
 
 pub(crate) const SAME_EXAMPLE: &str =
     "It prints 'same', or the first sequence, step and place, from 0, at which the
@@ -252,7 +273,7 @@ pub(crate) const DOT_EXAMPLE: &str = "Example:
   fretime dot counter.aag counter.dot --frame
   dot -Tsvg counter.dot > counter.svg
 
-Exit status: 0 done, 1 IN is no circuit, has no latch NAME, nothing called NAME
+Exit status: 0 done, 1 IN is no circuit, has no such latch, nothing called NAME
 or too many nodes, 2 command line, 3 device, 4 out of memory.";
 
 pub(crate) const WITNESS_ABOUT: &str =
@@ -293,9 +314,9 @@ Faults of circuits, and some of them of other files too: BadHeader, TooLarge,
 MaxIndex, BadLine, BadLiteral, DefinedTwice, Undefined, Cycle, BadReset,
 BadDelta, Truncated, BadSymbol, Trailing. Of a stimulus or a witness: Width,
 TooMany, NoSuchProperty. Of random sequences: TooManySteps. Of names and
-pictures: NoSuchName, TooManyNodes. Of maps and witness circuits: NotAMap,
-NoSuchLiteral. Of certificates: NotClosed, BadRoute, UsedTwice, CountDiffers. Of
-a run: NoMemory, Device.
+pictures: NoSuchName, NoSuchLatch, TooManyNodes. Of maps and witness circuits:
+NotAMap, NoSuchLiteral. Of certificates: NotClosed, BadRoute, UsedTwice,
+CountDiffers. Of a run: NoMemory, Device.
 
 Exit status: 0 done, 2 command line, or there is no such fault, 3 device, 4 out
 of memory.";

@@ -1,0 +1,119 @@
+//! The program's commands, in the order of its help.
+use crate::argument::Argument;
+use crate::{arguments, texts};
+
+/// A command.
+#[derive(Clone, Copy)]
+pub(crate) struct Subcommand {
+    /// The word for it.
+    pub(crate) name: &'static str,
+    /// What it does, on a line.
+    pub(crate) about: &'static str,
+    /// What the long help begins with; where there is none, it is that line.
+    pub(crate) long_about: Option<&'static str>,
+    /// What the help ends with.
+    pub(crate) example: Option<&'static str>,
+    /// Its arguments, in the order of its help.
+    pub(crate) arguments: &'static [Argument],
+}
+
+/// How many commands there are.
+pub(crate) const COUNT: usize = 13;
+
+/// The command with this number, from 0.
+pub(crate) fn subcommand_at(number: usize) -> Option<Subcommand> {
+    Some(match number {
+        0 => Subcommand {
+            name: "retime",
+            about: texts::RETIME_ABOUT,
+            long_about: Some(texts::RETIME_LONG_ABOUT),
+            example: Some(texts::RETIME_EXAMPLE),
+            arguments: arguments::RETIME,
+        },
+        1 => Subcommand {
+            name: "batch",
+            about: texts::BATCH_ABOUT,
+            long_about: Some(texts::BATCH_LONG_ABOUT),
+            example: Some(texts::BATCH_EXAMPLE),
+            arguments: arguments::BATCH,
+        },
+        2 => Subcommand {
+            name: "stat",
+            about: texts::STAT_ABOUT,
+            long_about: None,
+            example: Some(texts::STAT_EXAMPLE),
+            arguments: arguments::STAT,
+        },
+        3 => Subcommand {
+            name: "convert",
+            about: texts::CONVERT_ABOUT,
+            long_about: None,
+            example: None,
+            arguments: arguments::CONVERT,
+        },
+        4 => Subcommand {
+            name: "sim",
+            about: texts::SIM_ABOUT,
+            long_about: None,
+            example: Some(texts::SIM_EXAMPLE),
+            arguments: arguments::SIM,
+        },
+        5 => Subcommand {
+            name: "same",
+            about: texts::SAME_ABOUT,
+            long_about: None,
+            example: Some(texts::SAME_EXAMPLE),
+            arguments: arguments::SAME,
+        },
+        6 => Subcommand {
+            name: "verify",
+            about: texts::VERIFY_ABOUT,
+            long_about: Some(texts::VERIFY_LONG_ABOUT),
+            example: Some(texts::VERIFY_EXAMPLE),
+            arguments: arguments::VERIFY,
+        },
+        7 => Subcommand {
+            name: "check",
+            about: texts::CHECK_ABOUT,
+            long_about: Some(texts::CHECK_LONG_ABOUT),
+            example: Some(texts::CHECK_EXAMPLE),
+            arguments: arguments::CHECK,
+        },
+        8 => Subcommand {
+            name: "miter",
+            about: texts::MITER_ABOUT,
+            long_about: Some(texts::MITER_LONG_ABOUT),
+            example: Some(texts::MITER_EXAMPLE),
+            arguments: arguments::MITER,
+        },
+        9 => Subcommand {
+            name: "lift",
+            about: texts::LIFT_ABOUT,
+            long_about: Some(texts::LIFT_LONG_ABOUT),
+            example: Some(texts::LIFT_EXAMPLE),
+            arguments: arguments::LIFT,
+        },
+        10 => Subcommand {
+            name: "dot",
+            about: texts::DOT_ABOUT,
+            long_about: Some(texts::DOT_LONG_ABOUT),
+            example: Some(texts::DOT_EXAMPLE),
+            arguments: arguments::DOT,
+        },
+        11 => Subcommand {
+            name: "witness",
+            about: texts::WITNESS_ABOUT,
+            long_about: Some(texts::WITNESS_LONG_ABOUT),
+            example: Some(texts::WITNESS_EXAMPLE),
+            arguments: arguments::WITNESS,
+        },
+        12 => Subcommand {
+            name: "explain",
+            about: texts::EXPLAIN_ABOUT,
+            long_about: Some(texts::EXPLAIN_LONG_ABOUT),
+            example: Some(texts::EXPLAIN_EXAMPLE),
+            arguments: arguments::EXPLAIN,
+        },
+        _ => return None,
+    })
+}
