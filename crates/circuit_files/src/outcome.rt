@@ -72,6 +72,9 @@ pub enum Failure<'a> {
     /// No latch of the circuit has the name.
     #[error("{0}: NoSuchName {1}")]
     NoSuchName(&'a str, &'a str),
+    /// The circuit has no latch at the place.
+    #[error("{0}: NoSuchLatch {1}")]
+    NoSuchLatch(&'a str, u32),
     /// The circuit has too many nodes for a picture.
     #[error("{0}: TooManyNodes, over 2000: --around NAME draws a neighbourhood")]
     TooManyNodes(&'a str),
@@ -165,6 +168,7 @@ impl<'a> Failure<'a> {
             | Failure::RefusedCertificates(_, _)
             | Failure::RefusedWitness(_, _)
             | Failure::NoSuchName(_, _)
+            | Failure::NoSuchLatch(_, _)
             | Failure::TooManyNodes(_)
             | Failure::TooManySteps(_)
             | Failure::NotAMap(_)

@@ -3,7 +3,7 @@ use Rattle.std.specs.Prelude.{ℕ, ◌≡◌, ◌<◌, Bool, true, false, List, 
 use Rattle.std.proofs.Common.{ap, sym, ◌∙◌, arith}
 use Rattle.std.proofs.lemmas.Slice.Eq.{bytes_eq-Decides}
 use Rattle.fault_pages.specs.declared.fault.Fault.{Fault}
-use Rattle.fault_pages.specs.declared.fault.Fault.TheVariants.{BadHeader, TooLarge, MaxIndex, BadLine, BadLiteral, DefinedTwice, Undefined, Cycle, BadReset, BadDelta, Truncated, BadSymbol, Trailing, Width, TooMany, NoSuchName, NoSuchProperty, TooManyNodes, TooManySteps, NotAMap, NoSuchLiteral, NotClosed, BadRoute, UsedTwice, CountDiffers, NoMemory, Device}
+use Rattle.fault_pages.specs.declared.fault.Fault.TheVariants.{BadHeader, TooLarge, MaxIndex, BadLine, BadLiteral, DefinedTwice, Undefined, Cycle, BadReset, BadDelta, Truncated, BadSymbol, Trailing, Width, TooMany, NoSuchName, NoSuchLatch, NoSuchProperty, TooManyNodes, TooManySteps, NotAMap, NoSuchLiteral, NotClosed, BadRoute, UsedTwice, CountDiffers, NoMemory, Device}
 use Rattle.fault_pages.specs.Faults.{all_faults, name_of, has_name, HaveOtherNames, IsNoName}
 
 stands : (fault : Fault) → (k : ℕ) × (k < length all_faults) × (get_or all_faults k BadHeader ≡ fault)
@@ -24,17 +24,18 @@ stands Trailing = (12, omega arith, refl)
 stands Width = (13, omega arith, refl)
 stands TooMany = (14, omega arith, refl)
 stands NoSuchName = (15, omega arith, refl)
-stands NoSuchProperty = (16, omega arith, refl)
-stands TooManyNodes = (17, omega arith, refl)
-stands TooManySteps = (18, omega arith, refl)
-stands NotAMap = (19, omega arith, refl)
-stands NoSuchLiteral = (20, omega arith, refl)
-stands NotClosed = (21, omega arith, refl)
-stands BadRoute = (22, omega arith, refl)
-stands UsedTwice = (23, omega arith, refl)
-stands CountDiffers = (24, omega arith, refl)
-stands NoMemory = (25, omega arith, refl)
-stands Device = (26, omega arith, refl)
+stands NoSuchLatch = (16, omega arith, refl)
+stands NoSuchProperty = (17, omega arith, refl)
+stands TooManyNodes = (18, omega arith, refl)
+stands TooManySteps = (19, omega arith, refl)
+stands NotAMap = (20, omega arith, refl)
+stands NoSuchLiteral = (21, omega arith, refl)
+stands NotClosed = (22, omega arith, refl)
+stands BadRoute = (23, omega arith, refl)
+stands UsedTwice = (24, omega arith, refl)
+stands CountDiffers = (25, omega arith, refl)
+stands NoMemory = (26, omega arith, refl)
+stands Device = (27, omega arith, refl)
 
 not_both : (test : Bool) → test ≡ true → test ≡ false → ⊥
 not_both true yes_it_is no_it_is = cc

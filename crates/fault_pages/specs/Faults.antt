@@ -2,12 +2,12 @@
 use Rattle.std.specs.Prelude.{ℕ, ◌≡◌, ◌≢◌, ◌<◌, Bool, false, List, [], ◌∷◌, length, get_or, codes}
 use Rattle.std.specs.Str.{bytes_eq}
 use Rattle.fault_pages.specs.declared.fault.Fault.{Fault}
-use Rattle.fault_pages.specs.declared.fault.Fault.TheVariants.{BadHeader, TooLarge, MaxIndex, BadLine, BadLiteral, DefinedTwice, Undefined, Cycle, BadReset, BadDelta, Truncated, BadSymbol, Trailing, Width, TooMany, NoSuchName, NoSuchProperty, TooManyNodes, TooManySteps, NotAMap, NoSuchLiteral, NotClosed, BadRoute, UsedTwice, CountDiffers, NoMemory, Device}
+use Rattle.fault_pages.specs.declared.fault.Fault.TheVariants.{BadHeader, TooLarge, MaxIndex, BadLine, BadLiteral, DefinedTwice, Undefined, Cycle, BadReset, BadDelta, Truncated, BadSymbol, Trailing, Width, TooMany, NoSuchName, NoSuchLatch, NoSuchProperty, TooManyNodes, TooManySteps, NotAMap, NoSuchLiteral, NotClosed, BadRoute, UsedTwice, CountDiffers, NoMemory, Device}
 
 unfoldable pub all_faults : List Fault
 all_faults =
     BadHeader ∷ TooLarge ∷ MaxIndex ∷ BadLine ∷ BadLiteral ∷ DefinedTwice ∷ Undefined ∷ Cycle ∷ BadReset ∷ BadDelta ∷ Truncated
-    ∷ BadSymbol ∷ Trailing ∷ Width ∷ TooMany ∷ NoSuchName ∷ NoSuchProperty ∷ TooManyNodes ∷ TooManySteps ∷ NotAMap ∷ NoSuchLiteral ∷ NotClosed ∷ BadRoute ∷ UsedTwice
+    ∷ BadSymbol ∷ Trailing ∷ Width ∷ TooMany ∷ NoSuchName ∷ NoSuchLatch ∷ NoSuchProperty ∷ TooManyNodes ∷ TooManySteps ∷ NotAMap ∷ NoSuchLiteral ∷ NotClosed ∷ BadRoute ∷ UsedTwice
     ∷ CountDiffers ∷ NoMemory ∷ Device ∷ []
 
 abbrev pub name_of : Fault → List ℕ
@@ -27,6 +27,7 @@ name_of Trailing = codes "Trailing"
 name_of Width = codes "Width"
 name_of TooMany = codes "TooMany"
 name_of NoSuchName = codes "NoSuchName"
+name_of NoSuchLatch = codes "NoSuchLatch"
 name_of NoSuchProperty = codes "NoSuchProperty"
 name_of TooManyNodes = codes "TooManyNodes"
 name_of TooManySteps = codes "TooManySteps"

@@ -1,7 +1,7 @@
 -- The texts of the page of each fault.
 use Rattle.std.specs.Prelude.{ℕ, List, codes}
 use Rattle.fault_pages.specs.declared.fault.Fault.{Fault}
-use Rattle.fault_pages.specs.declared.fault.Fault.TheVariants.{BadHeader, TooLarge, MaxIndex, BadLine, BadLiteral, DefinedTwice, Undefined, Cycle, BadReset, BadDelta, Truncated, BadSymbol, Trailing, Width, TooMany, NoSuchName, NoSuchProperty, TooManyNodes, TooManySteps, NotAMap, NoSuchLiteral, NotClosed, BadRoute, UsedTwice, CountDiffers, NoMemory, Device}
+use Rattle.fault_pages.specs.declared.fault.Fault.TheVariants.{BadHeader, TooLarge, MaxIndex, BadLine, BadLiteral, DefinedTwice, Undefined, Cycle, BadReset, BadDelta, Truncated, BadSymbol, Trailing, Width, TooMany, NoSuchName, NoSuchLatch, NoSuchProperty, TooManyNodes, TooManySteps, NotAMap, NoSuchLiteral, NotClosed, BadRoute, UsedTwice, CountDiffers, NoMemory, Device}
 
 -- what the fault is
 abbrev pub meaning_of : Fault → List ℕ
@@ -21,6 +21,7 @@ meaning_of Trailing = codes "Something follows the last item."
 meaning_of Width = codes "There are more or fewer values than latches or inputs."
 meaning_of TooMany = codes "A stimulus has more than 1048576 sequences."
 meaning_of NoSuchName = codes "The circuit has no latch, or for --around nothing, of this name."
+meaning_of NoSuchLatch = codes "The circuit has no latch at this place."
 meaning_of NoSuchProperty = codes "A witness names a property that the circuit doesn't have."
 meaning_of TooManyNodes = codes "A circuit of over 2000 nodes makes no picture that can be read."
 meaning_of TooManySteps = codes "So many random sequences, of so many steps, take too much memory."
@@ -51,9 +52,10 @@ rule_of Trailing = codes "After the gates of a circuit come symbols, and a comme
 rule_of Width = codes "In a stimulus a line '=' has a digit for each free latch, and a line ':' one\nfor each input, of A where two circuits are compared. The second line of values\nof a witness has one for each latch, each further line one for each input. A\nlist of kept latches has a line for each free latch of B."
 rule_of TooMany = codes "A line '=' begins a sequence."
 rule_of NoSuchName = codes "Names are those of the symbols of the file, compared byte by byte: --keep takes\nthose of latches, 'l', and --around of 'dot' those of all kinds. Where nothing\nhas the name, --around takes what a picture calls it: l3 is the latch at\nposition 3, from 0, i3 such an input, o3, b3, c3, j3 or f3 such a property, and\n14 the gate with that literal."
+rule_of NoSuchLatch = codes "--keep-latch takes places from 0 on, in the order of the file: 3 is the latch\nwhose name, if it has one, stands in a line 'l3'."
 rule_of NoSuchProperty = codes "The second line of a witness names bad states, b0 on, and justice properties,\nj0 on, by their positions."
 rule_of TooManyNodes = codes "Inputs, latches, gates and properties are nodes."
-rule_of TooManySteps = codes "All steps take 2^28 bytes at most, each 64 and one for each input; the choices\nfor free latches 2^28, one each; the trace 2^31 bits, one for each literal of a\nproperty and each step, for 256 sequences at least."
+rule_of TooManySteps = codes "All steps take 2^28 bytes at most, each 64 and one for each input; the choices\nfor free latches 2^28, one each; the trace 2^31 bits, one for each literal of a\nproperty, or with --vcd for each wave, and each step, for 256 sequences at least."
 rule_of NotAMap = codes "A map has no latch, bad state, justice property or fairness constraint. Its\ninputs are the latches of IN, its outputs those of OUT."
 rule_of NoSuchLiteral = codes "A name '= 12' of an input of CERT says the literal 12 of an input of OUT, one of\na latch that of a latch, and no two say the same. Literals are those of OUT in a\nbinary file."
 rule_of NotClosed = codes "Its gates rise strictly. Each is a gate that latches may pass, and each gate\nthat it reads is one of the set."
@@ -81,6 +83,7 @@ advice_of Trailing = codes "Put a line 'c' before remarks. If the lines are item
 advice_of Width = codes "Ask 'fretime stat IN' for the number of inputs and of free latches."
 advice_of TooMany = codes "Cut the stimulus before a line '=', and run each part."
 advice_of NoSuchName = codes "List those of latches: grep -a '^l[0-9]' IN. A file without names gets them\nwhere it is written, as by Yosys' write_aiger -symbols."
+advice_of NoSuchLatch = codes "Ask 'fretime stat IN' for the number of latches: places are below it."
 advice_of NoSuchProperty = codes "See that the witness is one of this circuit: 'fretime stat OUT' counts its\nproperties."
 advice_of TooManyNodes = codes "Draw a neighbourhood: 'fretime dot IN OUT --around NAME --depth 3'."
 advice_of TooManySteps = codes "Take fewer steps or sequences. For more of them run again with another --seed."

@@ -22,6 +22,7 @@ pub enum Fault {
     Width,
     TooMany,
     NoSuchName,
+    NoSuchLatch,
     NoSuchProperty,
     TooManyNodes,
     TooManySteps,
@@ -35,7 +36,7 @@ pub enum Fault {
     Device,
 }
 
-const FAULTS: [Fault; 27] = [
+const FAULTS: [Fault; 28] = [
     Fault::BadHeader,
     Fault::TooLarge,
     Fault::MaxIndex,
@@ -52,6 +53,7 @@ const FAULTS: [Fault; 27] = [
     Fault::Width,
     Fault::TooMany,
     Fault::NoSuchName,
+    Fault::NoSuchLatch,
     Fault::NoSuchProperty,
     Fault::TooManyNodes,
     Fault::TooManySteps,
@@ -95,6 +97,7 @@ impl Fault {
             Fault::Width => "Width",
             Fault::TooMany => "TooMany",
             Fault::NoSuchName => "NoSuchName",
+            Fault::NoSuchLatch => "NoSuchLatch",
             Fault::NoSuchProperty => "NoSuchProperty",
             Fault::TooManyNodes => "TooManyNodes",
             Fault::TooManySteps => "TooManySteps",

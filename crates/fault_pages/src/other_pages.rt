@@ -27,6 +27,13 @@ position 3, from 0, i3 such an input, o3, b3, c3, j3 or f3 such a property, and
 where it is written, as by Yosys' write_aiger -symbols.",
 };
 
+pub const NO_SUCH_LATCH: Page = Page {
+    meaning: "The circuit has no latch at this place.",
+    rule: "--keep-latch takes places from 0 on, in the order of the file: 3 is the latch
+whose name, if it has one, stands in a line 'l3'.",
+    advice: "Ask 'fretime stat IN' for the number of latches: places are below it.",
+};
+
 pub const NO_SUCH_PROPERTY: Page = Page {
     meaning: "A witness names a property that the circuit doesn't have.",
     rule: "The second line of a witness names bad states, b0 on, and justice properties,
@@ -61,7 +68,7 @@ pub const TOO_MANY_STEPS: Page = Page {
     meaning: "So many random sequences, of so many steps, take too much memory.",
     rule: "All steps take 2^28 bytes at most, each 64 and one for each input; the choices
 for free latches 2^28, one each; the trace 2^31 bits, one for each literal of a
-property and each step, for 256 sequences at least.",
+property, or with --vcd for each wave, and each step, for 256 sequences at least.",
     advice: "Take fewer steps or sequences. For more of them run again with another --seed.",
 };
 

@@ -29,6 +29,7 @@ impl Fault {
             Fault::Width => others::WIDTH,
             Fault::TooMany => others::TOO_MANY,
             Fault::NoSuchName => others::NO_SUCH_NAME,
+            Fault::NoSuchLatch => others::NO_SUCH_LATCH,
             Fault::NoSuchProperty => others::NO_SUCH_PROPERTY,
             Fault::TooManyNodes => others::TOO_MANY_NODES,
             Fault::TooManySteps => others::TOO_MANY_STEPS,

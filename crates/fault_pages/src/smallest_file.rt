@@ -25,6 +25,7 @@ impl Fault {
             Fault::Width
             | Fault::TooMany
             | Fault::NoSuchName
+            | Fault::NoSuchLatch
             | Fault::NoSuchProperty
             | Fault::TooManyNodes
             | Fault::TooManySteps

@@ -11,4 +11,5 @@ mod starting;
 mod underway;
 
 pub use bytes::{retime_bytes_mapped, retime_spelt_mapped};
+pub use making::{Made, made_over};
 pub use mapped::{Mapped, MappedError};

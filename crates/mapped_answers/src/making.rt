@@ -23,7 +23,7 @@ use std::thread::Threads;
 
 /// A retiming and its map.
 #[derive(Drop)]
-pub(crate) struct Made {
+pub struct Made {
     pub retimed: Retimed,
     pub map: Circuit,
 }
@@ -220,7 +220,7 @@ fn made_of<G: PhaseGate, V: FrameWatcher>(
 }
 
 /// The same of a circuit that isn't needed any more.
-pub(crate) fn made_over<G: PhaseGate, V: FrameWatcher>(
+pub fn made_over<G: PhaseGate, V: FrameWatcher>(
     rt: &(impl Threads + Sync),
     alloc: Global,
     circuit: Circuit,

@@ -50,6 +50,9 @@ returns-in-TooMany c = record { meaning = sym (ap meaning_of c.in-TooMany.is); r
 pub returns-in-NoSuchName : goal.returns-in-NoSuchName
 returns-in-NoSuchName c = record { meaning = sym (ap meaning_of c.in-NoSuchName.is); rule = sym (ap rule_of c.in-NoSuchName.is); advice = sym (ap advice_of c.in-NoSuchName.is) }
 
+pub returns-in-NoSuchLatch : goal.returns-in-NoSuchLatch
+returns-in-NoSuchLatch c = record { meaning = sym (ap meaning_of c.in-NoSuchLatch.is); rule = sym (ap rule_of c.in-NoSuchLatch.is); advice = sym (ap advice_of c.in-NoSuchLatch.is) }
+
 pub returns-in-NoSuchProperty : goal.returns-in-NoSuchProperty
 returns-in-NoSuchProperty c = record { meaning = sym (ap meaning_of c.in-NoSuchProperty.is); rule = sym (ap rule_of c.in-NoSuchProperty.is); advice = sym (ap advice_of c.in-NoSuchProperty.is) }
 

@@ -1,0 +1,4 @@
+pub mod MarkLaws
+pub mod LimitLaws
+pub mod AnswerLaws
+pub mod MapLaws
