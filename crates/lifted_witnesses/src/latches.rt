@@ -30,7 +30,11 @@ pub(crate) fn own_latches(
 }
 
 /// The resets of latches are put after those before.
-pub(crate) fn push_resets(resets: &mut Vec<Reset>, latches: &[Latch]) -> Result<(), NoMemory>
+///
+/// # Errors
+///
+/// `NoMemory` where memory is refused; some may have been put then.
+pub fn push_resets(resets: &mut Vec<Reset>, latches: &[Latch]) -> Result<(), NoMemory>
     ensures { OnOk result (resets.new.items ≡ resets.old.items ++ map (λ latch. latch.reset)
         latches.now) }
 {
@@ -61,7 +65,7 @@ pub fn push_nexts(
 }
 
 /// Gives each latch its next literal.
-pub(crate) fn set_nexts(gates: &mut AigBuilder, nexts: &[Lit])
+pub fn set_nexts(gates: &mut AigBuilder, nexts: &[Lit])
     requires many { length nexts.now ≡ length gates.old.latches }
     requires within { AreLiteralsOf gates.old nexts.now }
     requires graph { IsGraph gates.old }

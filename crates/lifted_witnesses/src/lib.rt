@@ -12,7 +12,7 @@ mod parts;
 mod properties;
 
 pub use errors::LiftError;
-pub use latches::push_nexts;
+pub use latches::{push_nexts, push_resets, set_nexts};
 pub use laws::lift_law;
 pub use lifting::lifted_witness;
 pub use literals::{leaves, numbered, push_substitutes};

@@ -1,3 +1,4 @@
 mod CheckLaws
 mod LiftLaws
 mod MiterLaws
+mod ProductLaws

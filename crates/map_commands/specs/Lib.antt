@@ -4,3 +4,4 @@ pub mod Reading
 pub mod Making
 pub mod Lifted
 pub mod Asking
+pub mod Products

@@ -8,6 +8,7 @@ mod given;
 mod lift;
 mod made;
 mod mitering;
+mod products;
 
 pub use check::print_check;
 pub use lift::write_lifted;

@@ -6,9 +6,11 @@ ghost use Rattle.circuit_files.specs.declared.outcome.Failure.TheVariants.{NotAM
 ghost use Rattle.command_endings.specs.HeldNames.{OfSource};
 ghost use Rattle.command_endings.specs.Printing.{Prints, ending};
 ghost use Rattle.map_commands.specs.Asking.{IsFailureToAsk, IsMadeOf, PrintsMiter};
+ghost use Rattle.map_commands.specs.Products.{PrintsAsked};
 
 use crate::given::{Mapped, mapped_for};
 use crate::made::{Made, write_made};
+use crate::products::write_product;
 use aig_graph::Circuit;
 use circuit_files::{Failure, Outcome};
 use command_line::Asking;
@@ -65,7 +67,7 @@ fn miter_for<'a>(alloc: Global, mapped: &Mapped, task: &Asking<'a>) -> Result<Ma
 
 /// Reads a circuit, the one that was made of it, and a map of the states of the first to those of the second, in this order, and writes
 /// the miter of the map. A file is made once all that can be refused was found right.
-pub fn write_miter<'a, R: Files, I: CountedRead, O: CountedWrite>(
+fn write_questions<'a, R: Files, I: CountedRead, O: CountedWrite>(
     rt: &R,
     alloc: Global,
     task: &Asking<'a>,
@@ -87,5 +89,23 @@ pub fn write_miter<'a, R: Files, I: CountedRead, O: CountedWrite>(
             written
         }
         Err(failure) => Err(failure),
+    }
+}
+
+/// Does what `miter` is to do: it writes the miter of a map or, where a certificate is asked for, both circuits side by side with that.
+pub fn write_miter<'a, R: Files, I: CountedRead, O: CountedWrite>(
+    rt: &R,
+    alloc: Global,
+    task: &Asking<'a>,
+    stdin: &mut I,
+    out: &mut O,
+) -> Result<Outcome, Failure<'a>>
+    ensures miter { IfOk result (PrintsAsked task.now.certificate task.now (I.input stdin.old)
+        (I.input stdin.new) (O.output out.old) (O.output out.new)) }
+    ensures prints { Prints (ending result) (O.output out.old) (O.output out.new) }
+{
+    match task.certificate {
+        Some(certificate) => write_product(rt, alloc, task, certificate, stdin, out),
+        None => write_questions(rt, alloc, task, stdin, out),
     }
 }

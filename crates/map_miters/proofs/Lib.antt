@@ -1,7 +1,7 @@
-mod ComparingLaws
-mod HoldingLaws
+pub mod ComparingLaws
+pub mod HoldingLaws
 mod FirstLaws
 mod FreeLaws
 mod ResetLaws
-mod SideLaws
+pub mod SideLaws
 mod MiterLaws

@@ -35,7 +35,11 @@ fn add_equalities(
 }
 
 /// What says that two lists of literals are equal, entry by entry.
-pub(crate) fn add_each_equal(
+///
+/// # Errors
+///
+/// `NoMemory` where memory is refused, `TooLarge` where the graph has as many variables as it may; some gates may have been added then.
+pub fn add_each_equal(
     alloc: Global,
     gates: &mut AigBuilder,
     a: &[Lit],
@@ -55,11 +59,11 @@ pub(crate) fn add_each_equal(
 }
 
 /// What is 1 where the one literal is and the other isn't.
-pub(crate) fn add_failure(
-    gates: &mut AigBuilder,
-    given: Lit,
-    wanted: Lit,
-) -> Result<Lit, MiterError>
+///
+/// # Errors
+///
+/// `NoMemory` where memory is refused, `TooLarge` where the graph has as many variables as it may; some gates may have been added then.
+pub fn add_failure(gates: &mut AigBuilder, given: Lit, wanted: Lit) -> Result<Lit, MiterError>
     requires graph { IsGraph gates.old }
     requires given { IsLiteralOf gates.old given }
     requires wanted { IsLiteralOf gates.old wanted }

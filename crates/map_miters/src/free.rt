@@ -57,7 +57,11 @@ fn do_rise(codes: Vec<u32>) -> bool
 }
 
 /// Whether each free latch of the second circuit is one of the first, in their order.
-pub(crate) fn free_stay(
+///
+/// # Errors
+///
+/// `NoMemory` where memory is refused.
+pub fn free_stay(
     alloc: Global,
     first: &Circuit,
     second: &Circuit,

@@ -16,10 +16,11 @@ use std::alloc::Global;
 
 /// What a map gives for a state.
 #[derive(Drop)]
-pub(crate) struct Image {
+pub struct Image {
     /// Whether its constraints are 1.
-    pub(crate) kept: Lit,
-    pub(crate) outputs: Vec<Lit>,
+    pub kept: Lit,
+    /// What its outputs are.
+    pub outputs: Vec<Lit>,
 }
 
 /// Adds the gates of a graph whose inputs and latches are these literals.
@@ -62,7 +63,11 @@ pub(crate) fn substitutes_of(
 }
 
 /// Adds what a map gives for the state that these literals hold.
-pub(crate) fn add_image(
+///
+/// # Errors
+///
+/// `NoMemory` where memory is refused, `TooLarge` where the graph has as many variables as it may; some gates may have been added then.
+pub fn add_image(
     alloc: Global,
     gates: &mut AigBuilder,
     map: &Circuit,

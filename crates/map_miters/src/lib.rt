@@ -12,4 +12,8 @@ mod resets;
 mod steps;
 
 pub use assembling::miter;
+pub use comparing::{add_each_equal, add_failure};
 pub use errors::MiterError;
+pub use free::free_stay;
+pub use images::{Image, add_image};
+pub use steps::{Step, add_step};

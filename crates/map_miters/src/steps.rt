@@ -17,9 +17,9 @@ use std::alloc::Global;
 
 /// What the latches hold after a step, and what the properties are in it.
 #[derive(Drop)]
-pub(crate) struct Step {
-    pub(crate) nexts: Vec<Lit>,
-    pub(crate) props: Vec<Lit>,
+pub struct Step {
+    pub nexts: Vec<Lit>,
+    pub props: Vec<Lit>,
 }
 
 /// Puts literals at the end.
@@ -70,7 +70,11 @@ fn props_of(alloc: Global, part: &Instance, circuit: &Circuit) -> Result<Vec<Lit
 }
 
 /// Adds a step of a circuit whose inputs and latches are these literals.
-pub(crate) fn add_step(
+///
+/// # Errors
+///
+/// `NoMemory` where memory is refused, `TooLarge` where the graph has as many variables as it may; some gates may have been added then.
+pub fn add_step(
     alloc: Global,
     gates: &mut AigBuilder,
     circuit: &Circuit,

@@ -1,5 +1,5 @@
 use Rattle.map_commands.proofs.MiterLaws.{prints-miter}
-use Rattle.map_commands.proofs.mitering.write_miter.Goals as goal
+use Rattle.map_commands.proofs.mitering.write_questions.Goals as goal
 
 pub returns-in-Ok-clause-miter : goal.returns-in-Ok-clause-miter
 returns-in-Ok-clause-miter g c =

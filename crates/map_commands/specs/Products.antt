@@ -1,0 +1,75 @@
+-- What `miter` makes of a map with a certificate, and what is written.
+use Rattle.std.specs.Prelude.{ℕ, ◌≡◌, List, true, false, unwrap_or, Option, Some, None}
+use Rattle.map_checks.specs.Answers.{AreFitting, IsMap}
+use Rattle.product_machines.specs.declared.goals.Goal.{Goal}
+use Rattle.product_machines.specs.declared.goals.Goal.TheVariants.{Agree, Mapped as IsMapped}
+use Rattle.product_machines.specs.Products.{IsProduct}
+use Rattle.file_words.specs.declared.fault.ReadError.TheVariants.{TooLarge}
+use Rattle.file_words.specs.declared.spelling.Spelling.{Spelling}
+use Rattle.aig_binary.specs.Spellings.{text_in}
+use Rattle.reports.specs.Differences.{shapes_text}
+use Rattle.counted_io.specs.Input.{Input}
+use Rattle.counted_io.specs.Output.{Output, WritesAll}
+use Rattle.stream_paths.specs.Streams.{is_stdout, source_name, target_name}
+use Rattle.stream_paths.specs.declared.target.Target.{Target}
+use Rattle.command_line.specs.declared.task.Asking.{Asking}
+use Rattle.circuit_files.specs.declared.outcome.Outcome.{Outcome}
+use Rattle.circuit_files.specs.declared.outcome.Outcome.TheVariants as ends
+use Rattle.circuit_files.specs.declared.outcome.Failure.{Failure}
+use Rattle.circuit_files.specs.declared.outcome.Failure.TheVariants as fails
+use Rattle.command_endings.specs.Printing.{EndsWith}
+use Rattle.map_commands.specs.declared.given.Mapped.{Mapped}
+use Rattle.map_commands.specs.declared.products.Machines.{Machines}
+use Rattle.map_commands.specs.declared.products.Shown.{Shown}
+use Rattle.map_commands.specs.declared.products.Shown.TheVariants as shows
+use Rattle.map_commands.specs.Asking.{AreMapped, PrintsMiter}
+
+-- both circuits side by side: as a model whose bad state says that a property differs, and as its witness circuit by the map
+pub record AreMachinesOf (mapped : Mapped) (machines : Machines) : Type 0 where
+  pub model : IsProduct Agree mapped.pair.first.circuit mapped.pair.second.circuit mapped.map.circuit machines.model
+  pub witness : IsProduct IsMapped mapped.pair.first.circuit mapped.pair.second.circuit mapped.map.circuit machines.witness
+
+-- what is made of the circuits and the map that are read
+abbrev pub IsShownOf : Mapped → Shown → Type 0
+IsShownOf mapped (shows.Machines machines) = IsMap mapped.map.circuit × AreFitting mapped.pair.first.circuit mapped.pair.second.circuit mapped.map.circuit × AreMachinesOf mapped machines
+IsShownOf mapped shows.ShapesDiffer = IsMap mapped.map.circuit × (AreFitting mapped.pair.first.circuit mapped.pair.second.circuit mapped.map.circuit → ⊥)
+
+-- what a machine is written to, by its goal
+abbrev pub target_for : Goal → Asking → Target → Target
+target_for Agree task certificate = task.output
+target_for IsMapped task certificate = certificate
+
+-- why nothing is made: the map isn't one, or one of the machines would have too many variables; memory may run out
+abbrev pub IsFailureToShow : Asking → Target → Mapped → Failure → Type 0
+IsFailureToShow task certificate mapped (fails.NotAMap path) = (path.now ≡ source_name task.map) × (IsMap mapped.map.circuit → ⊥)
+IsFailureToShow task certificate mapped (fails.Refused path fault) = ((goal : Goal) × (path.now ≡ target_name (target_for goal task certificate))) × (fault ≡ TooLarge 0)
+IsFailureToShow task certificate mapped fails.Memory = Unit {0}
+IsFailureToShow task certificate mapped failure = ⊥
+
+-- what is written to standard output, which a file leaves as it was
+abbrev pub IsWritten : Target → List ℕ → Output → Output → Type 0
+IsWritten target text old new = (is_stdout target ≡ true → WritesAll old new text) × (is_stdout target ≡ false → new ≡ old)
+
+-- the model is written, and then the witness circuit
+pub record EndsWritingBoth (machines : Machines) (spelling : Spelling) (output certificate : Target) (old new : Output) (ended : Outcome) : Type 0 where
+  pub ends : ended ≡ ends.Done
+  pub between : Output
+  pub model : IsWritten output (text_in spelling machines.model) old between
+  pub witness : IsWritten certificate (text_in spelling machines.witness) between new
+
+abbrev pub EndsShowing : Shown → Spelling → Target → Target → Output → Output → Outcome → Type 0
+EndsShowing (shows.Machines machines) spelling output certificate old new ended = EndsWritingBoth machines spelling output certificate old new ended
+EndsShowing shows.ShapesDiffer spelling output certificate old new ended = EndsWith ends.ShapesDiffer shapes_text old new ended
+
+-- what is made of the files that are read is written, in the spelling that is chosen, else in that of the map
+pub record PrintsProduct (certificate : Target) (task : Asking) (before after : Input) (old new : Output) (ended : Outcome) : Type 0 where
+  pub mapped : Mapped
+  pub read : AreMapped task before after mapped
+  pub shown : Shown
+  pub is : IsShownOf mapped shown
+  pub printed : EndsShowing shown (unwrap_or task.spelling mapped.map.spelling) task.output certificate old new ended
+
+-- a miter of the map, and where a certificate is asked for, both circuits side by side with that
+abbrev pub PrintsAsked : Option Target → Asking → Input → Input → Output → Output → Outcome → Type 0
+PrintsAsked None task before after old new ended = PrintsMiter task before after old new ended
+PrintsAsked (Some certificate) task before after old new ended = PrintsProduct certificate task before after old new ended

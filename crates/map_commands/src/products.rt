@@ -1,0 +1,197 @@
+//! The command `miter` with a certificate: both circuits side by side as a model, and a witness circuit for it.
+ghost use Rattle.std.specs.Prelude.{◌≡◌, Err, IfErr, IfOk};
+ghost use Rattle.map_checks.specs.Answers.{AreFitting, IsMap};
+ghost use Rattle.product_machines.specs.Products.{IsProduct};
+ghost use Rattle.circuit_files.specs.declared.outcome.Failure.TheVariants.{NotAMap};
+ghost use Rattle.command_endings.specs.HeldNames.{OfSource};
+ghost use Rattle.command_endings.specs.Printing.{Prints, ending};
+ghost use Rattle.map_commands.specs.Products.{AreMachinesOf, EndsShowing, EndsWritingBoth, IsFailureToShow, IsShownOf, PrintsProduct, target_for};
+ghost use Rattle.stream_paths.specs.Streams.{target_name};
+
+use crate::given::{Mapped, mapped_for};
+use aig_binary::Spelling;
+use aig_graph::Circuit;
+use circuit_files::{Failure, Outcome};
+use command_endings::{ended, write_circuit};
+use command_line::Asking;
+use counted_io::{CountedRead, CountedWrite};
+use file_words::ReadError;
+use map_checks::{are_fitting, is_map};
+use map_miters::MiterError;
+use product_machines::{Goal, product_machine};
+use reports::print_shapes_differ;
+use std::alloc::Global;
+use std::rt::Files;
+use stream_paths::Target;
+
+/// Both circuits side by side: the model, and the witness circuit for it.
+#[derive(Drop)]
+struct Machines {
+    model: Circuit,
+    witness: Circuit,
+}
+
+/// What is made of circuits and a map.
+#[derive(Drop)]
+enum Shown {
+    /// These.
+    Machines(Machines),
+    /// Nothing: the circuits and the map don't fit together.
+    ShapesDiffer,
+}
+
+/// The name of what a machine is written to.
+fn name_for<'a>(goal: Goal, task: &Asking<'a>, certificate: Target<'a>) -> &'a str
+    ensures { result.now ≡ target_name (target_for goal task.now certificate.entry) }
+{
+    match goal {
+        Goal::Agree => task.output.name(),
+        Goal::Mapped => certificate.name(),
+    }
+}
+
+/// A product machine of circuits and a map that fit together.
+fn machine_by<'a>(
+    alloc: Global,
+    goal: Goal,
+    mapped: &Mapped,
+    task: &Asking<'a>,
+    certificate: Target<'a>,
+) -> Result<Circuit, Failure<'a>>
+    requires map { IsMap mapped.now.map.circuit }
+    requires fitting { AreFitting mapped.now.pair.first.circuit mapped.now.pair.second.circuit
+        mapped.now.map.circuit }
+    ensures made { IfOk result (IsProduct goal mapped.now.pair.first.circuit
+        mapped.now.pair.second.circuit mapped.now.map.circuit) }
+    ensures failed { IfErr result (IsFailureToShow task.now certificate.entry mapped.now) }
+{
+    let first = &mapped.pair.first.circuit;
+    let second = &mapped.pair.second.circuit;
+    match product_machine(alloc, goal, first, second, &mapped.map.circuit) {
+        Ok(circuit) => Ok(circuit),
+        Err(MiterError::NoMemory) => Err(Failure::Memory),
+        Err(MiterError::TooLarge) => {
+            let name = name_for(goal, task, certificate);
+            Err(Failure::Refused(name, ReadError::TooLarge(0)))
+        }
+    }
+}
+
+/// The model, and the witness circuit for it, of circuits and a map that fit together.
+fn machines_by<'a>(
+    alloc: Global,
+    mapped: &Mapped,
+    task: &Asking<'a>,
+    certificate: Target<'a>,
+) -> Result<Machines, Failure<'a>>
+    requires map { IsMap mapped.now.map.circuit }
+    requires fitting { AreFitting mapped.now.pair.first.circuit mapped.now.pair.second.circuit
+        mapped.now.map.circuit }
+    ensures made { IfOk result (AreMachinesOf mapped.now) }
+    ensures failed { IfErr result (IsFailureToShow task.now certificate.entry mapped.now) }
+{
+    let model = machine_by(alloc, Goal::Agree, mapped, task, certificate)?;
+    match machine_by(alloc, Goal::Mapped, mapped, task, certificate) {
+        Ok(witness) => Ok(Machines { model, witness }),
+        Err(failure) => {
+            drop(model);
+            Err(failure)
+        }
+    }
+}
+
+/// What is made of the circuits and the map that are read. That the map isn't one is found first, then that it doesn't fit the circuits.
+fn shown_for<'a>(
+    alloc: Global,
+    mapped: &Mapped,
+    task: &Asking<'a>,
+    certificate: Target<'a>,
+) -> Result<Shown, Failure<'a>>
+    ensures made { IfOk result (IsShownOf mapped.now) }
+    ensures failed { IfErr result (IsFailureToShow task.now certificate.entry mapped.now) }
+    ensures not_a_map { (IsMap mapped.now.map.circuit → ⊥) → OfSource task.now.map
+        (λ path. result ≡ Err (NotAMap path)) }
+{
+    let map = &mapped.map.circuit;
+    if !is_map(map) {
+        return Err(Failure::NotAMap(task.map.name()));
+    }
+    if !are_fitting(&mapped.pair.first.circuit, &mapped.pair.second.circuit, map) {
+        return Ok(Shown::ShapesDiffer);
+    }
+    match machines_by(alloc, mapped, task, certificate) {
+        Ok(machines) => Ok(Shown::Machines(machines)),
+        Err(failure) => Err(failure),
+    }
+}
+
+/// Writes the model, and then the witness circuit.
+fn write_both<'a, R: Files, O: CountedWrite>(
+    rt: &R,
+    machines: &Machines,
+    spelling: Spelling,
+    output: Target<'a>,
+    certificate: Target<'a>,
+    out: &mut O,
+) -> Result<Outcome, Failure<'a>>
+    ensures written { IfOk result (EndsWritingBoth machines.now spelling output.entry
+        certificate.entry (O.output out.old) (O.output out.new)) }
+    ensures prints { Prints (ending result) (O.output out.old) (O.output out.new) }
+{
+    match write_circuit(rt, &machines.model, spelling, output, out) {
+        Ok(()) => match write_circuit(rt, &machines.witness, spelling, certificate, out) {
+            Ok(()) => Ok(Outcome::Done),
+            Err(failure) => Err(failure),
+        },
+        Err(failure) => Err(failure),
+    }
+}
+
+/// Writes what is made, or prints that the circuits and the map don't fit together.
+fn write_shown<'a, R: Files, O: CountedWrite>(
+    rt: &R,
+    shown: &Shown,
+    spelling: Spelling,
+    output: Target<'a>,
+    certificate: Target<'a>,
+    out: &mut O,
+) -> Result<Outcome, Failure<'a>>
+    ensures written { IfOk result (EndsShowing shown.now spelling output.entry certificate.entry
+        (O.output out.old) (O.output out.new)) }
+    ensures prints { Prints (ending result) (O.output out.old) (O.output out.new) }
+{
+    match shown {
+        Shown::Machines(machines) => {
+            write_both(rt, machines, spelling, output, certificate, out)
+        }
+        Shown::ShapesDiffer => ended(print_shapes_differ(out), Outcome::ShapesDiffer),
+    }
+}
+
+/// Reads a circuit, the one that was made of it, and a map of the states of the first to those of the second, in this order, and writes
+/// both side by side as a model, and the witness circuit for it. Files are made once all that can be refused was found right.
+pub(crate) fn write_product<'a, R: Files, I: CountedRead, O: CountedWrite>(
+    rt: &R,
+    alloc: Global,
+    task: &Asking<'a>,
+    certificate: Target<'a>,
+    stdin: &mut I,
+    out: &mut O,
+) -> Result<Outcome, Failure<'a>>
+    ensures product { IfOk result (PrintsProduct certificate.entry task.now (I.input stdin.old)
+        (I.input stdin.new) (O.output out.old) (O.output out.new)) }
+    ensures prints { Prints (ending result) (O.output out.old) (O.output out.new) }
+{
+    let mapped = mapped_for(rt, alloc, task, stdin)?;
+    let spelling = task.spelling.unwrap_or(mapped.map.spelling);
+    let found = shown_for(alloc, &mapped, task, certificate);
+    drop(mapped);
+    match found {
+        Ok(shown) => {
+            let written = write_shown(rt, &shown, spelling, task.output, certificate, out);
+            drop(shown);
+            written
+        }
+        Err(failure) => Err(failure),
+    }
+}

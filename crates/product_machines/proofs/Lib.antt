@@ -1,0 +1,5 @@
+mod LeafLaws
+mod GoalLaws
+mod TieLaws
+mod EndLaws
+mod WitnessLaws

@@ -1,0 +1,5 @@
+pub mod Products
+pub mod Sides
+pub mod Ties
+pub mod Built
+pub mod Laws
