@@ -1,1 +1,2 @@
 mod FindingLaws
+mod WaveLaws

@@ -1,4 +1,5 @@
 pub mod Comparing
+pub mod Dumping
 pub mod Keeping
 pub mod Simulating
 pub mod Stimulating

@@ -1,35 +1,47 @@
 -- What `sim` prints.
-use Rattle.std.specs.Prelude.{◌≡◌, Bool, List}
+use Rattle.std.specs.Prelude.{ℕ, ◌≡◌, ◌++◌, List, Option, Some, None}
 use Rattle.aig_graph.specs.Circuits.{Netlist}
 use Rattle.aig_binary.specs.declared.reading.SpeltCircuit.{SpeltCircuit}
 use Rattle.lane_sim.specs.Traces.{trace}
-use Rattle.lane_sim.specs.declared.stimulus.InputSequence.{InputSequence}
 use Rattle.reports.specs.Traces.{trace_text}
 use Rattle.counted_io.specs.Input.{Input}
 use Rattle.counted_io.specs.Output.{Output}
+use Rattle.stream_paths.specs.declared.target.Target.{Target}
+use Rattle.stream_paths.specs.declared.target.Target.TheVariants as targets
 use Rattle.command_line.specs.declared.task.Simulation.{Simulation}
 use Rattle.command_line.specs.declared.task.Stimuli.{Stimuli}
 use Rattle.circuit_files.specs.declared.outcome.Outcome.{Outcome}
 use Rattle.circuit_files.specs.declared.outcome.Outcome.TheVariants.{Done}
 use Rattle.command_endings.specs.Printing.{EndsWith}
 use Rattle.command_endings.specs.Sources.{IsCircuitAt}
+use Rattle.simulation_commands.specs.Dumping.{dump_of}
 use Rattle.simulation_commands.specs.Stimulating.{AreStimuliAt}
+use Rattle.simulation_commands.specs.declared.simulation.Case.{Case}
 
--- the trace of a circuit under what is asked for
-pub record IsTraceUnder (c : Netlist) (stimuli : Stimuli) (before after : Input) (found : List (List (List Bool))) : Type 0 where
-  pub sequences : List InputSequence
-  pub under : AreStimuliAt stimuli c before after sequences
-  pub is : found ≡ trace c sequences
+-- this circuit, and what it is simulated under by what is asked for
+pub record IsCaseWith (c : Netlist) (stimuli : Stimuli) (before after : Input) (given : Case) : Type 0 where
+  pub circuit : given.circuit ≡ c
+  pub under : AreStimuliAt stimuli c before after given.stimulus
 
--- the trace of the circuit that is read under what the task asks for
-pub record IsTraceOf (task : Simulation) (before after : Input) (found : List (List (List Bool))) : Type 0 where
+-- the circuit that is read, and what the task has it simulated under
+pub record IsCaseOf (task : Simulation) (before after : Input) (given : Case) : Type 0 where
   pub spelt : SpeltCircuit
   pub between : Input
   pub read : IsCircuitAt task.input before between spelt
-  pub traced : IsTraceUnder spelt.circuit task.stimuli between after found
+  pub is : IsCaseWith spelt.circuit task.stimuli between after given
 
--- that trace was printed
+-- the lines of its trace
+abbrev pub lines_of : Case → List ℕ
+lines_of given = trace_text (trace given.circuit given.stimulus)
+
+-- what is printed: the lines of the trace, and before them the dump of waves where that goes to standard output
+abbrev pub printed : Option Target → List ℕ → List ℕ → List ℕ
+printed None dump lines = lines
+printed (Some targets.Stdout) dump lines = dump ++ lines
+printed (Some (targets.File path)) dump lines = lines
+
+-- of what is read, that was printed
 pub record PrintsTrace (task : Simulation) (before after : Input) (old new : Output) (ended : Outcome) : Type 0 where
-  pub found : List (List (List Bool))
-  pub traced : IsTraceOf task before after found
-  pub printed : EndsWith Done (trace_text found) old new ended
+  pub given : Case
+  pub is : IsCaseOf task before after given
+  pub prints : EndsWith Done (printed task.waves (dump_of given) (lines_of given)) old new ended

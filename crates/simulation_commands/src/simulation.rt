@@ -1,11 +1,14 @@
 //! The command `sim`.
-ghost use Rattle.std.specs.Prelude.{◌≡◌, IfOk};
+ghost use Rattle.std.specs.Prelude.{◌≡◌, IfOk, MatchResult, Some};
 ghost use Rattle.lane_sim.specs.Traces as traces;
 ghost use Rattle.reports.specs.Traces.{trace_text};
 ghost use Rattle.circuit_files.specs.declared.outcome.Outcome.TheVariants.{Done};
-ghost use Rattle.command_endings.specs.Printing.{EndsPrinting, Prints, ending};
-ghost use Rattle.simulation_commands.specs.Simulating.{IsTraceOf, IsTraceUnder, PrintsTrace};
+ghost use Rattle.circuit_files.specs.declared.outcome.Failure.TheVariants.{Memory};
+ghost use Rattle.command_endings.specs.Printing.{EndsPrinting, EndsWith, Prints, ending};
+ghost use Rattle.simulation_commands.specs.Dumping.{dump_of, dump_text};
+ghost use Rattle.simulation_commands.specs.Simulating.{IsCaseOf, IsCaseWith, PrintsTrace, lines_of, printed};
 
+use crate::dumping::{Waves, waves_of, write_dump};
 use crate::stimuli::stimuli_for;
 use aig_graph::Circuit;
 use circuit_files::{Failure, Outcome, circuit_at};
@@ -17,54 +20,58 @@ use reports::print_trace;
 use std::alloc::Global;
 use std::rt::Files;
 use std::thread::Threads;
+use stream_paths::Target;
 
-fn trace<'a, R: Threads + Sync>(
-    rt: &R,
-    alloc: Global,
-    circuit: &Circuit,
-    stimulus: &Stimulus,
-) -> Result<Trace, Failure<'a>>
-    ensures { IfOk result (λ found. found ≡ traces.trace circuit.now stimulus.now) }
-{
-    match simulate(rt, alloc, circuit, stimulus) {
-        Ok(trace) => Ok(trace),
-        Err(_) => Err(Failure::Memory),
-    }
+/// A circuit, and what it is simulated under.
+#[derive(Drop)]
+pub(crate) struct Case {
+    pub(crate) circuit: Circuit,
+    pub(crate) stimulus: Stimulus,
 }
 
-/// The trace of a circuit under what the task asks for.
-fn trace_under<'a, R: Files + Threads + Sync, I: CountedRead>(
+/// A circuit, and what the task has it simulated under.
+fn case_with<'a, R: Files, I: CountedRead>(
     rt: &R,
     alloc: Global,
-    circuit: &Circuit,
+    circuit: Circuit,
     task: &Simulation<'a>,
     stdin: &mut I,
-) -> Result<Trace, Failure<'a>>
-    ensures { IfOk result (IsTraceUnder circuit.now task.now.stimuli (I.input stdin.old)
+) -> Result<Case, Failure<'a>>
+    ensures { IfOk result (IsCaseWith circuit task.now.stimuli (I.input stdin.old)
         (I.input stdin.new)) }
 {
-    match stimuli_for(rt, alloc, task.stimuli, circuit, task.input, stdin) {
-        Ok(stimulus) => trace(rt, alloc, circuit, &stimulus),
-        Err(failure) => Err(failure),
+    match stimuli_for(rt, alloc, task.stimuli, &circuit, task.input, stdin) {
+        Ok(stimulus) => Ok(Case { circuit, stimulus }),
+        Err(failure) => {
+            drop(circuit);
+            Err(failure)
+        }
     }
 }
 
-/// The trace of the circuit that is read under what the task asks for.
-fn simulated<'a, R: Files + Threads + Sync, I: CountedRead>(
+/// What is read: a circuit, and then a stimulus where the task has no random sequences.
+fn case_for<'a, R: Files, I: CountedRead>(
     rt: &R,
     alloc: Global,
     task: &Simulation<'a>,
     stdin: &mut I,
-) -> Result<Trace, Failure<'a>>
-    ensures { IfOk result (IsTraceOf task.now (I.input stdin.old) (I.input stdin.new)) }
+) -> Result<Case, Failure<'a>>
+    ensures { IfOk result (IsCaseOf task.now (I.input stdin.old) (I.input stdin.new)) }
 {
     match circuit_at(rt, alloc, task.input, stdin) {
-        Ok(spelt) => {
-            let trace = trace_under(rt, alloc, &spelt.circuit, task, stdin);
-            drop(spelt);
-            trace
-        }
+        Ok(spelt) => case_with(rt, alloc, spelt.circuit, task, stdin),
         Err(failure) => Err(failure),
+    }
+}
+
+fn trace<'a, R: Threads + Sync>(rt: &R, alloc: Global, given: &Case) -> Result<Trace, Failure<'a>>
+    ensures { MatchResult result
+        (λ found. found ≡ traces.trace given.now.circuit given.now.stimulus)
+        (λ failure. failure ≡ Memory) }
+{
+    match simulate(rt, alloc, &given.circuit, &given.stimulus) {
+        Ok(trace) => Ok(trace),
+        Err(_) => Err(Failure::Memory),
     }
 }
 
@@ -74,7 +81,111 @@ fn print_lines<'a, O: CountedWrite>(trace: &Trace, out: &mut O) -> Result<Outcom
     ended(print_trace(trace, out), Outcome::Done)
 }
 
-/// Reads a circuit, and then a stimulus where the task has no random sequences, and prints the trace.
+/// Prints the trace of what is simulated, without waves.
+fn print_trace_of<'a, R: Threads + Sync, O: CountedWrite>(
+    rt: &R,
+    alloc: Global,
+    given: &Case,
+    out: &mut O,
+) -> Result<Outcome, Failure<'a>>
+    ensures printed { IfOk result (EndsWith Done (lines_of given.now) (O.output out.old)
+        (O.output out.new)) }
+    ensures prints { Prints (ending result) (O.output out.old) (O.output out.new) }
+{
+    match trace(rt, alloc, given) {
+        Ok(trace) => {
+            let ended = print_lines(&trace, out);
+            drop(trace);
+            ended
+        }
+        Err(failure) => Err(failure),
+    }
+}
+
+/// Writes waves, and then prints the trace.
+fn print_both<'a, R: Files, O: CountedWrite>(
+    rt: &R,
+    target: Target<'a>,
+    waves: &Waves,
+    trace: &Trace,
+    out: &mut O,
+) -> Result<Outcome, Failure<'a>>
+    ensures printed { IfOk result (EndsWith Done (printed (Some target.entry) (dump_text waves.now)
+        (trace_text trace.now)) (O.output out.old) (O.output out.new)) }
+    ensures prints { Prints (ending result) (O.output out.old) (O.output out.new) }
+{
+    match write_dump(rt, waves, target, out) {
+        Ok(()) => print_lines(trace, out),
+        Err(failure) => Err(failure),
+    }
+}
+
+/// Writes waves once the trace of what is simulated is made, and then prints that.
+fn print_with_waves<'a, R: Files + Threads + Sync, O: CountedWrite>(
+    rt: &R,
+    alloc: Global,
+    given: &Case,
+    target: Target<'a>,
+    waves: &Waves,
+    out: &mut O,
+) -> Result<Outcome, Failure<'a>>
+    ensures printed { IfOk result (EndsWith Done (printed (Some target.entry) (dump_text waves.now)
+        (lines_of given.now)) (O.output out.old) (O.output out.new)) }
+    ensures prints { Prints (ending result) (O.output out.old) (O.output out.new) }
+{
+    match trace(rt, alloc, given) {
+        Ok(trace) => {
+            let ended = print_both(rt, target, waves, &trace, out);
+            drop(trace);
+            ended
+        }
+        Err(failure) => Err(failure),
+    }
+}
+
+/// Writes the waves of what is simulated, and then prints its trace. Nothing is written before both are made.
+fn print_with<'a, R: Files + Threads + Sync, O: CountedWrite>(
+    rt: &R,
+    alloc: Global,
+    given: &Case,
+    task: &Simulation<'a>,
+    target: Target<'a>,
+    out: &mut O,
+) -> Result<Outcome, Failure<'a>>
+    ensures printed { IfOk result (EndsWith Done (printed (Some target.entry) (dump_of given.now)
+        (lines_of given.now)) (O.output out.old) (O.output out.new)) }
+    ensures prints { Prints (ending result) (O.output out.old) (O.output out.new) }
+{
+    match waves_of(rt, alloc, given, task) {
+        Ok(waves) => {
+            let ended = print_with_waves(rt, alloc, given, target, &waves, out);
+            drop(waves);
+            ended
+        }
+        Err(failure) => Err(failure),
+    }
+}
+
+/// Prints the trace of what is simulated, and before that writes its waves where the task asks for them.
+fn print_case<'a, R: Files + Threads + Sync, O: CountedWrite>(
+    rt: &R,
+    alloc: Global,
+    given: &Case,
+    task: &Simulation<'a>,
+    out: &mut O,
+) -> Result<Outcome, Failure<'a>>
+    ensures printed { IfOk result (EndsWith Done (printed task.now.waves (dump_of given.now)
+        (lines_of given.now)) (O.output out.old) (O.output out.new)) }
+    ensures prints { Prints (ending result) (O.output out.old) (O.output out.new) }
+{
+    match task.waves {
+        Some(target) => print_with(rt, alloc, given, task, target, out),
+        None => print_trace_of(rt, alloc, given, out),
+    }
+}
+
+/// Reads a circuit, and then a stimulus where the task has no random sequences, writes the waves where they are asked for, and prints
+/// the trace. A file is made once nothing but a device can fail.
 pub fn print_simulation<'a, R: Files + Threads + Sync, I: CountedRead, O: CountedWrite>(
     rt: &R,
     alloc: Global,
@@ -86,6 +197,8 @@ pub fn print_simulation<'a, R: Files + Threads + Sync, I: CountedRead, O: Counte
         (O.output out.old) (O.output out.new)) }
     ensures prints { Prints (ending result) (O.output out.old) (O.output out.new) }
 {
-    let trace = simulated(rt, alloc, task, stdin)?;
-    print_lines(&trace, out)
+    let given = case_for(rt, alloc, task, stdin)?;
+    let ended = print_case(rt, alloc, &given, task, out);
+    drop(given);
+    ended
 }

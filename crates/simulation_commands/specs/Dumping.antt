@@ -1,0 +1,37 @@
+-- The waves of what is simulated.
+use Rattle.std.specs.Prelude.{ℕ, ◌≡◌, ◌⊎◌, Bool, true, false, List}
+use Rattle.aig_graph.specs.Circuits.{Netlist}
+use Rattle.lane_sim.specs.Traces.{trace}
+use Rattle.random_stimuli.specs.Room.{is_too_long}
+use Rattle.waves.specs.Dumps.{waves_text}
+use Rattle.waves.specs.Names.{wave_names}
+use Rattle.waves.specs.Probes.{probed}
+use Rattle.command_line.specs.declared.task.Simulation.{Simulation}
+use Rattle.command_line.specs.declared.task.Stimuli.{Stimuli}
+use Rattle.command_line.specs.declared.task.Stimuli.TheVariants.{Read, Random}
+use Rattle.circuit_files.specs.declared.outcome.Failure.{Failure}
+use Rattle.circuit_files.specs.declared.outcome.Failure.TheVariants as fails
+use Rattle.command_endings.specs.HeldNames.{OfSource}
+use Rattle.simulation_commands.specs.declared.dumping.Waves.{Waves}
+use Rattle.simulation_commands.specs.declared.simulation.Case.{Case}
+
+-- the waves of a circuit under a stimulus: their names, and the trace of the circuit that has them as its outputs
+pub record AreWavesOf (given : Case) (waves : Waves) : Type 0 where
+  pub names : waves.names ≡ wave_names given.circuit
+  pub values : waves.trace ≡ trace (probed given.circuit) given.stimulus
+
+-- the dump of waves, and that of the waves of a circuit under a stimulus
+abbrev pub dump_text : Waves → List ℕ
+dump_text waves = waves_text waves.names waves.trace
+
+abbrev pub dump_of : Case → List ℕ
+dump_of given = waves_text (wave_names given.circuit) (trace (probed given.circuit) given.stimulus)
+
+-- whether a trace of the circuit under what is asked for takes too much memory, where that are random sequences
+abbrev pub are_too_long : Stimuli → Netlist → Bool
+are_too_long (Read source) c = false
+are_too_long (Random asked) c = is_too_long c asked.count asked.steps
+
+-- why there is no trace of the circuit that has the waves as its outputs: it would take too much memory, or memory is wanting
+abbrev pub IsFailureToShow : Simulation → Netlist → Failure → Type 0
+IsFailureToShow task shown failure = (failure ≡ fails.Memory) ⊎ ((are_too_long task.stimuli shown ≡ true) × OfSource task.input (λ path. failure ≡ fails.TooManySteps path))
