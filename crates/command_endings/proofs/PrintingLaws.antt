@@ -19,6 +19,7 @@ failing (fails.RefusedList path fault) s = refl
 failing (fails.RefusedCertificates path fault) s = refl
 failing (fails.RefusedWitness path fault) s = refl
 failing (fails.NoSuchName path name) s = refl
+failing (fails.NoSuchLatch path place) s = refl
 failing (fails.TooManyNodes path) s = refl
 failing (fails.TooManySteps path) s = refl
 failing (fails.NotAMap path) s = refl

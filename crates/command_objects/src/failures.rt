@@ -22,6 +22,7 @@ fn fault_of(failure: Failure<'_>) -> Fault
         Failure::RefusedCertificates(_, fault) => Fault::Certificates(fault),
         Failure::RefusedWitness(_, fault) => Fault::Witness(fault),
         Failure::NoSuchName(_, _) => Fault::NoSuchName,
+        Failure::NoSuchLatch(_, _) => Fault::NoSuchLatch,
         Failure::TooManyNodes(_) => Fault::TooManyNodes,
         Failure::TooManySteps(_) => Fault::TooManySteps,
         Failure::NotAMap(_) => Fault::NotAMap,
@@ -52,6 +53,7 @@ fn path_of<'a>(failure: Failure<'a>) -> Option<&'a str>
         | Failure::RefusedCertificates(path, _)
         | Failure::RefusedWitness(path, _)
         | Failure::NoSuchName(path, _)
+        | Failure::NoSuchLatch(path, _)
         | Failure::TooManyNodes(path)
         | Failure::TooManySteps(path)
         | Failure::NotAMap(path)

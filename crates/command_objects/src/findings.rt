@@ -18,7 +18,7 @@ use counted_io::CountedWrite;
 use json_reports::{MapCounts, PrintError, Times};
 use lane_sim::Place;
 use merged_latches::MergeCounts;
-use reports::JobReport;
+use reports::{Agreement, JobReport};
 use retimed_circuits::Retimed;
 use std::alloc::Global;
 
@@ -102,18 +102,21 @@ pub fn print_shapes_differ<'a, W: CountedWrite>(
     ended(printed, Outcome::ShapesDiffer)
 }
 
-/// Prints an audit after which the run ends so.
+/// Prints an audit, and what came of a file that was compared with the circuit that its blocks end in, after which the run ends so.
 pub fn print_audit<'a, W: CountedWrite>(
     alloc: Global,
     blocks: &[Certificate],
     audit: Audit,
+    agreement: Option<Agreement>,
     outcome: Outcome,
     writer: &mut W,
 ) -> Result<Outcome, Failure<'a>>
-    ensures { EndsPrintingObject outcome (audit_data blocks.now audit (status_of outcome))
+    ensures { EndsPrintingObject outcome
+        (audit_data blocks.now audit agreement (status_of outcome))
         (W.output writer.old) (W.output writer.new) result }
 {
-    let printed = json_reports::print_audit(alloc, blocks, audit, outcome.status(), writer);
+    let status = outcome.status();
+    let printed = json_reports::print_audit(alloc, blocks, audit, agreement, status, writer);
     ended(printed, outcome)
 }
 

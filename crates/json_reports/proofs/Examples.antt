@@ -4,9 +4,10 @@ use Rattle.std.specs.Prelude.{ℕ, List, codes}
 use Rattle.std.specs.Borrow.{Bor}
 use Rattle.std.specs.Fmt.{digits}
 use Rattle.file_words.specs.declared.fault.ReadError.TheVariants.{BadHeader}
+use Rattle.reports.specs.declared.agreement.Agreement.TheVariants.{DiffersAt}
 use Rattle.reports.specs.declared.batch.JobReport.TheVariants.{Done, Refused}
 use Rattle.certificates.specs.declared.verdict.Objection.TheVariants.{BadRoute}
-use Rattle.certificate_audits.specs.declared.outcome.End.TheVariants.{Objected}
+use Rattle.certificate_audits.specs.declared.outcome.End.TheVariants.{NoBlocks, Objected}
 use Rattle.circuit_counts.specs.declared.remaining.Remaining.{Remaining}
 use Rattle.circuit_counts.specs.declared.statistics.Counts.{Counts}
 use Rattle.aig_graph.specs.Circuits.{Netlist}
@@ -39,10 +40,15 @@ stat_example : json_line (statistics_data (record { counts = two_latches; passab
 unfolding serde_json_on_literals digits
 stat_example = refl
 
-audit_example : json_line (audit_data [] (record { confirmed = 0; end = Objected BadRoute }) 5)
-    ≡ codes "{\"command\":\"verify\",\"counts\":[],\"end\":\"Objected\",\"objection\":\"BadRoute\",\"status\":5}\n"
+audit_example : json_line (audit_data [] (record { confirmed = 0; end = Objected BadRoute }) None 5)
+    ≡ codes "{\"command\":\"verify\",\"counts\":[],\"end\":\"Objected\",\"objection\":\"BadRoute\",\"out\":null,\"status\":5}\n"
 unfolding serde_json_on_literals digits
 audit_example = refl
+
+compared_example : json_line (audit_data [] (record { confirmed = 0; end = NoBlocks }) (Some (DiffersAt 17)) 5)
+    ≡ codes "{\"command\":\"verify\",\"counts\":[],\"end\":\"NoBlocks\",\"objection\":null,\"out\":{\"offset\":17,\"result\":\"Differs\"},\"status\":5}\n"
+unfolding serde_json_on_literals digits
+compared_example = refl
 
 batch_example : json_line (batch_data (Done 2 1 ∷ Refused (BadHeader 0) ∷ []) 1)
     ≡ codes "{\"command\":\"batch\",\"files\":[{\"fault\":null,\"latches\":{\"after\":1,\"before\":2}},{\"fault\":{\"name\":\"BadHeader\",\"offset\":0},\"latches\":null}],\"status\":1}\n"

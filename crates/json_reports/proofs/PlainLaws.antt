@@ -1,5 +1,5 @@
 -- What is printed has no float and nests a few levels, so that readers take it.
-use Rattle.std.proofs.Common.{ℕ, ◌≡◌, ◌≤◌, suc, false, List, [], ◌∷◌, map, Option, Some, None, Result, refl, sym, subst, arith}
+use Rattle.std.proofs.Common.{ℕ, ◌≡◌, ◌≤◌, suc, false, List, [], ◌∷◌, map, Option, Some, None, Result, Ok, Err, IfOk, refl, sym, subst, arith}
 use Rattle.std.specs.Prelude.{codes}
 use Rattle.std.proofs.Math.Nat.{max-le}
 use Rattle.std.proofs.lemmas.Bool.{or_from}
@@ -10,22 +10,25 @@ use Rattle.certificates.specs.declared.certificate.Certificate.{Certificate}
 use Rattle.certificate_audits.specs.declared.outcome.Audit.{Audit}
 use Rattle.counted_io.specs.Output.{Output}
 use Rattle.lane_sim.specs.declared.difference.Place.{Place}
+use Rattle.reports.specs.declared.agreement.Agreement.{Agreement}
+use Rattle.reports.specs.declared.agreement.Agreement.TheVariants.{Same, DiffersAt}
 use Rattle.reports.specs.declared.batch.JobReport.{JobReport}
 use Rattle.reports.specs.declared.batch.JobReport.TheVariants.{Done, Refused, NoMemory, NoSuchName}
 use Rattle.retimed_circuits.specs.declared.report.Retimed.{Retimed}
-use Rattle.serde_json.specs.Data.{Data, null, string, object, array, Members, member, no_members, depth, items_depth, members_depth}
-use Rattle.serde_json.specs.View.{items_of}
+use Rattle.serde_json.specs.Data.{Data, null, string, object, Members, member, no_members, depth, items_depth, members_depth}
+use Rattle.serde_json.specs.View.{items_of, view}
+use Rattle.serde_json.specs.declared.value.Value.{Value}
 use Rattle.serde_json.specs.Written.{has_float, items_have_float, members_have_float}
-use Rattle.json_reports.specs.Audits.{audit_data, block_data, objection_at, objection_name}
-use Rattle.json_reports.specs.Batches.{batch_data, job_data, latches_data}
+use Rattle.json_reports.specs.Audits.{agreement_data, audit_data, block_data, objection_at, objection_name}
+use Rattle.json_reports.specs.Batches.{batch_data, job_data}
 use Rattle.merged_latches.specs.declared.counts.MergeCounts.{MergeCounts}
 use Rattle.json_reports.specs.Counts.{circuit_data, map_data, merge_data, statistics_data}
-use Rattle.json_reports.specs.Differences.{difference_data, place_data, shapes_data}
+use Rattle.json_reports.specs.Differences.{difference_data, shapes_data}
 use Rattle.json_reports.specs.Faults.{fault_data, fault_offset}
-use Rattle.json_reports.specs.Lines.{IsPlain, PrintsLine}
+use Rattle.json_reports.specs.Lines.{IsPlain, PrintsLine, PrintsMade}
 use Rattle.json_reports.specs.Members.{count, array_of, or_null}
 use Rattle.json_reports.specs.Refusals.{refusal_data}
-use Rattle.json_reports.specs.Retimings.{before_data, frame_data, retiming_data}
+use Rattle.json_reports.specs.Retimings.{frame_data, retiming_data}
 use Rattle.json_reports.specs.Timings.{frame_times_data, times_data}
 use Rattle.json_reports.specs.declared.fault.Fault.{Fault}
 use Rattle.json_reports.specs.declared.fault.Fault.TheVariants as faults
@@ -119,11 +122,16 @@ retiming r levels left times mapped =
     (plain-member (plain-string _) (plain-member (plain-array frame_data r.frames plain-frame) (plain-member (plain-array count r.kept_free plain-count) (plain-member record { whole = refl; nests = omega arith }
     (plain-member (plain-or_null map_data plain-map mapped) (plain-member (plain-or_null merge_data plain-merge r.merged) (plain-member (plain-or_null times_data plain-times times) (plain-member (plain-count 0) plain-none)))))))))))
 
+plain-agreement : (agreement : Agreement) → Plain 1 (agreement_data agreement)
+plain-agreement Same = record { whole = refl; nests = omega arith }
+plain-agreement (DiffersAt offset) = record { whole = refl; nests = omega arith }
+
 -- of an audit
-pub audit : (blocks : List Certificate) (a : Audit) (status : ℕ) → IsPlain (audit_data blocks a status)
-audit blocks a status =
+pub audit : (blocks : List Certificate) (a : Audit) (agreement : Option Agreement) (status : ℕ) → IsPlain (audit_data blocks a agreement status)
+audit blocks a agreement status =
     is_plain {n = 2} (omega arith) (plain-object (plain-member (plain-string _) (plain-member (plain-array block_data _ (λ b. plain-count b.count))
-    (plain-member (plain-string _) (plain-member (plain-or_null (λ o. string (objection_name o)) (λ o. plain-string _) (objection_at a.end)) (plain-member (plain-count status) plain-none))))))
+    (plain-member (plain-string _) (plain-member (plain-or_null (λ o. string (objection_name o)) (λ o. plain-string _) (objection_at a.end))
+    (plain-member (plain-or_null agreement_data plain-agreement agreement) (plain-member (plain-count status) plain-none)))))))
 
 plain-job : (report : JobReport) → Plain 2 (job_data report)
 plain-job (Done before after) = record { whole = refl; nests = omega arith }
@@ -142,6 +150,8 @@ refusal r =
     is_plain {n = 2} (omega arith) (plain-object (plain-member (plain-string _) (plain-member (plain-fault r.fault) (plain-member (plain-or_null (λ name. string name.now) (λ name. plain-string _) r.latch)
     (plain-member (plain-or_null (λ path. string path.now) (λ path. plain-string _) r.path) (plain-member (plain-count r.status) plain-none))))))
 
--- what prints a value prints what that is, where it is plain
-pub prints_as : {T : Type 0} {d e : Data} (old new : Output) (result : Result T PrintError) → d ≡ e → IsPlain e → (IsPlain d → PrintsLine d old new result) → PrintsLine e old new result
-prints_as old new result same plain prints = subst (λ x. PrintsLine x old new result) same (prints (subst IsPlain (sym same) plain))
+-- what prints a value that was made prints what that is, where it is plain
+pub prints_as : {T E : Type 0} {d : Data} (old new : Output) (made : Result Value E) (result : Result T PrintError)
+    → IfOk made (λ v. view v ≡ d) → IsPlain d → PrintsMade made old new result → PrintsLine d old new result
+prints_as old new (Ok value) result same plain prints = subst (λ x. PrintsLine x old new result) same (prints (subst IsPlain (sym same) plain))
+prints_as {d = d} old new (Err error) result same plain prints = subst (λ r. PrintsLine d old new r) (sym prints.0) prints.1

@@ -6,7 +6,9 @@ use Rattle.certificates.specs.declared.verdict.Objection.TheVariants.{NotClosed,
 use Rattle.certificate_audits.specs.declared.outcome.Audit.{Audit}
 use Rattle.certificate_audits.specs.declared.outcome.End.{End}
 use Rattle.certificate_audits.specs.declared.outcome.End.TheVariants.{NoBlocks, Certified, Open, BlocksFollow, Objected}
-use Rattle.serde_json.specs.Data.{Data, string, object, member, no_members}
+use Rattle.reports.specs.declared.agreement.Agreement.{Agreement}
+use Rattle.reports.specs.declared.agreement.Agreement.TheVariants.{Same, DiffersAt}
+use Rattle.serde_json.specs.Data.{Data, null, string, object, member, no_members}
 use Rattle.json_reports.specs.Members.{count, array_of, or_null}
 
 abbrev pub end_name : End → List ℕ
@@ -33,11 +35,17 @@ objection_at BlocksFollow = None
 abbrev pub block_data : Certificate → Data
 block_data block = count block.count
 
--- the counts of the confirmed blocks, in order, and how the audit ended
-abbrev pub audit_data : List Certificate → Audit → ℕ → Data
-audit_data blocks audit status =
+-- whether a file is the text of the circuit that the blocks end in, and where it differs first
+abbrev pub agreement_data : Agreement → Data
+agreement_data Same = object (member (codes "offset") null (member (codes "result") (string (codes "Same")) no_members))
+agreement_data (DiffersAt offset) = object (member (codes "offset") (count offset) (member (codes "result") (string (codes "Differs")) no_members))
+
+-- the counts of the confirmed blocks, in order, how the audit ended, and what came of comparing a file
+abbrev pub audit_data : List Certificate → Audit → Option Agreement → ℕ → Data
+audit_data blocks audit agreement status =
     object (member (codes "command") (string (codes "verify"))
     (member (codes "counts") (array_of block_data (take audit.confirmed blocks))
     (member (codes "end") (string (end_name audit.end))
     (member (codes "objection") (or_null (λ objection. string (objection_name objection)) (objection_at audit.end))
-    (member (codes "status") (count status) no_members)))))
+    (member (codes "out") (or_null agreement_data agreement)
+    (member (codes "status") (count status) no_members))))))

@@ -1,5 +1,5 @@
 -- The names of faults, and their offsets.
-use Rattle.std.specs.Prelude.{ℕ, List, Option, Some, None, codes}
+use Rattle.std.specs.Prelude.{ℕ, List, Option, None, codes}
 use Rattle.file_words.specs.Codes as circuits
 use Rattle.lane_sim.specs.Codes as stimuli
 use Rattle.batch_lists.specs.Codes as lists
@@ -8,7 +8,7 @@ use Rattle.witnesses.specs.Codes as witnesses
 use Rattle.serde_json.specs.Data.{Data, string, object, member, no_members}
 use Rattle.json_reports.specs.Members.{count, or_null}
 use Rattle.json_reports.specs.declared.fault.Fault.{Fault}
-use Rattle.json_reports.specs.declared.fault.Fault.TheVariants.{Circuit, Stimulus, FileList, Certificates, Witness, NoSuchName, TooManyNodes, TooManySteps, NotAMap, NoSuchLiteral, Device}
+use Rattle.json_reports.specs.declared.fault.Fault.TheVariants.{Circuit, Stimulus, FileList, Certificates, Witness, NoSuchName, NoSuchLatch, TooManyNodes, TooManySteps, NotAMap, NoSuchLiteral, Device}
 
 abbrev pub fault_name : Fault → List ℕ
 fault_name (Circuit fault) = circuits.name_of fault
@@ -17,6 +17,7 @@ fault_name (FileList fault) = lists.name_of fault
 fault_name (Certificates fault) = certificates.name_of fault
 fault_name (Witness fault) = witnesses.name_of fault
 fault_name NoSuchName = codes "NoSuchName"
+fault_name NoSuchLatch = codes "NoSuchLatch"
 fault_name TooManyNodes = codes "TooManyNodes"
 fault_name TooManySteps = codes "TooManySteps"
 fault_name NotAMap = codes "NotAMap"
@@ -30,6 +31,7 @@ fault_offset (FileList fault) = lists.offset_of fault
 fault_offset (Certificates fault) = certificates.offset_of fault
 fault_offset (Witness fault) = witnesses.offset_of fault
 fault_offset NoSuchName = None
+fault_offset NoSuchLatch = None
 fault_offset TooManyNodes = None
 fault_offset TooManySteps = None
 fault_offset NotAMap = None

@@ -1,8 +1,10 @@
 -- An object of JSON on a line, and what printing it does.
-use Rattle.std.specs.Prelude.{ℕ, ◌≡◌, ◌≤◌, List, [], ◌∷◌, ◌++◌, Some, Bool, false, Result, Ok, Err}
+use Rattle.std.specs.Prelude.{ℕ, ◌≡◌, ◌≤◌, List, [], ◌∷◌, ◌++◌, Some, false, Result, Ok, Err}
 use Rattle.counted_io.specs.Output.{Output, WritesAll, WritesPart}
 use Rattle.serde_json.specs.Data.{Data, depth}
 use Rattle.serde_json.specs.Read.{read, max_depth}
+use Rattle.serde_json.specs.View.{view}
+use Rattle.serde_json.specs.declared.value.Value.{Value}
 use Rattle.serde_json.specs.Written.{compact_text, has_float}
 use Rattle.json_reports.specs.declared.printing.PrintError.{PrintError}
 use Rattle.json_reports.specs.declared.printing.PrintError.TheVariants.{NoMemory, Device}
@@ -21,3 +23,8 @@ abbrev pub PrintsLine : {T : Type 0} → Data → Output → Output → Result T
 PrintsLine d old new (Ok x) = WritesAll old new (json_line d) × (read (compact_text d) ≡ Some d)
 PrintsLine d old new (Err Device) = WritesPart old new (json_line d)
 PrintsLine d old new (Err NoMemory) = new ≡ old
+
+-- the same of a value that was to be made, where it is plain; where it wasn't made, memory was refused
+abbrev pub PrintsMade : {T E : Type 0} → Result Value E → Output → Output → Result T PrintError → Type 0
+PrintsMade (Ok value) old new result = IsPlain (view value) → PrintsLine (view value) old new result
+PrintsMade (Err e) old new result = (result ≡ Err NoMemory) × (new ≡ old)

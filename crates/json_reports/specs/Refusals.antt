@@ -1,5 +1,5 @@
 -- Why a command failed, as an object.
-use Rattle.std.specs.Prelude.{ℕ, List, Option, option_map, codes}
+use Rattle.std.specs.Prelude.{codes}
 use Rattle.serde_json.specs.Data.{Data, string, object, member, no_members}
 use Rattle.json_reports.specs.Faults.{fault_data}
 use Rattle.json_reports.specs.Members.{count, or_null}

@@ -1,14 +1,15 @@
-//! An audit of certificates.
+//! An audit of certificates, and what came of comparing a file with the circuit that they end in.
 ghost use Rattle.std.specs.Prelude.{◌≡◌, IfOk, OnOk, take};
 ghost use Rattle.serde_json.specs.View.{members_view, view};
-ghost use Rattle.json_reports.specs.Audits.{audit_data, block_data};
+ghost use Rattle.json_reports.specs.Audits.{agreement_data, audit_data, block_data, objection_at};
 ghost use Rattle.json_reports.specs.Audits as names;
 ghost use Rattle.json_reports.specs.Members.{array_of, or_null};
 ghost use Rattle.serde_json.specs.Data.{no_members, object, string};
 
-use crate::members::{put_count, put_text};
+use crate::members::{Scalar, put_scalars, scalars_object};
 use certificate_audits::{Audit, End};
 use certificates::{Certificate, Objection};
+use reports::Agreement;
 use serde_json::{Map, Value};
 use std::alloc::{AllocError, Global};
 
@@ -37,7 +38,7 @@ fn objection_name(objection: Objection) -> &'static str
 
 fn objection_value(alloc: Global, end: End) -> Result<Value, AllocError>
     ensures { IfOk result (λ v. view v
-        ≡ or_null (λ o. string (names.objection_name o)) (names.objection_at end)) }
+        ≡ or_null (λ o. string (names.objection_name o)) (objection_at end)) }
 {
     match end {
         End::Objected(objection) => Value::try_from_str(alloc, objection_name(objection)),
@@ -66,32 +67,67 @@ fn first_blocks(blocks: &[Certificate], confirmed: usize) -> &[Certificate]
     }
 }
 
+fn agreement_object(alloc: Global, agreement: Agreement) -> Result<Value, AllocError>
+    ensures { IfOk result (λ v. view v ≡ agreement_data agreement) }
+{
+    let (offset, name) = match agreement {
+        Agreement::Same => (None, "Same"),
+        Agreement::DiffersAt(offset) => (Some(offset), "Differs"),
+    };
+    scalars_object(
+        alloc,
+        &[
+            ("offset", Scalar::CountIfAny(offset)),
+            ("result", Scalar::Text(name)),
+        ],
+    )
+}
+
+/// What came of comparing a file, or null where none was compared.
+fn agreement_value(alloc: Global, agreement: Option<Agreement>) -> Result<Value, AllocError>
+    ensures { IfOk result (λ v. view v ≡ or_null agreement_data agreement) }
+{
+    match agreement {
+        Some(agreement) => agreement_object(alloc, agreement),
+        None => Ok(Value::Null),
+    }
+}
+
 /// Puts the members of an audit into an object that has none.
 fn put_audit(
     members: &mut Map<String, Value>,
     alloc: Global,
     blocks: &[Certificate],
     audit: Audit,
+    agreement: Option<Agreement>,
     status: u8,
 ) -> Result<(), AllocError>
     ensures { OnOk result (members_view members.old.entries ≡ no_members
-        → object (members_view members.new.entries) ≡ audit_data blocks.now audit status) }
+        → object (members_view members.new.entries)
+        ≡ audit_data blocks.now audit agreement status) }
 {
     let confirmed = first_blocks(blocks, audit.confirmed);
-    put_text(members, alloc, "command", "verify")?;
     serde_json::put(members, alloc, "counts", counts_array(alloc, confirmed)?)?;
-    put_text(members, alloc, "end", end_name(audit.end))?;
     serde_json::put(
         members,
         alloc,
         "objection",
         objection_value(alloc, audit.end)?,
     )?;
-    put_count(members, alloc, "status", u64::from(status))?;
-    Ok(())
+    serde_json::put(members, alloc, "out", agreement_value(alloc, agreement)?)?;
+    put_scalars(
+        members,
+        alloc,
+        &[
+            ("command", Scalar::Text("verify")),
+            ("end", Scalar::Text(end_name(audit.end))),
+            ("status", Scalar::Count(u64::from(status))),
+        ],
+    )
 }
 
-/// What `verify` prints of the audit of a file's blocks, where it ends with this status.
+/// What `verify` prints of the audit of a file's blocks, and of a file that was compared with the circuit that they end in, where it
+/// ends with this status.
 ///
 /// # Errors
 ///
@@ -100,11 +136,12 @@ pub fn audit_object(
     alloc: Global,
     blocks: &[Certificate],
     audit: Audit,
+    agreement: Option<Agreement>,
     status: u8,
 ) -> Result<Value, AllocError>
-    ensures { IfOk result (λ v. view v ≡ audit_data blocks.now audit status) }
+    ensures { IfOk result (λ v. view v ≡ audit_data blocks.now audit agreement status) }
 {
     let mut members = Map::new(alloc);
-    put_audit(&mut members, alloc, blocks, audit, status)?;
+    put_audit(&mut members, alloc, blocks, audit, agreement, status)?;
     Ok(Value::Object(members))
 }

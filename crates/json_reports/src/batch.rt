@@ -7,23 +7,38 @@ ghost use Rattle.json_reports.specs.Members.{array_of};
 ghost use Rattle.serde_json.specs.Data.{null};
 
 use crate::fault::{Fault, fault_object};
+use crate::members::{Scalar, object_with, scalars_object};
 use file_words::ReadError;
 use reports::JobReport;
-use serde_json::{Value, json};
+use serde_json::Value;
 use std::alloc::{AllocError, Global};
+
+/// All latches before and after.
+fn latches_object(alloc: Global, before: u32, after: u32) -> Result<Value, AllocError>
+    ensures { IfOk result (λ v. view v ≡ latches_data before after) }
+{
+    scalars_object(
+        alloc,
+        &[
+            ("after", Scalar::Count(u64::from(after))),
+            ("before", Scalar::Count(u64::from(before))),
+        ],
+    )
+}
 
 /// A file that was retimed, from so many latches to so many.
 fn done_object(alloc: Global, before: u32, after: u32) -> Result<Value, AllocError>
     ensures { IfOk result (λ v. view v ≡ file_data null (latches_data before after)) }
 {
-    json!(in alloc; {"fault": null, "latches": {"after": after, "before": before}})
+    let latches = latches_object(alloc, before, after)?;
+    object_with(alloc, "latches", latches, &[("fault", Scalar::Null)])
 }
 
 fn refused_object(alloc: Global, fault: Fault) -> Result<Value, AllocError>
     ensures { IfOk result (λ v. view v ≡ file_data (fault_data fault) null) }
 {
     let fault = fault_object(alloc, fault)?;
-    json!(in alloc; {"fault": fault, "latches": null})
+    object_with(alloc, "fault", fault, &[("latches", Scalar::Null)])
 }
 
 fn job_object(alloc: Global, report: JobReport) -> Result<Value, AllocError>
@@ -57,5 +72,13 @@ pub fn batch_object(alloc: Global, reports: &[JobReport], status: u8) -> Result<
     ensures { IfOk result (λ v. view v ≡ batch_data reports.now status) }
 {
     let files = jobs_array(alloc, reports)?;
-    json!(in alloc; {"command": "batch", "files": files, "status": status})
+    object_with(
+        alloc,
+        "files",
+        files,
+        &[
+            ("command", Scalar::Text("batch")),
+            ("status", Scalar::Count(u64::from(status))),
+        ],
+    )
 }

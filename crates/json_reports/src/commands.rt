@@ -12,7 +12,7 @@ use crate::audit::audit_object;
 use crate::batch::batch_object;
 use crate::counts::{MapCounts, statistics_object};
 use crate::difference::{difference_object, shapes_object};
-use crate::printing::{PrintError, print_object};
+use crate::printing::{PrintError, print_made};
 use crate::refusal::{Refusal, refusal_object};
 use crate::retiming::retiming_object;
 use crate::times::Times;
@@ -22,7 +22,7 @@ use circuit_counts::{Remaining, Statistics};
 use counted_io::CountedWrite;
 use lane_sim::Place;
 use merged_latches::MergeCounts;
-use reports::JobReport;
+use reports::{Agreement, JobReport};
 use retimed_circuits::Retimed;
 use std::alloc::Global;
 
@@ -30,7 +30,7 @@ use std::alloc::Global;
 ///
 /// # Errors
 ///
-/// Those of [`print_object`].
+/// Those of [`print_object`](crate::print_object), and `NoMemory` where there is no room for the object.
 pub fn print_retiming<W: CountedWrite>(
     alloc: Global,
     retimed: &Retimed,
@@ -44,15 +44,18 @@ pub fn print_retiming<W: CountedWrite>(
         (retiming_data retimed.now levels remaining.now (option_map (λ t. t.now) times.entry) map)
         (W.output writer.old) (W.output writer.new) result }
 {
-    let object = retiming_object(alloc, retimed, levels, remaining, times, map)?;
-    print_object(alloc, &object, writer)
+    print_made(
+        alloc,
+        retiming_object(alloc, retimed, levels, remaining, times, map),
+        writer,
+    )
 }
 
 /// Prints what [`statistics_object`] makes, on a line.
 ///
 /// # Errors
 ///
-/// Those of [`print_object`].
+/// Those of [`print_object`](crate::print_object), and `NoMemory` where there is no room for the object.
 pub fn print_statistics<W: CountedWrite>(
     alloc: Global,
     statistics: &Statistics,
@@ -62,15 +65,14 @@ pub fn print_statistics<W: CountedWrite>(
     ensures { PrintsLine (statistics_data statistics.now merged)
         (W.output writer.old) (W.output writer.new) result }
 {
-    let object = statistics_object(alloc, statistics, merged)?;
-    print_object(alloc, &object, writer)
+    print_made(alloc, statistics_object(alloc, statistics, merged), writer)
 }
 
 /// Prints what [`difference_object`] makes, on a line.
 ///
 /// # Errors
 ///
-/// Those of [`print_object`].
+/// Those of [`print_object`](crate::print_object), and `NoMemory` where there is no room for the object.
 pub fn print_difference<W: CountedWrite>(
     alloc: Global,
     found: Option<Place>,
@@ -78,46 +80,48 @@ pub fn print_difference<W: CountedWrite>(
 ) -> Result<(), PrintError>
     ensures { PrintsLine (difference_data found) (W.output writer.old) (W.output writer.new) result }
 {
-    let object = difference_object(alloc, found)?;
-    print_object(alloc, &object, writer)
+    print_made(alloc, difference_object(alloc, found), writer)
 }
 
 /// Prints what [`shapes_object`] makes, on a line.
 ///
 /// # Errors
 ///
-/// Those of [`print_object`].
+/// Those of [`print_object`](crate::print_object), and `NoMemory` where there is no room for the object.
 pub fn print_shapes_differ<W: CountedWrite>(alloc: Global, writer: &mut W) -> Result<(), PrintError>
     ensures { PrintsLine shapes_data (W.output writer.old) (W.output writer.new) result }
 {
-    let object = shapes_object(alloc)?;
-    print_object(alloc, &object, writer)
+    print_made(alloc, shapes_object(alloc), writer)
 }
 
 /// Prints what [`audit_object`] makes, on a line.
 ///
 /// # Errors
 ///
-/// Those of [`print_object`].
+/// Those of [`print_object`](crate::print_object), and `NoMemory` where there is no room for the object.
 pub fn print_audit<W: CountedWrite>(
     alloc: Global,
     blocks: &[Certificate],
     audit: Audit,
+    agreement: Option<Agreement>,
     status: u8,
     writer: &mut W,
 ) -> Result<(), PrintError>
-    ensures { PrintsLine (audit_data blocks.now audit status)
+    ensures { PrintsLine (audit_data blocks.now audit agreement status)
         (W.output writer.old) (W.output writer.new) result }
 {
-    let object = audit_object(alloc, blocks, audit, status)?;
-    print_object(alloc, &object, writer)
+    print_made(
+        alloc,
+        audit_object(alloc, blocks, audit, agreement, status),
+        writer,
+    )
 }
 
 /// Prints what [`batch_object`] makes, on a line.
 ///
 /// # Errors
 ///
-/// Those of [`print_object`].
+/// Those of [`print_object`](crate::print_object), and `NoMemory` where there is no room for the object.
 pub fn print_batch<W: CountedWrite>(
     alloc: Global,
     reports: &[JobReport],
@@ -127,15 +131,14 @@ pub fn print_batch<W: CountedWrite>(
     ensures { PrintsLine (batch_data reports.now status)
         (W.output writer.old) (W.output writer.new) result }
 {
-    let object = batch_object(alloc, reports, status)?;
-    print_object(alloc, &object, writer)
+    print_made(alloc, batch_object(alloc, reports, status), writer)
 }
 
 /// Prints what [`refusal_object`] makes, on a line.
 ///
 /// # Errors
 ///
-/// Those of [`print_object`].
+/// Those of [`print_object`](crate::print_object), and `NoMemory` where there is no room for the object.
 pub fn print_refusal<W: CountedWrite>(
     alloc: Global,
     refusal: &Refusal<'_>,
@@ -144,6 +147,5 @@ pub fn print_refusal<W: CountedWrite>(
     ensures { PrintsLine (refusal_data refusal.now)
         (W.output writer.old) (W.output writer.new) result }
 {
-    let object = refusal_object(alloc, refusal)?;
-    print_object(alloc, &object, writer)
+    print_made(alloc, refusal_object(alloc, refusal), writer)
 }

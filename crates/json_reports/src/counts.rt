@@ -1,13 +1,14 @@
 //! What a circuit has.
-ghost use Rattle.std.specs.Prelude.{◌≡◌, IfOk};
-ghost use Rattle.serde_json.specs.View.{view};
+ghost use Rattle.std.specs.Prelude.{◌≡◌, IfOk, OnOk};
+ghost use Rattle.serde_json.specs.Data.{no_members, object};
+ghost use Rattle.serde_json.specs.View.{members_view, view};
 ghost use Rattle.json_reports.specs.Counts.{circuit_data, map_data, merge_data, statistics_data};
 ghost use Rattle.json_reports.specs.Members.{or_null};
 
-use crate::members::counts_object;
+use crate::members::{Scalar, put_scalars, scalars_object};
 use circuit_counts::{Counts, Statistics};
 use merged_latches::MergeCounts;
-use serde_json::{Value, json};
+use serde_json::{Map, Value};
 use std::alloc::{AllocError, Global};
 
 /// How many there are of each kind in a circuit, and its levels.
@@ -18,20 +19,20 @@ use std::alloc::{AllocError, Global};
 pub fn circuit_object(alloc: Global, counts: &Counts) -> Result<Value, AllocError>
     ensures { IfOk result (λ v. view v ≡ circuit_data counts.now) }
 {
-    counts_object(
+    scalars_object(
         alloc,
         &[
-            ("bad", counts.bad),
-            ("constraints", counts.constraints),
-            ("fairness", counts.fairness),
-            ("free", counts.free),
-            ("gates", counts.gates),
-            ("inputs", counts.inputs),
-            ("justice", counts.justice),
-            ("known", counts.known),
-            ("latches", counts.latches),
-            ("levels", counts.levels),
-            ("outputs", counts.outputs),
+            ("bad", Scalar::Count(counts.bad)),
+            ("constraints", Scalar::Count(counts.constraints)),
+            ("fairness", Scalar::Count(counts.fairness)),
+            ("free", Scalar::Count(counts.free)),
+            ("gates", Scalar::Count(counts.gates)),
+            ("inputs", Scalar::Count(counts.inputs)),
+            ("justice", Scalar::Count(counts.justice)),
+            ("known", Scalar::Count(counts.known)),
+            ("latches", Scalar::Count(counts.latches)),
+            ("levels", Scalar::Count(counts.levels)),
+            ("outputs", Scalar::Count(counts.outputs)),
         ],
     )
 }
@@ -39,11 +40,17 @@ pub fn circuit_object(alloc: Global, counts: &Counts) -> Result<Value, AllocErro
 fn merge_object(alloc: Global, counts: MergeCounts) -> Result<Value, AllocError>
     ensures { IfOk result (λ v. view v ≡ merge_data counts) }
 {
-    json!(in alloc; {"constant": counts.constant, "latches": counts.merged})
+    scalars_object(
+        alloc,
+        &[
+            ("constant", Scalar::Count(u64::from(counts.constant))),
+            ("latches", Scalar::Count(u64::from(counts.merged))),
+        ],
+    )
 }
 
 /// How many gates and constraints a map of states has.
-#[derive(Clone, Copy, Debug, PartialEq, Eq)]
+#[derive(Clone, Copy)]
 pub struct MapCounts {
     pub gates: u64,
     pub constraints: u64,
@@ -52,7 +59,13 @@ pub struct MapCounts {
 fn map_object(alloc: Global, counts: MapCounts) -> Result<Value, AllocError>
     ensures { IfOk result (λ v. view v ≡ map_data counts) }
 {
-    json!(in alloc; {"constraints": counts.constraints, "gates": counts.gates})
+    scalars_object(
+        alloc,
+        &[
+            ("constraints", Scalar::Count(counts.constraints)),
+            ("gates", Scalar::Count(counts.gates)),
+        ],
+    )
 }
 
 /// What a map has, or null where none was written.
@@ -75,6 +88,34 @@ pub(crate) fn merged_value(alloc: Global, merged: Option<MergeCounts>) -> Result
     }
 }
 
+/// Puts what `stat` tells into an object that has no member.
+fn put_statistics(
+    members: &mut Map<String, Value>,
+    alloc: Global,
+    statistics: &Statistics,
+    merged: Option<MergeCounts>,
+) -> Result<(), AllocError>
+    ensures { OnOk result (members_view members.old.entries ≡ no_members
+        → object (members_view members.new.entries) ≡ statistics_data statistics.now merged) }
+{
+    serde_json::put(
+        members,
+        alloc,
+        "circuit",
+        circuit_object(alloc, &statistics.counts)?,
+    )?;
+    serde_json::put(members, alloc, "merged", merged_value(alloc, merged)?)?;
+    put_scalars(
+        members,
+        alloc,
+        &[
+            ("command", Scalar::Text("stat")),
+            ("passable", Scalar::Count(statistics.passable)),
+            ("status", Scalar::Count(0)),
+        ],
+    )
+}
+
 /// What `stat` tells of a circuit, and how many of its latches are merged, where that was asked for.
 ///
 /// # Errors
@@ -87,14 +128,7 @@ pub fn statistics_object(
 ) -> Result<Value, AllocError>
     ensures { IfOk result (λ v. view v ≡ statistics_data statistics.now merged) }
 {
-    let merged = merged_value(alloc, merged)?;
-    let counts = circuit_object(alloc, &statistics.counts)?;
-    let passable = statistics.passable;
-    json!(in alloc; {
-        "circuit": counts,
-        "command": "stat",
-        "merged": merged,
-        "passable": passable,
-        "status": 0u32,
-    })
+    let mut members = Map::new(alloc);
+    put_statistics(&mut members, alloc, statistics, merged)?;
+    Ok(Value::Object(members))
 }

@@ -3,14 +3,22 @@ ghost use Rattle.std.specs.Prelude.{◌≡◌, IfOk};
 ghost use Rattle.serde_json.specs.View.{view};
 ghost use Rattle.json_reports.specs.Differences.{difference_data, finding_data, place_data, shapes_data};
 
+use crate::members::{Scalar, object_with, scalars_object};
 use lane_sim::Place;
-use serde_json::{Value, json};
+use serde_json::Value;
 use std::alloc::{AllocError, Global};
 
 fn place_object(alloc: Global, place: Place) -> Result<Value, AllocError>
     ensures { IfOk result (λ v. view v ≡ place_data place) }
 {
-    json!(in alloc; {"place": place.place, "sequence": place.sequence, "step": place.step})
+    scalars_object(
+        alloc,
+        &[
+            ("place", Scalar::Count(place.place as u64)),
+            ("sequence", Scalar::Count(place.sequence as u64)),
+            ("step", Scalar::Count(place.step as u64)),
+        ],
+    )
 }
 
 fn finding_object(
@@ -21,12 +29,16 @@ fn finding_object(
 ) -> Result<Value, AllocError>
     ensures { IfOk result (λ v. view v ≡ finding_data finding.now (view difference) status) }
 {
-    json!(in alloc; {
-        "command": "same",
-        "difference": difference,
-        "result": finding,
-        "status": status,
-    })
+    object_with(
+        alloc,
+        "difference",
+        difference,
+        &[
+            ("command", Scalar::Text("same")),
+            ("result", Scalar::Text(finding)),
+            ("status", Scalar::Count(u64::from(status))),
+        ],
+    )
 }
 
 /// What `same` prints of the first place where two circuits differ, or that there is none.

@@ -2,18 +2,18 @@
 ghost use Rattle.std.specs.Prelude.{◌≡◌, IfOk};
 ghost use Rattle.serde_json.specs.View.{view};
 ghost use Rattle.json_reports.specs.Faults.{fault_data};
-ghost use Rattle.json_reports.specs.Members.{count, or_null};
 
+use crate::members::{Scalar, scalars_object};
 use batch_lists::ListError;
 use certificate_files::CertError;
 use file_words::ReadError;
 use lane_sim::StimError;
-use serde_json::{Value, json};
+use serde_json::Value;
 use std::alloc::{AllocError, Global};
 use witnesses::WitnessError;
 
 /// Why a command failed.
-#[derive(Clone, Copy, Debug, PartialEq, Eq)]
+#[derive(Clone, Copy)]
 pub enum Fault {
     /// A file is no circuit, or can't be read as one.
     Circuit(ReadError),
@@ -27,6 +27,8 @@ pub enum Fault {
     Witness(WitnessError),
     /// A name is that of no latch.
     NoSuchName,
+    /// A place is that of no latch.
+    NoSuchLatch,
     /// A circuit has too many nodes for a picture.
     TooManyNodes,
     /// Random sequences of a circuit would take too much memory.
@@ -53,6 +55,7 @@ impl Fault {
             Fault::Certificates(fault) => fault.name(),
             Fault::Witness(fault) => fault.name(),
             Fault::NoSuchName => "NoSuchName",
+            Fault::NoSuchLatch => "NoSuchLatch",
             Fault::TooManyNodes => "TooManyNodes",
             Fault::TooManySteps => "TooManySteps",
             Fault::NotAMap => "NotAMap",
@@ -72,6 +75,7 @@ impl Fault {
             Fault::Certificates(fault) => fault.offset(),
             Fault::Witness(fault) => fault.offset(),
             Fault::NoSuchName
+            | Fault::NoSuchLatch
             | Fault::TooManyNodes
             | Fault::TooManySteps
             | Fault::NotAMap
@@ -81,19 +85,15 @@ impl Fault {
     }
 }
 
-/// A number, or null.
-fn offset_value(offset: Option<u64>) -> Value
-    ensures { view result ≡ or_null count offset }
-{
-    match offset {
-        Some(at) => Value::from(at),
-        None => Value::Null,
-    }
-}
-
 /// The name of a fault, and its offset.
 pub(crate) fn fault_object(alloc: Global, fault: Fault) -> Result<Value, AllocError>
     ensures { IfOk result (λ v. view v ≡ fault_data fault) }
 {
-    json!(in alloc; {"name": fault.name(), "offset": offset_value(fault.offset())})
+    scalars_object(
+        alloc,
+        &[
+            ("name", Scalar::Text(fault.name())),
+            ("offset", Scalar::CountIfAny(fault.offset())),
+        ],
+    )
 }

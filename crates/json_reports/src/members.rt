@@ -1,58 +1,95 @@
-//! Members of objects.
+//! Members of objects. An object that grows is borrowed, so that no member waits while another is made.
 ghost use Rattle.std.specs.Prelude.{◌≡◌, IfOk, OnOk};
-ghost use Rattle.serde_json.specs.Data.{object, no_members, put, string};
+ghost use Rattle.serde_json.specs.Data.{no_members, object, put, string};
 ghost use Rattle.serde_json.specs.View.{view, members_view};
-ghost use Rattle.json_reports.specs.Members.{count, with_counts};
+ghost use Rattle.json_reports.specs.Members.{count, or_null, scalar_data, with_scalars};
 
 use serde_json::{Map, Value};
 use std::alloc::{AllocError, Global};
 
-/// Puts a number under a name.
-pub(crate) fn put_count(
-    members: &mut Map<String, Value>,
-    alloc: Global,
-    name: &str,
-    number: u64,
-) -> Result<(), AllocError>
-    ensures { OnOk result (members_view members.new.entries
-        ≡ put name.now (count number) (members_view members.old.entries)) }
-{
-    serde_json::put(members, alloc, name, Value::from(number))
+/// A value without items and members.
+#[derive(Clone, Copy)]
+pub(crate) enum Scalar<'a> {
+    Null,
+    Flag(bool),
+    Count(u64),
+    /// Null where there is none.
+    CountIfAny(Option<u64>),
+    Text(&'a str),
+    /// Null where there is none.
+    TextIfAny(Option<&'a str>),
 }
 
-/// Puts a text under a name.
-pub(crate) fn put_text(
-    members: &mut Map<String, Value>,
-    alloc: Global,
-    name: &str,
-    text: &str,
-) -> Result<(), AllocError>
-    ensures { OnOk result (members_view members.new.entries
-        ≡ put name.now (string text.now) (members_view members.old.entries)) }
+fn count_value(number: Option<u64>) -> Value
+    ensures { view result ≡ or_null count number }
 {
-    serde_json::put(members, alloc, name, Value::try_from_str(alloc, text)?)
+    match number {
+        Some(number) => Value::from(number),
+        None => Value::Null,
+    }
 }
 
-/// Puts numbers, each under its name.
-pub(crate) fn put_counts(
+fn text_value(alloc: Global, text: Option<&str>) -> Result<Value, AllocError>
+    ensures { IfOk result (λ v. view v ≡ or_null (λ t. string t.now) text.entry) }
+{
+    match text {
+        Some(text) => Value::try_from_str(alloc, text),
+        None => Ok(Value::Null),
+    }
+}
+
+fn scalar_value(alloc: Global, scalar: Scalar<'_>) -> Result<Value, AllocError>
+    ensures { IfOk result (λ v. view v ≡ scalar_data scalar.entry) }
+{
+    match scalar {
+        Scalar::Null => Ok(Value::Null),
+        Scalar::Flag(flag) => Ok(Value::from(flag)),
+        Scalar::Count(number) => Ok(Value::from(number)),
+        Scalar::CountIfAny(number) => Ok(count_value(number)),
+        Scalar::Text(text) => Value::try_from_str(alloc, text),
+        Scalar::TextIfAny(text) => text_value(alloc, text),
+    }
+}
+
+/// Puts values, each under its name.
+pub(crate) fn put_scalars(
     members: &mut Map<String, Value>,
     alloc: Global,
-    counts: &[(&str, u64)],
+    scalars: &[(&str, Scalar<'_>)],
 ) -> Result<(), AllocError>
     ensures { OnOk result (members_view members.new.entries
-        ≡ with_counts (members_view members.old.entries) counts.now) }
+        ≡ with_scalars (members_view members.old.entries) scalars.now) }
 {
-    for count in counts {
-        put_count(members, alloc, count.0, count.1)?;
+    for scalar in scalars {
+        serde_json::put(members, alloc, scalar.0, scalar_value(alloc, scalar.1)?)?;
     }
     Ok(())
 }
 
-/// The object of numbers.
-pub(crate) fn counts_object(alloc: Global, counts: &[(&str, u64)]) -> Result<Value, AllocError>
-    ensures { IfOk result (λ v. view v ≡ object (with_counts no_members counts.now)) }
+/// The object of values that have names.
+pub(crate) fn scalars_object(
+    alloc: Global,
+    scalars: &[(&str, Scalar<'_>)],
+) -> Result<Value, AllocError>
+    ensures { IfOk result (λ v. view v ≡ object (with_scalars no_members scalars.now)) }
 {
     let mut members = Map::new(alloc);
-    put_counts(&mut members, alloc, counts)?;
+    put_scalars(&mut members, alloc, scalars)?;
+    Ok(Value::Object(members))
+}
+
+/// The object of one more value, which is put in first, and of values that have names.
+pub(crate) fn object_with(
+    alloc: Global,
+    name: &str,
+    value: Value,
+    scalars: &[(&str, Scalar<'_>)],
+) -> Result<Value, AllocError>
+    ensures { IfOk result (λ v. view v
+        ≡ object (with_scalars (put name.now (view value) no_members) scalars.now)) }
+{
+    let mut members = Map::new(alloc);
+    serde_json::put(&mut members, alloc, name, value)?;
+    put_scalars(&mut members, alloc, scalars)?;
     Ok(Value::Object(members))
 }

@@ -3,7 +3,7 @@ ghost use Rattle.std.specs.Prelude.{◌≡◌, ◌∷◌, ◌++◌, []};
 ghost use Rattle.counted_io.specs.Buffered.{Puts};
 ghost use Rattle.counted_io.specs.Output.{Writes};
 ghost use Rattle.serde_json.specs.View.{view};
-ghost use Rattle.json_reports.specs.Lines.{IsPlain, PrintsLine};
+ghost use Rattle.json_reports.specs.Lines.{IsPlain, PrintsLine, PrintsMade};
 
 use counted_io::{Buffered, CountedWrite, WriteError};
 use serde_json::Value;
@@ -66,5 +66,27 @@ pub fn print_object<W: CountedWrite>(
     match write_line(text.as_slice(), writer) {
         Ok(()) => Ok(()),
         Err(_) => Err(PrintError::Device),
+    }
+}
+
+/// Prints an object that was to be made on a line.
+///
+/// # Errors
+///
+/// `NoMemory` where it wasn't made; those of [`print_object`].
+pub(crate) fn print_made<W: CountedWrite>(
+    alloc: Global,
+    made: Result<Value, AllocError>,
+    writer: &mut W,
+) -> Result<(), PrintError>
+    ensures { PrintsMade made (W.output writer.old) (W.output writer.new) result }
+{
+    match made {
+        Ok(object) => {
+            let printed = print_object(alloc, &object, writer);
+            drop(object);
+            printed
+        }
+        Err(_) => Err(PrintError::NoMemory),
     }
 }

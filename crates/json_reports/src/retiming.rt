@@ -2,21 +2,28 @@
 ghost use Rattle.std.specs.Prelude.{◌≡◌, IfOk, OnOk, option_map};
 ghost use Rattle.serde_json.specs.Data.{no_members, object};
 ghost use Rattle.serde_json.specs.View.{members_view, view};
-ghost use Rattle.json_reports.specs.Members.{array_of, count, or_null};
+ghost use Rattle.json_reports.specs.Members.{array_of, count};
 ghost use Rattle.json_reports.specs.Retimings.{before_data, frame_data, held_back_data, retiming_data};
 
 use crate::counts::{MapCounts, circuit_object, map_value, merged_value};
-use crate::members::{put_count, put_text};
+use crate::members::{Scalar, put_scalars, scalars_object};
 use crate::times::{Times, times_value};
 use circuit_counts::{HeldBack, Remaining};
 use retimed_circuits::{FrameReport, Retimed};
-use serde_json::{Map, Value, json};
+use serde_json::{Map, Value};
 use std::alloc::{AllocError, Global};
 
 fn frame_object(alloc: Global, frame: FrameReport) -> Result<Value, AllocError>
     ensures { IfOk result (λ v. view v ≡ frame_data frame) }
 {
-    json!(in alloc; {"after": frame.after, "before": frame.before, "gates": frame.moved})
+    scalars_object(
+        alloc,
+        &[
+            ("after", Scalar::Count(u64::from(frame.after))),
+            ("before", Scalar::Count(u64::from(frame.before))),
+            ("gates", Scalar::Count(u64::from(frame.moved))),
+        ],
+    )
 }
 
 fn frames_array(alloc: Global, frames: &[FrameReport]) -> Result<Value, AllocError>
@@ -40,21 +47,25 @@ fn numbers_array(alloc: Global, numbers: &[u32]) -> Result<Value, AllocError>
     Ok(Value::Array(list))
 }
 
-/// A number, or null where there is none.
-fn number_or_null(number: Option<u32>) -> Value
-    ensures { view result ≡ or_null count number }
+fn wide(number: Option<u32>) -> Option<u64>
+    ensures { result ≡ number }
 {
     match number {
-        Some(number) => Value::from(number),
-        None => Value::Null,
+        Some(number) => Some(u64::from(number)),
+        None => None,
     }
 }
 
 fn before_object(alloc: Global, latches: u32, levels: Option<u32>) -> Result<Value, AllocError>
     ensures { IfOk result (λ v. view v ≡ before_data latches levels) }
 {
-    let levels = number_or_null(levels);
-    json!(in alloc; {"latches": latches, "levels": levels})
+    scalars_object(
+        alloc,
+        &[
+            ("latches", Scalar::Count(u64::from(latches))),
+            ("levels", Scalar::CountIfAny(wide(levels))),
+        ],
+    )
 }
 
 fn held_back_object(
@@ -64,17 +75,17 @@ fn held_back_object(
 ) -> Result<Value, AllocError>
     ensures { IfOk result (λ v. view v ≡ held_back_data held_back.now is_least) }
 {
-    let free = held_back.free;
-    let held = held_back.held;
-    let passable = held_back.passable;
-    let read_elsewhere = held_back.read_elsewhere;
-    json!(in alloc; {
-        "free": free,
-        "held": held,
-        "least": is_least,
-        "passable": passable,
-        "read_elsewhere": read_elsewhere
-    })
+    let elsewhere = u64::from(held_back.read_elsewhere);
+    scalars_object(
+        alloc,
+        &[
+            ("free", Scalar::Count(u64::from(held_back.free))),
+            ("held", Scalar::Count(u64::from(held_back.held))),
+            ("least", Scalar::Flag(is_least)),
+            ("passable", Scalar::Count(u64::from(held_back.passable))),
+            ("read_elsewhere", Scalar::Count(elsewhere)),
+        ],
+    )
 }
 
 /// Puts the members of a retiming into an object that has none.
@@ -105,7 +116,6 @@ fn put_retiming(
         "before",
         before_object(alloc, retimed.read_latches, levels)?,
     )?;
-    put_text(members, alloc, "command", "retime")?;
     serde_json::put(members, alloc, "frames", frames_array(alloc, frames)?)?;
     serde_json::put(
         members,
@@ -127,8 +137,14 @@ fn put_retiming(
         merged_value(alloc, retimed.merged)?,
     )?;
     serde_json::put(members, alloc, "microseconds", times_value(alloc, times)?)?;
-    put_count(members, alloc, "status", 0)?;
-    Ok(())
+    put_scalars(
+        members,
+        alloc,
+        &[
+            ("command", Scalar::Text("retime")),
+            ("status", Scalar::Count(0)),
+        ],
+    )
 }
 
 /// What `retime` prints: each frame, the levels of the circuit that was read, what the written one has and why no more latches go, the places of the free latches that

@@ -4,12 +4,13 @@ ghost use Rattle.serde_json.specs.View.{view};
 ghost use Rattle.json_reports.specs.Members.{array_of, or_null};
 ghost use Rattle.json_reports.specs.Timings.{frame_times_data, times_data};
 
+use crate::members::{Scalar, object_with, scalars_object};
 use aig_graph::Sequence;
-use serde_json::{Value, json};
+use serde_json::Value;
 use std::alloc::{AllocError, Global};
 
 /// How long the parts of a frame took, in microseconds.
-#[derive(Clone, Copy, Debug, PartialEq, Eq)]
+#[derive(Clone, Copy)]
 pub struct FrameTimes {
     /// Looking for the set: the network, its flow, the cut.
     pub looking: u64,
@@ -34,7 +35,13 @@ pub struct Times {
 fn frame_object(alloc: Global, times: FrameTimes) -> Result<Value, AllocError>
     ensures { IfOk result (λ v. view v ≡ frame_times_data times) }
 {
-    json!(in alloc; {"looking": times.looking, "moving": times.moving})
+    scalars_object(
+        alloc,
+        &[
+            ("looking", Scalar::Count(times.looking)),
+            ("moving", Scalar::Count(times.moving)),
+        ],
+    )
 }
 
 fn frames_array(alloc: Global, frames: &[FrameTimes]) -> Result<Value, AllocError>
@@ -52,12 +59,16 @@ fn times_object(alloc: Global, times: &Times) -> Result<Value, AllocError>
     ensures { IfOk result (λ v. view v ≡ times_data times.now) }
 {
     let frames = frames_array(alloc, times.frames.as_slice())?;
-    json!(in alloc; {
-        "cleaning": times.cleaning,
-        "frames": frames,
-        "reading": times.reading,
-        "writing": times.writing,
-    })
+    object_with(
+        alloc,
+        "frames",
+        frames,
+        &[
+            ("cleaning", Scalar::Count(times.cleaning)),
+            ("reading", Scalar::Count(times.reading)),
+            ("writing", Scalar::Count(times.writing)),
+        ],
+    )
 }
 
 /// The times, or null where none were taken.

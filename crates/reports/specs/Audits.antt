@@ -1,5 +1,5 @@
 -- The text of an audit.
-use Rattle.std.specs.Prelude.{ℕ, List, [], ◌∷◌, ◌++◌, take, decimal, codes}
+use Rattle.std.specs.Prelude.{ℕ, List, [], ◌∷◌, ◌++◌, take, Option, decimal, codes}
 use Rattle.counted_io.specs.Line.{numbered_lines}
 use Rattle.certificates.specs.declared.certificate.Certificate.{Certificate}
 use Rattle.certificates.specs.declared.verdict.Objection.{Objection}
@@ -7,6 +7,8 @@ use Rattle.certificates.specs.declared.verdict.Objection.TheVariants.{NotClosed,
 use Rattle.certificate_audits.specs.declared.outcome.Audit.{Audit}
 use Rattle.certificate_audits.specs.declared.outcome.End.{End}
 use Rattle.certificate_audits.specs.declared.outcome.End.TheVariants.{NoBlocks, Certified, Open, BlocksFollow, Objected}
+use Rattle.reports.specs.declared.agreement.Agreement.{Agreement}
+use Rattle.reports.specs.Agreements.{agreement_text}
 
 -- the line of a confirmed block
 abbrev pub block_line : ℕ → Certificate → List ℕ
@@ -29,6 +31,7 @@ end_text number Open = codes "end open\n"
 end_text number BlocksFollow = codes "blocks follow the end\n"
 end_text number (Objected objection) = objection_line number objection
 
--- a line for each confirmed block, which are numbered from 0 on, and one for the end
-abbrev pub audit_text : List Certificate → Audit → List ℕ
-audit_text blocks audit = numbered_lines block_line 0 (take audit.confirmed blocks) ++ end_text audit.confirmed audit.end
+-- a line for each confirmed block, which are numbered from 0 on, one for the end, and one for a file that was compared
+abbrev pub audit_text : List Certificate → Audit → Option Agreement → List ℕ
+audit_text blocks audit agreement =
+    numbered_lines block_line 0 (take audit.confirmed blocks) ++ (end_text audit.confirmed audit.end ++ agreement_text agreement)

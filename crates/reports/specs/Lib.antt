@@ -3,5 +3,6 @@ pub mod Differences
 pub mod Counts
 pub mod Retimings
 pub mod Batches
+pub mod Agreements
 pub mod Audits
 pub mod Remaining

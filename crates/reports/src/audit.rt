@@ -1,11 +1,12 @@
-//! The lines of an audit: the blocks that were confirmed, then how it ended. Of blocks after one that is rejected nothing is
-//! printed: the circuits that they speak of aren't known.
+//! The lines of an audit: the blocks that were confirmed, then how it ended, then whether a file has the circuit that they end in.
+//! Of blocks after one that is rejected nothing is printed: the circuits that they speak of aren't known.
 ghost use Rattle.std.specs.Prelude.{◌≡◌, take};
 ghost use Rattle.counted_io.specs.Buffered.{Puts};
 ghost use Rattle.counted_io.specs.Line.{numbered_lines};
 ghost use Rattle.counted_io.specs.Output.{Writes};
 ghost use Rattle.reports.specs.Audits.{audit_text, block_line, end_text, objection_line, objection_name};
 
+use crate::agreement::{Agreement, put_agreement};
 use certificate_audits::{Audit, End};
 use certificates::{Certificate, Objection};
 use counted_io::{Buffered, CountedWrite, WriteError};
@@ -76,14 +77,21 @@ fn first_blocks(blocks: &[Certificate], confirmed: usize) -> &[Certificate]
     }
 }
 
-fn put_audit<W: CountedWrite>(out: &mut Buffered<'_, W>, blocks: &[Certificate], audit: Audit)
-    ensures { Puts W.output out.old out.new (audit_text blocks.now audit) }
+fn put_audit<W: CountedWrite>(
+    out: &mut Buffered<'_, W>,
+    blocks: &[Certificate],
+    audit: Audit,
+    agreement: Option<Agreement>,
+)
+    ensures { Puts W.output out.old out.new (audit_text blocks.now audit agreement) }
 {
     put_blocks(out, first_blocks(blocks, audit.confirmed));
     put_end(out, audit.confirmed as u64, audit.end);
+    put_agreement(out, agreement);
 }
 
-/// Prints a line for each confirmed block, with its count, and one for how the audit of the blocks ended; of no blocks nothing.
+/// Prints a line for each confirmed block, with its count, and one for how the audit of the blocks ended; of no blocks nothing. Where
+/// a file was compared with what they end in, a line says what came of that.
 ///
 /// Takes no memory.
 ///
@@ -93,12 +101,13 @@ fn put_audit<W: CountedWrite>(out: &mut Buffered<'_, W>, blocks: &[Certificate],
 pub fn print_audit<W: CountedWrite>(
     blocks: &[Certificate],
     audit: Audit,
+    agreement: Option<Agreement>,
     writer: &mut W,
 ) -> Result<(), WriteError>
     ensures { Writes (W.output writer.old) (W.output writer.new) result
-        (audit_text blocks.now audit) }
+        (audit_text blocks.now audit agreement) }
 {
     let mut out = Buffered::new(writer);
-    put_audit(&mut out, blocks, audit);
+    put_audit(&mut out, blocks, audit, agreement);
     out.flush()
 }

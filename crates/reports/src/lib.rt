@@ -1,8 +1,9 @@
-//! What the program prints on standard output: the frames of a retiming, the files of a batch, the audit of certificates, counts,
-//! traces and differences.
+//! What the program prints on standard output: the frames of a retiming, the files of a batch, the audit of certificates and whether a
+//! file has the circuit that they end in, counts, traces and differences.
 //! Each text goes through a buffer, line by line, and takes no memory.
 #![tactic(auto)]
 
+mod agreement;
 mod audit;
 mod batch;
 mod counts;
@@ -11,6 +12,7 @@ mod remaining;
 mod retiming;
 mod trace;
 
+pub use agreement::{Agreement, compare};
 pub use audit::print_audit;
 pub use batch::{JobReport, print_job};
 pub use counts::print_counts;
