@@ -1,79 +1,107 @@
 -- What is printed of an audit, by how the run ends.
-use Rattle.std.proofs.Common.{ℕ, ◌≡◌, Bool, true, false, IfOk, List, Result, Ok, Err, sym, subst}
+use Rattle.std.proofs.Common.{ℕ, ◌≡◌, ◌<◌, ◌∙◌, Bool, true, false, IfOk, List, Option, Some, None, Result, Ok, Err, length, nat_eq, sym, subst}
 use Rattle.counted_io.specs.Output.{Output}
 use Rattle.certificates.specs.declared.certificate.Certificate.{Certificate}
 use Rattle.aig_graph.specs.Circuits.{Netlist}
-use Rattle.certificate_audits.specs.Audits.{IsAudit, IsMergedAudit}
-use Rattle.certificate_audits.specs.declared.outcome.Audit.{Audit}
+use Rattle.certificate_audits.specs.Replays.{IsMergedReplay, IsReplay}
 use Rattle.certificate_audits.specs.declared.outcome.End.{End}
 use Rattle.certificate_audits.specs.declared.outcome.End.TheVariants.{NoBlocks, Certified, Open, BlocksFollow, Objected}
+use Rattle.certificate_audits.specs.declared.outcome.Replay.{Replay}
 use Rattle.reports.specs.Audits.{audit_text}
+use Rattle.reports.specs.declared.agreement.Agreement.{Agreement}
+use Rattle.reports.specs.declared.agreement.Agreement.TheVariants.{Same, DiffersAt}
 use Rattle.json_reports.specs.Audits.{audit_data}
 use Rattle.circuit_files.specs.Codes.{status_of}
 use Rattle.circuit_files.specs.declared.outcome.Outcome.{Outcome}
 use Rattle.circuit_files.specs.declared.outcome.Failure.{Failure}
-use Rattle.command_objects.specs.Objects.{EndsPrintingObject}
 use Rattle.command_endings.specs.Printing.{EndsPrinting, Prints, ending}
-use Rattle.commands.specs.Verifying.{EndsWithAudit, IsAuditFor, outcome_of_end}
+use Rattle.latch_marks.specs.Marks.{circuit_held, marks_of, names_held}
+use Rattle.latch_marks.proofs.HeldLaws.{circuit-held, names-held}
+use Rattle.held_answers.proofs.AnswerLaws.{no-places}
+use Rattle.command_line.specs.declared.task.Verification.{Verification}
+use Rattle.commands.specs.Replaying.{IsJudgement, IsReplayFor}
+use Rattle.commands.specs.Verifying.{EndsWithAudit, EndsWithObject, IsJudgedBy, IsMarkedFor, IsReplayHeld, IsReplayOf, held_names, outcome_by, outcome_of_end, outcome_of_judgement}
+use Rattle.commands.specs.declared.replaying.Judgement.{Judgement}
 use Rattle.command_endings.proofs.PrintingLaws.{lines_print, object_prints}
 
--- an audit, as the task says
-pub merged_audit : {E : Type 0} (merge : Bool) (names : List (List ℕ)) (c : Netlist) (blocks : List Certificate) (r : Result Audit E)
-    → merge ≡ true → IfOk r (IsMergedAudit names c blocks) → IfOk r (IsAuditFor merge names c blocks)
-merged_audit merge names c blocks r asked is = let P : Bool → Type 0 = λ m. IfOk r (IsAuditFor m names c blocks) in subst P (sym asked) is
+-- what the blocks end in, as the task says
+pub merged_replay : {E : Type 0} (merge : Bool) (names : List (List ℕ)) (c : Netlist) (blocks : List Certificate) (r : Result Replay E)
+    → merge ≡ true → IfOk r (IsMergedReplay names c blocks) → IfOk r (IsReplayFor merge names c blocks)
+merged_replay merge names c blocks r asked is = let P : Bool → Type 0 = λ m. IfOk r (IsReplayFor m names c blocks) in subst P (sym asked) is
 
 -- the same where no latches were merged
-pub plain_audit : {E : Type 0} (merge : Bool) (names : List (List ℕ)) (c : Netlist) (blocks : List Certificate) (r : Result Audit E)
-    → merge ≡ false → IfOk r (IsAudit names c blocks) → IfOk r (IsAuditFor merge names c blocks)
-plain_audit merge names c blocks r unasked is = let P : Bool → Type 0 = λ m. IfOk r (IsAuditFor m names c blocks) in subst P (sym unasked) is
+pub plain_replay : {E : Type 0} (merge : Bool) (names : List (List ℕ)) (c : Netlist) (blocks : List Certificate) (r : Result Replay E)
+    → merge ≡ false → IfOk r (IsReplay names c blocks) → IfOk r (IsReplayFor merge names c blocks)
+plain_replay merge names c blocks r unasked is = let P : Bool → Type 0 = λ m. IfOk r (IsReplayFor m names c blocks) in subst P (sym unasked) is
+
+-- where latches are held by their names alone
+pub named_replay : {E : Type 0} (task : Verification) (c : Netlist) (blocks : List Certificate) (r : Result Replay E)
+    → nat_eq (length task.keep_latches.items) 0 ≡ true → IfOk r (IsReplayFor task.merge (held_names task) c blocks) → IfOk r (IsReplayHeld task c blocks)
+named_replay task c blocks r none is =
+    let C : List ℕ → Netlist = λ places. circuit_held (held_names task) places c in
+    subst (λ (places : List ℕ). IfOk r (IsReplayFor task.merge (names_held (held_names task) places (C places)) (C places) blocks)) (sym (no-places task.keep_latches.items none)) is
+
+-- where they are held by their places
+pub marked_replay : {E : Type 0} (task : Verification) (c m : Netlist) (blocks : List Certificate) (r : Result Replay E)
+    → 0 < length task.keep_latches.items → IsMarkedFor task c m → IfOk r (IsReplayFor task.merge (marks_of m) m blocks) → IfOk r (IsReplayHeld task c blocks)
+marked_replay task c m blocks r some is replays =
+    let names = held_names task in
+    let places = task.keep_latches.items in
+    let held : circuit_held names places c ≡ m = circuit-held names places c some ∙ sym is in
+    let A : List (List ℕ) → Netlist → Type 0 = λ ns d. IfOk r (IsReplayFor task.merge ns d blocks) in
+    subst (λ (d : Netlist). A (names_held names places d) d) (sym held) (subst (λ (ns : List (List ℕ)). A ns m) (sym (names-held names places m some)) replays)
+
+-- what is judged of a replay is judged of the task
+pub judged-result : (task : Verification) (c : Netlist) (blocks : List Certificate) (bytes : Option (List ℕ)) (replay : Replay) (judgement : Judgement)
+    → IsReplayOf task c blocks replay → IsJudgement bytes replay judgement → IsJudgedBy task c blocks bytes judgement
+judged-result task c blocks bytes replay judgement replays judges = record { replay = replay; replays = replays; judges = judges }
+
+end_may_be_printed : (e : End) (old new : Output) → Prints (outcome_of_end e) old new
+end_may_be_printed NoBlocks old new = tt
+end_may_be_printed Certified old new = tt
+end_may_be_printed Open old new = tt
+end_may_be_printed BlocksFollow old new = tt
+end_may_be_printed (Objected objection) old new = tt
 
 -- whatever is printed of an audit may be
-audit_may_be_printed : (e : End) (old new : Output) → Prints (outcome_of_end e) old new
-audit_may_be_printed NoBlocks old new = tt
-audit_may_be_printed Certified old new = tt
-audit_may_be_printed Open old new = tt
-audit_may_be_printed BlocksFollow old new = tt
-audit_may_be_printed (Objected objection) old new = tt
+pub audit_may_be_printed : (agreement : Option Agreement) (e : End) (old new : Output) → Prints (outcome_by agreement e) old new
+audit_may_be_printed None e old new = end_may_be_printed e old new
+audit_may_be_printed (Some Same) e old new = end_may_be_printed e old new
+audit_may_be_printed (Some (DiffersAt offset)) e old new = tt
 
--- the object of an audit after which the run ends so
-abbrev pub EndsWithObject : List Certificate → Audit → Outcome → Output → Output → Result Outcome Failure → Type 0
-EndsWithObject blocks audit outcome old new result = EndsPrintingObject outcome (audit_data blocks audit (status_of outcome)) old new result
-
-by_end : (blocks : List Certificate) (audit : Audit) (outcome : Outcome) (old new : Output) (result : Result Outcome Failure)
-    → outcome ≡ outcome_of_end audit.end → EndsWithObject blocks audit outcome old new result → EndsWithObject blocks audit (outcome_of_end audit.end) old new result
-by_end blocks audit outcome old new result is p = subst (λ (o : Outcome). EndsWithObject blocks audit o old new result) is p
-
-object_of_audit : (blocks : List Certificate) (audit : Audit) (old new : Output) (result : Result Outcome Failure)
-    → EndsWithObject blocks audit (outcome_of_end audit.end) old new result → IfOk result (EndsWithAudit true blocks audit old new)
-object_of_audit blocks audit old new (Ok ended) p = record { prints = p.1; ends = p.0 }
-object_of_audit blocks audit old new (Err failure) p = tt
+object_of_audit : (blocks : List Certificate) (judgement : Judgement) (old new : Output) (result : Result Outcome Failure)
+    → EndsWithObject blocks judgement (outcome_of_judgement judgement) old new result → IfOk result (EndsWithAudit true blocks judgement old new)
+object_of_audit blocks judgement old new (Ok ended) p = record { prints = p.1; ends = p.0 }
+object_of_audit blocks judgement old new (Err failure) p = tt
 
 -- the object was printed that was asked for, and the run ends by the audit
-pub ends_with_object : (json : Bool) (blocks : List Certificate) (audit : Audit) (outcome : Outcome) (old new : Output) (result : Result Outcome Failure)
-    → json ≡ true → outcome ≡ outcome_of_end audit.end → EndsWithObject blocks audit outcome old new result → IfOk result (EndsWithAudit json blocks audit old new)
-ends_with_object json blocks audit outcome old new result asked is p =
-    subst (λ (j : Bool). IfOk result (EndsWithAudit j blocks audit old new)) (sym asked)
-    (object_of_audit blocks audit old new result (by_end blocks audit outcome old new result is p))
+pub ends_with_object : (json : Bool) (blocks : List Certificate) (judgement : Judgement) (old new : Output) (result : Result Outcome Failure)
+    → json ≡ true → EndsWithObject blocks judgement (outcome_of_judgement judgement) old new result → IfOk result (EndsWithAudit json blocks judgement old new)
+ends_with_object json blocks judgement old new result asked p =
+    subst (λ (j : Bool). IfOk result (EndsWithAudit j blocks judgement old new)) (sym asked) (object_of_audit blocks judgement old new result p)
 
 -- so much of the object may have been printed
-pub audit_object_prints : (blocks : List Certificate) (audit : Audit) (outcome : Outcome) (old new : Output) (result : Result Outcome Failure)
-    → outcome ≡ outcome_of_end audit.end → EndsWithObject blocks audit outcome old new result → Prints (ending result) old new
-audit_object_prints blocks audit outcome old new result is p =
-    object_prints (outcome_of_end audit.end) (audit_data blocks audit (status_of (outcome_of_end audit.end))) old new result (λ written. audit_may_be_printed audit.end old new) (by_end blocks audit outcome old new result is p)
+pub audit_object_prints : (blocks : List Certificate) (judgement : Judgement) (old new : Output) (result : Result Outcome Failure)
+    → EndsWithObject blocks judgement (outcome_of_judgement judgement) old new result → Prints (ending result) old new
+audit_object_prints blocks judgement old new result p =
+    object_prints (outcome_of_judgement judgement) (audit_data blocks judgement.audit judgement.agreement (status_of (outcome_of_judgement judgement))) old new result
+    (λ written. audit_may_be_printed judgement.agreement judgement.audit.end old new) p
 
-lines_of_audit : (blocks : List Certificate) (audit : Audit) (old new : Output) (result : Result Outcome Failure)
-    → EndsPrinting (outcome_of_end audit.end) (audit_text blocks audit) old new result → IfOk result (EndsWithAudit false blocks audit old new)
-lines_of_audit blocks audit old new (Ok ended) p = record { prints = p.1; ends = p.0 }
-lines_of_audit blocks audit old new (Err failure) p = tt
+lines_of_audit : (blocks : List Certificate) (judgement : Judgement) (old new : Output) (result : Result Outcome Failure)
+    → EndsPrinting (outcome_of_judgement judgement) (audit_text blocks judgement.audit judgement.agreement) old new result → IfOk result (EndsWithAudit false blocks judgement old new)
+lines_of_audit blocks judgement old new (Ok ended) p = record { prints = p.1; ends = p.0 }
+lines_of_audit blocks judgement old new (Err failure) p = tt
 
 -- the lines were printed, and the run ends by the audit
-pub ends_with_lines : (json : Bool) (blocks : List Certificate) (audit : Audit) (old new : Output) (result : Result Outcome Failure)
-    → json ≡ false → EndsPrinting (outcome_of_end audit.end) (audit_text blocks audit) old new result → IfOk result (EndsWithAudit json blocks audit old new)
-ends_with_lines json blocks audit old new result unasked p =
-    subst (λ (j : Bool). IfOk result (EndsWithAudit j blocks audit old new)) (sym unasked) (lines_of_audit blocks audit old new result p)
+pub ends_with_lines : (json : Bool) (blocks : List Certificate) (judgement : Judgement) (old new : Output) (result : Result Outcome Failure)
+    → json ≡ false → EndsPrinting (outcome_of_judgement judgement) (audit_text blocks judgement.audit judgement.agreement) old new result
+    → IfOk result (EndsWithAudit json blocks judgement old new)
+ends_with_lines json blocks judgement old new result unasked p =
+    subst (λ (j : Bool). IfOk result (EndsWithAudit j blocks judgement old new)) (sym unasked) (lines_of_audit blocks judgement old new result p)
 
 -- so much of the lines may have been printed
-pub audit_prints : (blocks : List Certificate) (audit : Audit) (old new : Output) (result : Result Outcome Failure)
-    → EndsPrinting (outcome_of_end audit.end) (audit_text blocks audit) old new result → Prints (ending result) old new
-audit_prints blocks audit old new result p =
-    lines_print (outcome_of_end audit.end) (audit_text blocks audit) old new result (λ written. audit_may_be_printed audit.end old new) p
+pub audit_prints : (blocks : List Certificate) (judgement : Judgement) (old new : Output) (result : Result Outcome Failure)
+    → EndsPrinting (outcome_of_judgement judgement) (audit_text blocks judgement.audit judgement.agreement) old new result → Prints (ending result) old new
+audit_prints blocks judgement old new result p =
+    lines_print (outcome_of_judgement judgement) (audit_text blocks judgement.audit judgement.agreement) old new result
+    (λ written. audit_may_be_printed judgement.agreement judgement.audit.end old new) p

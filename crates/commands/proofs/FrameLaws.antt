@@ -1,6 +1,5 @@
 -- How printing a retiming ends, by the form that is asked for.
-use Rattle.std.proofs.Common.{◌≡◌, ◌∙◌, ℕ, Bool, true, false, refl, List, Option, Result, length, map, nat_lt, sym, subst, ap}
-use Rattle.std.specs.Borrow.{Bor}
+use Rattle.std.proofs.Common.{◌≡◌, ◌∙◌, ℕ, Bool, true, false, refl, List, Option, Result, length, nat_lt, sym, subst, ap}
 use Rattle.std.specs.Global.{Vec}
 use Rattle.aig_graph.specs.Keep.{names_of}
 use Rattle.circuit_counts.specs.Remaining.{remaining}
@@ -17,7 +16,7 @@ use Rattle.circuit_counts.specs.declared.remaining.Remaining.{Remaining}
 use Rattle.command_line.specs.declared.task.Retiming.{Retiming}
 use Rattle.reports.specs.Retimings.{retiming_text}
 use Rattle.command_endings.specs.Printing.{EndsPrinting}
-use Rattle.commands.specs.RetimingTasks.{EndsPrintingFrames, PrintsAlike, SaysFrames, remaining_of}
+use Rattle.commands.specs.RetimingTasks.{EndsPrintingFrames, PrintsAlike, SaysFrames, names_for, remaining_of}
 
 -- an object where it was asked for
 pub frames_as_object : (json : Bool) (task : Retiming) (r : Retimed) (levels : Option ℕ) (times : Option Times) (mapped : Option MapCounts) (old new : Output) (result : Result Outcome Failure)
@@ -32,14 +31,11 @@ object_of_frames task r levels left took times mapped old new result is same p =
     (subst (λ (x : Remaining). EndsPrintingObject Done (retiming_data r levels x took mapped) old new result) is p)
 
 -- what is left, by the names as bytes and the number of frames
-pub remaining_is : (task : Retiming) (r : Retimed) (keep : List (Bor (List ℕ))) (names read : List (Vec ℕ)) (frames : ℕ) → keep ≡ task.keep.items → read ≡ names
-    → map (λ name. name.items) names ≡ map (λ name. name.now) keep → frames ≡ length r.frames
+pub remaining_is : (task : Retiming) (r : Retimed) (names read : List (Vec ℕ)) (frames : ℕ) → read ≡ names → names_of names ≡ names_for task r.circuit → frames ≡ length r.frames
     → remaining r.circuit (names_of read) (nat_lt frames task.frames) ≡ remaining_of task r
-remaining_is task r keep names read frames kept same alike many =
-    let texts : names_of read ≡ map (λ name. name.now) task.keep.items =
-    ap names_of same ∙ alike ∙ ap (λ (xs : List (Bor (List ℕ))). map (λ name. name.now) xs) kept in
-    ap (λ (xs : List (List ℕ)). remaining r.circuit xs (nat_lt frames task.frames)) texts
-    ∙ ap (λ (n : ℕ). remaining r.circuit (map (λ name. name.now) task.keep.items) (nat_lt n task.frames)) many
+remaining_is task r names read frames same alike many =
+    ap (λ (xs : List (List ℕ)). remaining r.circuit xs (nat_lt frames task.frames)) (ap names_of same ∙ alike)
+    ∙ ap (λ (n : ℕ). remaining r.circuit (names_for task r.circuit) (nat_lt n task.frames)) many
 
 -- what is printed alike ends alike
 pub frames_alike : (json : Bool) (task : Retiming) (r s : Retimed) (levels : Option ℕ) (times : Option Times) (mapped : Option MapCounts) (old new : Output) (result : Result Outcome Failure)

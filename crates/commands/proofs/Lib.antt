@@ -1,5 +1,4 @@
 pub mod FrameLaws
 pub mod StatisticsLaws
-pub mod FateLaws
 pub mod AuditLaws
 pub mod PipeLaws

@@ -11,14 +11,14 @@ use Rattle.aig_binary.proofs.LimitLaws.{reads-within}
 use Rattle.certificate_files.specs.Texts.{file_text}
 use Rattle.counted_io.specs.Output.{Output, WritesAll}
 use Rattle.retimed_circuits.specs.declared.report.Retimed.{Retimed}
-use Rattle.frames.specs.declared.errors.BytesError.{BytesError}
 use Rattle.frames.specs.declared.errors.BytesError.TheVariants.{Read, Retime, Write}
 use Rattle.frames.specs.declared.errors.RetimeError.TheVariants.{NoMemory, NoSuchName}
-use Rattle.frames.specs.declared.options.Options.{Options}
-use Rattle.frames.specs.Answering.{IsStop}
-use Rattle.mapped_answers.specs.Mapping.{IsMappingStop}
-use Rattle.mapped_answers.specs.declared.mapped.MappedError.{MappedError}
-use Rattle.mapped_answers.specs.declared.mapped.MappedError.TheVariants.{Answer, MapTooLarge}
+use Rattle.held_answers.specs.declared.options.HeldOptions.{HeldOptions}
+use Rattle.held_answers.specs.Answering.{IsHeldMapStop, IsHeldStop}
+use Rattle.held_answers.specs.declared.errors.HeldError.{HeldError}
+use Rattle.held_answers.specs.declared.errors.HeldError.TheVariants.{Answer, NoSuchLatch}
+use Rattle.held_answers.specs.declared.errors.HeldMapError.{HeldMapError}
+use Rattle.held_answers.specs.declared.errors.HeldMapError.TheVariants.{Held, MapTooLarge}
 use Rattle.stream_paths.specs.Streams.{is_stdin, is_stdout}
 use Rattle.stream_paths.specs.declared.target.Target.{Target}
 use Rattle.command_line.specs.StreamUses.{takes_stdout, writes_stdout}
@@ -33,26 +33,27 @@ use Rattle.json_reports.specs.declared.counts.MapCounts.{MapCounts}
 use Rattle.commands.specs.declared.answer.Answer.{Answer as Answered}
 use Rattle.commands.specs.Pipes.{Answers, AnswersInput, AnswersPipe, IsAnswerTo, IsPipe, IsToldOf, PrintsRetiming, WritesPipe}
 use Rattle.command_endings.specs.Printing.{EndsAside, Prints, ending}
-use Rattle.commands.specs.RetimingTasks.{AreOptionsOf, EndsPrintingFrames, HasFailed, IsFailureOf, IsMappedFailureOf, PrintsAlike, SaysFrames}
+use Rattle.commands.specs.RetimingTasks.{AreOptionsOf, EndsPrintingFrames, HasFailed, IsHeldFailureOf, IsMappedFailureOf, PrintsAlike, SaysFrames}
 use Rattle.command_endings.proofs.PrintingLaws.{failing_after, prints_after}
 use Rattle.commands.proofs.FrameLaws.{frames_alike, says_alike}
 
 -- why there is no whole answer of what was read, as the failure of the task
-pub stopped : (task : Retiming) (options : Options) (spelt : SpeltCircuit) (before after : Output) (e : BytesError) (f : Failure)
-    → IsFailureOf task e f → IsStop options spelt before after e → Prints (outcome_of f) before after
-stopped task options spelt before after (Read e) f is p = absurd p
-stopped task options spelt before after (Retime NoMemory) f is p = failing_after f before after p
-stopped task options spelt before after (Retime (NoSuchName place)) f is p = failing_after f before after p.0
-stopped task options spelt before after (Write e) f is p = subst (λ (g : Failure). Prints (outcome_of g) before after) (sym is.2) tt
+pub stopped : (task : Retiming) (options : HeldOptions) (spelt : SpeltCircuit) (before after : Output) (e : HeldError) (f : Failure)
+    → IsHeldFailureOf task e f → IsHeldStop options spelt before after e → Prints (outcome_of f) before after
+stopped task options spelt before after (NoSuchLatch number) f is p = failing_after f before after p.0
+stopped task options spelt before after (Answer (Read e)) f is p = absurd p
+stopped task options spelt before after (Answer (Retime NoMemory)) f is p = failing_after f before after p
+stopped task options spelt before after (Answer (Retime (NoSuchName place))) f is p = failing_after f before after p.0
+stopped task options spelt before after (Answer (Write e)) f is p = subst (λ (g : Failure). Prints (outcome_of g) before after) (sym is.2) tt
 
 -- the same where a map is made
-pub stopped_mapped : (task : Retiming) (options : Options) (spelt : SpeltCircuit) (before after : Output) (e : MappedError) (f : Failure)
-    → IsMappedFailureOf task e f → IsMappingStop options spelt before after e → Prints (outcome_of f) before after
-stopped_mapped task options spelt before after (Answer e) f is p = stopped task options spelt before after e f is p
+pub stopped_mapped : (task : Retiming) (options : HeldOptions) (spelt : SpeltCircuit) (before after : Output) (e : HeldMapError) (f : Failure)
+    → IsMappedFailureOf task e f → IsHeldMapStop options spelt before after e → Prints (outcome_of f) before after
+stopped_mapped task options spelt before after (Held e) f is p = stopped task options spelt before after e f is p
 stopped_mapped task options spelt before after MapTooLarge f is p = failing_after f before after p
 
 -- what was read of standard input is answered as its bytes are
-pub answers_pipe : (task : Retiming) (options : Options) (spelt : SpeltCircuit) (input : Input) (old new : Output) (answer : Answered)
+pub answers_pipe : (task : Retiming) (options : HeldOptions) (spelt : SpeltCircuit) (input : Input) (old new : Output) (answer : Answered)
     → AreOptionsOf task options → Spells input spelt → IsAnswerTo task options spelt old new answer → AnswersPipe task input old new answer.retimed answer.levels
 answers_pipe task options spelt input old new answer are read to = record {
   options = options;
@@ -67,7 +68,7 @@ answers_pipe task options spelt input old new answer are read to = record {
 }
 
 -- the same, wherever it was written
-pub answers_input : (task : Retiming) (options : Options) (spelt : SpeltCircuit) (input : Input) (answer : Answered)
+pub answers_input : (task : Retiming) (options : HeldOptions) (spelt : SpeltCircuit) (input : Input) (answer : Answered)
     → AreOptionsOf task options → Spells input spelt → Answers task options spelt answer → AnswersInput task input answer.retimed answer.levels
 answers_input task options spelt input answer are read answers =
     let written = answers.to.written in

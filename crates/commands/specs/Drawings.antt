@@ -24,14 +24,19 @@ use Rattle.frames.specs.declared.options.Options.{Options}
 use Rattle.pictures.specs.Looks.{everything}
 use Rattle.pictures.specs.Near.{has_node, is_centre, is_near}
 use Rattle.pictures.specs.Pictures.{picture}
+use Rattle.latch_marks.specs.Marks.{circuit_freed, circuit_held, names_held}
 use Rattle.command_line.specs.declared.task.Drawing.{Drawing}
 use Rattle.command_endings.specs.HeldNames.{OfSource}
 use Rattle.command_endings.specs.Sources.{IsCircuitAt}
+use Rattle.commands.specs.HeldLatches.{texts_of}
 use Rattle.commands.specs.declared.scene.Scene.{Scene}
 
--- the names of the latches that the task holds
-abbrev pub names_for : Drawing → List (List ℕ)
-names_for task = map (λ name. name.now) task.keep.items
+-- a circuit while the task holds its latches, and the names by which it does in one that is so
+abbrev pub held_for : Drawing → Netlist → Netlist
+held_for task c = circuit_held (texts_of task.keep.items) task.keep_latches.items c
+
+abbrev pub names_for : Drawing → Netlist → List (List ℕ)
+names_for task c = names_held (texts_of task.keep.items) task.keep_latches.items c
 
 -- the neighbourhood of what the name names, or all variables
 abbrev pub shown : Netlist → Drawing → ℕ → Bool
@@ -62,40 +67,44 @@ IsSetFor true c held (Some set) = IsGreatestLeast c held set × (border_size (mo
 IsSetFor true c held None = (s : List ℕ) → IsClosedSet c.aig held s → known_latches c.aig ≤ border_size (move_of c held s)
 IsSetFor false c held set = set ≡ None
 
--- the options of a retiming that takes no frame, which holds the latches that the task names
-pub record AreOptionsFor (task : Drawing) (options : Options) : Type 0 where
+-- the options of a retiming of c that takes no frame, where the task holds latches
+pub record AreOptionsFor (task : Drawing) (c : Netlist) (options : Options) : Type 0 where
   pub frames : options.max_frames ≡ 0
   pub choice : options.choice ≡ Greatest
   pub certify : options.certify ≡ false
   pub merge : options.merge ≡ task.merge
-  pub names : names_in options ≡ names_for task
+  pub names : names_in options ≡ names_for task c
 
 -- d is c cleaned, and where the task asks for it merged, as before the first frame
 pub record IsCleanedFor (task : Drawing) (c d : Netlist) : Type 0 where
   pub options : Options
-  pub are : AreOptionsFor task options
+  pub are : AreOptionsFor task c options
   pub retimed : Retimed
   pub is : IsRetimedBy options c retimed
   pub circuit : d ≡ retimed.circuit
 
--- the circuit that is drawn: the one that is read, or where the next frame is asked for what that frame begins with
+-- the circuit that is shown: the one that is read, or where the next frame is asked for what that frame begins with
 abbrev pub IsCircuitFor : Bool → Drawing → Netlist → Netlist → Type 0
 IsCircuitFor true task c d = IsCleanedFor task c d
 IsCircuitFor false task c d = d ≡ c
 
--- a scene of the circuit: the latches that the task names are held in it, it can be drawn, and where the next frame is asked for, a set is shown
-pub record IsScene (task : Drawing) (c : Netlist) (scene : Scene) : Type 0 where
+-- a scene of the circuit, in which these latches are held: it can be drawn, and where the next frame is asked for, a set is shown
+pub record IsSceneWith (task : Drawing) (c : Netlist) (kept : List ℕ) (scene : Scene) : Type 0 where
   pub circuit : scene.circuit ≡ c
-  pub held : scene.keep ≡ held_in (names_for task) c
+  pub held : scene.keep ≡ kept
   pub can : CanBeDrawn task.around c
   pub set : IsSetFor task.frame c scene.keep scene.set
 
--- a scene of what the task shows of the circuit that is read
+-- a scene of c, in which the task holds latches, when they are let go
+abbrev pub IsScene : Drawing → Netlist → Scene → Type 0
+IsScene task c scene = IsSceneWith task (circuit_freed task.keep_latches.items c) (held_in (names_for task c) c) scene
+
+-- a scene of what the task shows of the circuit that is read, while it holds latches of that
 pub record IsSceneOf (task : Drawing) (before after : Input) (scene : Scene) : Type 0 where
   pub spelt : SpeltCircuit
   pub read : IsCircuitAt task.input before after spelt
   pub circuit : Netlist
-  pub shown : IsCircuitFor task.frame task spelt.circuit circuit
+  pub shown : IsCircuitFor task.frame task (held_for task spelt.circuit) circuit
   pub is : IsScene task circuit scene
 
 -- what is written of a scene

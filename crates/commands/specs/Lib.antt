@@ -1,7 +1,8 @@
 pub mod RetimingTasks
 pub mod OtherSpelling
 pub mod Pipes
+pub mod Replaying
 pub mod Verifying
+pub mod HeldLatches
 pub mod Drawings
 pub mod Statistics
-pub mod Fates

@@ -7,8 +7,8 @@ use Rattle.file_words.specs.declared.spelling.Spelling.{Spelling}
 use Rattle.aig_binary.specs.declared.reading.SpeltCircuit.{SpeltCircuit}
 use Rattle.aig_binary.specs.Ending.{Spells}
 use Rattle.retimed_circuits.specs.declared.report.Retimed.{Retimed}
-use Rattle.frames.specs.Answering.{IsAnswered, IsWritten}
-use Rattle.frames.specs.declared.options.Options.{Options}
+use Rattle.held_answers.specs.Answering.{IsHeldAnswered, IsHeldWritten}
+use Rattle.held_answers.specs.declared.options.HeldOptions.{HeldOptions}
 use Rattle.stream_paths.specs.Streams.{is_stdin, is_stdout}
 use Rattle.command_line.specs.StreamUses.{takes_stdout, writes_stdout}
 use Rattle.command_line.specs.declared.task.Retiming.{Retiming}
@@ -29,12 +29,12 @@ pub record IsPipe (task : Retiming) : Type 0 where
   pub map_aside : writes_stdout task.map ≡ false
 
 -- of a circuit that was read: its answer by the options was written, and nothing else, and its levels are told where that is asked for
-pub record IsAnswerTo (task : Retiming) (options : Options) (spelt : SpeltCircuit) (old new : Output) (answer : Answer) : Type 0 where
-  pub written : IsWritten options spelt old new answer.retimed
+pub record IsAnswerTo (task : Retiming) (options : HeldOptions) (spelt : SpeltCircuit) (old new : Output) (answer : Answer) : Type 0 where
+  pub written : IsHeldWritten options spelt old new answer.retimed
   pub levels_are : answer.levels ≡ levels_told task spelt.circuit
 
 -- the same, wherever it was written
-pub record Answers (task : Retiming) (options : Options) (spelt : SpeltCircuit) (answer : Answer) : Type 0 where
+pub record Answers (task : Retiming) (options : HeldOptions) (spelt : SpeltCircuit) (answer : Answer) : Type 0 where
   pub before : Output
   pub after : Output
   pub to : IsAnswerTo task options spelt before after answer
@@ -42,18 +42,18 @@ pub record Answers (task : Retiming) (options : Options) (spelt : SpeltCircuit) 
 -- the answer by the options of the task, of the bytes that standard input had left, was written, and nothing else; the levels are those of
 -- the circuit of the bytes
 pub record AnswersPipe (task : Retiming) (input : Input) (old new : Output) (retimed : Retimed) (levels : Option ℕ) : Type 0 where
-  pub options : Options
+  pub options : HeldOptions
   pub are_options : AreOptionsOf task options
-  pub answered : IsAnswered input old new options retimed
+  pub answered : IsHeldAnswered input old new options retimed
   pub levels_are : levels ≡ levels_told task answered.spelt.circuit
 
 -- the same, wherever it was written
 pub record AnswersInput (task : Retiming) (input : Input) (retimed : Retimed) (levels : Option ℕ) : Type 0 where
-  pub options : Options
+  pub options : HeldOptions
   pub are_options : AreOptionsOf task options
   pub before : Output
   pub after : Output
-  pub answered : IsAnswered input before after options retimed
+  pub answered : IsHeldAnswered input before after options retimed
   pub levels_are : levels ≡ levels_told task answered.spelt.circuit
 
 -- where nothing but the certificates of r goes to standard output, it was given their text

@@ -5,7 +5,12 @@ use Rattle.aig_graph.specs.Circuits.{Netlist}
 use Rattle.stream_paths.specs.Streams.{target_name}
 use Rattle.stream_paths.specs.declared.target.Target.{Target}
 use Rattle.command_line.specs.declared.task.Retiming.{Retiming}
-use Rattle.frames.specs.declared.options.Options.{Options}
+use Rattle.held_answers.specs.declared.options.HeldOptions.{HeldOptions}
+use Rattle.held_answers.specs.declared.errors.HeldError.{HeldError}
+use Rattle.held_answers.specs.declared.errors.HeldError.TheVariants.{Answer, NoSuchLatch}
+use Rattle.held_answers.specs.declared.errors.HeldMapError.{HeldMapError}
+use Rattle.held_answers.specs.declared.errors.HeldMapError.TheVariants.{Held, MapTooLarge}
+use Rattle.latch_marks.specs.Marks.{names_held}
 use Rattle.frames.specs.declared.errors.BytesError.{BytesError}
 use Rattle.frames.specs.declared.errors.BytesError.TheVariants.{Read, Retime, Write}
 use Rattle.frames.specs.declared.errors.RetimeError.TheVariants.{NoMemory, NoSuchName}
@@ -18,8 +23,6 @@ use Rattle.reports.specs.Retimings.{retiming_text}
 use Rattle.json_reports.specs.Retimings.{retiming_data}
 use Rattle.json_reports.specs.declared.times.Times.{Times}
 use Rattle.json_reports.specs.declared.counts.MapCounts.{MapCounts}
-use Rattle.mapped_answers.specs.declared.mapped.MappedError.{MappedError}
-use Rattle.mapped_answers.specs.declared.mapped.MappedError.TheVariants.{Answer, MapTooLarge}
 use Rattle.circuit_files.specs.Outcomes.{IsAbout, failure_of_reading, outcome_of}
 use Rattle.circuit_files.specs.declared.outcome.Outcome.{Outcome}
 use Rattle.circuit_files.specs.declared.outcome.Outcome.TheVariants.{Device, Done, Refused}
@@ -28,15 +31,18 @@ use Rattle.circuit_files.specs.declared.outcome.Failure.TheVariants as fails
 use Rattle.command_objects.specs.Objects.{EndsPrintingObject}
 use Rattle.command_endings.specs.HeldNames.{OfSource}
 use Rattle.command_endings.specs.Printing.{EndsPrinting}
+use Rattle.commands.specs.HeldLatches.{texts_of}
+use Rattle.frames.specs.Named.{names_in}
 
 -- the options are the task's
-pub record AreOptionsOf (task : Retiming) (options : Options) : Type 0 where
-  pub spelling : options.spelling ≡ task.spelling
-  pub frames : options.max_frames ≡ task.frames
-  pub choice : options.choice ≡ task.choice
-  pub certify : options.certify ≡ is_some task.certificates
-  pub merge : options.merge ≡ task.merge
-  pub names : map (λ name. name.items) options.keep.items ≡ map (λ name. name.now) task.keep.items
+pub record AreOptionsOf (task : Retiming) (held : HeldOptions) : Type 0 where
+  pub spelling : held.options.spelling ≡ task.spelling
+  pub frames : held.options.max_frames ≡ task.frames
+  pub choice : held.options.choice ≡ task.choice
+  pub certify : held.options.certify ≡ is_some task.certificates
+  pub merge : held.options.merge ≡ task.merge
+  pub names : names_in held.options ≡ texts_of task.keep.items
+  pub places : held.places.items ≡ task.keep_latches.items
 
 -- the failure that an error is: of what is read, of what is written, or of a name that no latch has
 abbrev pub IsFailureOf : Retiming → BytesError → Failure → Type 0
@@ -45,22 +51,31 @@ IsFailureOf task (Retime NoMemory) failure = failure ≡ fails.Memory
 IsFailureOf task (Retime (NoSuchName place)) failure = (name : Bor (List ℕ)) → slice_get task.keep.items place ≡ Some name → OfSource task.input (λ path. failure ≡ fails.NoSuchName path name)
 IsFailureOf task (Write error) failure = (name : Bor (List ℕ)) × (name.now ≡ target_name task.output) × (failure ≡ fails.Device name)
 
+-- the same where latches are held by their places
+abbrev pub IsHeldFailureOf : Retiming → HeldError → Failure → Type 0
+IsHeldFailureOf task (Answer error) failure = IsFailureOf task error failure
+IsHeldFailureOf task (NoSuchLatch number) failure = (place : ℕ) → slice_get task.keep_latches.items number ≡ Some place → OfSource task.input (λ path. failure ≡ fails.NoSuchLatch path place)
+
 -- a device has failed, that of this target
 abbrev pub HasFailed : Option Target → Failure → Type 0
 HasFailed None failure = ⊥
 HasFailed (Some target) failure = (outcome_of failure ≡ Device) × IsAbout (target_name target) failure
 
+-- the names by which the task holds latches in a circuit
+abbrev pub names_for : Retiming → Netlist → List (List ℕ)
+names_for task c = names_held (texts_of task.keep.items) task.keep_latches.items c
+
 -- what the task's retiming leaves: the circuit, where its held latches stay; fewer frames than the limit end where no set leaves fewer
 abbrev pub remaining_of : Retiming → Retimed → Remaining
-remaining_of task r = remaining r.circuit (map (λ name. name.now) task.keep.items) (nat_lt (length r.frames) task.frames)
+remaining_of task r = remaining r.circuit (names_for task r.circuit) (nat_lt (length r.frames) task.frames)
 
 -- the levels of the circuit that is read, which an object tells
 abbrev pub levels_told : Retiming → Netlist → Option ℕ
 levels_told task c = if task.json then Some (levels c) else None
 
 -- the failure of a run that makes a map: that of the answer, or the map is refused
-abbrev pub IsMappedFailureOf : Retiming → MappedError → Failure → Type 0
-IsMappedFailureOf task (Answer error) failure = IsFailureOf task error failure
+abbrev pub IsMappedFailureOf : Retiming → HeldMapError → Failure → Type 0
+IsMappedFailureOf task (Held error) failure = IsHeldFailureOf task error failure
 IsMappedFailureOf task MapTooLarge failure = outcome_of failure ≡ Refused
 
 -- how many gates and constraints a map has

@@ -1,23 +1,29 @@
--- What is printed of an audit, and how the run ends by it.
-use Rattle.std.specs.Prelude.{ℕ, ◌≡◌, Bool, true, false, List, map}
+-- What is printed of an audit, and of a file that is compared with what its blocks end in, and how the run ends by it.
+use Rattle.std.specs.Prelude.{ℕ, ◌≡◌, Bool, true, false, List, Option, Some, None, Result, map}
 use Rattle.aig_graph.specs.Circuits.{Netlist}
 use Rattle.aig_binary.specs.declared.reading.SpeltCircuit.{SpeltCircuit}
 use Rattle.counted_io.specs.Input.{Input}
 use Rattle.counted_io.specs.Output.{Output, WritesAll}
 use Rattle.certificates.specs.declared.certificate.Certificate.{Certificate}
 use Rattle.certificate_files.specs.declared.file.CertFile.{CertFile}
-use Rattle.certificate_audits.specs.Audits.{IsAudit, IsMergedAudit}
-use Rattle.certificate_audits.specs.declared.outcome.Audit.{Audit}
 use Rattle.certificate_audits.specs.declared.outcome.End.{End}
 use Rattle.certificate_audits.specs.declared.outcome.End.TheVariants.{NoBlocks, Certified, Open, BlocksFollow, Objected}
+use Rattle.certificate_audits.specs.declared.outcome.Replay.{Replay}
 use Rattle.reports.specs.Audits.{audit_text}
+use Rattle.reports.specs.declared.agreement.Agreement.{Agreement}
+use Rattle.reports.specs.declared.agreement.Agreement.TheVariants.{Same, DiffersAt}
 use Rattle.json_reports.specs.Audits.{audit_data}
 use Rattle.json_reports.specs.Lines.{json_line}
+use Rattle.latch_marks.specs.Marks.{circuit_held, held_places, marked, names_held}
 use Rattle.command_line.specs.declared.task.Verification.{Verification}
 use Rattle.circuit_files.specs.Codes.{status_of}
+use Rattle.circuit_files.specs.declared.outcome.Failure.{Failure}
 use Rattle.circuit_files.specs.declared.outcome.Outcome.{Outcome}
 use Rattle.circuit_files.specs.declared.outcome.Outcome.TheVariants.{Done, Unconfirmed}
+use Rattle.command_objects.specs.Objects.{EndsPrintingObject}
 use Rattle.command_endings.specs.Sources.{AreCertificatesAt, IsCircuitAt}
+use Rattle.commands.specs.Replaying.{AreRetimedAt, IsFreed, IsJudgement, IsReplayFor}
+use Rattle.commands.specs.declared.replaying.Judgement.{Judgement}
 
 abbrev pub outcome_of_end : End → Outcome
 outcome_of_end NoBlocks = Done
@@ -26,36 +32,78 @@ outcome_of_end Open = Done
 outcome_of_end BlocksFollow = Unconfirmed
 outcome_of_end (Objected objection) = Unconfirmed
 
+-- how a run ends by what came of comparing a file, and else by the end of the audit
+abbrev pub outcome_by : Option Agreement → End → Outcome
+outcome_by None end = outcome_of_end end
+outcome_by (Some Same) end = outcome_of_end end
+outcome_by (Some (DiffersAt offset)) end = Unconfirmed
+
+abbrev pub outcome_of_judgement : Judgement → Outcome
+outcome_of_judgement judgement = outcome_by judgement.agreement judgement.audit.end
+
 -- the names of the latches that the task holds
 abbrev pub held_names : Verification → List (List ℕ)
 held_names task = map (λ name. name.now) task.keep.items
 
--- what is printed of an audit: an object on a line where that is asked for, else lines
-abbrev pub printed_audit : Bool → List Certificate → Audit → List ℕ
-printed_audit true blocks audit = json_line (audit_data blocks audit (status_of (outcome_of_end audit.end)))
-printed_audit false blocks audit = audit_text blocks audit
+-- the object of a judgement after which the run ends so
+abbrev pub EndsWithObject : List Certificate → Judgement → Outcome → Output → Output → Result Outcome Failure → Type 0
+EndsWithObject blocks judgement outcome old new result =
+    EndsPrintingObject outcome (audit_data blocks judgement.audit judgement.agreement (status_of outcome)) old new result
 
--- the audit is printed in this form, and the run ends by it
-pub record EndsWithAudit (json : Bool) (blocks : List Certificate) (audit : Audit) (old new : Output) (ended : Outcome) : Type 0 where
-  pub prints : WritesAll old new (printed_audit json blocks audit)
-  pub ends : ended ≡ outcome_of_end audit.end
+-- what is printed of a judgement: an object on a line where that is asked for, else lines
+abbrev pub printed_audit : Bool → List Certificate → Judgement → List ℕ
+printed_audit true blocks judgement = json_line (audit_data blocks judgement.audit judgement.agreement (status_of (outcome_of_judgement judgement)))
+printed_audit false blocks judgement = audit_text blocks judgement.audit judgement.agreement
 
--- the audit of the blocks for c, or, where latches were merged before the first frame, for what c is merged to
-abbrev pub IsAuditFor : Bool → List (List ℕ) → Netlist → List Certificate → Audit → Type 0
-IsAuditFor false names c blocks audit = IsAudit names c blocks audit
-IsAuditFor true names c blocks audit = IsMergedAudit names c blocks audit
+-- the judgement is printed in this form, and the run ends by it
+pub record EndsWithAudit (json : Bool) (blocks : List Certificate) (judgement : Judgement) (old new : Output) (ended : Outcome) : Type 0 where
+  pub prints : WritesAll old new (printed_audit json blocks judgement)
+  pub ends : ended ≡ outcome_of_judgement judgement
 
--- the audit of the blocks for this circuit, with the latches held that the task names, is printed as it asks, and the run ends by it
-pub record PrintsAudit (task : Verification) (c : Netlist) (blocks : List Certificate) (ended : Outcome) (old new : Output) : Type 0 where
-  pub audit : Audit
-  pub audits : IsAuditFor task.merge (held_names task) c blocks audit
-  pub printed : EndsWithAudit task.json blocks audit old new ended
+-- m is c in which the latches that the task holds have marks
+abbrev pub IsMarkedFor : Verification → Netlist → Netlist → Type 0
+IsMarkedFor task c m = m ≡ marked (held_places (held_names task) task.keep_latches.items c) c
 
--- that of the certificates that are read, for this circuit
+-- the circuit while the task holds its latches
+abbrev pub circuit_for : Verification → Netlist → Netlist
+circuit_for task c = circuit_held (held_names task) task.keep_latches.items c
+
+-- what the blocks end in for c while the task holds its latches
+abbrev pub IsReplayHeld : Verification → Netlist → List Certificate → Replay → Type 0
+IsReplayHeld task c blocks replay =
+    IsReplayFor task.merge (names_held (held_names task) task.keep_latches.items (circuit_for task c)) (circuit_for task c) blocks replay
+
+-- the same once they are let go
+pub record IsReplayOf (task : Verification) (c : Netlist) (blocks : List Certificate) (replay : Replay) : Type 0 where
+  pub held : Replay
+  pub replays : IsReplayHeld task c blocks held
+  pub freed : IsFreed task.keep_latches.items held replay
+
+-- the audit of the blocks for this circuit, with the latches held that the task names, and what comes of comparing these bytes with
+-- what they end in
+pub record IsJudgedBy (task : Verification) (c : Netlist) (blocks : List Certificate) (bytes : Option (List ℕ)) (judgement : Judgement) : Type 0 where
+  pub replay : Replay
+  pub replays : IsReplayOf task c blocks replay
+  pub judges : IsJudgement bytes replay judgement
+
+-- that is printed as the task asks, and the run ends by it
+pub record PrintsAudit (task : Verification) (c : Netlist) (blocks : List Certificate) (bytes : Option (List ℕ)) (ended : Outcome) (old new : Output) : Type 0 where
+  pub judgement : Judgement
+  pub judged : IsJudgedBy task c blocks bytes judgement
+  pub printed : EndsWithAudit task.json blocks judgement old new ended
+
+-- that of the file that is read, where one is compared
+pub record PrintsAuditBeside (task : Verification) (c : Netlist) (blocks : List Certificate) (before after : Input) (old new : Output) (ended : Outcome) : Type 0 where
+  pub bytes : Option (List ℕ)
+  pub read : AreRetimedAt task.retimed before after bytes
+  pub printed : PrintsAudit task c blocks bytes ended old new
+
+-- that of the certificates that are read before it, for this circuit
 pub record PrintsAuditFor (task : Verification) (c : Netlist) (before after : Input) (old new : Output) (ended : Outcome) : Type 0 where
   pub certificates : CertFile
-  pub read : AreCertificatesAt task.certificates before after certificates
-  pub printed : PrintsAudit task c certificates.blocks ended old new
+  pub between : Input
+  pub read : AreCertificatesAt task.certificates before between certificates
+  pub printed : PrintsAuditBeside task c certificates.blocks between after old new ended
 
 -- that of the certificates that are read, for the circuit that is read before them
 pub record PrintsAuditOf (task : Verification) (before after : Input) (old new : Output) (ended : Outcome) : Type 0 where

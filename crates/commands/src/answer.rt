@@ -3,14 +3,14 @@ ghost use Rattle.std.specs.Prelude.{◌≡◌, ◌<◌, ◌≤◌, true, false, 
 ghost use Rattle.aig_binary.specs.Spellings.{text_in};
 ghost use Rattle.counted_io.specs.Output.{Writes};
 ghost use Rattle.stream_paths.specs.Streams.{is_stdout};
-ghost use Rattle.frames.specs.Answering.{IsWritten};
-ghost use Rattle.mapped_answers.specs.Mapping.{IsMappedOf, IsMappingStop};
+ghost use Rattle.held_answers.specs.Answering.{IsHeldMapStop, IsHeldMapped, IsHeldWritten};
 ghost use Rattle.circuit_files.specs.Outcomes.{outcome_of};
 ghost use Rattle.command_line.specs.StreamUses.{writes_stdout};
 ghost use Rattle.command_endings.specs.Printing.{Prints};
 ghost use Rattle.commands.specs.Pipes.{IsAnswerTo};
-ghost use Rattle.commands.specs.RetimingTasks.{AreOptionsOf, HasFailed, IsFailureOf, IsMappedFailureOf, counts_of, levels_told};
+ghost use Rattle.commands.specs.RetimingTasks.{AreOptionsOf, HasFailed, IsFailureOf, IsHeldFailureOf, IsMappedFailureOf, counts_of, levels_told};
 
+use crate::holding::missing_latch;
 use aig_binary::{SpeltCircuit, write};
 use aig_graph::{Circuit, NoMemory};
 use circuit_counts::levels;
@@ -19,9 +19,10 @@ use command_endings::missing_name;
 use command_line::Retiming;
 use counted_io::{Counted, CountedWrite, WriteError};
 use file_words::ReadError;
-use frames::{BytesError, FrameWatcher, Options, RetimeError, Retimed, retime_spelt};
+use frames::{BytesError, FrameWatcher, RetimeError, Retimed};
+use held_answers::{HeldError, HeldMapError, HeldOptions, retime_held, retime_held_mapped};
 use json_reports::MapCounts;
-use mapped_answers::{Mapped, MappedError, retime_spelt_mapped};
+use mapped_answers::Mapped;
 use pulse::{Crew, OpenGate};
 use std::alloc::Global;
 use std::rt::Files;
@@ -31,7 +32,7 @@ use stream_paths::Target;
 /// The most workers of a crew.
 const MOST_WORKERS: u32 = 64;
 
-/// A retiming whose circuit is written, the levels of the circuit that was read, where they are told, and its map where one is asked for.
+/// A retiming whose circuit is written, without the marks by which it may still hold latches, the levels of the circuit that was read, where they are told, and its map where one is asked for.
 #[derive(Drop)]
 pub(crate) struct Answer {
     pub retimed: Retimed,
@@ -59,13 +60,25 @@ fn failure_of<'a>(error: BytesError, task: &Retiming<'a>) -> Failure<'a>
     }
 }
 
+/// The same of a run that holds latches by their places.
+fn failure_of_held<'a>(error: HeldError, task: &Retiming<'a>) -> Failure<'a>
+    ensures { IsHeldFailureOf task.now error result }
+{
+    match error {
+        HeldError::Answer(error) => failure_of(error, task),
+        HeldError::NoSuchLatch(number) => {
+            missing_latch(task.input.name(), task.keep_latches.as_slice(), number)
+        }
+    }
+}
+
 /// The same of a run that makes a map: one that is too large fails as a file that says so in its first line.
-fn failure_of_mapped<'a>(error: MappedError, task: &Retiming<'a>, map: Target<'a>) -> Failure<'a>
+fn failure_of_mapped<'a>(error: HeldMapError, task: &Retiming<'a>, map: Target<'a>) -> Failure<'a>
     ensures { IsMappedFailureOf task.now error result }
 {
     match error {
-        MappedError::Answer(error) => failure_of(error, task),
-        MappedError::MapTooLarge => Failure::Refused(map.name(), ReadError::TooLarge(0)),
+        HeldMapError::Held(error) => failure_of_held(error, task),
+        HeldMapError::MapTooLarge => Failure::Refused(map.name(), ReadError::TooLarge(0)),
     }
 }
 
@@ -89,20 +102,20 @@ fn plain_to<'a, R: Threads + Sync, W: CountedWrite, V: FrameWatcher>(
     rt: &R,
     alloc: Global,
     task: &Retiming<'a>,
-    options: &Options,
+    options: &HeldOptions,
     spelt: SpeltCircuit,
     writer: &mut W,
     watcher: &mut V,
 ) -> Result<Retimed, Failure<'a>>
-    ensures written { IfOk result (IsWritten options.now spelt (W.output writer.old)
+    ensures written { IfOk result (IsHeldWritten options.now spelt (W.output writer.old)
         (W.output writer.new)) }
     ensures prints { IfErr result (λ failure. Prints (outcome_of failure) (W.output writer.old)
         (W.output writer.new)) }
 {
     let crew = crew(task);
-    match retime_spelt(rt, alloc, spelt, writer, options, &crew, watcher) {
+    match retime_held(rt, alloc, spelt, writer, options, &crew, watcher) {
         Ok(retimed) => Ok(retimed),
-        Err(error) => Err(failure_of(error, task)),
+        Err(error) => Err(failure_of_held(error, task)),
     }
 }
 
@@ -111,18 +124,18 @@ fn mapped_to<R: Threads + Sync, W: CountedWrite, V: FrameWatcher>(
     rt: &R,
     alloc: Global,
     task: &Retiming<'_>,
-    options: &Options,
+    options: &HeldOptions,
     spelt: SpeltCircuit,
     writer: &mut W,
     watcher: &mut V,
-) -> Result<Mapped, MappedError>
-    ensures ok { IfOk result (IsMappedOf options.now spelt (W.output writer.old)
+) -> Result<Mapped, HeldMapError>
+    ensures ok { IfOk result (IsHeldMapped options.now spelt (W.output writer.old)
         (W.output writer.new)) }
-    ensures err { IfErr result (IsMappingStop options.now spelt (W.output writer.old)
+    ensures err { IfErr result (IsHeldMapStop options.now spelt (W.output writer.old)
         (W.output writer.new)) }
 {
     let crew = crew(task);
-    retime_spelt_mapped(rt, alloc, spelt, writer, options, &crew, watcher)
+    retime_held_mapped(rt, alloc, spelt, writer, options, &crew, watcher)
 }
 
 /// A retiming with its map, as an answer.
@@ -164,7 +177,7 @@ pub(crate) fn retime_to<'a, R: Threads + Sync, W: CountedWrite, V: FrameWatcher>
     rt: &R,
     alloc: Global,
     task: &Retiming<'a>,
-    options: &Options,
+    options: &HeldOptions,
     spelt: SpeltCircuit,
     writer: &mut W,
     watcher: &mut V,

@@ -1,4 +1,4 @@
-//! What each command does that works on one circuit and simulates nothing for its user: retimes, draws, carries a witness back,
+//! What each command does that works on one circuit and simulates nothing for its user: retimes, draws,
 //! converts, prints statistics, and checks certificates. It reads files or standard input, and returns how the run ends.
 #![tactic(auto)]
 
@@ -6,15 +6,15 @@ mod answer;
 mod conversion;
 mod drawable;
 mod drawing;
+mod holding;
+mod replaying;
 mod retiming;
 mod scene;
 mod statistics;
 mod verification;
-mod witness;
 
 pub use conversion::convert;
 pub use drawing::write_picture;
 pub use retiming::print_retimed;
 pub use statistics::print_statistics;
 pub use verification::print_verification;
-pub use witness::print_witness_back;

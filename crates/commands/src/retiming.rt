@@ -1,5 +1,6 @@
 //! The command `retime`.
 ghost use Rattle.std.specs.Prelude.{◌≡◌, ◌⊎◌, true, false, IfErr, IfOk, OnOk};
+ghost use Rattle.aig_graph.specs.Keep.{names_of};
 ghost use Rattle.counted_io.specs.Output.{Writes, WritesAll};
 ghost use Rattle.certificate_files.specs.Texts.{file_text};
 ghost use Rattle.stream_paths.specs.Streams.{is_stdin, is_stdout};
@@ -8,11 +9,12 @@ ghost use Rattle.circuit_files.specs.Outcomes.{outcome_of};
 ghost use Rattle.circuit_files.specs.declared.outcome.Outcome.TheVariants.{Done};
 ghost use Rattle.commands.specs.Pipes.{Answers, AnswersInput, AnswersPipe, IsAnswerTo, IsPipe, IsToldOf, PrintsRetiming, WritesPipe};
 ghost use Rattle.command_endings.specs.Printing.{EndsAside, Prints, ending};
-ghost use Rattle.commands.specs.RetimingTasks.{AreOptionsOf, EndsPrintingFrames, HasFailed, PrintsAlike, SaysFrames, remaining_of};
+ghost use Rattle.commands.specs.RetimingTasks.{AreOptionsOf, EndsPrintingFrames, HasFailed, PrintsAlike, SaysFrames, names_for, remaining_of};
 
 use crate::answer::{Answer, map_counts, map_written, retime_to, retimed_of};
+use crate::holding::names_held;
 use aig_binary::SpeltCircuit;
-use aig_graph::{NoMemory, Sequence};
+use aig_graph::{Circuit, NoMemory, Sequence};
 use certificate_files::{CertFile, Choice, write_cert};
 use certificates::Certificate;
 use circuit_counts::Remaining;
@@ -21,6 +23,7 @@ use command_endings::{bytes_of_names, ended};
 use command_line::{Retiming, Shown};
 use counted_io::{Counted, CountedRead, CountedWrite, WriteError};
 use frames::{FrameWatcher, Options, Retimed};
+use held_answers::HeldOptions;
 use json_reports::{MapCounts, Times};
 use progress::Progress;
 use reports::{print_remaining, print_retiming};
@@ -31,16 +34,21 @@ use std::thread::Threads;
 use std::time::Clock;
 use stream_paths::Target;
 
-fn options(alloc: Global, task: &Retiming<'_>) -> Result<Options, AllocError>
+fn options(alloc: Global, task: &Retiming<'_>) -> Result<HeldOptions, AllocError>
     ensures { IfOk result (AreOptionsOf task.now) }
 {
-    Ok(Options {
-        spelling: task.spelling,
-        max_frames: task.frames,
-        choice: task.choice,
-        certify: task.certificates.is_some(),
-        keep: bytes_of_names(alloc, task.keep.as_slice())?,
-        merge: task.merge,
+    let places = Vec::from_slice(alloc, task.keep_latches.as_slice())?;
+    let keep = bytes_of_names(alloc, task.keep.as_slice())?;
+    Ok(HeldOptions {
+        options: Options {
+            spelling: task.spelling,
+            max_frames: task.frames,
+            choice: task.choice,
+            certify: task.certificates.is_some(),
+            keep,
+            merge: task.merge,
+        },
+        places,
     })
 }
 
@@ -49,7 +57,7 @@ fn retime_by<'a, R: Files + Threads + Sync, O: CountedWrite, V: FrameWatcher>(
     rt: &R,
     alloc: Global,
     task: &Retiming<'a>,
-    options: &Options,
+    options: &HeldOptions,
     spelt: SpeltCircuit,
     out: &mut O,
     watcher: &mut V,
@@ -76,7 +84,7 @@ fn retime_read<'a, R: Files + Threads + Sync, I: CountedRead, O: CountedWrite, V
     rt: &R,
     alloc: Global,
     task: &Retiming<'a>,
-    options: &Options,
+    options: &HeldOptions,
     stdin: &mut I,
     out: &mut O,
     watcher: &mut V,
@@ -251,11 +259,23 @@ fn certified<
     })
 }
 
+/// The names by which the task holds latches in this circuit.
+fn names_for(
+    alloc: Global,
+    circuit: &Circuit,
+    task: &Retiming<'_>,
+) -> Result<Vec<Vec<u8>>, NoMemory>
+    ensures { IfOk result (λ names. names_of names.items ≡ names_for task.now circuit.now) }
+{
+    let places = task.keep_latches.as_slice();
+    names_held(alloc, circuit, task.keep.as_slice(), places)
+}
+
 /// What the task's retiming leaves.
 fn remaining(alloc: Global, task: &Retiming<'_>, retimed: &Retimed) -> Result<Remaining, NoMemory>
     ensures { IfOk result (λ left. left ≡ remaining_of task.now retimed.now) }
 {
-    let names = bytes_of_names(alloc, task.keep.as_slice())?;
+    let names = names_for(alloc, &retimed.circuit, task)?;
     let is_least = retimed.frames.len() < task.frames as usize;
     Remaining::of(alloc, &retimed.circuit, names.as_slice(), is_least)
 }

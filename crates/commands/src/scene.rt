@@ -1,19 +1,21 @@
 //! What `dot` draws. It is made by steps, each of which consumes what the one before it made: the circuit that is read, the circuit
 //! that is shown, the scene.
 ghost use Rattle.std.specs.Prelude.{◌≡◌, true, IfOk};
-ghost use Rattle.aig_graph.specs.Keep.{held_in};
-ghost use Rattle.commands.specs.Drawings.{AreOptionsFor, IsCircuitFor, IsCleanedFor, IsScene, IsSceneOf, IsSetFor, names_for};
+ghost use Rattle.aig_graph.specs.Keep.{held_in, names_of};
+ghost use Rattle.latch_marks.specs.Marks.{circuit_freed};
+ghost use Rattle.commands.specs.Drawings.{AreOptionsFor, IsCircuitFor, IsCleanedFor, IsScene, IsSceneOf, IsSceneWith, IsSetFor, held_for, names_for};
 
 use crate::drawable::check_drawable;
+use crate::holding::{freed_circuit, held_circuit, names_held};
 use aig_graph::{Circuit, ClosedSet, Keep, NoMemory, count, keep_of};
 use circuit_files::{Failure, circuit_at};
-use command_endings::{bytes_of_names, failure_of_names, missing_name};
+use command_endings::{failure_of_names, missing_name};
 use command_line::Drawing;
 use counted_io::CountedRead;
 use cut_cert::greatest_least;
 use frames::{Options, RetimeError, Retimed, retime};
 use pulse::{Crew, OpenGate};
-use std::alloc::{AllocError, Global};
+use std::alloc::Global;
 use std::rt::Files;
 use std::thread::Threads;
 
@@ -27,13 +29,21 @@ pub(crate) struct Scene {
     pub(crate) set: Option<ClosedSet>,
 }
 
+/// The names by which the task holds latches in this circuit.
+fn names_for(alloc: Global, circuit: &Circuit, task: &Drawing<'_>) -> Result<Vec<Vec<u8>>, NoMemory>
+    ensures { IfOk result (λ names. names_of names.items ≡ names_for task.now circuit.now) }
+{
+    let places = task.keep_latches.as_slice();
+    names_held(alloc, circuit, task.keep.as_slice(), places)
+}
+
 /// The options of a retiming that takes no frame.
-fn options(alloc: Global, task: &Drawing<'_>) -> Result<Options, AllocError>
-    ensures { IfOk result (AreOptionsFor task.now) }
+fn options(alloc: Global, circuit: &Circuit, task: &Drawing<'_>) -> Result<Options, NoMemory>
+    ensures { IfOk result (AreOptionsFor task.now circuit.now) }
 {
     Ok(Options {
         max_frames: 0,
-        keep: bytes_of_names(alloc, task.keep.as_slice())?,
+        keep: names_for(alloc, circuit, task)?,
         merge: task.merge,
         ..Options::defaults(alloc)
     })
@@ -61,7 +71,7 @@ fn cleaned<'a, R: Threads + Sync>(
 ) -> Result<Circuit, Failure<'a>>
     ensures { IfOk result (IsCleanedFor task.now circuit.now) }
 {
-    let Ok(options) = options(alloc, task) else {
+    let Ok(options) = options(alloc, circuit, task) else {
         return Err(Failure::Memory);
     };
     let crew = Crew::new(1, OpenGate);
@@ -91,11 +101,11 @@ fn circuit_for<'a, R: Threads + Sync>(
     shown
 }
 
-/// The latches that the task holds by their names.
+/// The latches that the task holds.
 fn keep_for<'a>(alloc: Global, circuit: &Circuit, task: &Drawing<'a>) -> Result<Keep, Failure<'a>>
-    ensures { IfOk result (λ keep. keep ≡ held_in (names_for task.now) circuit.now) }
+    ensures { IfOk result (λ keep. keep ≡ held_in (names_for task.now circuit.now) circuit.now) }
 {
-    let Ok(names) = bytes_of_names(alloc, task.keep.as_slice()) else {
+    let Ok(names) = names_for(alloc, circuit, task) else {
         return Err(Failure::Memory);
     };
     match keep_of(alloc, circuit, names.as_slice()) {
@@ -142,7 +152,36 @@ fn set_for<'a, R: Threads + Sync>(
     }
 }
 
-/// The scene of a circuit that can be drawn as it is.
+/// The scene of a circuit that can be drawn as it is, in which these latches are held.
+fn scene_with<'a, R: Threads + Sync>(
+    rt: &R,
+    alloc: Global,
+    circuit: Circuit,
+    keep: Keep,
+    task: &Drawing<'a>,
+) -> Result<Scene, Failure<'a>>
+    ensures { IfOk result (IsSceneWith task.now circuit keep) }
+{
+    check_drawable(&circuit, task)?;
+    let set = set_for(rt, alloc, &circuit, &keep, task.frame)?;
+    Ok(Scene { circuit, keep, set })
+}
+
+/// The circuit that is shown, whose latches are let go.
+fn shown_circuit<'a>(
+    alloc: Global,
+    circuit: Circuit,
+    task: &Drawing<'a>,
+) -> Result<Circuit, Failure<'a>>
+    ensures { IfOk result (λ shown. shown ≡ circuit_freed task.now.keep_latches.items circuit) }
+{
+    match freed_circuit(alloc, circuit, task.keep_latches.as_slice()) {
+        Ok(shown) => Ok(shown),
+        Err(_) => Err(Failure::Memory),
+    }
+}
+
+/// The scene of a circuit in which the latches are held.
 fn scene_of<'a, R: Threads + Sync>(
     rt: &R,
     alloc: Global,
@@ -152,9 +191,16 @@ fn scene_of<'a, R: Threads + Sync>(
     ensures { IfOk result (IsScene task.now circuit) }
 {
     let keep = keep_for(alloc, &circuit, task)?;
-    check_drawable(&circuit, task)?;
-    let set = set_for(rt, alloc, &circuit, &keep, task.frame)?;
-    Ok(Scene { circuit, keep, set })
+    let shown = shown_circuit(alloc, circuit, task)?;
+    scene_with(rt, alloc, shown, keep, task)
+}
+
+/// The circuit that is read while the task holds its latches.
+fn held_for<'a>(alloc: Global, circuit: Circuit, task: &Drawing<'a>) -> Result<Circuit, Failure<'a>>
+    ensures { IfOk result (λ held. held ≡ held_for task.now circuit) }
+{
+    let places = task.keep_latches.as_slice();
+    held_circuit(alloc, circuit, task.input, task.keep.as_slice(), places)
 }
 
 /// The scene that the task asks for of the circuit that it reads.
@@ -167,6 +213,7 @@ pub(crate) fn scene_for<'a, R: Files + Threads + Sync, I: CountedRead>(
     ensures { IfOk result (IsSceneOf task.now (I.input stdin.old) (I.input stdin.new)) }
 {
     let spelt = circuit_at(rt, alloc, task.input, stdin)?;
-    let shown = circuit_for(rt, alloc, spelt.circuit, task)?;
+    let circuit = held_for(alloc, spelt.circuit, task)?;
+    let shown = circuit_for(rt, alloc, circuit, task)?;
     scene_of(rt, alloc, shown, task)
 }

@@ -1,77 +1,165 @@
 //! The command `verify`.
-ghost use Rattle.std.specs.Prelude.{◌≡◌, IfOk};
+ghost use Rattle.std.specs.Prelude.{◌≡◌, ◌<◌, IfErr, IfOk, length};
 ghost use Rattle.aig_graph.specs.Keep.{names_of};
+ghost use Rattle.latch_marks.specs.Marks.{marks_of};
 ghost use Rattle.reports.specs.Audits.{audit_text};
-ghost use Rattle.command_endings.specs.Printing.{EndsPrinting, Prints, ending};
-ghost use Rattle.commands.specs.Verifying.{EndsWithAudit, IsAuditFor, PrintsAudit, PrintsAuditFor, PrintsAuditOf, held_names, outcome_of_end};
-ghost use Rattle.std.specs.Prelude.{IfErr};
 ghost use Rattle.stream_paths.specs.Streams.{source_name};
 ghost use Rattle.circuit_files.specs.Outcomes.{IsAbout};
+ghost use Rattle.command_endings.specs.Printing.{EndsPrinting, Prints, ending};
 ghost use Rattle.command_endings.specs.Sources.{AreCertificatesAt, IsCircuitAt};
+ghost use Rattle.commands.specs.Replaying.{IsReplayFor, bytes_in};
+ghost use Rattle.commands.specs.Verifying.{EndsWithAudit, EndsWithObject, IsJudgedBy, IsMarkedFor, IsReplayHeld, IsReplayOf, PrintsAudit, PrintsAuditBeside, PrintsAuditFor, PrintsAuditOf, held_names, outcome_of_end, outcome_of_judgement};
 
-use aig_graph::{Circuit, KeepError};
-use certificate_audits::{Audit, End, audit_blocks, audit_merged};
+use crate::holding::marked_circuit;
+use crate::replaying::{Judgement, freed, judged, replay_of, retimed_at};
+use aig_graph::Circuit;
+use certificate_audits::{End, Replay};
 use certificates::Certificate;
 use circuit_files::{Failure, Outcome, certificates_at, circuit_at};
 use command_endings::{bytes_of_names, ended, failure_of_names};
 use command_line::Verification;
 use counted_io::{Buffered, CountedRead, CountedWrite};
-use reports::print_audit;
+use latch_marks::marks_of;
+use reports::{Agreement, print_audit};
 use std::alloc::Global;
 use std::rt::Files;
 
-/// The audit of certificates of a run that held the latches with these names, and merged others first where that is said.
-fn audit_of(
-    alloc: Global,
-    circuit: &Circuit,
-    blocks: &[Certificate],
-    names: &[Vec<u8>],
-    merge: bool,
-) -> Result<Audit, KeepError>
-    ensures { IfOk result (IsAuditFor merge (names_of names.now) circuit.now blocks.now) }
-{
-    if merge {
-        audit_merged(alloc, circuit, blocks, names)
-    } else {
-        audit_blocks(alloc, circuit, blocks, names)
-    }
-}
-
-/// The audit of certificates, where the latches with these names are held.
-fn audited_by<'a>(
+/// What the certificates end in, where the latches with these names are held.
+fn replayed_by<'a>(
     alloc: Global,
     circuit: &Circuit,
     blocks: &[Certificate],
     names: &[Vec<u8>],
     task: &Verification<'a>,
-) -> Result<Audit, Failure<'a>>
-    ensures { IfOk result (IsAuditFor task.now.merge (names_of names.now) circuit.now
+) -> Result<Replay, Failure<'a>>
+    ensures { IfOk result (IsReplayFor task.now.merge (names_of names.now) circuit.now
         blocks.now) }
 {
-    match audit_of(alloc, circuit, blocks, names, task.merge) {
-        Ok(audit) => Ok(audit),
+    match replay_of(alloc, circuit, blocks, names, task.merge) {
+        Ok(replay) => Ok(replay),
         Err(error) => Err(failure_of_names(error, task.input, task.keep.as_slice())),
     }
 }
 
-/// The audit of certificates.
-fn audited<'a>(
+/// What the certificates end in, where latches are held by their names alone.
+fn replayed_named<'a>(
     alloc: Global,
     circuit: &Circuit,
     blocks: &[Certificate],
     task: &Verification<'a>,
-) -> Result<Audit, Failure<'a>>
-    ensures { IfOk result (IsAuditFor task.now.merge (held_names task.now) circuit.now
+) -> Result<Replay, Failure<'a>>
+    ensures { IfOk result (IsReplayFor task.now.merge (held_names task.now) circuit.now
         blocks.now) }
 {
     match bytes_of_names(alloc, task.keep.as_slice()) {
-        Ok(names) => audited_by(alloc, circuit, blocks, names.as_slice(), task),
+        Ok(names) => replayed_by(alloc, circuit, blocks, names.as_slice(), task),
         Err(_) => Err(Failure::Memory),
     }
 }
 
+/// What the certificates end in, where the marks of the circuit hold.
+fn replayed_marked<'a>(
+    alloc: Global,
+    circuit: &Circuit,
+    blocks: &[Certificate],
+    task: &Verification<'a>,
+) -> Result<Replay, Failure<'a>>
+    ensures { IfOk result (IsReplayFor task.now.merge (marks_of circuit.now) circuit.now
+        blocks.now) }
+{
+    match marks_of(alloc, circuit) {
+        Ok(marks) => replayed_by(alloc, circuit, blocks, marks.as_slice(), task),
+        Err(_) => Err(Failure::Memory),
+    }
+}
+
+/// A copy of the circuit in which the latches that the task holds have marks.
+fn marked_for<'a>(
+    alloc: Global,
+    circuit: &Circuit,
+    task: &Verification<'a>,
+) -> Result<Circuit, Failure<'a>>
+    ensures { IfOk result (IsMarkedFor task.now circuit.now) }
+{
+    let places = task.keep_latches.as_slice();
+    marked_circuit(alloc, circuit, task.input, task.keep.as_slice(), places)
+}
+
+/// What the certificates end in, where latches are held by their places: of a copy of the circuit in which they have marks.
+fn replayed_at_places<'a>(
+    alloc: Global,
+    circuit: &Circuit,
+    blocks: &[Certificate],
+    task: &Verification<'a>,
+) -> Result<Replay, Failure<'a>>
+    requires { 0 < length task.now.keep_latches.items }
+    ensures { IfOk result (IsReplayHeld task.now circuit.now blocks.now) }
+{
+    match marked_for(alloc, circuit, task) {
+        Ok(marked) => {
+            let replay = replayed_marked(alloc, &marked, blocks, task);
+            drop(marked);
+            replay
+        }
+        Err(failure) => Err(failure),
+    }
+}
+
+/// What the certificates end in while the latches are held.
+fn replayed_held<'a>(
+    alloc: Global,
+    circuit: &Circuit,
+    blocks: &[Certificate],
+    task: &Verification<'a>,
+) -> Result<Replay, Failure<'a>>
+    ensures { IfOk result (IsReplayHeld task.now circuit.now blocks.now) }
+{
+    if task.keep_latches.as_slice().is_empty() {
+        replayed_named(alloc, circuit, blocks, task)
+    } else {
+        replayed_at_places(alloc, circuit, blocks, task)
+    }
+}
+
+/// What the certificates end in, once the latches are let go.
+fn replayed<'a>(
+    alloc: Global,
+    circuit: &Circuit,
+    blocks: &[Certificate],
+    task: &Verification<'a>,
+) -> Result<Replay, Failure<'a>>
+    ensures { IfOk result (IsReplayOf task.now circuit.now blocks.now) }
+{
+    match replayed_held(alloc, circuit, blocks, task) {
+        Ok(replay) => match freed(alloc, replay, task.keep_latches.as_slice()) {
+            Ok(freed) => Ok(freed),
+            Err(_) => Err(Failure::Memory),
+        },
+        Err(failure) => Err(failure),
+    }
+}
+
+/// What the certificates show, and whether these bytes are the circuit that they end in.
+fn judged_by<'a>(
+    alloc: Global,
+    circuit: &Circuit,
+    blocks: &[Certificate],
+    bytes: &Option<Vec<u8>>,
+    task: &Verification<'a>,
+) -> Result<Judgement, Failure<'a>>
+    ensures { IfOk result (IsJudgedBy task.now circuit.now blocks.now (bytes_in bytes.now)) }
+{
+    match replayed(alloc, circuit, blocks, task) {
+        Ok(replay) => match judged(alloc, replay, bytes) {
+            Ok(judgement) => Ok(judgement),
+            Err(_) => Err(Failure::Memory),
+        },
+        Err(failure) => Err(failure),
+    }
+}
+
 /// How a run ends by the end of an audit.
-fn outcome_of(end: End) -> Outcome
+fn outcome_at(end: End) -> Outcome
     ensures { result ≡ outcome_of_end end }
 {
     match end {
@@ -80,50 +168,102 @@ fn outcome_of(end: End) -> Outcome
     }
 }
 
-fn print_outcome<'a, O: CountedWrite>(
-    blocks: &[Certificate],
-    audit: Audit,
-    out: &mut O,
-) -> Result<Outcome, Failure<'a>>
-    ensures { EndsPrinting (outcome_of_end audit.end) (audit_text blocks.now audit)
-        (O.output out.old) (O.output out.new) result }
+/// How a run ends by what the certificates show, and by whether a file has the circuit that they end in.
+fn outcome_of(judgement: &Judgement) -> Outcome
+    ensures { result ≡ outcome_of_judgement judgement.now }
 {
-    ended(print_audit(blocks, audit, out), outcome_of(audit.end))
+    match judgement.agreement {
+        Some(Agreement::DiffersAt(_)) => Outcome::Unconfirmed,
+        Some(Agreement::Same) | None => outcome_at(judgement.audit.end),
+    }
 }
 
-/// Prints an audit as an object of JSON or in lines.
+fn print_outcome<'a, O: CountedWrite>(
+    blocks: &[Certificate],
+    judgement: &Judgement,
+    out: &mut O,
+) -> Result<Outcome, Failure<'a>>
+    ensures { EndsPrinting (outcome_of_judgement judgement.now)
+        (audit_text blocks.now judgement.now.audit judgement.now.agreement)
+        (O.output out.old) (O.output out.new) result }
+{
+    let printed = print_audit(blocks, judgement.audit, judgement.agreement, out);
+    ended(printed, outcome_of(judgement))
+}
+
+/// Prints what certificates show as an object of JSON.
+fn print_object<'a, O: CountedWrite>(
+    alloc: Global,
+    blocks: &[Certificate],
+    judgement: &Judgement,
+    out: &mut O,
+) -> Result<Outcome, Failure<'a>>
+    ensures { EndsWithObject blocks.now judgement.now (outcome_of_judgement judgement.now)
+        (O.output out.old) (O.output out.new) result }
+{
+    let outcome = outcome_of(judgement);
+    let audit = judgement.audit;
+    command_objects::print_audit(alloc, blocks, audit, judgement.agreement, outcome, out)
+}
+
+/// Prints what certificates show as an object of JSON or in lines.
 fn print_as<'a, O: CountedWrite>(
     alloc: Global,
     blocks: &[Certificate],
-    audit: Audit,
+    judgement: &Judgement,
     json: bool,
     out: &mut O,
 ) -> Result<Outcome, Failure<'a>>
-    ensures audit { IfOk result (EndsWithAudit json blocks.now audit (O.output out.old)
+    ensures audit { IfOk result (EndsWithAudit json blocks.now judgement.now (O.output out.old)
         (O.output out.new)) }
     ensures prints { Prints (ending result) (O.output out.old) (O.output out.new) }
 {
     if json {
-        command_objects::print_audit(alloc, blocks, audit, outcome_of(audit.end), out)
+        print_object(alloc, blocks, judgement, out)
     } else {
-        print_outcome(blocks, audit, out)
+        print_outcome(blocks, judgement, out)
     }
 }
 
-/// Prints the audit of certificates.
+/// Prints what the certificates show, and whether these bytes are the circuit that they end in.
 fn print_blocks<'a, O: CountedWrite>(
     alloc: Global,
     circuit: &Circuit,
     blocks: &[Certificate],
+    bytes: &Option<Vec<u8>>,
     task: &Verification<'a>,
     out: &mut O,
 ) -> Result<Outcome, Failure<'a>>
-    ensures audit { IfOk result (λ ended. PrintsAudit
-        task.now circuit.now blocks.now ended (O.output out.old) (O.output out.new)) }
+    ensures audit { IfOk result (λ ended. PrintsAudit task.now circuit.now blocks.now
+        (bytes_in bytes.now) ended (O.output out.old) (O.output out.new)) }
     ensures prints { Prints (ending result) (O.output out.old) (O.output out.new) }
 {
-    let audit = audited(alloc, circuit, blocks, task)?;
-    print_as(alloc, blocks, audit, task.json, out)
+    let judgement = judged_by(alloc, circuit, blocks, bytes, task)?;
+    print_as(alloc, blocks, &judgement, task.json, out)
+}
+
+/// Prints what the certificates show, and whether the file that is compared is the circuit that they end in, where one is.
+fn print_beside<'a, R: Files, I: CountedRead, O: CountedWrite>(
+    rt: &R,
+    alloc: Global,
+    circuit: &Circuit,
+    blocks: &[Certificate],
+    task: &Verification<'a>,
+    stdin: &mut I,
+    out: &mut O,
+) -> Result<Outcome, Failure<'a>>
+    ensures audit { IfOk result (PrintsAuditBeside task.now circuit.now blocks.now
+        (I.input stdin.old) (I.input stdin.new) (O.output out.old) (O.output out.new)) }
+    ensures prints { Prints (ending result) (O.output out.old) (O.output out.new) }
+{
+    match retimed_at(rt, alloc, task, stdin) {
+        Ok(bytes) => {
+            let printed = print_blocks(alloc, circuit, blocks, &bytes, task, out);
+            drop(bytes);
+            printed
+        }
+        Err(failure) => Err(failure),
+    }
 }
 
 /// The circuit that the certificates are checked for.
@@ -154,15 +294,18 @@ fn certificates_of<'a, R: Files, I: CountedRead>(
     certificates_at(rt, alloc, task.certificates, stdin)
 }
 
-/// Says that a file has no certificate. A failed write changes nothing.
-fn tell_of_none<E: CountedWrite>(path: &str, err: &mut E) {
+/// Says that a file has no certificate, and so what was checked. A failed write changes nothing.
+fn tell_of_none<E: CountedWrite>(task: &Verification<'_>, err: &mut E) {
     let mut out = Buffered::new(err);
-    out.put(path.as_bytes());
-    out.put(b": no certificate: nothing was checked\n");
+    out.put(task.certificates.name().as_bytes());
+    match task.retimed {
+        Some(_) => out.put(b": no certificate: no frame was checked\n"),
+        None => out.put(b": no certificate: nothing was checked\n"),
+    }
     let _ = out.flush();
 }
 
-/// Prints the audit of the certificates that are read. Where there is none, standard error is told so once that is done.
+/// Prints what the certificates that are read show. Where there is none, standard error is told so once that is done.
 fn print_file<'a, R: Files, I: CountedRead, O: CountedWrite, E: CountedWrite>(
     rt: &R,
     alloc: Global,
@@ -178,9 +321,10 @@ fn print_file<'a, R: Files, I: CountedRead, O: CountedWrite, E: CountedWrite>(
 {
     match certificates_of(rt, alloc, task, stdin) {
         Ok(file) => {
-            let printed = print_blocks(alloc, circuit, file.blocks.as_slice(), task, out);
+            let blocks = file.blocks.as_slice();
+            let printed = print_beside(rt, alloc, circuit, blocks, task, stdin, out);
             if printed.is_ok() && file.blocks.is_empty() {
-                tell_of_none(task.certificates.name(), err);
+                tell_of_none(task, err);
             }
             drop(file);
             printed
@@ -189,9 +333,10 @@ fn print_file<'a, R: Files, I: CountedRead, O: CountedWrite, E: CountedWrite>(
     }
 }
 
-/// Reads a circuit, and then certificates, and prints whether each is confirmed, as an object of JSON or in lines. Whether a name
-/// is that of no latch shows once both were read. Where there is no certificate, standard error is told so; a failed write there
-/// changes nothing.
+/// Reads a circuit, then certificates, and then the circuit that they are to end in, where one is given. Prints whether each
+/// certificate is confirmed, and, where nothing speaks against one, whether they end in that circuit, byte for byte: as an object of
+/// JSON or in lines. Whether a name is that of no latch shows once all was read. Where there is no certificate, standard error is told
+/// so; a failed write there changes nothing.
 pub fn print_verification<'a, R: Files, I: CountedRead, O: CountedWrite, E: CountedWrite>(
     rt: &R,
     alloc: Global,

@@ -1,4 +1,4 @@
-use Rattle.commands.proofs.PipeLaws.{if_done, prints_retiming, writes_pipe}
+use Rattle.commands.proofs.PipeLaws.{if_done, prints_frames, prints_retiming, writes_pipe}
 use Rattle.commands.proofs.retiming.print_retimed.Goals as goal
 
 pub returns-clause-frames : goal.returns-clause-frames
@@ -18,3 +18,9 @@ returns-clause-pipe g c =
     let printed = c.print_frames-ended in
     writes_pipe c.args.task.now (g.I.CountedRead.input c.args.stdin.now) (out c.args.out.now) (out c.certified.new.out) (out printed.new.out)
     c.in_ok-timed.timed.retimed c.in_ok-timed.timed.levels printed.result printed.result c.in_ok-timed.ensures.told printed.ensures.aside
+
+pub returns-clause-prints : goal.returns-clause-prints
+returns-clause-prints g c =
+    let out = g.O.CountedWrite.output in
+    let printed = c.print_frames-ended in
+    prints_frames c.args.task.now (out c.args.out.now) (out c.certified.new.out) (out printed.new.out) printed.result c.in_ok-timed.ensures.file printed.ensures.aside printed.ensures.prints

@@ -21,9 +21,9 @@ use Rattle.circuit_files.specs.declared.outcome.Outcome.{Outcome}
 use Rattle.circuit_files.specs.declared.outcome.Outcome.TheVariants as ends
 use Rattle.command_endings.specs.Printing.{EndsWith}
 use Rattle.command_endings.specs.Sources.{IsCircuitAt, IsWitnessAt}
-use Rattle.commands.specs.declared.witness.Case.{Case}
-use Rattle.commands.specs.declared.witness.Fate.{Fate}
-use Rattle.commands.specs.declared.witness.Fate.TheVariants.{Confirmed, Objected, ShapesDiffer}
+use Rattle.witness_commands.specs.declared.witness.Case.{Case}
+use Rattle.witness_commands.specs.declared.witness.Fate.{Fate}
+use Rattle.witness_commands.specs.declared.witness.Fate.TheVariants.{Confirmed, Objected, ShapesDiffer}
 
 -- whether the circuits have as many properties and inputs
 abbrev pub have_same_widths : Netlist → Netlist → Bool

@@ -6,10 +6,10 @@ use Rattle.counted_io.specs.Output.{Output, WritesAll}
 use Rattle.witnesses.specs.declared.witness.Witness.{Witness}
 use Rattle.circuit_files.specs.declared.outcome.Outcome.{Outcome}
 use Rattle.circuit_files.specs.declared.outcome.Failure.{Failure}
-use Rattle.commands.specs.Fates.{AreKept, AreLeft, AreLeftFor, AreLeftMerged, IsFate, IsJudged, fate_text, have_same_widths, outcome_of_fate}
+use Rattle.witness_commands.specs.Fates.{AreKept, AreLeft, AreLeftFor, AreLeftMerged, IsFate, IsJudged, fate_text, have_same_widths, outcome_of_fate}
 use Rattle.command_endings.specs.Printing.{EndsPrinting, Prints, ending}
-use Rattle.commands.specs.declared.witness.Fate.{Fate}
-use Rattle.commands.specs.declared.witness.Fate.TheVariants.{Confirmed, Objected, ShapesDiffer}
+use Rattle.witness_commands.specs.declared.witness.Fate.{Fate}
+use Rattle.witness_commands.specs.declared.witness.Fate.TheVariants.{Confirmed, Objected, ShapesDiffer}
 use Rattle.command_endings.proofs.PrintingLaws.{lines_print}
 
 -- the free latches that are left before the first frame, as the task says

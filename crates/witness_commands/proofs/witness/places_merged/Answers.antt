@@ -1,4 +1,4 @@
-use Rattle.commands.proofs.witness.places_merged.Goals as goal
+use Rattle.witness_commands.proofs.witness.places_merged.Goals as goal
 
 pub returns-in-Ok : goal.returns-in-Ok
 returns-in-Ok g c = record {

@@ -1,0 +1,13 @@
+use Rattle.std.proofs.Common.{◌∙◌, sym}
+use Rattle.std.proofs.lemmas.Result.{IfOk-weaker}
+use Rattle.latch_marks.proofs.HeldLaws.{circuit-freed, circuit-unfreed, some-places}
+use Rattle.held_answers.proofs.AnswerLaws.{no-places}
+use Rattle.commands.proofs.holding.freed_circuit.Goals as goal
+
+pub returns-then-is_empty : goal.returns-then-is_empty
+returns-then-is_empty c = sym (circuit-unfreed c.args.places.now c.args.circuit (no-places c.args.places.now (sym c.is_empty.ensures ∙ c.if-is_empty.true)))
+
+pub returns-else-is_empty : goal.returns-else-is_empty
+returns-else-is_empty c =
+    IfOk-weaker c.unmark_latches-freed.result _ _ (λ freed is. is ∙ sym (circuit-freed c.args.places.now c.args.circuit (some-places c.args.places.now (sym c.is_empty.ensures ∙ c.if-is_empty.false))))
+    c.unmark_latches-freed.ensures

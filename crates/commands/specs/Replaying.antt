@@ -1,0 +1,66 @@
+-- The circuit that blocks of certificates end in, and a file that is compared with it.
+use Rattle.std.specs.Prelude.{ℕ, ◌≡◌, Bool, true, false, List, Option, Some, None, IsSomeAnd, unwrap_or, option_map}
+use Rattle.std.specs.Global.{Vec}
+use Rattle.aig_graph.specs.Circuits.{Netlist}
+use Rattle.aig_binary.specs.Spellings.{spelling_of, text_in}
+use Rattle.file_words.specs.declared.spelling.Spelling.TheVariants.{Ascii}
+use Rattle.counted_io.specs.Input.{Input, ReadsAll}
+use Rattle.certificates.specs.declared.certificate.Certificate.{Certificate}
+use Rattle.certificate_audits.specs.Replays.{IsMergedReplay, IsReplay}
+use Rattle.certificate_audits.specs.declared.outcome.Replay.{Replay}
+use Rattle.latch_marks.specs.Marks.{circuit_freed}
+use Rattle.reports.specs.Agreements.{IsAgreement}
+use Rattle.reports.specs.declared.agreement.Agreement.{Agreement}
+use Rattle.stream_paths.specs.Streams.{source_name}
+use Rattle.stream_paths.specs.declared.source.Source.{Source}
+use Rattle.circuit_files.specs.Outcomes.{IsAbout}
+use Rattle.circuit_files.specs.declared.outcome.Failure.{Failure}
+use Rattle.command_endings.specs.Sources.{IsReadAt}
+use Rattle.commands.specs.declared.replaying.Judgement.{Judgement}
+
+-- what the blocks end in for c, or, where latches were merged before the first frame, for what c is merged to
+abbrev pub IsReplayFor : Bool → List (List ℕ) → Netlist → List Certificate → Replay → Type 0
+IsReplayFor false names c blocks replay = IsReplay names c blocks replay
+IsReplayFor true names c blocks replay = IsMergedReplay names c blocks replay
+
+-- the same replay, whose circuit no longer has the marks of latches that are held at these places
+pub record IsFreed (places : List ℕ) (held replay : Replay) : Type 0 where
+  pub audit : replay.audit ≡ held.audit
+  pub last : replay.last ≡ option_map (circuit_freed places) held.last
+
+-- the bytes that a vector has, where there is one
+abbrev pub bytes_in : Option (Vec ℕ) → Option (List ℕ)
+bytes_in bytes = option_map (λ b. b.items) bytes
+
+-- all bytes that are left
+abbrev pub AreBytesAt : Source → Input → Input → List ℕ → Type 0
+AreBytesAt source old new bytes = IsReadAt source old new (ReadsAll old new bytes)
+
+-- the bytes of the file that is compared, where one is
+abbrev pub AreRetimedAt : Option Source → Input → Input → Option (List ℕ) → Type 0
+AreRetimedAt None old new bytes = (bytes ≡ None) × (new ≡ old)
+AreRetimedAt (Some source) old new bytes = IsSomeAnd bytes (AreBytesAt source old new)
+
+-- the failure is about that file
+abbrev pub IsAboutRetimed : Option Source → Failure → Type 0
+IsAboutRetimed None failure = ⊥
+IsAboutRetimed (Some source) failure = IsAbout (source_name source) failure
+
+-- the text of a circuit in the spelling of these bytes, in ASCII where they are of neither
+abbrev pub text_like : List ℕ → Netlist → List ℕ
+text_like bytes c = text_in (unwrap_or (spelling_of bytes) Ascii) c
+
+-- what comes of comparing bytes with the circuit that blocks end in; nothing where there is none, since something speaks against a block
+abbrev pub IsAgreementWith : Option Netlist → List ℕ → Option Agreement → Type 0
+IsAgreementWith None bytes agreement = agreement ≡ None
+IsAgreementWith (Some c) bytes agreement = IsSomeAnd agreement (IsAgreement (text_like bytes c) bytes)
+
+-- the same, and nothing where there are no bytes
+abbrev pub IsAgreementOn : Option (List ℕ) → Option Netlist → Option Agreement → Type 0
+IsAgreementOn None last agreement = agreement ≡ None
+IsAgreementOn (Some bytes) last agreement = IsAgreementWith last bytes agreement
+
+-- the replay's audit, and what comes of comparing these bytes with its circuit
+pub record IsJudgement (bytes : Option (List ℕ)) (replay : Replay) (judgement : Judgement) : Type 0 where
+  pub audit : judgement.audit ≡ replay.audit
+  pub agreement : IsAgreementOn bytes replay.last judgement.agreement

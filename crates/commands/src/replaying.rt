@@ -1,0 +1,158 @@
+//! The circuit that blocks of certificates end in, and a file that is compared with it.
+ghost use Rattle.std.specs.Prelude.{◌≡◌, IfErr, IfOk};
+ghost use Rattle.aig_graph.specs.Keep.{names_of};
+ghost use Rattle.aig_binary.specs.Spellings.{text_in};
+ghost use Rattle.reports.specs.Agreements.{IsAgreement};
+ghost use Rattle.commands.specs.Replaying.{AreRetimedAt, IsAboutRetimed, IsAgreementOn, IsAgreementWith, IsFreed, IsJudgement, IsReplayFor, bytes_in, text_like};
+
+use crate::holding::freed_circuit;
+use aig_binary::{Spelling, spelling, write};
+use aig_graph::{Circuit, KeepError, NoMemory};
+use certificate_audits::{Audit, Replay, replay_blocks, replay_merged};
+use certificates::Certificate;
+use circuit_files::{Failure, bytes_at};
+use command_line::Verification;
+use counted_io::{Counted, CountedRead};
+use reports::{Agreement, compare};
+use std::alloc::Global;
+use std::rt::Files;
+
+/// What blocks show of a circuit, and whether a file has the circuit that they end in, where one was compared.
+#[derive(Clone, Copy)]
+pub(crate) struct Judgement {
+    pub(crate) audit: Audit,
+    pub(crate) agreement: Option<Agreement>,
+}
+
+/// The audit of certificates of a run that held the latches with these names, and merged others first where that is said, and the
+/// circuit that they end in.
+pub(crate) fn replay_of(
+    alloc: Global,
+    circuit: &Circuit,
+    blocks: &[Certificate],
+    names: &[Vec<u8>],
+    merge: bool,
+) -> Result<Replay, KeepError>
+    ensures { IfOk result (IsReplayFor merge (names_of names.now) circuit.now blocks.now) }
+{
+    if merge {
+        replay_merged(alloc, circuit, blocks, names)
+    } else {
+        replay_blocks(alloc, circuit, blocks, names)
+    }
+}
+
+/// The same replay, whose circuit no longer has the marks of latches that are held at these places.
+pub(crate) fn freed(alloc: Global, replay: Replay, places: &[u32]) -> Result<Replay, NoMemory>
+    ensures { IfOk result (IsFreed places.now replay) }
+{
+    let Replay { audit, last } = replay;
+    match last {
+        None => Ok(Replay { audit, last: None }),
+        Some(circuit) => match freed_circuit(alloc, circuit, places) {
+            Ok(circuit) => Ok(Replay {
+                audit,
+                last: Some(circuit),
+            }),
+            Err(error) => Err(error),
+        },
+    }
+}
+
+/// The bytes of the file that is compared, where one is.
+pub(crate) fn retimed_at<'a, R: Files, I: CountedRead>(
+    rt: &R,
+    alloc: Global,
+    task: &Verification<'a>,
+    stdin: &mut I,
+) -> Result<Option<Vec<u8>>, Failure<'a>>
+    ensures bytes { IfOk result (λ bytes. AreRetimedAt task.now.retimed (I.input stdin.old)
+        (I.input stdin.new) (bytes_in bytes)) }
+    ensures named { IfErr result (IsAboutRetimed task.now.retimed) }
+{
+    match task.retimed {
+        None => Ok(None),
+        Some(source) => match bytes_at(rt, alloc, source, stdin) {
+            Ok(bytes) => Ok(Some(bytes)),
+            Err(failure) => Err(failure),
+        },
+    }
+}
+
+/// The text of a circuit in this spelling; there is room for so many bytes before it grows.
+fn text_of(
+    alloc: Global,
+    circuit: &Circuit,
+    spelling: Spelling,
+    room: usize,
+) -> Result<Vec<u8>, NoMemory>
+    ensures { IfOk result (λ text. text.items ≡ text_in spelling circuit.now) }
+{
+    let mut writer = Counted::new(Vec::with_capacity(alloc, room)?);
+    match write(circuit, spelling, &mut writer) {
+        Ok(()) => Ok(writer.into_inner()),
+        Err(_) => {
+            drop(writer);
+            Err(NoMemory)
+        }
+    }
+}
+
+/// What comes of comparing bytes with the text of a circuit in their own spelling.
+fn compared(alloc: Global, circuit: &Circuit, bytes: &[u8]) -> Result<Agreement, NoMemory>
+    ensures { IfOk result (IsAgreement (text_like bytes.now circuit.now) bytes.now) }
+{
+    let spelling = spelling(bytes).unwrap_or(Spelling::Ascii);
+    let text = text_of(alloc, circuit, spelling, bytes.len())?;
+    let found = compare(text.as_slice(), bytes);
+    drop(text);
+    Ok(found)
+}
+
+/// What comes of comparing bytes with the circuit that blocks end in, where there is one.
+fn compared_with(
+    alloc: Global,
+    last: &Option<Circuit>,
+    bytes: &[u8],
+) -> Result<Option<Agreement>, NoMemory>
+    ensures { IfOk result (IsAgreementWith last.now bytes.now) }
+{
+    match last {
+        None => Ok(None),
+        Some(circuit) => match compared(alloc, circuit, bytes) {
+            Ok(found) => Ok(Some(found)),
+            Err(error) => Err(error),
+        },
+    }
+}
+
+/// What comes of comparing bytes with the circuit that blocks end in, where there are both.
+fn agreement_of(
+    alloc: Global,
+    last: &Option<Circuit>,
+    bytes: &Option<Vec<u8>>,
+) -> Result<Option<Agreement>, NoMemory>
+    ensures { IfOk result (IsAgreementOn (bytes_in bytes.now) last.now) }
+{
+    match bytes {
+        None => Ok(None),
+        Some(bytes) => compared_with(alloc, last, bytes.as_slice()),
+    }
+}
+
+/// What a replay shows, whose circuit is compared with these bytes.
+pub(crate) fn judged(
+    alloc: Global,
+    replay: Replay,
+    bytes: &Option<Vec<u8>>,
+) -> Result<Judgement, NoMemory>
+    ensures { IfOk result (IsJudgement (bytes_in bytes.now) replay) }
+{
+    let audit = replay.audit;
+    let found = agreement_of(alloc, &replay.last, bytes);
+    drop(replay);
+    match found {
+        Ok(agreement) => Ok(Judgement { audit, agreement }),
+        Err(error) => Err(error),
+    }
+}
