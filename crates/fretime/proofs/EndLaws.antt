@@ -61,6 +61,7 @@ refused json (fails.RefusedList path fault) old new p = inl p
 refused json (fails.RefusedCertificates path fault) old new p = inl p
 refused json (fails.RefusedWitness path fault) old new p = inl p
 refused json (fails.NoSuchName path name) old new p = inl p
+refused json (fails.NoSuchLatch path place) old new p = inl p
 refused json (fails.TooManyNodes path) old new p = inl p
 refused json (fails.TooManySteps path) old new p = inl p
 refused json (fails.NotAMap path) old new p = inl p

@@ -3,3 +3,4 @@ pub mod Batches
 pub mod Answers
 pub mod Runs
 pub mod Explaining
+pub mod Names

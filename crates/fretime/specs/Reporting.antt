@@ -1,14 +1,17 @@
 -- What is printed where a command failed.
 use Rattle.std.specs.Prelude.{ℕ, ◌≡◌, ◌⊎◌, Bool, true, false, List, Option, Some, None, Result, Ok, Err, codes, if◌then◌else◌}
 use Rattle.std.specs.Borrow.{Bor}
+use Rattle.std.specs.Str.{bytes_eq}
 use Rattle.counted_io.specs.Output.{Output}
 use Rattle.command_line.specs.StreamUses.{takes_stdout}
+use Rattle.command_line.specs.declared.task.Drawing.{Drawing}
 use Rattle.command_line.specs.declared.task.Task.{Task}
 use Rattle.command_line.specs.declared.task.Task.TheVariants.{Retime, Batch, Stat, Convert, Sim, Same, Verify, Check, Miter, Lift, Dot, Witness, Explain}
 use Rattle.circuit_files.specs.Codes.{status_of}
 use Rattle.circuit_files.specs.Outcomes.{outcome_of}
 use Rattle.circuit_files.specs.declared.outcome.Outcome.{Outcome}
 use Rattle.circuit_files.specs.declared.outcome.Failure.{Failure}
+use Rattle.circuit_files.specs.declared.outcome.Failure.TheVariants as fails
 use Rattle.command_objects.specs.Objects.{PrintsRefusal, SaysRefusal, refusal_of}
 
 -- what a failure gives standard output, where an object is asked for and where it isn't
@@ -80,3 +83,22 @@ PrintsEnd json (Err failure) old new = PrintsFailure json (outcome_of failure) o
 -- by what the task asks for
 abbrev pub MayRefuse : Result Outcome Failure → Output → Output → Type 0
 MayRefuse ended old new = PrintsEnd false ended old new ⊎ PrintsEnd true ended old new
+
+-- whether this is the name whose neighbourhood is drawn
+abbrev pub is_middle : Option (Bor (List ℕ)) → List ℕ → Bool
+is_middle None name = false
+is_middle (Some around) name = bytes_eq around.now name
+
+-- whether a picture is of the neighbourhood of this name
+abbrev pub is_around : Drawing → List ℕ → Bool
+is_around drawing name = is_middle drawing.around name
+
+-- whether a failure is that nothing has that name
+abbrev pub lacks_middle : Drawing → Failure → Bool
+lacks_middle drawing (fails.NoSuchName path name) = is_around drawing name.now
+lacks_middle drawing failure = false
+
+-- whether the name that a failure is about may be that of anything, and not of a latch alone
+abbrev pub is_of_all : Task → Failure → Bool
+is_of_all (Dot drawing) failure = lacks_middle drawing failure
+is_of_all task failure = false

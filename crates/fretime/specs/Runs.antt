@@ -15,10 +15,10 @@ use Rattle.circuit_files.specs.declared.outcome.Failure.{Failure}
 use Rattle.command_objects.specs.Objects.{PrintsRefusal}
 use Rattle.simulation_commands.specs.Comparing.{PrintsFinding}
 use Rattle.map_commands.specs.Checking.{PrintsCheck}
-use Rattle.map_commands.specs.Asking.{PrintsMiter}
+use Rattle.map_commands.specs.Products.{PrintsAsked}
 use Rattle.map_commands.specs.Lifted.{PrintsLift}
 use Rattle.commands.specs.Drawings.{PrintsPicture}
-use Rattle.commands.specs.Fates.{PrintsFate}
+use Rattle.witness_commands.specs.Fates.{PrintsFate}
 use Rattle.commands.specs.Pipes.{ConvertsPipe, IsPipe, WritesPipe}
 use Rattle.command_endings.specs.Printing.{Prints}
 use Rattle.simulation_commands.specs.Simulating.{PrintsTrace}
@@ -45,7 +45,7 @@ Does (Sim simulation) before after old new ended = PrintsTrace simulation before
 Does (Same comparison) before after old new ended = PrintsFinding comparison before after old new ended
 Does (Verify verification) before after old new ended = PrintsAuditOf verification before after old new ended
 Does (Check checking) before after old new ended = PrintsCheck checking before after old new ended
-Does (Miter asking) before after old new ended = PrintsMiter asking before after old new ended
+Does (Miter asking) before after old new ended = PrintsAsked asking.certificate asking before after old new ended
 Does (Lift lifting) before after old new ended = PrintsLift lifting before after old new ended
 Does (Dot drawing) before after old new ended = PrintsPicture drawing before after old new ended
 Does (Witness carrying) before after old new ended = PrintsFate carrying before after old new ended

@@ -66,13 +66,12 @@ fn read_jobs<'a, R: Files>(
 fn options_of(alloc: Global, task: &Batch<'_>) -> Options
     ensures { AreBatchOptions task.now result }
 {
-    Options {
-        spelling: task.spelling,
-        max_frames: task.frames,
-        choice: task.choice,
-        merge: task.merge,
-        ..Options::defaults(alloc)
-    }
+    let mut options = Options::defaults(alloc);
+    options.spelling = task.spelling;
+    options.max_frames = task.frames;
+    options.choice = task.choice;
+    options.merge = task.merge;
+    options
 }
 
 /// As many workers as are asked for.
@@ -94,7 +93,9 @@ fn run_jobs<'a, R: Threads + Sync>(
 {
     let options = options_of(alloc, task);
     let crew = crew(task);
-    match run_batch(rt, alloc, jobs, &options, &crew) {
+    let ran = run_batch(rt, alloc, jobs, &options, &crew);
+    drop(options);
+    match ran {
         Ok(outcomes) => Ok(outcomes),
         Err(_) => Err(Failure::Memory),
     }
@@ -110,7 +111,11 @@ fn outcomes<'a, R: Files + Threads + Sync>(
     ensures { IfOk result (λ outcomes. length outcomes.items ≡ length entries.now) }
 {
     match read_jobs(rt, alloc, entries) {
-        Ok(jobs) => run_jobs(rt, alloc, jobs.as_slice(), task),
+        Ok(jobs) => {
+            let ran = run_jobs(rt, alloc, jobs.as_slice(), task);
+            drop(jobs);
+            ran
+        }
         Err(failure) => Err(failure),
     }
 }
@@ -152,6 +157,8 @@ fn finish_job<'a, R: Files, O: CountedWrite>(
         × WritesAll (O.output out.old) (O.output out.new) (job_line number report)) }
     ensures written { OnOk result (IsWritten R.File.contents answer.now.outcome.now) }
     ensures named { IfErr result (λ failure. FailsAt answer.now.output.now failure
+        ⊎ FailsAt (codes "stdout") failure) }
+    ensures quiet { IfErr result (λ failure. (O.output out.new ≡ O.output out.old)
         ⊎ FailsAt (codes "stdout") failure) }
 {
     write_answer(rt, answer)?;
@@ -259,6 +266,25 @@ fn refuse<O: CountedWrite, E: CountedWrite>(
     report_failure_as(alloc, "batch", failure, task.json, out, err)
 }
 
+/// Writes and prints what became of the files of the entries, or reports why that failed.
+fn finish_or_refuse<R: Files, O: CountedWrite, E: CountedWrite>(
+    rt: &R,
+    alloc: Global,
+    entries: &[Entry<'_>],
+    outcomes: &[batch_pool::Outcome],
+    task: &Batch<'_>,
+    out: &mut O,
+    err: &mut E,
+) -> Outcome
+    requires { length outcomes.now ≡ length entries.now }
+    ensures { PrintsList task.now.json result (O.output out.old) (O.output out.new) }
+{
+    match finish_entries(rt, alloc, entries, outcomes, task.json, out) {
+        Ok(ended) => ended,
+        Err(failure) => refuse(alloc, task, failure, out, err),
+    }
+}
+
 /// Does the jobs of the entries.
 fn retime_entries<R: Files + Threads + Sync, O: CountedWrite, E: CountedWrite>(
     rt: &R,
@@ -271,17 +297,11 @@ fn retime_entries<R: Files + Threads + Sync, O: CountedWrite, E: CountedWrite>(
     ensures { PrintsList task.now.json result (O.output out.old) (O.output out.new) }
 {
     match outcomes(rt, alloc, entries, task) {
-        Ok(outcomes) => match finish_entries(
-            rt,
-            alloc,
-            entries,
-            outcomes.as_slice(),
-            task.json,
-            out,
-        ) {
-            Ok(ended) => ended,
-            Err(failure) => refuse(alloc, task, failure, out, err),
-        },
+        Ok(outcomes) => {
+            let ended = finish_or_refuse(rt, alloc, entries, outcomes.as_slice(), task, out, err);
+            drop(outcomes);
+            ended
+        }
         Err(failure) => refuse(alloc, task, failure, out, err),
     }
 }
@@ -298,7 +318,11 @@ fn retime_lines<R: Files + Threads + Sync, O: CountedWrite, E: CountedWrite>(
     ensures { PrintsList task.now.json result (O.output out.old) (O.output out.new) }
 {
     match read_list(alloc, bytes) {
-        Ok(entries) => retime_entries(rt, alloc, entries.as_slice(), task, out, err),
+        Ok(entries) => {
+            let ended = retime_entries(rt, alloc, entries.as_slice(), task, out, err);
+            drop(entries);
+            ended
+        }
         Err(error) => {
             let failure = Failure::of_list(error, task.list.name());
             refuse(alloc, task, failure, out, err)
@@ -319,7 +343,11 @@ pub fn retime_list<R: Files + Threads + Sync, I: CountedRead, O: CountedWrite, E
     ensures { PrintsList task.now.json result (O.output out.old) (O.output out.new) }
 {
     match bytes_at(rt, alloc, task.list, stdin) {
-        Ok(bytes) => retime_lines(rt, alloc, bytes.as_slice(), task, out, err),
+        Ok(bytes) => {
+            let ended = retime_lines(rt, alloc, bytes.as_slice(), task, out, err);
+            drop(bytes);
+            ended
+        }
         Err(failure) => refuse(alloc, task, failure, out, err),
     }
 }

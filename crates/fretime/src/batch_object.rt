@@ -68,7 +68,11 @@ pub fn finish_as_object<'a, R: Files, O: CountedWrite>(
 {
     write_answers(rt, answers)?;
     match reports_of(alloc, answers) {
-        Ok(reports) => print_files(alloc, reports.as_slice(), out),
+        Ok(reports) => {
+            let printed = print_files(alloc, reports.as_slice(), out);
+            drop(reports);
+            printed
+        }
         Err(_) => Err(Failure::Memory),
     }
 }

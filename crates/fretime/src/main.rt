@@ -10,11 +10,14 @@ mod name_files;
 mod reporting;
 mod run;
 
-use counted_io::Counted;
+use counted_io::{Counted, CountedRead, CountedWrite};
 use run::{report_unreadable_arguments, run_words};
 use std::env::Env;
 use std::io::IsTerminal;
 use std::process::ExitCode;
+use std::rt::Files;
+use std::thread::Threads;
+use std::time::Clock;
 use std::{env, io};
 
 /// The command-line arguments, the program's own name first.
@@ -30,22 +33,39 @@ fn is_dumb<R: Env + AllocGlobal>(rt: &R) -> bool {
     }
 }
 
+/// Runs the program on the command-line arguments, and returns the exit status.
+fn run_program<
+    R: Env + AllocGlobal + Files + Threads + Sync + Clock,
+    I: CountedRead,
+    O: CountedWrite,
+    E: CountedWrite,
+>(rt: &R, is_terminal: bool, stdin: &mut I, out: &mut O, err: &mut E) -> u8 {
+    match words(rt) {
+        Ok(words) => {
+            let status = run_words(
+                rt,
+                rt.alloc(),
+                words.as_slice(),
+                is_terminal,
+                stdin,
+                out,
+                err,
+            );
+            drop(words);
+            status
+        }
+        Err(error) => {
+            let status = report_unreadable_arguments(&error, err);
+            drop(error);
+            status
+        }
+    }
+}
+
 fn main(rt: HostRuntime) -> ExitCode {
     let mut stdin = Counted::new(rt.stdin());
     let mut out = Counted::new(rt.stdout());
     let mut err = Counted::new(rt.stderr());
     let is_terminal = rt.stderr().is_terminal() && !is_dumb(&rt);
-    let status = match words(&rt) {
-        Ok(words) => run_words(
-            &rt,
-            rt.alloc(),
-            words.as_slice(),
-            is_terminal,
-            &mut stdin,
-            &mut out,
-            &mut err,
-        ),
-        Err(error) => report_unreadable_arguments(&error, &mut err),
-    };
-    ExitCode::from(status)
+    ExitCode::from(run_program(&rt, is_terminal, &mut stdin, &mut out, &mut err))
 }

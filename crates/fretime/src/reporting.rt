@@ -6,7 +6,7 @@ ghost use Rattle.fretime.specs.Reporting.{MayRefuse, PrintsFailure, SaysFailure,
 ghost use Rattle.fretime.specs.Reporting as wanted;
 
 use circuit_files::{Failure, Outcome};
-use command_line::Task;
+use command_line::{Drawing, Task};
 use command_objects::print_failure;
 use counted_io::{Buffered, CountedWrite};
 use failure_hints::{give_hint, tell_returns};
@@ -108,10 +108,32 @@ fn print_object<O: CountedWrite, E: CountedWrite>(
     }
 }
 
+/// Whether a picture is of the neighbourhood of this name.
+fn is_around(drawing: &Drawing<'_>, name: &str) -> bool
+    ensures { result ≡ wanted.is_around drawing.now name.now }
+{
+    match drawing.around {
+        Some(around) => around == name,
+        None => false,
+    }
+}
+
+/// Whether a failure is that nothing has the name whose neighbourhood the picture is of.
+fn lacks_middle(drawing: &Drawing<'_>, failure: Failure<'_>) -> bool
+    ensures { result ≡ wanted.lacks_middle drawing.now failure.entry }
+{
+    match failure {
+        Failure::NoSuchName(_, name) => is_around(drawing, name),
+        _ => false,
+    }
+}
+
 /// Whether the name that a failure is about may be that of anything, and not of a latch alone.
-fn is_of_all(task: &Task<'_>, failure: Failure<'_>) -> bool {
-    match (task, failure) {
-        (Task::Dot(drawing), Failure::NoSuchName(_, name)) => drawing.around == Some(name),
+fn is_of_all(task: &Task<'_>, failure: Failure<'_>) -> bool
+    ensures { result ≡ wanted.is_of_all task.now failure.entry }
+{
+    match task {
+        Task::Dot(drawing) => lacks_middle(drawing, failure),
         _ => false,
     }
 }

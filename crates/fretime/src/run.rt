@@ -16,9 +16,7 @@ use circuit_files::{Failure, Outcome};
 use clap::Error;
 use clap::error::ErrorKind;
 use command_line::{Task, parse_arguments};
-use commands::{
-    convert, print_retimed, print_statistics, print_verification, print_witness_back, write_picture,
-};
+use commands::{convert, print_retimed, print_statistics, print_verification, write_picture};
 use counted_io::{Buffered, CountedRead, CountedWrite};
 use map_commands::{print_check, write_lifted, write_miter};
 use simulation_commands::{print_comparison, print_simulation};
@@ -28,6 +26,7 @@ use std::io;
 use std::rt::Files;
 use std::thread::Threads;
 use std::time::Clock;
+use witness_commands::print_witness_back;
 
 /// Does what the command line asks for.
 fn run_task<
@@ -108,6 +107,28 @@ pub fn report_unreadable_arguments<E: CountedWrite>(error: &io::Error, err: &mut
     Outcome::CommandLine.status()
 }
 
+/// Does a task, reports why it failed, and returns how the run ends.
+fn finish_task<
+    'a,
+    R: Files + Threads + Sync + Clock,
+    I: CountedRead,
+    O: CountedWrite,
+    E: CountedWrite,
+>(
+    rt: &R,
+    alloc: Global,
+    task: &Task<'a>,
+    is_terminal: bool,
+    stdin: &mut I,
+    out: &mut O,
+    err: &mut E,
+) -> Outcome
+    ensures { MayPrint result (O.output out.old) (O.output out.new) }
+{
+    let ended = run_task(rt, alloc, task, is_terminal, stdin, out, err);
+    reported(rt, alloc, task, ended, is_terminal, out, err)
+}
+
 /// Does what the arguments ask for, which name no file of names, and returns how the run ends.
 fn run_named<R: Files + Threads + Sync + Clock, I: CountedRead, O: CountedWrite, E: CountedWrite>(
     rt: &R,
@@ -122,10 +143,15 @@ fn run_named<R: Files + Threads + Sync + Clock, I: CountedRead, O: CountedWrite,
 {
     match parse_arguments(alloc, words) {
         Ok(task) => {
-            let ended = run_task(rt, alloc, &task, is_terminal, stdin, out, err);
-            reported(rt, alloc, &task, ended, is_terminal, out, err)
+            let outcome = finish_task(rt, alloc, &task, is_terminal, stdin, out, err);
+            drop(task);
+            outcome
         }
-        Err(error) => report_usage(&error, err),
+        Err(error) => {
+            let outcome = report_usage(&error, err);
+            drop(error);
+            outcome
+        }
     }
 }
 

@@ -1,5 +1,0 @@
-use Rattle.fretime.proofs.RunLaws.{by_report}
-use Rattle.fretime.proofs.run.run_named.Goals as goal
-
-pub returns-in-Ok : goal.returns-in-Ok
-returns-in-Ok g c = by_report c.reported.result c.run_task-ended.result _ _ _ c.reported.ensures.outcome c.run_task-ended.ensures.prints c.reported.ensures.prints
