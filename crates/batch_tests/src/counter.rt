@@ -1,7 +1,7 @@
 //! The counter that the workers draw from, and its drawers.
 use batch_pool::{Drawer, Draws};
 use std::alloc::Global;
-use std::test::Fail;
+use std::test::*;
 
 /// Whether these are three drawers, each at its place.
 fn are_three_in_place(drawers: &[Drawer]) -> bool {
@@ -26,7 +26,6 @@ fn has_three_drawers(alloc: Global) -> bool {
 }
 
 #[test]
-fn gives_each_drawer_its_place(rt: HostRuntime) -> Result<(), Fail> {
+fn gives_each_drawer_its_place(rt: HostRuntime) {
     assert!(rt; has_three_drawers(rt.alloc()));
-    Ok(())
 }

@@ -28,10 +28,15 @@ fn runs_past<R: Threads + Sync>(
     let gate = PoolGate::of(alloc, 2, jobs.len() as u64, held)?;
     let crew = Crew::new(2, gate);
     let options = defaults(alloc);
-    Ok(match run_batch(rt, alloc, jobs, &options, &crew) {
-        Ok(outcomes) => are_outcomes(jobs, outcomes.as_slice()) && crew.gate().saw_all(),
+    let ended = run_batch(rt, alloc, jobs, &options, &crew);
+    let right = match &ended {
+        Ok(outcomes) => are_outcomes(jobs, outcomes.as_slice()),
         Err(_) => false,
-    })
+    };
+    drop(ended);
+    let saw_all = crew.gate().saw_all();
+    drop(crew);
+    Ok(right & saw_all)
 }
 
 /// Whether either worker can be held.
@@ -42,7 +47,7 @@ fn runs_past_workers<R: Threads + Sync>(
 ) -> Result<bool, AllocError> {
     let first = runs_past(rt, alloc, jobs, Held::Worker(0))?;
     let second = runs_past(rt, alloc, jobs, Held::Worker(1))?;
-    Ok(first && second)
+    Ok(first & second)
 }
 
 /// Whether each of five files can be held.
@@ -53,27 +58,28 @@ fn runs_past_files<R: Threads + Sync>(
 ) -> Result<bool, AllocError> {
     let mut all = true;
     for number in 0..5u64 {
-        all = runs_past(rt, alloc, jobs, Held::Job(number))? && all;
+        all &= runs_past(rt, alloc, jobs, Held::Job(number))?;
     }
     Ok(all)
 }
 
+/// Whether either worker, and each of five files, can be held.
+fn runs_past_each<R: Threads + Sync>(rt: &R, alloc: Global) -> Result<bool, AllocError> {
+    let jobs = five_files(alloc)?;
+    let workers = runs_past_workers(rt, alloc, jobs.as_slice());
+    let files = runs_past_files(rt, alloc, jobs.as_slice());
+    drop(jobs);
+    Ok(workers? & files?)
+}
+
 #[test]
-fn runs_past_either_worker(rt: HostRuntime) -> Result<(), Fail> {
-    let jobs = five_files(rt.alloc())?;
-    assert!(rt; runs_past_workers(&rt, rt.alloc(), jobs.as_slice())?);
+fn runs_past_either_worker_and_each_file(rt: HostRuntime) -> Result<(), Fail> {
+    assert!(rt; runs_past_each(&rt, rt.alloc())?);
     Ok(())
 }
 
 #[test]
 fn runs_past_either_worker_without_files(rt: HostRuntime) -> Result<(), Fail> {
     assert!(rt; runs_past_workers(&rt, rt.alloc(), &[])?);
-    Ok(())
-}
-
-#[test]
-fn runs_past_each_file(rt: HostRuntime) -> Result<(), Fail> {
-    let jobs = five_files(rt.alloc())?;
-    assert!(rt; runs_past_files(&rt, rt.alloc(), jobs.as_slice())?);
     Ok(())
 }

@@ -1,4 +1,4 @@
-//! Tests of `batch_pool` over whole files, of its counter, and of the texts of its errors, those of lists and those of printing.
+//! Tests of `batch_pool` over whole files, of its counter, and of the texts of its errors and those of lists.
 #![tactic(auto)]
 
 #[cfg(test)]

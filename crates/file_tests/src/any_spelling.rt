@@ -1,9 +1,9 @@
 //! Files of either spelling, in pieces and from devices that fail.
 use aag_text::{Counted, CountedRead, FailAfter, Failure, OneByte, ReadError};
-use aig_binary::{AnyReader, Spelling, SpeltCircuit, read_any, read_circuit, write};
+use aig_binary::{AnyReader, Spelling, SpeltCircuit, read_circuit, write};
 use aig_graph::Circuit;
 use std::alloc::Global;
-use std::test::Fail;
+use std::test::*;
 
 /// Two inputs, a latch after each, and a gate that reads both latches.
 const TWO_LATCHES: &[u8] = b"aag 5 2 2 1 1\n2\n4\n6 2\n8 4\n10\n10 6 8\n";
@@ -14,24 +14,12 @@ const BINARY: &[u8] = b"aig 5 2 2 1 1\n2\n4\n10\n\x02\x02";
 /// It with a first delta of two bytes.
 const LONG_DELTA: &[u8] = b"aig 5 2 2 1 1\n2\n4\n10\n\x82\x00\x02";
 
-/// The fault of so many bytes of the file of two latches, if there is one.
-fn fault_of_beginning(len: usize) -> Option<ReadError> {
-    match len {
-        0..=12 => Some(ReadError::BadHeader(0)),
-        13..=18 | 21 | 22 | 25..=29 => Some(ReadError::Truncated(len as u64)),
-        19 | 20 => Some(ReadError::BadLine(18)),
-        23 | 24 => Some(ReadError::BadLine(22)),
-        30..=34 => Some(ReadError::BadLine(29)),
-        _ => None,
-    }
-}
-
 /// Whether it is the circuit of two latches.
 fn is_two_latches(alloc: Global, circuit: &Circuit) -> bool {
     let mut out = Counted::new(Vec::new(alloc));
     let written = write(circuit, Spelling::Binary, &mut out);
     let text = out.into_inner();
-    written.is_ok() && text.as_slice() == BINARY
+    written.is_ok() & (text.as_slice() == BINARY)
 }
 
 /// The circuit of two pieces of a binary file, if the reader takes them and names the spelling.
@@ -82,26 +70,6 @@ fn ends_after_circuit(alloc: Global, bytes: &[u8]) -> bool {
     ends
 }
 
-/// What is read of a device that gives one byte a read and fails from a number of reads on, and how many reads failed.
-fn read_failing(
-    alloc: Global,
-    bytes: &[u8],
-    reads: usize,
-) -> (Result<SpeltCircuit, ReadError>, u64) {
-    let device = FailAfter::new(OneByte::new(bytes), reads as u64, Failure::Error);
-    let mut reader = Counted::new(device);
-    let mut circuits = AnyReader::new(alloc);
-    let spelt = read_circuit(&mut reader, &mut circuits);
-    drop(circuits);
-    (spelt, CountedRead::failures(&reader))
-}
-
-/// Whether the reading ends at the first read that fails, and answers that failure.
-fn stops_at_read(alloc: Global, bytes: &[u8], reads: usize) -> bool {
-    let (spelt, failures) = read_failing(alloc, bytes, reads);
-    spelt.err() == Some(ReadError::Device) && failures == 1
-}
-
 /// Whether the circuit of two latches was read.
 fn is_read(alloc: Global, spelt: &Result<SpeltCircuit, ReadError>) -> bool {
     match spelt {
@@ -110,50 +78,44 @@ fn is_read(alloc: Global, spelt: &Result<SpeltCircuit, ReadError>) -> bool {
     }
 }
 
-/// Whether the circuit of two latches is read where reads fail only after the one that finds the end.
-fn reads_to_end(alloc: Global, bytes: &[u8]) -> bool {
-    let (spelt, failures) = read_failing(alloc, bytes, bytes.len() + 1);
+/// What is read of a device that gives one byte a read and fails from a number of reads on: whether it is the circuit of two latches,
+/// the fault where there is one, and how many reads failed.
+fn read_failing(alloc: Global, bytes: &[u8], reads: usize) -> (bool, Option<ReadError>, u64) {
+    let device = FailAfter::new(OneByte::new(bytes), reads as u64, Failure::Error);
+    let mut reader = Counted::new(device);
+    let mut circuits = AnyReader::new(alloc);
+    let spelt = read_circuit(&mut reader, &mut circuits);
+    drop(circuits);
     let whole = is_read(alloc, &spelt);
-    drop(spelt);
-    whole && failures == 0
+    (whole, spelt.err(), CountedRead::failures(&reader))
 }
 
-#[test]
-fn answers_each_beginning(rt: HostRuntime) -> Result<(), Fail> {
-    for len in 0..TWO_LATCHES.len() {
-        let fault = read_any(rt.alloc(), &TWO_LATCHES[..len]).err();
-        assert_eq!(rt; fault, fault_of_beginning(len));
-    }
-    Ok(())
-}
-
-#[test]
-fn reads_a_delta_in_two_pieces(rt: HostRuntime) -> Result<(), Fail> {
-    let (first, second) = LONG_DELTA.split_at(22);
-    assert!(rt; reads_two_pieces(rt.alloc(), first, second));
-    Ok(())
-}
-
-#[test]
-fn ends_after_a_circuit(rt: HostRuntime) -> Result<(), Fail> {
-    assert!(rt;
-        ends_after_circuit(rt.alloc(), TWO_LATCHES) && ends_after_circuit(rt.alloc(), BINARY)
-    );
-    Ok(())
-}
-
-#[test]
-fn stops_at_each_failed_read(rt: HostRuntime) -> Result<(), Fail> {
-    for bytes in [TWO_LATCHES, LONG_DELTA] {
-        for reads in 0..=bytes.len() {
-            assert!(rt; stops_at_read(rt.alloc(), bytes, reads), "{reads}");
+/// Whether the reading ends at each first read that fails, and answers that failure, and else reads to the end.
+fn ends_where_it_should(alloc: Global, bytes: &[u8]) -> bool {
+    for reads in 0..=bytes.len() {
+        if read_failing(alloc, bytes, reads) != (false, Some(ReadError::Device), 1) {
+            return false;
         }
     }
-    Ok(())
+    read_failing(alloc, bytes, bytes.len() + 1) == (true, None, 0)
 }
 
 #[test]
-fn reads_byte_after_byte(rt: HostRuntime) -> Result<(), Fail> {
-    assert!(rt; reads_to_end(rt.alloc(), TWO_LATCHES) && reads_to_end(rt.alloc(), LONG_DELTA));
-    Ok(())
+fn reads_a_delta_in_two_pieces(rt: HostRuntime) {
+    let (first, second) = LONG_DELTA.split_at(22);
+    assert!(rt; reads_two_pieces(rt.alloc(), first, second));
+}
+
+#[test]
+fn ends_after_a_circuit(rt: HostRuntime) {
+    let ascii = ends_after_circuit(rt.alloc(), TWO_LATCHES);
+    let binary = ends_after_circuit(rt.alloc(), BINARY);
+    assert!(rt; ascii & binary);
+}
+
+#[test]
+fn reads_to_the_end_or_to_a_failed_read(rt: HostRuntime) {
+    let ascii = ends_where_it_should(rt.alloc(), TWO_LATCHES);
+    let binary = ends_where_it_should(rt.alloc(), LONG_DELTA);
+    assert!(rt; ascii & binary);
 }

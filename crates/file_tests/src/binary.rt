@@ -3,7 +3,7 @@ use aag_text::ReadError;
 use aig_binary::{AigReader, read_aig};
 use aig_graph::{Circuit, Gate, Lit};
 use std::alloc::Global;
-use std::test::Fail;
+use std::test::*;
 
 /// What is read of a file that ends with two pieces.
 fn read_last(reader: &mut AigReader, first: &[u8], second: &[u8]) -> Result<Circuit, ReadError> {
@@ -38,15 +38,10 @@ fn has_latches(read: Result<Circuit, ReadError>) -> bool {
 }
 
 #[test]
-fn reads_a_file(rt: HostRuntime) -> Result<(), Fail> {
-    assert!(rt; has_latches(read_aig(rt.alloc(), b"aig 5 2 2 1 1\n2\n4\n10\n\x02\x02l0 a\nc\n")));
-    Ok(())
-}
-
-#[test]
-fn reads_a_delta_in_pieces(rt: HostRuntime) -> Result<(), Fail> {
-    assert!(rt;
-        has_latches(read_pieces(rt.alloc(), b"aig 5 2 2 1 1\n2\n4\n10\n\x82", b"\x00\x02"))
-    );
-    Ok(())
+fn reads_a_file_whole_and_a_delta_in_pieces(rt: HostRuntime) {
+    let whole = read_aig(rt.alloc(), b"aig 5 2 2 1 1\n2\n4\n10\n\x02\x02l0 a\nc\n");
+    let reads_whole = has_latches(whole);
+    let pieces = read_pieces(rt.alloc(), b"aig 5 2 2 1 1\n2\n4\n10\n\x82", b"\x00\x02");
+    let reads_pieces = has_latches(pieces);
+    assert!(rt; reads_whole & reads_pieces);
 }

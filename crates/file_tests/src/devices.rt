@@ -3,9 +3,9 @@ use counted_io::{
     Buffered, Counted, CountedRead, CountedWrite, FailAfter, Failure, OneByte, ReadAllError,
     WriteError, read_all, write_all,
 };
-use std::alloc::{AllocError, Global};
-use std::fmt::Write;
-use std::test::Fail;
+use std::alloc::Global;
+use std::fmt::{Display, Write};
+use std::test::*;
 
 /// Two lines, a text, a byte and a number.
 fn put_some<W: CountedWrite>(writer: &mut W) -> Result<(), WriteError> {
@@ -24,87 +24,71 @@ const SOME: &[u8] = b"6 0 18446744073709551615\n\nto c10";
 /// the writing ended well where none did.
 fn is_given(alloc: Global, calls: u64, failure: Failure, text: &[u8], failures: u64) -> bool {
     let mut taken = Vec::new(alloc);
-    let device = FailAfter::new(OneByte::new(&mut taken), calls, failure);
-    let mut out = Counted::new(device);
-    let result = put_some(&mut out);
+    let mut out = Counted::new(FailAfter::new(OneByte::new(&mut taken), calls, failure));
+    let failed = put_some(&mut out).is_err();
     let counted = CountedWrite::failures(&out);
-    let ended = if failures > 0 {
-        Err(WriteError::Device)
-    } else {
-        Ok(())
-    };
-    result == ended && counted == failures && taken.as_slice() == text
+    (failed == (failures > 0)) & (counted == failures) & (taken.as_slice() == text)
 }
 
 #[test]
-fn puts_lines(rt: HostRuntime) -> Result<(), Fail> {
-    let mut out = Counted::new(Vec::new(rt.alloc()));
-    put_some(&mut out)?;
-    assert_eq!(rt; out.into_inner().as_slice(), SOME);
-    Ok(())
+fn goes_on_after_a_partial_write_and_stops_at_a_failed_one(rt: HostRuntime) {
+    let goes_on = is_given(rt.alloc(), 1000, Failure::Error, SOME, 0);
+    let stops = is_given(rt.alloc(), 3, Failure::Error, b"6 0", 1);
+    let stops_at_nothing = is_given(rt.alloc(), 3, Failure::Nothing, b"6 0", 1);
+    assert!(rt; goes_on & stops & stops_at_nothing);
+}
+
+/// Whether a vector is given the whole text at once.
+fn writes_all(alloc: Global, text: &[u8]) -> bool {
+    let mut out = Counted::new(Vec::new(alloc));
+    let written = write_all(&mut &mut out, text).is_ok();
+    let bytes = out.into_inner();
+    written & (bytes.as_slice() == text)
+}
+
+/// Whether a device that gives one byte a call is read to its end.
+fn reads_all(alloc: Global, text: &[u8]) -> bool {
+    let mut reader = Counted::new(OneByte::new(text));
+    match read_all(alloc, &mut &mut reader) {
+        Ok(bytes) => bytes.as_slice() == text,
+        Err(_) => false,
+    }
 }
 
 #[test]
-fn goes_on_after_a_partial_write(rt: HostRuntime) {
-    assert!(rt; is_given(rt.alloc(), 1000, Failure::Error, SOME, 0));
+fn writes_at_once_and_reads_to_the_end(rt: HostRuntime) {
+    let writes = writes_all(rt.alloc(), b"aag 0");
+    let reads = reads_all(rt.alloc(), b"aag 0");
+    assert!(rt; writes & reads);
 }
 
-#[test]
-fn stops_at_a_failed_write(rt: HostRuntime) {
-    let alloc = rt.alloc();
-    let stops = is_given(alloc, 3, Failure::Error, b"6 0", 1)
-        && is_given(alloc, 3, Failure::Nothing, b"6 0", 1);
-    assert!(rt; stops);
-}
-
-#[test]
-fn writes_at_once(rt: HostRuntime) -> Result<(), Fail> {
-    let mut out = Counted::new(Vec::new(rt.alloc()));
-    write_all(&mut &mut out, b"aag 0")?;
-    assert_eq!(rt; out.into_inner().as_slice(), b"aag 0".as_slice());
-    Ok(())
-}
-
-#[test]
-fn reads_to_the_end(rt: HostRuntime) -> Result<(), Fail> {
-    let mut reader = Counted::new(OneByte::new(b"aag 0".as_slice()));
-    let bytes = read_all(rt.alloc(), &mut &mut reader)?;
-    assert_eq!(rt; bytes.as_slice(), b"aag 0".as_slice());
-    Ok(())
+/// Whether a device that gives nothing from the third call on ends the reading there.
+fn ends_at_third_read(alloc: Global) -> bool {
+    let device = FailAfter::new(OneByte::new(b"aag 0".as_slice()), 2, Failure::Nothing);
+    let mut reader = Counted::new(device);
+    let error = read_all(alloc, &mut reader).err();
+    let failures = CountedRead::failures(&reader);
+    let left = reader.into_inner().into_inner().into_inner();
+    (error == Some(ReadAllError::Device)) & (failures == 1) & (left == b"g 0".as_slice())
 }
 
 #[test]
 fn stops_at_a_failed_read(rt: HostRuntime) {
-    let device = FailAfter::new(OneByte::new(b"aag 0".as_slice()), 2, Failure::Nothing);
-    let mut reader = Counted::new(device);
-    let error = read_all(rt.alloc(), &mut reader).err();
-    let failures = CountedRead::failures(&reader);
-    let left = reader.into_inner().into_inner().into_inner();
-    assert!(rt; error == Some(ReadAllError::Device) && failures == 1 && left == b"g 0".as_slice());
+    assert!(rt; ends_at_third_read(rt.alloc()));
 }
 
-/// Whether a fault of writing has this number and text.
-fn is_named(alloc: Global, fault: &WriteError, name: &str) -> Result<bool, AllocError> {
-    let text = format!(in alloc; "{} {fault}", fault.code())?;
-    Ok(text.as_str() == name)
-}
-
-/// The same of a fault of reading.
-fn is_named_in_reading(
-    alloc: Global,
-    fault: &ReadAllError,
-    name: &str,
-) -> Result<bool, AllocError> {
-    let text = format!(in alloc; "{} {fault}", fault.code())?;
-    Ok(text.as_str() == name)
+/// Whether an error has this text.
+fn is_named<E: Display>(alloc: Global, error: &E, name: &str) -> bool {
+    match format!(in alloc; "{error}") {
+        Ok(text) => text.as_str() == name,
+        Err(_) => false,
+    }
 }
 
 #[test]
-fn names_its_errors(rt: HostRuntime) -> Result<(), Fail> {
-    let alloc = rt.alloc();
-    let named = is_named(alloc, &WriteError::Device, "1 device")?
-        && is_named_in_reading(alloc, &ReadAllError::NoMemory, "1 no memory")?
-        && is_named_in_reading(alloc, &ReadAllError::Device, "2 device")?;
-    assert!(rt; named);
-    Ok(())
+fn names_its_errors(rt: HostRuntime) {
+    let writing = is_named(rt.alloc(), &WriteError::Device, "device");
+    let memory = is_named(rt.alloc(), &ReadAllError::NoMemory, "no memory");
+    let reading = is_named(rt.alloc(), &ReadAllError::Device, "device");
+    assert!(rt; writing & memory & reading);
 }

@@ -1,7 +1,7 @@
 //! The order that gates of a file take in a circuit.
 use gate_order::{Reads, are_in_file, gate_order};
 use std::alloc::Global;
-use std::test::Fail;
+use std::test::*;
 
 /// Whether the gates take this order.
 fn are_ordered_as(alloc: Global, gates: &[Reads], wanted: &[u32]) -> bool {
@@ -15,7 +15,7 @@ fn are_ordered_as(alloc: Global, gates: &[Reads], wanted: &[u32]) -> bool {
 }
 
 #[test]
-fn puts_gates_after_those_they_read(rt: HostRuntime) -> Result<(), Fail> {
+fn puts_gates_after_those_they_read(rt: HostRuntime) {
     let gates = [
         Reads {
             first: Some(2),
@@ -35,5 +35,4 @@ fn puts_gates_after_those_they_read(rt: HostRuntime) -> Result<(), Fail> {
         },
     ];
     assert!(rt; are_ordered_as(rt.alloc(), &gates, &[1, 2, 0, 3]));
-    Ok(())
 }

@@ -1,12 +1,9 @@
 //! Tests of the public calls that read and write circuits in both spellings, of the parts that their readers are made of, of buffered
-//! writing and devices that fail, and of the words of a command line. They stand in a crate of their own, since a crate with tests is
-//! proved twice.
+//! writing and devices that fail. They stand in a crate of their own, since a crate with tests is proved twice.
 #![tactic(auto)]
 
 #[cfg(test)]
 mod any_spelling;
-#[cfg(test)]
-mod arguments;
 #[cfg(test)]
 mod ascii;
 #[cfg(test)]

@@ -1,11 +1,11 @@
 //! Names and properties of a file, as they are read.
 ghost use Rattle.std.specs.Prelude.{◌≡◌, ◌∷◌, [], IfOk};
 
-use aig_graph::{NoMemory, Sequence, Symbols};
+use aig_graph::{Lit, NoMemory, Sequence, Symbols};
 use ascii_file::{Header, SymbolKind};
 use reader_parts::{Names, PropertyLists};
 use std::alloc::Global;
-use std::test::Fail;
+use std::test::*;
 
 /// Names two outputs, the last one first, and one of them again: whether just the first two names are taken.
 fn name_two_outputs(alloc: Global, names: &mut Names) -> Result<bool, NoMemory> {
@@ -36,9 +36,8 @@ fn names_two_outputs(alloc: Global) -> bool {
 }
 
 #[test]
-fn names_rise_and_are_taken_once(rt: HostRuntime) -> Result<(), Fail> {
+fn names_rise_and_are_taken_once(rt: HostRuntime) {
     assert!(rt; names_two_outputs(rt.alloc()));
-    Ok(())
 }
 
 /// The lists of an output, a justice property of one literal, and a fairness literal.
@@ -57,6 +56,13 @@ fn collected(alloc: Global) -> Result<PropertyLists, NoMemory>
     Ok(lists)
 }
 
+fn is_literal(literals: &[Lit], code: u32) -> bool {
+    match literals {
+        [lit] => lit.code() == code,
+        _ => false,
+    }
+}
+
 fn parts_by_kind(alloc: Global) -> Result<bool, NoMemory> {
     let header = Header {
         greatest: 4,
@@ -69,12 +75,14 @@ fn parts_by_kind(alloc: Global) -> Result<bool, NoMemory> {
         justice: 1,
         fairness: 1,
     };
-    let props = collected(alloc)?.into_props(alloc, &header)?;
-    Ok(matches!(props.fairness.as_slice(), [lit] if lit.code() == 8))
+    let lists = collected(alloc)?;
+    let props = lists.into_props(alloc, &header)?;
+    let is_fair = is_literal(props.fairness.as_slice(), 8);
+    drop(props);
+    Ok(is_fair)
 }
 
 #[test]
-fn properties_are_parted_by_kind(rt: HostRuntime) -> Result<(), Fail> {
+fn properties_are_parted_by_kind(rt: HostRuntime) {
     assert!(rt; parts_by_kind(rt.alloc()) == Ok(true));
-    Ok(())
 }

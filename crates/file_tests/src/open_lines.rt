@@ -2,7 +2,7 @@
 use ascii_file::SymbolKind;
 use reader_parts::{HeaderLine, NumberLine, SymbolLine, SymbolText};
 use std::alloc::Global;
-use std::test::Fail;
+use std::test::*;
 
 /// The greatest variable of a header that comes in two pieces.
 fn greatest(first: &[u8], second: &[u8]) -> Option<u32> {
@@ -26,34 +26,34 @@ fn has_numbers(first: &[u8], second: &[u8], wanted: &[u32]) -> bool {
     }
 }
 
+/// Whether a line takes two pieces.
+fn takes_both(line: &mut SymbolLine, first: &[u8], second: &[u8]) -> bool {
+    line.extend(first).is_ok() && line.extend(second).is_ok()
+}
+
 /// Whether a line that comes in two pieces names a justice property.
 fn names_justice(alloc: Global, first: &[u8], second: &[u8], place: u32, wanted: &[u8]) -> bool {
     let mut line = SymbolLine::new(alloc);
-    if line.extend(first).is_err() || line.extend(second).is_err() {
-        return false;
-    }
+    let taken = takes_both(&mut line, first, second);
     match line.text() {
         SymbolText::Name(SymbolKind::Justice, position, name) => {
-            position == place && name.as_slice() == wanted
+            taken & (position == place) & (name.as_slice() == wanted)
         }
         _ => false,
     }
 }
 
 #[test]
-fn reads_a_header_in_pieces(rt: HostRuntime) -> Result<(), Fail> {
+fn reads_a_header_in_pieces(rt: HostRuntime) {
     assert!(rt; greatest(b"aag 1", b"1 0 0 0 0") == Some(11));
-    Ok(())
 }
 
 #[test]
-fn reads_numbers_in_pieces(rt: HostRuntime) -> Result<(), Fail> {
+fn reads_numbers_in_pieces(rt: HostRuntime) {
     assert!(rt; has_numbers(b"10 0", b"6 8", &[10, 6, 8]));
-    Ok(())
 }
 
 #[test]
-fn reads_a_name_in_pieces(rt: HostRuntime) -> Result<(), Fail> {
+fn reads_a_name_in_pieces(rt: HostRuntime) {
     assert!(rt; names_justice(rt.alloc(), b"j1", b"2 no ne", 12, b"no ne"));
-    Ok(())
 }

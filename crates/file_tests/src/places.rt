@@ -1,7 +1,7 @@
 //! The places at which variables are defined.
 use reader_parts::Places;
 use std::alloc::Global;
-use std::test::Fail;
+use std::test::*;
 
 /// Whether two variables, the second far above their number, are given their places.
 fn keeps_both(alloc: Global) -> bool {
@@ -16,7 +16,6 @@ fn keeps_both(alloc: Global) -> bool {
 }
 
 #[test]
-fn keeps_near_and_far_places(rt: HostRuntime) -> Result<(), Fail> {
+fn keeps_near_and_far_places(rt: HostRuntime) {
     assert!(rt; keeps_both(rt.alloc()));
-    Ok(())
 }

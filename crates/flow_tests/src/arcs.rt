@@ -50,34 +50,26 @@ fn tells_passable_gates(rt: HostRuntime) -> Result<(), Fail> {
     Ok(())
 }
 
-#[test]
-fn builds_the_arcs(rt: HostRuntime) -> Result<(), Fail> {
-    let net = net_of_text(rt.alloc(), TWO_LATCHES)?;
-    assert!(rt;
-        has_arcs(
-            &net,
-            &[2, 3, 5, 0, 4, 0, 4, 2, 3, 5, 1, 4],
-            &[3, 5, 10, 0, 7, 1, 8, 4, 6, 11, 2, 9],
-            &[1, 1, 0, 0, 3, 0, 3, 0, 0, 1, 3, 0],
-        )
-    );
-    Ok(())
-}
-
 /// The point of node 4, if there is one.
 fn fourth_point(net: &Net) -> Option<Point> {
     if 4 < net.nodes() { net.point(4) } else { None }
 }
 
 #[test]
-fn builds_the_rows(rt: HostRuntime) -> Result<(), Fail> {
+fn builds_the_arcs_in_their_rows(rt: HostRuntime) -> Result<(), Fail> {
     let net = net_of_text(rt.alloc(), TWO_LATCHES)?;
     let before = Point {
         var: 5,
         behind: false,
     };
-    let holds = has_rows(&net, &[0, 2, 3, 5, 7, 10]) && fourth_point(&net) == Some(before);
+    let arcs = has_arcs(
+        &net,
+        &[2, 3, 5, 0, 4, 0, 4, 2, 3, 5, 1, 4],
+        &[3, 5, 10, 0, 7, 1, 8, 4, 6, 11, 2, 9],
+        &[1, 1, 0, 0, 3, 0, 3, 0, 0, 1, 3, 0],
+    );
+    let rows = has_rows(&net, &[0, 2, 3, 5, 7, 10]) && fourth_point(&net) == Some(before);
     drop(net);
-    assert!(rt; holds);
+    assert!(rt; arcs && rows);
     Ok(())
 }

@@ -1,12 +1,12 @@
-//! Routes and certificates of the first worked circuit.
+//! The route and the certificate of the first worked circuit.
 ghost use Rattle.frame_cuts.specs.Cuts.{IsNetworkOf};
 ghost use Rattle.pulse.specs.Conditions.{IsMaxPreflow};
 
-use crate::nets::{FOUR_LATCHES, TWO_LATCHES, net_of, net_of_text};
+use crate::nets::{TWO_LATCHES, net_of};
 use aag_text::read_aag;
-use aig_graph::{Circuit, Keep, NoMemory, Sequence};
-use cut_cert::{Certificate, Objection, Routes, Verdict, certificate, check, routes};
-use frame_net::{Net, Point};
+use aig_graph::{Circuit, Keep, NoMemory};
+use cut_cert::{Routes, Verdict, certificate, check, routes};
+use frame_net::Net;
 use pulse::{Crew, MaxPreflow, OpenGate, PulseError, run_to_end};
 use std::alloc::Global;
 use std::test::Fail;
@@ -47,17 +47,7 @@ fn is_certified(
     Ok(verdict? == Verdict::Yes)
 }
 
-fn one_route_at_end<R: Threads + Sync>(
-    rt: &R,
-    alloc: Global,
-    net: &Net,
-) -> Result<bool, PulseError> {
-    let end = run_to_end(rt, alloc, net, &Crew::new(1, OpenGate))?;
-    let one = is_one_route(alloc, net, &end);
-    drop(end);
-    Ok(one?)
-}
-
+/// Whether a run ends with one route, and with a certificate that passes.
 fn certified_at_end<R: Threads + Sync>(
     rt: &R,
     alloc: Global,
@@ -68,9 +58,10 @@ fn certified_at_end<R: Threads + Sync>(
     requires { IsNetworkOf circuit.now keep.now net.now }
 {
     let end = run_to_end(rt, alloc, net, &Crew::new(1, OpenGate))?;
+    let one = is_one_route(alloc, net, &end);
     let certified = is_certified(alloc, circuit, keep, net, &end);
     drop(end);
-    Ok(certified?)
+    Ok(one? && certified?)
 }
 
 fn has_certificate<R: Threads + Sync>(
@@ -86,118 +77,10 @@ fn has_certificate<R: Threads + Sync>(
 }
 
 #[test]
-fn one_route_goes_over_the_gate(rt: HostRuntime) -> Result<(), Fail> {
-    let net = net_of_text(rt.alloc(), TWO_LATCHES)?;
-    let holds = one_route_at_end(&rt, rt.alloc(), &net);
-    drop(net);
-    assert!(rt; holds?);
-    Ok(())
-}
-
-#[test]
-fn the_certificate_passes(rt: HostRuntime) -> Result<(), Fail> {
+fn the_certificate_of_one_route_passes(rt: HostRuntime) -> Result<(), Fail> {
     let circuit = read_aag(rt.alloc(), TWO_LATCHES)?;
     let holds = has_certificate(&rt, rt.alloc(), &circuit);
     drop(circuit);
     assert!(rt; holds?);
-    Ok(())
-}
-
-/// A certificate of these gates and routes, each point of a route as its variable and its `behind`.
-fn stated(
-    alloc: Global,
-    count: u32,
-    gates: &[u32],
-    routes: &[&[(u32, bool)]],
-) -> Result<Certificate, NoMemory> {
-    let mut lists = Vec::new(alloc);
-    for route in routes {
-        lists.push(route_of(alloc, route)?)?;
-    }
-    Ok(Certificate {
-        count,
-        gates: Sequence::from_vec(Vec::from_slice(alloc, gates)?),
-        routes: Sequence::from_vec(lists),
-    })
-}
-
-/// The route of these points.
-fn route_of(alloc: Global, points: &[(u32, bool)]) -> Result<Sequence<Point>, NoMemory> {
-    let mut route = Vec::new(alloc);
-    for (var, behind) in points {
-        route.push(Point {
-            var: *var,
-            behind: *behind,
-        })?;
-    }
-    Ok(Sequence::from_vec(route))
-}
-
-/// What the certificate is worth for a circuit, no latch held.
-fn verdict_of(
-    alloc: Global,
-    circuit: &Circuit,
-    count: u32,
-    gates: &[u32],
-    routes: &[&[(u32, bool)]],
-) -> Result<Verdict, NoMemory> {
-    let certificate = stated(alloc, count, gates, routes)?;
-    let verdict = check(alloc, circuit, &certificate, &Keep::none());
-    drop(certificate);
-    verdict
-}
-
-/// Routes from each latch over the gate, and the first of them without its end.
-const FIRST: &[(u32, bool)] = &[(3, true), (5, false), (5, true)];
-
-const SECOND: &[(u32, bool)] = &[(4, true), (5, false), (5, true)];
-
-const BROKEN: &[(u32, bool)] = &[(3, true), (5, false)];
-
-/// Whether certificates of the gate of two latches have the worth that was worked out by hand.
-fn are_judged(alloc: Global, circuit: &Circuit) -> Result<bool, NoMemory> {
-    let right = verdict_of(alloc, circuit, 1, &[5], &[FIRST])?;
-    let uncounted = verdict_of(alloc, circuit, 0, &[5], &[])?;
-    let shared = verdict_of(alloc, circuit, 2, &[], &[FIRST, SECOND])?;
-    let broken = verdict_of(alloc, circuit, 1, &[5], &[BROKEN])?;
-    Ok(
-        right == Verdict::Yes
-            && uncounted == Verdict::No(Objection::CountDiffers)
-            && shared == Verdict::No(Objection::UsedTwice)
-            && broken == Verdict::No(Objection::BadRoute),
-    )
-}
-
-#[test]
-fn judges_certificates(rt: HostRuntime) -> Result<(), Fail> {
-    let circuit = read_aag(rt.alloc(), TWO_LATCHES)?;
-    let holds = are_judged(rt.alloc(), &circuit);
-    drop(circuit);
-    assert!(rt; holds?);
-    Ok(())
-}
-
-#[test]
-fn refuses_a_gate_without_its_fan_ins(rt: HostRuntime) -> Result<(), Fail> {
-    let circuit = read_aag(rt.alloc(), FOUR_LATCHES)?;
-    let verdict = verdict_of(rt.alloc(), &circuit, 0, &[11], &[])?;
-    assert!(rt; verdict == Verdict::No(Objection::NotClosed));
-    Ok(())
-}
-
-/// The numbers of the objections, in the order of the tests.
-fn are_numbered_in_order() -> bool {
-    let codes = [
-        Objection::NotClosed.code(),
-        Objection::BadRoute.code(),
-        Objection::UsedTwice.code(),
-        Objection::CountDiffers.code(),
-    ];
-    codes == [1, 2, 3, 4]
-}
-
-#[test]
-fn objections_have_their_numbers(rt: HostRuntime) -> Result<(), Fail> {
-    assert!(rt; are_numbered_in_order());
     Ok(())
 }

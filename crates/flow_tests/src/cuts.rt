@@ -23,14 +23,53 @@ const EQUAL_COUNTS: &[u8] =
 /// The two latches, the first of them an output too: as many are left after a move over their gate.
 const READ_LATCH: &[u8] = b"aag 5 2 2 2 1\n2\n4\n6 2\n8 4\n10\n6\n10 6 8\n";
 
+/// The circuits, and the gates of the greatest least set of each.
+const SETS: [(&[u8], &[u32]); 5] = [
+    (TWO_LATCHES, &[5]),
+    (FREE_LATCH, &[]),
+    (TWO_CHAINS, &[7]),
+    (EQUAL_COUNTS, &[9, 10, 11, 12]),
+    (READ_LATCH, &[5]),
+];
+
 fn cut_at_end<R: Threads + Sync>(
     rt: &R,
     alloc: Global,
     net: &Net,
 ) -> Result<ClosedSet, PulseError> {
     let end = run_to_end(rt, alloc, net, &Crew::new(1, OpenGate))?;
-    let set = greatest_cut(alloc, net, &end)?;
-    Ok(set)
+    let set = greatest_cut(alloc, net, &end);
+    drop(end);
+    Ok(set?)
+}
+
+/// Whether these are the gates of the greatest least set of a circuit.
+fn is_greatest<R: Threads + Sync>(
+    rt: &R,
+    alloc: Global,
+    text: &[u8],
+    gates: &[u32],
+) -> Result<bool, Fail> {
+    let net = net_of_text(alloc, text)?;
+    let set = cut_at_end(rt, alloc, &net);
+    drop(net);
+    Ok(set?.vars() == gates)
+}
+
+/// Whether they are of each circuit.
+fn are_greatest<R: Threads + Sync>(rt: &R, alloc: Global) -> Result<bool, Fail> {
+    for (text, gates) in SETS {
+        if !is_greatest(rt, alloc, text, gates)? {
+            return Ok(false);
+        }
+    }
+    Ok(true)
+}
+
+#[test]
+fn finds_the_greatest_least_sets(rt: HostRuntime) -> Result<(), Fail> {
+    assert!(rt; are_greatest(&rt, rt.alloc())?);
+    Ok(())
 }
 
 /// Whether a run from a start along a wish for each arc ends with exact labels, and these gates are those of the cut.
@@ -47,50 +86,6 @@ fn is_greatest_by_labels<R: Threads + Sync>(
     let set = greatest_cut(alloc, net, &end);
     drop(end);
     Ok(exact && set?.vars() == gates)
-}
-
-/// Whether these are the gates of the greatest least set of a circuit.
-fn is_greatest<R: Threads + Sync>(
-    rt: &R,
-    alloc: Global,
-    text: &[u8],
-    gates: &[u32],
-) -> Result<bool, Fail> {
-    let net = net_of_text(alloc, text)?;
-    let set = cut_at_end(rt, alloc, &net)?;
-    Ok(set.vars() == gates)
-}
-
-#[test]
-fn moves_a_gate_of_two_latches(rt: HostRuntime) -> Result<(), Fail> {
-    let net = net_of_text(rt.alloc(), TWO_LATCHES)?;
-    let set = cut_at_end(&rt, rt.alloc(), &net)?;
-    assert!(rt; set.vars().len() == 1 && set.has(5));
-    Ok(())
-}
-
-#[test]
-fn moves_no_gate_of_a_free_latch(rt: HostRuntime) -> Result<(), Fail> {
-    assert!(rt; is_greatest(&rt, rt.alloc(), FREE_LATCH, &[])?);
-    Ok(())
-}
-
-#[test]
-fn moves_the_gate_of_two_chains(rt: HostRuntime) -> Result<(), Fail> {
-    assert!(rt; is_greatest(&rt, rt.alloc(), TWO_CHAINS, &[7])?);
-    Ok(())
-}
-
-#[test]
-fn moves_all_gates_where_as_many_latches_are_left(rt: HostRuntime) -> Result<(), Fail> {
-    assert!(rt; is_greatest(&rt, rt.alloc(), EQUAL_COUNTS, &[9, 10, 11, 12])?);
-    Ok(())
-}
-
-#[test]
-fn moves_a_gate_of_a_latch_that_is_an_output(rt: HostRuntime) -> Result<(), Fail> {
-    assert!(rt; is_greatest(&rt, rt.alloc(), READ_LATCH, &[5])?);
-    Ok(())
 }
 
 #[test]

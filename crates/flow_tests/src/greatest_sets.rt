@@ -1,10 +1,12 @@
 //! The greatest and the smallest least set of a circuit that has two.
+ghost use Rattle.pulse.specs.Conditions.{IsMaxPreflow};
+
 use crate::nets::net_of;
 use aag_text::read_aag;
-use aig_graph::{Circuit, ClosedSet, Keep};
+use aig_graph::{Circuit, ClosedSet, Keep, NoMemory};
 use cut_cert::{greatest_least, near_cut, routes};
 use frame_net::Net;
-use pulse::{Crew, OpenGate, PulseError, run_to_end};
+use pulse::{Crew, MaxPreflow, OpenGate, PulseError, run_to_end};
 use std::alloc::Global;
 use std::test::Fail;
 use std::thread::Threads;
@@ -14,11 +16,20 @@ use std::thread::Threads;
 const TWO_LEAST_SETS: &[u8] =
     b"aag 8 3 3 2 2\n2\n4\n6\n8 2\n10 4\n12 6\n16\n12\n14 10 8\n16 14 12\n";
 
+fn nearest_to_end(alloc: Global, net: &Net, end: &MaxPreflow) -> Result<ClosedSet, NoMemory>
+    requires { IsMaxPreflow net.now end.now }
+{
+    let found = routes(alloc, net, end)?;
+    let set = near_cut(alloc, net, &found);
+    drop(found);
+    set
+}
+
 fn nearest<R: Threads + Sync>(rt: &R, alloc: Global, net: &Net) -> Result<ClosedSet, PulseError> {
     let end = run_to_end(rt, alloc, net, &Crew::new(1, OpenGate))?;
-    let found = routes(alloc, net, &end)?;
-    let set = near_cut(alloc, net, &found)?;
-    Ok(set)
+    let set = nearest_to_end(alloc, net, &end);
+    drop(end);
+    Ok(set?)
 }
 
 /// Whether the set has these gates.
@@ -48,19 +59,11 @@ fn is_greatest_both<R: Threads + Sync>(
 }
 
 #[test]
-fn smallest_has_the_first_gate(rt: HostRuntime) -> Result<(), Fail> {
+fn smallest_has_the_first_gate_and_greatest_has_both(rt: HostRuntime) -> Result<(), Fail> {
     let circuit = read_aag(rt.alloc(), TWO_LEAST_SETS)?;
-    let holds = is_smallest_first_gate(&rt, rt.alloc(), &circuit);
+    let smallest = is_smallest_first_gate(&rt, rt.alloc(), &circuit);
+    let greatest = is_greatest_both(&rt, rt.alloc(), &circuit);
     drop(circuit);
-    assert!(rt; holds?);
-    Ok(())
-}
-
-#[test]
-fn greatest_has_both_gates(rt: HostRuntime) -> Result<(), Fail> {
-    let circuit = read_aag(rt.alloc(), TWO_LEAST_SETS)?;
-    let holds = is_greatest_both(&rt, rt.alloc(), &circuit);
-    drop(circuit);
-    assert!(rt; holds?);
+    assert!(rt; smallest? && greatest?);
     Ok(())
 }

@@ -5,8 +5,6 @@
 #[cfg(test)]
 mod arcs;
 #[cfg(test)]
-mod augmenting;
-#[cfg(test)]
 mod between_pulses;
 #[cfg(test)]
 mod certificate_texts;
@@ -23,11 +21,7 @@ mod nets;
 #[cfg(test)]
 mod phase_gates;
 #[cfg(test)]
-mod random_nets;
-#[cfg(test)]
 mod runs;
-#[cfg(test)]
-mod walked;
 #[cfg(test)]
 mod wished_runs;
 #[cfg(test)]

@@ -64,6 +64,19 @@ impl PhaseGate for CountingGate {
     }
 }
 
+/// How many pulses a crew's run makes.
+fn pulses_of<R: Threads + Sync, G: PhaseGate>(
+    rt: &R,
+    alloc: Global,
+    net: &Net,
+    crew: &Crew<G>,
+) -> Result<u64, PulseError> {
+    let end = run_to_end(rt, alloc, net, crew)?;
+    let pulses = end.pulses();
+    drop(end);
+    Ok(pulses)
+}
+
 /// Whether so many workers pass and leave both phases of each of the six pulses of a run.
 fn each_phase_is_passed<R: Threads + Sync>(
     rt: &R,
@@ -73,8 +86,10 @@ fn each_phase_is_passed<R: Threads + Sync>(
 ) -> Result<bool, PulseError> {
     let gate = CountingGate::from(alloc, workers, 0)?;
     let crew = Crew::new(workers.clamp(1, 64), gate);
-    let pulses = run_to_end(rt, alloc, net, &crew)?.pulses();
-    Ok(pulses == 6 && crew.gate().saw_all(12))
+    let pulses = pulses_of(rt, alloc, net, &crew);
+    let saw_all = crew.gate().saw_all(12);
+    drop(crew);
+    Ok(pulses? == 6 && saw_all)
 }
 
 /// Whether that is so of every crew.
@@ -103,15 +118,18 @@ fn passes_and_leaves_each_phase_once(rt: HostRuntime) -> Result<(), Fail> {
 /// Whether the phases of the pulse after one by ranges are the third and the fourth.
 fn counts_on<R: Threads + Sync>(rt: &R, alloc: Global, net: &Net) -> Result<bool, PulseError> {
     net.known();
+    let gate = CountingGate::from(alloc, 1, 2)?;
     let mut flow = Flow::start(alloc, net)?;
     let mut pushes = Pushes::new(alloc, net)?;
-    let crew = Crew::new(1, CountingGate::from(alloc, 1, 2)?);
+    let crew = Crew::new(1, gate);
     pulse_by_ranges(net, &mut flow, &mut pushes);
     let ended = pulse(rt, alloc, net, &mut flow, &mut pushes, &crew);
+    let saw_all = crew.gate().saw_all(4);
     drop(flow);
     drop(pushes);
+    drop(crew);
     ended?;
-    Ok(crew.gate().saw_all(4))
+    Ok(saw_all)
 }
 
 #[test]

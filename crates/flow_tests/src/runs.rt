@@ -47,19 +47,12 @@ fn relabels_as_worked<R: Threads + Sync>(
 }
 
 #[test]
-fn runs_with_global_relabeling(rt: HostRuntime) -> Result<(), Fail> {
+fn runs_to_the_end_in_six_pulses_and_with_global_relabeling(rt: HostRuntime) -> Result<(), Fail> {
     let net = net_of_text(rt.alloc(), TWO_LATCHES)?;
-    let holds = relabels_as_worked(&rt, rt.alloc(), &net, &Crew::new(2, OpenGate));
+    let crew = Crew::new(2, OpenGate);
+    let ends = ends_as_worked(&rt, rt.alloc(), &net, &crew);
+    let relabels = relabels_as_worked(&rt, rt.alloc(), &net, &crew);
     drop(net);
-    assert!(rt; holds?);
-    Ok(())
-}
-
-#[test]
-fn runs_to_the_end_in_six_pulses(rt: HostRuntime) -> Result<(), Fail> {
-    let net = net_of_text(rt.alloc(), TWO_LATCHES)?;
-    let holds = ends_as_worked(&rt, rt.alloc(), &net, &Crew::new(2, OpenGate));
-    drop(net);
-    assert!(rt; holds?);
+    assert!(rt; ends? && relabels?);
     Ok(())
 }

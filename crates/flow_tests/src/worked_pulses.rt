@@ -16,11 +16,12 @@ use std::thread::Threads;
 /// Numbers of workers: one, some that divide the nodes unevenly, one for each node of the second network, and the most.
 const CREWS: [u32; 6] = [1, 2, 5, 7, 12, 64];
 
-/// Labels of all nodes, and excess of all but the source.
+/// Labels of all nodes, excess of all but the source, and how many nodes are active, whose rows the next read phase walks.
 #[derive(Clone, Copy)]
 struct State {
     labels: &'static [u32],
     excess: &'static [u32],
+    active: u32,
 }
 
 /// The first network at the start, and after each of six pulses.
@@ -28,30 +29,37 @@ const STATES: [State; 7] = [
     State {
         labels: &[6, 0, 0, 0, 0, 0],
         excess: &[0, 1, 1, 0, 0],
+        active: 2,
     },
     State {
         labels: &[6, 0, 1, 1, 0, 0],
         excess: &[0, 1, 1, 0, 0],
+        active: 2,
     },
     State {
         labels: &[6, 0, 1, 1, 0, 0],
         excess: &[0, 0, 0, 2, 0],
+        active: 1,
     },
     State {
         labels: &[6, 0, 1, 1, 1, 0],
         excess: &[0, 0, 0, 2, 0],
+        active: 1,
     },
     State {
         labels: &[6, 0, 1, 1, 2, 0],
         excess: &[0, 0, 0, 1, 1],
+        active: 2,
     },
     State {
         labels: &[6, 0, 1, 1, 2, 1],
         excess: &[0, 1, 0, 0, 1],
+        active: 2,
     },
     State {
         labels: &[6, 0, 3, 1, 2, 1],
         excess: &[1, 1, 0, 0, 0],
+        active: 1,
     },
 ];
 
@@ -60,6 +68,7 @@ const STATES: [State; 7] = [
 const AFTER_ELEVEN: State = State {
     labels: &[12, 0, 3, 3, 3, 3, 4, 3, 4, 1, 2, 1],
     excess: &[1, 0, 0, 0, 0, 2, 0, 1, 0, 0, 0],
+    active: 2,
 };
 
 /// Whether the flow is in this state.
@@ -78,7 +87,8 @@ fn is_at(net: &Net, flow: &Flow, state: &State) -> bool
     true
 }
 
-/// Whether the flow is in this state, and still is after the read phase of a pulse. Makes that pulse.
+/// Whether the flow is in this state, and still is after the read phase of a pulse, which walks the rows of active nodes. Makes that
+/// pulse.
 fn pulses_from<R: Threads + Sync>(
     rt: &R,
     alloc: Global,
@@ -97,7 +107,7 @@ fn pulses_from<R: Threads + Sync>(
 {
     let before = is_at(net, flow, state);
     read_phase(rt, alloc, net, flow, pushes, crew)?;
-    let between = is_at(net, flow, state);
+    let between = is_at(net, flow, state) && pushes.walked() == state.active;
     deliver_phase(rt, alloc, net, flow, pushes, crew)?;
     Ok(before && between)
 }

@@ -11,6 +11,3 @@ pub(crate) const NEGATED_LATCHES: &[u8] = b"aag 5 2 2 1 1\n2\n4\n6 2\n8 4\n10\n1
 
 /// Two latches in a row after each of two inputs, and the gate of the last ones, which is the output.
 pub(crate) const CHAINS: &[u8] = b"aag 7 2 4 1 1\n2\n4\n6 2\n8 6\n10 4\n12 10\n14\n14 8 12\n";
-
-/// Two inputs, the gate of both, and a latch that follows it and is the output.
-pub(crate) const ONE_LATCH: &[u8] = b"aag 4 2 1 1 1\n2\n4\n6 8\n6\n8 4 2\n";

@@ -1,39 +1,9 @@
-//! A circuit with something for each rule of cleaning, one with free latches, and one whose latches have names, by which they are held.
+//! A circuit with free latches that is cleaned, and one whose latches have names, by which they are held.
 use aag_text::read_aag;
 use aig_graph::{Circuit, Keep, KeepError, Latch, Lit, NoMemory, Reset, keep_of};
 use clean::{Cleaned, clean};
 use std::alloc::Global;
 use std::test::Fail;
-
-/// An input; a latch that reads itself, two that read the input, the gate of these two, and the gate of that one and the negation of
-/// the first latch, which is the output.
-const REDUNDANT: &[u8] = b"aag 6 1 3 1 2\n2\n4 4\n6 2\n8 2\n12\n10 8 6\n12 10 5\n";
-
-/// Whether one latch that reads the input is left, and is the output.
-fn is_a_latch(cleaned: &Cleaned) -> bool {
-    let latch = Latch {
-        next: Lit::new(1, false),
-        reset: Reset::Zero,
-    };
-    cleaned.circuit.aig().inputs() == 1
-        && cleaned.circuit.aig().latches() == [latch].as_slice()
-        && cleaned.circuit.aig().gates().is_empty()
-        && cleaned.circuit.props().outputs.as_slice() == [Lit::new(2, false)].as_slice()
-        && cleaned.kept_free.is_empty()
-}
-
-/// Whether this is what is left of the circuit, no latch held.
-fn cleans_to_a_latch(alloc: Global, circuit: &Circuit) -> Result<bool, NoMemory> {
-    let cleaned = clean(alloc, circuit, &Keep::none())?;
-    Ok(is_a_latch(&cleaned))
-}
-
-#[test]
-fn cleans_a_stuck_latch_a_twin_and_equal_fan_ins(rt: HostRuntime) -> Result<(), Fail> {
-    let circuit = read_aag(rt.alloc(), REDUNDANT)?;
-    assert!(rt; cleans_to_a_latch(rt.alloc(), &circuit)?);
-    Ok(())
-}
 
 /// An input, and three free latches: the first two read it, the third reads the first and is the output.
 const FREE_LATCHES: &[u8] = b"aag 4 1 3 1 0\n2\n4 2 4\n6 2 6\n8 4 8\n8\n";
@@ -58,13 +28,17 @@ fn are_first_and_third(cleaned: &Cleaned) -> bool {
 /// Whether this is what is left of the circuit, no latch held.
 fn cleans_to_two_free_latches(alloc: Global, circuit: &Circuit) -> Result<bool, NoMemory> {
     let cleaned = clean(alloc, circuit, &Keep::none())?;
-    Ok(are_first_and_third(&cleaned))
+    let are_left = are_first_and_third(&cleaned);
+    drop(cleaned);
+    Ok(are_left)
 }
 
 #[test]
 fn tells_which_free_latches_stay(rt: HostRuntime) -> Result<(), Fail> {
     let circuit = read_aag(rt.alloc(), FREE_LATCHES)?;
-    assert!(rt; cleans_to_two_free_latches(rt.alloc(), &circuit)?);
+    let holds = cleans_to_two_free_latches(rt.alloc(), &circuit);
+    drop(circuit);
+    assert!(rt; holds?);
     Ok(())
 }
 
@@ -96,24 +70,26 @@ fn cleaned_past(alloc: Global, circuit: &Circuit, names: &[Vec<u8>]) -> Result<C
     }
 }
 
-/// Whether these are left where both are held.
+/// Whether these are left where the latches of these names are held.
+fn cleans_past(alloc: Global, circuit: &Circuit, names: &[Vec<u8>]) -> Result<bool, KeepError> {
+    let cleaned = cleaned_past(alloc, circuit, names)?;
+    let are_left = are_twin_and_stuck(&cleaned);
+    drop(cleaned);
+    Ok(are_left)
+}
+
+/// The same of both names.
 fn cleans_past_held_latches(alloc: Global, circuit: &Circuit) -> Result<bool, KeepError> {
     let twin = Vec::from_slice(alloc, b"twin")?;
     let stuck = Vec::from_slice(alloc, b"stuck")?;
-    let cleaned = cleaned_past(alloc, circuit, &[twin, stuck])?;
-    Ok(are_twin_and_stuck(&cleaned))
+    cleans_past(alloc, circuit, &[twin, stuck])
 }
 
 #[test]
 fn cleans_neither_a_held_twin_nor_a_held_stuck_latch(rt: HostRuntime) -> Result<(), Fail> {
     let circuit = read_aag(rt.alloc(), HELD_LATCHES)?;
-    assert!(rt; cleans_past_held_latches(rt.alloc(), &circuit)?);
-    Ok(())
-}
-
-#[test]
-fn cleans_a_twin_and_a_stuck_latch_that_are_not_held(rt: HostRuntime) -> Result<(), Fail> {
-    let circuit = read_aag(rt.alloc(), HELD_LATCHES)?;
-    assert!(rt; cleans_to_a_latch(rt.alloc(), &circuit)?);
+    let holds = cleans_past_held_latches(rt.alloc(), &circuit);
+    drop(circuit);
+    assert!(rt; holds?);
     Ok(())
 }

@@ -4,7 +4,7 @@ use aag_text::{Counted, FailAfter, Failure, OneByte, ReadError, WriteError};
 use frames::{BytesError, Choice, Options, Retimed, retime_bytes};
 use pulse::{Crew, OpenGate};
 use std::alloc::Global;
-use std::test::Fail;
+use std::test::*;
 use std::thread::Threads;
 
 /// The chains after their two frames.
@@ -53,9 +53,8 @@ fn is_unread_by_each<R: Threads + Sync>(rt: &R, alloc: Global) -> bool {
 }
 
 #[test]
-fn writes_nothing_after_each_failed_read(rt: HostRuntime) -> Result<(), Fail> {
+fn writes_nothing_after_each_failed_read(rt: HostRuntime) {
     assert!(rt; is_unread_by_each(&rt, rt.alloc()));
-    Ok(())
 }
 
 /// How the retiming to a device that takes one byte a call, and fails from a number of calls on, ends, and what it took.
@@ -104,7 +103,6 @@ fn is_written_up_to_each<R: Threads + Sync>(rt: &R, alloc: Global) -> bool {
 }
 
 #[test]
-fn stops_at_each_failed_write(rt: HostRuntime) -> Result<(), Fail> {
+fn stops_at_each_failed_write(rt: HostRuntime) {
     assert!(rt; is_written_up_to_each(&rt, rt.alloc()));
-    Ok(())
 }

@@ -1,13 +1,7 @@
-//! Tests of the public calls on tables by variable, graphs and whole circuits: cleaning, moving over a set of gates, frames by crews,
-//! from bytes to bytes, simulating, and witnesses. They stand in a crate of their own, since a crate with tests is proved twice.
+//! Tests of the public calls on tables by variable, rows of words, graphs and whole circuits: cleaning, moving over a set of gates,
+//! frames by crews, and from bytes to bytes. They stand in a crate of their own, since a crate with tests is proved twice.
 #![tactic(auto)]
 
-#[cfg(test)]
-mod audited;
-#[cfg(test)]
-mod borders;
-#[cfg(test)]
-mod certified;
 #[cfg(test)]
 mod circuits;
 #[cfg(test)]
@@ -21,24 +15,16 @@ mod graphs;
 #[cfg(test)]
 mod lanes;
 #[cfg(test)]
-mod merged;
-#[cfg(test)]
 mod moves;
 #[cfg(test)]
 mod names;
 #[cfg(test)]
 mod records;
 #[cfg(test)]
-mod retimed_texts;
-#[cfg(test)]
 mod retiming;
-#[cfg(test)]
-mod simulated;
 #[cfg(test)]
 mod tables;
 #[cfg(test)]
 mod watched;
-#[cfg(test)]
-mod witnessed;
 #[cfg(test)]
 mod workers;

@@ -1,5 +1,5 @@
-//! Retimed circuits of two and of four latches, and a name that no latch has.
-use crate::circuits::{CHAINS, TWO_LATCHES};
+//! The retimed circuit of two chains of latches, in one frame and in two, and a name that no latch has.
+use crate::circuits::CHAINS;
 use aag_text::read_aag;
 use aig_graph::{Circuit, Gate, Latch, Lit, Reset};
 use frames::{Choice, FrameReport, Options, RetimeError, Retimed, retime};
@@ -33,43 +33,50 @@ fn latch(next: Lit) -> Latch {
     }
 }
 
-/// Whether one latch is left, which reads the gate of the inputs, and is the output.
-fn has_one_latch(retimed: &Retimed) -> bool {
-    let gate = Gate::of(Lit::new(1, false), Lit::new(2, false));
-    let report = FrameReport {
-        before: 2,
-        after: 1,
+/// What is told of a frame over one gate.
+fn over_one_gate(before: u32) -> FrameReport {
+    FrameReport {
+        before,
+        after: before.saturating_sub(1),
         moved: 1,
-    };
-    let aig = retimed.circuit.aig();
-    aig.inputs() == 2
-        && aig.latches() == [latch(Lit::new(4, false))].as_slice()
-        && aig.gates() == [gate].as_slice()
-        && retimed.circuit.props().outputs.as_slice() == [Lit::new(3, false)].as_slice()
-        && retimed.frames.as_slice() == [report].as_slice()
-        && retimed.read_latches == 2
-        && retimed.kept_free.is_empty()
+    }
 }
 
 /// Whether two latches in a row are left, after the gate of the inputs, and the last one is the output: after two frames.
 fn has_two_latches(retimed: &Retimed) -> bool {
     let gate = Gate::of(Lit::new(1, false), Lit::new(2, false));
-    let first = FrameReport {
-        before: 4,
-        after: 3,
-        moved: 1,
-    };
-    let second = FrameReport {
-        before: 3,
-        after: 2,
-        moved: 1,
-    };
     let aig = retimed.circuit.aig();
     aig.inputs() == 2
         && aig.latches() == [latch(Lit::new(4, false)), latch(Lit::new(5, false))].as_slice()
         && aig.gates() == [gate].as_slice()
         && retimed.circuit.props().outputs.as_slice() == [Lit::new(3, false)].as_slice()
-        && retimed.frames.as_slice() == [first, second].as_slice()
+        && retimed.frames.as_slice() == [over_one_gate(4), over_one_gate(3)].as_slice()
+        && retimed.read_latches == 4
+        && retimed.kept_free.is_empty()
+}
+
+/// Whether that is what is left.
+fn leaves_two_latches<R: Threads + Sync>(rt: &R, alloc: Global, circuit: &Circuit) -> bool {
+    match retimed(rt, alloc, circuit, 1 << 28) {
+        Some(retimed) => {
+            let left = has_two_latches(&retimed);
+            drop(retimed);
+            left
+        }
+        None => false,
+    }
+}
+
+/// Whether one frame is taken where that is the limit.
+fn stops_after_one<R: Threads + Sync>(rt: &R, alloc: Global, circuit: &Circuit) -> bool {
+    match retimed(rt, alloc, circuit, 1) {
+        Some(retimed) => {
+            let stops = retimed.frames.as_slice() == [over_one_gate(4)].as_slice();
+            drop(retimed);
+            stops
+        }
+        None => false,
+    }
 }
 
 /// Whether there is no latch with the name.
@@ -95,32 +102,18 @@ fn refuses_name<R: Threads + Sync>(
 }
 
 #[test]
-fn moves_latches_over_a_gate(rt: HostRuntime) -> Result<(), Fail> {
-    let circuit = read_aag(rt.alloc(), TWO_LATCHES)?;
-    let retimed = retimed(&rt, rt.alloc(), &circuit, 1 << 28);
-    assert!(rt; retimed.is_some_and(|retimed| has_one_latch(&retimed)));
-    Ok(())
-}
-
-#[test]
-fn takes_one_frame_after_another(rt: HostRuntime) -> Result<(), Fail> {
+fn takes_one_frame_after_another_up_to_the_limit(rt: HostRuntime) -> Result<(), Fail> {
     let circuit = read_aag(rt.alloc(), CHAINS)?;
-    let retimed = retimed(&rt, rt.alloc(), &circuit, 1 << 28);
-    assert!(rt; retimed.is_some_and(|retimed| has_two_latches(&retimed)));
-    Ok(())
-}
-
-#[test]
-fn stops_at_the_limit_of_frames(rt: HostRuntime) -> Result<(), Fail> {
-    let circuit = read_aag(rt.alloc(), CHAINS)?;
-    let retimed = retimed(&rt, rt.alloc(), &circuit, 1);
-    assert!(rt; retimed.is_some_and(|retimed| retimed.frames.len() == 1));
+    let holds = leaves_two_latches(&rt, rt.alloc(), &circuit)
+        && stops_after_one(&rt, rt.alloc(), &circuit);
+    drop(circuit);
+    assert!(rt; holds);
     Ok(())
 }
 
 #[test]
 fn refuses_a_name_that_no_latch_has(rt: HostRuntime) -> Result<(), Fail> {
-    let circuit = read_aag(rt.alloc(), TWO_LATCHES)?;
+    let circuit = read_aag(rt.alloc(), CHAINS)?;
     let name = Vec::from_array(rt.alloc(), [b'b'])?;
     let holds = refuses_name(&rt, rt.alloc(), &circuit, name);
     drop(circuit);

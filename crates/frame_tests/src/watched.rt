@@ -1,12 +1,12 @@
 //! What a watcher is told of a run, in order.
 ghost use Rattle.std.specs.Prelude.{⊤};
 
-use crate::circuits::{CHAINS, TWO_LATCHES};
+use crate::circuits::CHAINS;
 use aag_text::Counted;
 use frames::{Choice, FrameWatcher, Options, Stage, retime_bytes_watched};
 use pulse::{Crew, OpenGate};
 use std::alloc::Global;
-use std::test::Fail;
+use std::test::*;
 use std::thread::Threads;
 
 /// A stage, and of a look for a set how many frames were taken, and how many known latches and gates there are.
@@ -74,23 +74,8 @@ fn stages_of<R: Threads + Sync>(rt: &R, alloc: Global, bytes: &[u8], max_frames:
     stages.told
 }
 
-#[test]
-fn a_watcher_is_told_of_each_stage(rt: HostRuntime) -> Result<(), Fail> {
-    let told = stages_of(&rt, rt.alloc(), TWO_LATCHES, 8);
-    let wanted = [
-        Told::Cleaning,
-        Told::Looking(0, 2, 1),
-        Told::Moving,
-        Told::Looking(1, 1, 1),
-        Told::Writing,
-    ];
-    assert!(rt; told.as_slice() == wanted.as_slice());
-    Ok(())
-}
-
-#[test]
-fn a_watcher_is_told_of_each_frame(rt: HostRuntime) -> Result<(), Fail> {
-    let told = stages_of(&rt, rt.alloc(), CHAINS, 8);
+/// Whether a watcher of the chains is told of each stage of both frames.
+fn tells_each_stage<R: Threads + Sync>(rt: &R, alloc: Global) -> bool {
     let wanted = [
         Told::Cleaning,
         Told::Looking(0, 4, 1),
@@ -100,19 +85,11 @@ fn a_watcher_is_told_of_each_frame(rt: HostRuntime) -> Result<(), Fail> {
         Told::Looking(2, 2, 1),
         Told::Writing,
     ];
-    assert!(rt; told.as_slice() == wanted.as_slice());
-    Ok(())
+    let told = stages_of(rt, alloc, CHAINS, 8);
+    told.as_slice() == wanted.as_slice()
 }
 
 #[test]
-fn a_watcher_is_told_of_no_look_past_the_limit(rt: HostRuntime) -> Result<(), Fail> {
-    let told = stages_of(&rt, rt.alloc(), CHAINS, 1);
-    let wanted = [
-        Told::Cleaning,
-        Told::Looking(0, 4, 1),
-        Told::Moving,
-        Told::Writing,
-    ];
-    assert!(rt; told.as_slice() == wanted.as_slice());
-    Ok(())
+fn a_watcher_is_told_of_each_stage(rt: HostRuntime) {
+    assert!(rt; tells_each_stage(&rt, rt.alloc()));
 }

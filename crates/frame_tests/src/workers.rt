@@ -101,19 +101,11 @@ fn works_at_once<R: Threads + Sync>(rt: &R, alloc: Global, circuit: &Circuit, he
 }
 
 #[test]
-fn holds_the_first_worker(rt: HostRuntime) -> Result<(), Fail> {
+fn holds_either_worker(rt: HostRuntime) -> Result<(), Fail> {
     let circuit = read_aag(rt.alloc(), TWO_LATCHES)?;
-    let holds = works_at_once(&rt, rt.alloc(), &circuit, 0);
+    let first = works_at_once(&rt, rt.alloc(), &circuit, 0);
+    let second = works_at_once(&rt, rt.alloc(), &circuit, 1);
     drop(circuit);
-    assert!(rt; holds);
-    Ok(())
-}
-
-#[test]
-fn holds_the_second_worker(rt: HostRuntime) -> Result<(), Fail> {
-    let circuit = read_aag(rt.alloc(), TWO_LATCHES)?;
-    let holds = works_at_once(&rt, rt.alloc(), &circuit, 1);
-    drop(circuit);
-    assert!(rt; holds);
+    assert!(rt; first && second);
     Ok(())
 }
