@@ -2,7 +2,7 @@
 """Checks a file of certificates for a circuit, by docs/CERTIFICATES.md alone: it shares no code with the program, nor with the
 reference model.
 
-usage: tests/checker.py IN CERT [--keep NAME]... [--merge]
+usage: tests/checker.py IN CERT [--keep NAME]... [--keep-latch PLACE]... [--merge]
 
 Prints a line for each block, then how the blocks end. The status is 0 where each block shows that its set is least, 5 where one
 doesn't or blocks follow the end, 1 where a file is refused, 3 where one can't be read. The word `verify` may stand before IN, as
@@ -323,12 +323,17 @@ def latch_names(text):
     return found
 
 
-def hold(path, c, name_of, names):
-    """Holds each latch that has one of the names."""
+def hold(path, c, name_of, names, places):
+    """Holds each latch that has one of the names, and those at the places, from 0."""
+    latches = list(c.latches)
+    for place in places:
+        if place >= len(latches):
+            raise Refused(f'{path}: NoSuchLatch {place}')
     for name in names:
         if name not in name_of.values():
             raise Refused(f'{path}: NoSuchName {os.fsdecode(name)}')
-    c.latches = {v: replace(latch, held=name_of.get(v) in names) for v, latch in c.latches.items()}
+    chosen = {latches[place] for place in places}
+    c.latches = {v: replace(latch, held=v in chosen or name_of.get(v) in names) for v, latch in c.latches.items()}
 
 
 @dataclass
@@ -389,13 +394,14 @@ def main(words):
     parser.add_argument('circuit', metavar='IN')
     parser.add_argument('certificates', metavar='CERT')
     parser.add_argument('--keep', metavar='NAME', action='append', default=[], help='a latch with this name is held')
+    parser.add_argument('--keep-latch', metavar='PLACE', action='append', default=[], type=int, help='the latch at this place, from 0, is held')
     parser.add_argument('--merge', action='store_true', help='latches that always agree were merged before the first frame')
     given = parser.parse_args(words[1:] if words[:1] == ['verify'] else words)
     names = [os.fsencode(name) for name in given.keep]
     try:
         c, name_of = read(given.circuit, read_circuit)
         blocks = read(given.certificates, read_blocks)
-        hold(given.circuit, c, name_of, names)
+        hold(given.circuit, c, name_of, names, given.keep_latch)
         c = merged(cleaned(c)) if given.merge else c
         lines, status = verify(c, blocks)
         if not blocks:

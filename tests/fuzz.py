@@ -77,7 +77,7 @@ def content(name):
 
 
 def options(rng, c):
-    """A number of workers, and at random a spelling, a limit of frames, and names of latches, one of which may be missing."""
+    """A number of workers, and at random a spelling, a limit of frames, and names and places of latches, one of which may be missing."""
     words = ['--workers', str(rng.choice(WORKERS))] + rng.choice([[], [], ['--ascii'], ['--binary']])
     words += rng.choice([[], [], ['--frames', str(rng.randint(1, 3))]]) + rng.choice([[], ['--near']])
     words += rng.choice([[], ['--merge']])
@@ -85,14 +85,23 @@ def options(rng, c):
     if rng.random() < 0.4:
         names = rng.sample(names, rng.randint(0, len(names))) + ([b'no latch'] if rng.random() < 0.1 else [])
         words += ['--keep=' + name.decode() for name in names]
-    return words
+    return words + held_places(rng, c)
+
+
+def held_places(rng, c):
+    """At random latches that are held by their places, one of which may be past the last."""
+    if rng.random() < 0.7:
+        return []
+    places = [rng.randrange(len(c.latches) + (rng.random() < 0.1)) for _ in range(rng.randint(1, 3)) if c.latches]
+    return [f'--keep-latch={place}' for place in places]
 
 
 def picture_options(rng, c):
-    """At random a frame, a held latch, and the neighbourhood of a name that may be missing."""
+    """At random a frame, held latches, and the neighbourhood of a name that may be missing."""
     latches, names = ([name.decode() for name in kind if name.isascii()] for kind in (
         c.symbols['l'].values(), [name for names in c.symbols.values() for name in names.values()]))
-    words = rng.choice([[], ['--frame'], ['--frame', '--merge']]) + [f'--keep={name}' for name in rng.sample(latches, min(len(latches), rng.randint(0, 1)))]
+    words = rng.choice([[], ['--frame'], ['--frame', '--merge']]) + held_places(rng, c)
+    words += [f'--keep={name}' for name in rng.sample(latches, min(len(latches), rng.randint(0, 1)))]
     if rng.random() < 0.5:
         shown = [f'{rng.choice("ilobcjf")}{rng.randint(0, 2)}', str(rng.randint(0, 12)), 'nothing']
         words += [f'--around={rng.choice([*names, *shown])}'] + rng.choice([[], [f'--depth={rng.randint(1, 4)}']])
@@ -135,7 +144,8 @@ def compare_small(rng, comparison):
     comparison.run(['dot', 'in', 'OUT', *picture_options(rng, c)], {'in': data})
     stim = random_files.stimulus(rng, c, rng.choice([0, 1, 3, 70]), 4)
     comparison.run(['sim', 'in', 'stim'], {'in': data, 'stim': stim})
-    comparison.run(['sim', 'in', *random_sequences(rng)], {'in': data})
+    comparison.run(['sim', 'in', 'stim', '--vcd', 'OUT'], {'in': data, 'stim': stim})
+    comparison.run(['sim', 'in', *random_sequences(rng), *rng.choice([[], ['--vcd', 'OUT']])], {'in': data})
     if retimed:
         comparison.run(['same', 'in', 'other', 'stim'], {'in': data, 'other': retimed, 'stim': stim})
         comparison.run(['same', 'in', 'other', *random_sequences(rng)], {'in': data, 'other': retimed})
@@ -151,16 +161,18 @@ def compare_certificates(rng, comparison):
     what the reference wrote; and of both when they are bent."""
     c = random_files.tree(rng) if rng.random() < 0.8 else random_files.pipeline(rng, rng.choice([4, 8]), rng.randint(1, 3))
     data, words = random_files.any_file(rng, c), options(rng, c)
-    if not comparison.run(['retime', 'in', 'OUT', *words, '--cert', 'CERT'], {'in': data}):
+    retimed = comparison.run(['retime', 'in', 'OUT', *words, '--cert', 'CERT'], {'in': data})
+    if not retimed:
         return
     held = [word for word in words if word.startswith('--keep') or word == '--merge']
     texts = [content(OWN[who]['CERT']) for who in OWN]
     both = [[line for line in (text or b'').split(b'\n') if line[:2] != b'r '] for text in texts]
     comparison.count(both[0] == both[1], f'certificates {words} on {data}\n{both}')
-    for text in filter(None, texts):
-        compare_judges(comparison, text, held, data)
+    for written in filter(None, texts):
+        compare_judges(comparison, written, held, data)
+        compare_ends(rng, comparison, {'in': data, 'cert': written}, held, retimed)
         for _ in range(2):
-            compare_judges(comparison, random_files.bent(rng, text), held, data)
+            compare_judges(comparison, random_files.bent(rng, written), held, data)
 
 
 def compare_maps(rng, comparison):
@@ -234,15 +246,28 @@ def named(rng, c, d):
     return dataclasses.replace(c, symbols=symbols)
 
 
+def compare_products(comparison, words, files):
+    """What `miter --certificate` writes: both circuits side by side, and the certificate."""
+    comparison.run(['miter', 'in', 'other', 'map', 'OUT', '--certificate', 'CERT', *words], files)
+    both = [content(name) for name in ('reference.cert', 'program.cert')]
+    comparison.count(both[0] == both[1], f'miter --certificate {words} on {files}\n{both}')
+    for name in ('reference.cert', 'program.cert'):
+        with contextlib.suppress(FileNotFoundError):
+            os.remove(name)
+
+
 def compare_miters(rng, comparison, data, retimed, map_data):
     """What `miter` writes of a map, and where something was changed; and of three files in another order."""
     words = rng.choice([[], ['--ascii'], ['--binary']])
     comparison.run(['miter', 'in', 'other', 'map', 'OUT', *words], {'in': data, 'other': retimed, 'map': map_data})
+    compare_products(comparison, words, {'in': data, 'other': retimed, 'map': map_data})
     comparison.run(['miter', *rng.sample(['in', 'other', 'map'], 3), 'OUT'], {})
     parts = [read(part)[0] for part in (data, retimed, map_data)]
     for chosen in (0, 1, 2):
         worse = [changed(rng, part) if k == chosen else part for k, part in enumerate(parts)]
-        comparison.run(['miter', 'in', 'other', 'map', 'OUT'], dict(zip(('in', 'other', 'map'), (text(part, rng.choice(['aag', 'aig'])) for part in worse))))
+        files = dict(zip(('in', 'other', 'map'), (text(part, rng.choice(['aag', 'aig'])) for part in worse)))
+        comparison.run(['miter', 'in', 'other', 'map', 'OUT'], files)
+        compare_products(comparison, [], files)
 
 
 def compare_lifts(rng, comparison, data, retimed, map_data):
@@ -262,6 +287,17 @@ def compare_judges(comparison, certificates, held, data):
     said = ran([sys.executable, TESTS / 'checker.py', 'in', 'cert', *held])
     wanted = reference_program.run(['verify', 'in', 'cert', *held])
     comparison.count(said == wanted, f'the checker, {held} on {certificates} of {data}\nexpected {wanted}\ngot {said}')
+
+
+def compare_ends(rng, comparison, files, held, retimed):
+    """What `verify --out` says of what was written, which is the same, in either spelling; of damaged bytes, and of bent certificates."""
+    words = ['verify', 'in', 'cert', *held, '--out', 'other']
+    for whole in (retimed, text(read(retimed)[0], rng.choice(['aag', 'aig']))):
+        comparison.run(words, {**files, 'other': whole})
+        said = reference_program.run(words)
+        comparison.count(said[0] == 0 and said[1].endswith('out same\n'), f'{words} on {files}, {whole}\n{said}')
+    comparison.run(words, {**files, 'other': random_files.damaged(rng, retimed)})
+    comparison.run(words, {**files, 'cert': random_files.bent(rng, files['cert']), 'other': retimed})
 
 
 def compare_two(rng, comparison):

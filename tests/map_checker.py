@@ -26,7 +26,9 @@ import sys
 import tempfile
 from dataclasses import dataclass
 
-from checker import Refused, Text, binary_gate, in_order, number, read
+sys.dont_write_bytecode = True
+# (the modules beside this script, which are not to leave compiled files there)
+from checker import Refused, Text, binary_gate, in_order, number, read  # noqa: E402
 
 # SAT solvers that may be installed; each reads a DIMACS file, and ends with status 20 where it has no solution.
 SOLVERS = ['cadical -q', 'minisat -verb=0']

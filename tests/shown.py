@@ -154,12 +154,17 @@ def folder_of(path):
     return folder
 
 
-def can_run(command, folder):
-    """Whether the programs that a command needs, and the files that it reads, are there."""
+def circuits_in(command):
+    """The names of circuits that stand in a command."""
+    return re.findall(r'(?<![\w./])[\w./]+\.a[ai]g\b', command)
+
+
+def can_run(command, folder, made):
+    """Whether the programs that a command needs, and the files that it reads, are there, or made by a command of its block before."""
     command = command.split('    #')[0]
     name = command.split()[0]
-    written = re.findall(r'(?:write_aiger|retime \S+) (\S+?)[;"]', command)
-    circuits = [it for it in re.findall(r'(?<![\w./])[\w./]+\.a[ai]g\b', command) if it not in written]
+    written = [*made, *re.findall(r'(?:write_aiger|retime \S+) (\S+?)[;"]', command)]
+    circuits = [it for it in circuits_in(command) if it not in written]
     if name in OWN:
         return all((folder / circuit).exists() for circuit in circuits[:-1 if ' lift ' in command else 1])
     files = circuits if name == 'berkeley-abc' else re.findall(r'(\S+) >', command) if name == 'sed' else []
@@ -173,7 +178,8 @@ def faults_of_block(program, path, folder, shown, number):
     """Runs the commands of a block; the faults of what the document says of them."""
     block = shown[number]
     commands = [line for line in block.lines if is_command(line)]
-    if not all(can_run(command, folder) for command in commands):
+    made = [circuits_in(command)[1:] if command.split()[0] in OWN else [] for command in commands]
+    if not all(can_run(command, folder, sum(made[:k], [])) for k, command in enumerate(commands)):
         yield 'left out', commands[0]
         return
     ran = [run(program, command, folder) for command in commands]
@@ -204,7 +210,7 @@ def faults_of_files(path, folder, shown):
 def faults_of_saying(program, saying, path, folder):
     """Whether the document has the text, and the run prints it."""
     command = 'fretime ' + saying.arguments
-    if not can_run(command, folder) and saying.status == 0:
+    if not can_run(command, folder, []) and saying.status == 0:
         yield 'left out', command
         return
     ran = run(program, command, folder)

@@ -23,8 +23,10 @@ import re
 import sys
 from dataclasses import dataclass
 
-from checker import Refused, read
-from map_checker import Graph, Judge, installed_solver, read_circuit
+sys.dont_write_bytecode = True
+# (the modules beside this script, which are not to leave compiled files there)
+from checker import Refused, read  # noqa: E402
+from map_checker import Graph, Judge, installed_solver, read_circuit  # noqa: E402
 
 NAME = re.compile(rb'([il])(\d+) = (\d+)')
 

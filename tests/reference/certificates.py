@@ -123,18 +123,27 @@ def verdict(c, held, block):
 
 
 def audit(c, names, blocks, merge):
-    """The printed lines, and the status."""
+    """The printed lines, the status, and the circuit that the blocks end in, None where something speaks against one."""
     c, held = start_of(c, held_latches(c, names), merge)
     lines, known = [], None
     for k, block in enumerate(blocks):
         if known is not None and blocks[k - 1].count >= known:
-            return [*lines, 'blocks follow the end'], 5
+            return [*lines, 'blocks follow the end'], 5, None
         if k:
             c, held = cleaned(*moved(c, set(blocks[k - 1].gates), held))
         known, said = c.known_latches(), verdict(c, held, block)
         if said != 'Yes':
-            return [*lines, f'block {k}: no, {said}'], 5
+            return [*lines, f'block {k}: no, {said}'], 5, None
         lines.append(f'block {k}: yes, count {block.count}')
-    if blocks:
-        lines.append('end certified' if blocks[-1].count == known else 'end open')
-    return lines, 0
+    if blocks and blocks[-1].count == known:
+        lines.append('end certified')
+    elif blocks:
+        lines.append('end open')
+        c, _ = cleaned(*moved(c, set(blocks[-1].gates), held))
+    return lines, 0, c
+
+
+def first_difference(one, other):
+    """The offset of the first byte that isn't the same in both, or that one lacks; None where they are one."""
+    places = range(max(len(one), len(other)))
+    return next((k for k in places if one[k:k + 1] != other[k:k + 1]), None)

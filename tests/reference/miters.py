@@ -1,4 +1,5 @@
-"""What a map of states has to meet, as a circuit without latches that is 1 where it fails."""
+"""What a map of states has to meet, as a circuit without latches that is 1 where it fails; and both circuits side by side, as a model and
+as the witness circuit that the map makes of it."""
 from reference.circuit import FREE, Circuit, no_symbols
 from reference.lifts import Joined
 
@@ -55,3 +56,30 @@ def miter(c, d, m):
     failures = [reset, *(asked.gate(kept, wanted ^ 1) for wanted in (kept_later, same_nexts, same_props))]
     names = dict(enumerate([b'reset', b'keep', b'next', b'read']))
     return Circuit(c.inputs + len(c.latches), [], asked.gates, failures, [], [], symbols=no_symbols() | {'o': names})
+
+
+def ties(c, d, m):
+    """The literals of free latches of d and of those of c that they are, side by side: none where some is none of c."""
+    pairs = [(2 * (c.first_gate() + k), 2 * (c.inputs + lit // 2))
+             for k, (lit, (_, reset)) in enumerate(zip(m.outputs, d.latches)) if reset == FREE]
+    return pairs if free_stay(c, d, m) else []
+
+
+def product(c, d, m, is_model):
+    """Both circuits over the same inputs. The bad state of the model is that a property differs, that of its witness circuit that a
+    constraint of the map is 0, or a latch of d isn't what the map says. Where d has free latches, a last latch is 0 in the first step
+    alone, in which they have to hold what those of c do."""
+    pairs = ties(c, d, m)
+    count = len(c.latches) + len(d.latches) + bool(pairs)
+    lits = [2 * (1 + k) for k in range(c.inputs + count)]
+    inputs, first, second = lits[:c.inputs], lits[c.inputs:][:len(c.latches)], lits[c.inputs + len(c.latches):][:len(d.latches)]
+    asked = Asked(1 + len(lits))
+    (nexts, props), (nexts_of_second, props_of_second) = asked.step(c, inputs, first), asked.step(d, inputs, second)
+    if is_model:
+        good = asked.all_equal(props_of_second, props)
+    else:
+        kept, outputs = asked.image(m, first)
+        good = asked.gate(kept, asked.all_equal(outputs, second))
+    constraints = [asked.gate(lits[-1] ^ 1, asked.all_equal(*zip(*pairs)) ^ 1) ^ 1] if pairs else []
+    latches = [(lit, reset) for lit, (_, reset) in zip(nexts + nexts_of_second, c.latches + d.latches)]
+    return Circuit(c.inputs, latches + [(1, 0)] * bool(pairs), asked.gates, [], [good ^ 1], constraints)

@@ -2,32 +2,35 @@
 import os
 import sys
 
-from reference.certificates import audit, certificates, read_blocks, written
+from reference.certificates import audit, certificates, first_difference, read_blocks, written
 from reference.checks import are_fitting, checked, is_map
 from reference.circuit import text
 from reference.lifts import NoSuchLiteral, lifted
 from reference.maps import state_map
 from reference.merging import merge_counts
-from reference.miters import miter
+from reference.miters import miter, product
 from reference.pictures import MOST_NODES, middle, neighbourhood, nodes, picture
 from reference.reading import Fault, read
-from reference.retiming import NoSuchName, frames_of, held_latches, passable, retimed
+from reference.retiming import NoSuchLatch, NoSuchName, frames_of, held_latches, passable, retimed
 from reference.simulation import difference_text, is_too_long, random_stimulus, read_kept, read_stimulus, trace, trace_text
+from reference.waves import dump
 from reference.witnesses import carried_text
 
 PATHS = {'retime': 2, 'batch': 1, 'stat': 1, 'convert': 2, 'sim': 2, 'same': 3, 'verify': 2, 'check': 3, 'miter': 4, 'lift': 5, 'dot': 2,
          'witness': 3}
-OPTIONS = {'retime': {'--ascii', '--binary', '--workers', '--frames', '--near', '--merge', '--keep', '--cert', '--map', '--progress',
-                      '--quiet'},
-           'verify': {'--keep', '--merge'}, 'dot': {'--frame', '--merge', '--keep', '--around', '--depth'},
+OPTIONS = {'retime': {'--ascii', '--binary', '--workers', '--frames', '--near', '--merge', '--keep', '--keep-latch', '--cert', '--map',
+                      '--progress', '--quiet'},
+           'verify': {'--keep', '--keep-latch', '--merge', '--out'},
+           'dot': {'--frame', '--merge', '--keep', '--keep-latch', '--around', '--depth'},
            'batch': {'--ascii', '--binary', '--workers', '--frames', '--near', '--merge'}, 'convert': {'--ascii', '--binary'},
-           'miter': {'--ascii', '--binary'}, 'lift': {'--ascii', '--binary'}, 'stat': {'--merge'}, 'witness': {'--merge'}, 'sim': {'--random', '--steps', '--seed'},
+           'miter': {'--ascii', '--binary', '--certificate'}, 'lift': {'--ascii', '--binary'}, 'stat': {'--merge'}, 'witness': {'--merge'}, 'sim': {'--random', '--steps', '--seed', '--vcd'},
            'same': {'--random', '--steps', '--seed', '--kept'}}
 WRITING = {'retime', 'convert', 'dot', 'miter', 'lift'}
-GREATEST = {'--workers': 64, '--frames': 2**28, '--depth': 100, '--random': 2**20, '--steps': 2**22, '--seed': 2**32 - 1}
-LEAST = {'--seed': 0}
-VALUED = {'--workers', '--frames', '--keep', '--cert', '--map', '--around', '--depth', '--random', '--steps', '--seed', '--kept'}
-BESIDE = ('--map', '--cert')
+GREATEST = {'--workers': 64, '--frames': 2**28, '--keep-latch': 2**28 - 1, '--depth': 100, '--random': 2**20, '--steps': 2**22, '--seed': 2**32 - 1}
+LEAST = {'--seed': 0, '--keep-latch': 0}
+VALUED = {'--workers', '--frames', '--keep', '--keep-latch', '--cert', '--map', '--out', '--certificate', '--around', '--depth', '--random',
+          '--steps', '--seed', '--kept', '--vcd'}
+BESIDE = ('--map', '--cert', '--certificate', '--vcd')
 LINES = 2**20
 
 
@@ -74,7 +77,7 @@ def parsed(words):
             paths.append(word)
             continue
         name, _, value = word.partition('=')
-        if name not in OPTIONS.get(command, ()) or (name in options and name != '--keep'):
+        if name not in OPTIONS.get(command, ()) or (name in options and name not in {'--keep', '--keep-latch'}):
             raise Ends(2, f'error: {word}')
         if name in VALUED and '=' not in word:
             value = next(rest, '--')
@@ -93,18 +96,19 @@ def parsed(words):
     if command == 'dot' and '--merge' in options and '--frame' not in options:
         raise Ends(2, 'error: --merge without --frame')
     outputs = paths[-1:] if command in WRITING else []
-    if (paths[:len(paths) - len(outputs)] + options.get('--kept', [])).count('-') > 1:
+    if (paths[:len(paths) - len(outputs)] + options.get('--kept', []) + options.get('--out', [])).count('-') > 1:
         raise Ends(2, 'error: standard input is read once')
-    if (outputs + beside(options)).count('-') > 1:
+    printed = ['-'] if command == 'sim' else []
+    if (outputs + printed + beside(options)).count('-') > 1:
         raise Ends(2, 'error: standard output is written once')
     files = [path for path in beside(options) if path != '-']
-    if command == 'retime' and (set(paths) & set(files) or len(files) != len(set(files))):
-        raise Ends(2, 'error: a map and certificates have files of their own')
+    if set(paths) & set(files) or len(files) != len(set(files)):
+        raise Ends(2, 'error: what is written beside a circuit has a file of its own')
     return command, paths, options
 
 
 def beside(options):
-    """The files that are written beside a circuit."""
+    """The files that are written beside a circuit or a trace."""
     return [path for name in BESIDE for path in options.get(name, [])]
 
 
@@ -147,7 +151,7 @@ def stimulus_of(paths, options, c):
     """The stimulus that is read, or the random one; the paths are those of the circuits, and then of the stimulus."""
     if '--random' in options:
         sequences, steps, seed = (int(options.get(name, [other])[0]) for name, other in (('--random', 1), ('--steps', 100), ('--seed', 0)))
-        if is_too_long(c, sequences, steps):
+        if is_too_long(c, sequences, steps, waves='--vcd' in options):
             raise Ends(1, f'{source_name(paths[0])}: TooManySteps: take fewer steps or sequences')
         return random_stimulus(c.inputs, c.free_latches(), sequences, steps, seed)
     try:
@@ -191,14 +195,25 @@ def letters_of(options, otherwise):
     return 'aag' if '--ascii' in options else 'aig' if '--binary' in options else otherwise
 
 
+def held_by(options):
+    """The latches that are held: names as bytes, places as numbers."""
+    return [os.fsencode(name) for name in options.get('--keep', [])] + [int(place) for place in options.get('--keep-latch', [])]
+
+
+def no_such_latch(path, place):
+    return Ends(1, f'{source_name(path)}: NoSuchLatch {place}')
+
+
 def retime(paths, options):
     c, letters = circuit_of(paths[0])
     most = int(options['--frames'][0]) if '--frames' in options else None
-    names, smallest, merge = [os.fsencode(name) for name in options.get('--keep', [])], '--near' in options, '--merge' in options
+    names, smallest, merge = held_by(options), '--near' in options, '--merge' in options
     try:
         d, frames = retimed(c, most, names, smallest, merge)
     except NoSuchName as missing:
         raise no_such_name(paths[0], c, missing.args[0]) from missing
+    except NoSuchLatch as missing:
+        raise no_such_latch(paths[0], missing.args[0]) from missing
     write(paths[1], text(d, letters_of(options, letters)))
     for path in options.get('--map', []):
         write(path, text(state_map(c, most, names, smallest, merge)[0], letters_of(options, letters)))
@@ -270,7 +285,10 @@ def convert(paths, options):
 
 def sim(paths, options):
     c, _ = circuit_of(paths[0])
-    return 0, trace_text(trace(c, stimulus_of(paths, options, c)))
+    sequences = stimulus_of(paths, options, c)
+    for path in options.get('--vcd', []):
+        write(path, dump(c, sequences).encode())
+    return 0, trace_text(trace(c, sequences))
 
 
 def same(paths, options):
@@ -286,11 +304,19 @@ def verify(paths, options):
         blocks = read_blocks(bytes_of(paths[1]))
     except Fault as fault:
         raise Ends(1, f'{source_name(paths[1])}: {fault}') from fault
+    outs = [bytes_of(path) for path in options.get('--out', [])]
     try:
-        lines, status = audit(c, [os.fsencode(name) for name in options.get('--keep', [])], blocks, '--merge' in options)
+        lines, status, last = audit(c, held_by(options), blocks, '--merge' in options)
     except NoSuchName as missing:
         raise no_such_name(paths[0], c, missing.args[0]) from missing
-    told = '' if blocks else f'{source_name(paths[1])}: no certificate: nothing was checked\n'
+    except NoSuchLatch as missing:
+        raise no_such_latch(paths[0], missing.args[0]) from missing
+    for data in outs if last else []:
+        at = first_difference(text(last, 'aig' if data[:3] == b'aig' else 'aag'), data)
+        lines.append('out same' if at is None else f'out differs at {at}')
+        status = 0 if at is None else 5
+    checked_then = 'no frame was checked' if outs else 'nothing was checked'
+    told = '' if blocks else f'{source_name(paths[1])}: no certificate: {checked_then}\n'
     return status, ''.join(f'{line}\n' for line in lines), told
 
 
@@ -308,7 +334,13 @@ def asked(paths, options):
         raise Ends(1, f'{source_name(paths[2])}: NotAMap')
     if not are_fitting(c[0], d[0], m[0]):
         return 1, 'shapes differ\n'
-    write(paths[3], text(miter(c[0], d[0], m[0]), letters_of(options, m[1])))
+    spelling = letters_of(options, m[1])
+    if '--certificate' not in options:
+        write(paths[3], text(miter(c[0], d[0], m[0]), spelling))
+        return 0, ''
+    model, witness_circuit = (text(product(c[0], d[0], m[0], is_model), spelling) for is_model in (True, False))
+    write(paths[3], model)
+    write(options['--certificate'][0], witness_circuit)
     return 0, ''
 
 
@@ -329,7 +361,7 @@ def lift(paths, options):
 def drawn_circuit(c, path, options):
     """What a picture shows: the circuit, its held latches and a set. With --frame the circuit is cleaned, and the set is the one that
     its next frame takes."""
-    names = [os.fsencode(name) for name in options.get('--keep', [])]
+    names = held_by(options)
     try:
         held = held_latches(c, names)
         if '--frame' not in options:
@@ -337,6 +369,8 @@ def drawn_circuit(c, path, options):
         d, held, count, members = frames_of(c, 1, names, merge='--merge' in options)[0]
     except NoSuchName as missing:
         raise no_such_name(path, c, missing.args[0]) from missing
+    except NoSuchLatch as missing:
+        raise no_such_latch(path, missing.args[0]) from missing
     return d, held, members if count < d.known_latches() else None
 
 

@@ -12,11 +12,20 @@ class NoSuchName(Exception):
     """No latch has this name."""
 
 
-def held_latches(c, names):
+class NoSuchLatch(Exception):
+    """No latch has this place."""
+
+
+def held_latches(c, wanted):
+    """The positions of the latches that are held: of names, which are bytes, and of places, which are numbers."""
+    places, names = [one for one in wanted if isinstance(one, int)], [one for one in wanted if isinstance(one, bytes)]
+    for place in places:
+        if place >= len(c.latches):
+            raise NoSuchLatch(place)
     for name in names:
         if name not in c.symbols['l'].values():
             raise NoSuchName(name)
-    return {k for k, name in c.symbols['l'].items() if name in names}
+    return {k for k, name in c.symbols['l'].items() if name in names} | set(places)
 
 
 def passable(c, held=frozenset()):

@@ -72,10 +72,12 @@ def random_stimulus(inputs, free, sequences, steps, seed):
     return found
 
 
-def is_too_long(c, sequences, steps):
-    """Whether so many sequences of so many steps, or a trace under them, take too much memory."""
+def is_too_long(c, sequences, steps, waves=False):
+    """Whether so many sequences of so many steps, or a trace under them, of all inputs and latches too where waves are wanted, take
+    too much memory."""
+    width = len(c.properties()) + waves * (c.inputs + len(c.latches))
     return (sequences * steps * (c.inputs + 64) > 2**28 or sequences * c.free_latches() > 2**28
-            or max(sequences, 256) * steps * len(c.properties()) > 2**31)
+            or max(sequences, 256) * steps * width > 2**31)
 
 
 def value_of(lit, values):
@@ -83,17 +85,23 @@ def value_of(lit, values):
     return values[lit // 2] != bool(lit & 1)
 
 
-def steps(c, choice, rows):
-    """The values of the properties at each step of one sequence: `choice` has the values of the uninitialised latches at the
-    start, `rows` those of the inputs, step by step."""
+def values_of(c, choice, rows):
+    """The values of all variables at each step of one sequence: `choice` has the values of the uninitialised latches at the start,
+    `rows` those of the inputs, step by step."""
     choice = iter(choice)
     state = [bool(next(choice)) if reset is FREE else bool(reset) for _, reset in c.latches]
     for row in rows:
         values = [False, *row, *state]
         for a, b in c.gates:
             values.append(value_of(a, values) and value_of(b, values))
-        yield [value_of(lit, values) for lit in c.properties()]
+        yield values
         state = [value_of(next_lit, values) for next_lit, _ in c.latches]
+
+
+def steps(c, choice, rows):
+    """The values of the properties at each step of one sequence."""
+    for values in values_of(c, choice, rows):
+        yield [value_of(lit, values) for lit in c.properties()]
 
 
 def trace(c, sequences):
