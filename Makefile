@@ -62,7 +62,7 @@ install: all
 	install -m 755 examples/verilog/fretime_verilog $(DESTDIR)$(DATADIR)
 	ln -sfr $(addprefix $(DESTDIR)$(DATADIR)/,$(SCRIPTS)) $(DESTDIR)$(DOCDIR)/examples/verilog
 	ln -sfr $(DESTDIR)$(DATADIR)/fretime_verilog $(DESTDIR)$(PREFIX)/bin
-	install -m 755 tests/checker.py $(DESTDIR)$(DOCDIR)/tests
+	install -m 755 tests/checker.py tests/map_checker.py tests/witness_checker.py $(DESTDIR)$(DOCDIR)/tests
 
 uninstall:
 	rm -rf $(addprefix $(DESTDIR),$(INSTALLED))

@@ -6,7 +6,7 @@ function __fretime_names
     for word in (commandline -opc)[3..-1]
         if test $is_value = yes
             set is_value no
-        else if string match -qr '^--(workers|frames|keep|keep-from|cert|map|around|depth)$' -- $word
+        else if string match -qr '^--(workers|frames|keep|keep-from|keep-latch|cert|out|map|around|depth)$' -- $word
             set is_value yes
         else if not string match -q -- '--*' $word
             set -l circuit (string replace -r '^~/' "$HOME/" -- $word)
@@ -42,6 +42,7 @@ complete -c fretime -n '__fish_seen_subcommand_from retime' -l near -d 'Move lat
 complete -c fretime -n '__fish_seen_subcommand_from retime' -l merge -d 'Merge latches that always agree, before any frame'
 complete -c fretime -n '__fish_seen_subcommand_from retime' -x -l keep -d 'Hold each latch with this name; may be repeated'
 complete -c fretime -n '__fish_seen_subcommand_from retime' -r -l keep-from -d 'Hold the latches that the lines of FILE name'
+complete -c fretime -n '__fish_seen_subcommand_from retime' -x -l keep-latch -d 'Hold the latch at position n, from 0; may be repeated'
 complete -c fretime -n '__fish_seen_subcommand_from retime' -r -l cert -d 'Write a certificate of each frame to FILE'
 complete -c fretime -n '__fish_seen_subcommand_from retime' -r -l map -d 'Write how OUT\'s latches follow from IN\'s to MAP'
 complete -c fretime -n '__fish_seen_subcommand_from retime' -l json -d 'Print an object of JSON in place of the lines'
@@ -65,6 +66,7 @@ complete -c fretime -n '__fish_seen_subcommand_from convert' -l binary -d 'Write
 complete -c fretime -n '__fish_seen_subcommand_from sim' -x -l random -d 'Take n random sequences in place of STIM'
 complete -c fretime -n '__fish_seen_subcommand_from sim' -x -l steps -d 'The steps of each random sequence, else 100'
 complete -c fretime -n '__fish_seen_subcommand_from sim' -x -l seed -d 'What random digits follow from, else 0'
+complete -c fretime -n '__fish_seen_subcommand_from sim' -r -l vcd -d 'Write the waves to FILE, as a value change dump (IEEE 1364)'
 
 complete -c fretime -n '__fish_seen_subcommand_from same' -x -l random -d 'Take n random sequences in place of STIM'
 complete -c fretime -n '__fish_seen_subcommand_from same' -x -l steps -d 'The steps of each random sequence, else 100'
@@ -74,11 +76,14 @@ complete -c fretime -n '__fish_seen_subcommand_from same' -l json -d 'Print an o
 
 complete -c fretime -n '__fish_seen_subcommand_from verify' -x -l keep -d 'Hold each latch with this name; may be repeated'
 complete -c fretime -n '__fish_seen_subcommand_from verify' -r -l keep-from -d 'Hold the latches that the lines of FILE name'
+complete -c fretime -n '__fish_seen_subcommand_from verify' -x -l keep-latch -d 'Hold the latch at position n, from 0; may be repeated'
+complete -c fretime -n '__fish_seen_subcommand_from verify' -r -l out -d 'Check that the blocks end in OUT, too'
 complete -c fretime -n '__fish_seen_subcommand_from verify' -l merge -d 'IN was retimed with --merge'
 complete -c fretime -n '__fish_seen_subcommand_from verify' -l json -d 'Print an object of JSON in place of the lines'
 
 complete -c fretime -n '__fish_seen_subcommand_from miter' -l ascii -d 'Write ASCII'
 complete -c fretime -n '__fish_seen_subcommand_from miter' -l binary -d 'Write binary'
+complete -c fretime -n '__fish_seen_subcommand_from miter' -r -l certificate -d 'Write a model of both, and its certificate to CERT'
 
 complete -c fretime -n '__fish_seen_subcommand_from lift' -l ascii -d 'Write ASCII'
 complete -c fretime -n '__fish_seen_subcommand_from lift' -l binary -d 'Write binary'
@@ -87,6 +92,7 @@ complete -c fretime -n '__fish_seen_subcommand_from dot' -l frame -d 'Show over 
 complete -c fretime -n '__fish_seen_subcommand_from dot' -l merge -d 'Merge latches that always agree first'
 complete -c fretime -n '__fish_seen_subcommand_from dot' -x -l keep -d 'Hold each latch with this name; may be repeated'
 complete -c fretime -n '__fish_seen_subcommand_from dot' -r -l keep-from -d 'Hold the latches that the lines of FILE name'
+complete -c fretime -n '__fish_seen_subcommand_from dot' -x -l keep-latch -d 'Hold the latch at position n, from 0; may be repeated'
 complete -c fretime -n '__fish_seen_subcommand_from dot' -x -l around -d 'Draw the neighbourhood of what has this name alone'
 complete -c fretime -n '__fish_seen_subcommand_from dot' -x -l depth -d 'How many edges the neighbourhood reaches, else 2'
 
@@ -97,4 +103,4 @@ complete -c fretime -n '__fish_seen_subcommand_from retime verify dot' -x -l kee
 complete -c fretime -n '__fish_seen_subcommand_from dot' -x -l around -a '(__fretime_names ilobcjf)' \
     -d 'Draw the neighbourhood of what has this name alone'
 
-complete -c fretime -n '__fish_seen_subcommand_from explain' -f -a 'BadHeader TooLarge MaxIndex BadLine BadLiteral DefinedTwice Undefined Cycle BadReset BadDelta Truncated BadSymbol Trailing Width TooMany NoSuchProperty TooManySteps NoSuchName TooManyNodes NotAMap NoSuchLiteral NotClosed BadRoute UsedTwice CountDiffers NoMemory Device'
+complete -c fretime -n '__fish_seen_subcommand_from explain' -f -a 'BadHeader TooLarge MaxIndex BadLine BadLiteral DefinedTwice Undefined Cycle BadReset BadDelta Truncated BadSymbol Trailing Width TooMany NoSuchProperty TooManySteps NoSuchName NoSuchLatch TooManyNodes NotAMap NoSuchLiteral NotClosed BadRoute UsedTwice CountDiffers NoMemory Device'
