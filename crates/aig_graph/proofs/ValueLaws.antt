@@ -36,24 +36,29 @@ module _ (g : Graph) (inputs latches : ℕ → Bool) where
   within-even : (v : ℕ) → value_within g inputs latches (2 * v) ≡ fold_gates g (leaf_value g inputs latches) conjunction v
   within-even v = signed-even v (fold_gates g (leaf_value g inputs latches) conjunction (variable (2 * v))) ∙ ap (fold_gates g (leaf_value g inputs latches) conjunction) (variable-even v)
 
-  within-odd : (v : ℕ) → value_within g inputs latches (2 * v + 1) ≡ not (value_within g inputs latches (2 * v))
+  -- a negated literal has the other value
+  pub within-odd : (v : ℕ) → value_within g inputs latches (2 * v + 1) ≡ not (value_within g inputs latches (2 * v))
   within-odd v =
       signed-odd v (fold_gates g (leaf_value g inputs latches) conjunction (variable (2 * v + 1)))
       ∙ ap (λ w. not (fold_gates g (leaf_value g inputs latches) conjunction w)) (variable-odd v)
       ∙ ap not (sym (within-even v))
 
-  within-constant : value_within g inputs latches 0 ≡ false
+  -- the constant is 0
+  pub within-constant : value_within g inputs latches 0 ≡ false
   within-constant = fold_gates-leaf g (leaf_value g inputs latches) conjunction 0 (gate_at-before g 0 (omega arith))
 
-  within-input : (i : ℕ) → i < g.inputs → value_within g inputs latches (2 * (1 + i)) ≡ inputs i
+  -- an input's literal has the input's digit
+  pub within-input : (i : ℕ) → i < g.inputs → value_within g inputs latches (2 * (1 + i)) ≡ inputs i
   within-input i h =
       within-even (1 + i) ∙ fold_gates-leaf g (leaf_value g inputs latches) conjunction (1 + i) (gate_at-before g (1 + i) (omega arith)) ∙ leaf-input i h
 
-  within-latch : (j : ℕ) → j < length g.latches → value_within g inputs latches (2 * (first_latch g + j)) ≡ latches j
+  -- a latch's literal has what the latch holds
+  pub within-latch : (j : ℕ) → j < length g.latches → value_within g inputs latches (2 * (first_latch g + j)) ≡ latches j
   within-latch j h =
       within-even (first_latch g + j) ∙ fold_gates-leaf g (leaf_value g inputs latches) conjunction (first_latch g + j) (gate_at-before g (first_latch g + j) (omega arith)) ∙ leaf-latch j
 
-  within-gate : IsGraph g → (k : ℕ) (gate : Gate) → slice_get g.gates k ≡ Some gate
+  -- a gate's literal is 1 where both fan-ins are
+  pub within-gate : IsGraph g → (k : ℕ) (gate : Gate) → slice_get g.gates k ≡ Some gate
       → value_within g inputs latches (2 * (first_gate g + k)) ≡ (value_within g inputs latches gate.rhs0 && value_within g inputs latches gate.rhs1)
   within-gate valid k gate e =
       within-even (first_gate g + k) ∙ fold_gates-gate g valid (leaf_value g inputs latches) conjunction (first_gate g + k) gate (gate_at-first_gate g k ∙ e)
