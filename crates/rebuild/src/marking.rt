@@ -63,6 +63,7 @@ fn latched_marks(
 impl MoveMarks {
     ghost use Rattle.rebuild.specs.Marked.{AreMarksOf};
     ghost use Rattle.rebuild.specs.Moved.{is_latched};
+    ghost use Rattle.variable_tables.specs.Marking.{has};
 
     /// The marks of a closed set's move. Linear in the circuit; inputs cost nothing.
     pub fn new(
@@ -87,6 +88,14 @@ impl MoveMarks {
             latched,
             border,
         })
+    }
+
+    /// By variable, from the first latch on, whether it is in the set.
+    pub fn members(&self) -> &[bool]
+        ensures { (m : Move) → AreMarksOf m self.now
+            → result.now ≡ by_variable m.circuit.aig (has m.set) }
+    {
+        self.members.as_slice()
     }
 
     /// By variable, from the first latch on, whether it has a latch after the move.
