@@ -5,6 +5,7 @@ pub mod ReadLaws
 pub mod NameLaws
 pub mod StartLaws
 pub mod StreamLaws
+pub mod MarkLaws
 pub mod PlanLaws
 pub mod BuildLaws
 pub mod MemberLaws
