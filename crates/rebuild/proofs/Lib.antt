@@ -9,4 +9,5 @@ pub mod MarkLaws
 pub mod PlanLaws
 pub mod BuildLaws
 pub mod MemberLaws
+pub mod NumberLaws
 pub mod Examples
