@@ -1,31 +1,61 @@
 //! The flows of gates, as the gates go from circuit to circuit.
+ghost use Rattle.std.specs.Prelude.{◌≡◌, ◌≤◌, length, vec_capacity, vec_len};
 
 use aig_graph::{Aig, ClosedSet, NoMemory};
 use std::alloc::Global;
 use unit_flows::GateFlow;
 
-/// A mark for each gate of the set.
-fn set_marks(alloc: Global, aig: &Aig, set: &ClosedSet) -> Result<Vec<bool>, NoMemory> {
-    let mut marks = vec![in alloc; false; aig.gates().len()]?;
-    for var in set.vars() {
-        let place = var.saturating_sub(aig.first_gate());
-        if let Some(mark) = marks.get_mut(place as usize) {
-            *mark = true;
-        }
-    }
-    Ok(marks)
+/// The place of a gate's flow, the number of flows where it has none.
+fn place_of(first: u32, var: u32, flows: usize) -> usize
+    ensures { result ≤ flows }
+{
+    let place = var.saturating_sub(first) as usize;
+    if place < flows { place } else { flows }
 }
 
-/// Appends the flows of the gates with this mark.
-fn push_marked(
+/// Appends the flows from one place up to another.
+fn push_run(into: &mut Vec<GateFlow>, flows: &[GateFlow], from: usize, to: usize)
+    requires order { from ≤ to }
+    requires within { to ≤ length flows.now }
+    requires short { vec_len into.old ≤ from }
+    requires room { length flows.now ≤ vec_capacity into.old }
+    ensures short { vec_len into.new ≤ to }
+    ensures room { vec_capacity into.new ≡ vec_capacity into.old }
+{
+    for k in from..to {
+        into.push_reserved(flows[k]);
+    }
+}
+
+/// Appends the flows of the gates outside the set: those between one member and the next are a run.
+fn push_outside(into: &mut Vec<GateFlow>, first: u32, set: &ClosedSet, flows: &[GateFlow])
+    requires none { vec_len into.old ≡ 0 }
+    requires room { length flows.now ≤ vec_capacity into.old }
+{
+    let mut from = 0;
+    for var in set.vars() {
+        let to = place_of(first, *var, flows.len());
+        if from <= to {
+            push_run(into, flows, from, to);
+            from = to + 1;
+        }
+    }
+    if from <= flows.len() {
+        push_run(into, flows, from, flows.len());
+    }
+}
+
+/// Appends the flows of the gates of the set.
+fn push_members(
     into: &mut Vec<GateFlow>,
+    first: u32,
+    set: &ClosedSet,
     flows: &[GateFlow],
-    marks: &[bool],
-    mark: bool,
 ) -> Result<(), NoMemory> {
-    for k in 0..flows.len() {
-        if marks.get(k).copied() == Some(mark) {
-            into.push(flows[k])?;
+    for var in set.vars() {
+        let place = place_of(first, *var, flows.len());
+        if place < flows.len() {
+            into.push(flows[place])?;
         }
     }
     Ok(())
@@ -35,17 +65,16 @@ fn push_marked(
 ///
 /// # Errors
 ///
-/// `NoMemory` where a table is refused.
+/// `NoMemory` where the table is refused.
 pub fn after_move(
     alloc: Global,
     aig: &Aig,
     set: &ClosedSet,
     flows: &[GateFlow],
 ) -> Result<Vec<GateFlow>, NoMemory> {
-    let marks = set_marks(alloc, aig, set)?;
     let mut moved = Vec::with_capacity(alloc, flows.len())?;
-    push_marked(&mut moved, flows, marks.as_slice(), false)?;
-    push_marked(&mut moved, flows, marks.as_slice(), true)?;
+    push_outside(&mut moved, aig.first_gate(), set, flows);
+    push_members(&mut moved, aig.first_gate(), set, flows)?;
     Ok(moved)
 }
 

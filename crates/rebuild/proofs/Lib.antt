@@ -5,7 +5,9 @@ pub mod ReadLaws
 pub mod NameLaws
 pub mod StartLaws
 pub mod StreamLaws
+pub mod MarkLaws
 pub mod PlanLaws
 pub mod BuildLaws
 pub mod MemberLaws
+pub mod NumberLaws
 pub mod Examples

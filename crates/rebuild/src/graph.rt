@@ -21,7 +21,7 @@ fn push_staying(latches: &mut Vec<Latch>, plan: &Plan<'_>) -> Result<(), NoMemor
 {
     let aig = plan.aig();
     for (k, latch) in aig.latches().iter().enumerate() {
-        if plan.marks.is_latched(aig.first_latch() + k as u32) {
+        if plan.marks.is_latched(plan.marks.first + k as u32) {
             latches.push(plan.staying_latch(*latch))?;
         }
     }
@@ -64,8 +64,9 @@ fn push_outside(gates: &mut Vec<Gate>, plan: &Plan<'_>) -> Result<(), NoMemory>
         (variables_end (planned plan.now).circuit.aig)) }
 {
     let aig = plan.aig();
+    let start = aig.first_gate();
     for (k, gate) in aig.gates().iter().enumerate() {
-        if !plan.marks.has(aig.first_gate() + k as u32) {
+        if !plan.marks.has(start + k as u32) {
             gates.push(plan.gate(*gate))?;
         }
     }

@@ -7,6 +7,7 @@ mod marking;
 mod marks;
 mod moving;
 mod names;
+mod numbers;
 mod plan;
 mod properties;
 mod starting;

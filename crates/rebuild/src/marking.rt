@@ -1,16 +1,18 @@
 //! What decides which variables have a latch after latches have moved over a closed set: whether they are in the set, and whether
 //! they are held or read from outside it.
-ghost use Rattle.std.specs.Prelude.{◌≡◌, ◌||◌, IfOk};
-ghost use Rattle.aig_graph.specs.Graph.{first_latch};
+ghost use Rattle.std.specs.Prelude.{◌≡◌, ◌||◌, ◌&&◌, IfOk, length};
+ghost use Rattle.aig_graph.specs.Graph.{first_latch, is_free, latches_and_gates};
 ghost use Rattle.aig_graph.specs.Closed.{is_held, IsClosedSet};
 ghost use Rattle.aig_graph.specs.Border.{border_size, is_read_outside};
 ghost use Rattle.aig_graph.specs.Move.{Move, move_of};
 ghost use Rattle.variable_tables.specs.Marking.{mark_at, Marks};
 ghost use Rattle.rebuild.specs.Entries.{by_variable, latched_by};
 
-use aig_graph::{Aig, Circuit, ClosedSet, Keep, NoMemory, Props, Reset, mark_held, mark_read};
+use aig_graph::{
+    Aig, Circuit, ClosedSet, Keep, Latch, NoMemory, Props, Reset, mark_held, mark_read,
+};
 use std::alloc::Global;
-use variable_tables::{count_marks, mark_at, marks_of};
+use variable_tables::{count_marks, marks_of};
 
 /// The marks that a move over a closed set rests on: which variables are in the set, and which have a latch after the move. They are
 /// made once, for the size of the border and for `moved_by`. The tables begin at the first latch.
@@ -32,30 +34,39 @@ fn mark_read_or_held(marks: &mut [bool], aig: &Aig, props: &Props, inside: &[boo
     mark_held(marks, aig, keep);
 }
 
-/// Whether the variable has a latch after the move, by the marks of the set and of what is held or read from outside.
-fn has_latch(aig: &Aig, inside: &[bool], marks: &[bool], var: u32) -> bool
-    ensures { result ≡ latched_by aig.now inside.now marks.now var }
+/// Whether a latch stays: where it is free, or held or read from outside the set.
+fn stays(latch: &Latch, held_or_read: bool) -> bool
+    ensures { result ≡ (is_free latch.now || held_or_read) }
 {
-    let first = aig.first_latch();
-    match aig.latch(var) {
-        Some(latch) => latch.reset == Reset::Free || mark_at(marks, first, var),
-        None => mark_at(inside, first, var) && mark_at(marks, first, var),
-    }
+    latch.reset == Reset::Free || held_or_read
 }
 
-/// By variable whether it has a latch after the move.
+/// Whether a gate gets a latch: where it is in the set and read from outside.
+fn is_border(inside: bool, read: bool) -> bool
+    ensures { result ≡ (inside && read) }
+{
+    inside && read
+}
+
+/// By variable whether it has a latch after the move, by the marks of the set and of what is held or read from outside.
 fn latched_marks(
     alloc: Global,
     aig: &Aig,
     inside: &[bool],
     marks: &[bool],
 ) -> Result<Vec<bool>, NoMemory>
+    requires inside { length inside.now ≡ latches_and_gates aig.now }
+    requires marks { length marks.now ≡ latches_and_gates aig.now }
     ensures { IfOk result (λ latched. latched.items
         ≡ by_variable aig.now (latched_by aig.now inside.now marks.now)) }
 {
-    let mut latched = Vec::with_capacity(alloc, aig.latches_and_gates())?;
-    for var in aig.first_latch()..aig.variables() as u32 {
-        latched.push(has_latch(aig, inside, marks, var))?;
+    let latches = aig.latches();
+    let mut latched = Vec::with_capacity(alloc, marks.len())?;
+    for (k, latch) in latches.iter().enumerate() {
+        latched.push_reserved(stays(latch, marks[k]));
+    }
+    for k in latches.len()..marks.len() {
+        latched.push_reserved(is_border(inside[k], marks[k]));
     }
     Ok(latched)
 }
@@ -63,6 +74,7 @@ fn latched_marks(
 impl MoveMarks {
     ghost use Rattle.rebuild.specs.Marked.{AreMarksOf};
     ghost use Rattle.rebuild.specs.Moved.{is_latched};
+    ghost use Rattle.variable_tables.specs.Marking.{has};
 
     /// The marks of a closed set's move. Linear in the circuit; inputs cost nothing.
     pub fn new(
@@ -87,6 +99,14 @@ impl MoveMarks {
             latched,
             border,
         })
+    }
+
+    /// By variable, from the first latch on, whether it is in the set.
+    pub fn members(&self) -> &[bool]
+        ensures { (m : Move) → AreMarksOf m self.now
+            → result.now ≡ by_variable m.circuit.aig (has m.set) }
+    {
+        self.members.as_slice()
     }
 
     /// By variable, from the first latch on, whether it has a latch after the move.

@@ -1,19 +1,18 @@
 //! A closed set beside the marks of its move. The ghost fields say what the tables are, so functions over a `MarkedSet` need no
 //! premise.
-ghost use Rattle.std.specs.Prelude.{◌≡◌, ◌<◌, IfOk};
-ghost use Rattle.aig_graph.specs.Graph.{IsGraph, first_gate, variables_end};
+ghost use Rattle.std.specs.Prelude.{◌≡◌, ◌<◌, ◌≤◌};
+ghost use Rattle.aig_graph.specs.Graph.{IsGraph, first_latch, variables_end};
 ghost use Rattle.aig_graph.specs.Circuits.{IsNetlist};
 ghost use Rattle.aig_graph.specs.Closed.{IsClosedSet};
 ghost use Rattle.aig_graph.specs.Move.{move_of};
 ghost use Rattle.variable_tables.specs.Marking.{has};
-ghost use Rattle.rebuild.specs.Moved.{is_latched, is_outside};
+ghost use Rattle.rebuild.specs.Moved.{is_latched};
 ghost use Rattle.rebuild.specs.Members.{AreFanInsIn, ArePassable};
 ghost use Rattle.rebuild.specs.Entries.{by_variable};
 
 use crate::marking::MoveMarks;
-use aig_graph::{Aig, Circuit, ClosedSet, Keep, NoMemory};
-use std::alloc::Global;
-use variable_tables::mark_at;
+use aig_graph::{Aig, Circuit, ClosedSet, Keep};
+use variable_tables::entry;
 
 /// A closed set of a circuit, with marks of its members and of the variables that have a latch after the move. The tables begin
 /// at the first latch.
@@ -22,8 +21,11 @@ pub(crate) struct MarkedSet<'a> {
     pub(crate) circuit: &'a Circuit,
     pub(crate) keep: &'a Keep,
     pub(crate) set: &'a ClosedSet,
+    /// The variable of the first latch.
+    pub(crate) first: u32,
     pub(crate) members: Vec<bool>,
     pub(crate) latched: Vec<bool>,
+    ghost first_is: { first ≡ first_latch circuit.now.aig },
     ghost graph: { IsGraph circuit.now.aig },
     ghost netlist: { IsNetlist circuit.now },
     ghost passable: { ArePassable circuit.now.aig keep.now set.now },
@@ -47,10 +49,12 @@ impl<'a> MarkedSet<'a> {
         ensures { marked result ≡ move_of circuit.now keep.now set.now }
     {
         circuit.known();
+        let first = circuit.aig().first_latch();
         MarkedSet {
             circuit,
             keep,
             set,
+            first,
             members: marks.members,
             latched: marks.latched,
         }
@@ -63,40 +67,21 @@ impl<'a> MarkedSet<'a> {
         self.circuit.aig()
     }
 
-    /// Whether the variable is in the set.
+    /// Whether the latch or gate is in the set.
     pub(crate) fn has(&self, var: u32) -> bool
-        requires { var < variables_end (marked self.now).circuit.aig }
+        requires from { first_latch (marked self.now).circuit.aig ≤ var }
+        requires below { var < variables_end (marked self.now).circuit.aig }
         ensures { result ≡ has (marked self.now).set var }
     {
-        mark_at(self.members.as_slice(), self.aig().first_latch(), var)
+        entry(self.members.as_slice(), self.first, var)
     }
 
-    /// Whether the variable has a latch after the move.
+    /// Whether the latch or gate has a latch after the move.
     pub(crate) fn is_latched(&self, var: u32) -> bool
-        requires { var < variables_end (marked self.now).circuit.aig }
+        requires from { first_latch (marked self.now).circuit.aig ≤ var }
+        requires below { var < variables_end (marked self.now).circuit.aig }
         ensures { result ≡ is_latched (marked self.now) var }
     {
-        mark_at(self.latched.as_slice(), self.aig().first_latch(), var)
-    }
-
-    /// Whether the variable is a gate outside the set.
-    fn is_outside(&self, var: u32) -> bool
-        requires { var < variables_end (marked self.now).circuit.aig }
-        ensures { result ≡ is_outside (marked self.now) var }
-    {
-        self.aig().first_gate() <= var && !self.has(var)
-    }
-
-    /// By variable whether it is a gate outside the set.
-    pub(crate) fn outside(&self, alloc: Global) -> Result<Vec<bool>, NoMemory>
-        ensures { IfOk result (λ outside. outside.items ≡
-            by_variable (marked self.now).circuit.aig (is_outside (marked self.now))) }
-    {
-        let aig = self.aig();
-        let mut outside = Vec::with_capacity(alloc, aig.latches_and_gates())?;
-        for var in aig.first_latch()..aig.variables() as u32 {
-            outside.push(self.is_outside(var))?;
-        }
-        Ok(outside)
+        entry(self.latched.as_slice(), self.first, var)
     }
 }

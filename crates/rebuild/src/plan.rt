@@ -8,13 +8,14 @@ ghost use Rattle.aig_graph.specs.Building.{gate_of};
 ghost use Rattle.aig_graph.specs.Move.{move_of};
 ghost use Rattle.variable_tables.specs.Counting.{count_below};
 ghost use Rattle.variable_tables.specs.Marking.{has};
-ghost use Rattle.rebuild.specs.Moved.{is_latched, copies_start, new_variable, copy_variable, moved_literal, next_of, advanced, advanced_literal, moved_graph};
+ghost use Rattle.rebuild.specs.Moved.{is_latched, copies_start, new_variable, copy_variable, moved_literal, advanced, advanced_literal, moved_graph};
 ghost use Rattle.rebuild.specs.Entries.{by_variable};
 
 use crate::marks::MarkedSet;
+use crate::numbers::{advanced_literals, new_variables, renamed};
 use aig_graph::{Aig, Gate, Latch, Lit, NoMemory, Reset};
 use std::alloc::Global;
-use variable_tables::{count_marks, entry, number_marks, renumber};
+use variable_tables::{count_marks, entry};
 
 /// What becomes of each variable of a circuit where latches move over a set. The tables begin at the first latch.
 #[derive(Drop)]
@@ -22,25 +23,15 @@ pub(crate) struct Plan<'a> {
     pub(crate) marks: MarkedSet<'a>,
     /// The variable that is read in its place from outside the set.
     variables: Vec<u32>,
-    /// That of its copy, for a member of the set.
-    copies: Vec<u32>,
+    /// The literal that has now the value that it has one step later, for a latch or a member of the set.
+    later: Vec<Lit>,
     /// That of the first copy.
     first_copy: u32,
     ghost moved: { IsGraph (moved_graph (move_of marks.circuit.now marks.keep.now marks.set.now)) },
     ghost room: { copies_start (move_of marks.circuit.now marks.keep.now marks.set.now) + count_below (has marks.set.now) (variables_end marks.circuit.now.aig) ≤ MAX_VARIABLES },
     ghost variables_are: { variables.items ≡ by_variable marks.circuit.now.aig (new_variable (move_of marks.circuit.now marks.keep.now marks.set.now)) },
-    ghost copies_are: { copies.items ≡ by_variable marks.circuit.now.aig (copy_variable (move_of marks.circuit.now marks.keep.now marks.set.now)) },
+    ghost later_are: { later.items ≡ by_variable marks.circuit.now.aig (advanced (move_of marks.circuit.now marks.keep.now marks.set.now)) },
     ghost first_copy_is: { first_copy ≡ copies_start (move_of marks.circuit.now marks.keep.now marks.set.now) },
-}
-
-/// The next literal of a latch, false where there is none.
-fn next_of(latch: Option<Latch>) -> Lit
-    ensures { result ≡ next_of latch }
-{
-    match latch {
-        Some(latch) => latch.next,
-        None => Lit::FALSE,
-    }
 }
 
 impl<'a> Plan<'a> {
@@ -52,23 +43,15 @@ impl<'a> Plan<'a> {
             (variables_end (marked marks).circuit.aig) ≤ MAX_VARIABLES }
         ensures { IfOk result (λ plan. planned plan ≡ marked marks.entry) }
     {
-        let first = marks.aig().first_latch();
-        let outside = marks.outside(alloc)?;
-        let gates_start = first + count_marks(marks.latched.as_slice());
-        let first_copy = gates_start + count_marks(outside.as_slice());
-        let variables = renumber(
-            alloc,
-            first,
-            marks.latched.as_slice(),
-            outside.as_slice(),
-            first,
-            gates_start,
-        )?;
-        let copies = number_marks(alloc, marks.members.as_slice(), first_copy)?;
+        let gates_start = marks.first + count_marks(marks.latched.as_slice());
+        let outside = marks.aig().gates().len() as u32 - count_marks(marks.members.as_slice());
+        let first_copy = gates_start + outside;
+        let variables = new_variables(alloc, &marks, gates_start)?;
+        let later = advanced_literals(alloc, &marks, variables.as_slice(), first_copy)?;
         Ok(Plan {
             marks,
             variables,
-            copies,
+            later,
             first_copy,
         })
     }
@@ -85,52 +68,36 @@ impl<'a> Plan<'a> {
         requires { variable lit < variables_end (planned self.now).circuit.aig }
         ensures { result ≡ moved_literal (planned self.now) lit }
     {
-        let first = self.aig().first_latch();
-        if lit.var() < first {
-            return lit;
-        }
-        let var = entry(self.variables.as_slice(), first, lit.var());
-        Lit::new(var, false).signed_as(lit)
+        renamed(&self.marks, self.variables.as_slice(), lit)
     }
 
     /// The literal of a member's copy.
     pub(crate) fn copy(&self, var: u32) -> Lit
+        requires from { first_latch (planned self.now).circuit.aig ≤ var }
         requires within { var < variables_end (planned self.now).circuit.aig }
         requires member { has (planned self.now).set var ≡ true }
         ensures { result ≡ 2 * copy_variable (planned self.now) var }
     {
-        let first = self.aig().first_latch();
-        Lit::new(entry(self.copies.as_slice(), first, var), false)
+        entry(self.later.as_slice(), self.marks.first, var)
     }
 
-    /// How many members come before a variable.
+    /// How many members come before a member.
     pub(crate) fn members_before(&self, var: u32) -> u32
         requires from { first_latch (planned self.now).circuit.aig ≤ var }
         requires below { var < variables_end (planned self.now).circuit.aig }
+        requires member { has (planned self.now).set var ≡ true }
         ensures { result ≡ count_below (has (planned self.now).set) var }
     {
-        let first = self.aig().first_latch();
-        entry(self.copies.as_slice(), first, var) - self.first_copy
+        self.copy(var).var() - self.first_copy
     }
 
-    /// The literal that has now the value that the variable has one step later: a member's copy, or a latch's next literal.
-    fn advanced(&self, var: u32) -> Lit
-        requires { var < variables_end (planned self.now).circuit.aig }
-        ensures { result ≡ advanced (planned self.now) var }
-    {
-        if self.marks.has(var) {
-            self.copy(var)
-        } else {
-            self.literal(next_of(self.aig().latch(var)))
-        }
-    }
-
-    /// What copies read in the place of a literal.
+    /// What copies read in the place of a literal of a latch or member.
     fn advanced_literal(&self, lit: Lit) -> Lit
-        requires { variable lit < variables_end (planned self.now).circuit.aig }
+        requires from { first_latch (planned self.now).circuit.aig ≤ variable lit }
+        requires below { variable lit < variables_end (planned self.now).circuit.aig }
         ensures { result ≡ advanced_literal (planned self.now) lit }
     {
-        self.advanced(lit.var()).signed_as(lit)
+        entry(self.later.as_slice(), self.marks.first, lit.var()).signed_as(lit)
     }
 
     /// A gate outside the set, after the move.
@@ -145,6 +112,8 @@ impl<'a> Plan<'a> {
 
     /// The copy of a gate of the set.
     pub(crate) fn copied_gate(&self, gate: Gate) -> Gate
+        requires first_from { first_latch (planned self.now).circuit.aig ≤ variable gate.rhs0 }
+        requires second_from { first_latch (planned self.now).circuit.aig ≤ variable gate.rhs1 }
         requires first { variable gate.rhs0 < variables_end (planned self.now).circuit.aig }
         requires second { variable gate.rhs1 < variables_end (planned self.now).circuit.aig }
         ensures { result ≡ gate_of (advanced_literal (planned self.now) gate.rhs0)
@@ -171,6 +140,7 @@ impl<'a> Plan<'a> {
 
     /// The latch at the output of a border gate, with its reset.
     pub(crate) fn border_latch(&self, var: u32, reset: Reset) -> Latch
+        requires from { first_latch (planned self.now).circuit.aig ≤ var }
         requires within { var < variables_end (planned self.now).circuit.aig }
         requires member { has (planned self.now).set var ≡ true }
         ensures { result ≡ record {
@@ -194,7 +164,7 @@ impl<'a> Plan<'a> {
             (first_latch (planned self.now).circuit.aig + position))
             else None) }
     {
-        let first = self.aig().first_latch();
+        let first = self.marks.first;
         if self.marks.is_latched(first + position) {
             Some(entry(self.variables.as_slice(), first, first + position) - first)
         } else {

@@ -13,8 +13,14 @@ use Rattle.rebuild.proofs.graph.push_border.Goals.{then-is_latched+in_ok-push, e
 pub loop-k-init : goal.loop-k-init
 loop-k-init c = c.requires.staying ∙ sym (append-nil (latches_below (planned c.args.plan.now) (first_gate c.args.plan.now.marks.circuit.now.aig)))
 
-pub is_latched-requires : goal.is_latched-requires
-is_latched-requires c =
+pub is_latched-requires-clause-from : goal.is_latched-requires-clause-from
+is_latched-requires-clause-from c =
+    let k = c.args.plan.now.marks in
+    let place = member-place (planned c.args.plan.now) k.passable (get_or c.vars-var-items.result.now c.loop-k.k 0) (member-at k.set.now c.vars-var-items.result.now c.loop-k.k c.vars-var-items.ensures.value c.loop-k-test.true) in
+    omega (arith, place.0)
+
+pub is_latched-requires-clause-below : goal.is_latched-requires-clause-below
+is_latched-requires-clause-below c =
     let k = c.args.plan.now.marks in
     (member-place (planned c.args.plan.now) k.passable (get_or c.vars-var-items.result.now c.loop-k.k 0) (member-at k.set.now c.vars-var-items.result.now c.loop-k.k c.vars-var-items.ensures.value c.loop-k-test.true)).1
 
@@ -28,6 +34,12 @@ bounds-values-k c =
       ap (λ (xs : List ℕ). length xs) c.vars-var-items.ensures.value,
       c.loop-k-test.true,
     )
+
+pub border_latch-requires-clause-from : goal.border_latch-requires-clause-from
+border_latch-requires-clause-from c =
+    let k = c.args.plan.now.marks in
+    let place = member-place (planned c.args.plan.now) k.passable (get_or c.vars-var-items.result.now c.loop-k.k 0) (member-at k.set.now c.vars-var-items.result.now c.loop-k.k c.vars-var-items.ensures.value c.loop-k-test.true) in
+    omega (arith, place.0)
 
 pub border_latch-requires-clause-within : goal.border_latch-requires-clause-within
 border_latch-requires-clause-within c =

@@ -13,6 +13,9 @@ loop-k-init c =
     let m = planned c.args.plan.now in
     places-at (is_outside m) (gate_for m) (first_gate m.circuit.aig) (first_gate m.circuit.aig + 0) c.args.gates.now.items (omega arith) (omega arith) (c.requires ∙ sym (no-outside m))
 
+pub has-requires-clause-from : goal.has-requires-clause-from
+has-requires-clause-from c = omega (arith, c.first_gate-start.ensures.value, ap first_gate c.aig-aig.ensures)
+
 pub gate-requires-clause-first : goal.gate-requires-clause-first
 gate-requires-clause-first c =
     let k = c.args.plan.now.marks in
@@ -31,7 +34,7 @@ loop-k-preserved c =
     let g = m.circuit.aig in
     let there : slice_get g.gates c.loop-k.k ≡ Some c.gate-item.result =
     gate-there g c.aig-aig.result.now c.gates-gate-items.result.now c.loop-k.k c.gate-item.result c.gates-gate-items.ensures.value c.aig-aig.ensures c.loop-k-test.true c.gate-item.is in
-    let here : c.first_gate.result + c.loop-k.k ≡ first_gate g + c.loop-k.k = ap (λ (n : ℕ). n + c.loop-k.k) (c.first_gate.ensures.value ∙ ap first_gate c.aig-aig.ensures) in
+    let here : c.first_gate-start.result + c.loop-k.k ≡ first_gate g + c.loop-k.k = ap (λ (n : ℕ). n + c.loop-k.k) (c.first_gate-start.ensures.value ∙ ap first_gate c.aig-aig.ensures) in
     let read : c.has.result ≡ has m.set (first_gate g + c.loop-k.k) = c.has.ensures ∙ ap (has m.set) here in
     elim c.if-not-has.branch [
       | then-not-has+in_ok-push w ↦ outside-more m c.loop-k.k c.gate-item.result c.loop-k.gates.items c.if-not-has.gates.items w.gate.result there (sym read ∙ w.if-not-has.true)

@@ -24,6 +24,12 @@ members_before-requires-clause-below c =
     let place = member-place (planned c.args.plan.now) k.passable c.args.var (inside-member k.circuit.now.aig k.set.now c.args.var c.requires.inside none) in
     place.1
 
+pub members_before-requires-clause-member : goal.members_before-requires-clause-member
+members_before-requires-clause-member c =
+    let k = c.args.plan.now.marks in
+    let none : latch_at k.circuit.now.aig c.args.var ≡ None = ap (λ (g : Graph). latch_at g c.args.var) (sym c.aig.ensures) ∙ sym c.latch.ensures ∙ c.in-None.is in
+    inside-member k.circuit.now.aig k.set.now c.args.var c.requires.inside none
+
 pub bounds-values-members_before : goal.bounds-values-members_before
 bounds-values-members_before c =
     let k = c.args.plan.now.marks in

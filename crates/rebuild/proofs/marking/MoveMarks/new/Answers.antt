@@ -1,4 +1,4 @@
-use Rattle.std.proofs.Common.{◌∙◌, ◌≡◌, ap, arith, sym, Bool, List, ℕ, replicate, false}
+use Rattle.std.proofs.Common.{◌∙◌, ◌≡◌, ap, arith, sym, length, Bool, List, ℕ, replicate, false}
 use Rattle.aig_graph.specs.Graph.{first_latch, free_latches, latches_and_gates, variables_end}
 use Rattle.aig_graph.specs.Move.{move_of}
 use Rattle.rebuild.proofs.BorderLaws.{closed-passable}
@@ -6,9 +6,19 @@ use Rattle.rebuild.proofs.FreeLaws.{count-is_latched}
 use Rattle.rebuild.proofs.PlanLaws.{all-latched, counted, latched-table, length-by_variable, members-table}
 use Rattle.rebuild.specs.Entries.{by_variable, latched_by}
 use Rattle.rebuild.specs.Moved.{is_latched}
+use Rattle.variable_tables.proofs.TableLaws.{length-table}
 use Rattle.variable_tables.specs.Counting.{count_below}
 use Rattle.variable_tables.specs.Marking.{has}
 use Rattle.rebuild.proofs.marking.MoveMarks.new.Goals as goal
+
+pub latched_marks-requires-clause-inside : goal.latched_marks-requires-clause-inside
+latched_marks-requires-clause-inside c =
+    omega (
+      arith,
+      ap (λ (xs : List Bool). length xs) (c.as_slice-2.ensures.value ∙ c.in_ok-members.ensures),
+      length-table c.first_latch.result c.latches_and_gates-entries.result (has c.vars.result.now),
+      c.latches_and_gates-entries.ensures.value,
+    )
 
 pub count_marks-requires : goal.count_marks-requires
 count_marks-requires c =

@@ -1,25 +1,22 @@
-use Rattle.std.proofs.Common.{◌∙◌, ◌≡◌, ap, arith}
-use Rattle.aig_graph.specs.Graph.{first_latch}
-use Rattle.rebuild.proofs.PlanLaws.{copy-small, length-by_variable, whole-by_variable}
-use Rattle.rebuild.specs.Moved.{copy_variable}
+use Rattle.std.proofs.Common.{◌∙◌, arith}
+use Rattle.rebuild.proofs.NumberLaws.{advanced-member}
+use Rattle.rebuild.proofs.PlanLaws.{length-by_variable, whole-by_variable}
+use Rattle.rebuild.specs.Moved.{advanced}
 use Rattle.rebuild.specs.Planned.{planned}
 use Rattle.rebuild.proofs.plan.Plan.copy.Goals as goal
+
+pub entry-requires-clause-from : goal.entry-requires-clause-from
+entry-requires-clause-from c =
+    let p = c.args.self.now in
+    omega (arith, p.marks.first_is, c.requires.from)
 
 pub entry-requires-clause-below : goal.entry-requires-clause-below
 entry-requires-clause-below c =
     let p = c.args.self.now in
-    omega (arith, length-by_variable p.marks.circuit.now.aig (copy_variable (planned p)) c.as_slice.result.now (c.as_slice.ensures.value ∙ p.copies_are), c.first_latch-first.ensures.value, ap first_latch c.aig.ensures, c.requires.within)
-
-pub new-requires : goal.new-requires
-new-requires c =
-    let p = c.args.self.now in
-    let read : c.entry.result ≡ copy_variable (planned p) c.args.var =
-    c.entry.ensures (copy_variable (planned p)) (whole-by_variable p.marks.circuit.now.aig (copy_variable (planned p)) p.copies.items c.as_slice.result.now c.first_latch-first.result c.as_slice.ensures.value p.copies_are (c.first_latch-first.ensures.value ∙ ap first_latch c.aig.ensures)) in
-    omega (arith, copy-small (planned p) p.room c.args.var c.requires.within c.requires.member)
+    omega (arith, length-by_variable p.marks.circuit.now.aig (advanced (planned p)) c.as_slice.result.now (c.as_slice.ensures.value ∙ p.later_are), p.marks.first_is, c.requires.within)
 
 pub returns : goal.returns
 returns c =
     let p = c.args.self.now in
-    let read : c.entry.result ≡ copy_variable (planned p) c.args.var =
-    c.entry.ensures (copy_variable (planned p)) (whole-by_variable p.marks.circuit.now.aig (copy_variable (planned p)) p.copies.items c.as_slice.result.now c.first_latch-first.result c.as_slice.ensures.value p.copies_are (c.first_latch-first.ensures.value ∙ ap first_latch c.aig.ensures)) in
-    omega (arith, c.new.ensures)
+    c.entry.ensures (advanced (planned p)) (whole-by_variable p.marks.circuit.now.aig (advanced (planned p)) p.later.items c.as_slice.result.now p.marks.first c.as_slice.ensures.value p.later_are p.marks.first_is)
+    ∙ advanced-member (planned p) c.args.var c.requires.member

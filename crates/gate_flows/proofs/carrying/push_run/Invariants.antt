@@ -1,0 +1,9 @@
+use Rattle.std.proofs.Common.{◌≡◌, ◌≤◌, vec_capacity, vec_len}
+use Rattle.gate_flows.proofs.carrying.push_run.Given as goal
+
+abbrev pub invariant-loop-k : goal.invariant-loop-k
+invariant-loop-k l = record {
+  within : l.k ≤ l.to;
+  short : vec_len l.into ≤ l.k;
+  room : vec_capacity l.into ≡ vec_capacity l.fn.into;
+}
