@@ -7,3 +7,4 @@ mod TallyLaws
 mod MarkLaws
 mod OffLaws
 mod FrameLaws
+mod PlaceLaws

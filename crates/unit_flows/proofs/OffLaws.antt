@@ -1,15 +1,16 @@
 -- The set of the gates off the marks.
-use Rattle.std.proofs.Common.{◌≡◌, ℕ, suc, zero, ◌+◌, ◌<◌, ◌==◌, nat_lt, Bool, true, false, not, ◌&&◌, ◌||◌, List, [], ◌∷◌, ◌++◌, arith, refl, ap, ap₂, sym, ◌∙◌, inl, inr}
+use Rattle.std.proofs.Common.{◌≡◌, ℕ, suc, zero, ◌+◌, ◌<◌, ◌==◌, nat_lt, Bool, true, false, not, ◌&&◌, ◌||◌, List, [], ◌∷◌, ◌++◌, length, get_or, arith, refl, ap, ap₂, sym, ◌∙◌, inl, inr}
 use Rattle.std.proofs.lemmas.Bool.{cases_Bool, cases_lt, cases_eq, eq-eqb, ne_eqb, lt-ltb, le-ltb, and_left, and_right}
 use Rattle.variable_tables.specs.Counting.{places}
-use Rattle.variable_tables.specs.Marking.{has}
+use Rattle.variable_tables.specs.Marking.{has, mark_at}
 use Rattle.variable_tables.proofs.PlacesLaws.{places-pass, places-fail, places-zero}
 use Rattle.variable_tables.proofs.CountingLaws.{places-none}
-use Rattle.aig_graph.specs.Graph.{first_latch, variables_end}
+use Rattle.aig_graph.specs.Graph.{first_latch, first_gate, variables_end}
 use Rattle.aig_graph.specs.Circuits.{Netlist}
 use Rattle.frame_net.specs.Passable.{is_passable}
 use Rattle.frame_net.proofs.PassableLaws.{passable-before, passable-past}
 use Rattle.unit_flows.specs.Shown.{is_off}
+use Rattle.unit_flows.proofs.FrameLaws.{mark-at-place}
 
 -- what holds below n and at n holds below n + 1
 pub all-more : (P : ℕ → Type 0) (n : ℕ) → ((i : ℕ) → i < n → P i) → P n → (i : ℕ) → i < n + 1 → P i
@@ -87,9 +88,16 @@ off-members c held before vars v listed = ap (λ (xs : List ℕ). has xs v) list
 
 -- ---- the list of them, place by place
 
--- no gate off the marks lies before the first latch
-pub off-start : (c : Netlist) (held : List ℕ) (before : ℕ → Bool) → places (is_off c held before) (first_latch c.aig + 0) ≡ []
-off-start c held before = places-none (is_off c held before) (first_latch c.aig + 0) (λ v low. and_left (is_passable c.aig held v) (not (before v)) (passable-before c.aig held v (omega (arith, low))))
+-- no gate off the marks lies before the first gate
+pub off-start : (c : Netlist) (held : List ℕ) (before : ℕ → Bool) → places (is_off c held before) (first_gate c.aig + 0) ≡ []
+off-start c held before = places-none (is_off c held before) (first_gate c.aig + 0) (λ v low. and_left (is_passable c.aig held v) (not (before v)) (passable-before c.aig held v (omega (arith, low))))
+
+-- what is read at a gate says whether it lies off the marks
+pub off-here : (c : Netlist) (held : List ℕ) (xs : List Bool) (k n : ℕ) (passes marked : Bool) → n ≡ length c.aig.latches → passes ≡ is_passable c.aig held (first_gate c.aig + k) → marked ≡ get_or xs (n + k) false
+    → is_off c held (mark_at (first_latch c.aig) xs) (first_gate c.aig + k) ≡ (passes && not marked)
+off-here c held xs k n passes marked long pass read =
+    let at : first_latch c.aig + (n + k) ≡ first_gate c.aig + k = omega (arith, long) in
+    ap₂ (λ (p m : Bool). p && not m) (sym pass) (ap (λ (v : ℕ). mark_at (first_latch c.aig) xs v) (sym at) ∙ mark-at-place (first_latch c.aig) xs (n + k) ∙ sym read)
 
 -- the list of passing variables up to a place, with the variable there where that passes, is the list up to the next place
 pub off-pass : (p : ℕ → Bool) (first place var : ℕ) (vars new : List ℕ) → var ≡ first + place → p var ≡ true → vars ≡ places p (first + place) → new ≡ vars ++ var ∷ [] → new ≡ places p (first + (place + 1))

@@ -1,12 +1,23 @@
-ghost use Rattle.std.specs.Prelude.{◌≡◌, IfOk};
+//! A frame's circuit, with its tables of what passes and of what leaves.
+ghost use Rattle.std.specs.Prelude.{◌≡◌, ◌+◌, ◌<◌, ◌≤◌, ℕ, false, IfOk, length, drop};
+ghost use Rattle.std.specs.List.{slice_index_or};
 ghost use Rattle.variable_tables.specs.Tables.{table};
-ghost use Rattle.aig_graph.specs.Graph.{first_latch, latches_and_gates};
-ghost use Rattle.frame_net.specs.Passable.{IsPassSet};
+ghost use Rattle.aig_graph.specs.Graph.{first_latch, first_gate, latches_and_gates};
+ghost use Rattle.aig_graph.specs.declared.literal.TheConstants.{MAX_VARIABLES};
+ghost use Rattle.frame_net.specs.Passable.{is_passable, IsPassSet};
 ghost use Rattle.frame_net.specs.Capacity.{is_observed};
 
 use aig_graph::{Circuit, Keep, NoMemory};
 use frame_net::{PassSet, leaving_marks, passable};
 use std::alloc::Global;
+
+/// The marks from a place on.
+fn marks_from(marks: &[bool], place: usize) -> &[bool]
+    requires { place ≤ length marks.now }
+    ensures { result.now ≡ drop place marks.now }
+{
+    &marks[place..]
+}
 
 /// A circuit and its held latches, with its passable gates and the marks of what is held or read from outside them, from the first latch on.
 #[derive(Drop)]
@@ -39,5 +50,16 @@ impl<'a> Frame<'a> {
             pass,
             leaving,
         })
+    }
+
+    /// By number of gate, whether it is passable.
+    pub(crate) fn passing_gates(&self) -> &[bool]
+        ensures len { length result.now ≡ length self.now.circuit.now.aig.gates }
+        ensures each { (k : ℕ) → k < length self.now.circuit.now.aig.gates
+            → slice_index_or result.now k false ≡ is_passable self.now.circuit.now.aig
+            self.now.keep.now (first_gate self.now.circuit.now.aig + k) }
+        ensures small { first_gate self.now.circuit.now.aig + length result.now ≤ MAX_VARIABLES }
+    {
+        marks_from(self.pass.marks(), self.circuit.aig().latches().len())
     }
 }

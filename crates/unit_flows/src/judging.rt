@@ -6,7 +6,6 @@ ghost use Rattle.aig_graph.specs.Graph.{first_latch, variables_end, latches_and_
 ghost use Rattle.aig_graph.specs.Border.{IsGreatestLeast};
 ghost use Rattle.unit_flows.specs.Shown.{is_off, HasFullCut};
 
-use crate::cut::is_off;
 use crate::frame::Frame;
 use crate::gate_flow::GateFlow;
 use crate::passes::{gates_hold, places_hold};
@@ -23,6 +22,8 @@ fn is_shown(
     marks: &NodeMarks,
 ) -> Result<bool, NoMemory>
     requires flows { length flows.now ≡ length frame.now.circuit.now.aig.gates }
+    requires before { length marks.now.before.items
+        ≡ latches_and_gates frame.now.circuit.now.aig }
     requires after { length marks.now.after.items
         ≡ latches_and_gates frame.now.circuit.now.aig }
     ensures { IfOk result (λ shown. IsTrue shown → HasFullCut frame.now.circuit.now
@@ -44,17 +45,20 @@ fn is_shown(
 
 /// The passable gates that aren't marked before, rising.
 pub(crate) fn off_marks(alloc: Global, frame: &Frame, before: &[bool]) -> Result<Vec<u32>, NoMemory>
+    requires { length before.now ≡ latches_and_gates frame.now.circuit.now.aig }
     ensures { IfOk result (λ vars. vars.items ≡ places (is_off frame.now.circuit.now frame.now.keep.now
         (mark_at (first_latch frame.now.circuit.now.aig) before.now))
         (variables_end frame.now.circuit.now.aig)) }
 {
     let aig = frame.circuit.aig();
-    let first = aig.first_latch();
-    let mut vars = Vec::new(alloc);
-    for place in 0..aig.latches_and_gates() {
-        let var = first + place as u32;
-        if is_off(frame, before, var) {
-            vars.push(var)?;
+    let latches = aig.latches().len();
+    let first_gate = aig.first_gate();
+    let passes = frame.passing_gates();
+    let mut vars = Vec::with_capacity(alloc, passes.len())?;
+    for k in 0..passes.len() {
+        let is_off = passes[k] & !before[latches + k];
+        if is_off {
+            vars.push(first_gate + k as u32)?;
         }
     }
     Ok(vars)

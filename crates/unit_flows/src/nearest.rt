@@ -39,6 +39,8 @@ fn far_marks(
     requires came { length came.now ≡ latches_and_gates frame.now.circuit.now.aig }
     ensures far { IfOk result (λ marks. AreFarFromLeft frame.now.circuit.now frame.now.keep.now
         flows.now went.now came.now marks.before.items) }
+    ensures before { IfOk result (λ marks. length marks.before.items
+        ≡ latches_and_gates frame.now.circuit.now.aig) }
     ensures after { IfOk result (λ marks. length marks.after.items
         ≡ latches_and_gates frame.now.circuit.now.aig) }
 {
@@ -60,6 +62,7 @@ fn is_full_cut(
     requires flows { length flows.now ≡ length frame.now.circuit.now.aig.gates }
     requires went { length went.now ≡ latches_and_gates frame.now.circuit.now.aig }
     requires came { length came.now ≡ latches_and_gates frame.now.circuit.now.aig }
+    requires before { length before.now ≡ latches_and_gates frame.now.circuit.now.aig }
     requires after { length after.now ≡ latches_and_gates frame.now.circuit.now.aig }
     ensures balanced { IsTrue result → IsBalanced frame.now.circuit.now.aig flows.now went.now
         came.now }

@@ -1,13 +1,22 @@
 //! Marks of the nodes to which units that are left could go, by variable from the first latch on. Each is set by a residual arc from a marked
 //! node, so all that is marked is reached from where a unit is left.
-ghost use Rattle.std.specs.Prelude.{◌≡◌, ℕ, Bool, IsTrue, true, length};
+ghost use Rattle.std.specs.Prelude.{◌≡◌, ◌&&◌, ◌==◌, ℕ, Bool, IsTrue, true, length};
+ghost use Rattle.variable_tables.specs.Marking.{Marks};
 ghost use Rattle.unit_flows.specs.Marks.{AreWithin};
 ghost use Rattle.unit_flows.specs.Onward.{HoldsHeads};
 
 use crate::gate_flow::GateFlow;
-use crate::marks::mark_if;
 use aig_graph::Gate;
-use variable_tables::mark_at;
+use variable_tables::{mark_at, mark_variable};
+
+/// Marks a variable where it is wished.
+pub(crate) fn mark_if(marks: &mut [bool], first: u32, var: u32, wished: bool)
+    ensures { Marks first marks.old marks.new (λ v. wished && (var == v)) }
+{
+    if wished {
+        mark_variable(marks, first, var);
+    }
+}
 
 /// Whether the node before a gate is marked, or a residual arc leads there from a marked node.
 fn is_entered(
@@ -30,7 +39,7 @@ fn is_entered(
         || (flow.second_down > 0 && mark_at(before, first, larger))
 }
 
-/// Marks the node before a gate, which is reached, and those to which residual arcs lead from there. Whether one wasn't marked before.
+/// Marks the node before a gate, which is reached, and those to which residual arcs lead from there.
 fn mark_heads(
     before: &mut [bool],
     after: &mut [bool],
@@ -38,7 +47,7 @@ fn mark_heads(
     var: u32,
     gate: &Gate,
     flow: &GateFlow,
-) -> bool
+)
     requires { (b a : ℕ → Bool) → HoldsHeads b a var gate.now flow.now
         → AreWithin first before.old after.old b a → b var ≡ true }
     ensures within { (b a : ℕ → Bool) → HoldsHeads b a var gate.now flow.now
@@ -47,16 +56,15 @@ fn mark_heads(
     ensures after { length after.new ≡ length after.old }
 {
     let (smaller, larger) = (gate.rhs1.var(), gate.rhs0.var());
-    let own = mark_if(before, first, var, true);
-    let through = mark_if(after, first, var, !flow.through);
-    let smaller_before = mark_if(before, first, smaller, true);
-    let larger_before = mark_if(before, first, larger, true);
-    let smaller_after = mark_if(after, first, smaller, flow.first_up);
-    let larger_after = mark_if(after, first, larger, flow.second_up);
-    own | through | smaller_before | larger_before | smaller_after | larger_after
+    mark_if(before, first, var, true);
+    mark_if(after, first, var, !flow.through);
+    mark_if(before, first, smaller, true);
+    mark_if(before, first, larger, true);
+    mark_if(after, first, smaller, flow.first_up);
+    mark_if(after, first, larger, flow.second_up);
 }
 
-/// Marks what is reached from marked nodes by an arc at a gate. Whether a node wasn't marked before.
+/// Marks what is reached from marked nodes by an arc at a gate. Whether the node before the gate is.
 pub(crate) fn go_on(
     before: &mut [bool],
     after: &mut [bool],
@@ -71,7 +79,8 @@ pub(crate) fn go_on(
     ensures after { length after.new ≡ length after.old }
 {
     if is_entered(before, after, first, var, gate, flow) {
-        mark_heads(before, after, first, var, gate, flow)
+        mark_heads(before, after, first, var, gate, flow);
+        true
     } else {
         false
     }

@@ -8,12 +8,10 @@ ghost use Rattle.unit_flows.specs.Onward.{waits, IsFuller, AreReachedFromLeft};
 use crate::balance::{comes_after, is_fuller};
 use crate::frame::Frame;
 use crate::gate_flow::GateFlow;
-use crate::marks::mark_if;
-use crate::onward::go_on;
-use crate::sweeps::{MOST_ROUNDS, NodeMarks, open_gates};
+use crate::onward::{go_on, mark_if};
+use crate::sweeps::{MOST_SWEEPS, NodeMarks, open_gates};
 use aig_graph::NoMemory;
 use std::alloc::Global;
-use variable_tables::mark_at;
 
 /// Whether a unit is left after the variable at a place, and can't leave there.
 fn waits(frame: &Frame, flows: &[GateFlow], went: &[u32], place: usize) -> bool
@@ -95,15 +93,14 @@ fn mark_left(
     }
 }
 
-/// Goes on from the gates that are open, from the first to the last. A gate is open until the node before it was marked as it was looked at.
-/// Whether a node is newly marked.
-fn sweep_up(
+/// Goes on from the gates with these numbers, one after another. How many of them stay open: these then come first.
+fn sweep(
     before: &mut [bool],
     after: &mut [bool],
-    open: &mut [bool],
+    open: &mut [u32],
     frame: &Frame,
     flows: &[GateFlow],
-) -> bool
+) -> usize
     requires { length flows.now ≡ length frame.now.circuit.now.aig.gates }
     ensures reach { (held went came : List ℕ)
         → AreReachedFromLeft frame.now.circuit.now held flows.now went came before.old after.old
@@ -115,56 +112,25 @@ fn sweep_up(
     let first = aig.first_latch();
     let first_gate = aig.first_gate();
     let gates = aig.gates();
-    let mut is_new = false;
-    for k in 0..gates.len() {
-        let var = first_gate + k as u32;
-        if let Some(is_open) = open.get_mut(k) {
-            if *is_open {
-                is_new |= go_on(before, after, first, var, &gates[k], &flows[k]);
-                *is_open = !mark_at(before, first, var);
+    let mut kept = 0;
+    for i in 0..open.len() {
+        let k = open[i] as usize;
+        if k < gates.len() {
+            let var = first_gate + k as u32;
+            if !go_on(before, after, first, var, &gates[k], &flows[k]) {
+                open[kept] = k as u32;
+                kept += 1;
             }
         }
     }
-    is_new
+    kept
 }
 
-/// The same from the last to the first.
-fn sweep_down(
-    before: &mut [bool],
-    after: &mut [bool],
-    open: &mut [bool],
-    frame: &Frame,
-    flows: &[GateFlow],
-) -> bool
-    requires { length flows.now ≡ length frame.now.circuit.now.aig.gates }
-    ensures reach { (held went came : List ℕ)
-        → AreReachedFromLeft frame.now.circuit.now held flows.now went came before.old after.old
-        → AreReachedFromLeft frame.now.circuit.now held flows.now went came before.new after.new }
-    ensures before { length before.new ≡ length before.old }
-    ensures after { length after.new ≡ length after.old }
-{
-    let aig = frame.circuit.aig();
-    let first = aig.first_latch();
-    let first_gate = aig.first_gate();
-    let gates = aig.gates();
-    let mut is_new = false;
-    for k in (0..gates.len()).rev() {
-        let var = first_gate + k as u32;
-        if let Some(is_open) = open.get_mut(k) {
-            if *is_open {
-                is_new |= go_on(before, after, first, var, &gates[k], &flows[k]);
-                *is_open = !mark_at(before, first, var);
-            }
-        }
-    }
-    is_new
-}
-
-/// Sweeps until nothing is newly marked.
+/// Sweeps over the open gates, from the first to the last and back, until none of them is newly reached.
 fn settle(
     before: &mut [bool],
     after: &mut [bool],
-    open: &mut [bool],
+    open: &mut Vec<u32>,
     frame: &Frame,
     flows: &[GateFlow],
 )
@@ -175,12 +141,13 @@ fn settle(
     ensures before { length before.new ≡ length before.old }
     ensures after { length after.new ≡ length after.old }
 {
-    for _ in 0..MOST_ROUNDS {
-        if !sweep_up(before, after, open, frame, flows)
-            || !sweep_down(before, after, open, frame, flows)
-        {
+    for _ in 0..MOST_SWEEPS {
+        let kept = sweep(before, after, open.as_mut_slice(), frame, flows);
+        if kept == open.len() {
             return;
         }
+        open.truncate(kept);
+        open.as_mut_slice().reverse();
     }
 }
 
@@ -213,7 +180,7 @@ pub(crate) fn mark_onward(
     mark_from_left(
         before.as_mut_slice(),
         after.as_mut_slice(),
-        open.as_mut_slice(),
+        &mut open,
         frame,
         flows,
         went,
@@ -226,7 +193,7 @@ pub(crate) fn mark_onward(
 fn mark_from_left(
     before: &mut [bool],
     after: &mut [bool],
-    open: &mut [bool],
+    open: &mut Vec<u32>,
     frame: &Frame,
     flows: &[GateFlow],
     went: &[u32],

@@ -1,17 +1,18 @@
 //! The judge's two passes: over the gates, that no more goes on from before them than comes there and that the marks are a cut; and over the
-//! places of all variables, that no more goes on from after them than comes there, that what leaves is marked, and that as many units arrive as
-//! variables cross.
-ghost use Rattle.std.specs.Prelude.{◌≡◌, ◌+◌, ◌<◌, ℕ, IsTrue, length};
+//! places of all variables, the latches' and then the gates', that no more goes on from after them than comes there, that what leaves is marked,
+//! and that as many units arrive as variables cross.
+ghost use Rattle.std.specs.Prelude.{◌≡◌, ◌+◌, ◌<◌, ◌≤◌, ◌==◌, ◌&&◌, ◌||◌, nat_le, not, ℕ, IsTrue, length};
 ghost use Rattle.variable_tables.specs.Marking.{mark_at};
-ghost use Rattle.aig_graph.specs.Graph.{first_latch, latches_and_gates};
-ghost use Rattle.unit_flows.specs.Units.{unit, arrives};
-ghost use Rattle.unit_flows.specs.Passes.{GateHolds, PlaceHolds, PlacesHold};
+ghost use Rattle.aig_graph.specs.Graph.{first_latch, latches_and_gates, is_free};
+ghost use Rattle.unit_flows.specs.Units.{unit};
+ghost use Rattle.unit_flows.specs.Passes.{GateHolds, PlacesHold};
 
-use crate::balance::{comes_after, gives_no_more};
-use crate::cut::{crosses, is_cut_at};
+use crate::balance::gives_no_more;
+use crate::cut::is_cut_at;
 use crate::frame::Frame;
 use crate::gate_flow::GateFlow;
 use crate::tallies::unit;
+use aig_graph::{Latch, Reset};
 
 /// Whether no gate gives more than it gets, and the marks are a cut at each passable gate.
 pub(crate) fn gates_hold(
@@ -23,6 +24,8 @@ pub(crate) fn gates_hold(
 ) -> bool
     requires flows { length flows.now ≡ length frame.now.circuit.now.aig.gates }
     requires came { length came.now ≡ latches_and_gates frame.now.circuit.now.aig }
+    requires before { length before.now ≡ latches_and_gates frame.now.circuit.now.aig }
+    requires after { length after.now ≡ latches_and_gates frame.now.circuit.now.aig }
     ensures { IsTrue result → (k : ℕ) → k < length frame.now.circuit.now.aig.gates
         → GateHolds frame.now.circuit.now frame.now.keep.now flows.now came.now
         (mark_at (first_latch frame.now.circuit.now.aig) before.now)
@@ -33,48 +36,41 @@ pub(crate) fn gates_hold(
     let first_gate = aig.first_gate();
     let latches = aig.latches().len();
     let gates = aig.gates();
+    let passes = frame.passing_gates();
     for k in 0..gates.len() {
         let var = first_gate + k as u32;
         if !gives_no_more(&flows[k], came[latches + k]) {
             return false;
         }
-        if frame.pass.has(var) && !is_cut_at(before, after, first, first_gate, var, &gates[k]) {
+        if passes[k] && !is_cut_at(before, after, first, first_gate, var, &gates[k]) {
             return false;
         }
     }
     true
 }
 
-/// Whether a unit is left after the variable at a place, and leaves there.
-fn arrives(frame: &Frame, flows: &[GateFlow], went: &[u32], place: usize) -> bool
-    requires flows { length flows.now ≡ length frame.now.circuit.now.aig.gates }
-    requires went { length went.now ≡ latches_and_gates frame.now.circuit.now.aig }
-    requires place { place < latches_and_gates frame.now.circuit.now.aig }
-    ensures { result ≡ arrives frame.now.circuit.now frame.now.keep.now flows.now went.now place }
+/// Whether the latch's reset is known.
+fn is_known(latch: &Latch) -> bool
+    ensures { result ≡ not (is_free latch.now) }
 {
-    let comes = comes_after(frame.circuit.aig(), flows, place);
-    let is_left = went[place] == 0;
-    frame.leaving[place] & comes & is_left
+    latch.reset != Reset::Free
 }
 
-/// Whether no more goes on from after the variable at a place than comes there, and it is marked where it leaves.
-fn place_holds(
-    frame: &Frame,
-    flows: &[GateFlow],
-    went: &[u32],
-    after: &[bool],
-    place: usize,
-) -> bool
-    requires flows { length flows.now ≡ length frame.now.circuit.now.aig.gates }
-    requires went { length went.now ≡ latches_and_gates frame.now.circuit.now.aig }
-    requires after { length after.now ≡ latches_and_gates frame.now.circuit.now.aig }
-    requires place { place < latches_and_gates frame.now.circuit.now.aig }
-    ensures { IsTrue result → PlaceHolds frame.now.circuit.now frame.now.keep.now flows.now went.now
-        (mark_at (first_latch frame.now.circuit.now.aig) after.now) place }
+/// Whether no more units go on from after a variable than come there, and it is marked where it leaves.
+fn place_holds(comes: bool, went: u32, leaves: bool, reached: bool) -> bool
+    ensures { result ≡ (nat_le went (unit comes) && (not leaves || reached)) }
 {
-    let comes = unit(comes_after(frame.circuit.aig(), flows, place));
-    let is_balanced = went[place] <= comes;
-    is_balanced & (!frame.leaving[place] | after[place])
+    let most = unit(comes);
+    let is_balanced = went <= most;
+    is_balanced & (!leaves | reached)
+}
+
+/// Whether a unit is left after a variable, and leaves there.
+fn arrives(comes: bool, went: u32, leaves: bool) -> bool
+    ensures { result ≡ (leaves && comes && (went == 0)) }
+{
+    let is_left = went == 0;
+    leaves & comes & is_left
 }
 
 /// Whether all places hold, and no more variables cross than units arrive.
@@ -87,21 +83,30 @@ pub(crate) fn places_hold(
 ) -> bool
     requires flows { length flows.now ≡ length frame.now.circuit.now.aig.gates }
     requires went { length went.now ≡ latches_and_gates frame.now.circuit.now.aig }
+    requires before { length before.now ≡ latches_and_gates frame.now.circuit.now.aig }
     requires after { length after.now ≡ latches_and_gates frame.now.circuit.now.aig }
     ensures { IsTrue result → PlacesHold frame.now.circuit.now frame.now.keep.now flows.now went.now
         (mark_at (first_latch frame.now.circuit.now.aig) before.now)
         (mark_at (first_latch frame.now.circuit.now.aig) after.now) }
 {
-    let aig = frame.circuit.aig();
-    let first = aig.first_latch();
+    let latches = frame.circuit.aig().latches();
+    let passes = frame.passing_gates();
+    let leaving = frame.leaving.as_slice();
+    let mut holds = true;
     let mut arrived = 0;
     let mut crossed = 0;
-    for place in 0..aig.latches_and_gates() {
-        if !place_holds(frame, flows, went, after, place) {
-            return false;
-        }
-        arrived += unit(arrives(frame, flows, went, place));
-        crossed += unit(crosses(frame, before, after, first + place as u32));
+    for place in 0..latches.len() {
+        let known = is_known(&latches[place]);
+        holds &= place_holds(known, went[place], leaving[place], after[place]);
+        arrived += unit(arrives(known, went[place], leaving[place]));
+        crossed += unit(known & after[place]);
     }
-    crossed <= arrived
+    for k in 0..passes.len() {
+        let place = latches.len() + k;
+        let through = flows[k].through;
+        holds &= place_holds(through, went[place], leaving[place], after[place]);
+        arrived += unit(arrives(through, went[place], leaving[place]));
+        crossed += unit(passes[k] & !before[place] & after[place]);
+    }
+    holds & (crossed <= arrived)
 }

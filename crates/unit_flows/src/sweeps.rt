@@ -1,4 +1,5 @@
-//! Sweeps over the passable gates, down and up, until nothing is newly marked: a mark shows below its gate in a sweep down, and above it in a sweep up.
+//! Sweeps over the passable gates, up and down, until none is newly marked: a mark shows above its gate in a sweep up, and below it in a sweep
+//! down. A gate is open until the node before it is marked, and each sweep looks at the open gates alone.
 ghost use Rattle.std.specs.Prelude.{◌≡◌, ◌≤◌, ℕ, List, IfOk, length};
 ghost use Rattle.aig_graph.specs.Graph.{latches_and_gates};
 ghost use Rattle.unit_flows.specs.Marks.{ReachSink};
@@ -8,10 +9,9 @@ use crate::gate_flow::GateFlow;
 use crate::marks::see;
 use aig_graph::NoMemory;
 use std::alloc::Global;
-use variable_tables::mark_at;
 
-/// More rounds than these are never made: the judge says no to marks that aren't a full cut.
-pub(crate) const MOST_ROUNDS: u32 = 65_536;
+/// More sweeps than these are never made: the judge says no to marks that aren't a full cut.
+pub(crate) const MOST_SWEEPS: u32 = 131_072;
 
 /// Marks by variable, from the first latch on, of the nodes before and after each.
 #[derive(Drop)]
@@ -20,15 +20,17 @@ pub struct NodeMarks {
     pub after: Vec<bool>,
 }
 
-/// Sees the gates from the last to the first. Whether a node is newly marked.
-fn sweep_down(
+/// Sees the gates with these numbers, one after another. How many of them stay open: these then come first.
+fn sweep(
     before: &mut [bool],
     after: &mut [bool],
-    open: &mut [bool],
+    open: &mut [u32],
     frame: &Frame,
     flows: &[GateFlow],
-) -> bool
-    requires { length flows.now ≡ length frame.now.circuit.now.aig.gates }
+) -> usize
+    requires flows { length flows.now ≡ length frame.now.circuit.now.aig.gates }
+    requires before { length before.old ≡ latches_and_gates frame.now.circuit.now.aig }
+    requires after { length after.old ≡ latches_and_gates frame.now.circuit.now.aig }
     ensures reach { (held : List ℕ) → ReachSink frame.now.circuit.now held flows.now before.old after.old
         → ReachSink frame.now.circuit.now held flows.now before.new after.new }
     ensures before { length before.new ≡ length before.old }
@@ -38,80 +40,54 @@ fn sweep_down(
     let first = aig.first_latch();
     let first_gate = aig.first_gate();
     let gates = aig.gates();
-    let mut is_new = false;
-    for k in (0..gates.len()).rev() {
-        let var = first_gate + k as u32;
-        if let Some(is_open) = open.get_mut(k) {
-            if *is_open {
-                is_new |= see(before, after, first, var, &gates[k], &flows[k]);
-                *is_open = !mark_at(before, first, var);
+    let mut kept = 0;
+    for i in 0..open.len() {
+        let k = open[i] as usize;
+        if k < gates.len() {
+            let var = first_gate + k as u32;
+            if !see(before, after, first, var, &gates[k], &flows[k]) {
+                open[kept] = k as u32;
+                kept += 1;
             }
         }
     }
-    is_new
+    kept
 }
 
-/// Sees the gates from the first to the last. Whether a node is newly marked.
-fn sweep_up(
-    before: &mut [bool],
-    after: &mut [bool],
-    open: &mut [bool],
-    frame: &Frame,
-    flows: &[GateFlow],
-) -> bool
-    requires { length flows.now ≡ length frame.now.circuit.now.aig.gates }
-    ensures reach { (held : List ℕ) → ReachSink frame.now.circuit.now held flows.now before.old after.old
-        → ReachSink frame.now.circuit.now held flows.now before.new after.new }
-    ensures before { length before.new ≡ length before.old }
-    ensures after { length after.new ≡ length after.old }
-{
-    let aig = frame.circuit.aig();
-    let first = aig.first_latch();
-    let first_gate = aig.first_gate();
-    let gates = aig.gates();
-    let mut is_new = false;
-    for k in 0..gates.len() {
-        let var = first_gate + k as u32;
-        if let Some(is_open) = open.get_mut(k) {
-            if *is_open {
-                is_new |= see(before, after, first, var, &gates[k], &flows[k]);
-                *is_open = !mark_at(before, first, var);
-            }
-        }
-    }
-    is_new
-}
-
-/// Sweeps until nothing is newly marked.
+/// Sweeps over the open gates, from the first to the last and back, until none of them is newly marked.
 fn settle(
     before: &mut [bool],
     after: &mut [bool],
-    open: &mut [bool],
+    open: &mut Vec<u32>,
     frame: &Frame,
     flows: &[GateFlow],
 )
-    requires { length flows.now ≡ length frame.now.circuit.now.aig.gates }
+    requires flows { length flows.now ≡ length frame.now.circuit.now.aig.gates }
+    requires before { length before.old ≡ latches_and_gates frame.now.circuit.now.aig }
+    requires after { length after.old ≡ latches_and_gates frame.now.circuit.now.aig }
     ensures reach { (held : List ℕ) → ReachSink frame.now.circuit.now held flows.now before.old after.old
         → ReachSink frame.now.circuit.now held flows.now before.new after.new }
     ensures before { length before.new ≡ length before.old }
     ensures after { length after.new ≡ length after.old }
 {
-    for _ in 0..MOST_ROUNDS {
-        if !sweep_down(before, after, open, frame, flows)
-            || !sweep_up(before, after, open, frame, flows)
-        {
+    for _ in 0..MOST_SWEEPS {
+        let kept = sweep(before, after, open.as_mut_slice(), frame, flows);
+        if kept == open.len() {
             return;
         }
+        open.truncate(kept);
+        open.as_mut_slice().reverse();
     }
 }
 
-/// A mark for each passable gate.
-pub(crate) fn open_gates(alloc: Global, frame: &Frame) -> Result<Vec<bool>, NoMemory> {
-    let aig = frame.circuit.aig();
-    let first_gate = aig.first_gate();
-    let mut open = Vec::with_capacity(alloc, aig.gates().len())?;
-    for k in 0..aig.gates().len() {
-        open.push(frame.pass.has(first_gate + k as u32))?;
+/// The numbers of the passable gates, rising.
+pub(crate) fn open_gates(alloc: Global, frame: &Frame) -> Result<Vec<u32>, NoMemory> {
+    let passes = frame.passing_gates();
+    let mut open = Vec::with_capacity(alloc, passes.len())?;
+    for k in 0..passes.len() {
+        if passes[k] {
+            open.push(k as u32)?;
+        }
     }
     Ok(open)
 }
@@ -145,7 +121,7 @@ pub fn mark(alloc: Global, frame: &Frame, flows: &[GateFlow]) -> Result<NodeMark
     settle(
         before.as_mut_slice(),
         after.as_mut_slice(),
-        open.as_mut_slice(),
+        &mut open,
         frame,
         flows,
     );

@@ -1,9 +1,9 @@
 use Rattle.std.proofs.Common.{◌≡◌, ◌+◌}
 use Rattle.variable_tables.specs.Counting.{places}
 use Rattle.variable_tables.specs.Marking.{mark_at}
-use Rattle.aig_graph.specs.Graph.{first_latch}
+use Rattle.aig_graph.specs.Graph.{first_latch, first_gate}
 use Rattle.unit_flows.specs.Shown.{is_off}
 use Rattle.unit_flows.proofs.judging.off_marks.Given as goal
 
-abbrev pub invariant-loop-place : goal.invariant-loop-place
-invariant-loop-place l = l.vars.items ≡ places (is_off l.frame.circuit.now l.frame.keep.now (mark_at (first_latch l.frame.circuit.now.aig) l.before)) (first_latch l.frame.circuit.now.aig + l.place)
+abbrev pub invariant-loop-k : goal.invariant-loop-k
+invariant-loop-k l = l.vars.items ≡ places (is_off l.frame.circuit.now l.frame.keep.now (mark_at (first_latch l.frame.circuit.now.aig) l.before)) (first_gate l.frame.circuit.now.aig + l.k)

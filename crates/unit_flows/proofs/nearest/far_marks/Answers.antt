@@ -12,3 +12,6 @@ returns-clause-far c = λ b a down v low high off.
 
 pub returns-clause-after : goal.returns-clause-after
 returns-clause-after c = ap length (c.in_ok-after.ensures ∙ ap (λ (xs : List Bool). map not xs) c.as_slice-2.ensures.value) ∙ length-map c.in_ok-near.near.after.items not ∙ c.in_ok-near.ensures.after
+
+pub returns-clause-before : goal.returns-clause-before
+returns-clause-before c = ap length (c.in_ok-before.ensures ∙ ap (λ (xs : List Bool). map not xs) c.as_slice.ensures.value) ∙ length-map c.in_ok-near.near.before.items not ∙ c.in_ok-near.ensures.before

@@ -1,12 +1,16 @@
-use Rattle.std.proofs.Common.{◌≡◌, ◌+◌, ℕ, length, slice_index, ap, sym, ◌∙◌, subst}
+use Rattle.std.proofs.Common.{◌≡◌, ◌<◌, ◌+◌, ℕ, length, slice_index, arith, ap, sym, ◌∙◌, subst}
 use Rattle.aig_graph.specs.Graph.{Graph, first_latch, first_gate}
-use Rattle.frame_net.specs.Passable.{is_passable}
-use Rattle.frame_net.proofs.PassableLaws.{has-passable}
 use Rattle.unit_flows.specs.Units.{nth_flow, IsBalancedBefore}
-use Rattle.unit_flows.proofs.FrameLaws.{cut-same, gate-read, not-both}
+use Rattle.unit_flows.proofs.FrameLaws.{cut-same, gate-read, gate-there, not-both}
 use Rattle.unit_flows.proofs.OffLaws.{all-more}
 use Rattle.unit_flows.proofs.passes.gates_hold.Goals as goal
-use Rattle.unit_flows.proofs.passes.gates_hold.Goals.{else-has-via-then-has+else-not-is_cut_at, else-has-via-else-has}
+use Rattle.unit_flows.proofs.passes.gates_hold.Goals.{else-passes-k-via-then-passes-k+else-not-is_cut_at, else-passes-k-via-else-passes-k}
+
+pub is_cut_at-requires-clause-gate : goal.is_cut_at-requires-clause-gate
+is_cut_at-requires-clause-gate c =
+    gate-there c.args.frame.now.circuit.now.aig c.gates-gates.result.now c.loop-k.k _ c.index-gates-k.result c.aig-aig.ensures.graph
+    (c.gates-gates.ensures.value ∙ ap (λ (g : Graph). g.gates) c.aig-aig.ensures.value) c.loop-k-test.true c.index-gates-k.is
+    (ap (λ (n : ℕ). n + c.loop-k.k) (c.first_gate-first_gate.ensures.value ∙ ap first_gate c.aig-aig.ensures.value))
 
 pub loop-k-preserved : goal.loop-k-preserved
 loop-k-preserved c =
@@ -18,15 +22,14 @@ loop-k-preserved c =
     let first : c.first_latch-first.result ≡ first_latch c.args.frame.now.circuit.now.aig = c.first_latch-first.ensures.value ∙ ap first_latch aig in
     let begin : c.first_gate-first_gate.result ≡ first_gate c.args.frame.now.circuit.now.aig = c.first_gate-first_gate.ensures.value ∙ ap first_gate aig in
     let at : c.first_gate-first_gate.result + c.loop-k.k ≡ first_gate c.args.frame.now.circuit.now.aig + c.loop-k.k = ap (λ (n : ℕ). n + c.loop-k.k) begin in
+    let within : c.loop-k.k < length c.args.frame.now.circuit.now.aig.gates = omega (arith, c.loop-k-test.true, ap length gates) in
     all-more _ _ c.loop-k.invariant (record {
       balanced = subst (λ (n : ℕ). IsBalancedBefore (nth_flow c.args.flows.now c.loop-k.k) (slice_index c.args.came.now (n + c.loop-k.k))) latches (c.gives_no_more.ensures c.if-not-gives_no_more.false);
-      cut = λ passes. elim c.else-has.branch [
-        | else-has-via-then-has+else-not-is_cut_at w ↦
+      cut = λ passes. elim c.else-passes-k.branch [
+        | else-passes-k-via-then-passes-k+else-not-is_cut_at w ↦
             cut-same _ _ _ _ _ _ _ _ c.args.before.now c.args.after.now first begin at
             (gate-read c.args.frame.now.circuit.now.aig c.gates-gates.result.now c.loop-k.k w.index-gates-k.result gates c.loop-k-test.true w.index-gates-k.is)
             (w.is_cut_at.ensures w.if-not-is_cut_at.false)
-        | else-has-via-else-has w ↦ absurd (not-both _ c.has.result passes
-            (ap (λ (v : ℕ). is_passable c.args.frame.now.circuit.now.aig c.args.frame.now.keep.now v) (sym at)
-            ∙ sym (c.has.ensures.value ∙ has-passable c.args.frame.now.circuit.now.aig c.args.frame.now.keep.now c.args.frame.now.pass.first c.args.frame.now.pass.marks.items _ c.args.frame.now.pass_is.first c.args.frame.now.pass_is.marks)) w.if-has.false)
+        | else-passes-k-via-else-passes-k w ↦ absurd (not-both _ _ passes (sym (c.passing_gates-passes.ensures.each c.loop-k.k within)) w.if-passes-k.false)
       ];
     })

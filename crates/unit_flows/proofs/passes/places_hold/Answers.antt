@@ -1,39 +1,53 @@
-use Rattle.std.proofs.Common.{◌≡◌, ◌+◌, ℕ, arith, ap, ◌∙◌}
-use Rattle.std.proofs.lemmas.Bool.{leb-true}
-use Rattle.flow_theory.specs.Flow.{sum_below}
+use Rattle.std.proofs.Common.{◌≡◌, ◌<◌, ◌+◌, ◌∙◌, ◌&&◌, not, ℕ, false, length, slice_index_or, arith, refl, ap, subst}
 use Rattle.variable_tables.specs.Marking.{mark_at}
-use Rattle.aig_graph.specs.Graph.{first_latch, latches_and_gates}
-use Rattle.unit_flows.specs.Units.{unit, arrives}
-use Rattle.unit_flows.specs.Shown.{crosses}
-use Rattle.unit_flows.proofs.FrameLaws.{sum-more}
-use Rattle.unit_flows.proofs.OffLaws.{all-more}
+use Rattle.aig_graph.specs.Graph.{Graph, first_latch}
+use Rattle.unit_flows.specs.Units.{unit, nth_flow}
+use Rattle.unit_flows.proofs.FrameLaws.{leaving-long}
+use Rattle.unit_flows.proofs.PlaceLaws.{AreSeen, seen-more, latch-place, gate-place}
 use Rattle.unit_flows.proofs.passes.places_hold.Goals as goal
+
+pub bounds-leaving-place : goal.bounds-leaving-place
+bounds-leaving-place c =
+    let latches : length c.latches-latches.result.now ≡ length c.args.frame.now.circuit.now.aig.latches = ap length (c.latches-latches.ensures.value ∙ ap (λ (g : Graph). g.latches) c.aig.ensures.value) in
+    omega (arith, latches, ap length c.as_slice-leaving.ensures.value, leaving-long c.args.frame.now.circuit.now c.args.frame.now.keep.now c.args.frame.now.leaving.items c.args.frame.now.leaving_are)
+
+pub bounds-leaving-place-in-loop-place : goal.bounds-leaving-place-in-loop-place
+bounds-leaving-place-in-loop-place c =
+    let latches : length c.latches-latches.result.now ≡ length c.args.frame.now.circuit.now.aig.latches = ap length (c.latches-latches.ensures.value ∙ ap (λ (g : Graph). g.latches) c.aig.ensures.value) in
+    omega (arith, latches, ap length c.as_slice-leaving.ensures.value, leaving-long c.args.frame.now.circuit.now c.args.frame.now.keep.now c.args.frame.now.leaving.items c.args.frame.now.leaving_are)
 
 pub loop-place-preserved : goal.loop-place-preserved
 loop-place-preserved c =
-    let first : c.first_latch-first.result ≡ first_latch c.args.frame.now.circuit.now.aig = c.first_latch-first.ensures.value ∙ ap first_latch c.aig-aig.ensures.value in
-    let before : ℕ → _ = mark_at (first_latch c.args.frame.now.circuit.now.aig) c.args.before.now in
-    let after : ℕ → _ = mark_at (first_latch c.args.frame.now.circuit.now.aig) c.args.after.now in
-    record {
-      few_arrived = omega (arith, c.loop-place.invariant.few_arrived, c.unit-arrived.ensures.small);
-      few_crossed = omega (arith, c.loop-place.invariant.few_crossed, c.unit-crossed.ensures.small);
-      arrived = sum-more _ _ _ _ c.loop-place.invariant.arrived (c.unit-arrived.ensures.value ∙ ap unit c.arrives.ensures);
-      crossed = sum-more _ _ _ _ c.loop-place.invariant.crossed (c.unit-crossed.ensures.value ∙ ap unit (c.crosses.ensures ∙ ap (λ (f : ℕ). crosses c.args.frame.now.circuit.now c.args.frame.now.keep.now before after (f + c.loop-place.place)) first));
-      each = all-more _ _ c.loop-place.invariant.each (c.place_holds.ensures c.if-not-place_holds.false);
-    }
+    seen-more _ _ _ _ _ _ _ _ _ _ _ _ _ _ _ _ _ _ c.loop-place.invariant
+    (latch-place c.args.frame.now.circuit.now c.args.frame.now.keep.now c.args.flows.now c.args.went.now c.args.before.now c.args.after.now c.latches-latches.result.now c.loop-place.place c.index-latches-place.result
+    c.is_known-known.result (slice_index_or c.as_slice-leaving.result.now c.loop-place.place false) (slice_index_or c.args.after.now c.loop-place.place false)
+    (c.is_known-known.result && slice_index_or c.args.after.now c.loop-place.place false) c.as_slice-leaving.result.now
+    (c.latches-latches.ensures.value ∙ ap (λ (g : Graph). g.latches) c.aig.ensures.value) c.loop-place-test.true c.index-latches-place.is c.is_known-known.ensures
+    (c.as_slice-leaving.ensures.value ∙ c.args.frame.now.leaving_are) refl refl refl)
+    c.place_holds-holds.ensures (c.unit-arrived.ensures.value ∙ ap unit c.arrives.ensures) c.unit-crossed.ensures.value c.unit-arrived.ensures.small c.unit-crossed.ensures.small
 
-pub returns : goal.returns
-returns c = λ t.
-    let end : c.loop-place.place ≡ latches_and_gates c.args.frame.now.circuit.now.aig = omega (arith, c.loop-place-test.false, c.loop-place.auto.place-end, c.latches_and_gates-place-end.ensures.value, ap latches_and_gates c.aig-aig.ensures.value) in
-    record {
-      each = λ p h. c.loop-place.invariant.each p (omega (arith, h, end));
-      full = omega (
-        arith,
-        leb-true _ _ t,
-        c.loop-place.invariant.arrived,
-        c.loop-place.invariant.crossed,
-        ap (λ (n : ℕ). sum_below n (λ p. unit (arrives c.args.frame.now.circuit.now c.args.frame.now.keep.now c.args.flows.now c.args.went.now p))) end,
-        ap (λ (n : ℕ). sum_below n (λ p. unit (crosses c.args.frame.now.circuit.now c.args.frame.now.keep.now (mark_at (first_latch c.args.frame.now.circuit.now.aig) c.args.before.now)
-            (mark_at (first_latch c.args.frame.now.circuit.now.aig) c.args.after.now) (first_latch c.args.frame.now.circuit.now.aig + p)))) end,
-      );
-    }
+pub bounds-leaving-place-in-loop-k : goal.bounds-leaving-place-in-loop-k
+bounds-leaving-place-in-loop-k c =
+    let latches : length c.latches-latches.result.now ≡ length c.args.frame.now.circuit.now.aig.latches = ap length (c.latches-latches.ensures.value ∙ ap (λ (g : Graph). g.latches) c.aig.ensures.value) in
+    omega (arith, latches, c.passing_gates-passes.ensures.len, ap length c.as_slice-leaving.ensures.value, leaving-long c.args.frame.now.circuit.now c.args.frame.now.keep.now c.args.frame.now.leaving.items c.args.frame.now.leaving_are)
+
+pub bounds-leaving-place-in-loop-k-2 : goal.bounds-leaving-place-in-loop-k-2
+bounds-leaving-place-in-loop-k-2 c =
+    let latches : length c.latches-latches.result.now ≡ length c.args.frame.now.circuit.now.aig.latches = ap length (c.latches-latches.ensures.value ∙ ap (λ (g : Graph). g.latches) c.aig.ensures.value) in
+    omega (arith, latches, c.passing_gates-passes.ensures.len, ap length c.as_slice-leaving.ensures.value, leaving-long c.args.frame.now.circuit.now c.args.frame.now.keep.now c.args.frame.now.leaving.items c.args.frame.now.leaving_are)
+
+pub loop-k-preserved : goal.loop-k-preserved
+loop-k-preserved c =
+    let latches : length c.latches-latches.result.now ≡ length c.args.frame.now.circuit.now.aig.latches = ap length (c.latches-latches.ensures.value ∙ ap (λ (g : Graph). g.latches) c.aig.ensures.value) in
+    let n : ℕ = length c.latches-latches.result.now in
+    let k : ℕ = c.loop-k.k in
+    let next : n + k + 1 ≡ n + (k + 1) = omega arith in
+    let within : k < length c.args.frame.now.circuit.now.aig.gates = omega (arith, c.loop-k-test.true, c.passing_gates-passes.ensures.len) in
+    subst (λ (m : ℕ). AreSeen c.args.frame.now.circuit.now c.args.frame.now.keep.now c.args.flows.now c.args.went.now (mark_at (first_latch c.args.frame.now.circuit.now.aig) c.args.before.now) (mark_at (first_latch c.args.frame.now.circuit.now.aig) c.args.after.now)
+    m (c.loop-k.arrived + c.unit-arrived-in-loop-k.result) (c.loop-k.crossed + c.unit-crossed-in-loop-k.result) (c.loop-k.holds && c.place_holds-holds-in-loop-k.result)) next
+    (seen-more _ _ _ _ _ _ _ _ _ _ _ _ _ _ _ _ _ _ c.loop-k.invariant
+    (gate-place c.args.frame.now.circuit.now c.args.frame.now.keep.now c.args.flows.now c.args.went.now c.args.before.now c.args.after.now k n (nth_flow c.args.flows.now k)
+    (slice_index_or c.passing_gates-passes.result.now k false) (slice_index_or c.as_slice-leaving.result.now (n + k) false) (slice_index_or c.args.before.now (n + k) false) (slice_index_or c.args.after.now (n + k) false)
+    ((slice_index_or c.passing_gates-passes.result.now k false && not (slice_index_or c.args.before.now (n + k) false)) && slice_index_or c.args.after.now (n + k) false)
+    c.as_slice-leaving.result.now latches within refl (c.passing_gates-passes.ensures.each k within) (c.as_slice-leaving.ensures.value ∙ c.args.frame.now.leaving_are) refl refl refl refl)
+    c.place_holds-holds-in-loop-k.ensures (c.unit-arrived-in-loop-k.ensures.value ∙ ap unit c.arrives-in-loop-k.ensures) c.unit-crossed-in-loop-k.ensures.value c.unit-arrived-in-loop-k.ensures.small c.unit-crossed-in-loop-k.ensures.small)

@@ -1,10 +1,11 @@
-use Rattle.std.proofs.Common.{ℕ, ◌≡◌, List, length}
+use Rattle.std.proofs.Common.{ℕ, ◌≡◌, ◌≤◌, List, length}
 use Rattle.unit_flows.specs.Marks.{ReachSink}
-use Rattle.unit_flows.proofs.sweeps.sweep_up.Given as goal
+use Rattle.unit_flows.proofs.sweeps.sweep.Given as goal
 
-abbrev pub invariant-loop-k : goal.invariant-loop-k
-invariant-loop-k l = record {
+abbrev pub invariant-loop-i : goal.invariant-loop-i
+invariant-loop-i l = record {
   reach : (held : List ℕ) → ReachSink l.frame.circuit.now held l.flows l.fn.before l.fn.after → ReachSink l.frame.circuit.now held l.flows l.before l.after;
   long_before : length l.before ≡ length l.fn.before;
   long_after : length l.after ≡ length l.fn.after;
+  few_kept : l.kept ≤ l.i;
 }
