@@ -1,14 +1,18 @@
 -- Graphs and properties that are mapped part by part.
-use Rattle.std.proofs.Common.{ℕ, ◌+◌, ◌<◌, ◌≡◌, List, length, map, slice_get, Some, get_or, refl, arith, ap, sym, ◌∙◌, subst}
+use Rattle.std.proofs.Common.{ℕ, ◌+◌, ◌*◌, ◌<◌, ◌≡◌, List, length, map, slice_get, Some, get_or, refl, arith, ap, sym, ◌∙◌, subst}
 use Rattle.std.proofs.lemmas.Option.{slice_get_read, slice_get_within}
 use Rattle.aig_graph.specs.declared.graph.Gate.{Gate}
 use Rattle.aig_graph.specs.declared.graph.Latch.{Latch}
 use Rattle.aig_graph.specs.declared.properties.Props.{Props}
-use Rattle.aig_graph.specs.Graph.{Graph, IsGraph, IsGateAt, IsLiteralOf, variable, variables_end, first_gate}
+use Rattle.aig_graph.specs.Graph.{Graph, IsGraph, IsGateAt, IsLiteralOf, variable, variables_end, first_gate, first_latch}
 use Rattle.aig_graph.specs.Circuits.{ArePropsOf}
 use Rattle.aig_graph.specs.Mapped.{OfProps}
-use Rattle.cleaned_circuits.specs.Merged.{replaced_latch, replaced_gate, replaced_graph, substitutes_of}
+use Rattle.aig_graph.specs.Value.{signed_as}
+use Rattle.cleaned_circuits.specs.Latches.{latch_substitute}
+use Rattle.cleaned_circuits.specs.Merged.{replaced, replaced_latch, replaced_gate, replaced_graph, substitutes_of}
+use Rattle.aig_graph.proofs.KindLaws.{element}
 use Rattle.aig_graph.proofs.PropsLaws.{of_literals, literals_within}
+use Rattle.cleaned_circuits.proofs.OwnLaws.{leaf-latch, substitutes-leaf}
 use Rattle.cleaned_circuits.proofs.SubstituteLaws.{length-substitutes_of}
 
 -- a graph of equal inputs, latches and gates is the same
@@ -35,6 +39,21 @@ props-within g p n props long =
 -- there is an entry of what stands for each variable
 pub substitutes-long : (g : Graph) (held substitutes : List ℕ) → substitutes ≡ substitutes_of g held → length substitutes ≡ variables_end g
 substitutes-long g held substitutes is = ap (λ (xs : List ℕ). length xs) is ∙ length-substitutes_of g held
+
+-- what stands for the literal of a latch is what stands for the latch
+pub latch-entry : (g : Graph) (held substitutes : List ℕ) (j own : ℕ) → substitutes ≡ substitutes_of g held → j < length g.latches → own ≡ 2 * (first_latch g + j)
+    → replaced substitutes own ≡ latch_substitute g held j (slice_get g.latches j)
+latch-entry g held substitutes j own is within same =
+    let latch = element g.latches j within in
+    let place : variable own ≡ first_latch g + j = omega (arith, same) in
+    let entry : get_or substitutes (variable own) 0 ≡ latch_substitute g held j (slice_get g.latches j) =
+    ap (λ (xs : List ℕ). get_or xs (variable own) 0) is
+    ∙ ap (λ (v : ℕ). get_or (substitutes_of g held) v 0) place
+    ∙ substitutes-leaf g held (first_latch g + j) (omega (arith, within))
+    ∙ leaf-latch g held j latch.0 latch.1
+    ∙ ap (latch_substitute g held j) (sym latch.1) in
+    let unsigned : (base : ℕ) → signed_as own base ≡ base = λ base. omega (arith, same) in
+    unsigned (get_or substitutes (variable own) 0) ∙ entry
 
 -- what a loop over the gates reads is within the table
 pub gate-within : (g : Graph) (items : List Gate) (k n : ℕ) (gate : Gate) → IsGraph g → items ≡ g.gates → k < length items → gate ≡ get_or items k gate → n ≡ variables_end g

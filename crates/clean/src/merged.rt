@@ -3,7 +3,7 @@
 ghost use Rattle.std.specs.Prelude.{◌≡◌, ◌<◌, IfOk, length, map};
 ghost use Rattle.aig_graph.specs.Graph.{IsGraph, variable, variables_end};
 ghost use Rattle.aig_graph.specs.Circuits.{IsNetlist};
-ghost use Rattle.cleaned_circuits.specs.Merged.{replaced_latch, replaced_gate, replaced_graph, replaced_circuit, merged_of};
+ghost use Rattle.cleaned_circuits.specs.Merged.{replaced_latch, replaced_gate, replaced_graph, replaced_circuit, merged_of, substitutes_of};
 
 use crate::held::Held;
 use crate::names::copied_symbols;
@@ -83,7 +83,26 @@ pub fn replaced_circuit(
     Ok(Circuit::new(aig, props, symbols))
 }
 
-/// The circuit, reading what stands for what it reads.
+/// The circuit, reading what stands for what it reads: for each variable what a pass with these latches held puts in its place.
+pub(crate) fn merged_by(
+    alloc: Global,
+    circuit: &Circuit,
+    held: &Held<'_>,
+    substitutes: &Substitution,
+) -> Result<Merged, NoMemory>
+    requires { substitutes.now ≡ substitutes_of circuit.now.aig held.now.positions.now }
+    ensures aig { IfOk result (λ merged. merged.aig
+        ≡ (merged_of held.now.positions.now circuit.now).aig) }
+    ensures props { IfOk result (λ merged. merged.props
+        ≡ (merged_of held.now.positions.now circuit.now).props) }
+{
+    let _held = held;
+    let aig = replaced_aig(alloc, circuit.aig(), substitutes)?;
+    let props = circuit.props().mapped(alloc, substitutes)?;
+    Ok(Merged { aig, props })
+}
+
+/// The same, where what stands for each variable isn't known yet.
 pub(crate) fn merged_of(
     alloc: Global,
     circuit: &Circuit,
@@ -96,7 +115,5 @@ pub(crate) fn merged_of(
         ≡ (merged_of held.now.positions.now circuit.now).props) }
 {
     let substitutes = substitutes_of(alloc, circuit.aig(), held)?;
-    let aig = replaced_aig(alloc, circuit.aig(), &substitutes)?;
-    let props = circuit.props().mapped(alloc, &substitutes)?;
-    Ok(Merged { aig, props })
+    merged_by(alloc, circuit, held, &substitutes)
 }

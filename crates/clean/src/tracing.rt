@@ -3,15 +3,17 @@ ghost use Rattle.std.specs.Prelude.{◌≡◌, ◌<◌, ◌+◌, All, IfOk, leng
 ghost use Rattle.aig_graph.specs.Graph.{first_latch};
 ghost use Rattle.variable_tables.specs.Tables.{table};
 ghost use Rattle.cleaned_circuits.specs.Latches.{latch_substitute};
+ghost use Rattle.cleaned_circuits.specs.Merged.{substitutes_of};
 ghost use Rattle.clean.specs.Sweep.{is_marked};
 ghost use Rattle.clean.specs.Tracing.{IsTraced};
 
-use crate::firsts::FirstLatches;
 use crate::held::Held;
-use crate::latches::substitute_for_latch;
-use crate::merged::merged_of;
+use crate::latches::own_literal;
+use crate::merged::merged_by;
 use crate::pass::trimmed;
 use crate::reached::{Reached, reach_everything};
+use crate::substitutes::substitutes_of;
+use crate::substitution::Substitution;
 use aig_graph::{Aig, Circuit, Lit, NoMemory};
 use std::alloc::Global;
 
@@ -32,19 +34,23 @@ pub struct TracedPass {
     pub kept_gates: Vec<u32>,
 }
 
-/// What stands for each latch.
-fn substitutes_of_latches(alloc: Global, aig: &Aig, held: &Held<'_>) -> Result<Vec<Lit>, NoMemory>
-    requires { length held.now.marks.items ≡ length aig.now.latches }
-    ensures { IfOk result (λ substitutes. substitutes.items ≡ table 0 (length aig.now.latches)
+/// What stands for each latch, by what stands for each variable.
+fn latch_literals(
+    alloc: Global,
+    aig: &Aig,
+    held: &Held<'_>,
+    substitutes: &Substitution,
+) -> Result<Vec<Lit>, NoMemory>
+    requires { substitutes.now ≡ substitutes_of aig.now held.now.positions.now }
+    ensures { IfOk result (λ literals. literals.items ≡ table 0 (length aig.now.latches)
         (λ j. latch_substitute aig.now held.now.positions.now j (slice_get aig.now.latches j))) }
 {
-    let mut firsts = FirstLatches::new(alloc);
-    let mut substitutes = Vec::with_capacity(alloc, aig.latches().len())?;
-    for (place, latch) in aig.latches().iter().enumerate() {
-        let substitute = substitute_for_latch(&mut firsts, aig, held, place, *latch)?;
-        substitutes.push(substitute)?;
+    let _held = held;
+    let mut literals = Vec::with_capacity(alloc, aig.latches().len())?;
+    for place in 0..aig.latches().len() {
+        literals.push(substitutes.literal(own_literal(aig, place)))?;
     }
-    Ok(substitutes)
+    Ok(literals)
 }
 
 /// Whether each latch is reached.
@@ -67,8 +73,10 @@ pub fn traced_pass(alloc: Global, circuit: &Circuit, held: &[u32]) -> Result<Tra
     ensures { IfOk result (IsTraced held.now circuit.now) }
 {
     let marks = Held::new(alloc, held, circuit.aig().latches().len())?;
-    let substitutes = substitutes_of_latches(alloc, circuit.aig(), &marks)?;
-    let merged = merged_of(alloc, circuit, &marks)?;
+    let standing = substitutes_of(alloc, circuit.aig(), &marks)?;
+    let substitutes = latch_literals(alloc, circuit.aig(), &marks, &standing)?;
+    let merged = merged_by(alloc, circuit, &marks, &standing)?;
+    drop(standing);
     let reached = reach_everything(alloc, &merged.aig, &merged.props, held)?;
     let stays = stays_of(alloc, circuit.aig(), &reached)?;
     let pass = trimmed(alloc, circuit, held, &merged, &reached)?;

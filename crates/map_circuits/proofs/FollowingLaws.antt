@@ -1,22 +1,20 @@
 -- The functions of latches and of gates that latches move over, gate by gate.
-use Rattle.std.proofs.Common.{inl, inr, ℕ, ◌+◌, ◌-◌, ◌*◌, ◌<◌, ◌≤◌, ◌≡◌, Bool, true, false, ◌&&◌, Some, List, [], ◌∷◌, ◌++◌, length, get_or, arith, ap, sym, ◌∙◌, subst}
-use Rattle.std.specs.List.{All}
-use Rattle.std.proofs.Math.Seq.{get_or-append_seam}
+use Rattle.std.proofs.Common.{inl, inr, ℕ, ◌+◌, ◌-◌, ◌*◌, ◌<◌, ◌≤◌, ◌≡◌, Bool, false, ◌&&◌, Some, List, ◌++◌, length, get_or, replicate, arith, ap, sym, ◌∙◌, subst}
+use Rattle.std.proofs.Common.{set as put}
+use Rattle.std.specs.List.{All, Contains}
+use Rattle.std.specs.List.Sorted.{IsStrictlyIncreasing}
 use Rattle.std.proofs.Math.ListN.{get_or-append}
-use Rattle.std.proofs.lemmas.Bool.{cases_Bool, cases_eq}
-use Rattle.std.proofs.lemmas.List.{get_or-map, length_push}
-use Rattle.std.proofs.lemmas.List.Elements.{All-push}
+use Rattle.std.proofs.lemmas.Bool.{cases_eq, cases_lt}
+use Rattle.std.proofs.lemmas.List.{get_or-map, get_or-set_same, get_or-set_other, get_or_default, get_or_past, length-append, length-replicate, length-set}
+use Rattle.std.proofs.lemmas.List.Elements.{All-append, All-replicate, All-set}
+use Rattle.std.proofs.lemmas.List.Kept.{AllPairs-from_increasing}
 use Rattle.aig_graph.specs.declared.graph.Gate.{Gate}
 use Rattle.aig_graph.specs.Closed.{IsClosedSet, IsLatchOrIn}
-use Rattle.aig_graph.specs.Graph.{Graph, IsGraph, IsGateAt, IsLiteralOf, variable, first_gate, first_latch, gate_at, latches_and_gates, variables_end}
+use Rattle.aig_graph.specs.Graph.{Graph, IsGraph, IsGateAt, IsLiteralOf, variable, first_gate, first_latch, gate_at, variables_end}
 use Rattle.aig_graph.specs.Value.{signed, value_within}
 use Rattle.aig_graph.proofs.FoldingLaws.{gate_at-is}
 use Rattle.aig_graph.proofs.KindLaws.{GatePlace, LatchPlace, gate_place, latch_place}
-use Rattle.aig_graph.proofs.SearchLaws.{has_iff_contains}
 use Rattle.aig_graph.proofs.SignLaws.{value_signed, value_signed_as, variable-signed_as}
-use Rattle.rebuild.proofs.PlanLaws.{marked-at, members-table}
-use Rattle.variable_tables.specs.Marking.{has, mark_at}
-use Rattle.variable_tables.specs.Tables.{table}
 use Rattle.state_maps.specs.States.{State}
 use Rattle.state_maps.proofs.WithinLaws.{within_laws, within-gate_at, within-latch_at}
 use Rattle.map_circuits.specs.Growing.{Extends, IsConjunction}
@@ -30,26 +28,52 @@ source-from g held set closed w (inr inside) =
     let place : GatePlace g w gate.0 = gate_place g w gate.0 gate.1 in
     omega (arith, place.from)
 
--- a mark of a table of the set's members
-pub member-marked : (g : Graph) (held set vars : List ℕ) (items marks : List Bool) (first n v w : ℕ) → IsClosedSet g held set → items ≡ table first n (has vars) → first ≡ first_latch g
-    → n ≡ latches_and_gates g → vars ≡ set → marks ≡ items → w ≡ v → v < variables_end g → mark_at first marks w ≡ has set v
-member-marked g held set vars items marks first n v w closed filled starts long same read here within =
-    let before : (u : ℕ) → u < first_latch g → has set u ≡ false = λ u less. elim (cases_Bool (has set u)) [
-      | inl inside ↦ absurd (omega (arith, less, source-from g held set closed u (inr ((has_iff_contains set u).0 inside))))
-      | inr outside ↦ outside
-    ] in
-    ap (λ (u : ℕ). mark_at first marks u) here ∙ marked-at g (has set) items marks first v read (members-table g first n set vars items filled starts long same) starts before within
+-- no member comes before the first one
+none-before : (xs : List ℕ) (end w : ℕ) → IsStrictlyIncreasing xs → w < get_or xs 0 end → Contains xs w → ⊥
+none-before xs end w rising below (i, within, is) = elim (cases_eq i 0) [
+  | inl same ↦ (
+      let here : get_or xs i w ≡ get_or xs 0 end = ap (λ (k : ℕ). get_or xs k w) same ∙ get_or_default xs 0 w end (omega arith) in
+      omega arith)
+  | inr other ↦ (
+      let less : get_or xs 0 end < get_or xs i end = AllPairs-from_increasing xs rising 0 i end (omega arith) within in
+      let here : get_or xs i w ≡ get_or xs i end = get_or_default xs i w end within in
+      omega arith)
+]
 
--- what a member reads has an entry among those of the variables before it
+-- no member lies between one and the next, or after the last one
+none-between : (xs : List ℕ) (end k w : ℕ) → IsStrictlyIncreasing xs → k < length xs → get_or xs k 0 < w → w < get_or xs (k + 1) end → Contains xs w → ⊥
+none-between xs end k w rising inside above below (i, within, is) = elim (cases_lt i (k + 1)) [
+  | inl low ↦ (
+      let here : get_or xs i w ≡ get_or xs i 0 = get_or_default xs i w 0 within in
+      elim (cases_eq i k) [
+        | inl same ↦ (let there : get_or xs i 0 ≡ get_or xs k 0 = ap (λ (j : ℕ). get_or xs j 0) same in omega arith)
+        | inr other ↦ (let less : get_or xs i 0 < get_or xs k 0 = AllPairs-from_increasing xs rising i k 0 (omega arith) inside in omega arith)
+      ])
+  | inr high ↦ (
+      let here : get_or xs i w ≡ get_or xs i end = get_or_default xs i w end within in
+      elim (cases_eq i (k + 1)) [
+        | inl same ↦ (let there : get_or xs i end ≡ get_or xs (k + 1) end = ap (λ (j : ℕ). get_or xs j end) same in omega arith)
+        | inr other ↦ (let less : get_or xs (k + 1) end < get_or xs i end = AllPairs-from_increasing xs rising (k + 1) i end (omega arith) within in omega arith)
+      ])
+]
+
+-- a member as a loop reads it
+pub member-at : (set vars : List ℕ) (k : ℕ) → vars ≡ set → k < length vars → Contains set (get_or vars k 0)
+member-at set vars k same within =
+    let v : ℕ = get_or vars k 0 in
+    subst (λ (ws : List ℕ). Contains ws v) same (k, within, get_or_default vars k v 0 within)
+
+-- what a member reads has an entry
 pub fan_ins-covered : (g : Graph) (held set : List ℕ) → IsGraph g → IsClosedSet g held set → (v first : ℕ) (gate : Gate) (literals : List ℕ) → gate_at g v ≡ Some gate → first ≡ first_latch g
-    → first_latch g + length literals ≡ v → has set v ≡ true → IsCovered first literals (variable gate.rhs0) × IsCovered first literals (variable gate.rhs1)
+    → first_latch g + length literals ≡ variables_end g → Contains set v → IsCovered first literals (variable gate.rhs0) × IsCovered first literals (variable gate.rhs1)
 fan_ins-covered g held set valid closed v first gate literals there starts long member =
-    let sources = closed.closed.fan_ins v gate ((has_iff_contains set v).0 member) there in
+    let sources = closed.closed.fan_ins v gate member there in
     let at : IsGateAt v gate = gate_at-is g valid v gate there in
+    let place : GatePlace g v gate = gate_place g v gate there in
     let from0 : first_latch g ≤ variable gate.rhs0 = source-from g held set closed (variable gate.rhs0) sources.0 in
     let from1 : first_latch g ≤ variable gate.rhs1 = source-from g held set closed (variable gate.rhs1) sources.1 in (
-      (omega (arith, starts, from0), omega (arith, starts, from0, at.below, long)),
-      (omega (arith, starts, from1), omega (arith, starts, from1, at.below, at.ordered, long)),
+      (omega (arith, starts, from0), omega (arith, starts, from0, at.below, place.below, long)),
+      (omega (arith, starts, from1), omega (arith, starts, from1, at.below, at.ordered, place.below, long)),
     )
 
 -- what stands for a literal whose variable has an entry is a literal of the graph
@@ -63,24 +87,51 @@ module _ (g c : Graph) (functions held set : List ℕ) (valid : IsGraph c) (clos
   abbrev none : ℕ → Bool
   none = λ j. false
 
-  -- before the first gate the functions of the latches follow the circuit
-  pub follows-start : IsGraph g → (literals : List ℕ) → literals ≡ functions → length functions ≡ length c.latches → All (λ l. IsLiteralOf g l) functions → Follows g functions c set (first_gate c) g literals
-  follows-start graph literals same many all =
+  -- before the first gate the functions of the latches follow the circuit, whatever stands for the gates
+  pub follows-start : IsGraph g → (literals : List ℕ) (gates : ℕ) → literals ≡ functions ++ replicate gates 0 → first_gate c + gates ≡ variables_end c → length functions ≡ length c.latches
+      → All (λ l. IsLiteralOf g l) functions → Follows g functions c set (first_gate c) g literals
+  follows-start graph literals gates same counted many all =
       let P : List ℕ → Type 0 = λ ls. Follows g functions c set (first_gate c) g ls in
       subst P (sym same) (record {
-        long = omega (arith, many);
-        within = all;
+        long = omega (arith, many, counted, length-append {A = ℕ} functions (replicate {A = ℕ} gates 0), length-replicate {A = ℕ} gates 0);
+        within = All-append (λ l. IsLiteralOf g l) functions (replicate gates 0) all (All-replicate (λ l. IsLiteralOf g l) gates 0 (omega arith));
         values = λ s v less source. elim source [
           | inl latch ↦ (
               let place : LatchPlace c v latch.0 = latch_place c v latch.0 latch.1 in
-              sym (within-latch_at c valid none (state_of g functions s) v latch.0 latch.1
-              ∙ get_or-map (value_within g s none) functions (v - first_latch c) 0 false (omega (arith, place.from, place.below, many))))
+              let inside : v - first_latch c < length functions = omega (arith, place.from, place.below, many) in
+              ap (value_within g s none) (get_or-append functions (replicate gates 0) 0 (v - first_latch c) inside)
+              ∙ sym (within-latch_at c valid none (state_of g functions s) v latch.0 latch.1
+              ∙ get_or-map (value_within g s none) functions (v - first_latch c) 0 false inside))
           | inr inside ↦ (
               let gate = closed.closed.passable v inside in
               let place : GatePlace c v gate.0 = gate_place c v gate.0 gate.1 in
               absurd (omega (arith, place.from, less)))
         ];
       })
+
+  -- where no member lies from n up to m, entries that follow below n follow below m
+  follows-skip : (h : Graph) (literals : List ℕ) (n m : ℕ) → first_gate c ≤ n → ((w : ℕ) → n ≤ w → w < m → Contains set w → ⊥) → Follows g functions c set n h literals
+      → Follows g functions c set m h literals
+  follows-skip h literals n m from none_there p = record {
+    long = p.long;
+    within = p.within;
+    values = λ s w less source. elim (cases_lt w n) [
+      | inl below ↦ p.values s w below source
+      | inr above ↦ elim source [
+        | inl latch ↦ (
+            let place : LatchPlace c w latch.0 = latch_place c w latch.0 latch.1 in
+            absurd (omega (arith, place.below)))
+        | inr inside ↦ absurd (none_there w above less inside)
+      ]
+    ];
+  }
+
+  -- before the first member
+  pub follows-first : IsGraph g → (literals : List ℕ) (gates : ℕ) → literals ≡ functions ++ replicate gates 0 → first_gate c + gates ≡ variables_end c → length functions ≡ length c.latches
+      → All (λ l. IsLiteralOf g l) functions → Follows g functions c set (get_or set 0 (variables_end c)) g literals
+  follows-first graph literals gates same counted many all =
+      follows-skip g literals (first_gate c) (get_or set 0 (variables_end c)) (omega arith) (λ w from less inside. none-before set (variables_end c) w closed.rising less inside)
+      (follows-start graph literals gates same counted many all)
 
   -- the literal that stands for a fan-in has its value
   fan_in-value : (h : Graph) (literals : List ℕ) (n : ℕ) → IsGraph h → Follows g functions c set n h literals → (s : State) (lit : ℕ) → variable lit < n → IsLatchOrIn c set (variable lit)
@@ -90,15 +141,15 @@ module _ (g c : Graph) (functions held set : List ℕ) (valid : IsGraph c) (clos
       ∙ ap (signed lit) (p.values s (variable lit) less source)
       ∙ sym (value_signed (value_within c none (state_of g functions s)) (within_laws c valid none (state_of g functions s)).negation lit)
 
-  -- with a literal of the next gate, for a member the conjunction of its fan-ins' literals, the entries follow one gate more
-  pub follows-more : (h i : Graph) (literals new : List ℕ) (v lit : ℕ) (gate : Gate) → gate_at c v ≡ Some gate → IsGraph h → Follows g functions c set v h literals → Extends h i → IsLiteralOf i lit
-      → (has set v ≡ true → IsConjunction i (literal_at (first_latch c) literals gate.rhs0) (literal_at (first_latch c) literals gate.rhs1) lit)
-      → new ≡ literals ++ lit ∷ [] → Follows g functions c set (v + 1) i new
-  follows-more h i literals new v lit gate there graph p more within_lit member pushed =
+  -- with the conjunction of a member's fan-ins' literals as its entry, the entries follow below the next variable
+  follows-one : (h i : Graph) (literals new : List ℕ) (v lit : ℕ) (gate : Gate) → gate_at c v ≡ Some gate → Contains set v → IsGraph h → Follows g functions c set v h literals → Extends h i
+      → IsConjunction i (literal_at (first_latch c) literals gate.rhs0) (literal_at (first_latch c) literals gate.rhs1) lit
+      → new ≡ put literals (v - first_latch c) lit → Follows g functions c set (v + 1) i new
+  follows-one h i literals new v lit gate there member graph p more is written =
       let P : List ℕ → Type 0 = λ ls. Follows g functions c set (v + 1) i ls in
-      subst P (sym pushed) (record {
-        long = omega (arith, p.long, length_push literals lit);
-        within = All-push (λ l. IsLiteralOf i l) literals lit (λ k d less. more.literals (get_or literals k d) (p.within k d less)) within_lit;
+      subst P (sym written) (record {
+        long = omega (arith, p.long, length-set literals (v - first_latch c) lit);
+        within = All-set (λ l. IsLiteralOf i l) literals (v - first_latch c) lit is.within (λ k d less. more.literals (get_or literals k d) (p.within k d less));
         values = values-more;
       })
     where
@@ -108,36 +159,56 @@ module _ (g c : Graph) (functions held set : List ℕ) (valid : IsGraph c) (clos
       at : IsGateAt v gate
       at = gate_at-is c valid v gate there
 
-      here : (s : State) → IsLatchOrIn c set v → value_within i s none (entry_of (first_latch c) (literals ++ lit ∷ []) v) ≡ value_within c none (state_of g functions s) (2 * v)
-      here s (inl latch) =
-          let other : LatchPlace c v latch.0 = latch_place c v latch.0 latch.1 in
-          absurd (omega (arith, other.below, place.from))
-      here s (inr inside) =
-          let sources = closed.closed.fan_ins v gate inside there in
-          let is = member ((has_iff_contains set v).1 inside) in
-          let end : v - first_latch c ≡ length literals = omega (arith, p.long) in
+      here : (s : State) → value_within i s none (entry_of (first_latch c) (put literals (v - first_latch c) lit) v) ≡ value_within c none (state_of g functions s) (2 * v)
+      here s =
+          let sources = closed.closed.fan_ins v gate member there in
           let first : value_within i s none (literal_at (first_latch c) literals gate.rhs0) ≡ value_within c none (state_of g functions s) gate.rhs0 =
-          more.values s none (literal_at (first_latch c) literals gate.rhs0) (literal-within h (first_latch c) literals gate.rhs0 p.within (omega (arith, p.long, at.below, source-from c held set closed (variable gate.rhs0) sources.0)))
+          more.values s none (literal_at (first_latch c) literals gate.rhs0)
+          (literal-within h (first_latch c) literals gate.rhs0 p.within (omega (arith, p.long, at.below, place.below, source-from c held set closed (variable gate.rhs0) sources.0)))
           ∙ fan_in-value h literals v graph p s gate.rhs0 at.below sources.0 in
           let second : value_within i s none (literal_at (first_latch c) literals gate.rhs1) ≡ value_within c none (state_of g functions s) gate.rhs1 =
-          more.values s none (literal_at (first_latch c) literals gate.rhs1) (literal-within h (first_latch c) literals gate.rhs1 p.within (omega (arith, p.long, at.below, at.ordered, source-from c held set closed (variable gate.rhs1) sources.1)))
+          more.values s none (literal_at (first_latch c) literals gate.rhs1)
+          (literal-within h (first_latch c) literals gate.rhs1 p.within (omega (arith, p.long, at.below, at.ordered, place.below, source-from c held set closed (variable gate.rhs1) sources.1)))
           ∙ fan_in-value h literals v graph p s gate.rhs1 (omega (arith, at.below, at.ordered)) sources.1 in
-          ap (λ (k : ℕ). value_within i s none (get_or (literals ++ lit ∷ []) k 0)) end
-          ∙ ap (value_within i s none) (get_or-append_seam literals lit [] 0)
+          ap (value_within i s none) (get_or-set_same literals (v - first_latch c) lit 0 (omega (arith, p.long, place.from, place.below)))
           ∙ is.is s none
           ∙ ap (λ (b : Bool). b && value_within i s none (literal_at (first_latch c) literals gate.rhs1)) first
           ∙ ap (λ (b : Bool). value_within c none (state_of g functions s) gate.rhs0 && b) second
           ∙ sym (within-gate_at c valid none (state_of g functions s) v gate there)
 
-      values-more : (s : State) (w : ℕ) → w < v + 1 → IsLatchOrIn c set w → value_within i s none (entry_of (first_latch c) (literals ++ lit ∷ []) w) ≡ value_within c none (state_of g functions s) (2 * w)
+      values-more : (s : State) (w : ℕ) → w < v + 1 → IsLatchOrIn c set w
+          → value_within i s none (entry_of (first_latch c) (put literals (v - first_latch c) lit) w) ≡ value_within c none (state_of g functions s) (2 * w)
       values-more s w less source = elim (cases_eq w v) [
         | inl same ↦ (
-            let Q : ℕ → Type 0 = λ u. IsLatchOrIn c set u → value_within i s none (entry_of (first_latch c) (literals ++ lit ∷ []) u) ≡ value_within c none (state_of g functions s) (2 * u) in
-            subst Q (sym same) (here s) source)
+            let Q : ℕ → Type 0 = λ u. value_within i s none (entry_of (first_latch c) (put literals (v - first_latch c) lit) u) ≡ value_within c none (state_of g functions s) (2 * u) in
+            subst Q (sym same) (here s))
         | inr other ↦ (
             let from : first_latch c ≤ w = source-from c held set closed w source in
-            let inside : w - first_latch c < length literals = omega (arith, p.long, less, other, from) in
-            ap (value_within i s none) (get_or-append literals (lit ∷ []) 0 (w - first_latch c) inside)
+            let inside : w - first_latch c < length literals = omega (arith, p.long, less, other, from, place.below) in
+            ap (value_within i s none) (get_or-set_other literals (v - first_latch c) (w - first_latch c) lit 0 (λ e. other (omega (arith, e, from, place.from))))
             ∙ more.values s none (entry_of (first_latch c) literals w) (p.within (w - first_latch c) 0 inside)
             ∙ p.values s w (omega (arith, less, other)) source)
       ]
+
+  -- with that of the member at a place, they follow below the next member
+  pub follows-more : (h i : Graph) (literals new vars : List ℕ) (k lit : ℕ) (gate : Gate) → vars ≡ set → k < length vars → gate_at c (get_or vars k 0) ≡ Some gate → IsGraph h
+      → Follows g functions c set (get_or set k (variables_end c)) h literals → Extends h i
+      → IsConjunction i (literal_at (first_latch c) literals gate.rhs0) (literal_at (first_latch c) literals gate.rhs1) lit
+      → new ≡ put literals (get_or vars k 0 - first_latch c) lit → Follows g functions c set (get_or set (k + 1) (variables_end c)) i new
+  follows-more h i literals new vars k lit gate same within there graph p more is written =
+      let v : ℕ = get_or vars k 0 in
+      let inside : k < length set = omega (arith, within, ap (λ (ws : List ℕ). length ws) same) in
+      let here : get_or set k (variables_end c) ≡ v = get_or_default set k (variables_end c) 0 inside ∙ ap (λ (ws : List ℕ). get_or ws k 0) (sym same) in
+      let place : GatePlace c v gate = gate_place c v gate there in
+      let P : ℕ → Type 0 = λ n. Follows g functions c set n h literals in
+      let one : Follows g functions c set (v + 1) i new = follows-one h i literals new v lit gate there (member-at set vars k same within) graph (subst P here p) more is written in
+      let none_there : (w : ℕ) → v + 1 ≤ w → w < get_or set (k + 1) (variables_end c) → Contains set w → ⊥ =
+      λ w from less member. none-between set (variables_end c) k w closed.rising inside (omega (arith, from, ap (λ (ws : List ℕ). get_or ws k 0) same)) less member in
+      follows-skip i new (v + 1) (get_or set (k + 1) (variables_end c)) (omega (arith, place.from)) none_there one
+
+  -- past the last member they follow below every variable
+  pub follows-all : (h : Graph) (literals vars : List ℕ) (k : ℕ) → vars ≡ set → length vars ≤ k → Follows g functions c set (get_or set k (variables_end c)) h literals
+      → Follows g functions c set (variables_end c) h literals
+  follows-all h literals vars k same end p =
+      let P : ℕ → Type 0 = λ n. Follows g functions c set n h literals in
+      subst P (get_or_past set k (variables_end c) (omega (arith, end, ap (λ (ws : List ℕ). length ws) same))) p

@@ -1,22 +1,26 @@
-ghost use Rattle.std.specs.Prelude.{◌≡◌, ◌<◌, ◌≤◌, ◌-◌, All, IfOk, length, map};
-ghost use Rattle.map_circuits.specs.Following.{IsCovered, entry_of};
+ghost use Rattle.std.specs.Prelude.{ℕ, Bool, ◌≡◌, ◌+◌, ◌≤◌, IfOk, length, map};
+ghost use Rattle.variable_tables.specs.Counting.{places};
+ghost use Rattle.variable_tables.specs.Marking.{AreAllMarks};
+ghost use Rattle.map_circuits.specs.Following.{entry_of};
 
 use aig_graph::{Lit, NoMemory};
 use std::alloc::Global;
 
-/// The entries of these variables, in a table from a first variable on.
-pub(crate) fn entries_of(
+/// The entries of the variables that are marked, in their order. Both tables begin with the same variable.
+pub(crate) fn marked_entries(
     alloc: Global,
-    literals: &[Lit],
-    first: u32,
-    vars: &[u32],
+    entries: &[Lit],
+    marks: &[bool],
 ) -> Result<Vec<Lit>, NoMemory>
-    requires { All (IsCovered first literals.now) vars.now }
-    ensures { IfOk result (λ entries. entries.items ≡ map (entry_of first literals.now) vars.now) }
+    requires { length marks.now ≤ length entries.now }
+    ensures { IfOk result (λ marked. (first : ℕ) (p : ℕ → Bool) → AreAllMarks first marks.now p →
+        marked.items ≡ map (entry_of first entries.now) (places p (first + length marks.now))) }
 {
-    let mut entries = Vec::with_capacity(alloc, vars.len())?;
-    for var in vars {
-        entries.push(literals[(*var - first) as usize])?;
+    let mut marked = Vec::with_capacity(alloc, entries.len())?;
+    for (k, mark) in marks.iter().enumerate() {
+        if *mark {
+            marked.push(entries[k])?;
+        }
     }
-    Ok(entries)
+    Ok(marked)
 }

@@ -1,6 +1,6 @@
 //! What the latches hold after a move: those that stay what they held, and a new one the value of its gate. A gate of the set has
 //! its function before any that reads it is met.
-ghost use Rattle.std.specs.Prelude.{◌≡◌, ◌<◌, ◌≤◌, ◌-◌, All, IfOk, OnOk, length, true};
+ghost use Rattle.std.specs.Prelude.{◌≡◌, ◌<◌, ◌≤◌, ◌-◌, ◌++◌, All, IfOk, OnOk, length, replicate};
 ghost use Rattle.std.specs.List.{slice_index_or};
 ghost use Rattle.aig_graph.specs.Closed.{IsClosedSet};
 ghost use Rattle.aig_graph.specs.Graph.{Graph, IsGraph, IsLiteralOf, variable, variables_end};
@@ -10,13 +10,12 @@ ghost use Rattle.aig_graph.specs.Move.{move_of};
 ghost use Rattle.map_circuits.specs.Following.{Follows, IsCovered, literal_at};
 ghost use Rattle.map_circuits.specs.Stepping.{AreMoved};
 
-use crate::entries::entries_of;
+use crate::entries::marked_entries;
 use crate::errors::MapError;
 use crate::gates::add_conjunction;
-use aig_graph::{Aig, AigBuilder, BuildError, Circuit, ClosedSet, Gate, Keep, Lit};
+use aig_graph::{Aig, AigBuilder, BuildError, Circuit, ClosedSet, Gate, Keep, Lit, NoMemory};
 use rebuild::MoveMarks;
 use std::alloc::Global;
-use variable_tables::{mark_at, marked_variables, marks_of};
 
 /// What stands for a literal of a variable that has an entry.
 pub(crate) fn standing(literals: &[Lit], first: u32, lit: Lit) -> Lit
@@ -27,34 +26,41 @@ pub(crate) fn standing(literals: &[Lit], first: u32, lit: Lit) -> Lit
     literals[(lit.var() - first) as usize].signed_as(lit)
 }
 
-/// Adds the function of a gate, where it is one of the set; the constant stands for others, which no member reads.
+/// An entry for each latch and each gate: the functions of the latches, and the constant for gates.
+fn entries_before(alloc: Global, functions: &[Lit], entries: usize) -> Result<Vec<Lit>, NoMemory>
+    requires { length functions.now ≤ entries }
+    ensures { IfOk result (λ literals. literals.items
+        ≡ functions.now ++ replicate (entries - length functions.now) 0) }
+{
+    let mut literals = Vec::with_capacity(alloc, entries)?;
+    literals.extend_from_slice(functions)?;
+    literals.resize(entries, Lit::FALSE)?;
+    Ok(literals)
+}
+
+/// Adds the function of a gate, by those of what it reads.
 fn add_function(
     gates: &mut AigBuilder,
     literals: &[Lit],
     first: u32,
-    is_member: bool,
     gate: Gate,
 ) -> Result<Lit, BuildError>
     requires graph { IsGraph gates.old }
     requires within { All (λ lit. IsLiteralOf gates.old lit) literals.now }
-    requires fan_ins { is_member ≡ true → IsCovered first literals.now (variable gate.rhs0)
-        × IsCovered first literals.now (variable gate.rhs1) }
+    requires first { IsCovered first literals.now (variable gate.rhs0) }
+    requires second { IsCovered first literals.now (variable gate.rhs1) }
     ensures extends { OnOk result (Extends gates.old gates.new) }
-    ensures within { IfOk result (IsLiteralOf gates.new) }
-    ensures member { IfOk result (λ lit. is_member ≡ true → IsConjunction gates.new
+    ensures is { IfOk result (IsConjunction gates.new
         (literal_at first literals.now gate.rhs0)
-        (literal_at first literals.now gate.rhs1) lit) }
+        (literal_at first literals.now gate.rhs1)) }
 {
-    if is_member {
-        let a = standing(literals, first, gate.rhs0);
-        let b = standing(literals, first, gate.rhs1);
-        add_conjunction(gates, a, b)
-    } else {
-        Ok(Lit::FALSE)
-    }
+    let a = standing(literals, first, gate.rhs0);
+    let b = standing(literals, first, gate.rhs1);
+    add_conjunction(gates, a, b)
 }
 
-/// The functions of the latches and of the gates of the set, by variable from the first latch on.
+/// The functions of the latches and of the gates of the set, by variable from the first latch on. The constant stands for other gates,
+/// which no member reads.
 pub(crate) fn add_functions(
     alloc: Global,
     gates: &mut AigBuilder,
@@ -73,15 +79,12 @@ pub(crate) fn add_functions(
 {
     let _keep = keep;
     let first = aig.first_latch();
-    let first_gate = aig.first_gate();
-    let entries = aig.latches_and_gates();
-    let members = marks_of(alloc, first, entries, set.vars())?;
-    let mut literals = Vec::with_capacity(alloc, entries)?;
-    literals.extend_from_slice(functions)?;
-    for (place, gate) in aig.gates().iter().enumerate() {
-        let is_member = mark_at(members.as_slice(), first, first_gate + place as u32);
-        let lit = add_function(gates, literals.as_slice(), first, is_member, *gate)?;
-        literals.push(lit)?;
+    let mut literals = entries_before(alloc, functions, aig.latches_and_gates())?;
+    for var in set.vars() {
+        if let Some(gate) = aig.gate(*var) {
+            let lit = add_function(gates, literals.as_slice(), first, gate)?;
+            literals[(*var - first) as usize] = lit;
+        }
     }
     Ok(literals)
 }
@@ -111,10 +114,7 @@ pub fn moved_functions(
     ensures moved { IfOk result (λ new. AreMoved gates.old functions.now
         (move_of circuit.now keep.now set.now) gates.new new.items) }
 {
-    let aig = circuit.aig();
-    let first = aig.first_latch();
-    let latched = marked_variables(alloc, first, marks.latched())?;
-    let literals = add_functions(alloc, gates, functions, aig, set, keep)?;
-    let moved = entries_of(alloc, literals.as_slice(), first, latched.as_slice())?;
+    let literals = add_functions(alloc, gates, functions, circuit.aig(), set, keep)?;
+    let moved = marked_entries(alloc, literals.as_slice(), marks.latched())?;
     Ok(moved)
 }

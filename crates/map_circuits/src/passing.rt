@@ -4,10 +4,9 @@ ghost use Rattle.aig_graph.specs.Graph.{Graph, IsLiteralOf, first_latch};
 ghost use Rattle.variable_tables.specs.Tables.{table};
 ghost use Rattle.map_circuits.specs.Stepping.{ArePassed};
 
-use crate::entries::entries_of;
+use crate::entries::marked_entries;
 use aig_graph::{Lit, NoMemory};
 use std::alloc::Global;
-use variable_tables::marked_variables;
 
 /// The functions of the latches that stay after a pass, by marks of these. Linear.
 ///
@@ -26,7 +25,6 @@ pub fn passed_functions(
         → stays.now ≡ table 0 (length c.latches) (λ j. reached (first_latch c + j))
         → ArePassed g functions.now c reached new.items) }
 {
-    let latches = marked_variables(alloc, 0, stays)?;
-    let staying = entries_of(alloc, functions, 0, latches.as_slice())?;
+    let staying = marked_entries(alloc, functions, stays)?;
     Ok(staying)
 }

@@ -33,6 +33,6 @@ returns c =
     let by_marks : (g : Graph) (r : ℕ → Bool) → List Bool = λ g r. table 0 (length g.latches) (λ j. r (first_latch g + j)) in
     record {
       pass = is.pass;
-      substitutes = c.in_ok-substitutes.ensures ∙ ap (λ (js : List ℕ). by_stands c.aig-2.result.now js) c.in_ok-marks.ensures.positions ∙ ap (λ (g : Graph). by_stands g held) c.aig-2.ensures.value;
-      stays = c.in_ok-stays.ensures ∙ ap (λ (g : Graph). by_marks g (is_marked c.in_ok-reached.reached)) c.aig-3.ensures.value ∙ ap (by_marks n.aig) (sym is.leaves);
+      substitutes = c.in_ok-substitutes.ensures ∙ ap (λ (js : List ℕ). by_stands c.aig-3.result.now js) c.in_ok-marks.ensures.positions ∙ ap (λ (g : Graph). by_stands g held) c.aig-3.ensures.value;
+      stays = c.in_ok-stays.ensures ∙ ap (λ (g : Graph). by_marks g (is_marked c.in_ok-reached.reached)) c.aig-4.ensures.value ∙ ap (by_marks n.aig) (sym is.leaves);
     }
