@@ -10,7 +10,8 @@ use Rattle.aig_graph.proofs.KindLaws.{latch_at-gates, latch_place, GatePlace, ga
 use Rattle.clean.specs.Sweep.{reads_by, reads_of}
 
 module _ (g : Graph) where
-  gate-no-latch : (v : ℕ) (gate : Gate) (latch : Latch) → gate_at g v ≡ Some gate → latch_at g v ≡ Some latch → ⊥
+  -- no variable is both a gate's and a latch's
+  pub gate-no-latch : (v : ℕ) (gate : Gate) (latch : Latch) → gate_at g v ≡ Some gate → latch_at g v ≡ Some latch → ⊥
   gate-no-latch v gate latch here there = none-some latch (sym (latch_at-gates g v (gate_place g v gate here).from) ∙ there)
 
   -- what holds of all that a variable reads

@@ -1,38 +1,36 @@
--- A sweep marks the least set that holds what it reads.
-use Rattle.std.proofs.Common.{ℕ, ◌+◌, ◌-◌, ◌*◌, ◌<◌, ◌≤◌, ◌≡◌, ◌⊎◌, inl, inr, zero, List, [], ◌∷◌, length, map, replicate, Bool, true, false, cond, ◌&&◌, Some, None, slice_get, get_or, count_by, refl, arith, ap, sym, ◌∙◌, subst}
+-- A sweep and the walk after it mark the least set that holds what it reads.
+use Rattle.std.proofs.Common.{ℕ, zero, suc, ◌+◌, ◌-◌, ◌*◌, ◌<◌, ◌≤◌, ◌≡◌, ◌⊎◌, inl, inr, List, [], ◌∷◌, length, map, replicate, Bool, true, false, ◌&&◌, Some, slice_get, get_or, refl, arith, ap, sym, ◌∙◌, subst}
 use Rattle.std.specs.List.{All}
 use Rattle.std.proofs.lemmas.Bool.{cases_Bool, cases_eq, cases_lt, lt-leb}
-use Rattle.std.proofs.lemmas.Option.{none-some, slice_get_within, same_Some}
-use Rattle.std.proofs.lemmas.List.{length-set, get_or-set_same, get_or-set_other, get_or_past, length-map, get_or-map, length_push, length-replicate, get_or-replicate}
+use Rattle.std.proofs.lemmas.Option.{none-some, same_Some}
+use Rattle.std.proofs.lemmas.List.{length-set, get_or-set_same, get_or-set_other, get_or_past, length-map, get_or-map, length-replicate, get_or-replicate}
 use Rattle.std.proofs.lemmas.List.Elements.{All-nil, All-cons, All-head, All-tail, All-map}
-use Rattle.std.proofs.lemmas.List.Sums.{sum_by-set, count_by-le-length}
-use Rattle.std.proofs.lemmas.List.Folds.{sum_by-replicate}
+use Rattle.aig_graph.specs.declared.graph.Gate.{Gate}
 use Rattle.aig_graph.specs.declared.properties.Props.{Props}
-use Rattle.aig_graph.specs.Graph.{Graph, IsGraph, IsLiteralOf, variable, first_latch, latches_and_gates}
+use Rattle.aig_graph.specs.Graph.{Graph, IsGraph, IsGateAt, IsLiteralOf, variable, first_latch, first_gate, variables_end, latches_and_gates, gate_at}
 use Rattle.aig_graph.specs.Streams.{property_literals}
-use Rattle.aig_graph.proofs.KindLaws.{element}
+use Rattle.aig_graph.proofs.KindLaws.{GatePlace, gate_place}
 use Rattle.variable_tables.specs.Marking.{mark_at}
-use Rattle.variable_tables.proofs.PlacesLaws.{slice_get_push, slice_get-append_left, slice_get-append_right}
 use Rattle.cleaned_circuits.specs.Reached.{stays, HoldsReads, AreReached}
 use Rattle.cleaned_circuits.proofs.TrimmedLaws.{stays-past, stays-low, stays-reached}
 use Rattle.aig_graph.specs.Mapped.{OfProps}
 use Rattle.aig_graph.proofs.PropsLaws.{to_literals}
-use Rattle.clean.specs.Sweep.{Front, front_end, no_front, is_marked, reach, reach_all, reads_of, ReadsMarked, Waits, Sweeps, IsOwed}
-use Rattle.clean.proofs.ReadsLaws.{to-reads, from-gate, from-latch, reads-within}
-use Rattle.clean.proofs.FrontLaws.{reach_new, reach-low, reach-marked, reach-new, mark-entry, all-nil, all-cons}
+use Rattle.clean.specs.Sweep.{Front, front_end, no_front, is_marked, mark, with_next, reach, reach_in_sweep, reach_all, reads_of, ReadsMarked, IsGateBelow, Sweeps, IsOwed}
+use Rattle.clean.proofs.ReadsLaws.{gate-no-latch, to-reads, from-gate, from-latch, reads-gate, reads-within}
+use Rattle.clean.proofs.FrontLaws.{reach_new, reach-low, reach-marked, reach-new, sweep-gate, sweep-latch, mark-entry, all-nil, all-cons}
 
--- what was marked stays so, and what was queued
+-- ---- one more mark
+
+-- what was marked stays so
 pub record Grows (r s : Front) : Type 0 where
   -- what was marked is marked
   pub marks : (v : ℕ) → is_marked r v ≡ true → is_marked s v ≡ true
-  -- what was queued stands where it stood
-  pub queue : (i v : ℕ) → slice_get r.queue i ≡ Some v → slice_get s.queue i ≡ Some v
 
 grows-then : (r s t : Front) → Grows r s → Grows s t → Grows r t
-grows-then r s t p q = record { marks = λ v e. q.marks v (p.marks v e); queue = λ i v e. q.queue i v (p.queue i v e) }
+grows-then r s t p q = record { marks = λ v e. q.marks v (p.marks v e) }
 
 grows-same : (r s : Front) → s ≡ r → Grows r s
-grows-same r s e = let P : Front → Type 0 = λ t. Grows r t in subst P (sym e) (record { marks = λ v m. m; queue = λ i v m. m })
+grows-same r s e = let P : Front → Type 0 = λ t. Grows r t in subst P (sym e) (record { marks = λ v m. m })
 
 -- what stayed by fewer marks stays by more
 pub stays-grows : (g : Graph) (r s : Front) → Grows r s → (v : ℕ) → stays g (is_marked r) v ≡ true → stays g (is_marked s) v ≡ true
@@ -49,29 +47,25 @@ marked-from r v e = elim (cases_lt v r.first) [
   | inr from ↦ from
 ]
 
--- one more mark
 module _ (r : Front) (w : ℕ) (from : r.first ≤ w) (within : w < front_end r) where
-  new-here : is_marked (reach_new r w) w ≡ true
-  new-here = mark-entry (reach_new r w) w from ∙ get_or-set_same r.marks (w - r.first) true false (omega arith)
+  new-here : is_marked (mark r w) w ≡ true
+  new-here = mark-entry (mark r w) w from ∙ get_or-set_same r.marks (w - r.first) true false (omega arith)
 
-  new-other : (v : ℕ) → r.first ≤ v → (v ≡ w → ⊥) → is_marked (reach_new r w) v ≡ is_marked r v
+  new-other : (v : ℕ) → r.first ≤ v → (v ≡ w → ⊥) → is_marked (mark r w) v ≡ is_marked r v
   new-other v low other =
-      mark-entry (reach_new r w) v low ∙ get_or-set_other r.marks (w - r.first) (v - r.first) true false (λ e. other (omega (arith, e))) ∙ sym (mark-entry r v low)
+      mark-entry (mark r w) v low ∙ get_or-set_other r.marks (w - r.first) (v - r.first) true false (λ e. other (omega (arith, e))) ∙ sym (mark-entry r v low)
 
-  new-cases : (v : ℕ) → is_marked (reach_new r w) v ≡ true → (v ≡ w) ⊎ (is_marked r v ≡ true)
+  new-cases : (v : ℕ) → is_marked (mark r w) v ≡ true → (v ≡ w) ⊎ (is_marked r v ≡ true)
   new-cases v e = elim (cases_eq v w) [
     | inl same ↦ inl same
-    | inr other ↦ inr (sym (new-other v (marked-from (reach_new r w) v e) other) ∙ e)
+    | inr other ↦ inr (sym (new-other v (marked-from (mark r w) v e) other) ∙ e)
   ]
 
-  new-grows : Grows r (reach_new r w)
-  new-grows = record {
-    marks = λ v e. elim (cases_eq v w) [
-      | inl same ↦ ap (is_marked (reach_new r w)) same ∙ new-here
-      | inr other ↦ new-other v (marked-from r v e) other ∙ e
-    ];
-    queue = λ i v e. slice_get-append_left r.queue (w ∷ []) i v e;
-  }
+  new-marks : (v : ℕ) → is_marked r v ≡ true → is_marked (mark r w) v ≡ true
+  new-marks v e = elim (cases_eq v w) [
+    | inl same ↦ ap (is_marked (mark r w)) same ∙ new-here
+    | inr other ↦ new-other v (marked-from r v e) other ∙ e
+  ]
 
 reads-still : (g : Graph) (r s : Front) → Grows r s → (v : ℕ) → ReadsMarked g r v → ReadsMarked g s v
 reads-still g r s grows v reads = record {
@@ -79,107 +73,165 @@ reads-still g r s grows v reads = record {
   latch = λ x e. stays-grows g r s grows (variable x.next) (reads.latch x e);
 }
 
+-- what stands in a list stands first in it, or in the rest
+in-cons : (xs : List ℕ) (w i v : ℕ) → slice_get (w ∷ xs) i ≡ Some v → (v ≡ w) ⊎ ((j : ℕ) × (slice_get xs j ≡ Some v))
+in-cons xs w zero v e = inl (sym (same_Some w v e))
+in-cons xs w (suc j) v e = inr (j, e)
+
 module _ (g : Graph) (p : Props) (held : List ℕ) where
-  -- a variable that every set holds is marked, and waits
-  sweeps-new : (r : Front) (k w : ℕ) → Sweeps g p held r k → ((s : ℕ → Bool) → HoldsReads g p held s → s w ≡ true) → r.first ≤ w → w < front_end r → is_marked r w ≡ false
-      → Sweeps g p held (reach_new r w) k
-  sweeps-new r k w sweep owed from h fresh = record {
-    first = sweep.first;
-    as_long = omega (arith, length-set r.marks (w - r.first) true, sweep.as_long);
-    within = omega (arith, length_push r.queue w, sweep.within);
-    counted =
-        let counts = sum_by-set (λ (b : Bool). cond b 1 0) r.marks (w - r.first) true false (omega arith) in
-        let entry : get_or r.marks (w - r.first) false ≡ false = sym (mark-entry r w from) ∙ fresh in
-        let before : cond {A = ℕ} (get_or r.marks (w - r.first) false) 1 0 ≡ zero = ap (λ (b : Bool). cond {A = ℕ} b 1 0) entry in
-        let old : length r.queue ≡ count_by (λ b. b) r.marks = sweep.counted in
-        omega (arith, length_push r.queue w, counts, before, old);
-    queued = λ i v e. elim (slice_get_push r.queue w i v e) [
-      | inl before ↦ (new-grows r w from h).marks v (sweep.queued i v before)
-      | inr last ↦ ap (is_marked (reach_new r w)) last.1 ∙ new-here r w from h
-    ];
-    pending = λ v e. elim (new-cases r w from h v e) [
-      | inl same ↦ inl (record {
-        place = length r.queue + 0;
-        from = omega (arith, sweep.within);
-        there = slice_get-append_right r.queue (w ∷ []) 0 ∙ ap (λ (n : ℕ). Some n) (sym same);
-      })
-      | inr before ↦ elim (sweep.pending v before) [
-        | inl waits ↦ inl (record { place = waits.place; from = waits.from; there = slice_get-append_left r.queue (w ∷ []) waits.place v waits.there })
-        | inr reads ↦ inr (reads-still g r (reach_new r w) (new-grows r w from h) v reads)
+  -- ---- variables that each set holds
+
+  module _ (IsLater : ℕ → Type 0) where
+    -- a variable that every set holds is marked, and waits
+    sweeps-new : (r : Front) (w : ℕ) → Sweeps g p held IsLater r → ((s : ℕ → Bool) → HoldsReads g p held s → s w ≡ true) → r.first ≤ w → w < front_end r
+        → Sweeps g p held IsLater (reach_new r w)
+    sweeps-new r w sweep owed from h = record {
+      first = sweep.first;
+      latches = sweep.latches;
+      as_long = omega (arith, length-set r.marks (w - r.first) true, sweep.as_long);
+      waiting = λ i v e. elim (in-cons r.waiting w i v e) [
+        | inl same ↦ ap (is_marked (mark r w)) same ∙ new-here r w from h
+        | inr before ↦ new-marks r w from h v (sweep.waiting before.0 v before.1)
+      ];
+      pending = λ v e. elim (new-cases r w from h v e) [
+        | inl same ↦ inl (record { place = zero; there = ap (λ (n : ℕ). Some n) (sym same) })
+        | inr before ↦ elim (sweep.pending v before) [
+          | inl waits ↦ inl (record { place = suc waits.place; there = waits.there })
+          | inr rest ↦ elim rest [
+            | inl later ↦ inr (inl later)
+            | inr reads ↦ inr (inr (reads-still g r (reach_new r w) (record { marks = new-marks r w from h }) v reads))
+          ]
+        ]
+      ];
+      least = λ s holds v e. elim (new-cases r w from h v e) [
+        | inl same ↦ ap s same ∙ owed s holds
+        | inr before ↦ sweep.least s holds v before
+      ];
+    }
+
+    -- one that is read later anyway is marked alone
+    sweeps-mark : (r : Front) (w : ℕ) → Sweeps g p held IsLater r → IsLater w → ((s : ℕ → Bool) → HoldsReads g p held s → s w ≡ true) → r.first ≤ w → w < front_end r
+        → Sweeps g p held IsLater (mark r w)
+    sweeps-mark r w sweep later owed from h = record {
+      first = sweep.first;
+      latches = sweep.latches;
+      as_long = omega (arith, length-set r.marks (w - r.first) true, sweep.as_long);
+      waiting = λ i v e. new-marks r w from h v (sweep.waiting i v e);
+      pending = λ v e. elim (new-cases r w from h v e) [
+        | inl same ↦ inr (inl (subst IsLater (sym same) later))
+        | inr before ↦ elim (sweep.pending v before) [
+          | inl waits ↦ inl waits
+          | inr rest ↦ elim rest [
+            | inl to_come ↦ inr (inl to_come)
+            | inr reads ↦ inr (inr (reads-still g r (mark r w) (record { marks = new-marks r w from h }) v reads))
+          ]
+        ]
+      ];
+      least = λ s holds v e. elim (new-cases r w from h v e) [
+        | inl same ↦ ap s same ∙ owed s holds
+        | inr before ↦ sweep.least s holds v before
+      ];
+    }
+
+    -- what reaching keeps, and what it adds
+    pub record Goes (r s : Front) : Type 0 where
+      -- what is marked waits, or is read later, or was read
+      pub sweeps : Sweeps g p held IsLater s
+      -- marks have grown
+      pub grows : Grows r s
+
+    goes-same : (r s : Front) → Sweeps g p held IsLater r → s ≡ r → Goes r s
+    goes-same r s sweep e = let P : Front → Type 0 = λ t. Sweeps g p held IsLater t in record { sweeps = subst P (sym e) sweep; grows = grows-same r s e }
+
+    marked-same : (r s : Front) (v : ℕ) → s ≡ r → is_marked r v ≡ true → is_marked s v ≡ true
+    marked-same r s v e m = ap (λ (t : Front). is_marked t v) e ∙ m
+
+    -- a step to a literal that each set has keeps the sweep, and marks the literal's variable
+    abbrev pub StepGoes : Front → ℕ → Front → Type 0
+    StepGoes r v s = Goes r s × (stays g (is_marked s) v ≡ true)
+
+    pub reach-goes : (r : Front) (lit : ℕ) → Sweeps g p held IsLater r → IsOwed g p held lit → IsLiteralOf g lit → StepGoes r (variable lit) (reach r (variable lit))
+    reach-goes r lit sweep owed within = elim (cases_lt (variable lit) r.first) [
+      | inl low ↦ (goes-same r (reach r (variable lit)) sweep (reach-low r (variable lit) low), stays-low g (is_marked (reach r (variable lit))) (variable lit) (omega (arith, sweep.first)))
+      | inr from ↦ elim (cases_Bool (is_marked r (variable lit))) [
+        | inl marked ↦ (
+            let same : reach r (variable lit) ≡ r = reach-marked r (variable lit) marked in
+            (goes-same r (reach r (variable lit)) sweep same, stays-reached g (is_marked (reach r (variable lit))) (variable lit) (marked-same r (reach r (variable lit)) (variable lit) same marked)))
+        | inr fresh ↦ (
+            let w : ℕ = variable lit in
+            let past : first_latch g ≤ w = omega (arith, sweep.first) in
+            let h : w < front_end r = omega (arith, sweep.first, sweep.as_long, within) in
+            let same : reach r w ≡ reach_new r w = reach-new r w from fresh in
+            let own : (s : ℕ → Bool) → HoldsReads g p held s → s w ≡ true = λ s holds. sym (stays-past g s w past) ∙ owed s holds in
+            let P : Front → Type 0 = λ t. Goes r t in (
+              subst P (sym same) (record { sweeps = sweeps-new r w sweep own from h; grows = record { marks = new-marks r w from h } }),
+              stays-reached g (is_marked (reach r w)) w (marked-same (reach_new r w) (reach r w) w same (new-here r w from h)),
+            ))
       ]
-    ];
-    least = λ s holds v e. elim (new-cases r w from h v e) [
-      | inl same ↦ ap s same ∙ owed s holds
-      | inr before ↦ sweep.least s holds v before
-    ];
-  }
-
-  -- what reaching keeps, and what it adds
-  pub record Goes (k : ℕ) (r s : Front) : Type 0 where
-    -- the sweep has come to place k of the queue
-    pub sweeps : Sweeps g p held s k
-    -- marks and queue have grown
-    pub grows : Grows r s
-
-  goes-same : (k : ℕ) (r s : Front) → Sweeps g p held r k → s ≡ r → Goes k r s
-  goes-same k r s sweep e = let P : Front → Type 0 = λ t. Sweeps g p held t k in record { sweeps = subst P (sym e) sweep; grows = grows-same r s e }
-
-  marked-same : (r s : Front) (v : ℕ) → s ≡ r → is_marked r v ≡ true → is_marked s v ≡ true
-  marked-same r s v e m = ap (λ (t : Front). is_marked t v) e ∙ m
-
-  reach-goes : (r : Front) (k lit : ℕ) → Sweeps g p held r k → IsOwed g p held lit → IsLiteralOf g lit
-      → Goes k r (reach r (variable lit)) × (stays g (is_marked (reach r (variable lit))) (variable lit) ≡ true)
-  reach-goes r k lit sweep owed within = elim (cases_lt (variable lit) r.first) [
-    | inl low ↦ (goes-same k r (reach r (variable lit)) sweep (reach-low r (variable lit) low), stays-low g (is_marked (reach r (variable lit))) (variable lit) (omega (arith, sweep.first)))
-    | inr from ↦ elim (cases_Bool (is_marked r (variable lit))) [
-      | inl marked ↦ (
-          let same : reach r (variable lit) ≡ r = reach-marked r (variable lit) marked in
-          (goes-same k r (reach r (variable lit)) sweep same, stays-reached g (is_marked (reach r (variable lit))) (variable lit) (marked-same r (reach r (variable lit)) (variable lit) same marked)))
-      | inr fresh ↦ (
-          let w : ℕ = variable lit in
-          let past : first_latch g ≤ w = omega (arith, sweep.first) in
-          let h : w < front_end r = omega (arith, sweep.first, sweep.as_long, within) in
-          let same : reach r w ≡ reach_new r w = reach-new r w from fresh in
-          let own : (s : ℕ → Bool) → HoldsReads g p held s → s w ≡ true = λ s holds. sym (stays-past g s w past) ∙ owed s holds in
-          let P : Front → Type 0 = λ t. Goes k r t in (
-            subst P (sym same) (record { sweeps = sweeps-new r k w sweep own from h fresh; grows = new-grows r w from h }),
-            stays-reached g (is_marked (reach r w)) w (marked-same (reach_new r w) (reach r w) w same (new-here r w from h)),
-          ))
     ]
+
+    module _ (step : Front → ℕ → Front) (Fits : ℕ → Type 0) (goes : (r : Front) (lit : ℕ) → Sweeps g p held IsLater r → Fits lit → StepGoes r (variable lit) (step r (variable lit))) where
+      -- reaching literals by such steps keeps the sweep, and marks their variables
+      pub all-goes : (lits : List ℕ) (r : Front) → Sweeps g p held IsLater r → All (λ lit. Fits lit) lits
+          → Goes r (reach_all step r lits) × All (λ lit. stays g (is_marked (reach_all step r lits)) (variable lit) ≡ true) lits
+      all-goes [] r sweep fits = (goes-same r (reach_all step r []) sweep (all-nil step r), All-nil (λ lit. stays g (is_marked (reach_all step r [])) (variable lit) ≡ true))
+      all-goes (lit ∷ lits) r sweep fits =
+          let s : Front = step r (variable lit) in
+          let one = goes r lit sweep (All-head (λ (l : ℕ). Fits l) lit lits fits) in
+          let rest = all-goes lits s one.0.sweeps (All-tail (λ (l : ℕ). Fits l) lit lits fits) in
+          let both : Goes r (reach_all step s lits) = record { sweeps = rest.0.sweeps; grows = grows-then r s (reach_all step s lits) one.0.grows rest.0.grows } in
+          let P : Front → Type 0 = λ t. Goes r t × All (λ (l : ℕ). stays g (is_marked t) (variable l) ≡ true) (lit ∷ lits) in
+          subst P (sym (all-cons step r lit lits))
+          (both, All-cons (λ (l : ℕ). stays g (is_marked (reach_all step s lits)) (variable l) ≡ true) lit lits (stays-grows g s (reach_all step s lits) rest.0.grows (variable lit) one.1) rest.1)
+
+    -- reaching literals that each set has
+    pub reach-all-goes : (lits : List ℕ) (r : Front) → Sweeps g p held IsLater r → All (λ lit. IsOwed g p held lit) lits → All (λ lit. IsLiteralOf g lit) lits
+        → Goes r (reach_all reach r lits) × All (λ lit. stays g (is_marked (reach_all reach r lits)) (variable lit) ≡ true) lits
+    reach-all-goes lits r sweep owed within =
+        all-goes reach (λ lit. IsOwed g p held lit × IsLiteralOf g lit) (λ s lit sweeps fits. reach-goes s lit sweeps fits.0 fits.1) lits r sweep (λ k d h. (owed k d h, within k d h))
+
+  -- before a sweep that has come down to n, a gate below n is marked alone
+  pub sweep-goes : (n : ℕ) → n ≤ variables_end g → (r : Front) (lit : ℕ) → Sweeps g p held (IsGateBelow g n) r → IsOwed g p held lit → variable lit < n
+      → StepGoes (IsGateBelow g n) r (variable lit) (reach_in_sweep r (variable lit))
+  sweep-goes n few r lit sweep owed below = elim (cases_lt (variable lit) (r.first + r.latches)) [
+    | inl before ↦ (
+        let P : Front → Type 0 = λ t. StepGoes (IsGateBelow g n) r (variable lit) t in
+        subst P (sym (sweep-latch r (variable lit) before)) (reach-goes (IsGateBelow g n) r lit sweep owed (omega (arith, few, below))))
+    | inr from ↦ (
+        let w : ℕ = variable lit in
+        let P : Front → Type 0 = λ t. StepGoes (IsGateBelow g n) r w t in
+        let low : r.first ≤ w = omega (arith, from) in
+        let h : w < front_end r = omega (arith, sweep.first, sweep.as_long, few, below) in
+        let own : (s : ℕ → Bool) → HoldsReads g p held s → s w ≡ true = λ s holds. sym (stays-past g s w (omega (arith, sweep.first, low))) ∙ owed s holds in
+        let later : IsGateBelow g n w = (omega (arith, sweep.first, sweep.latches, from), below) in
+        let sweeps : Sweeps g p held (IsGateBelow g n) (mark r w) = sweeps-mark (IsGateBelow g n) r w sweep later own low h in
+        subst P (sym (sweep-gate r w from)) (record { sweeps = sweeps; grows = record { marks = new-marks r w low h } }, stays-reached g (is_marked (mark r w)) w (new-here r w low h)))
   ]
 
-  -- reaching literals that each set of the kind has keeps the sweep, and marks their variables
-  pub all-goes : (lits : List ℕ) (r : Front) (k : ℕ) → Sweeps g p held r k → All (λ lit. IsOwed g p held lit) lits → All (λ lit. IsLiteralOf g lit) lits
-      → Goes k r (reach_all r lits) × All (λ lit. stays g (is_marked (reach_all r lits)) (variable lit) ≡ true) lits
-  all-goes [] r k sweep owed within = (goes-same k r (reach_all r []) sweep (all-nil r), All-nil (λ lit. stays g (is_marked (reach_all r [])) (variable lit) ≡ true))
-  all-goes (lit ∷ lits) r k sweep owed within =
-      let s : Front = reach r (variable lit) in
-      let one = reach-goes r k lit sweep (All-head (λ (l : ℕ). IsOwed g p held l) lit lits owed) (All-head (λ (l : ℕ). IsLiteralOf g l) lit lits within) in
-      let rest = all-goes lits s k one.0.sweeps (All-tail (λ (l : ℕ). IsOwed g p held l) lit lits owed) (All-tail (λ (l : ℕ). IsLiteralOf g l) lit lits within) in
-      let both : Goes k r (reach_all s lits) = record { sweeps = rest.0.sweeps; grows = grows-then r s (reach_all s lits) one.0.grows rest.0.grows } in
-      let P : Front → Type 0 = λ t. Goes k r t × All (λ (l : ℕ). stays g (is_marked t) (variable l) ≡ true) (lit ∷ lits) in
-      subst P (sym (all-cons r lit lits))
-      (both, All-cons (λ (l : ℕ). stays g (is_marked (reach_all s lits)) (variable l) ≡ true) lit lits (stays-grows g s (reach_all s lits) rest.0.grows (variable lit) one.1) rest.1)
+  -- reaching literals below n before a sweep that has come down to n
+  pub sweep-all-goes : (n : ℕ) → n ≤ variables_end g → (lits : List ℕ) (r : Front) → Sweeps g p held (IsGateBelow g n) r → All (λ lit. IsOwed g p held lit) lits → All (λ lit. variable lit < n) lits
+      → Goes (IsGateBelow g n) r (reach_all reach_in_sweep r lits) × All (λ lit. stays g (is_marked (reach_all reach_in_sweep r lits)) (variable lit) ≡ true) lits
+  sweep-all-goes n few lits r sweep owed below =
+      all-goes (IsGateBelow g n) reach_in_sweep (λ lit. IsOwed g p held lit × (variable lit < n)) (λ s lit sweeps fits. sweep-goes n few s lit sweeps fits.0 fits.1) lits r sweep (λ k d h. (owed k d h, below k d h))
 
-  -- the variable at place k has been read
-  sweeps-next : (r : Front) (k v : ℕ) → Sweeps g p held r k → slice_get r.queue k ≡ Some v → ReadsMarked g r v → Sweeps g p held r (k + 1)
-  sweeps-next r k v sweep there reads = record {
+  -- what is read later may change, where marked variables of the kind are of the new one, or were read
+  pub sweeps-to : (IsLater IsNow : ℕ → Type 0) (r : Front) → ((v : ℕ) → is_marked r v ≡ true → IsLater v → IsNow v ⊎ ReadsMarked g r v) → Sweeps g p held IsLater r → Sweeps g p held IsNow r
+  sweeps-to IsLater IsNow r change sweep = record {
     first = sweep.first;
+    latches = sweep.latches;
     as_long = sweep.as_long;
-    within = omega (arith, slice_get_within r.queue k v there);
-    counted = sweep.counted;
-    queued = sweep.queued;
-    pending = λ w e. elim (sweep.pending w e) [
-      | inl waits ↦ elim (cases_eq waits.place k) [
-        | inl same ↦ (
-            let here : v ≡ w = same_Some v w (sym there ∙ ap (slice_get r.queue) (sym same) ∙ waits.there) in
-            inr (subst (λ (u : ℕ). ReadsMarked g r u) here reads))
-        | inr other ↦ inl (record { place = waits.place; from = omega (arith, waits.from); there = waits.there })
+    waiting = sweep.waiting;
+    pending = λ v e. elim (sweep.pending v e) [
+      | inl waits ↦ inl waits
+      | inr rest ↦ elim rest [
+        | inl later ↦ inr (change v e later)
+        | inr reads ↦ inr (inr reads)
       ]
-      | inr done ↦ inr done
     ];
     least = sweep.least;
   }
+
+  -- ---- the start
 
   no-marks : (v : ℕ) → is_marked (no_front g) v ≡ true → ⊥
   no-marks v e =
@@ -192,55 +244,15 @@ module _ (g : Graph) (p : Props) (held : List ℕ) where
       ]
 
   -- nothing is marked at the start
-  pub sweeps-start : Sweeps g p held (no_front g) 0
-  sweeps-start = record {
+  pub sweeps-start : (IsLater : ℕ → Type 0) → Sweeps g p held IsLater (no_front g)
+  sweeps-start IsLater = record {
     first = refl;
+    latches = refl;
     as_long = omega (arith, length-replicate (latches_and_gates g) false);
-    within = omega arith;
-    counted = sym (sum_by-replicate (λ (b : Bool). cond b 1 0) (latches_and_gates g) false ∙ omega arith);
-    queued = λ i v e. absurd (none-some v e);
+    waiting = λ i v e. absurd (none-some v e);
     pending = λ v e. absurd (no-marks v e);
     least = λ s holds v e. absurd (no-marks v e);
   }
-
-  -- no more variables are marked than there are
-  pub sweeps-few : (r : Front) (k : ℕ) → Sweeps g p held r k → length r.queue ≤ latches_and_gates g
-  sweeps-few r k sweep = omega (arith, sweep.counted, sweep.as_long, count_by-le-length (λ (b : Bool). b) r.marks)
-
-  waits-end : (queue : List ℕ) (k v : ℕ) → slice_get queue k ≡ None → Waits queue k v → k ≤ length queue → ⊥
-  waits-end queue k v last waits within = elim (cases_lt k (length queue)) [
-    | inl less ↦ (let there = element queue k less in none-some there.0 (sym last ∙ there.1))
-    | inr past ↦ omega (arith, slice_get_within queue waits.place v waits.there, waits.from)
-  ]
-
-  -- where the queue is at its end and the properties and held latches are marked, the marks are of what is reached
-  pub sweeps-end : (r : Front) (k : ℕ) → Sweeps g p held r k → slice_get r.queue k ≡ None
-      → All (λ j. is_marked r (first_latch g + j) ≡ true) held → All (λ lit. stays g (is_marked r) (variable lit) ≡ true) (property_literals p) → AreReached g p held (is_marked r)
-  sweeps-end r k sweep last all_held properties = record {
-    holds = record {
-      all_held = all_held;
-      properties = properties;
-      gates = λ v gate e reached. (reads v reached).gate gate e;
-      latches = λ v latch e reached. (reads v reached).latch latch e;
-    };
-    least = sweep.least;
-  }
-    where
-      reads : (v : ℕ) → is_marked r v ≡ true → ReadsMarked g r v
-      reads v e = elim (sweep.pending v e) [ inl waits ↦ absurd (waits-end r.queue k v last waits sweep.within) | inr done ↦ done ]
-
-  -- a variable of the queue is read
-  pub read-goes : IsGraph g → (r : Front) (k v : ℕ) → Sweeps g p held r k → slice_get r.queue k ≡ Some v → Goes (k + 1) r (reach_all r (reads_of g v))
-  read-goes valid r k v sweep there =
-      let s : Front = reach_all r (reads_of g v) in
-      let mine : (t : ℕ → Bool) → HoldsReads g p held t → t v ≡ true = λ t holds. sweep.least t holds v (sweep.queued k v there) in
-      let owed : All (λ lit. IsOwed g p held lit) (reads_of g v) = to-reads g (λ lit. IsOwed g p held lit) v
-      (λ gate e. ((λ t holds. (holds.gates v gate e (mine t holds)).0), (λ t holds. (holds.gates v gate e (mine t holds)).1)))
-      (λ latch e. (λ t holds. holds.latches v latch e (mine t holds))) in
-      let after = all-goes (reads_of g v) r k sweep owed (reads-within g valid v) in
-      let P : ℕ → Type 0 = λ lit. stays g (is_marked s) (variable lit) ≡ true in
-      let reads : ReadsMarked g s v = record { gate = λ x e. from-gate g P v x after.1 e; latch = λ x e. from-latch g P v x after.1 e } in
-      record { sweeps = sweeps-next s k v after.0.sweeps (after.0.grows.queue k v there) reads; grows = after.0.grows }
 
   -- held latches are in each set, and so are the properties
   pub held-owed : All (λ lit. IsOwed g p held lit) (map (λ j. 2 * (first_latch g + j)) held)
@@ -253,31 +265,33 @@ module _ (g : Graph) (p : Props) (held : List ℕ) where
   pub props-owed : All (λ lit. IsOwed g p held lit) (property_literals p)
   props-owed = λ k d h. λ s holds. holds.properties k d h
 
-  -- what a sweep keeps
-  pub record Sweeping (r : Front) (k : ℕ) : Type 0 where
-    -- the sweep has come to place k of the queue
-    pub sweeps : Sweeps g p held r k
+  -- what is read keeps
+  pub record Sweeping (IsLater : ℕ → Type 0) (r : Front) : Type 0 where
+    -- what is marked waits, or is read later, or was read
+    pub sweeps : Sweeps g p held IsLater r
     -- the held latches are marked
     pub held_marked : All (λ j. is_marked r (first_latch g + j) ≡ true) held
     -- the variables of the properties' literals are marked, or stay anyway
     pub properties : All (λ lit. stays g (is_marked r) (variable lit) ≡ true) (property_literals p)
 
   -- the held latches and the properties are reached first
-  pub sweeping-start : (start mid r : Front) → IsGraph g → All (λ j. j < length g.latches) held → OfProps (λ lit. IsLiteralOf g lit) p → start ≡ no_front g
-      → mid ≡ reach_all start (map (λ j. 2 * (first_latch g + j)) held) → r ≡ reach_all mid (property_literals p) → Sweeping r 0
-  sweeping-start start mid r valid in_range props begin first second =
+  pub sweeping-start : (start mid r : Front) (n : ℕ) → n ≡ variables_end g → All (λ j. j < length g.latches) held → OfProps (λ lit. IsLiteralOf g lit) p → start ≡ no_front g
+      → mid ≡ reach_all reach start (map (λ j. 2 * (first_latch g + j)) held) → r ≡ reach_all reach_in_sweep mid (property_literals p) → Sweeping (IsGateBelow g n) r
+  sweeping-start start mid r n end in_range props begin first second =
+      let Later : ℕ → Type 0 = IsGateBelow g n in
       let lits : List ℕ = map (λ j. 2 * (first_latch g + j)) held in
       let held_within : All (λ lit. IsLiteralOf g lit) lits = All-map (λ lit. IsLiteralOf g lit) (λ j. 2 * (first_latch g + j)) held (λ k d h.
       let here : get_or held k d < length g.latches = in_range k d h in
       omega arith) in
-      let P : Front → Type 0 = λ t. Sweeps g p held t 0 in
-      let sweep : Sweeps g p held start 0 = subst P (sym begin) sweeps-start in
-      let one = all-goes lits start 0 sweep held-owed held_within in
-      let S : Front → Type 0 = λ t. Goes 0 start t × All (λ lit. stays g (is_marked t) (variable lit) ≡ true) lits in
-      let half : Goes 0 start mid × All (λ lit. stays g (is_marked mid) (variable lit) ≡ true) lits = subst S (sym first) one in
-      let two = all-goes (property_literals p) mid 0 half.0.sweeps props-owed (to_literals (λ lit. IsLiteralOf g lit) p props) in
-      let T : Front → Type 0 = λ t. Goes 0 mid t × All (λ lit. stays g (is_marked t) (variable lit) ≡ true) (property_literals p) in
-      let whole : Goes 0 mid r × All (λ lit. stays g (is_marked r) (variable lit) ≡ true) (property_literals p) = subst T (sym second) two in
+      let P : Front → Type 0 = λ t. Sweeps g p held Later t in
+      let sweep : Sweeps g p held Later start = subst P (sym begin) (sweeps-start Later) in
+      let one = reach-all-goes Later lits start sweep held-owed held_within in
+      let S : Front → Type 0 = λ t. Goes Later start t × All (λ lit. stays g (is_marked t) (variable lit) ≡ true) lits in
+      let half : Goes Later start mid × All (λ lit. stays g (is_marked mid) (variable lit) ≡ true) lits = subst S (sym first) one in
+      let below : All (λ lit. variable lit < n) (property_literals p) = subst (λ (m : ℕ). All (λ (lit : ℕ). variable lit < m) (property_literals p)) (sym end) (to_literals (λ lit. IsLiteralOf g lit) p props) in
+      let two = sweep-all-goes n (omega (arith, end)) (property_literals p) mid half.0.sweeps props-owed below in
+      let T : Front → Type 0 = λ t. Goes Later mid t × All (λ lit. stays g (is_marked t) (variable lit) ≡ true) (property_literals p) in
+      let whole : Goes Later mid r × All (λ lit. stays g (is_marked r) (variable lit) ≡ true) (property_literals p) = subst T (sym second) two in
       record {
         sweeps = whole.0.sweeps;
         held_marked = λ k d h.
@@ -291,17 +305,124 @@ module _ (g : Graph) (p : Props) (held : List ℕ) where
         properties = whole.1;
       }
 
-  -- one more variable is read
-  pub sweeping-more : IsGraph g → (r s : Front) (k v : ℕ) → Sweeping r k → slice_get r.queue k ≡ Some v → s ≡ reach_all r (reads_of g v) → Sweeping s (k + 1)
-  sweeping-more valid r s k v sweep there e =
-      let P : Front → Type 0 = λ t. Goes (k + 1) r t in
-      let goes : Goes (k + 1) r s = subst P (sym e) (read-goes valid r k v sweep.sweeps there) in
-      record {
-        sweeps = goes.sweeps;
-        held_marked = λ i d h. goes.grows.marks (first_latch g + get_or held i d) (sweep.held_marked i d h);
-        properties = λ i d h. stays-grows g r s goes.grows (variable (get_or (property_literals p) i d)) (sweep.properties i d h);
-      }
+  -- what more marks keep
+  sweeping-grows : (IsLater IsNow : ℕ → Type 0) (r s : Front) → Sweeping IsLater r → Grows r s → Sweeps g p held IsNow s → Sweeping IsNow s
+  sweeping-grows IsLater IsNow r s sweep grows sweeps = record {
+    sweeps = sweeps;
+    held_marked = λ i d h. grows.marks (first_latch g + get_or held i d) (sweep.held_marked i d h);
+    properties = λ i d h. stays-grows g r s grows (variable (get_or (property_literals p) i d)) (sweep.properties i d h);
+  }
 
-  -- at the queue's end the marks are of what is reached
-  pub sweeping-end : (r : Front) (k : ℕ) → Sweeping r k → slice_get r.queue k ≡ None → AreReached g p held (is_marked r)
-  sweeping-end r k sweep last = sweeps-end r k sweep.sweeps last sweep.held_marked sweep.properties
+  -- what a marked variable reads is in each set
+  reads-owed : (v : ℕ) → ((t : ℕ → Bool) → HoldsReads g p held t → t v ≡ true) → All (λ lit. IsOwed g p held lit) (reads_of g v)
+  reads-owed v mine = to-reads g (λ lit. IsOwed g p held lit) v
+      (λ gate e. ((λ t holds. (holds.gates v gate e (mine t holds)).0), (λ t holds. (holds.gates v gate e (mine t holds)).1)))
+      (λ latch e. (λ t holds. holds.latches v latch e (mine t holds)))
+
+  -- where all that a variable reads is marked, its reads are
+  to-marked : (v : ℕ) (s : Front) → All (λ lit. stays g (is_marked s) (variable lit) ≡ true) (reads_of g v) → ReadsMarked g s v
+  to-marked v s all =
+      let P : ℕ → Type 0 = λ lit. stays g (is_marked s) (variable lit) ≡ true in
+      record { gate = λ x e. from-gate g P v x all e; latch = λ x e. from-latch g P v x all e }
+
+  -- ---- the sweep
+
+  -- a gate that is marked when the sweep comes to it is read
+  pub sweeping-down : IsGraph g → (r s : Front) (n v : ℕ) (gate : Gate) → n ≡ v + 1 → gate_at g v ≡ Some gate → Sweeping (IsGateBelow g n) r → is_marked r v ≡ true
+      → s ≡ reach_all reach_in_sweep r (gate.rhs0 ∷ gate.rhs1 ∷ []) → Sweeping (IsGateBelow g v) s
+  sweeping-down valid r s n v gate next here sweep marked is =
+      let place : GatePlace g v gate = gate_place g v gate here in
+      let at : IsGateAt (first_gate g + (v - first_gate g)) gate = valid.gates (v - first_gate g) gate place.there in
+      let same : reads_of g v ≡ gate.rhs0 ∷ gate.rhs1 ∷ [] = reads-gate g v gate here in
+      let owed : All (λ lit. IsOwed g p held lit) (reads_of g v) = reads-owed v (λ t holds. sweep.sweeps.least t holds v marked) in
+      let below : All (λ lit. variable lit < n) (reads_of g v) = to-reads g (λ lit. variable lit < n) v
+      (λ x e. reads-below x e)
+      (λ x e. absurd (gate-no-latch g v gate x here e)) in
+      let goes = sweep-all-goes n (omega (arith, next, place.from, place.below)) (reads_of g v) r sweep.sweeps owed below in
+      let Q : Front → Type 0 = λ t. Goes (IsGateBelow g n) r t × All (λ (lit : ℕ). stays g (is_marked t) (variable lit) ≡ true) (reads_of g v) in
+      let whole : Q s = subst Q (sym (is ∙ ap (reach_all reach_in_sweep r) (sym same))) goes in
+      let reads : ReadsMarked g s v = to-marked v s whole.1 in
+      sweeping-grows (IsGateBelow g n) (IsGateBelow g v) r s sweep whole.0.grows
+      (sweeps-to (IsGateBelow g n) (IsGateBelow g v) s (λ u e later. elim (cases_eq u v) [
+        | inl this ↦ inr (subst (λ (w : ℕ). ReadsMarked g s w) (sym this) reads)
+        | inr other ↦ inl (later.0, omega (arith, later.1, next, other))
+      ]) whole.0.sweeps)
+    where
+      reads-below : (x : Gate) → gate_at g v ≡ Some x → (variable x.rhs0 < n) × (variable x.rhs1 < n)
+      reads-below x e =
+          let place : GatePlace g v x = gate_place g v x e in
+          let at : IsGateAt (first_gate g + (v - first_gate g)) x = valid.gates (v - first_gate g) x place.there in
+          (omega (arith, at.below, place.from, next), omega (arith, at.below, at.ordered, place.from, next))
+
+  -- one that isn't marked then isn't read
+  pub sweeping-skip : (r : Front) (n v : ℕ) → n ≡ v + 1 → is_marked r v ≡ false → Sweeping (IsGateBelow g n) r → Sweeping (IsGateBelow g v) r
+  sweeping-skip r n v next unmarked sweep = sweeping-grows (IsGateBelow g n) (IsGateBelow g v) r r sweep (record { marks = λ u m. m })
+      (sweeps-to (IsGateBelow g n) (IsGateBelow g v) r (λ u e later. elim (cases_eq u v) [
+        | inl this ↦ (let clash : false ≡ true = sym unmarked ∙ ap (is_marked r) (sym this) ∙ e in absurd (cc))
+        | inr other ↦ inl (later.0, omega (arith, later.1, next, other))
+      ]) sweep.sweeps)
+
+  -- ---- the walk
+
+  -- no variable is read that doesn't wait
+  abbrev pub IsNothing : ℕ → Type 0
+  IsNothing v = ⊥
+
+  -- below the first gate the sweep reads no gates
+  pub sweeping-swept : (r : Front) (n : ℕ) → n ≤ first_gate g → Sweeping (IsGateBelow g n) r → Sweeping IsNothing r
+  sweeping-swept r n last sweep = sweeping-grows (IsGateBelow g n) IsNothing r r sweep (record { marks = λ u m. m })
+      (sweeps-to (IsGateBelow g n) IsNothing r (λ u e later. absurd (omega (arith, later.0, later.1, last))) sweep.sweeps)
+
+  -- what waits is read later, once it is taken
+  sweeps-take : (r : Front) (v : ℕ) → Sweeps g p held IsNothing (with_next r v) → Sweeps g p held (λ u. u ≡ v) r
+  sweeps-take r v sweep = record {
+    first = sweep.first;
+    latches = sweep.latches;
+    as_long = sweep.as_long;
+    waiting = λ i u e. sweep.waiting (suc i) u e;
+    pending = λ u e. elim (sweep.pending u e) [
+      | inl waits ↦ elim (in-cons r.waiting v waits.place u waits.there) [
+        | inl same ↦ inr (inl same)
+        | inr after ↦ inl (record { place = after.0; there = after.1 })
+      ]
+      | inr rest ↦ elim rest [
+        | inl later ↦ absurd later
+        | inr reads ↦ inr (inr (record { gate = reads.gate; latch = reads.latch }))
+      ]
+    ];
+    least = sweep.least;
+  }
+
+  -- a variable that waits is taken and read
+  pub sweeping-more : IsGraph g → (r s t : Front) (v : ℕ) → Sweeping IsNothing r → r ≡ with_next s v → t ≡ reach_all reach s (reads_of g v) → Sweeping IsNothing t
+  sweeping-more valid r s t v sweep taken is =
+      let Now : ℕ → Type 0 = λ u. u ≡ v in
+      let before : Sweeping IsNothing (with_next s v) = subst (λ (u : Front). Sweeping IsNothing u) taken sweep in
+      let mine : (x : ℕ → Bool) → HoldsReads g p held x → x v ≡ true = λ x holds. before.sweeps.least x holds v (before.sweeps.waiting zero v refl) in
+      let goes = reach-all-goes Now (reads_of g v) s (sweeps-take s v before.sweeps) (reads-owed v mine) (reads-within g valid v) in
+      let Q : Front → Type 0 = λ u. Goes Now s u × All (λ (lit : ℕ). stays g (is_marked u) (variable lit) ≡ true) (reads_of g v) in
+      let whole : Q t = subst Q (sym is) goes in
+      let reads : ReadsMarked g t v = to-marked v t whole.1 in
+      sweeping-grows IsNothing IsNothing (with_next s v) t before (record { marks = whole.0.grows.marks })
+      (sweeps-to Now IsNothing t (λ u e later. inr (subst (λ (w : ℕ). ReadsMarked g t w) (sym later) reads)) whole.0.sweeps)
+
+  -- where none waits, the marks are of what is reached
+  pub sweeping-end : (r : Front) → Sweeping IsNothing r → r.waiting ≡ [] → AreReached g p held (is_marked r)
+  sweeping-end r sweep none = record {
+    holds = record {
+      all_held = sweep.held_marked;
+      properties = sweep.properties;
+      gates = λ v gate e reached. (reads v reached).gate gate e;
+      latches = λ v latch e reached. (reads v reached).latch latch e;
+    };
+    least = sweep.sweeps.least;
+  }
+    where
+      reads : (v : ℕ) → is_marked r v ≡ true → ReadsMarked g r v
+      reads v e = elim (sweep.sweeps.pending v e) [
+        | inl waits ↦ absurd (none-some v (sym (ap (λ (xs : List ℕ). slice_get xs waits.place) none) ∙ waits.there))
+        | inr rest ↦ elim rest [
+          | inl later ↦ absurd later
+          | inr done ↦ done
+        ]
+      ]

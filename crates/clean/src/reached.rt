@@ -1,58 +1,62 @@
-//! What the properties and the held latches rest on, by a walk over readers' fan-ins. The queue is its own record of what was
-//! visited: it is never taken from, a place in it walks from its front to its end, and at the end it lists all that was reached.
-ghost use Rattle.std.specs.Prelude.{◌≡◌, ◌+◌, ◌*◌, ◌<◌, ◌≤◌, ◌^◌, All, IfOk, OnOk, [], false, length, map, replicate, slice_get};
+//! What the properties and the held latches rest on: a sweep over the gates from the last to the first, and a walk over what it leaves.
+//! Fan-ins come before their gates, so a gate that a property or a later gate reads is marked when the sweep comes to it, and needn't
+//! wait; latches do. The walk reads what waits, the last one first: the gates behind a latch's next literal lie close together.
+ghost use Rattle.std.specs.Prelude.{◌≡◌, ◌+◌, ◌*◌, ◌<◌, ◌≤◌, ◌∷◌, All, IfOk, OnOk, MatchOption, [], length, map};
 ghost use Rattle.std.specs.List.{flat_map};
 ghost use Rattle.aig_graph.specs.Graph.{variable, first_latch, variables_end, IsLiteralOf, latch_at};
 ghost use Rattle.aig_graph.specs.Streams.{property_literals};
 ghost use Rattle.aig_graph.specs.Mapped.{OfProps};
 ghost use Rattle.cleaned_circuits.specs.Reached.{AreReached};
-ghost use Rattle.clean.specs.Sweep.{front_end, is_marked, reach, reach_all, reads_of};
+ghost use Rattle.clean.specs.Sweep.{front_end, no_front, is_marked, with_next, reach, reach_in_sweep, reach_all, reads_of};
 
-use aig_graph::{Aig, Lit, NoMemory, Props, Sequence};
+use aig_graph::{Aig, Gate, Lit, NoMemory, Props, Sequence};
 use std::alloc::Global;
 use std::marker::Model;
 use variable_tables::mark_at;
 
-/// The latches and gates that are reached: a mark for each variable from the first latch on, and the marked variables in
-/// the order in which they were reached. A variable enters the queue once, so a sweep through it is linear.
+/// The latches and gates that are reached: a mark for each variable from the first latch on, and the marked variables that wait to be
+/// read, the next one last. A variable waits once at most, so a walk that reads what waits is linear.
 #[derive(Drop)]
 pub(crate) struct Reached {
     first: u32,
+    latches: usize,
     marks: Vec<bool>,
-    queue: Vec<u32>,
+    waiting: Vec<u32>,
 }
 
 impl Model for Reached {
-    ghost use Rattle.std.specs.Prelude.{◌+◌, ◌≤◌, ◌^◌, length};
+    ghost use Rattle.std.specs.Prelude.{◌+◌, ◌≤◌, ◌^◌, length, reverse};
     ghost use Rattle.clean.specs.Sweep.{Front};
 
     ghost Value = { Front };
 
-    ghost view = { λ r. record { first = r.first; marks = r.marks.items; queue = r.queue.items } };
+    ghost view = { λ r. record {
+      first = r.first;
+      latches = r.latches;
+      marks = r.marks.items;
+      waiting = reverse r.waiting.items;
+    } };
 
     ghost invariant = { λ r. r.first + length r.marks.items ≤ 2 ^ 28 };
 }
 
 impl Reached {
-    /// Nothing, among so many latches and gates.
-    fn none(alloc: Global, first: u32, variables: usize) -> Result<Reached, NoMemory>
-        requires { first + variables ≤ 2 ^ 28 }
-        ensures { IfOk result (λ r. r ≡ record {
-          first = first;
-          marks = replicate variables false;
-          queue = [];
-        }) }
+    /// None of a graph's latches and gates.
+    fn none(alloc: Global, aig: &Aig) -> Result<Reached, NoMemory>
+        ensures { IfOk result (λ r. r ≡ no_front aig.now) }
     {
-        let marks = vec![in alloc; false; variables]?;
-        let queue = Vec::new(alloc);
+        let latches = aig.latches().len();
+        let marks = vec![in alloc; false; aig.latches_and_gates()]?;
+        let waiting = Vec::new(alloc);
         Ok(Reached {
-            first,
+            first: aig.first_latch(),
+            latches,
             marks,
-            queue,
+            waiting,
         })
     }
 
-    /// Marks and queues the literal's variable, where it is a latch or a gate and isn't marked.
+    /// Marks the literal's variable and lets it wait, where it is a latch or a gate and isn't marked.
     fn reach(&mut self, lit: Lit) -> Result<(), NoMemory>
         requires { variable lit < front_end self.old }
         ensures { OnOk result (self.new ≡ reach self.old (variable lit)) }
@@ -63,25 +67,42 @@ impl Reached {
         }
         let place = (var - self.first) as usize;
         if !self.marks[place] {
-            self.queue.push(var)?;
+            self.waiting.push(var)?;
             self.marks[place] = true;
         }
         Ok(())
     }
 
+    /// The same before the sweep has come to the variable: a gate is marked alone.
+    fn reach_in_sweep(&mut self, lit: Lit) -> Result<(), NoMemory>
+        requires { variable lit < front_end self.old }
+        ensures { OnOk result (self.new ≡ reach_in_sweep self.old (variable lit)) }
+    {
+        let var = lit.var();
+        if var < self.first {
+            return Ok(());
+        }
+        let place = (var - self.first) as usize;
+        if place < self.latches {
+            return self.reach(lit);
+        }
+        self.marks[place] = true;
+        Ok(())
+    }
+
     fn reach_all(&mut self, lits: &Sequence<Lit>) -> Result<(), NoMemory>
         requires { All (λ lit. variable lit < front_end self.old) lits.now }
-        ensures { OnOk result (self.new ≡ reach_all self.old lits.now) }
+        ensures { OnOk result (self.new ≡ reach_all reach_in_sweep self.old lits.now) }
     {
         for lit in lits.as_slice() {
-            self.reach(*lit)?;
+            self.reach_in_sweep(*lit)?;
         }
         Ok(())
     }
 
     fn reach_justice(&mut self, justice: &Sequence<Sequence<Lit>>) -> Result<(), NoMemory>
         requires { All (λ lits. All (λ lit. variable lit < front_end self.old) lits) justice.now }
-        ensures { OnOk result (self.new ≡ reach_all self.old
+        ensures { OnOk result (self.new ≡ reach_all reach_in_sweep self.old
             (flat_map (λ lits. lits) justice.now)) }
     {
         for lits in justice.as_slice() {
@@ -90,9 +111,11 @@ impl Reached {
         Ok(())
     }
 
+    /// Reaches what the properties read, before the sweep.
     fn reach_props(&mut self, props: &Props) -> Result<(), NoMemory>
         requires { OfProps (λ lit. variable lit < front_end self.old) props.now }
-        ensures { OnOk result (self.new ≡ reach_all self.old (property_literals props.now)) }
+        ensures { OnOk result (self.new ≡ reach_all reach_in_sweep self.old
+            (property_literals props.now)) }
     {
         self.reach_all(&props.outputs)?;
         self.reach_all(&props.bad)?;
@@ -105,7 +128,7 @@ impl Reached {
     /// Reaches the latches at these positions.
     fn reach_held(&mut self, held: &[u32]) -> Result<(), NoMemory>
         requires { All (λ j. self.old.first + j < front_end self.old) held.now }
-        ensures { OnOk result (self.new ≡ reach_all self.old
+        ensures { OnOk result (self.new ≡ reach_all reach self.old
             (map (λ j. 2 * (self.old.first + j)) held.now)) }
     {
         let first = self.first;
@@ -115,10 +138,30 @@ impl Reached {
         Ok(())
     }
 
+    /// Whether the gate at a place among the gates is reached.
+    fn has_gate(&self, place: usize) -> bool
+        requires { self.now.latches + place < length self.now.marks }
+        ensures { result ≡ is_marked self.now (self.now.first + self.now.latches + place) }
+    {
+        self.marks[self.latches + place]
+    }
+
+    /// Reaches what a gate reads, when the sweep has come to it.
+    fn read_gate(&mut self, gate: Gate) -> Result<(), NoMemory>
+        requires larger { variable gate.rhs0 < front_end self.old }
+        requires smaller { variable gate.rhs1 < front_end self.old }
+        ensures { OnOk result (self.new ≡ reach_all reach_in_sweep self.old
+            (gate.rhs0 ∷ gate.rhs1 ∷ [])) }
+    {
+        self.reach_in_sweep(gate.rhs0)?;
+        self.reach_in_sweep(gate.rhs1)?;
+        Ok(())
+    }
+
     /// Reaches what the latch or the gate at a variable reads.
     fn read(&mut self, aig: &Aig, var: u32) -> Result<(), NoMemory>
         requires { All (λ lit. variable lit < front_end self.old) (reads_of aig.now var) }
-        ensures { OnOk result (self.new ≡ reach_all self.old (reads_of aig.now var)) }
+        ensures { OnOk result (self.new ≡ reach_all reach self.old (reads_of aig.now var)) }
     {
         if let Some(gate) = aig.gate(var) {
             self.reach(gate.rhs0)?;
@@ -129,11 +172,12 @@ impl Reached {
         Ok(())
     }
 
-    /// The variable at a place of the queue.
-    fn queued(&self, place: usize) -> Option<u32>
-        ensures { result ≡ slice_get self.now.queue place }
+    /// Takes the next variable that waits.
+    fn next(&mut self) -> Option<u32>
+        ensures { MatchOption result ((self.old.waiting ≡ []) × (self.new ≡ self.old))
+            (λ var. self.old ≡ with_next self.new var) }
     {
-        self.queue.get(place).copied()
+        self.waiting.pop()
     }
 
     /// Whether the latch or the gate at a variable is reached.
@@ -157,13 +201,17 @@ pub(crate) fn reach_everything(
     ensures first { IfOk result (λ r. r.first ≡ first_latch aig.now) }
     ensures long { IfOk result (λ r. front_end r ≡ variables_end aig.now) }
 {
-    let mut reached = Reached::none(alloc, aig.first_latch(), aig.latches_and_gates())?;
+    let mut reached = Reached::none(alloc, aig)?;
     reached.reach_held(held)?;
     reached.reach_props(props)?;
-    let mut place = 0;
-    while let Some(var) = reached.queued(place) {
+    let gates = aig.gates();
+    for place in (0..gates.len()).rev() {
+        if reached.has_gate(place) {
+            reached.read_gate(gates[place])?;
+        }
+    }
+    while let Some(var) = reached.next() {
         reached.read(aig, var)?;
-        place += 1;
     }
     Ok(reached)
 }
