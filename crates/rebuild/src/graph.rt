@@ -4,14 +4,15 @@
 ghost use Rattle.std.specs.Prelude.{◌≡◌, ◌++◌, [], IfOk, OnOk, map};
 ghost use Rattle.aig_graph.specs.Graph.{variables_end, first_gate};
 ghost use Rattle.rebuild.specs.Moved.{latches_below, gates_below, copy_for, moved_graph};
-ghost use Rattle.rebuild.specs.Starting.{start_value};
+ghost use Rattle.rebuild.specs.Starting.{member_start};
+ghost use Rattle.rebuild.specs.Entries.{by_variable};
 ghost use Rattle.rebuild.specs.Planned.{planned};
 
 use crate::plan::Plan;
-use crate::values::member_values;
+use crate::values::start_values;
 use aig_graph::{Aig, Gate, Latch, NoMemory, Reset};
 use std::alloc::Global;
-use variable_tables::count_marks;
+use variable_tables::{count_marks, entry};
 
 /// Adds the latches that stay, in old order.
 fn push_staying(latches: &mut Vec<Latch>, plan: &Plan<'_>) -> Result<(), NoMemory>
@@ -28,18 +29,19 @@ fn push_staying(latches: &mut Vec<Latch>, plan: &Plan<'_>) -> Result<(), NoMemor
     Ok(())
 }
 
-/// Adds a latch for each gate of the border, in gate order, by the values of the members at step 0.
+/// Adds a latch for each gate of the border, in gate order, by the values of latches and members at step 0.
 fn push_border(latches: &mut Vec<Latch>, plan: &Plan<'_>, values: &[bool]) -> Result<(), NoMemory>
     requires staying { latches.old.items ≡ latches_below (planned plan.now)
         (first_gate (planned plan.now).circuit.aig) }
-    requires values { values.now ≡ map (start_value (planned plan.now).circuit.aig)
-        (planned plan.now).set }
+    requires values { values.now ≡ by_variable (planned plan.now).circuit.aig
+        (member_start (planned plan.now).circuit.aig (planned plan.now).set) }
     ensures { OnOk result (latches.new.items ≡ latches_below (planned plan.now)
         (variables_end (planned plan.now).circuit.aig)) }
 {
-    for (k, var) in plan.marks.set.vars().iter().enumerate() {
+    for var in plan.marks.set.vars() {
         if plan.marks.is_latched(*var) {
-            latches.push(plan.border_latch(*var, Reset::from(values[k])))?;
+            let value = entry(values, plan.marks.first, *var);
+            latches.push(plan.border_latch(*var, Reset::from(value)))?;
         }
     }
     Ok(())
@@ -49,7 +51,7 @@ fn moved_latches(alloc: Global, plan: &Plan<'_>) -> Result<Vec<Latch>, NoMemory>
     ensures { IfOk result (λ latches. latches.items
         ≡ latches_below (planned plan.now) (variables_end (planned plan.now).circuit.aig)) }
 {
-    let values = member_values(alloc, plan)?;
+    let values = start_values(alloc, plan)?;
     let count = count_marks(plan.marks.latched.as_slice());
     let mut latches = Vec::with_capacity(alloc, count as usize)?;
     push_staying(&mut latches, plan)?;
