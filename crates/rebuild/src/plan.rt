@@ -3,7 +3,7 @@
 //! each step the value that the gate has one step later. Copies come last among the gates, since they may read any other.
 ghost use Rattle.std.specs.Prelude.{◌≡◌, ◌*◌, ◌+◌, ◌<◌, ◌≤◌, IfOk, length, true, if◌then◌else◌, Some, None};
 ghost use Rattle.aig_graph.specs.declared.literal.TheConstants.{MAX_VARIABLES};
-ghost use Rattle.aig_graph.specs.Graph.{IsGraph, variable, variables_end, first_latch};
+ghost use Rattle.aig_graph.specs.Graph.{IsGraph, variable, variables_end, first_latch, latch_at};
 ghost use Rattle.aig_graph.specs.Building.{gate_of};
 ghost use Rattle.aig_graph.specs.Move.{move_of};
 ghost use Rattle.variable_tables.specs.Counting.{count_below};
@@ -111,15 +111,15 @@ impl<'a> Plan<'a> {
     }
 
     /// A latch that stays, after the move.
-    pub(crate) fn staying_latch(&self, latch: Latch) -> Latch
-        requires { variable latch.next < variables_end (planned self.now).circuit.aig }
+    pub(crate) fn staying_latch(&self, var: u32, latch: Latch) -> Latch
+        requires { latch_at (planned self.now).circuit.aig var ≡ Some latch }
         ensures { result ≡ record {
           next = moved_literal (planned self.now) latch.next;
           reset = latch.reset;
         } }
     {
         Latch {
-            next: self.literal(latch.next),
+            next: entry(self.later.as_slice(), self.marks.first, var),
             reset: latch.reset,
         }
     }
