@@ -4,6 +4,7 @@ pub mod FreeLaws
 pub mod ReadLaws
 pub mod NameLaws
 pub mod StartLaws
+pub mod ValueLaws
 pub mod StreamLaws
 pub mod MarkLaws
 pub mod PlanLaws

@@ -1,9 +1,8 @@
 -- What the list of a closed set's members says: the place and the value of each, and the latches of the border.
-use Rattle.std.proofs.Common.{ℕ, ◌+◌, ◌*◌, ◌<◌, ◌≤◌, ◌≡◌, inl, inr, suc, zero, List, [], ◌∷◌, ◌++◌, length, map, filter, take, Bool, true, false, ◌||◌, Option, None, Some, is_some, slice_get, get_or, refl, arith, ap, sym, ◌∙◌, subst}
+use Rattle.std.proofs.Common.{ℕ, ◌+◌, ◌*◌, ◌<◌, ◌≤◌, ◌≡◌, inl, inr, suc, zero, List, [], ◌∷◌, ◌++◌, length, map, filter, take, Bool, true, false, ◌||◌, Option, None, is_some, get_or, refl, arith, ap, sym, ◌∙◌, subst}
 use Rattle.std.specs.List.Sorted.{IsStrictlyIncreasing}
 use Rattle.std.proofs.lemmas.Bool.{cases_eq, cases_Bool, cond-true, cond-false, and_from, or_left, or_right}
-use Rattle.std.proofs.lemmas.Option.{slice_get-get_or}
-use Rattle.std.proofs.lemmas.List.{append-nil, append_assoc, get_or_default, map-append, map_more, map_push, take_all}
+use Rattle.std.proofs.lemmas.List.{append-nil, append_assoc, get_or_default, map-append, map_push, take_all}
 use Rattle.std.proofs.lemmas.List.Elements.{filter-append, filter_more}
 use Rattle.aig_graph.proofs.KindLaws.{GatePlace, gate_place, latch_at-gates}
 use Rattle.aig_graph.proofs.SearchLaws.{has_iff_contains}
@@ -18,10 +17,9 @@ use Rattle.rebuild.specs.Members.{AreFanInsIn, ArePassable, is_latch_or_in}
 use Rattle.rebuild.specs.Moved.{copy_variable, is_latched, latch_for, latch_from, latches_below}
 use Rattle.rebuild.specs.Starting.{start_value}
 use Rattle.variable_tables.proofs.CountingLaws.{places-none}
-use Rattle.variable_tables.proofs.ListLaws.{slice_get-map_some}
 use Rattle.variable_tables.proofs.MemberLaws.{places-members}
-use Rattle.variable_tables.proofs.PlacesLaws.{Ranks, at_rank, places-fail, places-pass, rank_at, take-places}
-use Rattle.variable_tables.specs.Counting.{count_below, places}
+use Rattle.variable_tables.proofs.PlacesLaws.{places-fail, places-pass}
+use Rattle.variable_tables.specs.Counting.{places}
 use Rattle.variable_tables.specs.Marking.{has}
 
 -- the fan-ins of a closed set's members
@@ -43,26 +41,6 @@ pub member-at : (s vars : List ℕ) (i : ℕ) → vars ≡ s → i < length vars
 member-at s vars i same within =
     let v : ℕ = get_or vars i 0 in
     ap (λ (ws : List ℕ). has ws v) (sym same) ∙ (has_iff_contains vars v).1 (i, within, get_or_default vars i v 0 within)
-
--- where a value for each member before v is listed, that of a member stands at its rank
-pub value-at_rank : {A : Type 0} (s : List ℕ) (f : ℕ → A) (values : List A) (v w : ℕ) → values ≡ map f (places (has s) v) → w < v → has s w ≡ true
-    → slice_get values (count_below (has s) w) ≡ Some (f w)
-value-at_rank {A} s f values v w listed less member =
-    ap (λ (xs : List A). slice_get xs (count_below (has s) w)) listed
-    ∙ slice_get-map_some f (places (has s) v) (count_below (has s) w) w (at_rank (has s) v w less member)
-
--- one more value
-pub values-more : {A : Type 0} (f : ℕ → A) (s vars : List ℕ) (i : ℕ) (xs ys : List A) (x : A) → vars ≡ s → i < length vars → xs ≡ map f (take i s) → ys ≡ xs ++ x ∷ [] → x ≡ f (get_or vars i 0)
-    → ys ≡ map f (take (i + 1) s)
-values-more {A} f s vars i xs ys x same within listed pushed here =
-    pushed
-    ∙ ap (λ (zs : List A). zs ++ x ∷ []) listed
-    ∙ ap (λ (z : A). map f (take i s) ++ z ∷ []) (here ∙ ap (λ (ws : List ℕ). f (get_or ws i 0)) same)
-    ∙ sym (map_more f s i 0 (subst (λ (ws : List ℕ). i < length ws) same within))
-
--- past the last member all values are listed
-pub values-all : {A : Type 0} (f : ℕ → A) (s vars : List ℕ) (i : ℕ) (xs : List A) → vars ≡ s → length vars ≤ i → xs ≡ map f (take i s) → xs ≡ map f s
-values-all f s vars i xs same end listed = listed ∙ ap (map f) (take_all i s (subst (λ (ws : List ℕ). length ws ≤ i) same end))
 
 -- the numbers that pass p, where none below a passes q, and each from a on that passes p passes q
 split-none : (p q : ℕ → Bool) (a n : ℕ) → ((v : ℕ) → v < a → q v ≡ false) → a ≡ n → places p n ≡ places p a ++ filter p (places q n)
@@ -103,22 +81,6 @@ module _ (m : Move) (passable : ArePassable m.circuit.aig m.held m.set) where
   -- the set is the list of the places of its members
   pub members : IsStrictlyIncreasing m.set → places (has m.set) (variables_end m.circuit.aig) ≡ m.set
   members rising = places-members m.set (variables_end m.circuit.aig) rising (λ k d h. (member-place (get_or m.set k d) ((has_iff_contains m.set (get_or m.set k d)).1 (k, h, get_or_default m.set k (get_or m.set k d) d h))).1)
-
-  -- the members before one
-  take-members : (i : ℕ) → IsStrictlyIncreasing m.set → i < length m.set → take i m.set ≡ places (has m.set) (get_or m.set i 0)
-  take-members i rising within =
-      let p : ℕ → Bool = has m.set in
-      let n : ℕ = variables_end m.circuit.aig in
-      let v : ℕ = get_or m.set i 0 in
-      let r : Ranks p n i v = rank_at p n i v (ap (λ (xs : List ℕ). slice_get xs i) (members rising) ∙ slice_get-get_or m.set i 0 within) in
-      ap (λ (xs : List ℕ). take i xs) (sym (members rising)) ∙ ap (λ (k : ℕ). take k (places p n)) (sym r.rank) ∙ take-places p n v (omega (arith, r.below))
-
-  -- the values of the members listed so far are those of all members before the next one
-  pub before-member : {A : Type 0} (f : ℕ → A) (vars : List ℕ) (i : ℕ) (xs : List A) → vars ≡ m.set → IsStrictlyIncreasing vars → i < length vars → xs ≡ map f (take i m.set)
-      → xs ≡ map f (places (has m.set) (get_or vars i 0))
-  before-member f vars i xs same rising within listed =
-      listed ∙ ap (map f) (take-members i (subst IsStrictlyIncreasing same rising) (subst (λ (ws : List ℕ). i < length ws) same within))
-      ∙ ap (λ (ws : List ℕ). map f (places (has m.set) (get_or ws i 0))) (sym same)
 
   -- the latches of the border, after those that stay
   latches-split : IsStrictlyIncreasing m.set

@@ -1,5 +1,5 @@
 -- The numbers that a move gives each variable, as they are counted one by one.
-use Rattle.std.proofs.Common.{ℕ, ◌+◌, ◌-◌, ◌*◌, ◌<◌, ◌≤◌, ◌≡◌, inl, inr, suc, List, Bool, true, false, ◌&&◌, not, Option, Some, None, slice_get, get_or, length, refl, arith, ap, sym, ◌∙◌, cond}
+use Rattle.std.proofs.Common.{ℕ, ◌+◌, ◌-◌, ◌*◌, ◌<◌, ◌≤◌, ◌≡◌, inl, inr, suc, zero, List, Bool, true, false, ◌&&◌, not, Option, Some, None, slice_get, get_or, length, refl, arith, ap, sym, ◌∙◌, cond}
 use Rattle.std.proofs.lemmas.Bool.{cases_Bool, cond-false, cond-true, le-leb}
 use Rattle.std.proofs.lemmas.Option.{slice_get_within}
 use Rattle.aig_graph.proofs.KindLaws.{LatchPlace, latch_at-first_latch, latch_at-gates, latch_place}
@@ -23,6 +23,10 @@ unfolding count_below
 count-next p first k b here =
     let next : first + (k + 1) ≡ suc (first + k) = omega arith in
     ap (count_below p) next ∙ ap (λ (x : Bool). count_below p (first + k) + cond {A = ℕ} x 1 0) here
+
+one_at_most : (b : Bool) → cond {A = ℕ} b 1 0 ≤ 1
+one_at_most true = omega arith
+one_at_most false = omega arith
 
 -- a count at another number that is the same
 pub count-at : (p : ℕ → Bool) (n m : ℕ) → n ≤ m → m ≤ n → count_below p n ≡ count_below p m
@@ -65,6 +69,18 @@ module _ (m : Move) (passable : ArePassable m.circuit.aig m.held m.set) where
   pub no-outside-before : (v : ℕ) → v ≤ first_gate m.circuit.aig → count_below (is_outside m) v ≡ 0
   no-outside-before v h = count-none (is_outside m) v (λ w l. not_outside_before m w (omega arith))
 
+  -- of so many gates no more are outside
+  pub outside-few : (k : ℕ) → count_below (is_outside m) (first_gate m.circuit.aig + k) ≤ k
+  outside-few zero = omega (arith, no-outside-before (first_gate m.circuit.aig + 0) (omega arith))
+  outside-few (suc k) =
+      omega (
+        arith,
+        outside-few k,
+        count-at (is_outside m) (first_gate m.circuit.aig + suc k) (first_gate m.circuit.aig + (k + 1)) (omega arith) (omega arith),
+        count-next (is_outside m) (first_gate m.circuit.aig) k (is_outside m (first_gate m.circuit.aig + k)) refl,
+        one_at_most (is_outside m (first_gate m.circuit.aig + k)),
+      )
+
   -- nothing has a latch before the first one
   pub none-latched-before : (marks : List Bool) → marks ≡ by_variable m.circuit.aig (is_latched m) → count_below (is_latched m) (first_latch m.circuit.aig + 0) ≡ 0
   none-latched-before marks filled = let all = all-latched m passable marks filled in count-none (is_latched m) (first_latch m.circuit.aig + 0) (λ w l. all.before w (omega arith))
@@ -92,6 +108,12 @@ module _ (m : Move) (passable : ArePassable m.circuit.aig m.held m.set) where
       let within : k < length m.circuit.aig.latches = slice_get_within m.circuit.aig.latches k latch there in
       cond-false (has m.set v) (2 * copy_variable m v) (moved_literal m (next_of o)) (no-member-before m passable v (omega arith))
       ∙ ap (λ (x : Option Latch). moved_literal m (next_of x)) (latch_at-first_latch m.circuit.aig k ∙ there)
+
+  -- the same by the latch's variable
+  pub advanced-at_latch : (v : ℕ) (latch : Latch) → latch_at m.circuit.aig v ≡ Some latch → advanced m v ≡ moved_literal m latch.next
+  advanced-at_latch v latch there =
+      let place : LatchPlace m.circuit.aig v latch = latch_place m.circuit.aig v latch there in
+      ap (advanced m) (omega (arith, place.from)) ∙ advanced-latch (v - first_latch m.circuit.aig) latch place.there
 
   -- a gate has one step later what its copy has, where it is a member
   pub advanced-gate : (v x : ℕ) (member : Bool) → first_gate m.circuit.aig ≤ v → has m.set v ≡ member → x ≡ cond member (2 * copy_variable m v) 0 → x ≡ advanced m v

@@ -6,10 +6,15 @@ use Rattle.aig_graph.specs.Graph.{Graph, first_gate}
 use Rattle.aig_graph.specs.Closed.{is_settled}
 use Rattle.aig_graph.specs.Value.{value, signed, reset_to}
 use Rattle.variable_tables.specs.Tables.{table}
+use Rattle.rebuild.specs.Members.{is_latch_or_in}
 
 -- the value of a variable at step 0, where inputs and free latches are 0
 unfoldable pub start_value : Graph → ℕ → Bool
 start_value g v = value g (λ t i. false) (λ j. false) 0 (2 * v)
+
+-- the value at step 0 of a latch, or of a gate in the list; false for any other gate
+abbrev pub member_start : Graph → List ℕ → ℕ → Bool
+member_start g s v = is_latch_or_in g s v && start_value g v
 
 -- the value at step 0 of a passable gate, and of a known latch that isn't held; else free
 unfoldable pub start_reset : Graph → List ℕ → ℕ → Reset

@@ -3,7 +3,7 @@
 //! each step the value that the gate has one step later. Copies come last among the gates, since they may read any other.
 ghost use Rattle.std.specs.Prelude.{◌≡◌, ◌*◌, ◌+◌, ◌<◌, ◌≤◌, IfOk, length, true, if◌then◌else◌, Some, None};
 ghost use Rattle.aig_graph.specs.declared.literal.TheConstants.{MAX_VARIABLES};
-ghost use Rattle.aig_graph.specs.Graph.{IsGraph, variable, variables_end, first_latch};
+ghost use Rattle.aig_graph.specs.Graph.{IsGraph, variable, variables_end, first_latch, latch_at};
 ghost use Rattle.aig_graph.specs.Building.{gate_of};
 ghost use Rattle.aig_graph.specs.Move.{move_of};
 ghost use Rattle.variable_tables.specs.Counting.{count_below};
@@ -25,13 +25,10 @@ pub(crate) struct Plan<'a> {
     variables: Vec<u32>,
     /// The literal that has now the value that it has one step later, for a latch or a member of the set.
     later: Vec<Lit>,
-    /// That of the first copy.
-    first_copy: u32,
     ghost moved: { IsGraph (moved_graph (move_of marks.circuit.now marks.keep.now marks.set.now)) },
     ghost room: { copies_start (move_of marks.circuit.now marks.keep.now marks.set.now) + count_below (has marks.set.now) (variables_end marks.circuit.now.aig) ≤ MAX_VARIABLES },
     ghost variables_are: { variables.items ≡ by_variable marks.circuit.now.aig (new_variable (move_of marks.circuit.now marks.keep.now marks.set.now)) },
     ghost later_are: { later.items ≡ by_variable marks.circuit.now.aig (advanced (move_of marks.circuit.now marks.keep.now marks.set.now)) },
-    ghost first_copy_is: { first_copy ≡ copies_start (move_of marks.circuit.now marks.keep.now marks.set.now) },
 }
 
 impl<'a> Plan<'a> {
@@ -52,7 +49,6 @@ impl<'a> Plan<'a> {
             marks,
             variables,
             later,
-            first_copy,
         })
     }
 
@@ -79,16 +75,6 @@ impl<'a> Plan<'a> {
         ensures { result ≡ 2 * copy_variable (planned self.now) var }
     {
         entry(self.later.as_slice(), self.marks.first, var)
-    }
-
-    /// How many members come before a member.
-    pub(crate) fn members_before(&self, var: u32) -> u32
-        requires from { first_latch (planned self.now).circuit.aig ≤ var }
-        requires below { var < variables_end (planned self.now).circuit.aig }
-        requires member { has (planned self.now).set var ≡ true }
-        ensures { result ≡ count_below (has (planned self.now).set) var }
-    {
-        self.copy(var).var() - self.first_copy
     }
 
     /// What copies read in the place of a literal of a latch or member.
@@ -125,15 +111,15 @@ impl<'a> Plan<'a> {
     }
 
     /// A latch that stays, after the move.
-    pub(crate) fn staying_latch(&self, latch: Latch) -> Latch
-        requires { variable latch.next < variables_end (planned self.now).circuit.aig }
+    pub(crate) fn staying_latch(&self, var: u32, latch: Latch) -> Latch
+        requires { latch_at (planned self.now).circuit.aig var ≡ Some latch }
         ensures { result ≡ record {
           next = moved_literal (planned self.now) latch.next;
           reset = latch.reset;
         } }
     {
         Latch {
-            next: self.literal(latch.next),
+            next: entry(self.later.as_slice(), self.marks.first, var),
             reset: latch.reset,
         }
     }

@@ -1,59 +1,93 @@
-//! The values of a closed set's members at step 0. What a member reads is a latch or a member, so each value follows from resets
-//! and from the values of members before it: no gate outside the set is looked at.
-ghost use Rattle.std.specs.Prelude.{◌≡◌, IfOk, Some, map, slice_get, true};
-ghost use Rattle.aig_graph.specs.Graph.{variable};
-ghost use Rattle.aig_graph.specs.Value.{signed};
-ghost use Rattle.variable_tables.specs.Counting.{count_below, places};
+//! The values at step 0 of a closed set's members. What a member reads is a latch or a member before it, so each value follows from
+//! resets and from the values before: what a gate outside the set has is never looked at, and its entry stays false.
+ghost use Rattle.std.specs.Prelude.{◌≡◌, ◌&&◌, ◌+◌, ◌<◌, IfOk, Some, false, length, true};
+ghost use Rattle.aig_graph.specs.Graph.{first_latch, gate_at, variable};
+ghost use Rattle.aig_graph.specs.Value.{opening, signed};
 ghost use Rattle.variable_tables.specs.Marking.{has};
+ghost use Rattle.variable_tables.specs.Tables.{table};
+ghost use Rattle.rebuild.specs.Entries.{by_variable};
 ghost use Rattle.rebuild.specs.Members.{is_latch_or_in};
 ghost use Rattle.rebuild.specs.Planned.{planned};
-ghost use Rattle.rebuild.specs.Starting.{start_value};
+ghost use Rattle.rebuild.specs.Starting.{member_start, start_value};
 
 use crate::plan::Plan;
-use aig_graph::{Lit, NoMemory, Reset};
+use aig_graph::{Gate, Latch, Lit, NoMemory, Reset};
 use std::alloc::Global;
+use variable_tables::entry;
 
-/// The value at step 0 of a latch or member, by those of the members so far.
-fn value_of(plan: &Plan<'_>, values: &[bool], var: u32) -> bool
-    requires inside { is_latch_or_in (planned plan.now).circuit.aig (planned plan.now).set var
-        ≡ true }
-    requires stored { has (planned plan.now).set var ≡ true
-        → slice_get values.now (count_below (has (planned plan.now).set) var)
-        ≡ Some (start_value (planned plan.now).circuit.aig var) }
-    ensures { result ≡ start_value (planned plan.now).circuit.aig var }
+/// The value of a latch at step 0, false where it is free.
+fn latch_value(latch: Latch) -> bool
+    ensures { result ≡ opening latch.reset false }
 {
-    match plan.aig().latch(var) {
-        Some(latch) => latch.reset == Reset::One,
-        None => values[plan.members_before(var) as usize],
-    }
+    latch.reset == Reset::One
 }
 
-/// The value at step 0 of a member, by those of the members before it.
-fn member_value(plan: &Plan<'_>, values: &[bool], var: u32) -> bool
+/// The value of an AND.
+fn both(first: bool, second: bool) -> bool
+    ensures { result ≡ (first && second) }
+{
+    first && second
+}
+
+/// The value at step 0 of a literal of a latch or member, by the values so far.
+fn value_of(plan: &Plan<'_>, values: &[bool], lit: Lit) -> bool
+    requires so_far { values.now ≡ table (first_latch (planned plan.now).circuit.aig)
+        (length values.now)
+        (member_start (planned plan.now).circuit.aig (planned plan.now).set) }
+    requires inside { is_latch_or_in (planned plan.now).circuit.aig (planned plan.now).set
+        (variable lit) ≡ true }
+    requires before { variable lit < first_latch (planned plan.now).circuit.aig
+        + length values.now }
+    ensures { result ≡ signed lit (start_value (planned plan.now).circuit.aig (variable lit)) }
+{
+    lit.value(entry(values, plan.marks.first, lit.var()))
+}
+
+/// The value at step 0 of the next gate, a member.
+fn member_value(plan: &Plan<'_>, values: &[bool], var: u32, gate: Gate) -> bool
+    requires so_far { values.now ≡ table (first_latch (planned plan.now).circuit.aig)
+        (length values.now)
+        (member_start (planned plan.now).circuit.aig (planned plan.now).set) }
+    requires next { var ≡ first_latch (planned plan.now).circuit.aig + length values.now }
+    requires there { gate_at (planned plan.now).circuit.aig var ≡ Some gate }
     requires member { has (planned plan.now).set var ≡ true }
-    requires before { values.now ≡ map (start_value (planned plan.now).circuit.aig)
-        (places (has (planned plan.now).set) var) }
     ensures { result ≡ start_value (planned plan.now).circuit.aig var }
 {
-    match plan.aig().gate(var) {
-        Some(gate) => {
-            gate.rhs0.value(value_of(plan, values, gate.rhs0.var()))
-                && gate.rhs1.value(value_of(plan, values, gate.rhs1.var()))
-        }
-        None => false,
+    let first = value_of(plan, values, gate.rhs0);
+    let second = value_of(plan, values, gate.rhs1);
+    both(first, second)
+}
+
+/// The value at step 0 of the next gate where it is a member, else false.
+fn gate_value(plan: &Plan<'_>, values: &[bool], var: u32, gate: Gate) -> bool
+    requires so_far { values.now ≡ table (first_latch (planned plan.now).circuit.aig)
+        (length values.now)
+        (member_start (planned plan.now).circuit.aig (planned plan.now).set) }
+    requires next { var ≡ first_latch (planned plan.now).circuit.aig + length values.now }
+    requires there { gate_at (planned plan.now).circuit.aig var ≡ Some gate }
+    ensures { result ≡ member_start (planned plan.now).circuit.aig (planned plan.now).set var }
+{
+    if plan.marks.has(var) {
+        member_value(plan, values, var, gate)
+    } else {
+        false
     }
 }
 
-/// The value at step 0 of each member, in gate order. Linear in the set.
-pub(crate) fn member_values(alloc: Global, plan: &Plan<'_>) -> Result<Vec<bool>, NoMemory>
-    ensures { IfOk result (λ values. values.items
-        ≡ map (start_value (planned plan.now).circuit.aig) (planned plan.now).set) }
+/// By variable the value at step 0 of each latch and member. Linear in the graph.
+pub(crate) fn start_values(alloc: Global, plan: &Plan<'_>) -> Result<Vec<bool>, NoMemory>
+    ensures { IfOk result (λ values. values.items ≡ by_variable (planned plan.now).circuit.aig
+        (member_start (planned plan.now).circuit.aig (planned plan.now).set)) }
 {
-    let members = plan.marks.set.vars();
-    let mut values = Vec::with_capacity(alloc, members.len())?;
-    for var in members {
-        let value = member_value(plan, values.as_slice(), *var);
-        values.push(value)?;
+    let aig = plan.aig();
+    let start = aig.first_gate();
+    let mut values = Vec::with_capacity(alloc, aig.latches_and_gates())?;
+    for latch in aig.latches() {
+        values.push_reserved(latch_value(*latch));
+    }
+    for (k, gate) in aig.gates().iter().enumerate() {
+        let value = gate_value(plan, values.as_slice(), start + k as u32, *gate);
+        values.push_reserved(value);
     }
     Ok(values)
 }

@@ -1,5 +1,5 @@
 -- Nothing is to clean after the move of a frame whose low copies are tidy.
-use Rattle.std.proofs.Common.{ℕ, ◌+◌, ◌<◌, ◌≤◌, ◌≡◌, List, length, map, refl, arith, sym, subst, length-append}
+use Rattle.std.proofs.Common.{ℕ, ◌+◌, ◌≤◌, ◌≡◌, List, length, map, refl, arith, sym, subst, length-append}
 use Rattle.std.proofs.lemmas.List.{length-map}
 use Rattle.aig_graph.specs.Circuits.{Netlist, IsNetlist}
 use Rattle.aig_graph.specs.Closed.{IsClosedSet}

@@ -37,7 +37,7 @@ fn gather(
 {
     for gate in copies {
         if gate.rhs1.var() < start {
-            if !is_plain(gate) || pairs.find(*gate).is_some() {
+            if !is_plain(gate) || is_among(pairs, marks, gate) {
                 return Ok(false);
             }
             mark_variable(marks, 0, gate.rhs1.var());

@@ -11,7 +11,7 @@ pub fn all_places(alloc: Global, aig: &Aig) -> Result<Sequence<u32>, NoMemory>
     let free = aig.free_latches();
     let mut places = Vec::with_capacity(alloc, free as usize)?;
     for place in 0..free {
-        places.push(place)?;
+        places.push_reserved(place);
     }
     Ok(Sequence::from_vec(places))
 }

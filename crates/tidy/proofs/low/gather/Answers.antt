@@ -1,4 +1,4 @@
-use Rattle.std.proofs.Common.{◌≡◌, ◌∙◌, ℕ, ◌+◌, ◌<◌, ◌≤◌, Some, None, slice_get, refl, arith, ap, sym, subst, length, List, Bool, true, is_some}
+use Rattle.std.proofs.Common.{◌≡◌, ◌∙◌, ℕ, ◌+◌, ◌<◌, ◌≤◌, Some, None, slice_get, refl, arith, ap, sym, subst, length, List, Bool, true}
 use Rattle.aig_graph.specs.declared.graph.Gate.{Gate}
 use Rattle.std.specs.Map.{lookup}
 use Rattle.aig_graph.specs.Graph.{variable}
@@ -7,7 +7,7 @@ use Rattle.std.proofs.lemmas.Option.{slice_get_read}
 use Rattle.tidy.specs.Gathered.{is_plain, AreGathered, AreMarked, by_gate}
 use Rattle.tidy.proofs.GatherLaws.{gathered-more, gathered-skip, marked-more, none-where, spoilt-pair}
 use Rattle.tidy.proofs.low.gather.Goals as goal
-use Rattle.tidy.proofs.low.gather.Goals.{then-var-start+else-not-is_plain+else-is_some+in_ok-add, else-var-start, then-not-is_plain-via-then-not-is_plain, then-not-is_plain-via-else-not-is_plain+then-is_some}
+use Rattle.tidy.proofs.low.gather.Goals.{then-var-start+else-not-is_plain+else-is_among+in_ok-add, else-var-start, then-not-is_plain-via-then-not-is_plain, then-not-is_plain-via-else-not-is_plain+then-is_among}
 
 pub loop-gate-preserved : goal.loop-gate-preserved
 loop-gate-preserved c =
@@ -16,10 +16,10 @@ loop-gate-preserved c =
     let gate : Gate = c.gate-item.result in
     let there : slice_get copies k ≡ Some gate = slice_get_read copies (length copies) k gate refl c.loop-gate-test.true c.gate-item.is in
     elim c.if-var-start.branch [
-      | then-var-start+else-not-is_plain+else-is_some+in_ok-add w ↦ (
+      | then-var-start+else-not-is_plain+else-is_among+in_ok-add w ↦ (
           let low : variable gate.rhs1 < c.args.start = omega (arith, w.if-var-start.true, c.var.ensures.variable) in
           let plain : is_plain gate ≡ true = sym w.is_plain.ensures ∙ w.if-not-is_plain.false in
-          let none : lookup (same_fan_ins gate) c.loop-gate.pairs ≡ None = sym w.find.ensures ∙ none-where w.find.result (sym w.is_some.ensures ∙ w.if-is_some.false) in
+          let none : lookup (same_fan_ins gate) c.loop-gate.pairs ≡ None = none-where (lookup (same_fan_ins gate) c.loop-gate.pairs) (sym w.is_among.ensures ∙ w.if-is_among.false) in
           let P : List (Gate × ℕ) → Type 0 = λ pairs. AreGathered copies c.args.start (k + 1) pairs in
           let pairs_are = w.pairs-is ∙ w.in_ok-add.ensures in
           record {
@@ -50,6 +50,6 @@ returns-then-not-is_plain-clause-no c = λ no.
     let low : variable gate.rhs1 < c.args.start = omega (arith, c.if-var-start.true, c.var.ensures.variable) in
     elim c.then-not-is_plain.branch [
       | then-not-is_plain-via-then-not-is_plain w ↦ by_gate k gate there low (sym c.is_plain.ensures ∙ w.if-not-is_plain.true)
-      | then-not-is_plain-via-else-not-is_plain+then-is_some w ↦
-          spoilt-pair copies c.args.start k gate c.loop-gate.pairs there (ap is_some (sym w.find.ensures) ∙ sym w.is_some.ensures ∙ w.if-is_some.true) c.loop-gate.invariant.gathered
+      | then-not-is_plain-via-else-not-is_plain+then-is_among w ↦
+          spoilt-pair copies c.args.start k gate c.loop-gate.pairs there (sym w.is_among.ensures ∙ w.if-is_among.true) c.loop-gate.invariant.gathered
     ]

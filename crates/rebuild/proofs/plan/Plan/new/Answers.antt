@@ -99,5 +99,4 @@ invariant_of-result c =
       room = c.requires.room;
       variables_are = c.in_ok-variables.ensures;
       later_are = c.in_ok-later.ensures;
-      first_copy_is = omega (arith, latched, members, ap (λ (xs : List Gate). length xs) (c.gates.ensures.value ∙ ap (λ (h : Graph). h.gates) c.aig.ensures), count-both m k.passable, k.first_is, gates_start-is m, copies_start-is m);
     }
