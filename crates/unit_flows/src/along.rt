@@ -3,7 +3,7 @@
 
 use crate::frame::Frame;
 use crate::gate_flow::GateFlow;
-use aig_graph::{Aig, Gate, NoMemory};
+use aig_graph::{Aig, Gate, NoMemory, Reset};
 use std::alloc::Global;
 
 /// Stands for no gate.
@@ -80,8 +80,9 @@ fn goes_through(
     None
 }
 
-/// The gate that takes the unit after a place takes it. Its number.
-fn is_taken(
+/// The gate that takes the unit after a place takes it, and it goes through that gate or through one that it goes down to. The number of that
+/// gate.
+fn goes_on(
     frame: &Frame,
     known: &[GateFlow],
     takers: &[u32],
@@ -95,24 +96,26 @@ fn is_taken(
     let flow = flows.get_mut(taker)?;
     let is_first = literals.rhs1.var().wrapping_sub(aig.first_latch()) as usize == place;
     flow.note_up(!(is_first && told.first_up));
-    Some(taker)
+    if told.through && !flow.through {
+        flow.through = true;
+        return Some(taker);
+    }
+    let next = goes_down(aig, literals, told, flow)?;
+    goes_through(aig, known, flows, next)
 }
 
 /// Sends the unit after a latch as far as it is known to go.
 fn send(frame: &Frame, known: &[GateFlow], takers: &[u32], flows: &mut [GateFlow], latch: usize) {
-    let aig = frame.circuit.aig();
+    let latches = frame.circuit.aig().latches().len();
     let mut place = latch;
     for _ in 0..frame.leaving.len() {
         if frame.leaving.get(place).copied() != Some(false) {
             return;
         }
-        let Some(taker) = is_taken(frame, known, takers, flows, place) else {
+        let Some(gate) = goes_on(frame, known, takers, flows, place) else {
             return;
         };
-        let Some(gate) = goes_through(aig, known, flows, taker) else {
-            return;
-        };
-        place = aig.latches().len().saturating_add(gate);
+        place = latches.saturating_add(gate);
     }
 }
 
@@ -129,9 +132,8 @@ pub(crate) fn flows_along(
     let aig = frame.circuit.aig();
     let takers = takers_of(alloc, frame, known)?;
     let mut flows = vec![in alloc; GateFlow::none(); aig.gates().len()]?;
-    let first = aig.first_latch();
-    for place in 0..aig.latches().len() {
-        if aig.is_known_latch(first.saturating_add(place as u32)) {
+    for (place, latch) in aig.latches().iter().enumerate() {
+        if latch.reset != Reset::Free {
             send(frame, known, takers.as_slice(), flows.as_mut_slice(), place);
         }
     }

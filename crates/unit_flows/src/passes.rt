@@ -14,7 +14,9 @@ use crate::gate_flow::GateFlow;
 use crate::tallies::unit;
 use aig_graph::{Latch, Reset};
 
-/// Whether no gate gives more than it gets, and the marks are a cut at each passable gate.
+/// Whether no gate gives more than it gets, and the marks are a cut at each passable gate. Not inlined, so that the loop has the registers for
+/// itself.
+#[inline(never)]
 pub(crate) fn gates_hold(
     frame: &Frame,
     flows: &[GateFlow],

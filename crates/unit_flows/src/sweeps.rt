@@ -1,5 +1,5 @@
-//! Sweeps over the passable gates, up and down, until none is newly marked: a mark shows above its gate in a sweep up, and below it in a sweep
-//! down. A gate is open until the node before it is marked, and each sweep looks at the open gates alone.
+//! Sweeps over the passable gates, down and up, until none is newly marked: a mark shows below its gate in a sweep down, and above it in a sweep
+//! up. A gate is open until the node before it is marked, and each sweep looks at the open gates alone.
 ghost use Rattle.std.specs.Prelude.{◌≡◌, ◌≤◌, ℕ, List, IfOk, length};
 ghost use Rattle.aig_graph.specs.Graph.{latches_and_gates};
 ghost use Rattle.unit_flows.specs.Marks.{ReachSink};
@@ -20,7 +20,9 @@ pub struct NodeMarks {
     pub after: Vec<bool>,
 }
 
-/// Sees the gates with these numbers, one after another. How many of them stay open: these then come first.
+/// Sees the gates with these numbers, one after another. How many of them stay open: these then come first. Not inlined, so that the loop has
+/// the registers for itself.
+#[inline(never)]
 fn sweep(
     before: &mut [bool],
     after: &mut [bool],
@@ -54,7 +56,7 @@ fn sweep(
     kept
 }
 
-/// Sweeps over the open gates, from the first to the last and back, until none of them is newly marked.
+/// Sweeps over the open gates, which rise, from the last to the first and back, until none of them is newly marked.
 fn settle(
     before: &mut [bool],
     after: &mut [bool],
@@ -71,12 +73,12 @@ fn settle(
     ensures after { length after.new ≡ length after.old }
 {
     for _ in 0..MOST_SWEEPS {
+        open.as_mut_slice().reverse();
         let kept = sweep(before, after, open.as_mut_slice(), frame, flows);
         if kept == open.len() {
             return;
         }
         open.truncate(kept);
-        open.as_mut_slice().reverse();
     }
 }
 

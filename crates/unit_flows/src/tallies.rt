@@ -42,9 +42,8 @@ fn add_ups(went: &mut [u32], first: u32, gate: &Gate, flow: &GateFlow) -> bool
     ensures sum { IsTrue result → (weight : ℕ → ℕ) → weigh first went.new weight
         ≡ weigh first went.old weight + ups weight gate.now flow.now }
 {
-    let smaller = add_units(went, first, gate.rhs1.var(), unit(flow.first_up));
-    let larger = add_units(went, first, gate.rhs0.var(), unit(flow.second_up));
-    smaller && larger
+    add_units(went, first, gate.rhs1.var(), unit(flow.first_up))
+        && add_units(went, first, gate.rhs0.var(), unit(flow.second_up))
 }
 
 /// Adds the units that go on from before a gate to before its fan-ins.
@@ -53,12 +52,12 @@ fn add_downs(came: &mut [u32], first: u32, gate: &Gate, flow: &GateFlow) -> bool
     ensures sum { IsTrue result → (weight : ℕ → ℕ) → weigh first came.new weight
         ≡ weigh first came.old weight + downs weight gate.now flow.now }
 {
-    let smaller = add_units(came, first, gate.rhs1.var(), flow.first_down);
-    let larger = add_units(came, first, gate.rhs0.var(), flow.second_down);
-    smaller && larger
+    add_units(came, first, gate.rhs1.var(), flow.first_down)
+        && add_units(came, first, gate.rhs0.var(), flow.second_down)
 }
 
-/// The tallies of all gates, in tables of zeros. No where units go from or to what has no entry.
+/// The tallies of all gates, in tables of zeros. No where units go from or to what has no entry. Not inlined, for its loop's registers.
+#[inline(never)]
 pub(crate) fn tally(went: &mut [u32], came: &mut [u32], aig: &Aig, flows: &[GateFlow]) -> bool
     requires flows { length flows.now ≡ length aig.now.gates }
     requires went { went.old ≡ replicate (latches_and_gates aig.now) 0 }
@@ -69,10 +68,8 @@ pub(crate) fn tally(went: &mut [u32], came: &mut [u32], aig: &Aig, flows: &[Gate
     let first = aig.first_latch();
     let gates = aig.gates();
     for k in 0..gates.len() {
-        let flow = &flows[k];
-        let ups = add_ups(went, first, &gates[k], flow);
-        let downs = add_downs(came, first, &gates[k], flow);
-        if !(ups && downs) {
+        let (gate, flow) = (&gates[k], &flows[k]);
+        if !add_ups(went, first, gate, flow) || !add_downs(came, first, gate, flow) {
             return false;
         }
     }
