@@ -13,7 +13,7 @@ use crate::forms::{FrameLine, frame_line, gate_line};
 use crate::lines::next_line;
 use crate::words::route_line;
 use aig_graph::Sequence;
-use certificates::Certificate;
+use certificates::{Certificate, Routes};
 use file_words::Lines;
 use frame_net::Point;
 use std::alloc::Global;
@@ -75,34 +75,48 @@ fn read_gates(alloc: Global, lines: &mut Lines<'_>, count: u32) -> Result<Sequen
     Ok(Sequence::from_vec(gates))
 }
 
+/// Takes the line of a route, and adds that route.
+fn add_route(alloc: Global, lines: &mut Lines<'_>, routes: &mut Routes) -> Result<(), CertError>
+    ensures end { lines.new.end ≡ lines.old.end }
+    ensures shorter { length lines.new.rest.now ≤ length lines.old.rest.now }
+    ensures reads { (blocks : List Block) (stated left : ℕ) (gates : List ℕ)
+        → Leads NoMemory (λ _. read_rest lines.new.end lines.new.rest.now
+        (settled blocks (block_of stated gates routes.new) 0 left)) result
+        (read_rest lines.old.end lines.old.rest.now
+        (settled blocks (block_of stated gates routes.old) 0 (suc left))) }
+{
+    let points = next_route(alloc, lines)?;
+    let added = routes.push(points.as_slice());
+    drop(points);
+    match added {
+        Ok(()) => Ok(()),
+        Err(_) => Err(CertError::NoMemory),
+    }
+}
+
 /// Takes the lines of the routes that are left of a block, and adds these routes.
 fn add_routes(
     alloc: Global,
     lines: &mut Lines<'_>,
     count: u32,
-    routes: &mut Vec<Sequence<Point>>,
+    routes: &mut Routes,
 ) -> Result<(), CertError>
     ensures end { lines.new.end ≡ lines.old.end }
     ensures shorter { length lines.new.rest.now ≤ length lines.old.rest.now }
     ensures reads { (blocks : List Block) (stated : ℕ) (gates : List ℕ)
         → Leads NoMemory (λ _. read_rest lines.new.end lines.new.rest.now
-        (closed (blocks ++ block_of stated gates routes.new.items ∷ []))) result
+        (closed (blocks ++ block_of stated gates routes.new ∷ []))) result
         (read_rest lines.old.end lines.old.rest.now
-        (settled blocks (block_of stated gates routes.old.items) 0 count)) }
+        (settled blocks (block_of stated gates routes.old) 0 count)) }
 {
     for _ in 0..count {
-        let route = next_route(alloc, lines)?;
-        routes.push(route)?;
+        add_route(alloc, lines, routes)?;
     }
     Ok(())
 }
 
 /// Takes the lines of the routes. Room is taken as the lines come.
-fn read_routes(
-    alloc: Global,
-    lines: &mut Lines<'_>,
-    count: u32,
-) -> Result<Sequence<Sequence<Point>>, CertError>
+fn read_routes(alloc: Global, lines: &mut Lines<'_>, count: u32) -> Result<Routes, CertError>
     ensures end { lines.new.end ≡ lines.old.end }
     ensures shorter { length lines.new.rest.now ≤ length lines.old.rest.now }
     ensures reads { (blocks : List Block) (stated : ℕ) (gates : List ℕ)
@@ -111,9 +125,9 @@ fn read_routes(
         (read_rest lines.old.end lines.old.rest.now
         (settled blocks (block_of stated gates []) 0 count)) }
 {
-    let mut routes = Vec::new(alloc);
+    let mut routes = Routes::none(alloc);
     match add_routes(alloc, lines, count, &mut routes) {
-        Ok(()) => Ok(Sequence::from_vec(routes)),
+        Ok(()) => Ok(routes),
         Err(fault) => {
             drop(routes);
             Err(fault)

@@ -8,8 +8,7 @@ ghost use Rattle.certificate_files.specs.Texts.{sign_code, point_text, route_tex
 
 use crate::file::CertFile;
 use crate::filling::Line;
-use aig_graph::Sequence;
-use certificates::Certificate;
+use certificates::{Certificate, Routes};
 use counted_io::{Buffered, CountedWrite, WriteError};
 use frame_net::Point;
 use least_sets::Choice;
@@ -55,15 +54,11 @@ fn put_route<W: CountedWrite>(out: &mut Buffered<'_, W>, line: &mut Line, points
     }
 }
 
-fn put_routes<W: CountedWrite>(
-    out: &mut Buffered<'_, W>,
-    line: &mut Line,
-    routes: &[Sequence<Point>],
-)
+fn put_routes<W: CountedWrite>(out: &mut Buffered<'_, W>, line: &mut Line, routes: &Routes)
     ensures { Puts W.output out.old out.new (flat_map route_text routes.now) }
 {
-    for points in routes {
-        put_route(out, line, points.as_slice());
+    for number in 0..routes.len() {
+        put_route(out, line, routes.route(number));
     }
 }
 
@@ -91,7 +86,7 @@ fn put_block<W: CountedWrite>(out: &mut Buffered<'_, W>, line: &mut Line, block:
 {
     put_frame(out, block);
     put_gates(out, line, block.gates.as_slice());
-    put_routes(out, line, block.routes.as_slice());
+    put_routes(out, line, &block.routes);
 }
 
 fn put_blocks<W: CountedWrite>(out: &mut Buffered<'_, W>, blocks: &[Certificate])

@@ -1,9 +1,9 @@
 -- Numbers no two of which are equal, counted.
-use Rattle.std.proofs.Common.{◌≡◌, ℕ, suc, zero, ◌+◌, ◌<◌, ◌≤◌, ◌==◌, Bool, true, false, ◌&&◌, nat_lt, cond, List, [], ◌∷◌, ◌++◌, length, arith, refl, ap, sym, ◌∙◌, inl, inr}
+use Rattle.std.proofs.Common.{◌≡◌, ℕ, suc, zero, ◌+◌, ◌≤◌, ◌==◌, Bool, true, false, ◌&&◌, nat_lt, cond, List, [], ◌∷◌, ◌++◌, arith, refl, ap, sym, ◌∙◌, inl, inr}
 use Rattle.std.specs.List.{count_by, IsDistinct, AllByRecursion}
 use Rattle.std.proofs.lemmas.Bool.{cases_Bool, cond-true, cond-false, eqb-true, eq-eqb, cases_lt, le-ltb, lt-ltb, and_left, and_right}
 use Rattle.variable_tables.specs.Counting.{count_below}
-use Rattle.variable_tables.proofs.PlacesLaws.{count-pass, count-fail, count-zero}
+use Rattle.variable_tables.proofs.PlacesLaws.{count-pass, count-fail}
 use Rattle.variable_tables.proofs.ListLaws.{count_by-cons}
 
 true_false : true ≡ false → ⊥

@@ -1,10 +1,12 @@
--- A list that grows at its end, no two of whose numbers are equal.
-use Rattle.std.proofs.Common.{◌≡◌, ℕ, suc, ◌+◌, ◌-◌, ◌<◌, ◌≤◌, ◌==◌, ◌||◌, ◌&&◌, Bool, true, false, List, [], ◌∷◌, ◌++◌, length, take, drop, drop-cons, slice_index_or, arith, refl, ap, sym, ◌∙◌, subst, inl, inr}
-use Rattle.std.specs.List.{AllByRecursion, IsDistinct, list_any}
+-- Points no two of which are after one variable.
+use Rattle.std.proofs.Common.{◌≡◌, ℕ, suc, ◌+◌, ◌-◌, ◌<◌, ◌≤◌, ◌==◌, ◌||◌, ◌&&◌, Bool, true, false, List, [], ◌∷◌, ◌++◌, length, take, drop, slice_index_or, All, arith, refl, ap, sym, ◌∙◌, subst, inl, inr}
+use Rattle.std.specs.List.{AllByRecursion, IsDistinct}
 use Rattle.std.proofs.lemmas.Bool.{or_cases, or_parts, le-leb}
-use Rattle.std.proofs.lemmas.List.{take-append-drop}
+use Rattle.std.proofs.lemmas.List.Elements.{recursion_from_All}
 use Rattle.variable_tables.specs.Marking.{has, mark_at, Marks}
-use Rattle.certificates.proofs.PassedLaws.{next}
+use Rattle.frame_net.specs.declared.net.Point.{Point}
+use Rattle.certificates.specs.Routes.{passed}
+use Rattle.certificates.proofs.PassedLaws.{passed-more, passed-split}
 
 false_true : false ≡ true → ⊥
 false_true e = absurd (cc)
@@ -34,6 +36,7 @@ distinct-not (y ∷ xs) ys x h d = elim (or_cases (y == x) (has xs x) h) [
   | inr later ↦ distinct-not xs ys x later d.1
 ]
 
+-- a list with one more number at its end has that one too
 has-append : (xs : List ℕ) (x v : ℕ) → has (xs ++ x ∷ []) v ≡ (has xs v || (x == v))
 has-append [] x v = or_nil (x == v)
   where
@@ -45,10 +48,6 @@ has-append (y ∷ xs) x v = ap (λ (b : Bool). (y == v) || b) (has-append xs x v
     assoc : (a b c : Bool) → (a || (b || c)) ≡ ((a || b) || c)
     assoc true b c = refl
     assoc false b c = refl
-
--- the first k and one more
-pub has-more : (vars : List ℕ) (k d v : ℕ) → k < length vars → has (take (k + 1) vars) v ≡ (has (take k vars) v || (slice_index_or vars k d == v))
-has-more vars k d v h = ap (λ (xs : List ℕ). has xs v) (next vars k d h) ∙ has-append (take k vars) (slice_index_or vars k d) v
 
 -- the marks after one more
 pub mark-more : (first : ℕ) (old new : List Bool) (x v : ℕ) → Marks first old new (λ w. x == w) → first ≤ v → v < first + length old → mark_at first new v ≡ (mark_at first old v || (x == v))
@@ -64,14 +63,24 @@ pub distinct-none : IsDistinct (λ v w. v == w) []
 unfolding IsDistinct
 distinct-none = tt
 
--- a number that is there already
-pub distinct-seen : (vars : List ℕ) (k d : ℕ) → k < length vars → has (take k vars) (slice_index_or vars k d) ≡ true → IsDistinct (λ v w. v == w) vars → ⊥
-distinct-seen vars k d h seen all =
-    let parts : vars ≡ take k vars ++ slice_index_or vars k d ∷ drop (suc k) vars = sym (take-append-drop k vars) ∙ ap (λ (xs : List ℕ). take k vars ++ xs) (drop-cons vars k d h) in
-    distinct-not (take k vars) (drop (suc k) vars) (slice_index_or vars k d) seen (subst (λ (xs : List ℕ). IsDistinct (λ v w. v == w) xs) parts all)
+module _ (points : List Point) (k : ℕ) (d : Point) (within : k < length points) (behind : (slice_index_or points k d).behind ≡ true) where
+  abbrev var : ℕ
+  var = (slice_index_or points k d).var
 
--- where the first k variables are different and the next isn't among them, the first k + 1 are
-pub distinct-more : (vars : List ℕ) (k d : ℕ) → k < length vars → IsDistinct (λ v w. v == w) (take k vars) → has (take k vars) (slice_index_or vars k d) ≡ false
-    → IsDistinct (λ v w. v == w) (take (k + 1) vars)
-distinct-more vars k d h all absent =
-    subst (λ (xs : List ℕ). IsDistinct (λ v w. v == w) xs) (sym (next vars k d h)) (distinct-push (take k vars) (slice_index_or vars k d) all absent)
+  -- where the first k points passed a variable that the next one passes, not all variables that are passed are different
+  pub distinct-seen : has (passed (take k points)) var ≡ true → IsDistinct (λ v w. v == w) (passed points) → ⊥
+  distinct-seen seen all =
+      distinct-not (passed (take k points)) (passed (drop (suc k) points)) var seen (subst (λ (xs : List ℕ). IsDistinct (λ v w. v == w) xs) (passed-split points k d within behind) all)
+
+  -- where they didn't, and what they passed are different variables, so are those with one more
+  pub distinct-more : IsDistinct (λ v w. v == w) (passed (take k points)) → has (passed (take k points)) var ≡ false → IsDistinct (λ v w. v == w) (passed (take (k + 1) points))
+  distinct-more all absent =
+      subst (λ (xs : List ℕ). IsDistinct (λ v w. v == w) xs) (sym (passed-more points k d within behind)) (distinct-push (passed (take k points)) var all absent)
+
+  -- the variables of one point more
+  pub has-more : (v : ℕ) → has (passed (take (k + 1) points)) v ≡ (has (passed (take k points)) v || (var == v))
+  has-more v = ap (λ (xs : List ℕ). has xs v) (passed-more points k d within behind) ∙ has-append (passed (take k points)) var v
+
+  -- what holds of all variables that are passed holds of this one
+  pub all-here : (P : ℕ → Type 0) → All P (passed points) → P var
+  all-here P all = all-mid P (passed (take k points)) (passed (drop (suc k) points)) var (recursion_from_All P _ (subst (All P) (passed-split points k d within behind) all))

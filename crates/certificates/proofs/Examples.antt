@@ -1,5 +1,5 @@
 -- Routes of small circuits, computed.
-use Rattle.std.proofs.Common.{◌≡◌, ℕ, [], ◌∷◌, refl, true, false, List, Bool}
+use Rattle.std.proofs.Common.{◌≡◌, ℕ, [], ◌∷◌, refl, true, false}
 use Rattle.aig_graph.specs.declared.graph.Reset.TheVariants.{Zero}
 use Rattle.aig_graph.specs.Circuits.{Netlist, outputs_alone, no_symbols}
 use Rattle.aig_graph.specs.Closed.{is_settled}

@@ -1,13 +1,12 @@
 -- What routes pass are latches and gates.
-use Rattle.std.proofs.Common.{◌≡◌, ℕ, suc, ◌+◌, ◌-◌, ◌<◌, ◌≤◌, Bool, true, false, ◌&&◌, nat_le, List, [], ◌∷◌, ◌++◌, length, replicate, get_or, All, arith, refl, ap, sym, ◌∙◌, subst, inl, inr}
+use Rattle.std.proofs.Common.{◌≡◌, ℕ, suc, ◌-◌, ◌<◌, ◌≤◌, true, false, nat_le, List, [], ◌∷◌, replicate, get_or, All, arith, sym, subst, inl, inr}
 use Rattle.std.proofs.lemmas.Bool.{cases_Bool, cases_lt, or_left, and_right, and_parts}
 use Rattle.std.proofs.lemmas.List.{get_or-replicate, length-replicate, get_or_past}
 use Rattle.std.proofs.lemmas.List.Elements.{All-nil, All-cons, All-append}
 use Rattle.variable_tables.specs.Marking.{mark_at}
-use Rattle.aig_graph.specs.Graph.{Graph, first_latch, variables_end, latch_at, gate_at, is_known}
+use Rattle.aig_graph.specs.Graph.{Graph, first_latch, variables_end, latch_at, is_known}
 use Rattle.aig_graph.specs.Circuits.{Netlist}
 use Rattle.frame_net.specs.declared.net.Point.{Point}
-use Rattle.frame_net.specs.Capacity.{is_observed}
 use Rattle.certificates.specs.Routes.{is_on, begins_at, may_step, goes_on, is_route, passed, all_passed}
 use Rattle.certificates.specs.Verdicts.{AreRoutes}
 use Rattle.certificates.proofs.RouteLaws.{passed-behind, passed-before}

@@ -1,9 +1,8 @@
 -- On each route there is a variable of each closed set's border.
-use Rattle.std.proofs.Common.{◌≡◌, ℕ, suc, zero, ◌+◌, ◌<◌, ◌≤◌, ◌==◌, Bool, true, false, not, ◌&&◌, ◌||◌, nat_lt, cond, IsTrue, is_some, List, [], ◌∷◌, ◌++◌, length, All, Option, Some, None, arith, refl, ap, ap₂, sym, ◌∙◌, subst, inl, inr}
-use Rattle.std.specs.List.{Contains, count_by}
+use Rattle.std.proofs.Common.{◌≡◌, ℕ, suc, ◌+◌, ◌<◌, ◌≤◌, ◌==◌, Bool, true, false, not, ◌&&◌, ◌||◌, nat_lt, cond, IsTrue, is_some, List, [], ◌∷◌, length, Option, Some, None, arith, refl, ap, sym, ◌∙◌, subst, inl, inr}
+use Rattle.std.specs.List.{count_by}
 use Rattle.std.proofs.lemmas.Bool.{cases_Bool, cond-true, cond-false, eqb-true, lt-ltb, and_from, or_cases, or_left, or_right, and_parts, not-true}
 use Rattle.std.proofs.lemmas.Option.{none-some}
-use Rattle.variable_tables.specs.Counting.{count_below}
 use Rattle.variable_tables.specs.Marking.{has}
 use Rattle.variable_tables.proofs.ListLaws.{count_by-cons}
 use Rattle.aig_graph.specs.declared.graph.Gate.{Gate}
@@ -12,18 +11,18 @@ use Rattle.aig_graph.specs.Graph.{variable, variables_end, latch_at, gate_at, is
 use Rattle.aig_graph.specs.Circuits.{Netlist}
 use Rattle.aig_graph.specs.Closed.{is_held, IsClosedSet, IsLatchOrIn}
 use Rattle.aig_graph.specs.Move.{move_of}
-use Rattle.aig_graph.specs.Border.{is_read, border_size, is_read_outside, IsLeast}
+use Rattle.aig_graph.specs.Border.{is_read, border_size, is_read_outside}
 use Rattle.aig_graph.proofs.ClosedBorderLaws.{closed-border_size}
 use Rattle.aig_graph.proofs.SearchLaws.{has_iff_contains}
 use Rattle.aig_graph.proofs.KindLaws.{latch_at-gates, gate_place, latch_place}
 use Rattle.frame_net.specs.declared.net.Point.{Point}
 use Rattle.frame_net.specs.Passable.{is_passable}
 use Rattle.frame_net.specs.Capacity.{gate_reads, is_observed}
-use Rattle.frame_net.proofs.PassableLaws.{gate_cases, passable-means}
+use Rattle.frame_net.proofs.PassableLaws.{passable-means}
 use Rattle.frame_cuts.proofs.ReadLaws.{read-split, read-by_gate}
 use Rattle.frame_cuts.proofs.NetLaws.{gate-range}
 use Rattle.certificates.specs.Routes.{begins_at, passes, enters, returns_to, may_step, goes_on, is_route, passed, all_passed}
-use Rattle.certificates.specs.Verdicts.{AreRoutes, AreApart, ShowsLeast, LeastLaw, YesLaw}
+use Rattle.certificates.specs.Verdicts.{AreRoutes, AreApart, LeastLaw, YesLaw}
 use Rattle.certificates.proofs.ApartLaws.{count-le, count-none, count-distinct, count-append}
 
 true_false : true ≡ false → ⊥

@@ -1,6 +1,6 @@
 -- What a walk through points keeps.
-use Rattle.std.proofs.Common.{◌≡◌, ℕ, suc, ◌+◌, ◌<◌, ◌≤◌, ◌==◌, Bool, true, false, not, ◌&&◌, ◌||◌, is_some, List, [], ◌∷◌, length, slice_index_or, drop, drop-cons, Option, Some, None, arith, refl, ap, sym, ◌∙◌, subst, inl, inr}
-use Rattle.std.proofs.lemmas.Bool.{cases_Bool, eqb-true, and_from, and_left, or_cases, or_left, or_right, and_parts}
+use Rattle.std.proofs.Common.{◌≡◌, ℕ, suc, ◌+◌, ◌<◌, ◌≤◌, ◌==◌, Bool, true, false, not, ◌&&◌, ◌||◌, is_some, List, ◌∷◌, length, slice_index_or, drop, drop-cons, Option, Some, None, arith, refl, ap, sym, ◌∙◌, subst, inl, inr}
+use Rattle.std.proofs.lemmas.Bool.{eqb-true, and_left, or_cases, or_right, and_parts}
 use Rattle.std.proofs.lemmas.List.{drop_all}
 use Rattle.variable_tables.specs.Marking.{mark_at}
 use Rattle.variable_tables.specs.Tables.{table}
@@ -15,7 +15,6 @@ use Rattle.frame_net.specs.declared.net.Point.{Point}
 use Rattle.frame_net.specs.declared.pass_set.PassSet.{PassSet}
 use Rattle.frame_net.specs.Passable.{is_passable, IsPassSet}
 use Rattle.frame_net.specs.Capacity.{is_observed}
-use Rattle.frame_net.proofs.PassableLaws.{passable-means}
 use Rattle.certificates.specs.Routes.{is_on, passes, enters, returns_to, may_step, goes_on}
 use Rattle.certificates.proofs.RouteLaws.{four_parts}
 

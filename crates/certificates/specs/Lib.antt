@@ -1,3 +1,4 @@
 pub mod Routes
 pub mod Verdicts
 pub mod Objections
+pub mod Parts

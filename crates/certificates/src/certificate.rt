@@ -1,8 +1,5 @@
+use crate::routes::Routes;
 use aig_graph::Sequence;
-use frame_net::Point;
-
-/// Each route is a list of points, from after a known latch to after a variable that is read from outside.
-pub type Routes = Sequence<Sequence<Point>>;
 
 /// A set of gates, what its border is said to hold, and routes that are said to show that no closed set has a smaller one. It is
 /// whatever its maker put in: `check` judges it.

@@ -8,12 +8,13 @@ ghost use Rattle.frame_net.specs.Passable.{IsPassSet};
 ghost use Rattle.frame_net.specs.Capacity.{is_observed};
 ghost use Rattle.certificates.specs.Verdicts.{AreApart, AreRoutes, IsVerdict};
 
-use crate::apart::{are_distinct, passed_by};
+use crate::apart::are_distinct;
 use crate::certificate::Certificate;
+use crate::routes::Routes;
 use crate::verdict::{Objection, Verdict};
 use crate::walk::is_route;
-use aig_graph::{Circuit, ClosedSet, Keep, NoMemory, Sequence, count, is_closed};
-use frame_net::{PassSet, Point, leaving_marks, passable};
+use aig_graph::{Circuit, ClosedSet, Keep, NoMemory, count, is_closed};
+use frame_net::{PassSet, leaving_marks, passable};
 use std::alloc::Global;
 
 /// The gates as a closed set of the circuit, where they are one.
@@ -41,7 +42,7 @@ fn all_routes(
     keep: &Keep,
     pass: &PassSet,
     leaving: &[bool],
-    routes: &[Sequence<Point>],
+    routes: &Routes,
 ) -> bool
     requires pass { IsPassSet circuit.now.aig keep.now pass.now }
     requires leaving { leaving.now ≡ table (first_latch circuit.now.aig)
@@ -49,27 +50,12 @@ fn all_routes(
         keep.now) }
     ensures { IsTrue result ↔ AreRoutes circuit.now keep.now routes.now }
 {
-    for route in routes {
-        if !is_route(circuit, keep, pass, leaving, route.as_slice()) {
+    for number in 0..routes.len() {
+        if !is_route(circuit, keep, pass, leaving, routes.route(number)) {
             return false;
         }
     }
     true
-}
-
-/// Whether each list of points is a route of the circuit.
-fn are_routes(
-    alloc: Global,
-    circuit: &Circuit,
-    keep: &Keep,
-    routes: &[Sequence<Point>],
-) -> Result<bool, NoMemory>
-    ensures { IfOk result (λ are. IsTrue are ↔ AreRoutes circuit.now keep.now routes.now) }
-{
-    let aig = circuit.aig();
-    let pass = passable(alloc, aig, keep)?;
-    let leaving = leaving_marks(alloc, aig, circuit.props(), &pass, keep)?;
-    Ok(all_routes(circuit, keep, &pass, leaving.as_slice(), routes))
 }
 
 /// Whether routes of the circuit are apart from one another.
@@ -77,32 +63,42 @@ fn are_apart(
     alloc: Global,
     circuit: &Circuit,
     keep: &Keep,
-    routes: &[Sequence<Point>],
+    routes: &Routes,
 ) -> Result<bool, NoMemory>
     requires { AreRoutes circuit.now keep.now routes.now }
     ensures { IfOk result (λ are. IsTrue are ↔ AreApart routes.now) }
 {
     let aig = circuit.aig();
     let _keep = keep;
-    let vars = passed_by(alloc, routes)?;
     let mut marks = vec![in alloc; false; aig.latches_and_gates()]?;
-    Ok(are_distinct(marks.as_mut_slice(), aig.first_latch(), vars.as_slice()))
+    Ok(are_distinct(marks.as_mut_slice(), aig.first_latch(), routes.points()))
 }
 
-/// What the routes and the count of a closed set are worth.
-fn verdict_of(
+/// What a certificate of a closed set is worth, by the circuit's passable gates and by marks of what is read from outside them: `Yes`, or the
+/// first test of the routes and the counts that it fails. Linear in the circuit and in the points of the routes.
+///
+/// # Errors
+///
+/// `NoMemory` where a table is refused.
+pub fn check_closed(
     alloc: Global,
     circuit: &Circuit,
-    certificate: &Certificate,
-    set: &ClosedSet,
     keep: &Keep,
+    pass: &PassSet,
+    leaving: &[bool],
+    set: &ClosedSet,
+    certificate: &Certificate,
 ) -> Result<Verdict, NoMemory>
+    requires pass { IsPassSet circuit.now.aig keep.now pass.now }
+    requires leaving { leaving.now ≡ table (first_latch circuit.now.aig)
+        (latches_and_gates circuit.now.aig) (is_observed circuit.now.aig circuit.now.props
+        keep.now) }
     requires set { set.now ≡ certificate.now.gates }
     requires closed { IsClosedSet circuit.now.aig keep.now set.now }
     ensures { IfOk result (λ verdict. IsVerdict circuit.now keep.now certificate.now verdict) }
 {
-    let routes = certificate.routes.as_slice();
-    if !are_routes(alloc, circuit, keep, routes)? {
+    let routes = &certificate.routes;
+    if !all_routes(circuit, keep, pass, leaving, routes) {
         return Ok(Verdict::No(Objection::BadRoute));
     }
     if !are_apart(alloc, circuit, keep, routes)? {
@@ -114,6 +110,32 @@ fn verdict_of(
     } else {
         Ok(Verdict::No(Objection::CountDiffers))
     }
+}
+
+/// What a certificate of a closed set is worth.
+fn verdict_of(
+    alloc: Global,
+    circuit: &Circuit,
+    keep: &Keep,
+    set: &ClosedSet,
+    certificate: &Certificate,
+) -> Result<Verdict, NoMemory>
+    requires set { set.now ≡ certificate.now.gates }
+    requires closed { IsClosedSet circuit.now.aig keep.now set.now }
+    ensures { IfOk result (λ verdict. IsVerdict circuit.now keep.now certificate.now verdict) }
+{
+    let aig = circuit.aig();
+    let pass = passable(alloc, aig, keep)?;
+    let leaving = leaving_marks(alloc, aig, circuit.props(), &pass, keep)?;
+    check_closed(
+        alloc,
+        circuit,
+        keep,
+        &pass,
+        leaving.as_slice(),
+        set,
+        certificate,
+    )
 }
 
 /// What a certificate is worth for a circuit with these latches held: `Yes`, or the first test that it fails. Linear in the circuit and
@@ -131,7 +153,7 @@ pub fn check(
     ensures { IfOk result (λ verdict. IsVerdict circuit.now keep.now certificate.now verdict) }
 {
     match closed_set(alloc, circuit, certificate.gates.as_slice(), keep)? {
-        Some(set) => verdict_of(alloc, circuit, certificate, &set, keep),
+        Some(set) => verdict_of(alloc, circuit, keep, &set, certificate),
         None => Ok(Verdict::No(Objection::NotClosed)),
     }
 }

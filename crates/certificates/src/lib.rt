@@ -8,11 +8,13 @@ ghost use Rattle.certificates.specs.Verdicts.{LeastLaw, YesLaw};
 mod apart;
 mod certificate;
 mod judging;
+mod routes;
 mod verdict;
 mod walk;
 
-pub use certificate::{Certificate, Routes};
-pub use judging::check;
+pub use certificate::Certificate;
+pub use judging::{check, check_closed};
+pub use routes::Routes;
 pub use verdict::{Objection, Verdict};
 
 /// A closed set whose border has as many variables as there are routes apart from one another is least.

@@ -1,11 +1,17 @@
 //! The certificate of a set that a flow of units shows, by the routes of these units.
-ghost use Rattle.std.specs.Prelude.{◌≡◌, IfOk, IsTrue, false};
+ghost use Rattle.std.specs.Prelude.{◌≡◌, IfOk, IsTrue, true, false};
+ghost use Rattle.variable_tables.specs.Tables.{table};
+ghost use Rattle.aig_graph.specs.Graph.{first_latch, latches_and_gates};
+ghost use Rattle.aig_graph.specs.Closed.{IsClosedSet};
+ghost use Rattle.frame_net.specs.Passable.{IsPassSet};
+ghost use Rattle.frame_net.specs.Capacity.{is_observed};
 ghost use Rattle.chosen_cuts.specs.Certified.{AddsOne, AddsNone};
 
 use crate::following::routes_of_units;
 use crate::records::Records;
 use aig_graph::{Circuit, ClosedSet, Keep, NoMemory, Sequence};
-use certificates::{Certificate, Routes};
+use certificates::{Certificate, check_closed};
+use frame_net::{PassSet, leaving_marks, passable};
 use gate_flows::GateFlow;
 use std::alloc::Global;
 
@@ -19,29 +25,20 @@ fn members(alloc: Global, set: &ClosedSet) -> Result<Sequence<u32>, NoMemory>
     Ok(Sequence::from_vec(gates))
 }
 
-/// How many routes there are.
-fn number_of(routes: &Routes) -> u32 {
-    let mut number = 0u32;
-    for _route in routes.as_slice() {
-        number = number.saturating_add(1);
-    }
-    number
-}
-
 /// What the units of a flow are to show of a set: its gates, and as many as its border has variables there are routes.
 fn claim(
     alloc: Global,
     circuit: &Circuit,
-    keep: &Keep,
+    leaving: &[bool],
     set: &ClosedSet,
     flows: &[GateFlow],
 ) -> Result<Certificate, NoMemory>
     ensures { IfOk result (λ cert. cert.gates ≡ set.now) }
 {
-    let routes = routes_of_units(alloc, circuit, keep, flows)?;
+    let routes = routes_of_units(alloc, circuit, leaving, flows)?;
     match members(alloc, set) {
         Ok(gates) => Ok(Certificate {
-            count: number_of(&routes),
+            count: routes.len().min(u32::MAX as usize) as u32,
             gates,
             routes,
         }),
@@ -52,7 +49,38 @@ fn claim(
     }
 }
 
-/// Where certificates are wanted, one of a set is added by the routes of the units of the records' flows. Whether it passes all tests, or none
+/// Adds the certificate of a closed set by the routes of the units of the records' flows, by the circuit's passable gates and marks of what is
+/// read from outside them. Whether it passes all tests; else nothing changes. Certificates are wanted.
+fn certify_leaving(
+    alloc: Global,
+    circuit: &Circuit,
+    keep: &Keep,
+    pass: &PassSet,
+    leaving: &[bool],
+    set: &ClosedSet,
+    records: &mut Records,
+) -> Result<bool, NoMemory>
+    requires wanted { records.old.certify ≡ true }
+    requires pass { IsPassSet circuit.now.aig keep.now pass.now }
+    requires leaving { leaving.now ≡ table (first_latch circuit.now.aig)
+        (latches_and_gates circuit.now.aig) (is_observed circuit.now.aig circuit.now.props
+        keep.now) }
+    requires closed { IsClosedSet circuit.now.aig keep.now set.now }
+    ensures adds { IfOk result (λ done. IsTrue done
+        → AddsOne circuit.now keep.now records.old records.new set.now) }
+    ensures kept { IfOk result (λ done. done ≡ false → AddsNone records.old records.new) }
+{
+    let certificate = claim(alloc, circuit, leaving, set, records.flows.as_slice())?;
+    match check_closed(alloc, circuit, keep, pass, leaving, set, &certificate) {
+        Ok(verdict) => records.add_judged(certificate, verdict),
+        Err(error) => {
+            drop(certificate);
+            Err(error)
+        }
+    }
+}
+
+/// Where certificates are wanted, one of a closed set is added by the routes of the units of the records' flows. Whether it passes all tests, or none
 /// is wanted; else nothing changes.
 ///
 /// # Errors
@@ -65,6 +93,7 @@ pub(crate) fn certify_by_units(
     set: &ClosedSet,
     records: &mut Records,
 ) -> Result<bool, NoMemory>
+    requires { IsClosedSet circuit.now.aig keep.now set.now }
     ensures adds { IfOk result (λ done. IsTrue done
         → AddsOne circuit.now keep.now records.old records.new set.now) }
     ensures kept { IfOk result (λ done. done ≡ false → AddsNone records.old records.new) }
@@ -72,6 +101,16 @@ pub(crate) fn certify_by_units(
     if !records.certify {
         return Ok(true);
     }
-    let certificate = claim(alloc, circuit, keep, set, records.flows.as_slice())?;
-    records.add_checked(alloc, circuit, keep, certificate)
+    let aig = circuit.aig();
+    let pass = passable(alloc, aig, keep)?;
+    let leaving = leaving_marks(alloc, aig, circuit.props(), &pass, keep)?;
+    certify_leaving(
+        alloc,
+        circuit,
+        keep,
+        &pass,
+        leaving.as_slice(),
+        set,
+        records,
+    )
 }

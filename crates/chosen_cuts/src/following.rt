@@ -2,9 +2,9 @@
 //!
 //! What is made here are hints. Whether these are routes, apart from one another, and as many as a certificate takes, its check tells.
 
-use aig_graph::{Aig, Circuit, Keep, NoMemory, Sequence};
+use aig_graph::{Aig, Circuit, NoMemory};
 use certificates::Routes;
-use frame_net::{Point, leaving_marks, passable};
+use frame_net::Point;
 use gate_flows::GateFlow;
 use std::alloc::Global;
 
@@ -24,7 +24,7 @@ enum Step {
 struct Ways<'a> {
     aig: &'a Aig,
     flows: &'a [GateFlow],
-    leaving: Vec<bool>,
+    leaving: &'a [bool],
     takers: Vec<u32>,
     followed: Vec<u32>,
 }
@@ -52,24 +52,14 @@ fn takers_of(alloc: Global, aig: &Aig, flows: &[GateFlow]) -> Result<Vec<u32>, N
     Ok(takers)
 }
 
-/// Marks of what is held or read from outside the passable gates, from the first latch on.
-fn leaving_of(alloc: Global, circuit: &Circuit, keep: &Keep) -> Result<Vec<bool>, NoMemory> {
-    let pass = passable(alloc, circuit.aig(), keep)?;
-    let leaving = leaving_marks(alloc, circuit.aig(), circuit.props(), &pass, keep);
-    drop(pass);
-    leaving
-}
-
 impl<'a> Ways<'a> {
     /// No unit has been followed.
     fn new(
         alloc: Global,
-        circuit: &'a Circuit,
-        keep: &Keep,
+        aig: &'a Aig,
+        leaving: &'a [bool],
         flows: &'a [GateFlow],
     ) -> Result<Ways<'a>, NoMemory> {
-        let aig = circuit.aig();
-        let leaving = leaving_of(alloc, circuit, keep)?;
         let takers = takers_of(alloc, aig, flows)?;
         let followed = vec![in alloc; 0u32; aig.gates().len()]?;
         Ok(Ways {
@@ -155,31 +145,23 @@ impl<'a> Ways<'a> {
     }
 }
 
-/// A list of just these points.
-fn route_of(alloc: Global, trail: &[Point]) -> Result<Sequence<Point>, NoMemory> {
-    let mut points = Vec::with_capacity(alloc, trail.len())?;
-    points.extend_from_slice(trail)?;
-    Ok(Sequence::from_vec(points))
-}
-
 /// Appends the routes of all units that leave.
 fn push_routes(
-    alloc: Global,
     ways: &mut Ways,
     trail: &mut Vec<Point>,
-    routes: &mut Vec<Sequence<Point>>,
+    routes: &mut Routes,
 ) -> Result<(), NoMemory> {
     let first = ways.aig.first_latch();
     for latch in 0..ways.latches() {
         let is_known = ways.aig.is_known_latch(first.saturating_add(latch));
         if is_known && ways.follow(latch, trail)? {
-            routes.push(route_of(alloc, trail.as_slice())?)?;
+            routes.push(trail.as_slice())?;
         }
     }
     Ok(())
 }
 
-/// The routes of all units of a flow that leave: 8 bytes a latch and 8 a gate, and the points of the routes.
+/// The routes of all units of a flow that leave, by marks of what leaves: 4 bytes a latch and 8 a gate, and the points of the routes.
 ///
 /// # Errors
 ///
@@ -187,12 +169,13 @@ fn push_routes(
 pub(crate) fn routes_of_units(
     alloc: Global,
     circuit: &Circuit,
-    keep: &Keep,
+    leaving: &[bool],
     flows: &[GateFlow],
 ) -> Result<Routes, NoMemory> {
-    let mut ways = Ways::new(alloc, circuit, keep, flows)?;
+    let aig = circuit.aig();
+    let mut ways = Ways::new(alloc, aig, leaving, flows)?;
     let mut trail = Vec::new(alloc);
-    let mut routes = Vec::with_capacity(alloc, circuit.aig().known_latches() as usize)?;
-    push_routes(alloc, &mut ways, &mut trail, &mut routes)?;
-    Ok(Sequence::from_vec(routes))
+    let mut routes = Routes::with_room(alloc, aig.known_latches() as usize)?;
+    push_routes(&mut ways, &mut trail, &mut routes)?;
+    Ok(routes)
 }

@@ -1,6 +1,7 @@
 //! From a circuit to its chosen least set: by a flow of units that shows it, whose units' ways are the routes of a certificate; or by network,
 //! maximum preflow, and of that either the far side, or the near side of the routes that its units take.
 ghost use Rattle.std.specs.Prelude.{IfOk, IfSome, MatchOption, ◌≡◌};
+ghost use Rattle.aig_graph.specs.Closed.{IsClosedSet};
 ghost use Rattle.aig_graph.specs.Border.{IsGreatestLeast, IsLeast, IsSmallestLeast};
 ghost use Rattle.chosen_cuts.specs.Certified.{AddsOne, AddsNone};
 ghost use Rattle.cut_cert.specs.Shown.{AreLeastRoutes};
@@ -151,6 +152,7 @@ fn certified(
     set: ClosedSet,
     records: &mut Records,
 ) -> Result<Option<ClosedSet>, NoMemory>
+    requires { IsClosedSet circuit.now.aig keep.now set }
     ensures set { IfOk result (λ shown. IfSome shown (λ same. same ≡ set)) }
     ensures certificate { IfOk result (λ shown. MatchOption shown (AddsNone records.old records.new)
         (AddsOne circuit.now keep.now records.old records.new)) }

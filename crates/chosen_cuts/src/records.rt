@@ -1,7 +1,7 @@
 //! What a run keeps from circuit to circuit: flows, memory, and the certificates of the sets that were found.
 
 use aig_graph::{Circuit, ClosedSet, Keep, NoMemory};
-use certificates::{Certificate, Routes, Verdict, check};
+use certificates::{Certificate, Routes, Verdict};
 use cut_cert::certificate_of;
 use frame_net::Tables;
 use gate_flows::GateFlow;
@@ -25,7 +25,10 @@ pub struct Records {
 
 impl Records {
     ghost use Rattle.std.specs.Prelude.{◌≡◌, [], IfOk, OnOk, IsTrue, true, false};
+    ghost use Rattle.std.specs.Prelude.{ℕ, List};
+    ghost use Rattle.aig_graph.specs.Circuits.{Netlist};
     ghost use Rattle.aig_graph.specs.Border.{IsLeast};
+    ghost use Rattle.certificates.specs.Verdicts.{IsVerdict};
     ghost use Rattle.cut_cert.specs.Shown.{AreLeastRoutes};
     ghost use Rattle.chosen_cuts.specs.Certified.{AddsOne, AddsNone};
 
@@ -63,31 +66,26 @@ impl Records {
         Ok(())
     }
 
-    /// Adds a certificate where it passes all tests, whoever made it. Whether it does; else nothing changes. Certificates are wanted.
-    pub(crate) fn add_checked(
+    /// Adds a certificate where its verdict is `Yes`. Whether it is; else nothing changes. Certificates are wanted.
+    pub(crate) fn add_judged(
         &mut self,
-        alloc: Global,
-        circuit: &Circuit,
-        keep: &Keep,
         certificate: Certificate,
+        verdict: Verdict,
     ) -> Result<bool, NoMemory>
-        requires wanted { self.old.certify ≡ true }
-        ensures adds { IfOk result (λ passes. IsTrue passes
-            → AddsOne circuit.now keep.now self.old self.new certificate.gates) }
+        requires { self.old.certify ≡ true }
+        ensures adds { (c : Netlist) (held : List ℕ) → IsVerdict c held certificate verdict
+            → IfOk result (λ passes. IsTrue passes
+            → AddsOne c held self.old self.new certificate.gates) }
         ensures kept { IfOk result (λ passes. passes ≡ false → AddsNone self.old self.new) }
     {
-        match check(alloc, circuit, &certificate, keep) {
-            Ok(Verdict::Yes) => {
+        match verdict {
+            Verdict::Yes => {
                 self.certificates.push(certificate)?;
                 Ok(true)
             }
-            Ok(Verdict::No(_)) => {
+            Verdict::No(_) => {
                 drop(certificate);
                 Ok(false)
-            }
-            Err(error) => {
-                drop(certificate);
-                Err(error)
             }
         }
     }

@@ -6,8 +6,9 @@ ghost use Rattle.cut_cert.specs.Shown.{AreLeastRoutesOf};
 use crate::carried::{carried_by_arcs, first_places, incoming};
 use crate::trail::no_marks;
 use crate::walk::next_route;
-use aig_graph::{NoMemory, Sequence};
-use frame_net::{Net, Point};
+use aig_graph::NoMemory;
+use certificates::Routes;
+use frame_net::Net;
 use pulse::MaxPreflow;
 use std::alloc::Global;
 
@@ -17,11 +18,7 @@ use std::alloc::Global;
 /// # Errors
 ///
 /// `NoMemory` where a table or a route is refused.
-pub fn routes(
-    alloc: Global,
-    net: &Net,
-    preflow: &MaxPreflow,
-) -> Result<Sequence<Sequence<Point>>, NoMemory>
+pub fn routes(alloc: Global, net: &Net, preflow: &MaxPreflow) -> Result<Routes, NoMemory>
     requires { IsMaxPreflow net.now preflow.now }
     ensures { IfOk result (AreLeastRoutesOf net.now) }
 {
@@ -30,7 +27,7 @@ pub fn routes(
     let mut marks = no_marks(alloc, nodes)?;
     let mut places = first_places(alloc, nodes)?;
     let mut carried = carried_by_arcs(alloc, net, preflow)?;
-    let mut routes = Vec::new(alloc);
+    let mut routes = Routes::none(alloc);
     let mut place = 0;
     while let Some(end) = incoming(net, carried.as_slice(), 1, place) {
         let route = next_route(
@@ -41,8 +38,8 @@ pub fn routes(
             marks.as_mut_slice(),
             end,
         )?;
-        routes.push(Sequence::from_vec(route))?;
+        routes.push(route.as_slice())?;
         place = end;
     }
-    Ok(Sequence::from_vec(routes))
+    Ok(routes)
 }

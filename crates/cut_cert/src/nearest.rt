@@ -6,8 +6,9 @@ ghost use Rattle.cut_cert.specs.Shown.{IsSmallestLeastBy};
 
 use crate::source_side::source_side;
 use crate::used_arcs::used_arcs;
-use aig_graph::{ClosedSet, NoMemory, Sequence};
-use frame_net::{Net, Point};
+use aig_graph::{ClosedSet, NoMemory};
+use certificates::Routes;
+use frame_net::Net;
 use std::alloc::Global;
 
 /// The gate with this node before it, where the node is marked.
@@ -47,15 +48,11 @@ fn gates_of(alloc: Global, net: &Net, marks: &[bool]) -> Result<Vec<u32>, NoMemo
 /// # Errors
 ///
 /// `NoMemory` where a table or the list of gates is refused.
-pub fn near_cut(
-    alloc: Global,
-    net: &Net,
-    routes: &Sequence<Sequence<Point>>,
-) -> Result<ClosedSet, NoMemory>
+pub fn near_cut(alloc: Global, net: &Net, routes: &Routes) -> Result<ClosedSet, NoMemory>
     ensures { IfOk result (IsSmallestLeastBy net.now routes.now) }
 {
     net.known();
-    let used = used_arcs(alloc, net, routes.as_slice())?;
+    let used = used_arcs(alloc, net, routes)?;
     let side = source_side(alloc, net, used.as_slice())?;
     let gates = gates_of(alloc, net, side.as_slice())?;
     match ClosedSet::new(gates) {

@@ -4,7 +4,8 @@ ghost use Rattle.frame_net.specs.FlowNet.{node_count, row_len, head, start, poin
 ghost use Rattle.cut_cert.specs.Steps.{PointsRise, IsWay, Adds, AreUsed};
 
 use crate::lookup::place_of;
-use aig_graph::{NoMemory, Sequence};
+use aig_graph::NoMemory;
+use certificates::Routes;
 use frame_net::{Net, Point};
 use std::alloc::Global;
 
@@ -43,13 +44,13 @@ fn mark_route(net: &Net, used: &mut [bool], route: &[Point])
 }
 
 /// Marks the arcs over which the routes go.
-fn mark_routes(net: &Net, used: &mut [bool], routes: &[Sequence<Point>])
+fn mark_routes(net: &Net, used: &mut [bool], routes: &Routes)
     requires long { length used.old ≡ length net.now.heads }
     requires none { used.old ≡ replicate (length net.now.heads) false }
     ensures { AreUsed net.now routes.now used.new }
 {
-    for route in routes {
-        mark_route(net, used, route.as_slice());
+    for number in 0..routes.len() {
+        mark_route(net, used, routes.route(number));
     }
 }
 
@@ -62,11 +63,7 @@ pub(crate) fn no_marks(alloc: Global, count: usize) -> Result<Vec<bool>, NoMemor
 }
 
 /// Marks of the arcs over which the routes go from the source, up to their last points.
-pub(crate) fn used_arcs(
-    alloc: Global,
-    net: &Net,
-    routes: &[Sequence<Point>],
-) -> Result<Vec<bool>, NoMemory>
+pub(crate) fn used_arcs(alloc: Global, net: &Net, routes: &Routes) -> Result<Vec<bool>, NoMemory>
     ensures { IfOk result (λ used. AreUsed net.now routes.now used.items) }
 {
     let mut used = no_marks(alloc, net.arcs())?;

@@ -14,10 +14,7 @@ use std::thread::Threads;
 
 /// Whether this is one route, of three points.
 fn is_one_of_three(found: &Routes) -> bool {
-    match found.as_slice() {
-        [route] => route.len() == 3,
-        _ => false,
-    }
+    found.len() == 1 && found.route(0).len() == 3
 }
 
 /// Whether there is one route, of three points.

@@ -8,6 +8,6 @@ abbrev pub invariant-loop : goal.invariant-loop
 invariant-loop l = record {
   end : l.lines.end ≡ l.fn.lines.end;
   shorter : length l.lines.rest.now ≤ length l.fn.lines.rest.now;
-  reads : (blocks : List Block) (stated : ℕ) (gates : List ℕ) → read_rest l.fn.lines.end l.fn.lines.rest.now (settled blocks (block_of stated gates l.fn.routes.items) 0 l.count)
-      ≡ read_rest l.lines.end l.lines.rest.now (settled blocks (block_of stated gates l.routes.items) 0 (l.count - l.counter));
+  reads : (blocks : List Block) (stated : ℕ) (gates : List ℕ) → read_rest l.fn.lines.end l.fn.lines.rest.now (settled blocks (block_of stated gates l.fn.routes) 0 l.count)
+      ≡ read_rest l.lines.end l.lines.rest.now (settled blocks (block_of stated gates l.routes) 0 (l.count - l.counter));
 }

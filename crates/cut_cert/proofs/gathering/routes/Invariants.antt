@@ -6,7 +6,7 @@ use Rattle.cut_cert.proofs.gathering.routes.Given as goal
 
 abbrev pub invariant-loop-end : goal.invariant-loop-end
 invariant-loop-end l = record {
-  gathering : Gathering l.net l.preflow l.carried.items l.routes.items l.place;
+  gathering : Gathering l.net l.preflow l.carried.items l.routes l.place;
   searched : AreSearched l.net l.carried.items l.places.items;
   clear : AreOn (node_count l.net) l.marks.items [];
 }
