@@ -81,10 +81,10 @@ in-cons xs w (suc j) v e = inr (j, e)
 module _ (g : Graph) (p : Props) (held : List ℕ) where
   -- ---- variables that each set holds
 
-  module _ (IsLater : ℕ → Type 0) where
+  module _ (IsReadLater : ℕ → Type 0) where
     -- a variable that every set holds is marked, and waits
-    sweeps-new : (r : Front) (w : ℕ) → Sweeps g p held IsLater r → ((s : ℕ → Bool) → HoldsReads g p held s → s w ≡ true) → r.first ≤ w → w < front_end r
-        → Sweeps g p held IsLater (reach_new r w)
+    sweeps-new : (r : Front) (w : ℕ) → Sweeps g p held IsReadLater r → ((s : ℕ → Bool) → HoldsReads g p held s → s w ≡ true) → r.first ≤ w → w < front_end r
+        → Sweeps g p held IsReadLater (reach_new r w)
     sweeps-new r w sweep owed from h = record {
       first = sweep.first;
       latches = sweep.latches;
@@ -110,15 +110,15 @@ module _ (g : Graph) (p : Props) (held : List ℕ) where
     }
 
     -- one that is read later anyway is marked alone
-    sweeps-mark : (r : Front) (w : ℕ) → Sweeps g p held IsLater r → IsLater w → ((s : ℕ → Bool) → HoldsReads g p held s → s w ≡ true) → r.first ≤ w → w < front_end r
-        → Sweeps g p held IsLater (mark r w)
+    sweeps-mark : (r : Front) (w : ℕ) → Sweeps g p held IsReadLater r → IsReadLater w → ((s : ℕ → Bool) → HoldsReads g p held s → s w ≡ true) → r.first ≤ w → w < front_end r
+        → Sweeps g p held IsReadLater (mark r w)
     sweeps-mark r w sweep later owed from h = record {
       first = sweep.first;
       latches = sweep.latches;
       as_long = omega (arith, length-set r.marks (w - r.first) true, sweep.as_long);
       waiting = λ i v e. new-marks r w from h v (sweep.waiting i v e);
       pending = λ v e. elim (new-cases r w from h v e) [
-        | inl same ↦ inr (inl (subst IsLater (sym same) later))
+        | inl same ↦ inr (inl (subst IsReadLater (sym same) later))
         | inr before ↦ elim (sweep.pending v before) [
           | inl waits ↦ inl waits
           | inr rest ↦ elim rest [
@@ -136,12 +136,12 @@ module _ (g : Graph) (p : Props) (held : List ℕ) where
     -- what reaching keeps, and what it adds
     pub record Goes (r s : Front) : Type 0 where
       -- what is marked waits, or is read later, or was read
-      pub sweeps : Sweeps g p held IsLater s
+      pub sweeps : Sweeps g p held IsReadLater s
       -- marks have grown
       pub grows : Grows r s
 
-    goes-same : (r s : Front) → Sweeps g p held IsLater r → s ≡ r → Goes r s
-    goes-same r s sweep e = let P : Front → Type 0 = λ t. Sweeps g p held IsLater t in record { sweeps = subst P (sym e) sweep; grows = grows-same r s e }
+    goes-same : (r s : Front) → Sweeps g p held IsReadLater r → s ≡ r → Goes r s
+    goes-same r s sweep e = let P : Front → Type 0 = λ t. Sweeps g p held IsReadLater t in record { sweeps = subst P (sym e) sweep; grows = grows-same r s e }
 
     marked-same : (r s : Front) (v : ℕ) → s ≡ r → is_marked r v ≡ true → is_marked s v ≡ true
     marked-same r s v e m = ap (λ (t : Front). is_marked t v) e ∙ m
@@ -150,7 +150,8 @@ module _ (g : Graph) (p : Props) (held : List ℕ) where
     abbrev pub StepGoes : Front → ℕ → Front → Type 0
     StepGoes r v s = Goes r s × (stays g (is_marked s) v ≡ true)
 
-    pub reach-goes : (r : Front) (lit : ℕ) → Sweeps g p held IsLater r → IsOwed g p held lit → IsLiteralOf g lit → StepGoes r (variable lit) (reach r (variable lit))
+    -- reaching a literal that each set has is such a step
+    pub reach-goes : (r : Front) (lit : ℕ) → Sweeps g p held IsReadLater r → IsOwed g p held lit → IsLiteralOf g lit → StepGoes r (variable lit) (reach r (variable lit))
     reach-goes r lit sweep owed within = elim (cases_lt (variable lit) r.first) [
       | inl low ↦ (goes-same r (reach r (variable lit)) sweep (reach-low r (variable lit) low), stays-low g (is_marked (reach r (variable lit))) (variable lit) (omega (arith, sweep.first)))
       | inr from ↦ elim (cases_Bool (is_marked r (variable lit))) [
@@ -170,9 +171,9 @@ module _ (g : Graph) (p : Props) (held : List ℕ) where
       ]
     ]
 
-    module _ (step : Front → ℕ → Front) (Fits : ℕ → Type 0) (goes : (r : Front) (lit : ℕ) → Sweeps g p held IsLater r → Fits lit → StepGoes r (variable lit) (step r (variable lit))) where
+    module _ (step : Front → ℕ → Front) (Fits : ℕ → Type 0) (goes : (r : Front) (lit : ℕ) → Sweeps g p held IsReadLater r → Fits lit → StepGoes r (variable lit) (step r (variable lit))) where
       -- reaching literals by such steps keeps the sweep, and marks their variables
-      pub all-goes : (lits : List ℕ) (r : Front) → Sweeps g p held IsLater r → All (λ lit. Fits lit) lits
+      pub all-goes : (lits : List ℕ) (r : Front) → Sweeps g p held IsReadLater r → All (λ lit. Fits lit) lits
           → Goes r (reach_all step r lits) × All (λ lit. stays g (is_marked (reach_all step r lits)) (variable lit) ≡ true) lits
       all-goes [] r sweep fits = (goes-same r (reach_all step r []) sweep (all-nil step r), All-nil (λ lit. stays g (is_marked (reach_all step r [])) (variable lit) ≡ true))
       all-goes (lit ∷ lits) r sweep fits =
@@ -185,7 +186,7 @@ module _ (g : Graph) (p : Props) (held : List ℕ) where
           (both, All-cons (λ (l : ℕ). stays g (is_marked (reach_all step s lits)) (variable l) ≡ true) lit lits (stays-grows g s (reach_all step s lits) rest.0.grows (variable lit) one.1) rest.1)
 
     -- reaching literals that each set has
-    pub reach-all-goes : (lits : List ℕ) (r : Front) → Sweeps g p held IsLater r → All (λ lit. IsOwed g p held lit) lits → All (λ lit. IsLiteralOf g lit) lits
+    pub reach-all-goes : (lits : List ℕ) (r : Front) → Sweeps g p held IsReadLater r → All (λ lit. IsOwed g p held lit) lits → All (λ lit. IsLiteralOf g lit) lits
         → Goes r (reach_all reach r lits) × All (λ lit. stays g (is_marked (reach_all reach r lits)) (variable lit) ≡ true) lits
     reach-all-goes lits r sweep owed within =
         all-goes reach (λ lit. IsOwed g p held lit × IsLiteralOf g lit) (λ s lit sweeps fits. reach-goes s lit sweeps fits.0 fits.1) lits r sweep (λ k d h. (owed k d h, within k d h))
@@ -215,8 +216,8 @@ module _ (g : Graph) (p : Props) (held : List ℕ) where
       all-goes (IsGateBelow g n) reach_in_sweep (λ lit. IsOwed g p held lit × (variable lit < n)) (λ s lit sweeps fits. sweep-goes n few s lit sweeps fits.0 fits.1) lits r sweep (λ k d h. (owed k d h, below k d h))
 
   -- what is read later may change, where marked variables of the kind are of the new one, or were read
-  pub sweeps-to : (IsLater IsNow : ℕ → Type 0) (r : Front) → ((v : ℕ) → is_marked r v ≡ true → IsLater v → IsNow v ⊎ ReadsMarked g r v) → Sweeps g p held IsLater r → Sweeps g p held IsNow r
-  sweeps-to IsLater IsNow r change sweep = record {
+  pub sweeps-to : (IsReadLater IsNow : ℕ → Type 0) (r : Front) → ((v : ℕ) → is_marked r v ≡ true → IsReadLater v → IsNow v ⊎ ReadsMarked g r v) → Sweeps g p held IsReadLater r → Sweeps g p held IsNow r
+  sweeps-to IsReadLater IsNow r change sweep = record {
     first = sweep.first;
     latches = sweep.latches;
     as_long = sweep.as_long;
@@ -244,8 +245,8 @@ module _ (g : Graph) (p : Props) (held : List ℕ) where
       ]
 
   -- nothing is marked at the start
-  pub sweeps-start : (IsLater : ℕ → Type 0) → Sweeps g p held IsLater (no_front g)
-  sweeps-start IsLater = record {
+  pub sweeps-start : (IsReadLater : ℕ → Type 0) → Sweeps g p held IsReadLater (no_front g)
+  sweeps-start IsReadLater = record {
     first = refl;
     latches = refl;
     as_long = omega (arith, length-replicate (latches_and_gates g) false);
@@ -266,9 +267,9 @@ module _ (g : Graph) (p : Props) (held : List ℕ) where
   props-owed = λ k d h. λ s holds. holds.properties k d h
 
   -- what is read keeps
-  pub record Sweeping (IsLater : ℕ → Type 0) (r : Front) : Type 0 where
+  pub record Sweeping (IsReadLater : ℕ → Type 0) (r : Front) : Type 0 where
     -- what is marked waits, or is read later, or was read
-    pub sweeps : Sweeps g p held IsLater r
+    pub sweeps : Sweeps g p held IsReadLater r
     -- the held latches are marked
     pub held_marked : All (λ j. is_marked r (first_latch g + j) ≡ true) held
     -- the variables of the properties' literals are marked, or stay anyway
@@ -306,8 +307,8 @@ module _ (g : Graph) (p : Props) (held : List ℕ) where
       }
 
   -- what more marks keep
-  sweeping-grows : (IsLater IsNow : ℕ → Type 0) (r s : Front) → Sweeping IsLater r → Grows r s → Sweeps g p held IsNow s → Sweeping IsNow s
-  sweeping-grows IsLater IsNow r s sweep grows sweeps = record {
+  sweeping-grows : (IsReadLater IsNow : ℕ → Type 0) (r s : Front) → Sweeping IsReadLater r → Grows r s → Sweeps g p held IsNow s → Sweeping IsNow s
+  sweeping-grows IsReadLater IsNow r s sweep grows sweeps = record {
     sweeps = sweeps;
     held_marked = λ i d h. grows.marks (first_latch g + get_or held i d) (sweep.held_marked i d h);
     properties = λ i d h. stays-grows g r s grows (variable (get_or (property_literals p) i d)) (sweep.properties i d h);
