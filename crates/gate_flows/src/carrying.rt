@@ -1,5 +1,5 @@
 //! The flows of gates, as the gates go from circuit to circuit.
-ghost use Rattle.std.specs.Prelude.{◌≡◌, ◌≤◌, length, vec_capacity, vec_len};
+ghost use Rattle.std.specs.Prelude.{◌≡◌, ◌+◌, ◌-◌, ◌≤◌, length, vec_capacity, vec_len};
 
 use aig_graph::{Aig, ClosedSet, NoMemory};
 use std::alloc::Global;
@@ -19,7 +19,7 @@ fn push_run(into: &mut Vec<GateFlow>, flows: &[GateFlow], from: usize, to: usize
     requires within { to ≤ length flows.now }
     requires short { vec_len into.old ≤ from }
     requires room { length flows.now ≤ vec_capacity into.old }
-    ensures short { vec_len into.new ≤ to }
+    ensures all { vec_len into.new ≡ vec_len into.old + (to - from) }
     ensures room { vec_capacity into.new ≡ vec_capacity into.old }
 {
     for k in from..to {
