@@ -61,13 +61,6 @@ module _ (g : Graph) (functions : List ℕ) (m : Move) (h : Graph) (literals : L
       let from : first ≤ v = source-from m.circuit.aig m.held m.set set v (latched-source v kept) in
       (from, omega (arith, from, below, follows.long))
 
-  -- each variable that a latch of the moved circuit holds has an entry
-  pub all-covered : (latched : List ℕ) → latched ≡ places (is_latched m) end → All (IsCovered first literals) latched
-  all-covered latched are =
-      let P : List ℕ → Type 0 = λ vars. All (IsCovered first literals) vars in
-      subst P (sym are) (all_from_slice_get (IsCovered first literals) (places (is_latched m) end)
-      (λ k v e. let r : Ranks (is_latched m) end k v = rank_at (is_latched m) end k v e in covered v r.below r.passes))
-
   -- the entries of the variables that latches of the moved circuit hold are the functions of these latches
   pub are-moved : (latched new : List ℕ) → latched ≡ places (is_latched m) end → new ≡ map (entry_of first literals) latched → AreMoved g functions m h new
   are-moved latched new are picked =

@@ -3,7 +3,6 @@ use Rattle.frame_net.specs.declared.net.Point.{Point}
 use Rattle.frame_net.specs.FlowNet.{FlowNet, node_count, row_len}
 use Rattle.pulse.specs.Values.{RunEnd}
 use Rattle.cut_cert.specs.Walks.{AreOn, AreSearched, NoneComes, WalkedBack, total}
-use Rattle.cut_cert.specs.Shown.{AreLeastRoutes}
 use Rattle.cut_cert.proofs.TrailLaws.{none-on, on-lent}
 use Rattle.cut_cert.proofs.RouteLaws.{Gathering, no-routes, more-routes, all-routes, written-back, searched-first}
 use Rattle.cut_cert.proofs.gathering.routes.Goals as goal

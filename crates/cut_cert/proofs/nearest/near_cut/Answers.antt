@@ -1,7 +1,6 @@
 use Rattle.std.proofs.Common.{◌∙◌, sym, subst, ℕ, Bool, List, slice_index_or, false}
 use Rattle.std.specs.List.Sorted.{IsStrictlyIncreasing}
 use Rattle.aig_graph.specs.Border.{IsSmallestLeast}
-use Rattle.frame_net.specs.declared.net.Point.{Point}
 use Rattle.cut_cert.proofs.GateLaws.{are-gates}
 use Rattle.cut_cert.specs.Steps.{AreUsed, AreOfSource}
 use Rattle.cut_cert.proofs.NearSetLaws.{near-set}
