@@ -1,8 +1,6 @@
 """Sizes and counts that documents claim, beside what the tree has."""
 import dataclasses
 import re
-import shutil
-import subprocess
 
 from tree import CRATES, TOP, crates, crates_with_a_test, is_of_tests, sources
 
@@ -69,10 +67,8 @@ def faults_of_scripts():
 
 
 def kit():
-    """The kit and its logic: those of the toolchain, where there is one, else those that the documents name in one place."""
-    if shutil.which('rt'):
-        return subprocess.run(['rt', 'version'], capture_output=True, text=True).stdout.strip()
-    return re.search(r'With `([^`]+)`', (TOP / 'docs' / 'PROVED.md').read_text())[1]
+    """The kit and its logic with which the program of release/ was proved and built, by the record beside it."""
+    return re.search(r'(?m)^kit (.+)$', (TOP / 'release' / 'record').read_text())[1]
 
 
 def claims():

@@ -14,3 +14,4 @@ pub mod HoldingLaws
 pub mod ClosedBorderLaws
 pub mod SetLaws
 pub mod StreamLaws
+pub mod ChosenLaws

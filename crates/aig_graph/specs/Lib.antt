@@ -11,3 +11,4 @@ pub mod Building
 pub mod Codes
 pub mod Keep
 pub mod Laws
+pub mod Chosen

@@ -1,9 +1,13 @@
 //! And-inverter graphs with latches: literals, graphs, circuits, what a circuit means, and the closed sets of gates over
 //! which latches move forward. Every other crate stands on the definitions of this one.
+//!
+//! Which of a circuit's least sets a frame takes: the one that holds all others, or the one that lies in all others.
 #![tactic(auto)]
 
 mod border;
 mod build;
+mod choice;
+mod chosen_sets;
 mod circuit;
 mod closed;
 mod graph;
@@ -20,6 +24,8 @@ mod sequence;
 
 pub use border::{count, mark_held};
 pub use build::{AigBuilder, BuildError};
+pub use choice::Choice;
+pub use chosen_sets::chosen_law;
 pub use circuit::Circuit;
 pub use closed::{ClosedSet, is_closed};
 pub use graph::{Aig, Gate, Latch, Reset, reset_value};

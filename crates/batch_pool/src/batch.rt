@@ -4,8 +4,8 @@ ghost use Rattle.batch_pool.specs.Outcomes.{AreOutcomes, IsOutcome};
 
 use crate::error::BatchError;
 use crate::job::{Job, Outcome, retime_file};
+use crate::pool::run_jobs;
 use frames::Options;
-use job_pool::run_jobs;
 use pulse::{Crew, PhaseGate};
 use std::alloc::Global;
 use std::thread::Threads;

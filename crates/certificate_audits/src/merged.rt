@@ -9,7 +9,7 @@ use crate::outcome::{Audit, Replay, audit_of};
 use crate::run::replay_held;
 use aig_graph::{Circuit, KeepError, NoMemory, keep_by_names, keep_of};
 use certificates::Certificate;
-use frame_start::{MergedStart, merged_start};
+use latch_merging::{MergedStart, merged_start};
 use std::alloc::Global;
 
 /// The audit of blocks, the first of which is for the circuit cleaned, and what they end in; it has latches of all names.

@@ -3,7 +3,7 @@ use Rattle.std.proofs.Common.{◌≡◌, ℕ, [], ◌∷◌, ◌++◌, refl, tru
 use Rattle.file_words.specs.Lines.{lines, pieces, numbers_of}
 use Rattle.frame_net.specs.declared.net.Point.{Point}
 use Rattle.certificate_files.specs.declared.fault.CertError.TheVariants.{BadHeader, BadLine, TooLarge, Truncated}
-use Rattle.least_sets.specs.declared.choice.Choice.TheVariants.{Greatest, Smallest}
+use Rattle.aig_graph.specs.declared.choice.Choice.TheVariants.{Greatest, Smallest}
 use Rattle.certificate_files.specs.Files.{saying_of, read_blocks, read_text}
 
 abbrev before : ℕ → Point

@@ -9,8 +9,8 @@ use Rattle.frame_net.specs.declared.net.Point.{Point}
 use Rattle.certificates.specs.declared.certificate.Certificate.{Certificate}
 use Rattle.certificate_files.specs.declared.fault.CertError.{CertError}
 use Rattle.certificate_files.specs.declared.fault.CertError.TheVariants.{BadHeader, TooLarge}
-use Rattle.least_sets.specs.declared.choice.Choice.{Choice}
-use Rattle.least_sets.specs.declared.choice.Choice.TheVariants.{Greatest}
+use Rattle.aig_graph.specs.declared.choice.Choice.{Choice}
+use Rattle.aig_graph.specs.declared.choice.Choice.TheVariants.{Greatest}
 use Rattle.certificate_files.specs.declared.file.CertFile.{CertFile}
 use Rattle.certificate_files.specs.Files.{is_word, begins_with, is_point, point_of, is_small, Saying, Frame, Gate, Route, frame_of, gate_of, route_of, saying_of, Progress, settled, after, sized, taken, ended, read_blocks, nothing_read, with_choice, choice_of, read_chosen, read_second, read_file, read_text}
 use Rattle.certificate_files.specs.Forms.{are_small}

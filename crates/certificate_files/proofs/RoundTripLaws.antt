@@ -12,8 +12,8 @@ use Rattle.frame_net.specs.declared.net.Point.{Point}
 use Rattle.certificates.specs.declared.certificate.Certificate.{Certificate}
 use Rattle.certificate_files.specs.declared.fault.CertError.{CertError}
 use Rattle.certificate_files.specs.declared.fault.CertError.TheVariants.{TooLarge}
-use Rattle.least_sets.specs.declared.choice.Choice.{Choice}
-use Rattle.least_sets.specs.declared.choice.Choice.TheVariants.{Greatest, Smallest}
+use Rattle.aig_graph.specs.declared.choice.Choice.{Choice}
+use Rattle.aig_graph.specs.declared.choice.Choice.TheVariants.{Greatest, Smallest}
 use Rattle.certificate_files.specs.declared.file.CertFile.{CertFile}
 use Rattle.certificate_files.specs.declared.forms.FrameLine.{FrameLine}
 use Rattle.certificate_files.specs.Files.{sign_of, is_point, point_of, is_small, Route, frame_of, gate_of, route_of, saying_of, Progress, settled, taken, read_blocks, nothing_read, with_choice, read_file, read_text}

@@ -7,8 +7,8 @@ use Rattle.frame_net.specs.declared.net.Point.{Point}
 use Rattle.certificates.specs.declared.certificate.Certificate.{Certificate}
 use Rattle.certificate_files.specs.declared.fault.CertError.{CertError}
 use Rattle.certificate_files.specs.declared.fault.CertError.TheVariants.{BadHeader, BadLine, TooLarge, Truncated}
-use Rattle.least_sets.specs.declared.choice.Choice.{Choice}
-use Rattle.least_sets.specs.declared.choice.Choice.TheVariants.{Greatest, Smallest}
+use Rattle.aig_graph.specs.declared.choice.Choice.{Choice}
+use Rattle.aig_graph.specs.declared.choice.Choice.TheVariants.{Greatest, Smallest}
 use Rattle.certificate_files.specs.declared.file.CertFile.{CertFile}
 
 abbrev pub is_word : List ℕ → List ℕ → Bool

@@ -4,8 +4,8 @@ use Rattle.std.specs.List.{flat_map}
 use Rattle.counted_io.specs.Line.{line}
 use Rattle.frame_net.specs.declared.net.Point.{Point}
 use Rattle.certificates.specs.declared.certificate.Certificate.{Certificate}
-use Rattle.least_sets.specs.declared.choice.Choice.{Choice}
-use Rattle.least_sets.specs.declared.choice.Choice.TheVariants.{Greatest, Smallest}
+use Rattle.aig_graph.specs.declared.choice.Choice.{Choice}
+use Rattle.aig_graph.specs.declared.choice.Choice.TheVariants.{Greatest, Smallest}
 use Rattle.certificate_files.specs.declared.file.CertFile.{CertFile}
 
 -- + for the point after the variable, - for the one before it

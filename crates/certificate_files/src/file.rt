@@ -1,6 +1,5 @@
-use aig_graph::Sequence;
+use aig_graph::{Choice, Sequence};
 use certificates::Certificate;
-use least_sets::Choice;
 
 /// The certificates of a retiming, frame by frame.
 #[derive(Drop)]

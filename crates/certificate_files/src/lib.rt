@@ -12,9 +12,9 @@ mod reading;
 mod words;
 mod writing;
 
+pub use aig_graph::Choice;
 pub use fault::CertError;
 pub use file::CertFile;
 pub use laws::{rereading_law, round_trip_law};
-pub use least_sets::Choice;
 pub use reading::read_cert;
 pub use writing::write_cert;

@@ -11,8 +11,8 @@ use crate::blocks::read_blocks;
 use crate::fault::CertError;
 use crate::file::CertFile;
 use crate::lines::next_line;
+use aig_graph::Choice;
 use file_words::Lines;
-use least_sets::Choice;
 use std::alloc::Global;
 
 fn is_word(text: &[u8], word: &[u8]) -> bool

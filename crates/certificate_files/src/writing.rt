@@ -8,10 +8,10 @@ ghost use Rattle.certificate_files.specs.Texts.{sign_code, point_text, route_tex
 
 use crate::file::CertFile;
 use crate::filling::Line;
+use aig_graph::Choice;
 use certificates::{Certificate, Routes};
 use counted_io::{Buffered, CountedWrite, WriteError};
 use frame_net::Point;
-use least_sets::Choice;
 
 fn sign(behind: bool) -> u8
     ensures { result ≡ sign_code behind }

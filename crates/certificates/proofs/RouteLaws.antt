@@ -19,8 +19,8 @@ use Rattle.frame_net.specs.declared.net.Point.{Point}
 use Rattle.frame_net.specs.Passable.{is_passable}
 use Rattle.frame_net.specs.Capacity.{gate_reads, is_observed}
 use Rattle.frame_net.proofs.PassableLaws.{passable-means}
-use Rattle.frame_cuts.proofs.ReadLaws.{read-split, read-by_gate}
-use Rattle.frame_cuts.proofs.NetLaws.{gate-range}
+use Rattle.frame_net.proofs.ReadLaws.{read-split, read-by_gate}
+use Rattle.frame_net.proofs.NetLaws.{gate-range}
 use Rattle.certificates.specs.Routes.{begins_at, passes, enters, returns_to, may_step, goes_on, is_route, passed, all_passed}
 use Rattle.certificates.specs.Verdicts.{AreRoutes, AreApart, LeastLaw, YesLaw}
 use Rattle.certificates.proofs.ApartLaws.{count-le, count-none, count-distinct, count-append}

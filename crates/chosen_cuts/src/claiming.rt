@@ -11,8 +11,8 @@ use crate::following::routes_of_units;
 use crate::records::Records;
 use aig_graph::{Circuit, ClosedSet, Keep, NoMemory, Sequence};
 use certificates::{Certificate, check_closed};
+use cut_cert::GateFlow;
 use frame_net::{PassSet, leaving_marks, passable};
-use gate_flows::GateFlow;
 use std::alloc::Global;
 
 /// The members of a set.

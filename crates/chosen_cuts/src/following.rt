@@ -4,8 +4,8 @@
 
 use aig_graph::{Aig, Circuit, NoMemory};
 use certificates::Routes;
+use cut_cert::GateFlow;
 use frame_net::Point;
-use gate_flows::GateFlow;
 use std::alloc::Global;
 
 /// Stands for no gate.

@@ -2,9 +2,8 @@
 
 use aig_graph::{Circuit, ClosedSet, Keep, NoMemory};
 use certificates::{Certificate, Routes, Verdict};
-use cut_cert::certificate_of;
+use cut_cert::{GateFlow, certificate_of};
 use frame_net::Tables;
-use gate_flows::GateFlow;
 use pulse::FlowTables;
 use std::alloc::Global;
 

@@ -8,7 +8,7 @@ use Rattle.circuit_files.specs.declared.outcome.Outcome.{Outcome}
 use Rattle.circuit_files.specs.declared.outcome.Outcome.TheVariants.{Device}
 use Rattle.circuit_files.specs.declared.outcome.Failure.{Failure}
 use Rattle.circuit_files.specs.declared.outcome.Failure.TheVariants as fails
-use Rattle.command_objects.specs.Objects.{EndsPrintingObject, FailsPrintingObject}
+use Rattle.command_endings.specs.Objects.{EndsPrintingObject, FailsPrintingObject}
 use Rattle.command_endings.specs.Printing.{EndsPrinting, EndsWith, Prints, ending}
 
 -- one that failed, and gave standard output nothing

@@ -1,3 +1,4 @@
 pub mod Printing
 pub mod Sources
 pub mod HeldNames
+pub mod Objects

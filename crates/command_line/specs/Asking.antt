@@ -10,8 +10,8 @@ use Rattle.file_words.specs.declared.spelling.Spelling.TheVariants.{Ascii, Binar
 use Rattle.stream_paths.specs.Streams.{source_of, target_of}
 use Rattle.stream_paths.specs.declared.source.Source.{Source}
 use Rattle.stream_paths.specs.declared.target.Target.{Target}
-use Rattle.least_sets.specs.declared.choice.Choice.{Choice}
-use Rattle.least_sets.specs.declared.choice.Choice.TheVariants.{Greatest, Smallest}
+use Rattle.aig_graph.specs.declared.choice.Choice.{Choice}
+use Rattle.aig_graph.specs.declared.choice.Choice.TheVariants.{Greatest, Smallest}
 use Rattle.command_line.specs.declared.task.Shown.{Shown}
 use Rattle.command_line.specs.declared.task.Shown.TheVariants.{OnTerminal, EachFrame, Nothing}
 use Rattle.command_line.specs.declared.task.Retiming.{Retiming}

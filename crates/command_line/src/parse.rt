@@ -12,10 +12,10 @@ use crate::task::{
     Asking, Batch, Carrying, Checking, Comparison, Counting, Drawing, Lifting, Retiming, Sequences,
     Shown, Simulation, Stimuli, Task, Verification,
 };
+use aig_graph::Choice;
 use clap::error::ErrorKind;
 use clap::{ArgMatches, Command, Error};
 use file_words::Spelling;
-use least_sets::Choice;
 use std::alloc::{AllocError, Global};
 use stream_paths::{Source, Target};
 

@@ -1,7 +1,7 @@
 //! What a command line asks for, without how that was written: the words of options and their defaults are known in this crate
 //! alone. Paths and names are slices of the arguments, so a task takes memory for a list of names only.
+use aig_graph::Choice;
 use file_words::Spelling;
-use least_sets::Choice;
 use stream_paths::{Source, Target};
 
 /// What is shown of a run on standard error while it goes on.

@@ -17,7 +17,7 @@ use Rattle.circuit_files.specs.declared.outcome.Failure.{Failure}
 use Rattle.command_endings.specs.Printing.{EndsPrinting, Prints, ending}
 use Rattle.latch_marks.specs.Marks.{circuit_held, marks_of, names_held}
 use Rattle.latch_marks.proofs.HeldLaws.{circuit-held, names-held}
-use Rattle.held_answers.proofs.AnswerLaws.{no-places}
+use Rattle.mapped_answers.proofs.AnswerLaws.{no-places}
 use Rattle.command_line.specs.declared.task.Verification.{Verification}
 use Rattle.commands.specs.Replaying.{IsJudgement, IsReplayFor}
 use Rattle.commands.specs.Verifying.{EndsWithAudit, EndsWithObject, IsJudgedBy, IsMarkedFor, IsReplayHeld, IsReplayOf, held_names, outcome_by, outcome_of_end, outcome_of_judgement}

@@ -11,7 +11,7 @@ use Rattle.json_reports.specs.declared.counts.MapCounts.{MapCounts}
 use Rattle.circuit_files.specs.declared.outcome.Outcome.{Outcome}
 use Rattle.circuit_files.specs.declared.outcome.Outcome.TheVariants.{Done}
 use Rattle.circuit_files.specs.declared.outcome.Failure.{Failure}
-use Rattle.command_objects.specs.Objects.{EndsPrintingObject}
+use Rattle.command_endings.specs.Objects.{EndsPrintingObject}
 use Rattle.circuit_counts.specs.declared.remaining.Remaining.{Remaining}
 use Rattle.command_line.specs.declared.task.Retiming.{Retiming}
 use Rattle.reports.specs.Retimings.{retiming_text}

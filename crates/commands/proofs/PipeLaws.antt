@@ -13,12 +13,12 @@ use Rattle.counted_io.specs.Output.{Output, WritesAll}
 use Rattle.retimed_circuits.specs.declared.report.Retimed.{Retimed}
 use Rattle.frames.specs.declared.errors.BytesError.TheVariants.{Read, Retime, Write}
 use Rattle.frames.specs.declared.errors.RetimeError.TheVariants.{NoMemory, NoSuchName}
-use Rattle.held_answers.specs.declared.options.HeldOptions.{HeldOptions}
-use Rattle.held_answers.specs.Answering.{IsHeldMapStop, IsHeldStop}
-use Rattle.held_answers.specs.declared.errors.HeldError.{HeldError}
-use Rattle.held_answers.specs.declared.errors.HeldError.TheVariants.{Answer, NoSuchLatch}
-use Rattle.held_answers.specs.declared.errors.HeldMapError.{HeldMapError}
-use Rattle.held_answers.specs.declared.errors.HeldMapError.TheVariants.{Held, MapTooLarge}
+use Rattle.mapped_answers.specs.declared.options.HeldOptions.{HeldOptions}
+use Rattle.mapped_answers.specs.Answering.{IsHeldMapStop, IsHeldStop}
+use Rattle.mapped_answers.specs.declared.errors.HeldError.{HeldError}
+use Rattle.mapped_answers.specs.declared.errors.HeldError.TheVariants.{Answer, NoSuchLatch}
+use Rattle.mapped_answers.specs.declared.errors.HeldMapError.{HeldMapError}
+use Rattle.mapped_answers.specs.declared.errors.HeldMapError.TheVariants.{Held, MapTooLarge}
 use Rattle.stream_paths.specs.Streams.{is_stdin, is_stdout}
 use Rattle.stream_paths.specs.declared.target.Target.{Target}
 use Rattle.command_line.specs.StreamUses.{takes_stdout, writes_stdout}

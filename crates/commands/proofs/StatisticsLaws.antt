@@ -10,7 +10,7 @@ use Rattle.json_reports.specs.Counts.{statistics_data}
 use Rattle.circuit_files.specs.declared.outcome.Outcome.{Outcome}
 use Rattle.circuit_files.specs.declared.outcome.Outcome.TheVariants.{Done}
 use Rattle.circuit_files.specs.declared.outcome.Failure.{Failure}
-use Rattle.command_objects.specs.Objects.{EndsPrintingObject}
+use Rattle.command_endings.specs.Objects.{EndsPrintingObject}
 use Rattle.command_endings.specs.Printing.{EndsPrinting, EndsWith}
 use Rattle.commands.specs.Statistics.{statistics_text}
 use Rattle.command_endings.proofs.PrintingLaws.{ends_with_line, ends_with_object_line}

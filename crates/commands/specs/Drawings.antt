@@ -16,7 +16,7 @@ use Rattle.circuit_files.specs.declared.outcome.Failure.{Failure}
 use Rattle.circuit_files.specs.declared.outcome.Failure.TheVariants as fails
 use Rattle.circuit_files.specs.declared.outcome.Outcome.{Outcome}
 use Rattle.circuit_files.specs.declared.outcome.Outcome.TheVariants.{Done}
-use Rattle.least_sets.specs.declared.choice.Choice.TheVariants.{Greatest}
+use Rattle.aig_graph.specs.declared.choice.Choice.TheVariants.{Greatest}
 use Rattle.retimed_circuits.specs.declared.report.Retimed.{Retimed}
 use Rattle.frames.specs.Named.{names_in}
 use Rattle.frames.specs.Retiming.{IsRetimedBy}

@@ -7,8 +7,8 @@ use Rattle.file_words.specs.declared.spelling.Spelling.{Spelling}
 use Rattle.aig_binary.specs.declared.reading.SpeltCircuit.{SpeltCircuit}
 use Rattle.aig_binary.specs.Ending.{Spells}
 use Rattle.retimed_circuits.specs.declared.report.Retimed.{Retimed}
-use Rattle.held_answers.specs.Answering.{IsHeldAnswered, IsHeldWritten}
-use Rattle.held_answers.specs.declared.options.HeldOptions.{HeldOptions}
+use Rattle.mapped_answers.specs.Answering.{IsHeldAnswered, IsHeldWritten}
+use Rattle.mapped_answers.specs.declared.options.HeldOptions.{HeldOptions}
 use Rattle.stream_paths.specs.Streams.{is_stdin, is_stdout}
 use Rattle.command_line.specs.StreamUses.{takes_stdout, writes_stdout}
 use Rattle.command_line.specs.declared.task.Retiming.{Retiming}

@@ -5,11 +5,11 @@ use Rattle.aig_graph.specs.Circuits.{Netlist}
 use Rattle.stream_paths.specs.Streams.{target_name}
 use Rattle.stream_paths.specs.declared.target.Target.{Target}
 use Rattle.command_line.specs.declared.task.Retiming.{Retiming}
-use Rattle.held_answers.specs.declared.options.HeldOptions.{HeldOptions}
-use Rattle.held_answers.specs.declared.errors.HeldError.{HeldError}
-use Rattle.held_answers.specs.declared.errors.HeldError.TheVariants.{Answer, NoSuchLatch}
-use Rattle.held_answers.specs.declared.errors.HeldMapError.{HeldMapError}
-use Rattle.held_answers.specs.declared.errors.HeldMapError.TheVariants.{Held, MapTooLarge}
+use Rattle.mapped_answers.specs.declared.options.HeldOptions.{HeldOptions}
+use Rattle.mapped_answers.specs.declared.errors.HeldError.{HeldError}
+use Rattle.mapped_answers.specs.declared.errors.HeldError.TheVariants.{Answer, NoSuchLatch}
+use Rattle.mapped_answers.specs.declared.errors.HeldMapError.{HeldMapError}
+use Rattle.mapped_answers.specs.declared.errors.HeldMapError.TheVariants.{Held, MapTooLarge}
 use Rattle.latch_marks.specs.Marks.{names_held}
 use Rattle.frames.specs.declared.errors.BytesError.{BytesError}
 use Rattle.frames.specs.declared.errors.BytesError.TheVariants.{Read, Retime, Write}
@@ -28,7 +28,7 @@ use Rattle.circuit_files.specs.declared.outcome.Outcome.{Outcome}
 use Rattle.circuit_files.specs.declared.outcome.Outcome.TheVariants.{Device, Done, Refused}
 use Rattle.circuit_files.specs.declared.outcome.Failure.{Failure}
 use Rattle.circuit_files.specs.declared.outcome.Failure.TheVariants as fails
-use Rattle.command_objects.specs.Objects.{EndsPrintingObject}
+use Rattle.command_endings.specs.Objects.{EndsPrintingObject}
 use Rattle.command_endings.specs.HeldNames.{OfSource}
 use Rattle.command_endings.specs.Printing.{EndsPrinting}
 use Rattle.commands.specs.HeldLatches.{texts_of}

@@ -20,7 +20,7 @@ use Rattle.circuit_files.specs.Codes.{status_of}
 use Rattle.circuit_files.specs.declared.outcome.Failure.{Failure}
 use Rattle.circuit_files.specs.declared.outcome.Outcome.{Outcome}
 use Rattle.circuit_files.specs.declared.outcome.Outcome.TheVariants.{Done, Unconfirmed}
-use Rattle.command_objects.specs.Objects.{EndsPrintingObject}
+use Rattle.command_endings.specs.Objects.{EndsPrintingObject}
 use Rattle.command_endings.specs.Sources.{AreCertificatesAt, IsCircuitAt}
 use Rattle.commands.specs.Replaying.{AreRetimedAt, IsFreed, IsJudgement, IsReplayFor}
 use Rattle.commands.specs.declared.replaying.Judgement.{Judgement}

@@ -3,7 +3,7 @@ ghost use Rattle.std.specs.Prelude.{◌≡◌, ◌<◌, ◌≤◌, true, false, 
 ghost use Rattle.aig_binary.specs.Spellings.{text_in};
 ghost use Rattle.counted_io.specs.Output.{Writes};
 ghost use Rattle.stream_paths.specs.Streams.{is_stdout};
-ghost use Rattle.held_answers.specs.Answering.{IsHeldMapStop, IsHeldMapped, IsHeldWritten};
+ghost use Rattle.mapped_answers.specs.Answering.{IsHeldMapStop, IsHeldMapped, IsHeldWritten};
 ghost use Rattle.circuit_files.specs.Outcomes.{outcome_of};
 ghost use Rattle.command_line.specs.StreamUses.{writes_stdout};
 ghost use Rattle.command_endings.specs.Printing.{Prints};
@@ -20,9 +20,10 @@ use command_line::Retiming;
 use counted_io::{Counted, CountedWrite, WriteError};
 use file_words::ReadError;
 use frames::{BytesError, FrameWatcher, RetimeError, Retimed};
-use held_answers::{HeldError, HeldMapError, HeldOptions, retime_held, retime_held_mapped};
 use json_reports::MapCounts;
-use mapped_answers::Mapped;
+use mapped_answers::{
+    HeldError, HeldMapError, HeldOptions, Mapped, retime_held, retime_held_mapped,
+};
 use pulse::{Crew, OpenGate};
 use std::alloc::Global;
 use std::rt::Files;

@@ -23,8 +23,8 @@ use command_endings::{bytes_of_names, ended};
 use command_line::{Retiming, Shown};
 use counted_io::{Counted, CountedRead, CountedWrite, WriteError};
 use frames::{FrameWatcher, Options, Retimed};
-use held_answers::HeldOptions;
 use json_reports::{MapCounts, Times};
+use mapped_answers::HeldOptions;
 use progress::Progress;
 use reports::{print_remaining, print_retiming};
 use std::alloc::{AllocError, Global};
@@ -293,7 +293,7 @@ fn print_object<'a, W: CountedWrite>(
     match remaining(alloc, task, &timed.retimed) {
         Ok(left) => {
             let times = timed.times.as_ref();
-            command_objects::print_retiming(
+            command_endings::print_retiming(
                 alloc,
                 &timed.retimed,
                 timed.levels,

@@ -11,7 +11,7 @@ use circuit_files::{Failure, Outcome, circuit_at};
 use command_endings::ended;
 use command_line::Counting;
 use counted_io::{CountedRead, CountedWrite};
-use frame_start::merged_start;
+use latch_merging::merged_start;
 use merged_latches::MergeCounts;
 use reports::print_counts;
 use std::alloc::Global;
@@ -71,7 +71,7 @@ fn print_merged<'a, O: CountedWrite>(
     match Statistics::of(alloc, circuit) {
         Ok(statistics) => {
             if json {
-                command_objects::print_statistics(alloc, &statistics, merged, out)
+                command_endings::print_statistics(alloc, &statistics, merged, out)
             } else {
                 print_lines(&statistics, merged, out)
             }

@@ -203,7 +203,7 @@ fn print_object<'a, O: CountedWrite>(
 {
     let outcome = outcome_of(judgement);
     let audit = judgement.audit;
-    command_objects::print_audit(alloc, blocks, audit, judgement.agreement, outcome, out)
+    command_endings::print_audit(alloc, blocks, audit, judgement.agreement, outcome, out)
 }
 
 /// Prints what certificates show as an object of JSON or in lines.

@@ -15,8 +15,8 @@ use Rattle.frame_net.specs.Capacity.{node_variables, latch_count, unbounded, gat
 use Rattle.frame_net.proofs.NodeLaws.{has_node-gate, at-latch, at-before, at-after, View, view}
 use Rattle.frame_net.proofs.NodeLaws.View.{the_source, the_sink, a_latch, a_before, an_after}
 use Rattle.frame_net.proofs.ArcLaws.{cap-at}
-use Rattle.frame_cuts.specs.Cuts.{IsNetworkOf}
-use Rattle.frame_cuts.proofs.NetLaws.{nodes, node-is}
+use Rattle.frame_net.specs.Cuts.{IsNetworkOf}
+use Rattle.frame_net.proofs.NetLaws.{nodes, node-is}
 use Rattle.certificates.specs.Routes.{begins_at, may_step, goes_on}
 
 abbrev pub point : ℕ → Bool → Point

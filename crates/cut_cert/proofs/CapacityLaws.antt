@@ -14,9 +14,9 @@ use Rattle.frame_net.specs.FlowNet.Node.{source, sink, before, after}
 use Rattle.frame_net.specs.Capacity.{unbounded, is_observed, gate_reads, node_variables, latch_count, arc_capacity}
 use Rattle.aig_graph.specs.Graph.{gate_at}
 use Rattle.frame_net.proofs.NodeLaws.{view}
-use Rattle.frame_cuts.specs.Cuts.{IsNetworkOf}
-use Rattle.frame_cuts.proofs.NetLaws.{nodes, node-is}
-use Rattle.frame_cuts.proofs.LeastCutLaws.{empty-border}
+use Rattle.frame_net.specs.Cuts.{IsNetworkOf}
+use Rattle.frame_net.proofs.NetLaws.{nodes, node-is}
+use Rattle.frame_net.proofs.LeastCutLaws.{empty-border}
 use Rattle.certificates.specs.Routes.{is_route, passed, all_passed}
 use Rattle.certificates.proofs.RouteLaws.{passed-behind, passed-before, border-of-routes}
 use Rattle.certificates.proofs.ApartLaws.{count-le, count-none, count-distinct, count-append}

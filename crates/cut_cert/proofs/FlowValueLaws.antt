@@ -5,18 +5,18 @@ use Rattle.flow_theory.specs.Flow.{State, sum_below, IsPreflow, IsValid, is_acti
 use Rattle.flow_theory.proofs.SumLaws.{sum_below-add, sum_below-same, sum_below-swap, sum_below-le_const}
 use Rattle.flow_theory.proofs.PushLaws.{is_active-true}
 use Rattle.flow_theory.proofs.CutLaws.{held_off, cut_identity, sum_of_ones, met_once, hits_once, sum_all_zero, cond_zero, one_term, sink-le-held}
-use Rattle.arc_rows.specs.Rows.{Rises}
-use Rattle.arc_rows.proofs.SparseRowLaws.{find_head, sparse-at, sparse-none}
+use Rattle.flow_theory.specs.Rows.{Rises}
+use Rattle.flow_theory.proofs.SparseRowLaws.{find_head, sparse-at, sparse-none}
 use Rattle.aig_graph.specs.Circuits.{Netlist}
 use Rattle.aig_graph.specs.Move.{move_of}
 use Rattle.aig_graph.specs.Border.{border_size, IsLeast}
 use Rattle.aig_graph.proofs.SetLaws.{empty-closed}
 use Rattle.frame_net.specs.FlowNet.{FlowNet, IsFlowNet, node_count, start, row_len, head, mate, cap_at, capacity_between}
 use Rattle.flow_part.specs.Parts.{pair}
-use Rattle.frame_cuts.specs.Cuts.{IsNetworkOf, NoUnboundedLeaves, leaving}
-use Rattle.frame_cuts.proofs.SetCutLaws.{closed_sets_are_cuts-law}
-use Rattle.frame_cuts.proofs.NetLaws.{cuts_are_closed-law}
-use Rattle.frame_cuts.proofs.LeastCutLaws.{empty-border, arc-counts}
+use Rattle.frame_net.specs.Cuts.{IsNetworkOf, NoUnboundedLeaves, leaving}
+use Rattle.frame_net.proofs.SetCutLaws.{closed_sets_are_cuts-law}
+use Rattle.frame_net.proofs.NetLaws.{cuts_are_closed-law}
+use Rattle.frame_net.proofs.LeastCutLaws.{empty-border, arc-counts}
 use Rattle.cut_cert.specs.Gates.{gates_below}
 use Rattle.cut_cert.proofs.GateLaws.{are-gates}
 use Rattle.cut_cert.proofs.SinkWalkLaws.{pair-mate}

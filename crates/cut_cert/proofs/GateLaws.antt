@@ -17,11 +17,11 @@ use Rattle.flow_theory.specs.Flow.{IsSourceSide}
 use Rattle.flow_theory.proofs.CutLaws.{source_side_greatest}
 use Rattle.pulse.specs.Values.{RunEnd}
 use Rattle.pulse.specs.Conditions.{IsMaxPreflow, state_of}
-use Rattle.frame_cuts.proofs.LeastCutLaws.{greatest_cut_is_greatest_set-law}
+use Rattle.frame_net.proofs.LeastCutLaws.{greatest_cut_is_greatest_set-law}
 use Rattle.frame_net.specs.Capacity.{has_node}
 use Rattle.frame_net.proofs.NodeLaws.{rank-gate, view}
-use Rattle.frame_cuts.specs.Cuts.{AreGatesOf, IsNetworkOf}
-use Rattle.frame_cuts.proofs.NetLaws.{gate-range, nodes, point-before}
+use Rattle.frame_net.specs.Cuts.{AreGatesOf, IsNetworkOf}
+use Rattle.frame_net.proofs.NetLaws.{gate-range, nodes, point-before}
 use Rattle.cut_cert.specs.Gates.{gate_after, gate_of, and_gate, gates_below}
 
 abbrev point : ℕ → Bool → Point

@@ -5,7 +5,7 @@ use Rattle.std.proofs.lemmas.List.{length-set, get_or-set_same, get_or-set_other
 use Rattle.flow_theory.specs.Flow.{sum_below}
 use Rattle.flow_theory.proofs.SumLaws.{sum_below-add, sum_below-same}
 use Rattle.flow_theory.proofs.CutLaws.{sum_all_zero}
-use Rattle.arc_rows.proofs.SparseRowLaws.{sum_one}
+use Rattle.flow_theory.proofs.SparseRowLaws.{sum_one}
 use Rattle.frame_net.specs.FlowNet.{FlowNet, IsFlowNet, HasMate, node_count, start, row_len, head, mate}
 use Rattle.flow_part.specs.Parts.{pair}
 use Rattle.cut_cert.proofs.SinkWalkLaws.{arc-in, mate-pair}

@@ -10,9 +10,9 @@ use Rattle.flow_theory.specs.Flow.{State, IsPreflow}
 use Rattle.frame_net.specs.declared.net.Point.{Point}
 use Rattle.frame_net.specs.FlowNet.{FlowNet, IsFlowNet, HasMate, node_count, start, row_len, head, mate, cap_at, point_of, capacity_between}
 use Rattle.frame_net.specs.Capacity.{latch_count}
-use Rattle.frame_cuts.specs.Cuts.{IsNetworkOf}
-use Rattle.frame_cuts.proofs.SetCutLaws.{closed_sets_are_cuts-law}
-use Rattle.arc_rows.proofs.SparseRowLaws.{sparse-at}
+use Rattle.frame_net.specs.Cuts.{IsNetworkOf}
+use Rattle.frame_net.proofs.SetCutLaws.{closed_sets_are_cuts-law}
+use Rattle.flow_theory.proofs.SparseRowLaws.{sparse-at}
 use Rattle.cut_cert.specs.Gates.{gates_below}
 use Rattle.cut_cert.proofs.GateLaws.{are-gates}
 use Rattle.cut_cert.specs.Walks.{here}

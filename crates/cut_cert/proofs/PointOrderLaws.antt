@@ -9,8 +9,8 @@ use Rattle.frame_net.specs.FlowNet.{FlowNet, point_of}
 use Rattle.frame_net.specs.Capacity.{has_node, latch_count, rank}
 use Rattle.frame_net.proofs.NodeLaws.{rank-latch, rank-gate, View, view}
 use Rattle.frame_net.proofs.NodeLaws.View.{the_source, the_sink, a_latch, a_before, an_after}
-use Rattle.frame_cuts.specs.Cuts.{IsNetworkOf}
-use Rattle.frame_cuts.proofs.NetLaws.{nodes}
+use Rattle.frame_net.specs.Cuts.{IsNetworkOf}
+use Rattle.frame_net.proofs.NetLaws.{nodes}
 use Rattle.cut_cert.specs.Steps.{precedes, PointsRise}
 use Rattle.cut_cert.proofs.RoutePointLaws.{IsPlace, number, number-latch, number-after, number-before, number-inner, point-of-number}
 

@@ -11,7 +11,7 @@ use Rattle.variable_tables.specs.Marking.{has}
 use Rattle.aig_graph.specs.Circuits.{Netlist}
 use Rattle.frame_net.specs.declared.net.Point.{Point}
 use Rattle.frame_net.specs.FlowNet.{FlowNet, IsFlowNet, node_count, row_len, head, mate, point_of}
-use Rattle.frame_cuts.specs.Cuts.{IsNetworkOf}
+use Rattle.frame_net.specs.Cuts.{IsNetworkOf}
 use Rattle.pulse.specs.Values.{RunEnd}
 use Rattle.pulse.specs.Conditions.{IsMaxPreflow}
 use Rattle.certificates.specs.Routes.{is_route, passed, all_passed}

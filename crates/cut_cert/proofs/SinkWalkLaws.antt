@@ -3,8 +3,8 @@ use Rattle.std.proofs.Common.{ℕ, zero, suc, ◌+◌, ◌<◌, ◌≤◌, ◌�
 use Rattle.std.proofs.lemmas.Bool.{cases_Bool, cases_eq, cases_lt, cond-true, cond-false, lt-ltb, le-ltb, not-false, not_from_true}
 use Rattle.std.proofs.lemmas.List.{get_or-replicate}
 use Rattle.flow_theory.specs.Flow.{State, Walk, Reaches, IsSourceSide}
-use Rattle.arc_rows.specs.Rows.{Rises}
-use Rattle.arc_rows.proofs.SparseRowLaws.{sparse-at, sparse-none, find_head}
+use Rattle.flow_theory.specs.Rows.{Rises}
+use Rattle.flow_theory.proofs.SparseRowLaws.{sparse-at, sparse-none, find_head}
 use Rattle.frame_net.specs.FlowNet.{FlowNet, IsFlowNet, HasMate, node_count, start, row_len, head, mate}
 use Rattle.flow_part.specs.Parts.{pair}
 use Rattle.cut_cert.specs.Fronts.{Front, is_marked, mark, reach}

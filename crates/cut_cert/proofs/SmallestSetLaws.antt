@@ -9,10 +9,10 @@ use Rattle.aig_graph.proofs.SetLaws.{empty-closed}
 use Rattle.aig_graph.proofs.SearchLaws.{has_iff_contains}
 use Rattle.frame_net.specs.FlowNet.{FlowNet, node_count, capacity_between}
 use Rattle.frame_net.specs.Capacity.{latch_count}
-use Rattle.frame_cuts.specs.Cuts.{NoUnboundedLeaves, AreGatesOf, IsNetworkOf, leaving}
-use Rattle.frame_cuts.proofs.NetLaws.{cuts_are_closed-law}
-use Rattle.frame_cuts.proofs.SetCutLaws.{closed_sets_are_cuts-law}
-use Rattle.frame_cuts.proofs.LeastCutLaws.{empty-border, arc-counts}
+use Rattle.frame_net.specs.Cuts.{NoUnboundedLeaves, AreGatesOf, IsNetworkOf, leaving}
+use Rattle.frame_net.proofs.NetLaws.{cuts_are_closed-law}
+use Rattle.frame_net.proofs.SetCutLaws.{closed_sets_are_cuts-law}
+use Rattle.frame_net.proofs.LeastCutLaws.{empty-border, arc-counts}
 use Rattle.cut_cert.specs.Cuts.{IsSmallestLeastCut, SmallestCutIsSmallestSet}
 
 module _ (c : Netlist) (held : List ℕ) (net : FlowNet) (side : ℕ → Bool) (s : List ℕ) (is : IsNetworkOf c held net)

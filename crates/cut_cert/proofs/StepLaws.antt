@@ -8,7 +8,7 @@ use Rattle.frame_net.specs.declared.net.Point.{Point}
 use Rattle.frame_net.specs.FlowNet.{FlowNet, Node, point_of, capacity_between}
 use Rattle.frame_net.specs.FlowNet.Node.{sink, before, after}
 use Rattle.frame_net.specs.Capacity.{unbounded, is_observed, arc_capacity}
-use Rattle.frame_cuts.specs.Cuts.{IsNetworkOf}
+use Rattle.frame_net.specs.Cuts.{IsNetworkOf}
 use Rattle.certificates.specs.Routes.{begins_at, may_step, goes_on, is_route}
 use Rattle.cut_cert.specs.Walks.{here}
 use Rattle.cut_cert.specs.Shown.{HasNoPointTwice}

@@ -7,7 +7,7 @@ use Rattle.variable_tables.specs.Marking.{has}
 use Rattle.aig_graph.specs.Circuits.{Netlist}
 use Rattle.frame_net.specs.declared.net.Point.{Point}
 use Rattle.frame_net.specs.FlowNet.{FlowNet, node_count, point_of}
-use Rattle.frame_cuts.specs.Cuts.{IsNetworkOf}
+use Rattle.frame_net.specs.Cuts.{IsNetworkOf}
 use Rattle.certificates.proofs.DistinctLaws.{distinct-none}
 use Rattle.cut_cert.specs.Shown.{HasNoPointTwice}
 use Rattle.cut_cert.specs.Walks.{AreOn, ComesTo, and_point, points_of}

@@ -4,7 +4,7 @@ use Rattle.flow_theory.specs.Flow.{State, IsPreflow, IsCut, cut_value}
 use Rattle.aig_graph.specs.Circuits.{Netlist}
 use Rattle.aig_graph.specs.Border.{IsGreatestLeast, IsSmallestLeast}
 use Rattle.frame_net.specs.FlowNet.{FlowNet, node_count, capacity_between}
-use Rattle.frame_cuts.specs.Cuts.{AreGatesOf, IsNetworkOf}
+use Rattle.frame_net.specs.Cuts.{AreGatesOf, IsNetworkOf}
 
 -- s is the greatest least set of each circuit and held latches whose network this is
 abbrev pub IsGreatestLeastOf : FlowNet → List ℕ → Type 0

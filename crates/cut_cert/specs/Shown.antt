@@ -6,7 +6,7 @@ use Rattle.aig_graph.specs.Move.{move_of}
 use Rattle.aig_graph.specs.Border.{border_size, IsLeast, IsSmallestLeast}
 use Rattle.frame_net.specs.FlowNet.{FlowNet}
 use Rattle.frame_net.specs.declared.net.Point.{Point}
-use Rattle.frame_cuts.specs.Cuts.{IsNetworkOf}
+use Rattle.frame_net.specs.Cuts.{IsNetworkOf}
 use Rattle.certificates.specs.Verdicts.{AreRoutes, AreApart}
 
 -- no point stands twice in the list

@@ -7,7 +7,7 @@ use Rattle.aig_graph.specs.Circuits.{Netlist}
 use Rattle.frame_net.specs.declared.net.Point.{Point}
 use Rattle.frame_net.specs.FlowNet.{FlowNet, node_count, row_len, head, mate, cap_at, point_of, capacity_between}
 use Rattle.flow_part.specs.Parts.{pair}
-use Rattle.frame_cuts.specs.Cuts.{IsNetworkOf}
+use Rattle.frame_net.specs.Cuts.{IsNetworkOf}
 use Rattle.certificates.specs.Routes.{is_route, passed}
 use Rattle.cut_cert.specs.Shown.{HasNoPointTwice}
 

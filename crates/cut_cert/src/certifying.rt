@@ -1,7 +1,7 @@
 //! The certificate of a least set.
 ghost use Rattle.std.specs.Prelude.{◌≡◌, IfOk};
 ghost use Rattle.aig_graph.specs.Border.{IsGreatestLeast, IsLeast};
-ghost use Rattle.frame_cuts.specs.Cuts.{IsNetworkOf};
+ghost use Rattle.frame_net.specs.Cuts.{IsNetworkOf};
 ghost use Rattle.pulse.specs.Conditions.{IsMaxPreflow};
 ghost use Rattle.certificates.specs.Verdicts.{IsVerdict};
 ghost use Rattle.certificates.specs.declared.verdict.Verdict.TheVariants.{Yes};

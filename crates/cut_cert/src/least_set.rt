@@ -1,16 +1,18 @@
 //! The greatest least set of a circuit, by a maximum flow of its network.
 ghost use Rattle.std.specs.Prelude.{IfOk};
 ghost use Rattle.aig_graph.specs.Border.{IsGreatestLeast};
-ghost use Rattle.frame_cuts.specs.Cuts.{IsNetworkOf};
+ghost use Rattle.frame_net.specs.Cuts.{IsNetworkOf};
 ghost use Rattle.pulse.specs.Conditions.{IsMaxPreflow};
 
 use crate::greatest::greatest_cut;
+use crate::noting::gate_flows;
+use crate::wishing::wishes;
 use aig_graph::{Circuit, ClosedSet, Keep, NoMemory};
 use frame_net::{Net, Tables, passable};
-use gate_flows::{GateFlow, first_flows, gate_flows, wishes};
 use pulse::{Crew, FlowTables, MaxPreflow, PhaseGate, PulseError, run_along_wishes};
 use std::alloc::Global;
 use std::thread::Threads;
+use unit_flows::{GateFlow, first_flows};
 
 /// From so many nodes on a crew's first flow has a start of its own.
 const MANY_NODES: u32 = 4096;

@@ -3,3 +3,4 @@ pub mod Files
 pub mod Lines
 pub mod Nearest
 pub mod Pages
+pub mod HintedLines

@@ -8,7 +8,7 @@ ghost use Rattle.flow_part.specs.Delivering.{delivered_excess, delivered_label, 
 use crate::inflow::add_row;
 use crate::parts::{FlowPart, PushPart};
 use crate::places::push_row;
-use arc_rows::{relabel, subtract_pushes};
+use flow_theory::{relabel, subtract_pushes};
 use frame_net::Net;
 
 /// The label of node `v` after delivery, by its residuals after delivery: it stays unless `v` was active and keeps some of its excess.

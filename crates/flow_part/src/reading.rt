@@ -7,7 +7,7 @@ ghost use Rattle.flow_part.specs.Reading.{IsCountedOn, PartReadOn, RowsRead, act
 use crate::clearing::clear;
 use crate::parts::{FlowPart, PushPart};
 use crate::places::part_of;
-use arc_rows::write_pushes;
+use flow_theory::write_pushes;
 use frame_net::Net;
 
 /// Read of node `v` into its row. No other function walks a row for pushes, and each walk is counted.

@@ -1,5 +1,5 @@
 //! The route and the certificate of the first worked circuit.
-ghost use Rattle.frame_cuts.specs.Cuts.{IsNetworkOf};
+ghost use Rattle.frame_net.specs.Cuts.{IsNetworkOf};
 ghost use Rattle.pulse.specs.Conditions.{IsMaxPreflow};
 
 use crate::nets::{TWO_LATCHES, net_of};

@@ -1,7 +1,6 @@
 //! Distances in the first worked network, at the start of the flow.
 use crate::nets::{TWO_LATCHES, net_of_text};
-use exact_labels::exact_labels;
-use flow_whole::start_parts;
+use flow_whole::{exact_labels, start_parts};
 use frame_net::Net;
 use std::alloc::{AllocError, Global};
 use std::test::Fail;

@@ -1,6 +1,6 @@
 //! The two circuits whose networks were worked by hand, and networks.
 ghost use Rattle.std.specs.Prelude.{IfOk};
-ghost use Rattle.frame_cuts.specs.Cuts.{IsNetworkOf};
+ghost use Rattle.frame_net.specs.Cuts.{IsNetworkOf};
 
 use aag_text::read_aag;
 use aig_graph::{Circuit, Keep, NoMemory};

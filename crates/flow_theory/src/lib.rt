@@ -8,10 +8,22 @@
 //!
 //! Residuals are natural numbers and a pair's flow is its capacity less its residual. Nothing here speaks of arcs or memory: each
 //! law is the contract of a function without a body, for the crates that compute the flow to cite.
+//!
+//! Rows of arcs against functions on pairs of nodes.
+//!
+//! A node's row holds its arcs by rising head, so a walk over the row in order is a walk over all nodes in which those without
+//! an arc count for nothing: the pushes of a row written in arc order are the pushes of the definition, and so are sums and
+//! least labels.
 #![tactic(auto)]
+
+mod row_laws;
+mod rows;
 
 ghost use Rattle.flow_theory.specs.Events.{AnyOrderIsPulse};
 ghost use Rattle.flow_theory.specs.Laws.{ExactLabelsServe, PulseKeepsPreflow, PulseLowersPotential, PulseRaisesLabels, SourceSideIsGreatest, StartIsSound, TotalIsKept};
+
+pub use row_laws::row_law;
+pub use rows::{relabel, subtract_pushes, write_pushes};
 
 /// The state with the source's arcs full and all other flow 0 is a preflow with valid labels.
 pub fn start_is_sound()

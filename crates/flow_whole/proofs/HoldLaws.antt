@@ -3,7 +3,7 @@ use Rattle.std.proofs.Common.{◌≡◌, ℕ, ◌+◌, ◌<◌, ◌≤◌, ◌==
 use Rattle.std.proofs.lemmas.Bool.{cases_lt}
 use Rattle.flow_theory.specs.Flow.{push, admissible, is_active}
 use Rattle.frame_net.specs.FlowNet.{FlowNet, node_count, start, row_len, head, IsFlowNet}
-use Rattle.arc_rows.proofs.SparseRowLaws.{sparse-none}
+use Rattle.flow_theory.proofs.SparseRowLaws.{sparse-none}
 use Rattle.flow_part.specs.Parts.{Cells, Agree, pair, pairs}
 use Rattle.flow_part.specs.Delivering.{HoldPushes}
 use Rattle.flow_whole.proofs.AgreeingStateLaws.{push_same}

@@ -19,3 +19,10 @@ pub mod HoldLaws
 pub mod NumberLaws
 pub mod CopyLaws
 pub mod CarryLaws
+pub mod ArcLaws
+pub mod WalkLaws
+pub mod DistanceLaws
+pub mod RunLaws
+pub mod UnitLaws
+pub mod SendLaws
+pub mod OnePartLaws

@@ -4,8 +4,8 @@ use Rattle.flow_theory.specs.Flow.{State, push, outflow, inflow, next_res, next_
 use Rattle.flow_theory.proofs.SumLaws.{sum_below-same}
 use Rattle.flow_theory.proofs.OrderLaws.{least_below-same}
 use Rattle.frame_net.specs.FlowNet.{FlowNet, node_count, start, row_len, head, mate, HasMate, IsFlowNet}
-use Rattle.arc_rows.specs.Rows.{sparse, Rises}
-use Rattle.arc_rows.proofs.SparseRowLaws.{sparse-mate, sparse-total, sparse-given, sparse-least}
+use Rattle.flow_theory.specs.Rows.{sparse, Rises}
+use Rattle.flow_theory.proofs.SparseRowLaws.{sparse-mate, sparse-total, sparse-given, sparse-least}
 use Rattle.flow_part.specs.Parts.{pair}
 use Rattle.flow_part.specs.Delivering.{HoldPushes, own, back, row_outflow, row_inflow, delivered_res, delivered_excess, delivered_relabel, delivered_label}
 

@@ -6,8 +6,8 @@ use Rattle.flow_theory.specs.Laws.{started}
 use Rattle.flow_theory.proofs.SumLaws.{sum_below-le}
 use Rattle.flow_theory.proofs.StartLaws.{start_sound}
 use Rattle.frame_net.specs.FlowNet.{FlowNet, node_count, start, row_len, head, mate, cap_at, IsFlowNet, IsStartable}
-use Rattle.arc_rows.specs.Rows.{sparse, Rises}
-use Rattle.arc_rows.proofs.SparseRowLaws.{find_head, sparse-at, sparse-none, sparse-same, sparse-total}
+use Rattle.flow_theory.specs.Rows.{sparse, Rises}
+use Rattle.flow_theory.proofs.SparseRowLaws.{find_head, sparse-at, sparse-none, sparse-same, sparse-total}
 use Rattle.flow_part.specs.declared.parts.FlowPart.{FlowPart}
 use Rattle.flow_part.specs.Parts.{Cells, LabelsFit, FlowPartFits, AreFlowParts, Agree, IsSound, pair, pairs, cells_of}
 use Rattle.flow_part.specs.Delivering.{own, back}

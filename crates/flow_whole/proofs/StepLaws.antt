@@ -5,7 +5,7 @@ use Rattle.flow_theory.proofs.SumLaws.{term-le-sum_below}
 use Rattle.flow_theory.proofs.PushLaws.{push-le-res, outflow-le-excess}
 use Rattle.flow_theory.proofs.TotalLaws.{total_kept}
 use Rattle.frame_net.specs.FlowNet.{FlowNet, node_count, start, row_len, head, mate, cap_at, HasMate, IsFlowNet}
-use Rattle.arc_rows.proofs.SparseRowLaws.{sparse-at, sparse-same, push-is_sparse}
+use Rattle.flow_theory.proofs.SparseRowLaws.{sparse-at, sparse-same, push-is_sparse}
 use Rattle.flow_part.specs.declared.parts.FlowPart.{FlowPart}
 use Rattle.flow_part.specs.Parts.{Cells, pair, pairs, Agree, IsSound, FlowPartFits, AreFlowParts, cells_of}
 use Rattle.flow_part.specs.Reading.{arc_push}

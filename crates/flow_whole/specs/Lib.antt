@@ -3,3 +3,7 @@ pub mod Marks
 pub mod Start
 pub mod Labels
 pub mod TakingOver
+pub mod Distances
+pub mod ExactRuns
+pub mod Walks
+pub mod Wished

@@ -12,3 +12,9 @@ pub mod LayoutLaws
 pub mod CapacityLaws
 pub mod BuildLaws
 mod Examples
+pub mod ReadLaws
+pub mod CutSumLaws
+pub mod CutLaws
+pub mod NetLaws
+pub mod SetCutLaws
+pub mod LeastCutLaws

@@ -5,3 +5,4 @@ pub mod Joining
 pub mod Capacity
 pub mod Links
 pub mod Layout
+pub mod Cuts

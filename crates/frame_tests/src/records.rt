@@ -2,8 +2,7 @@
 use crate::circuits::CHAINS;
 use aag_text::read_aag;
 use aig_graph::{Circuit, Keep};
-use cut_cert::greatest_least_along;
-use gate_flows::GateFlow;
+use cut_cert::{GateFlow, greatest_least_along};
 use pulse::{Crew, OpenGate};
 use std::alloc::Global;
 use std::test::Fail;

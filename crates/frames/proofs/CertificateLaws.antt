@@ -6,8 +6,8 @@ use Rattle.aig_graph.specs.Circuits.{Netlist}
 use Rattle.variable_tables.proofs.PlacesLaws.{slice_get_push}
 use Rattle.certificates.specs.declared.certificate.Certificate.{Certificate}
 use Rattle.chosen_cuts.specs.declared.records.Records.{Records}
-use Rattle.least_sets.specs.declared.choice.Choice.{Choice}
-use Rattle.least_sets.specs.Chosen.{IsChosen}
+use Rattle.aig_graph.specs.declared.choice.Choice.{Choice}
+use Rattle.aig_graph.specs.Chosen.{IsChosen}
 use Rattle.retimed_circuits.specs.declared.report.FrameReport.{FrameReport}
 use Rattle.retimed_circuits.specs.declared.report.Retimed.{Retimed}
 use Rattle.retimed_circuits.specs.Frames.{AfterFrames}

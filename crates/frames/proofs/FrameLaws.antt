@@ -22,7 +22,7 @@ use Rattle.variable_tables.specs.Marking.{has}
 use Rattle.variable_tables.proofs.MemberLaws.{places-members}
 use Rattle.variable_tables.proofs.PlacesLaws.{length-places, count-bound}
 use Rattle.rebuild.proofs.MovedLaws.{members-below}
-use Rattle.least_sets.proofs.ChosenLaws.{chosen-least}
+use Rattle.aig_graph.proofs.ChosenLaws.{chosen-least}
 use Rattle.retimed_circuits.specs.declared.report.Retimed.{Retimed}
 use Rattle.retimed_circuits.specs.Names.{held_latches}
 use Rattle.retimed_circuits.specs.Frames.{AfterFrames, CleansIn, count_in, cleaned, frame, moved_in}

@@ -6,7 +6,7 @@ use Rattle.aig_graph.specs.Circuits.{Netlist}
 use Rattle.aig_graph.specs.Laws.{composed}
 use Rattle.aig_graph.specs.Streams.{SameStreams}
 use Rattle.aig_graph.proofs.StreamLaws.{same_streams-transitive}
-use Rattle.frame_start.specs.declared.start.MergedStart.{MergedStart}
+use Rattle.latch_merging.specs.declared.start.MergedStart.{MergedStart}
 use Rattle.retimed_circuits.specs.declared.report.Retimed.{Retimed}
 use Rattle.retimed_circuits.specs.Merging.{MergesIn}
 use Rattle.retimed_circuits.specs.Names.{held_latches}

@@ -3,7 +3,7 @@ use Rattle.std.specs.Prelude.{ℕ, ◌≡◌, List, [], length, true, false}
 use Rattle.aig_graph.specs.Circuits.{Netlist}
 use Rattle.chosen_cuts.specs.declared.records.Records.{Records}
 use Rattle.chosen_cuts.specs.Certified.{AddsOne}
-use Rattle.least_sets.specs.Chosen.{IsChosen}
+use Rattle.aig_graph.specs.Chosen.{IsChosen}
 use Rattle.retimed_circuits.specs.Certified.{AreOfFrames}
 use Rattle.frames.specs.declared.options.Options.{Options}
 use Rattle.frames.specs.Named.{kept_by, names_in}

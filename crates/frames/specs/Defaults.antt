@@ -1,6 +1,6 @@
 -- The options of whoever asks for nothing.
 use Rattle.std.specs.Prelude.{◌≡◌, ◌^◌, [], None, false}
-use Rattle.least_sets.specs.declared.choice.Choice.TheVariants.{Greatest}
+use Rattle.aig_graph.specs.declared.choice.Choice.TheVariants.{Greatest}
 use Rattle.frames.specs.declared.options.Options.{Options}
 
 -- the spelling of the file, as many frames as can be, each over the greatest least set, no certificate, no latch held, none merged

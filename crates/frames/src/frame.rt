@@ -16,7 +16,7 @@ use crate::watcher::{FrameWatcher, Stage};
 use aig_graph::{Circuit, ClosedSet, Keep, NoMemory, keep_by_names};
 use chosen_cuts::Records;
 use clean::Cleaned;
-use gate_flows::{GateFlow, after_cleaning, after_move};
+use cut_cert::{GateFlow, after_cleaning, after_move};
 use pulse::{Crew, PhaseGate};
 use rebuild::{MoveMarks, moved_by};
 use retimed_circuits::FrameReport;

@@ -15,6 +15,7 @@ mod runs;
 mod settling;
 mod watcher;
 
+pub use aig_graph::Choice;
 pub use bytes::{read_by, retime_bytes, retime_bytes_watched, retime_spelt};
 pub use certificates::Certificate;
 pub use chosen_cuts::Records;
@@ -22,7 +23,6 @@ pub use errors::{BytesError, RetimeError};
 pub use frame::{Frame, carry, next_frame};
 pub use helping::{Helping, helping_set};
 pub use laws::answer_law;
-pub use least_sets::Choice;
 pub use merged_latches::MergeCounts;
 pub use merging::{ReadCircuit, told_of_read};
 pub use options::Options;

@@ -15,7 +15,7 @@ use crate::retiming::{begun_over, retimed_from};
 use crate::watcher::FrameWatcher;
 use aig_graph::{Circuit, NoMemory, Sequence, keep_of};
 use clean::composed;
-use frame_start::{MergedStart, merged_start};
+use latch_merging::{MergedStart, merged_start};
 use merged_latches::MergeCounts;
 use pulse::{Crew, PhaseGate};
 use retimed_circuits::Retimed;

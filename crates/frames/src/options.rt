@@ -1,7 +1,7 @@
 ghost use Rattle.frames.specs.Defaults.{AreDefaults};
 
+use aig_graph::Choice;
 use file_words::Spelling;
-use least_sets::Choice;
 use std::alloc::Global;
 
 /// How a circuit is retimed.

@@ -9,7 +9,7 @@ use Rattle.circuit_files.specs.Outcomes.{outcome_of}
 use Rattle.circuit_files.specs.declared.outcome.Outcome.{Outcome}
 use Rattle.circuit_files.specs.declared.outcome.Outcome.TheVariants.{Device, Done, Memory}
 use Rattle.circuit_files.specs.declared.outcome.Failure.{Failure}
-use Rattle.command_objects.specs.Objects.{EndsPrintingObject}
+use Rattle.command_endings.specs.Objects.{EndsPrintingObject}
 use Rattle.fretime.specs.Batches.{Printed, after}
 
 -- all of them, with the end that they have

@@ -5,7 +5,7 @@ use Rattle.std.specs.Borrow.{Bor}
 use Rattle.counted_io.specs.Output.{Output}
 use Rattle.command_line.specs.declared.task.Task.{Task}
 use Rattle.circuit_files.specs.declared.outcome.Failure.{Failure}
-use Rattle.command_objects.specs.Objects.{SaysRefusal, refusal_of}
+use Rattle.command_endings.specs.Objects.{SaysRefusal, refusal_of}
 use Rattle.fretime.specs.Reporting.{SaysOn, SaysWhy, object_command, prints_aside}
 
 abbrev name_in : Option (Bor (List ℕ)) → Option (List ℕ)

@@ -12,7 +12,7 @@ use Rattle.circuit_files.specs.Outcomes.{outcome_of}
 use Rattle.circuit_files.specs.declared.outcome.Outcome.{Outcome}
 use Rattle.circuit_files.specs.declared.outcome.Failure.{Failure}
 use Rattle.circuit_files.specs.declared.outcome.Failure.TheVariants as fails
-use Rattle.command_objects.specs.Objects.{PrintsRefusal, SaysRefusal, refusal_of}
+use Rattle.command_endings.specs.Objects.{PrintsRefusal, SaysRefusal, refusal_of}
 
 -- what a failure gives standard output, where an object is asked for and where it isn't
 abbrev pub PrintsFailure : Bool → Outcome → Output → Output → Type 0

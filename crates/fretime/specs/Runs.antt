@@ -12,13 +12,13 @@ use Rattle.circuit_files.specs.Codes.{status_of}
 use Rattle.circuit_files.specs.Outcomes.{outcome_of}
 use Rattle.circuit_files.specs.declared.outcome.Outcome.{Outcome}
 use Rattle.circuit_files.specs.declared.outcome.Failure.{Failure}
-use Rattle.command_objects.specs.Objects.{PrintsRefusal}
+use Rattle.command_endings.specs.Objects.{PrintsRefusal}
 use Rattle.simulation_commands.specs.Comparing.{PrintsFinding}
 use Rattle.map_commands.specs.Checking.{PrintsCheck}
 use Rattle.map_commands.specs.Products.{PrintsAsked}
 use Rattle.map_commands.specs.Lifted.{PrintsLift}
 use Rattle.commands.specs.Drawings.{PrintsPicture}
-use Rattle.witness_commands.specs.Fates.{PrintsFate}
+use Rattle.simulation_commands.specs.Fates.{PrintsFate}
 use Rattle.commands.specs.Pipes.{ConvertsPipe, IsPipe, WritesPipe}
 use Rattle.command_endings.specs.Printing.{Prints}
 use Rattle.simulation_commands.specs.Simulating.{PrintsTrace}

@@ -9,7 +9,7 @@ ghost use Rattle.fretime.specs.Batches as wanted;
 use crate::answers::{Answer, write_answers};
 use crate::batch::{after, report_of};
 use circuit_files::{Failure, Outcome};
-use command_objects::print_batch;
+use command_endings::print_batch;
 use counted_io::CountedWrite;
 use reports::JobReport;
 use std::alloc::{AllocError, Global};

@@ -6,10 +6,10 @@ ghost use Rattle.fretime.specs.Reporting.{MayRefuse, PrintsFailure, SaysFailure,
 ghost use Rattle.fretime.specs.Reporting as wanted;
 
 use circuit_files::{Failure, Outcome};
+use command_endings::print_failure;
 use command_line::{Drawing, Task};
-use command_objects::print_failure;
 use counted_io::{Buffered, CountedWrite};
-use failure_hints::{give_hint, tell_returns};
+use fault_pages::{give_hint, tell_returns};
 use std::alloc::Global;
 use std::fmt::Write;
 use std::rt::Files;

@@ -19,14 +19,13 @@ use command_line::{Task, parse_arguments};
 use commands::{convert, print_retimed, print_statistics, print_verification, write_picture};
 use counted_io::{Buffered, CountedRead, CountedWrite};
 use map_commands::{print_check, write_lifted, write_miter};
-use simulation_commands::{print_comparison, print_simulation};
+use simulation_commands::{print_comparison, print_simulation, print_witness_back};
 use std::alloc::Global;
 use std::fmt::Write;
 use std::io;
 use std::rt::Files;
 use std::thread::Threads;
 use std::time::Clock;
-use witness_commands::print_witness_back;
 
 /// Does what the command line asks for.
 fn run_task<

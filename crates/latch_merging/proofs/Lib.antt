@@ -5,3 +5,7 @@ pub mod MarkLaws
 pub mod NameLaws
 pub mod ReaderLaws
 pub mod SplitLaws
+pub mod SameRunLaws
+pub mod SameRoundLaws
+pub mod AgainLaws
+pub mod StartLaws

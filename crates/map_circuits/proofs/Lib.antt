@@ -3,3 +3,8 @@ pub mod FollowingLaws
 pub mod SteppingLaws
 pub mod ConstrainingLaws
 pub mod SubstituteLaws
+pub mod ReadsSubstituteLaws
+pub mod MergeStepLaws
+pub mod ReadFunctionLaws
+pub mod InstanceLaws
+pub mod ConjunctionLaws

@@ -5,10 +5,10 @@ use Rattle.aig_graph.specs.Circuits.{IsNetlist, Netlist}
 use Rattle.aig_graph.specs.Graph.{IsGraph}
 use Rattle.witness_circuits.specs.declared.sharing.Sharing.{Sharing}
 use Rattle.witness_circuits.specs.Witnesses.{IsSharing}
-use Rattle.witness_sharing.specs.Naming.{IsSharedBy}
-use Rattle.lifted_witnesses.specs.Laws.{LiftsWitnesses}
-use Rattle.lifted_witnesses.specs.Lifting.{IsLifted}
-use Rattle.lifted_witnesses.specs.Parts.{IsLiftable}
+use Rattle.witness_circuits.specs.Naming.{IsSharedBy}
+use Rattle.witness_circuits.specs.LiftedLaws.{LiftsWitnesses}
+use Rattle.witness_circuits.specs.Lifting.{IsLifted}
+use Rattle.witness_circuits.specs.Parts.{IsLiftable}
 use Rattle.map_checks.specs.Answers.{AreFitting, IsMap}
 use Rattle.file_words.specs.declared.spelling.Spelling.{Spelling}
 use Rattle.counted_io.specs.Input.{Input}

@@ -4,9 +4,9 @@ use Rattle.aig_graph.specs.Circuits.{Netlist}
 use Rattle.state_maps.specs.MapCircuits.{IsMapCircuit}
 use Rattle.witness_circuits.specs.declared.sharing.Sharing.{Sharing}
 use Rattle.witness_circuits.specs.Witnesses.{IsSharing, IsWitness}
-use Rattle.witness_sharing.specs.Naming.{IsSharedBy}
-use Rattle.lifted_witnesses.specs.Laws.{first_shared}
-use Rattle.lifted_witnesses.specs.Lifting.{IsLifted}
+use Rattle.witness_circuits.specs.Naming.{IsSharedBy}
+use Rattle.witness_circuits.specs.LiftedLaws.{first_shared}
+use Rattle.witness_circuits.specs.Lifting.{IsLifted}
 use Rattle.map_checks.specs.Answers.{AreFitting, IsMap}
 use Rattle.file_words.specs.declared.fault.ReadError.TheVariants.{TooLarge}
 use Rattle.counted_io.specs.Input.{Input}

@@ -1,9 +1,9 @@
 -- What `miter` makes of a map with a certificate, and what is written.
 use Rattle.std.specs.Prelude.{ℕ, ◌≡◌, List, true, false, unwrap_or, Option, Some, None}
 use Rattle.map_checks.specs.Answers.{AreFitting, IsMap}
-use Rattle.product_machines.specs.declared.goals.Goal.{Goal}
-use Rattle.product_machines.specs.declared.goals.Goal.TheVariants.{Agree, Mapped as IsMapped}
-use Rattle.product_machines.specs.Products.{IsProduct}
+use Rattle.map_miters.specs.declared.goals.Goal.{Goal}
+use Rattle.map_miters.specs.declared.goals.Goal.TheVariants.{Agree, Mapped as IsMapped}
+use Rattle.map_miters.specs.Products.{IsProduct}
 use Rattle.file_words.specs.declared.fault.ReadError.TheVariants.{TooLarge}
 use Rattle.file_words.specs.declared.spelling.Spelling.{Spelling}
 use Rattle.aig_binary.specs.Spellings.{text_in}

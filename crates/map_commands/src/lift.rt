@@ -1,8 +1,8 @@
 //! The command `lift`.
 ghost use Rattle.std.specs.Prelude.{◌≡◌, IfErr, IfOk, Err};
-ghost use Rattle.lifted_witnesses.specs.Parts.{IsLiftable};
+ghost use Rattle.witness_circuits.specs.Parts.{IsLiftable};
 ghost use Rattle.witness_circuits.specs.Witnesses.{IsSharing};
-ghost use Rattle.witness_sharing.specs.Naming.{IsSharedBy};
+ghost use Rattle.witness_circuits.specs.Naming.{IsSharedBy};
 ghost use Rattle.map_checks.specs.Answers.{AreFitting, IsMap};
 ghost use Rattle.circuit_files.specs.declared.outcome.Failure.TheVariants.{NotAMap};
 ghost use Rattle.command_endings.specs.HeldNames.{OfSource};
@@ -16,12 +16,10 @@ use circuit_files::{Failure, Outcome};
 use command_line::Lifting;
 use counted_io::{CountedRead, CountedWrite};
 use file_words::ReadError;
-use lifted_witnesses::{LiftError, lift_law, lifted_witness};
 use map_checks::{are_fitting, is_map};
 use std::alloc::Global;
 use std::rt::Files;
-use witness_circuits::Sharing;
-use witness_sharing::{SharingError, sharing_of};
+use witness_circuits::{LiftError, Sharing, SharingError, lift_law, lifted_witness, sharing_of};
 
 /// The witness circuit for the first circuit, where it is known what the one for the second shares with that.
 fn lifted_by<'a>(

@@ -1,7 +1,7 @@
 //! The command `miter` with a certificate: both circuits side by side as a model, and a witness circuit for it.
 ghost use Rattle.std.specs.Prelude.{◌≡◌, Err, IfErr, IfOk};
 ghost use Rattle.map_checks.specs.Answers.{AreFitting, IsMap};
-ghost use Rattle.product_machines.specs.Products.{IsProduct};
+ghost use Rattle.map_miters.specs.Products.{IsProduct};
 ghost use Rattle.circuit_files.specs.declared.outcome.Failure.TheVariants.{NotAMap};
 ghost use Rattle.command_endings.specs.HeldNames.{OfSource};
 ghost use Rattle.command_endings.specs.Printing.{Prints, ending};
@@ -17,8 +17,7 @@ use command_line::Asking;
 use counted_io::{CountedRead, CountedWrite};
 use file_words::ReadError;
 use map_checks::{are_fitting, is_map};
-use map_miters::MiterError;
-use product_machines::{Goal, product_machine};
+use map_miters::{Goal, MiterError, product_machine};
 use reports::print_shapes_differ;
 use std::alloc::Global;
 use std::rt::Files;

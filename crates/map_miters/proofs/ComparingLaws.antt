@@ -11,7 +11,7 @@ use Rattle.state_maps.specs.States.{Digits, State}
 use Rattle.state_maps.proofs.FrameMapLaws.{agrees-is, is-agrees}
 use Rattle.map_circuits.specs.Growing.{Extends, IsConjunction, IsEquality}
 use Rattle.map_circuits.proofs.GrowingLaws.{negated-value}
-use Rattle.circuit_instances.specs.Instances.{AreAll}
+use Rattle.map_circuits.specs.Instances.{AreAll}
 use Rattle.map_miters.specs.Comparing.{AreEqualIn, AreEqualities, FailsBut, SaysThat}
 
 -- what a literal says it says as the graph grows

@@ -16,10 +16,10 @@ use Rattle.state_maps.specs.States.{Digits, State, after_step}
 use Rattle.state_maps.specs.MapCircuits.{mapped}
 use Rattle.state_maps.proofs.WithinLaws.{within_laws}
 use Rattle.map_circuits.specs.Growing.{Extends}
-use Rattle.circuit_instances.specs.Instances.{AreAll, substitute}
-use Rattle.lifted_witnesses.specs.Parts.{IsView}
-use Rattle.lifted_witnesses.proofs.ViewLaws.{view-grows}
-use Rattle.lifted_witnesses.proofs.PropertyLaws.{substitutes-values, substitutes-within}
+use Rattle.map_circuits.specs.Instances.{AreAll, substitute}
+use Rattle.witness_circuits.specs.Parts.{IsView}
+use Rattle.witness_circuits.proofs.ViewLaws.{view-grows}
+use Rattle.witness_circuits.proofs.PropertyLaws.{substitutes-values, substitutes-within}
 use Rattle.map_miters.specs.declared.images.Image.{Image}
 use Rattle.map_miters.specs.declared.steps.Step.{Step}
 use Rattle.map_miters.specs.Holding.{AreResets, Held, HoldAs, IsImage, IsStep, opening_literal, read_in, reset_at}

@@ -5,3 +5,8 @@ mod FreeLaws
 mod ResetLaws
 pub mod SideLaws
 mod MiterLaws
+mod LeafLaws
+mod GoalLaws
+mod TieLaws
+mod EndLaws
+mod WitnessLaws

@@ -9,7 +9,7 @@ use Rattle.aig_graph.specs.Circuits.{AreLiteralsOf, AreNamesBelow, IsNetlist, Ne
 use Rattle.aig_graph.specs.Graph.{Graph, IsGraph, IsLiteralOf}
 use Rattle.aig_graph.specs.Value.{value_within}
 use Rattle.state_maps.specs.States.{Digits, State}
-use Rattle.lifted_witnesses.proofs.ViewLaws.{input-value, table-within}
+use Rattle.witness_circuits.proofs.ViewLaws.{input-value, table-within}
 use Rattle.map_miters.specs.declared.leaves.Leaves.{Leaves}
 use Rattle.map_miters.specs.Asking.{AreLeaves, asked_digits, asked_state}
 use Rattle.map_miters.specs.Comparing.{FailsBut}

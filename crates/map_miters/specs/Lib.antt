@@ -3,3 +3,8 @@ pub mod Holding
 pub mod Questions
 pub mod Asking
 pub mod Miters
+pub mod Products
+pub mod Sides
+pub mod Ties
+pub mod Built
+pub mod Laws

@@ -8,8 +8,7 @@ ghost use Rattle.map_miters.specs.Comparing.{AreEqualIn, AreEqualities, FailsBut
 
 use crate::errors::MiterError;
 use aig_graph::{AigBuilder, Lit};
-use circuit_instances::add_conjunction_of;
-use map_circuits::{add_conjunction, add_equality};
+use map_circuits::{add_conjunction, add_conjunction_of, add_equality};
 use std::alloc::Global;
 
 /// For each pair of literals what says that they are equal.

@@ -4,15 +4,15 @@ ghost use Rattle.aig_graph.specs.Circuits.{AreLiteralsOf};
 ghost use Rattle.aig_graph.specs.Graph.{IsGraph, variable, variables_end};
 ghost use Rattle.aig_graph.specs.Value.{value_within};
 ghost use Rattle.map_circuits.specs.Growing.{Extends};
-ghost use Rattle.circuit_instances.specs.Instances.{substitute};
-ghost use Rattle.lifted_witnesses.specs.Parts.{IsView};
+ghost use Rattle.map_circuits.specs.Instances.{substitute};
+ghost use Rattle.witness_circuits.specs.Parts.{IsView};
 ghost use Rattle.map_miters.specs.Holding.{Held, HoldAs, IsImage};
 
 use crate::errors::MiterError;
 use aig_graph::{Aig, AigBuilder, Circuit, Lit, NoMemory};
-use circuit_instances::{Instance, add_conjunction_of, add_instance};
-use lifted_witnesses::{leaves, push_substitutes};
+use map_circuits::{Instance, add_conjunction_of, add_instance};
 use std::alloc::Global;
+use witness_circuits::{leaves, push_substitutes};
 
 /// What a map gives for a state.
 #[derive(Drop)]

@@ -7,8 +7,8 @@ ghost use Rattle.variable_tables.specs.Tables.{table};
 
 use crate::errors::MiterError;
 use aig_graph::{Aig, AigBuilder, Lit, NoMemory};
-use lifted_witnesses::numbered;
 use std::alloc::Global;
+use witness_circuits::numbered;
 
 /// The literals of the inputs, and of those that stand for latches.
 #[derive(Drop)]

@@ -5,15 +5,15 @@ ghost use Rattle.aig_graph.specs.Circuits.{AreLiteralsOf};
 ghost use Rattle.aig_graph.specs.Graph.{IsGraph, variable, variables_end};
 ghost use Rattle.aig_graph.specs.Streams.{property_literals};
 ghost use Rattle.map_circuits.specs.Growing.{Extends};
-ghost use Rattle.circuit_instances.specs.Instances.{substitute};
+ghost use Rattle.map_circuits.specs.Instances.{substitute};
 ghost use Rattle.map_miters.specs.Holding.{Held, HoldAs, IsStep};
 
 use crate::errors::MiterError;
 use crate::images::{add_over, substitutes_of};
 use aig_graph::{AigBuilder, Circuit, Latch, Lit, NoMemory, Props};
-use circuit_instances::Instance;
-use lifted_witnesses::push_nexts;
+use map_circuits::Instance;
 use std::alloc::Global;
+use witness_circuits::push_nexts;
 
 /// What the latches hold after a step, and what the properties are in it.
 #[derive(Drop)]

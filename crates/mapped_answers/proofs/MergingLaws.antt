@@ -5,7 +5,7 @@ use Rattle.aig_graph.specs.Circuits.{Netlist}
 use Rattle.aig_graph.specs.Graph.{free_latches}
 use Rattle.aig_graph.specs.Laws.{all_free}
 use Rattle.clean.proofs.CleaningLaws.{composed-all}
-use Rattle.frame_start.specs.declared.start.MergedStart.{MergedStart}
+use Rattle.latch_merging.specs.declared.start.MergedStart.{MergedStart}
 use Rattle.frames.specs.declared.merging.ReadCircuit.{ReadCircuit}
 use Rattle.frames.specs.declared.options.Options.{Options}
 use Rattle.frames.specs.Merging.{IsStart}

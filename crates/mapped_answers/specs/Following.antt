@@ -2,7 +2,7 @@
 use Rattle.std.specs.Prelude.{ℕ, ◌≡◌, List}
 use Rattle.aig_graph.specs.Circuits.{Netlist}
 use Rattle.aig_graph.specs.Laws.{composed}
-use Rattle.frame_start.specs.declared.start.MergedStart.{MergedStart}
+use Rattle.latch_merging.specs.declared.start.MergedStart.{MergedStart}
 use Rattle.chosen_cuts.specs.declared.records.Records.{Records}
 use Rattle.frames.specs.declared.merging.ReadCircuit.{ReadCircuit}
 use Rattle.frames.specs.declared.options.Options.{Options}

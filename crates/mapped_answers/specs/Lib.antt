@@ -1,3 +1,6 @@
 pub mod Following
 pub mod Framing
 pub mod Mapping
+pub mod Holding
+pub mod Answering
+pub mod HeldMapping

@@ -9,8 +9,8 @@ use crate::mapped::{MappedError, map_error};
 use crate::starting::{cleaned_on, unnamed};
 use crate::underway::Underway;
 use aig_graph::{Circuit, keep_by_names, keep_of};
-use frame_start::MergedStart;
 use frames::{Options, ReadCircuit, Retimed};
+use latch_merging::MergedStart;
 use retiming_maps::{MapError, MapParts, identity, start_along};
 use std::alloc::Global;
 

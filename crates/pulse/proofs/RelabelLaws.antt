@@ -13,10 +13,10 @@ use Rattle.flow_whole.specs.Runs.{any_active}
 use Rattle.flow_whole.proofs.AgreeingStateLaws.{agree_self, sound_same}
 use Rattle.flow_whole.proofs.HoldingLaws.{held_cut, held_lists, held_state}
 use Rattle.flow_whole.proofs.LabelLaws.{labelled_parts}
-use Rattle.exact_labels.specs.Distances.{distance, exact}
-use Rattle.exact_labels.specs.Runs.{after_pulse}
-use Rattle.exact_labels.proofs.DistanceLaws.{distance_is, distance_same, exact_is}
-use Rattle.exact_labels.proofs.RunLaws.{exact_sound, after-due, after-not}
+use Rattle.flow_whole.specs.Distances.{distance, exact}
+use Rattle.flow_whole.specs.ExactRuns.{after_pulse}
+use Rattle.flow_whole.proofs.DistanceLaws.{distance_is, distance_same, exact_is}
+use Rattle.flow_whole.proofs.RunLaws.{exact_sound, after-due, after-not}
 use Rattle.pulse.specs.Values.{FlowState, flow_state}
 use Rattle.pulse.specs.Conditions.{IsBetween, IsFlowOf, state_of}
 use Rattle.pulse.proofs.FlowLaws.{parts_of, flow_unspent, flow_with}

@@ -9,8 +9,8 @@ use Rattle.flow_whole.specs.Marks.{DeliveredSoFar}
 use Rattle.flow_whole.specs.Runs.{any_active}
 use Rattle.flow_whole.proofs.ActiveLaws.{work, work_same, work_falls}
 use Rattle.flow_whole.proofs.MarkLaws.{read_whole}
-use Rattle.exact_labels.specs.Distances.{exact}
-use Rattle.exact_labels.proofs.RunLaws.{Paid, paid_exact, exact_falls}
+use Rattle.flow_whole.specs.Distances.{exact}
+use Rattle.flow_whole.proofs.RunLaws.{Paid, paid_exact, exact_falls}
 use Rattle.pulse.specs.Values.{FlowState, PushState}
 use Rattle.pulse.specs.Conditions.{IsBetween, is_marked, state_of}
 use Rattle.pulse.specs.Phases.{RangeRead, AfterPulse}

@@ -5,7 +5,7 @@ use Rattle.flow_theory.specs.Laws.{IsDistance, started}
 use Rattle.frame_net.specs.FlowNet.{FlowNet, node_count, cap_at, IsFlowNet}
 use Rattle.flow_part.specs.Parts.{Cells, LabelsFit, IsSound, Agree, pair, pairs}
 use Rattle.flow_whole.specs.Marks.{AllMarked}
-use Rattle.exact_labels.specs.Runs.{IsRun}
+use Rattle.flow_whole.specs.ExactRuns.{IsRun}
 use Rattle.pulse.specs.Values.{FlowState, PushState, RunEnd, AreFlowRanges, ArePushRanges}
 
 pub record CellsFit (net : FlowNet) (c : Cells) : Type 0 where

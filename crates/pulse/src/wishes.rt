@@ -2,8 +2,8 @@
 ghost use Rattle.pulse.specs.Conditions.{IsBetween};
 
 use crate::flow::Flow;
+use flow_whole::send_wished;
 use frame_net::Net;
-use warm_start::send_wished;
 
 /// Sends units along wishes, each as far as they lead it. The labels stay, and the parts' lists are no more those of the flow.
 pub(crate) fn send_along(net: &Net, flow: &mut Flow, wishes: &mut [u32])

@@ -7,8 +7,8 @@ use Rattle.aig_graph.specs.Laws.{composed}
 use Rattle.aig_graph.specs.Move.{move_of}
 use Rattle.aig_graph.specs.Border.{border_size}
 use Rattle.certificates.specs.declared.certificate.Certificate.{Certificate}
-use Rattle.least_sets.specs.declared.choice.Choice.{Choice}
-use Rattle.least_sets.proofs.ChosenLaws.{chosen-one}
+use Rattle.aig_graph.specs.declared.choice.Choice.{Choice}
+use Rattle.aig_graph.proofs.ChosenLaws.{chosen-one}
 use Rattle.retimed_circuits.specs.declared.report.FrameReport.{FrameReport}
 use Rattle.retimed_circuits.specs.declared.report.Retimed.{Retimed}
 use Rattle.aig_graph.specs.Keep.{held_in}

@@ -8,7 +8,7 @@ use Rattle.aig_graph.specs.declared.properties.Symbol.{Symbol}
 use Rattle.aig_graph.specs.Circuits.{Netlist}
 use Rattle.aig_graph.specs.Keep.{held_in, is_named}
 use Rattle.aig_graph.specs.Laws.{composed}
-use Rattle.least_sets.specs.declared.choice.Choice.{Choice}
+use Rattle.aig_graph.specs.declared.choice.Choice.{Choice}
 use Rattle.cleaned_circuits.specs.Merged.{replaced_circuit, replaced_graph, replaced_latch}
 use Rattle.cleaned_circuits.proofs.CleanedLaws.{cleans-one}
 use Rattle.merged_latches.specs.declared.counts.MergeCounts.{MergeCounts}

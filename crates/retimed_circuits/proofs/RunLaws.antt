@@ -5,8 +5,8 @@ use Rattle.std.proofs.lemmas.List.{length-append}
 use Rattle.aig_graph.specs.Graph.{known_latches}
 use Rattle.aig_graph.specs.Circuits.{Netlist}
 use Rattle.aig_graph.specs.Laws.{composed}
-use Rattle.least_sets.specs.declared.choice.Choice.{Choice}
-use Rattle.least_sets.proofs.ChosenLaws.{chosen-least, chosen-one}
+use Rattle.aig_graph.specs.declared.choice.Choice.{Choice}
+use Rattle.aig_graph.proofs.ChosenLaws.{chosen-least, chosen-one}
 use Rattle.cleaned_circuits.proofs.CleanedLaws.{cleans-one}
 use Rattle.retimed_circuits.specs.declared.report.FrameReport.{FrameReport}
 use Rattle.retimed_circuits.specs.declared.report.Retimed.{Retimed}

@@ -6,8 +6,8 @@ use Rattle.aig_graph.specs.Closed.{IsClosedSet}
 use Rattle.aig_graph.specs.Move.{Move, move_of}
 use Rattle.aig_graph.specs.Border.{border_size}
 use Rattle.aig_graph.specs.Laws.{composed}
-use Rattle.least_sets.specs.declared.choice.Choice.{Choice}
-use Rattle.least_sets.specs.Chosen.{IsChosen}
+use Rattle.aig_graph.specs.declared.choice.Choice.{Choice}
+use Rattle.aig_graph.specs.Chosen.{IsChosen}
 use Rattle.rebuild.specs.Moved.{moved_of}
 use Rattle.cleaned_circuits.specs.Cleaned.{Cleans}
 use Rattle.retimed_circuits.specs.declared.report.FrameReport.{FrameReport}

@@ -4,7 +4,7 @@ use Rattle.aig_graph.specs.Graph.{IsGraph}
 use Rattle.aig_graph.specs.Circuits.{Netlist, IsNetlist}
 use Rattle.aig_graph.specs.Keep.{NoneMissing}
 use Rattle.ascii_file.specs.Laws.{IsWithinLimits}
-use Rattle.least_sets.specs.declared.choice.Choice.{Choice}
+use Rattle.aig_graph.specs.declared.choice.Choice.{Choice}
 use Rattle.merged_latches.specs.Partitions.{IsMerged}
 use Rattle.retimed_circuits.specs.declared.report.Retimed.{Retimed}
 use Rattle.retimed_circuits.specs.Names.{held_latches}

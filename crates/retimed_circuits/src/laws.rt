@@ -1,6 +1,6 @@
 ghost use Rattle.std.specs.Prelude.{ℕ, Bool, List};
 ghost use Rattle.aig_graph.specs.Circuits.{Netlist};
-ghost use Rattle.least_sets.specs.declared.choice.Choice.{Choice};
+ghost use Rattle.aig_graph.specs.declared.choice.Choice.{Choice};
 ghost use Rattle.retimed_circuits.specs.Laws.{
   CleaningKeepsHeld,
   IsDetermined,

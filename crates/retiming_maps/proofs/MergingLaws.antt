@@ -10,16 +10,16 @@ use Rattle.aig_graph.specs.Streams.{SameStreams}
 use Rattle.clean.specs.declared.cleaning.Cleaned.{Cleaned}
 use Rattle.cleaned_circuits.proofs.MergedLaws.{length-replaced_latches}
 use Rattle.cleaned_circuits.proofs.PassLaws.{IsCircuit, IsCircuit-cleans, cleans-streams}
-use Rattle.frame_start.specs.declared.start.MergedStart.{MergedStart}
-use Rattle.frame_start.proofs.StartLaws.{held-by, merges-by, streams-by}
+use Rattle.latch_merging.specs.declared.start.MergedStart.{MergedStart}
+use Rattle.latch_merging.proofs.StartLaws.{held-by, merges-by, streams-by}
 use Rattle.merged_latches.specs.Partitions.{IsCoarsest, IsMerged}
 use Rattle.merged_latches.specs.Readings.{substitutes_by}
 use Rattle.merged_latches.proofs.FinerLaws.{coarsest-one}
 use Rattle.merged_latches.proofs.MergingLaws.{merged-streams}
 use Rattle.map_circuits.specs.Constraining.{AddsSubstitutes, AreOne, substitute_function}
 use Rattle.map_circuits.specs.Following.{state_of}
-use Rattle.merging_steps.specs.Steps.{read_functions}
-use Rattle.merging_steps.proofs.ReadFunctionLaws.{merged-step, read-within}
+use Rattle.map_circuits.specs.Steps.{read_functions}
+use Rattle.map_circuits.proofs.ReadFunctionLaws.{merged-step, read-within}
 use Rattle.state_maps.specs.States.{IsStateMap}
 use Rattle.retimed_circuits.specs.Frames.{CleansIn}
 use Rattle.retiming_maps.specs.declared.parts.MapParts.{MapParts}

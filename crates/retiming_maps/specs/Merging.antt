@@ -4,7 +4,7 @@ use Rattle.aig_graph.specs.Circuits.{Netlist}
 use Rattle.aig_graph.specs.Keep.{held_in}
 use Rattle.aig_graph.specs.Streams.{SameStreams}
 use Rattle.clean.specs.declared.cleaning.Cleaned.{Cleaned}
-use Rattle.frame_start.specs.declared.start.MergedStart.{MergedStart}
+use Rattle.latch_merging.specs.declared.start.MergedStart.{MergedStart}
 use Rattle.latch_merging.specs.declared.merging.MergedCircuit.{MergedCircuit}
 use Rattle.merged_latches.specs.Counts.{AreCounts}
 use Rattle.merged_latches.specs.Partitions.{IsMerged}

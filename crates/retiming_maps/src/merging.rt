@@ -10,10 +10,8 @@ use crate::parts::MapParts;
 use crate::passes::cleaned_along;
 use aig_graph::{Circuit, Keep, Lit, keep_by_names};
 use clean::Cleaned;
-use frame_start::MergedStart;
-use latch_merging::{MergedCircuit, latch_reading, merged_by};
-use map_circuits::MapError;
-use merging_steps::{add_readings, read_functions};
+use latch_merging::{MergedCircuit, MergedStart, latch_reading, merged_by};
+use map_circuits::{MapError, add_readings, read_functions};
 use std::alloc::Global;
 
 /// Follows a merging that was made with these latches held, by what the latches read as.

@@ -4,7 +4,7 @@ use Rattle.counted_io.specs.Output.{Output, WritesAll}
 use Rattle.json_reports.specs.Lines.{json_line}
 use Rattle.circuit_files.specs.declared.outcome.Outcome.{Outcome}
 use Rattle.circuit_files.specs.declared.outcome.Failure.{Failure}
-use Rattle.command_objects.specs.Objects.{EndsPrintingObject}
+use Rattle.command_endings.specs.Objects.{EndsPrintingObject}
 use Rattle.simulation_commands.specs.Comparing.{finding_object, finding_text, outcome_of_finding, printed_finding}
 use Rattle.command_endings.specs.Printing.{EndsPrinting, EndsWith, Prints, ending}
 use Rattle.simulation_commands.specs.declared.comparison.Finding.{Finding}

@@ -1,2 +1,5 @@
 mod FindingLaws
 mod WaveLaws
+mod WordLaws
+mod RoomLaws
+pub mod FateLaws

@@ -2,7 +2,7 @@
 use Rattle.std.specs.Prelude.{ℕ, ◌≡◌, ◌⊎◌, Bool, true, false, List}
 use Rattle.aig_graph.specs.Circuits.{Netlist}
 use Rattle.lane_sim.specs.Traces.{trace}
-use Rattle.random_stimuli.specs.Room.{is_too_long}
+use Rattle.simulation_commands.specs.Room.{is_too_long}
 use Rattle.waves.specs.Dumps.{waves_text}
 use Rattle.waves.specs.Names.{wave_names}
 use Rattle.waves.specs.Probes.{probed}

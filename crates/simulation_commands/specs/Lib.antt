@@ -3,3 +3,6 @@ pub mod Dumping
 pub mod Keeping
 pub mod Simulating
 pub mod Stimulating
+pub mod Random
+pub mod Room
+pub mod Fates

@@ -4,8 +4,8 @@ use Rattle.counted_io.specs.Input.{Input}
 use Rattle.aig_graph.specs.Circuits.{Netlist}
 use Rattle.aig_graph.specs.Graph.{free_latches}
 use Rattle.lane_sim.specs.declared.stimulus.InputSequence.{InputSequence}
-use Rattle.random_stimuli.specs.Random.{random_stimulus}
-use Rattle.random_stimuli.specs.Room.{is_too_long}
+use Rattle.simulation_commands.specs.Random.{random_stimulus}
+use Rattle.simulation_commands.specs.Room.{is_too_long}
 use Rattle.command_line.specs.declared.task.Sequences.{Sequences}
 use Rattle.command_line.specs.declared.task.Stimuli.{Stimuli}
 use Rattle.command_line.specs.declared.task.Stimuli.TheVariants.{Read, Random}

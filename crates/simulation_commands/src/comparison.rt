@@ -1,6 +1,6 @@
 //! The command `same`.
 ghost use Rattle.std.specs.Prelude.{◌≡◌, IfOk};
-ghost use Rattle.command_objects.specs.Objects.{EndsPrintingObject};
+ghost use Rattle.command_endings.specs.Objects.{EndsPrintingObject};
 ghost use Rattle.simulation_commands.specs.Comparing.{IsFinding, IsFindingBy, IsFindingOf, IsFindingUnder, IsFindingWith, PrintsFinding, finding_object, finding_text, outcome_of_finding, printed_finding};
 ghost use Rattle.simulation_commands.specs.declared.kept.Shared.TheVariants.{Each, Kept};
 ghost use Rattle.command_endings.specs.Printing.{EndsPrinting, EndsWith, Prints, ending};
@@ -180,9 +180,9 @@ fn print_finding_object<'a, O: CountedWrite>(
         (O.output out.old) (O.output out.new) result }
 {
     match finding {
-        Finding::Same => command_objects::print_difference(alloc, None, out),
-        Finding::Differ(place) => command_objects::print_difference(alloc, Some(place), out),
-        Finding::ShapesDiffer => command_objects::print_shapes_differ(alloc, out),
+        Finding::Same => command_endings::print_difference(alloc, None, out),
+        Finding::Differ(place) => command_endings::print_difference(alloc, Some(place), out),
+        Finding::ShapesDiffer => command_endings::print_shapes_differ(alloc, out),
     }
 }
 

@@ -11,13 +11,13 @@ ghost use Rattle.circuit_files.specs.declared.outcome.Failure.TheVariants.{Memor
 ghost use Rattle.simulation_commands.specs.Dumping.{AreWavesOf, IsFailureToShow, dump_text};
 ghost use Rattle.simulation_commands.specs.Dumping as wanted;
 
+use crate::room::is_too_long;
 use crate::simulation::Case;
 use aig_graph::{Circuit, Sequence};
 use circuit_files::{Failure, LazyFile};
 use command_line::{Simulation, Stimuli};
 use counted_io::{Counted, CountedWrite, WriteError};
 use lane_sim::{Stimulus, Trace, simulate};
-use random_stimuli::is_too_long;
 use std::alloc::Global;
 use std::rt::Files;
 use std::thread::Threads;

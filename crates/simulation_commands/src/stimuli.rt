@@ -2,15 +2,16 @@
 ghost use Rattle.std.specs.Prelude.{◌≡◌, ◌⊎◌, IfOk, MatchResult, true};
 ghost use Rattle.circuit_files.specs.declared.outcome.Failure.TheVariants.{Memory, TooManySteps};
 ghost use Rattle.command_endings.specs.HeldNames.{OfSource};
-ghost use Rattle.random_stimuli.specs.Room.{is_too_long};
+ghost use Rattle.simulation_commands.specs.Room.{is_too_long};
 ghost use Rattle.simulation_commands.specs.Stimulating.{AreRandom, AreStimuliAt};
 
+use crate::generating::random_stimulus;
+use crate::room::is_too_long;
 use aig_graph::Circuit;
 use circuit_files::{Failure, stimulus_at};
 use command_line::{Sequences, Stimuli};
 use counted_io::CountedRead;
 use lane_sim::Stimulus;
-use random_stimuli::{is_too_long, random_stimulus};
 use std::alloc::Global;
 use std::rt::Files;
 use stream_paths::Source;

@@ -15,9 +15,9 @@ use Rattle.aig_graph.specs.Move.{Move}
 use Rattle.aig_graph.specs.Streams.{AreKept, SameStreams}
 use Rattle.aig_graph.specs.Value.{value_within}
 use Rattle.aig_graph.proofs.GraphLaws.{room}
-use Rattle.least_sets.specs.declared.choice.Choice.{Choice}
-use Rattle.least_sets.specs.declared.choice.Choice.TheVariants.{Greatest, Smallest}
-use Rattle.least_sets.specs.Chosen.{IsChosen}
+use Rattle.aig_graph.specs.declared.choice.Choice.{Choice}
+use Rattle.aig_graph.specs.declared.choice.Choice.TheVariants.{Greatest, Smallest}
+use Rattle.aig_graph.specs.Chosen.{IsChosen}
 use Rattle.cleaned_circuits.specs.Cleaned.{IsPass, Cleans, unchanged, after_pass}
 use Rattle.cleaned_circuits.specs.Latches.{latch_substitute}
 use Rattle.cleaned_circuits.specs.Merged.{merged_of}

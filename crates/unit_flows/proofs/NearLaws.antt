@@ -9,7 +9,7 @@ use Rattle.aig_graph.specs.Move.{move_of}
 use Rattle.aig_graph.specs.Border.{border_size}
 use Rattle.aig_graph.proofs.SearchLaws.{has_iff_contains}
 use Rattle.frame_net.specs.Passable.{is_passable}
-use Rattle.frame_cuts.proofs.NetLaws.{gate-range}
+use Rattle.frame_net.proofs.NetLaws.{gate-range}
 use Rattle.unit_flows.specs.declared.gate_flow.GateFlow.{GateFlow}
 use Rattle.unit_flows.specs.Units.{nth_gate, nth_flow, AreTallies, IsBalanced, arrivals}
 use Rattle.unit_flows.specs.Marks.{HoldsTails}

@@ -23,8 +23,8 @@ use Rattle.aig_graph.proofs.SearchLaws.{has_iff_contains}
 use Rattle.frame_net.specs.Passable.{is_passable}
 use Rattle.frame_net.specs.Capacity.{gate_reads, is_observed}
 use Rattle.frame_net.proofs.PassableLaws.{passable-means, passable-at_gate, settled-split}
-use Rattle.frame_cuts.proofs.ReadLaws.{read-split}
-use Rattle.frame_cuts.proofs.NetLaws.{gate-range}
+use Rattle.frame_net.proofs.ReadLaws.{read-split}
+use Rattle.frame_net.proofs.NetLaws.{gate-range}
 use Rattle.unit_flows.specs.declared.gate_flow.GateFlow.{GateFlow}
 use Rattle.unit_flows.specs.Units.{unit, nth_gate, nth_flow, AreTallies, IsBalanced, arrivals}
 use Rattle.unit_flows.specs.Marks.{HoldsTails, IsUpstream}

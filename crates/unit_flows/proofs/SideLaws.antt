@@ -15,8 +15,8 @@ use Rattle.aig_graph.proofs.SearchLaws.{has_iff_contains}
 use Rattle.frame_net.specs.Passable.{is_passable}
 use Rattle.frame_net.specs.Capacity.{gate_reads, is_observed}
 use Rattle.frame_net.proofs.PassableLaws.{passable-means}
-use Rattle.frame_cuts.proofs.ReadLaws.{read-split, read-by_gate}
-use Rattle.frame_cuts.proofs.NetLaws.{gate-range}
+use Rattle.frame_net.proofs.ReadLaws.{read-split, read-by_gate}
+use Rattle.frame_net.proofs.NetLaws.{gate-range}
 use Rattle.unit_flows.specs.Units.{nth_gate}
 
 -- true isn't false

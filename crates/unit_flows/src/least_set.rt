@@ -1,7 +1,7 @@
 //! The greatest least set of a circuit by a flow of units that a start made, where the judge says that it shows one.
 ghost use Rattle.std.specs.Prelude.{IfOk, IfSome};
 ghost use Rattle.aig_graph.specs.Border.{IsGreatestLeast, IsSmallestLeast};
-ghost use Rattle.least_sets.specs.Chosen.{IsChosen};
+ghost use Rattle.aig_graph.specs.Chosen.{IsChosen};
 
 use crate::along::flows_along;
 use crate::first_start::{put_start_down, put_start_up};
@@ -9,8 +9,7 @@ use crate::frame::Frame;
 use crate::gate_flow::GateFlow;
 use crate::judging::shown_set;
 use crate::nearest::shown_smallest_set;
-use aig_graph::{Circuit, ClosedSet, Keep, NoMemory};
-use least_sets::Choice;
+use aig_graph::{Choice, Circuit, ClosedSet, Keep, NoMemory};
 use std::alloc::Global;
 
 /// The chosen least set, where a flow shows it.

@@ -1,11 +1,10 @@
 //! The chosen least set of a circuit by a flow of units, where a start shows it, or pulses from that start do.
 ghost use Rattle.std.specs.Prelude.{IfOk, IfSome};
-ghost use Rattle.least_sets.specs.Chosen.{IsChosen};
+ghost use Rattle.aig_graph.specs.Chosen.{IsChosen};
 
 use crate::bringing::bring;
 use crate::extending::extend;
-use aig_graph::{Circuit, ClosedSet, Keep, NoMemory};
-use least_sets::Choice;
+use aig_graph::{Choice, Circuit, ClosedSet, Keep, NoMemory};
 use std::alloc::Global;
 use unit_flows::{Frame, GateFlow, greatest_least_shown, shown_chosen, smallest_least_shown};
 

@@ -1,3 +1,10 @@
 pub mod Witnesses
 pub mod Joining
 pub mod Laws
+pub mod Literals
+pub mod Latches
+pub mod Lifting
+pub mod Parts
+pub mod Built
+pub mod LiftedLaws
+pub mod Naming

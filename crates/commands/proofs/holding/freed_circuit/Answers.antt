@@ -1,7 +1,7 @@
 use Rattle.std.proofs.Common.{◌∙◌, sym}
 use Rattle.std.proofs.lemmas.Result.{IfOk-weaker}
 use Rattle.latch_marks.proofs.HeldLaws.{circuit-freed, circuit-unfreed, some-places}
-use Rattle.held_answers.proofs.AnswerLaws.{no-places}
+use Rattle.mapped_answers.proofs.AnswerLaws.{no-places}
 use Rattle.commands.proofs.holding.freed_circuit.Goals as goal
 
 pub returns-then-is_empty : goal.returns-then-is_empty

@@ -1,7 +1,7 @@
 use Rattle.std.proofs.Common.{◌∙◌, sym}
 use Rattle.std.proofs.lemmas.Result.{IfOk-weaker}
 use Rattle.latch_marks.proofs.HeldLaws.{circuit-held, circuit-unheld, some-places}
-use Rattle.held_answers.proofs.AnswerLaws.{no-places}
+use Rattle.mapped_answers.proofs.AnswerLaws.{no-places}
 use Rattle.commands.specs.HeldLatches.{texts_of}
 use Rattle.commands.proofs.holding.held_circuit.Goals as goal
 

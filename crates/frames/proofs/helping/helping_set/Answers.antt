@@ -4,8 +4,8 @@ use Rattle.aig_graph.specs.Graph.{known_latches}
 use Rattle.aig_graph.specs.Move.{move_of}
 use Rattle.rebuild.specs.Marked.{AreMarksOf}
 use Rattle.retimed_circuits.specs.Frames.{count_in}
-use Rattle.least_sets.specs.Chosen.{IsChosen}
-use Rattle.least_sets.proofs.ChosenLaws.{chosen-least}
+use Rattle.aig_graph.specs.Chosen.{IsChosen}
+use Rattle.aig_graph.proofs.ChosenLaws.{chosen-least}
 use Rattle.chosen_cuts.specs.Certified.{AddsOne}
 use Rattle.frames.specs.Named.{kept_by, names_in}
 use Rattle.frames.proofs.FrameLaws.{closed-length, none-smaller}

@@ -1,6 +1,6 @@
 use Rattle.std.proofs.Common.{ℕ, List, subst}
 use Rattle.aig_graph.specs.Graph.{Graph}
-use Rattle.circuit_instances.specs.Instances.{AreAll}
+use Rattle.map_circuits.specs.Instances.{AreAll}
 use Rattle.map_miters.proofs.ComparingLaws.{all-equal}
 use Rattle.map_miters.proofs.comparing.add_each_equal.Goals as goal
 

@@ -3,9 +3,9 @@ use Rattle.aig_graph.specs.declared.properties.Props.{Props}
 use Rattle.aig_graph.specs.Circuits.{AreLiteralsOf, Netlist}
 use Rattle.aig_graph.specs.Graph.{Graph, variables_end}
 use Rattle.aig_graph.specs.Value.{value_within}
-use Rattle.circuit_instances.specs.Instances.{AreAll, substitute}
-use Rattle.lifted_witnesses.specs.Parts.{IsView}
-use Rattle.lifted_witnesses.proofs.PropertyLaws.{substitutes-within}
+use Rattle.map_circuits.specs.Instances.{AreAll, substitute}
+use Rattle.witness_circuits.specs.Parts.{IsView}
+use Rattle.witness_circuits.proofs.PropertyLaws.{substitutes-within}
 use Rattle.map_miters.specs.Holding.{Held}
 use Rattle.map_miters.proofs.HoldingLaws.{below-end, holds-itself, holds-none, image-is}
 use Rattle.map_miters.proofs.images.add_image.Goals as goal

@@ -1,8 +1,8 @@
 use Rattle.std.proofs.Common.{ℕ, List, arith, sym, subst}
 use Rattle.aig_graph.specs.Graph.{Graph}
 use Rattle.aig_graph.specs.Value.{value_within}
-use Rattle.circuit_instances.specs.Instances.{HaveValues}
-use Rattle.lifted_witnesses.proofs.ViewLaws.{instance-view, leaves-have}
+use Rattle.map_circuits.specs.Instances.{HaveValues}
+use Rattle.witness_circuits.proofs.ViewLaws.{instance-view, leaves-have}
 use Rattle.map_miters.proofs.images.add_over.Goals as goal
 
 pub returns-clause-view : goal.returns-clause-view

@@ -5,8 +5,8 @@ use Rattle.aig_graph.specs.Circuits.{Netlist}
 use Rattle.aig_graph.specs.Graph.{Graph, variable, variables_end}
 use Rattle.aig_graph.specs.Value.{value_within}
 use Rattle.aig_graph.proofs.GraphLaws.{all_from_slice_get}
-use Rattle.circuit_instances.specs.Instances.{substitute}
-use Rattle.lifted_witnesses.specs.Parts.{IsView}
+use Rattle.map_circuits.specs.Instances.{substitute}
+use Rattle.witness_circuits.specs.Parts.{IsView}
 use Rattle.map_miters.proofs.HoldingLaws.{step-is}
 use Rattle.map_miters.proofs.SideLaws.{properties-within}
 use Rattle.map_miters.proofs.steps.add_step.Goals as goal

@@ -2,7 +2,7 @@ use Rattle.std.proofs.Common.{ℕ, ◌≡◌, ◌∙◌, IfOk, List, ap, map, su
 use Rattle.aig_graph.specs.declared.properties.Props.{Props}
 use Rattle.aig_graph.specs.Circuits.{Netlist}
 use Rattle.aig_graph.specs.Streams.{property_literals}
-use Rattle.circuit_instances.specs.Instances.{substitute}
+use Rattle.map_circuits.specs.Instances.{substitute}
 use Rattle.map_miters.proofs.HoldingLaws.{below-end}
 use Rattle.map_miters.proofs.SideLaws.{properties-within}
 use Rattle.map_miters.proofs.steps.props_of.Goals as goal

@@ -1,7 +1,7 @@
 use Rattle.std.proofs.Common.{◌≡◌, ◌<◌, false, true}
 use Rattle.frame_net.specs.FlowNet.{node_count}
 use Rattle.flow_whole.proofs.ActiveLaws.{work}
-use Rattle.exact_labels.proofs.RunLaws.{Paid}
+use Rattle.flow_whole.proofs.RunLaws.{Paid}
 use Rattle.pulse.specs.Conditions.{ArePushesOf, HasExactLabels, IsBetween, state_of}
 use Rattle.pulse.proofs.fast_run.run.Given as goal
 

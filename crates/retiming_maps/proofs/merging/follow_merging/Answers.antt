@@ -2,7 +2,7 @@ use Rattle.std.proofs.Common.{ℕ, List, ◌≡◌, ◌∙◌, ap, length, subst
 use Rattle.aig_graph.specs.Circuits.{AreLiteralsOf, Netlist}
 use Rattle.aig_graph.specs.Graph.{Graph, first_latch}
 use Rattle.map_circuits.specs.Constraining.{AddsSubstitutes}
-use Rattle.merging_steps.specs.Steps.{IsSomeReading, read_functions}
+use Rattle.map_circuits.specs.Steps.{IsSomeReading, read_functions}
 use Rattle.retiming_maps.specs.Mapping.{IsMapBy}
 use Rattle.retiming_maps.proofs.MergingLaws.{merged-map}
 use Rattle.retiming_maps.proofs.merging.follow_merging.Goals as goal

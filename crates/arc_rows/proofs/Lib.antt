@@ -1,2 +1,0 @@
-pub mod SparseRowLaws
-pub mod RowLaws

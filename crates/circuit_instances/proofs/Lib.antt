@@ -1,2 +1,0 @@
-pub mod InstanceLaws
-pub mod ConjunctionLaws

@@ -1,2 +1,0 @@
-pub mod EndingLaws
-pub mod RefusalLaws

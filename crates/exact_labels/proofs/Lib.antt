@@ -1,4 +1,0 @@
-pub mod ArcLaws
-pub mod WalkLaws
-pub mod DistanceLaws
-pub mod RunLaws

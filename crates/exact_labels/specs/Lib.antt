@@ -1,3 +1,0 @@
-pub mod Distances
-pub mod Runs
-pub mod Walks

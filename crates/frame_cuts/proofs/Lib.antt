@@ -1,6 +1,0 @@
-pub mod ReadLaws
-pub mod CutSumLaws
-pub mod CutLaws
-pub mod NetLaws
-pub mod SetCutLaws
-pub mod LeastCutLaws

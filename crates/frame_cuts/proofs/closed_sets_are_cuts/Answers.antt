@@ -1,5 +1,0 @@
-use Rattle.frame_cuts.proofs.SetCutLaws.{closed_sets_are_cuts-law}
-use Rattle.frame_cuts.proofs.closed_sets_are_cuts.Goals as goal
-
-pub returns : goal.returns
-returns c = closed_sets_are_cuts-law

@@ -1,5 +1,0 @@
-use Rattle.frame_cuts.proofs.LeastCutLaws.{greatest_cut_is_greatest_set-law}
-use Rattle.frame_cuts.proofs.greatest_cut_is_greatest_set.Goals as goal
-
-pub returns : goal.returns
-returns c = greatest_cut_is_greatest_set-law

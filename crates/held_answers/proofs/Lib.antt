@@ -1,4 +1,0 @@
-pub mod MarkLaws
-pub mod LimitLaws
-pub mod AnswerLaws
-pub mod MapLaws

@@ -1,3 +1,0 @@
-pub mod Holding
-pub mod Answering
-pub mod Mapping

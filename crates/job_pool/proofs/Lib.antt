@@ -1,7 +1,0 @@
-pub mod RisingLaws
-pub mod SharingLaws
-pub mod WeightLaws
-pub mod StepLaws
-pub mod GatheringLaws
-pub mod PlaceLaws
-mod CounterLaws

@@ -1,5 +1,0 @@
-use Rattle.least_sets.proofs.ChosenLaws.{chosen-least, chosen-one}
-use Rattle.least_sets.proofs.laws.chosen_law.Goals as goal
-
-pub returns : goal.returns
-returns c = λ choice before held s r. record { least = chosen-least choice before held s; one = chosen-one choice before held s r }

@@ -1,7 +1,0 @@
-use Rattle.std.proofs.Common.{◌≡◌}
-use Rattle.variable_tables.specs.Tables.{table}
-use Rattle.lifted_witnesses.specs.Lifting.{literal_name}
-use Rattle.lifted_witnesses.proofs.names.names.Given as goal
-
-abbrev pub invariant-loop-position : goal.invariant-loop-position
-invariant-loop-position l = l.names.items ≡ table 0 l.position (literal_name l.first)

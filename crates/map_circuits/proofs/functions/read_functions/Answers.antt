@@ -1,0 +1,14 @@
+use Rattle.std.proofs.Common.{ℕ, List, get_or, sym, subst}
+use Rattle.aig_graph.specs.Graph.{Graph, first_latch}
+use Rattle.map_circuits.specs.Constraining.{IsSubstitute}
+use Rattle.map_circuits.proofs.ReadsSubstituteLaws.{all-substitutes}
+use Rattle.map_circuits.proofs.functions.read_functions.Goals as goal
+
+pub read_function-requires : goal.read_function-requires
+read_function-requires c =
+    let d : Graph = c.args.aig.now in
+    let functions : List ℕ = c.args.functions.now in
+    let lit : ℕ = c.lit-item.result in
+    let here : IsSubstitute (first_latch d) functions (get_or c.args.reads.now c.loop-lit.lit-index lit) =
+    all-substitutes d c.requires.reading.0 c.args.reads.now functions c.requires.reading.1 c.requires.many c.loop-lit.lit-index lit c.loop-lit-test.true in
+    subst (λ (n : ℕ). IsSubstitute n functions lit) (sym c.first_latch-first.ensures.value) (subst (λ (l : ℕ). IsSubstitute (first_latch d) functions l) (sym c.lit-item.is) here)

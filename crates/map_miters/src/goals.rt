@@ -1,0 +1,95 @@
+//! What is good in a product machine.
+ghost use Rattle.std.specs.Prelude.{◌≡◌, IfOk, OnOk};
+ghost use Rattle.aig_graph.specs.Graph.{IsGraph};
+ghost use Rattle.map_circuits.specs.Growing.{Extends};
+ghost use Rattle.map_miters.specs.Comparing.{SaysThat};
+ghost use Rattle.map_miters.specs.Questions.{IsAskable};
+ghost use Rattle.map_miters.specs.Products.{AgreeIn, HoldsMapped, good_of};
+ghost use Rattle.map_miters.specs.Sides.{AreSides};
+
+use crate::comparing::add_each_equal;
+use crate::errors::MiterError;
+use crate::images::add_image;
+use crate::sides::Sides;
+use aig_graph::{AigBuilder, Circuit, Lit};
+use map_circuits::add_conjunction;
+use std::alloc::Global;
+
+/// What is good.
+#[derive(Clone, Copy, Debug, PartialEq, Eq)]
+pub enum Goal {
+    /// That all properties of both circuits have the same values: what a model asks.
+    Agree,
+    /// That the map's constraints are 1, and the second circuit's latches hold what it gives: what goes on to be so, step by step.
+    Mapped,
+}
+
+/// What says that all properties of both circuits have the same values.
+fn add_agreement(
+    alloc: Global,
+    gates: &mut AigBuilder,
+    sides: &Sides,
+    first: &Circuit,
+    second: &Circuit,
+    map: &Circuit,
+) -> Result<Lit, MiterError>
+    requires graph { IsGraph gates.old }
+    requires askable { IsAskable first.now second.now map.now }
+    requires sides { AreSides gates.old first.now second.now sides.now }
+    ensures extends { OnOk result (Extends gates.old gates.new) }
+    ensures says { IfOk result (λ lit. SaysThat gates.new lit (AgreeIn first.now second.now)) }
+{
+    let _first = first;
+    let _second = second;
+    let _map = map;
+    let props = sides.first.props.as_slice();
+    add_each_equal(alloc, gates, sides.second.props.as_slice(), props)
+}
+
+/// What says that the map's constraints are 1, and the second circuit's latches hold what it gives.
+fn add_mapped(
+    alloc: Global,
+    gates: &mut AigBuilder,
+    sides: &Sides,
+    first: &Circuit,
+    second: &Circuit,
+    map: &Circuit,
+) -> Result<Lit, MiterError>
+    requires graph { IsGraph gates.old }
+    requires askable { IsAskable first.now second.now map.now }
+    requires sides { AreSides gates.old first.now second.now sides.now }
+    ensures extends { OnOk result (Extends gates.old gates.new) }
+    ensures says { IfOk result (λ lit. SaysThat gates.new lit
+        (λ z u. HoldsMapped first.now second.now map.now u)) }
+{
+    let _first = first;
+    let _second = second;
+    let image = add_image(alloc, gates, map, sides.leaves.first.as_slice())?;
+    let outputs = image.outputs.as_slice();
+    let equal = add_each_equal(alloc, gates, outputs, sides.leaves.second.as_slice())?;
+    let both = add_conjunction(gates, image.kept, equal)?;
+    Ok(both)
+}
+
+/// What says that a state is good.
+pub(crate) fn add_good(
+    alloc: Global,
+    gates: &mut AigBuilder,
+    goal: Goal,
+    sides: &Sides,
+    first: &Circuit,
+    second: &Circuit,
+    map: &Circuit,
+) -> Result<Lit, MiterError>
+    requires graph { IsGraph gates.old }
+    requires askable { IsAskable first.now second.now map.now }
+    requires sides { AreSides gates.old first.now second.now sides.now }
+    ensures extends { OnOk result (Extends gates.old gates.new) }
+    ensures says { IfOk result (λ lit. SaysThat gates.new lit
+        (good_of goal first.now second.now map.now)) }
+{
+    match goal {
+        Goal::Agree => add_agreement(alloc, gates, sides, first, second, map),
+        Goal::Mapped => add_mapped(alloc, gates, sides, first, second, map),
+    }
+}

@@ -1,0 +1,267 @@
+//! The same with a map of states.
+ghost use Rattle.std.specs.Prelude.{◌≡◌, ◌<◌, IfErr, IfOk, length, unwrap_or};
+ghost use Rattle.frames.specs.Named.{NoneMissingBy};
+ghost use Rattle.mapped_answers.specs.Mapping.{IsMade, IsMapError, IsMappedOf};
+ghost use Rattle.mapped_answers.specs.Answering.{IsHeldMapStop, IsHeldMapped};
+ghost use Rattle.mapped_answers.specs.HeldMapping.{IsMadeMarked, IsMadeOwn, IsMapUnwritten, IsMappedFrom, IsMarkedMapStop, IsMarkedMapped, IsNamedMapStop, IsWithOwnMap, of_mapped_error};
+
+use crate::bytes::retime_spelt_mapped;
+use crate::errors::{HeldError, HeldMapError};
+use crate::holding::{holding, marked_over};
+use crate::making::{Made, made_over};
+use crate::mapped::{Mapped, MappedError};
+use crate::options::HeldOptions;
+use crate::writing::write_unmarked;
+use aig_binary::{Spelling, SpeltCircuit};
+use aig_graph::{Circuit, NoMemory};
+use counted_io::CountedWrite;
+use frames::{BytesError, FrameWatcher, Options, RetimeError, Stage};
+use latch_marks::unmark_map;
+use pulse::{Crew, PhaseGate};
+use std::alloc::Global;
+use std::thread::Threads;
+
+/// The error that memory was refused.
+fn no_memory() -> MappedError
+    ensures { IsMapError result }
+{
+    MappedError::Answer(BytesError::Retime(RetimeError::NoMemory))
+}
+
+/// A circuit that has latches of all names retimed, with its map.
+fn made_by_names<G: PhaseGate, V: FrameWatcher>(
+    rt: &(impl Threads + Sync),
+    alloc: Global,
+    circuit: Circuit,
+    options: &Options,
+    crew: &Crew<G>,
+    watcher: &mut V,
+) -> Result<Made, MappedError>
+    requires { NoneMissingBy options.now circuit }
+    ensures ok { IfOk result (IsMade options.now circuit) }
+    ensures err { IfErr result IsMapError }
+{
+    match made_over(rt, alloc, circuit, options, crew, watcher) {
+        Ok(made) => Ok(made),
+        Err(error) => Err(error),
+    }
+}
+
+/// A circuit retimed where its marks hold, with its map.
+fn made_by_marks<G: PhaseGate, V: FrameWatcher>(
+    rt: &(impl Threads + Sync),
+    alloc: Global,
+    circuit: Circuit,
+    options: &Options,
+    crew: &Crew<G>,
+    watcher: &mut V,
+) -> Result<Made, MappedError>
+    ensures ok { IfOk result (IsMadeMarked options.now circuit) }
+    ensures err { IfErr result IsMapError }
+{
+    match holding(alloc, &circuit, options) {
+        Ok(held) => {
+            let made = made_by_names(rt, alloc, circuit, &held, crew, watcher);
+            drop(held);
+            made
+        }
+        Err(_) => {
+            drop(circuit);
+            Err(no_memory())
+        }
+    }
+}
+
+/// What was made with a map that has no marks.
+fn with_own_map(alloc: Global, made: Made) -> Result<Made, NoMemory>
+    ensures { IfOk result (IsWithOwnMap made) }
+{
+    let Made { retimed, map } = made;
+    let own = unmark_map(alloc, &map);
+    drop(map);
+    match own {
+        Ok(map) => {
+            map.known();
+            Ok(Made { retimed, map })
+        }
+        Err(error) => {
+            drop(retimed);
+            Err(error)
+        }
+    }
+}
+
+/// A circuit retimed where its marks hold, with a map that has none.
+fn made_with_own_map<G: PhaseGate, V: FrameWatcher>(
+    rt: &(impl Threads + Sync),
+    alloc: Global,
+    circuit: Circuit,
+    options: &Options,
+    crew: &Crew<G>,
+    watcher: &mut V,
+) -> Result<Made, MappedError>
+    ensures ok { IfOk result (IsMadeOwn options.now circuit) }
+    ensures err { IfErr result IsMapError }
+{
+    match made_by_marks(rt, alloc, circuit, options, crew, watcher) {
+        Ok(made) => match with_own_map(alloc, made) {
+            Ok(whole) => Ok(whole),
+            Err(_) => Err(no_memory()),
+        },
+        Err(error) => Err(error),
+    }
+}
+
+/// Writes the circuit of a retiming in this spelling without its marks; its map, which has none, is in that spelling.
+fn written<W: CountedWrite>(
+    alloc: Global,
+    made: Made,
+    spelling: Spelling,
+    writer: &mut W,
+) -> Result<Mapped, MappedError>
+    ensures ok { IfOk result (IsMappedFrom made spelling (W.output writer.old)
+        (W.output writer.new)) }
+    ensures err { IfErr result (IsMapUnwritten made spelling (W.output writer.old)
+        (W.output writer.new)) }
+{
+    match write_unmarked(alloc, &made.retimed.circuit, spelling, writer) {
+        Ok(()) => {
+            let Made { retimed, map } = made;
+            Ok(Mapped {
+                retimed,
+                map: SpeltCircuit {
+                    circuit: map,
+                    spelling,
+                },
+            })
+        }
+        Err(error) => {
+            drop(made);
+            Err(MappedError::Answer(error))
+        }
+    }
+}
+
+/// A circuit with marks retimed, where they hold, and written without them, with its map.
+fn mapped_marked<W: CountedWrite, G: PhaseGate, V: FrameWatcher>(
+    rt: &(impl Threads + Sync),
+    alloc: Global,
+    spelt: SpeltCircuit,
+    writer: &mut W,
+    options: &Options,
+    crew: &Crew<G>,
+    watcher: &mut V,
+) -> Result<Mapped, MappedError>
+    ensures ok { IfOk result (IsMarkedMapped options.now spelt.circuit
+        (unwrap_or options.now.spelling spelt.spelling) (W.output writer.old)
+        (W.output writer.new)) }
+    ensures err { IfErr result (IsMarkedMapStop options.now spelt.circuit
+        (unwrap_or options.now.spelling spelt.spelling) (W.output writer.old)
+        (W.output writer.new)) }
+{
+    let SpeltCircuit {
+        circuit,
+        spelling: fallback,
+    } = spelt;
+    let spelling = options.spelling.unwrap_or(fallback);
+    match made_with_own_map(rt, alloc, circuit, options, crew, watcher) {
+        Ok(made) => {
+            watcher.enter(Stage::Writing);
+            written(alloc, made, spelling, writer)
+        }
+        Err(error) => Err(error),
+    }
+}
+
+/// The error that one of a run with a map is, where latches are held by their places.
+fn error_of(error: MappedError) -> HeldMapError
+    ensures { result ≡ of_mapped_error error }
+{
+    match error {
+        MappedError::Answer(error) => HeldMapError::Held(HeldError::Answer(error)),
+        MappedError::MapTooLarge => HeldMapError::MapTooLarge,
+    }
+}
+
+/// A circuit that was read, some of whose latches are held by their places, retimed and written, with its map.
+fn retime_places<W: CountedWrite, G: PhaseGate, V: FrameWatcher>(
+    rt: &(impl Threads + Sync),
+    alloc: Global,
+    spelt: SpeltCircuit,
+    writer: &mut W,
+    options: &HeldOptions,
+    crew: &Crew<G>,
+    watcher: &mut V,
+) -> Result<Mapped, HeldMapError>
+    requires { 0 < length options.now.places.items }
+    ensures ok { IfOk result (IsHeldMapped options.now spelt (W.output writer.old)
+        (W.output writer.new)) }
+    ensures err { IfErr result (IsHeldMapStop options.now spelt (W.output writer.old)
+        (W.output writer.new)) }
+{
+    match marked_over(alloc, spelt, options) {
+        Ok(marked) => match mapped_marked(
+            rt,
+            alloc,
+            marked,
+            writer,
+            &options.options,
+            crew,
+            watcher,
+        ) {
+            Ok(mapped) => Ok(mapped),
+            Err(error) => Err(error_of(error)),
+        },
+        Err(error) => Err(HeldMapError::Held(error)),
+    }
+}
+
+/// The run of `mapped_answers`, with the errors of one that holds latches by their places.
+fn retime_names<W: CountedWrite, G: PhaseGate, V: FrameWatcher>(
+    rt: &(impl Threads + Sync),
+    alloc: Global,
+    spelt: SpeltCircuit,
+    writer: &mut W,
+    options: &Options,
+    crew: &Crew<G>,
+    watcher: &mut V,
+) -> Result<Mapped, HeldMapError>
+    ensures ok { IfOk result (IsMappedOf options.now spelt (W.output writer.old)
+        (W.output writer.new)) }
+    ensures err { IfErr result (IsNamedMapStop options.now spelt (W.output writer.old)
+        (W.output writer.new)) }
+{
+    match retime_spelt_mapped(rt, alloc, spelt, writer, options, crew, watcher) {
+        Ok(mapped) => Ok(mapped),
+        Err(error) => Err(error_of(error)),
+    }
+}
+
+/// Retimes a circuit that was read, makes its map, and writes it, as `mapped_answers::retime_spelt_mapped` does, where latches are
+/// held by their places too. The circuit of the retiming that is returned still has the marks that hold; what is written has none, nor
+/// has the map.
+///
+/// # Errors
+///
+/// `Held` with what `retime_held` would say, and where memory for the map is refused; `MapTooLarge` where the map would have too many
+/// variables: nothing is written then.
+pub fn retime_held_mapped<W: CountedWrite, G: PhaseGate, V: FrameWatcher>(
+    rt: &(impl Threads + Sync),
+    alloc: Global,
+    spelt: SpeltCircuit,
+    writer: &mut W,
+    options: &HeldOptions,
+    crew: &Crew<G>,
+    watcher: &mut V,
+) -> Result<Mapped, HeldMapError>
+    ensures ok { IfOk result (IsHeldMapped options.now spelt (W.output writer.old)
+        (W.output writer.new)) }
+    ensures err { IfErr result (IsHeldMapStop options.now spelt (W.output writer.old)
+        (W.output writer.new)) }
+{
+    if options.places.as_slice().is_empty() {
+        retime_names(rt, alloc, spelt, writer, &options.options, crew, watcher)
+    } else {
+        retime_places(rt, alloc, spelt, writer, options, crew, watcher)
+    }
+}

@@ -1,3 +1,0 @@
-pub mod SameRunLaws
-pub mod SameRoundLaws
-pub mod AgainLaws

@@ -1,3 +1,0 @@
-pub mod ReadsHoldLaws
-pub mod MergedStepLaws
-pub mod MergedRunMapLaws

@@ -1,3 +1,0 @@
-pub mod ReadsSubstituteLaws
-pub mod MergeStepLaws
-pub mod ReadFunctionLaws

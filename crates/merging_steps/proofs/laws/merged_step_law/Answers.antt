@@ -1,5 +1,0 @@
-use Rattle.merging_steps.proofs.ReadFunctionLaws.{merged-step}
-use Rattle.merging_steps.proofs.laws.merged_step_law.Goals as goal
-
-pub returns : goal.returns
-returns c = λ a d e held kept g h functions old new. merged-step a d e held kept g h functions old new

@@ -1,5 +1,0 @@
-use Rattle.merging_steps.proofs.MergeStepLaws.{merging-step}
-use Rattle.merging_steps.proofs.laws.merging_step_law.Goals as goal
-
-pub returns : goal.returns
-returns c = λ a d e held kept g h functions old new. merging-step a d e held kept g h functions old new

@@ -1,5 +1,0 @@
-mod LeafLaws
-mod GoalLaws
-mod TieLaws
-mod EndLaws
-mod WitnessLaws

@@ -1,5 +1,0 @@
-pub mod Products
-pub mod Sides
-pub mod Ties
-pub mod Built
-pub mod Laws

@@ -1,2 +1,0 @@
-mod WordLaws
-mod RoomLaws

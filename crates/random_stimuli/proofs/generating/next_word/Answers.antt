@@ -1,8 +1,0 @@
-use Rattle.random_stimuli.proofs.WordLaws.{state-drawn, word-drawn}
-use Rattle.random_stimuli.proofs.generating.next_word.Goals as goal
-
-pub returns-clause-word : goal.returns-clause-word
-returns-clause-word c = λ seed k before. word-drawn seed k c.args.generator.now c.next_word.new.self c.next_word.result before c.next_word.ensures
-
-pub returns-clause-state : goal.returns-clause-state
-returns-clause-state c = λ seed k before. state-drawn seed k c.args.generator.now c.next_word.new.self c.next_word.result before c.next_word.ensures

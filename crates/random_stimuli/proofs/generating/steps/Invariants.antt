@@ -1,6 +1,0 @@
-use Rattle.std.proofs.Common.{ℕ, ◌≡◌, ◌+◌}
-use Rattle.random_stimuli.specs.Random.{random_steps, state_after}
-use Rattle.random_stimuli.proofs.generating.steps.Given as goal
-
-abbrev pub invariant-loop : goal.invariant-loop
-invariant-loop l = (seed : ℕ) → l.initial.generator ≡ state_after seed 1 → (l.generator ≡ state_after seed (l.counter + 1)) × (l.rows.items ≡ random_steps l.inputs l.counter seed)

@@ -1,0 +1,305 @@
+//! The command `witness`.
+ghost use Rattle.std.specs.Prelude.{◌≡◌, IfOk};
+ghost use Rattle.aig_graph.specs.Graph as graphs;
+ghost use Rattle.witnesses.specs.Texts.{whole_text};
+ghost use Rattle.circuit_files.specs.declared.outcome.Outcome.TheVariants.{Done};
+ghost use Rattle.simulation_commands.specs.Fates.{AreKept, AreLeft, AreLeftFor, AreLeftMerged, AreMergeOptions, IsCaseOf, IsFate, IsJudged, PrintsFate, fate_text, if_many, outcome_of_fate};
+ghost use Rattle.simulation_commands.specs.Fates as wanted;
+ghost use Rattle.command_endings.specs.Sources.{IsCircuitAt};
+ghost use Rattle.aig_binary.specs.declared.reading.SpeltCircuit.{SpeltCircuit};
+ghost use Rattle.command_endings.specs.Printing.{EndsPrinting, Prints, ending};
+
+use aig_graph::{Circuit, Keep, NoMemory, Sequence};
+use circuit_files::{Failure, Outcome, circuit_at, witness_at};
+use clean::{Cleaned, clean};
+use command_endings::ended;
+use command_line::Carrying;
+use counted_io::{CountedRead, CountedWrite};
+use frames::{Options, Retimed, retime};
+use pulse::{Crew, OpenGate};
+use reports::print_shapes_differ;
+use std::alloc::Global;
+use std::rt::Files;
+use std::thread::Threads;
+use stream_paths::Source;
+use tidy::all_places;
+use witnesses::{Confirmed, Objection, Widths, Witness, confirm, print_objection, print_witness};
+
+/// A circuit, the one that it was retimed to, and a witness for that one.
+#[derive(Drop)]
+struct Case {
+    circuit: Circuit,
+    retimed: Circuit,
+    witness: Witness,
+}
+
+/// What becomes of a witness.
+#[derive(Drop)]
+enum Fate {
+    Confirmed(Confirmed),
+    Objected(Objection),
+    /// The circuits aren't those of a retiming.
+    ShapesDiffer,
+}
+
+/// The places that cleaning leaves, where there are so many.
+fn places_left(cleaned: Cleaned, free: u32) -> Option<Sequence<u32>>
+    ensures { result ≡ if_many (graphs.free_latches cleaned.circuit.aig) cleaned.kept_free free }
+{
+    let Cleaned {
+        circuit,
+        kept_free,
+        ..
+    } = cleaned;
+    if circuit.aig().free_latches() == free {
+        Some(kept_free)
+    } else {
+        None
+    }
+}
+
+/// The places that a retiming leaves, where there are so many.
+fn places_of(retimed: Retimed, free: u32) -> Option<Sequence<u32>>
+    ensures { result ≡ if_many (graphs.free_latches retimed.circuit.aig) retimed.kept_free free }
+{
+    let Retimed {
+        circuit,
+        kept_free,
+        certificates,
+        ..
+    } = retimed;
+    drop(certificates);
+    if circuit.aig().free_latches() == free {
+        Some(kept_free)
+    } else {
+        None
+    }
+}
+
+/// The options of a retiming that merges latches and takes no frame.
+fn merge_options(alloc: Global) -> Options
+    ensures { AreMergeOptions result }
+{
+    Options {
+        max_frames: 0,
+        merge: true,
+        ..Options::defaults(alloc)
+    }
+}
+
+/// The places of the free latches that are left of a circuit once it is merged and cleaned, where there are so many.
+fn places_merged<R: Threads + Sync>(
+    rt: &R,
+    alloc: Global,
+    circuit: &Circuit,
+    free: u32,
+) -> Result<Option<Sequence<u32>>, NoMemory>
+    ensures { IfOk result (AreLeftMerged circuit.now free) }
+{
+    let options = merge_options(alloc);
+    match retime(rt, alloc, circuit, &options, &Crew::new(1, OpenGate)) {
+        Ok(retimed) => Ok(places_of(retimed, free)),
+        Err(_) => Err(NoMemory),
+    }
+}
+
+/// The places of the free latches that cleaning leaves of a circuit, where there are so many.
+fn places_cleaned(
+    alloc: Global,
+    circuit: &Circuit,
+    free: u32,
+) -> Result<Option<Sequence<u32>>, NoMemory>
+    ensures { IfOk result (AreLeft circuit.now free) }
+{
+    match clean(alloc, circuit, &Keep::none()) {
+        Ok(cleaned) => Ok(places_left(cleaned, free)),
+        Err(error) => Err(error),
+    }
+}
+
+/// The places of the free latches that are left of a circuit before the first frame, where there are so many.
+fn places_before<R: Threads + Sync>(
+    rt: &R,
+    alloc: Global,
+    circuit: &Circuit,
+    free: u32,
+    merge: bool,
+) -> Result<Option<Sequence<u32>>, NoMemory>
+    ensures { IfOk result (AreLeftFor merge circuit.now free) }
+{
+    if merge {
+        places_merged(rt, alloc, circuit, free)
+    } else {
+        places_cleaned(alloc, circuit, free)
+    }
+}
+
+/// The places of a retimed circuit's free latches among those of the circuit that it was made of: they keep their order, so these are
+/// all where there are as many, and else those that are left before the first frame, where these are as many.
+fn kept_places<R: Threads + Sync>(
+    rt: &R,
+    alloc: Global,
+    circuit: &Circuit,
+    retimed: &Circuit,
+    merge: bool,
+) -> Result<Option<Sequence<u32>>, NoMemory>
+    ensures { IfOk result (AreKept merge circuit.now retimed.now) }
+{
+    let free = retimed.aig().free_latches();
+    if circuit.aig().free_latches() == free {
+        return Ok(Some(all_places(alloc, circuit.aig())?));
+    }
+    places_before(rt, alloc, circuit, free, merge)
+}
+
+/// Whether the circuits have as many properties and inputs.
+fn have_same_widths(circuit: &Circuit, retimed: &Circuit) -> bool
+    ensures { result ≡ wanted.have_same_widths circuit.now retimed.now }
+{
+    let widths = Widths::of(circuit);
+    let others = Widths::of(retimed);
+    let constraints = circuit.props().constraints.len();
+    widths.bad == others.bad
+        && widths.justice == others.justice
+        && widths.inputs == others.inputs
+        && retimed.props().constraints.len() == constraints
+}
+
+/// What becomes of a witness, where these free latches were kept.
+fn judged_with<R: Threads + Sync>(
+    rt: &R,
+    alloc: Global,
+    circuit: &Circuit,
+    retimed: &Circuit,
+    kept: &[u32],
+    witness: Witness,
+) -> Result<Fate, NoMemory>
+    ensures { IfOk result (IsJudged circuit.now retimed.now kept.now witness) }
+{
+    match confirm(rt, alloc, circuit, retimed, kept, witness) {
+        Ok(Ok(confirmed)) => Ok(Fate::Confirmed(confirmed)),
+        Ok(Err(objection)) => Ok(Fate::Objected(objection)),
+        Err(error) => Err(error),
+    }
+}
+
+fn judged<'a, R: Threads + Sync>(
+    rt: &R,
+    alloc: Global,
+    circuit: &Circuit,
+    retimed: &Circuit,
+    merge: bool,
+    witness: Witness,
+) -> Result<Fate, Failure<'a>>
+    ensures { IfOk result (IsFate merge circuit.now retimed.now witness) }
+{
+    if !have_same_widths(circuit, retimed) {
+        return Ok(Fate::ShapesDiffer);
+    }
+    let Ok(places) = kept_places(rt, alloc, circuit, retimed, merge) else {
+        return Err(Failure::Memory);
+    };
+    let Some(kept) = places else {
+        return Ok(Fate::ShapesDiffer);
+    };
+    match judged_with(rt, alloc, circuit, retimed, kept.as_slice(), witness) {
+        Ok(fate) => Ok(fate),
+        Err(_) => Err(Failure::Memory),
+    }
+}
+
+/// What becomes of the witness of a case.
+fn fate_of<'a, R: Threads + Sync>(
+    rt: &R,
+    alloc: Global,
+    given: Case,
+    merge: bool,
+) -> Result<Fate, Failure<'a>>
+    ensures { IfOk result (IsFate merge given.circuit given.retimed given.witness) }
+{
+    let Case {
+        circuit,
+        retimed,
+        witness,
+    } = given;
+    let fate = judged(rt, alloc, &circuit, &retimed, merge, witness);
+    drop(circuit);
+    drop(retimed);
+    fate
+}
+
+/// The circuit that is read.
+fn read_circuit<'a, R: Files, I: CountedRead>(
+    rt: &R,
+    alloc: Global,
+    source: Source<'a>,
+    stdin: &mut I,
+) -> Result<Circuit, Failure<'a>>
+    ensures { IfOk result (λ circuit. (spelt : SpeltCircuit) × (circuit ≡ spelt.circuit)
+        × IsCircuitAt source.entry (I.input stdin.old) (I.input stdin.new) spelt) }
+{
+    match circuit_at(rt, alloc, source, stdin) {
+        Ok(spelt) => Ok(spelt.circuit),
+        Err(failure) => Err(failure),
+    }
+}
+
+/// Reads a circuit, the one that it was retimed to, and a witness for that one, in this order.
+fn case_for<'a, R: Files, I: CountedRead>(
+    rt: &R,
+    alloc: Global,
+    task: &Carrying<'a>,
+    stdin: &mut I,
+) -> Result<Case, Failure<'a>>
+    ensures { IfOk result (IsCaseOf task.now (I.input stdin.old) (I.input stdin.new)) }
+{
+    let circuit = read_circuit(rt, alloc, task.input, stdin)?;
+    let retimed = read_circuit(rt, alloc, task.retimed, stdin)?;
+    let witness = witness_at(rt, alloc, task.witness, &retimed, stdin)?;
+    Ok(Case {
+        circuit,
+        retimed,
+        witness,
+    })
+}
+
+fn print_confirmed<'a, O: CountedWrite>(
+    confirmed: &Confirmed,
+    out: &mut O,
+) -> Result<Outcome, Failure<'a>>
+    ensures { EndsPrinting Done (whole_text confirmed.now.witness confirmed.now.reached)
+        (O.output out.old) (O.output out.new) result }
+{
+    let printed = print_witness(&confirmed.witness, confirmed.reached.as_slice(), out);
+    ended(printed, Outcome::Done)
+}
+
+fn print_fate<'a, O: CountedWrite>(fate: &Fate, out: &mut O) -> Result<Outcome, Failure<'a>>
+    ensures { EndsPrinting (outcome_of_fate fate.now) (fate_text fate.now) (O.output out.old)
+        (O.output out.new) result }
+{
+    match fate {
+        Fate::Confirmed(confirmed) => print_confirmed(confirmed, out),
+        Fate::Objected(objection) => ended(print_objection(*objection, out), Outcome::Unconfirmed),
+        Fate::ShapesDiffer => ended(print_shapes_differ(out), Outcome::ShapesDiffer),
+    }
+}
+
+/// Reads a circuit, the one that it was retimed to, and a witness for that one, in this order, and prints the witness for the first.
+pub fn print_witness_back<'a, R: Files + Threads + Sync, I: CountedRead, O: CountedWrite>(
+    rt: &R,
+    alloc: Global,
+    task: &Carrying<'a>,
+    stdin: &mut I,
+    out: &mut O,
+) -> Result<Outcome, Failure<'a>>
+    ensures fate { IfOk result (PrintsFate task.now (I.input stdin.old) (I.input stdin.new)
+        (O.output out.old) (O.output out.new)) }
+    ensures prints { Prints (ending result) (O.output out.old) (O.output out.new) }
+{
+    let given = case_for(rt, alloc, task, stdin)?;
+    let fate = fate_of(rt, alloc, given, task.merge)?;
+    let printed = print_fate(&fate, out);
+    drop(fate);
+    printed
+}

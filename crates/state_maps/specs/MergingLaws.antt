@@ -1,0 +1,24 @@
+-- Laws of the states of merged circuits.
+use Rattle.std.specs.Prelude.{ℕ, Bool, List}
+use Rattle.aig_graph.specs.Graph.{IsGraph}
+use Rattle.aig_graph.specs.Circuits.{Netlist, IsNetlist}
+use Rattle.aig_graph.specs.Laws.{all_free}
+use Rattle.aig_graph.specs.declared.choice.Choice.{Choice}
+use Rattle.merged_latches.specs.Partitions.{IsMerged}
+use Rattle.retimed_circuits.specs.declared.report.Retimed.{Retimed}
+use Rattle.retimed_circuits.specs.Retiming.{IsMergedRetimed}
+use Rattle.state_maps.specs.States.{IsStateMap}
+use Rattle.state_maps.specs.Retimed.{HasStateMap}
+use Rattle.state_maps.specs.MergedStates.{ReadsHold}
+
+-- merging maps each state to itself, where each latch holds what it reads as
+abbrev pub MergingMaps : List ℕ → Netlist → Netlist → Type 0
+MergingMaps held c d = IsGraph c.aig → IsNetlist c → (merged : IsMerged held c d) → IsStateMap c d (all_free c.aig) (ReadsHold c.aig merged.reads) (λ s. s)
+
+-- so there is a map that rests on a test
+abbrev pub HasMergingMap : List ℕ → Netlist → Netlist → Type 0
+HasMergingMap held c d = IsGraph c.aig → IsNetlist c → IsMerged held c d → HasStateMap c d (all_free c.aig)
+
+-- and what a circuit is retimed to after it was merged has one
+abbrev pub MergedRetimingMaps : Choice → List (List ℕ) → Netlist → ℕ → Bool → Retimed → Type 0
+MergedRetimingMaps choice names c max_frames certify r = IsGraph c.aig → IsNetlist c → IsMergedRetimed choice c names max_frames certify r → HasStateMap c r.circuit r.kept_free

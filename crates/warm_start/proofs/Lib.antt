@@ -1,3 +1,0 @@
-pub mod UnitLaws
-pub mod SendLaws
-pub mod OnePartLaws

@@ -1,0 +1,68 @@
+-- The filled graph with its names is a lifted witness.
+use Rattle.std.proofs.Common.{ℕ, ◌+◌, ◌<◌, ◌≤◌, ◌≡◌, [], length, map, get_or, refl, arith, ap, ◌∙◌}
+use Rattle.std.proofs.lemmas.List.{get_or-map, length-map}
+use Rattle.variable_tables.proofs.TableLaws.{length-table, table-at}
+use Rattle.aig_graph.specs.declared.properties.Props.{Props}
+use Rattle.aig_graph.specs.declared.properties.Symbol.{Symbol}
+use Rattle.aig_graph.specs.declared.properties.Symbols.{Symbols}
+use Rattle.aig_graph.specs.Circuits.{AreNamesBelow, IsNetlist, Netlist, no_symbols}
+use Rattle.aig_graph.specs.Graph.{Graph, first_latch}
+use Rattle.witness_circuits.specs.declared.sharing.Sharing.{Sharing}
+use Rattle.witness_circuits.specs.Built.{IsFilled}
+use Rattle.witness_circuits.specs.Lifting.{IsLifted, literal_name, literal_names}
+
+-- the names of a lifted witness
+abbrev pub named : Graph → Symbols
+named g = record no_symbols { inputs = literal_names 1 g.inputs; latches = literal_names (first_latch g) (length g.latches) }
+
+no-names : (n : ℕ) → AreNamesBelow n []
+no-names n = record { rising = λ k less. absurd (omega (arith, less)); below = λ k a less. absurd (omega (arith, less)) }
+
+literal-names-below : (first n all : ℕ) → n ≤ all → AreNamesBelow all (literal_names first n)
+literal-names-below first n all fits = record {
+  rising = λ k less.
+      let long : k + 1 < n = omega (arith, less, length-map (literal_names first n) (λ (s : Symbol). s.position), length-table 0 n (literal_name first)) in
+      let here = at k (omega (arith, long)) in
+      let next = at (k + 1) long in
+      omega (arith, here, next);
+  below = λ k d less.
+      let short : k < n = omega (arith, less, length-table 0 n (literal_name first)) in
+      let is = ap (λ (s : Symbol). s.position) (table-at 0 n (literal_name first) k d short) in
+      omega (arith, is, short, fits);
+}
+  where
+    at : (k : ℕ) → k < n → get_or (map (λ (s : Symbol). s.position) (literal_names first n)) k 0 ≡ k
+    at k short =
+        let d : Symbol = literal_name first 0 in
+        let place : 0 + k ≡ k = omega arith in
+        get_or-map (λ (s : Symbol). s.position) (literal_names first n) k d 0 (omega (arith, short, length-table 0 n (literal_name first)))
+        ∙ ap (λ (s : Symbol). s.position) (table-at 0 n (literal_name first) k d short) ∙ place
+
+module _ (h : Graph) (c m w : Netlist) (k : Sharing) (props : Props) (filled : IsFilled h c m w k props) where
+  -- the filled graph with its properties and names is a netlist
+  pub lifted-netlist : IsNetlist (record { aig = h; props = props; symbols = named c.aig })
+  lifted-netlist = record {
+    props = filled.props.within;
+    symbols = record {
+      inputs = literal-names-below 1 c.aig.inputs h.inputs (omega (arith, filled.places.inputs));
+      latches = literal-names-below (first_latch c.aig) (length c.aig.latches) (length h.latches) (omega (arith, filled.places.latches));
+      outputs = no-names (length props.outputs);
+      bad = no-names (length props.bad);
+      constraints = no-names (length props.constraints);
+      justice = no-names (length props.justice);
+      fairness = no-names (length props.fairness);
+    };
+  }
+
+  -- the filled graph with its properties and names is the lifted witness
+  pub is-lifted : IsLifted c m w k (record { aig = h; props = props; symbols = named c.aig })
+  is-lifted = record {
+    inputs = filled.places.inputs;
+    latches = filled.places.latches;
+    first = filled.first;
+    own = filled.own;
+    allowed = filled.props.allowed;
+    good = filled.props.good;
+    input_names = refl;
+    latch_names = refl;
+  }

@@ -1,0 +1,5 @@
+use Rattle.witness_circuits.proofs.SourceLaws.{AreFirst}
+use Rattle.witness_circuits.proofs.literals.sources.Given as goal
+
+abbrev pub invariant-loop-place : goal.invariant-loop-place
+invariant-loop-place l = AreFirst l.places l.shared l.own l.place-index l.next l.lits.items

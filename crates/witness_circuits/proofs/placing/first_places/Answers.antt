@@ -1,0 +1,16 @@
+use Rattle.std.proofs.Common.{ℕ, ◌∙◌, arith, ap, sym, zero-add}
+use Rattle.variable_tables.proofs.TableLaws.{entry, table-end, table-none}
+use Rattle.witness_circuits.specs.Naming.{place_below}
+use Rattle.witness_circuits.proofs.placing.first_places.Goals as goal
+
+pub loop-place-init : goal.loop-place-init
+loop-place-init c = c.in_ok-places.ensures.items ∙ sym (table-none 0 _)
+
+pub loop-place-preserved : goal.loop-place-preserved
+loop-place-preserved c =
+    let k : ℕ = c.loop-place.place in
+    entry 0 k (place_below c.args.count) c.loop-place.places.items c.push.new.self.items c.place_below.result c.loop-place.invariant c.in_ok-push.ensures.items
+    (c.place_below.ensures ∙ ap (place_below c.args.count) (sym (zero-add k)))
+
+pub returns : goal.returns
+returns c = table-end 0 c.loop-place.place c.args.many (place_below c.args.count) c.loop-place.places.items (omega (arith, c.loop-place.auto.place-end)) (omega (arith, c.loop-place-test.false)) c.loop-place.invariant

@@ -1,0 +1,50 @@
+//! A witness circuit is lifted in one graph: each latch that it shares is replaced by what the map gives, so that no latch of the mapped
+//! circuit is left. A latch that is only equated with it would start by itself, and could start otherwise.
+ghost use Rattle.std.specs.Prelude.{◌≡◌, IfOk};
+ghost use Rattle.aig_graph.specs.Circuits.{IsNetlist};
+ghost use Rattle.witness_circuits.specs.Built.{circuit_of};
+ghost use Rattle.witness_circuits.specs.Lifting.{IsLifted};
+ghost use Rattle.witness_circuits.specs.Parts.{IsLiftable};
+
+use crate::building::{Built, assembled};
+use crate::errors::LiftError;
+use crate::names::names_of;
+use crate::sharing::Sharing;
+use aig_graph::{Circuit, Symbols};
+use std::alloc::Global;
+
+/// The graph and its properties as a circuit with these names. Takes no memory.
+fn finished(built: Built, symbols: Symbols) -> Circuit
+    requires { IsNetlist (circuit_of built symbols) }
+    ensures { result ≡ circuit_of built symbols }
+{
+    let Built { gates, props } = built;
+    Circuit::new(gates.finish(), props, symbols)
+}
+
+/// A witness circuit for a circuit, made of one for the circuit to which a map maps its states. It has the inputs and latches of the
+/// circuit, which its names say, and after them those that are the witness's own. Linear in all three.
+///
+/// # Errors
+///
+/// `NoMemory` where memory is refused, `TooLarge` where it would have more variables than a graph may have.
+pub fn lifted_witness(
+    alloc: Global,
+    first: &Circuit,
+    map: &Circuit,
+    witness: &Circuit,
+    sharing: &Sharing,
+) -> Result<Circuit, LiftError>
+    requires { IsLiftable first.now map.now witness.now sharing.now }
+    ensures { IfOk result (IsLifted first.now map.now witness.now sharing.now) }
+{
+    first.known();
+    let symbols = names_of(alloc, first.aig())?;
+    match assembled(alloc, first, map, witness, sharing) {
+        Ok(built) => Ok(finished(built, symbols)),
+        Err(error) => {
+            drop(symbols);
+            Err(error)
+        }
+    }
+}

@@ -1,3 +1,0 @@
-pub mod NamingLaws
-mod RefusalLaws
-pub mod FitLaws

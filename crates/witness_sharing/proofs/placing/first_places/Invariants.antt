@@ -1,7 +1,0 @@
-use Rattle.std.proofs.Common.{◌≡◌}
-use Rattle.variable_tables.specs.Tables.{table}
-use Rattle.witness_sharing.specs.Naming.{place_below}
-use Rattle.witness_sharing.proofs.placing.first_places.Given as goal
-
-abbrev pub invariant-loop-place : goal.invariant-loop-place
-invariant-loop-place l = l.places.items ≡ table 0 l.place (place_below l.count)
