@@ -1,4 +1,3 @@
-pub mod WordLaws
 pub mod LaneLaws
 pub mod TableLaws
 pub mod BlockLaws

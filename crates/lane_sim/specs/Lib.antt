@@ -1,4 +1,3 @@
-pub mod Words
 pub mod Lanes
 pub mod Traces
 pub mod Blocks
