@@ -7,14 +7,8 @@ use Rattle.counted_io.specs.Buffered.{Puts}
 use Rattle.counted_io.specs.Line.{numbered_lines}
 use Rattle.counted_io.specs.Output.{Output}
 use Rattle.counted_io.specs.declared.buffered.Buffered.{Buffered}
-use Rattle.counted_io.proofs.BufferedLaws.{puts-then}
+use Rattle.counted_io.proofs.BufferedLaws.{puts-then, enumerate_from-append}
 use Rattle.aig_binary.specs.Text.{KeepsText}
-
-enumerate_from-append : {X : Type 0} (first : ℕ) (xs ys : List X) → enumerate_from first (xs ++ ys) ≡ enumerate_from first xs ++ enumerate_from (first + length xs) ys
-enumerate_from-append first [] ys = ap (λ n. enumerate_from n ys) (omega arith)
-enumerate_from-append first (x ∷ xs) ys =
-    let shift : first + 1 + length xs ≡ first + length (x ∷ xs) = omega arith in
-    ap (λ es. (first, x) ∷ es) (enumerate_from-append (first + 1) xs ys ∙ ap (λ n. enumerate_from (first + 1) xs ++ enumerate_from n ys) shift)
 
 -- the line of one more numbered thing
 numbered-more : {X : Type 0} (f : ℕ → X → List ℕ) (first : ℕ) (xs : List X) (k : ℕ) (x : X) → k < length xs → x ≡ get_or xs k x

@@ -16,6 +16,7 @@ use Rattle.aig_graph.specs.Laws.{MayMoveOrPassable, PassableLaw, EmptySetLaws, A
 use Rattle.aig_graph.proofs.ClosedLaws.{settled_where, is_settled-gate, and_left, and_right}
 use Rattle.aig_graph.proofs.ClosedBorderLaws.{closed-border_size}
 use Rattle.variable_tables.proofs.CountingLaws.{count_below-same}
+use Rattle.variable_tables.proofs.MemberLaws.{rising_rest}
 
 -- a variable is settled exactly where it is a known latch that isn't held or a passable gate
 settled_iff : (g : Graph) (held : List ℕ) (v : ℕ) → IsTrue (is_settled g held v) ↔ MayMoveOrPassable g held v
@@ -81,12 +82,6 @@ tail_above x xs rising v (k, h, e) =
     let there : get_or xs k 0 ≡ v = get_or_default xs k 0 v h ∙ e in
     omega arith
 
-tail_rising : (x : ℕ) (xs : List ℕ) → IsStrictlyIncreasing (x ∷ xs) → IsStrictlyIncreasing xs
-tail_rising x xs rising k h =
-    let below : get_or (x ∷ xs) (suc k) 0 < get_or (x ∷ xs) (suc k + 1) 0 = rising (suc k) (omega arith) in
-    let next : suc k + 1 ≡ suc (k + 1) = omega arith in
-    rw next at below
-
 -- a member of one rising list is one of the other's tail, where the heads are one
 tail_within : (x : ℕ) (xs : List ℕ) (y : ℕ) (ys : List ℕ) → x ≡ y → IsStrictlyIncreasing (x ∷ xs) → ((v : ℕ) → Contains (x ∷ xs) v → Contains (y ∷ ys) v) → (v : ℕ) → Contains xs v → Contains ys v
 tail_within x xs y ys heads rising there v member =
@@ -112,7 +107,7 @@ rising_same (x ∷ xs) (y ∷ ys) p q there back =
     let low : y ≤ x = head_least x xs y ys q there in
     let high : x ≤ y = head_least y ys x xs p back in
     let heads : x ≡ y = omega arith in
-    let tails : xs ≡ ys = rising_same xs ys (tail_rising x xs p) (tail_rising y ys q) (tail_within x xs y ys heads p there) (tail_within y ys x xs (sym heads) q back) in
+    let tails : xs ≡ ys = rising_same xs ys (rising_rest x xs p) (rising_rest y ys q) (tail_within x xs y ys heads p there) (tail_within y ys x xs (sym heads) q back) in
     cc
 
 -- there is at most one greatest least set, and one smallest

@@ -16,7 +16,7 @@ use Rattle.aig_graph.specs.Streams.{property_literals, chosen}
 use Rattle.aig_graph.specs.Laws.{all_free, composed, IsReflexive, IsTransitive}
 
 -- functions that agree everywhere are one
-funext : {A B : Type 0} (f g : A → B) → ((x : A) → f x ≡ g x) → f ≡ g
+pub funext : {A B : Type 0} (f g : A → B) → ((x : A) → f x ≡ g x) → f ≡ g
 funext f g h = λ i. λ x. h x i
 
 -- a free latch has fewer free ones before it than there are

@@ -24,7 +24,7 @@ bind_ok (Err d) f y e = absurd cc
 
 -- ---- the item of a line is of the line's section
 
-same_some : (a b : Item) → ◌≡◌ {A = Option Item} (Some a) (Some b) → a ≡ b
+pub same_some : (a b : Item) → ◌≡◌ {A = Option Item} (Some a) (Some b) → a ≡ b
 same_some a b e = cc
 
 from_single : (make : ℕ → Item) (section : Section) → ((n : ℕ) → section_of (make n) ≡ section) → (found : Option (List ℕ)) (item : Item) → option_and_then (single make) found ≡ Some item → section_of item ≡ section

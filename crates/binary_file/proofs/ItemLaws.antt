@@ -13,7 +13,7 @@ use Rattle.ascii_file.specs.Items.{Item, InputItem, LatchItem, SafetyItem, SizeI
 use Rattle.ascii_file.specs.Reading.{with_item, malformed, is_symbols}
 use Rattle.ascii_file.proofs.CheckLaws as ascii
 use Rattle.ascii_file.proofs.CheckLaws.{Passes, unless_ok, unless_passes, same_ok, passes_where_reset, reset_where_it_passes}
-use Rattle.ascii_file.proofs.StepLaws.{section_is, no_comment}
+use Rattle.ascii_file.proofs.StepLaws.{section_is, no_comment, same_some}
 use Rattle.binary_file.specs.Headers.{header_of, header_checks, IsHeaderWithin}
 use Rattle.binary_file.specs.Items.{next_section, next_latch, latch_in, item_in}
 use Rattle.binary_file.specs.Reading.{InComment, before_item, checked_header, read_header, line_checks, take_item, read_line, end_line}
@@ -95,9 +95,6 @@ fits_where_passes h raw at (SizeItem size) has passes = ascii.fits_where_passes 
 fits_where_passes h raw at (LivenessItem lit) has passes = (ascii.fits_where_passes h raw at (LivenessItem lit) passes).0
 fits_where_passes h raw at (GateItem gate) has passes = has
 fits_where_passes h raw at (SymbolItem symbol) has passes = ascii.fits_where_passes h raw at (SymbolItem symbol) passes
-
-same_some : (a b : Item) → ◌≡◌ {A = Option Item} (Some a) (Some b) → a ≡ b
-same_some a b e = cc
 
 -- an item that is made of a latch's numbers belongs to the section of latches
 pub latch_section : (current : ℕ) (found : Option (List ℕ)) (item : Item) → option_and_then (latch_in current) found ≡ Some item → section_of item ≡ Latches

@@ -13,11 +13,7 @@ use Rattle.ascii_file.specs.Reading.{is_symbols}
 use Rattle.ascii_file.proofs.StepLaws.{bind_ok}
 use Rattle.binary_file.specs.Items.{next_section, first_line, after_line}
 use Rattle.binary_file.specs.Reading.{State, AtHeader, InLine, InFirst, InComment, is_gates, before_item, end_header, read_header, read_line, end_line, delta_step, step, feed, complete, finish}
-
--- of three steps that may fail it doesn't matter which two are taken together
-pub bind_assoc : {A B C : Type 0} (r : Result A ReadError) (f : A → Result B ReadError) (g : B → Result C ReadError) → ((r >>= f) >>= g) ≡ (r >>= λ x. f x >>= g)
-bind_assoc (Ok x) f g = refl
-bind_assoc (Err e) f g = refl
+use Rattle.ascii_file.proofs.PieceLaws.{bind_assoc}
 
 -- before an item the end of the input ends nothing
 pub nothing_begun : (end : ℕ) (h : Header) (raw : Raw) (at : ℕ) → complete end (before_item h raw at) ≡ finish end (before_item h raw at)

@@ -30,7 +30,7 @@ pub composed-all : (n : ℕ) (more : List ℕ) → All (λ place. place < n) mor
 composed-all n more below = map-fixed_all (λ place. place < n) (λ place. get_or (range_with_len 0 n) place 0) (λ place h. get_or-range_with_len 0 n place 0 h ∙ zero-add place) more below
 
 -- composing twice is composing with the composed
-composed-then : (first second third : List ℕ) → All (λ place. place < length second) third → composed first (composed second third) ≡ composed (composed first second) third
+pub composed-then : (first second third : List ℕ) → All (λ place. place < length second) third → composed first (composed second third) ≡ composed (composed first second) third
 composed-then first second third below =
     let f : ℕ → ℕ = λ place. get_or first place 0 in
     let each : All (λ place. f (get_or second place 0) ≡ get_or (composed first second) place 0) third = λ k d h.

@@ -6,9 +6,7 @@ use Rattle.cleaned_circuits.specs.Merged.{merged_of}
 use Rattle.cleaned_circuits.specs.Trimmed.{trimmed_of, kept_free, new_position}
 use Rattle.cleaned_circuits.specs.Cleaned.{IsPass, Cleans, unchanged, after_pass}
 use Rattle.cleaned_circuits.proofs.PassLaws.{reached-same}
-
-funext : {A B : Type 0} (f g : A → B) → ((x : A) → f x ≡ g x) → f ≡ g
-funext f g h = λ i. λ x. h x i
+use Rattle.aig_graph.proofs.StreamLaws.{funext}
 
 -- what a pass makes is one
 pub record SamePass (d e : Netlist) (first second one_held other_held : List ℕ) : Type 0 where

@@ -66,7 +66,7 @@ props-fixed f P p fixed all =
     ap one (map-fixed_all P f fixed p.outputs parts.outputs) ∙ ap two (map-fixed_all P f fixed p.bad parts.bad) ∙ ap three (map-fixed_all P f fixed p.constraints parts.constraints)
     ∙ ap four (map-fixed_all (λ (lits : List ℕ). All P lits) (map f) (map-fixed_all P f fixed) p.justice parts.justice) ∙ ap five (map-fixed_all P f fixed p.fairness parts.fairness)
 
-gate-ordered : (gate : Gate) → gate.rhs1 ≤ gate.rhs0 → gate_of gate.rhs0 gate.rhs1 ≡ gate
+pub gate-ordered : (gate : Gate) → gate.rhs1 ≤ gate.rhs0 → gate_of gate.rhs0 gate.rhs1 ≡ gate
 gate-ordered gate h =
     let first : (gate_of gate.rhs0 gate.rhs1).rhs0 ≡ gate.rhs0 = omega arith in
     let second : (gate_of gate.rhs0 gate.rhs1).rhs1 ≡ gate.rhs1 = omega arith in
@@ -75,7 +75,7 @@ gate-ordered gate h =
     ap one first ∙ ap two second
 
 -- a literal that is itself again
-twice : (lit v : ℕ) → v ≡ variable lit → signed_as lit (2 * v) ≡ lit
+pub twice : (lit v : ℕ) → v ≡ variable lit → signed_as lit (2 * v) ≡ lit
 twice lit v e = omega arith
 
 -- where each variable stays, nothing is trimmed

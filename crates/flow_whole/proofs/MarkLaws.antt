@@ -15,10 +15,6 @@ use Rattle.flow_whole.proofs.WholeDeliveryLaws.{whole_given, whole_kept}
 use Rattle.flow_whole.proofs.WholeReadLaws.{whole_read, whole_unread}
 use Rattle.flow_whole.proofs.StepLaws.{hold_pushes, given_is_pulse, node_safe, parts_safe_by}
 
-or_first : (a b : Bool) → a ≡ false → (a || b) ≡ true → b ≡ true
-or_first true b e h = absurd (false≢true (sym e))
-or_first false b e h = h
-
 or_second : (a b : Bool) → b ≡ false → (a || b) ≡ true → a ≡ true
 or_second true b e h = refl
 or_second false b e h = absurd (false≢true (sym e ∙ h))

@@ -11,6 +11,7 @@ use Rattle.fretime.specs.Reporting.{MayRefuse, PrintsFailure}
 use Rattle.command_endings.specs.Printing.{Prints, ending}
 use Rattle.fretime.specs.Batches.{PrintsList}
 use Rattle.fretime.specs.Runs.{MayGive, MayPrint, PrintsFilesOrRefusal, PrintsShapes}
+use Rattle.command_endings.proofs.PrintingLaws.{failing}
 
 -- a command that isn't a batch
 pub by_command : (r : Result Outcome Failure) (old new : Output) → Prints (ending r) old new → MayGive r old new
@@ -54,24 +55,8 @@ by_batch true o old new p = inr (inr p)
 by_batch false o old new p = inr (inl p)
 
 -- a failure before any task
-nothing_printed : (f : Failure) (s : Output) → Prints (outcome_of f) s s
-nothing_printed (fails.Refused path fault) s = refl
-nothing_printed (fails.RefusedStimulus path fault) s = refl
-nothing_printed (fails.RefusedList path fault) s = refl
-nothing_printed (fails.RefusedCertificates path fault) s = refl
-nothing_printed (fails.RefusedWitness path fault) s = refl
-nothing_printed (fails.NoSuchName path name) s = refl
-nothing_printed (fails.NoSuchLatch path place) s = refl
-nothing_printed (fails.TooManyNodes path) s = refl
-nothing_printed (fails.TooManySteps path) s = refl
-nothing_printed (fails.NotAMap path) s = refl
-nothing_printed (fails.NoSuchLiteral path) s = refl
-nothing_printed (fails.Device path) s = tt
-nothing_printed fails.Memory s = refl
-
--- a failure before any task
 pub by_failure : (o : Outcome) (f : Failure) (s : Output) → o ≡ outcome_of f → MayPrint o s s
-by_failure o f s is = subst (λ (e : Outcome). MayPrint e s s) (sym is) (inl (nothing_printed f s))
+by_failure o f s is = subst (λ (e : Outcome). MayPrint e s s) (sym is) (inl (failing f s))
 
 -- help, the version, or a mistake in the arguments: nothing went to standard output
 pub of_usage : (o : Outcome) (s : Output) → (o ≡ Done) ⊎ (o ≡ CommandLine) ⊎ (o ≡ Memory) → MayPrint o s s

@@ -9,9 +9,8 @@ use Rattle.aig_graph.specs.Building.{gate_of}
 use Rattle.cleaned_circuits.specs.Merged.{Merging, known_substitute, merge_gate, merge_gates, replaced, replaced_gate, substitute_or_own, with_substitute}
 use Rattle.cleaned_circuits.proofs.SubstituteLaws.{length-merge_gate}
 use Rattle.merged_latches.proofs.RunLaws.{gate_of-either}
+use Rattle.merged_latches.proofs.CoarserLaws.{substitutes-stay}
 
--- gates add entries, and change none
-substitutes-stay : (gates : List Gate) (m : Merging) (v : ℕ) → v < length m.substitutes → get_or (merge_gates gates m).substitutes v 0 ≡ get_or m.substitutes v 0
 unfolding merge_gates
 substitutes-stay [] m v h = refl
 substitutes-stay (gate ∷ gates) m v h =

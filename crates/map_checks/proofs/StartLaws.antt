@@ -21,11 +21,11 @@ use Rattle.variable_tables.specs.Counting.{count_below}
 use Rattle.variable_tables.proofs.PlacesLaws.{count-lt}
 use Rattle.state_maps.specs.States.{opening_state}
 use Rattle.state_maps.specs.MapCircuits.{mapped}
-use Rattle.state_maps.proofs.MapLaws.{funext}
 use Rattle.map_checks.specs.Copies.{Copy, copy_of}
 use Rattle.map_checks.specs.Starts.{AreRising, AreStarts, IsFreeLatch, IsOpening, IsResetImage, StartsAs, Takes}
 use Rattle.map_checks.specs.Answers.{Begins}
 use Rattle.map_checks.proofs.ImageLaws.{copied-ones}
+use Rattle.aig_graph.proofs.StreamLaws.{funext}
 
 -- a rising list that is followed by a number greater than each entry is rising
 pub push-rising : (xs : List ℕ) (g : ℕ) → IsStrictlyIncreasing xs → ((k : ℕ) → k < length xs → get_or xs k 0 < g) → IsStrictlyIncreasing (xs ++ g ∷ [])

@@ -10,7 +10,6 @@ use Rattle.aig_graph.specs.Mapped.{mapped_props}
 use Rattle.aig_graph.specs.Value.{next_value, value_within}
 use Rattle.state_maps.specs.States.{Digits, SameReads, State, after_step}
 use Rattle.state_maps.specs.MapCircuits.{is_kept, mapped}
-use Rattle.state_maps.proofs.MapLaws.{funext}
 use Rattle.state_maps.proofs.WithinLaws.{within_laws}
 use Rattle.variable_tables.proofs.ListLaws.{from_map}
 use Rattle.map_checks.specs.Shared.{AreGates, Shared}
@@ -19,6 +18,7 @@ use Rattle.map_checks.specs.Copies.{Copy, Follows}
 use Rattle.map_checks.specs.Images.{AreSettled, AreSides, Views, in_first, in_map_later, in_second, nexts_of}
 use Rattle.map_checks.specs.Answers.{KeepsStates}
 use Rattle.map_checks.proofs.ImageLaws.{copied-list, copied-lists, copied-ones, latch-value, nexts-within}
+use Rattle.aig_graph.proofs.StreamLaws.{funext}
 
 -- a latch that reads the constant
 abbrev pub loose : Latch → Latch

@@ -9,7 +9,7 @@ use Rattle.aig_graph.specs.Laws.{all_free, composed}
 use Rattle.merged_latches.proofs.MergingLaws.{IsGraph-merged_latches, merged-streams}
 use Rattle.state_maps.specs.States.{IsStateMap, State}
 use Rattle.state_maps.proofs.FrameMapLaws.{restated}
-use Rattle.state_maps.proofs.MapLaws.{funext, maps-compose}
+use Rattle.state_maps.proofs.MapLaws.{maps-compose}
 use Rattle.map_circuits.specs.Constraining.{AreOne}
 use Rattle.map_circuits.specs.Following.{state_of}
 use Rattle.map_circuits.proofs.SteppingLaws.{state-kept}
@@ -17,6 +17,7 @@ use Rattle.state_maps.specs.MergedStates.{ReadsHold}
 use Rattle.state_maps.proofs.MergedStepLaws.{merging-maps}
 use Rattle.map_circuits.specs.Steps.{MergingStep}
 use Rattle.map_circuits.proofs.ReadsSubstituteLaws.{reads-below, reads-hold}
+use Rattle.aig_graph.proofs.StreamLaws.{funext}
 
 -- a list with all its places is itself
 composed-every : (kept : List ℕ) (n : ℕ) → length kept ≡ n → composed kept (range_with_len 0 n) ≡ kept

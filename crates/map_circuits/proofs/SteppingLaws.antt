@@ -18,11 +18,11 @@ use Rattle.variable_tables.proofs.PlacesLaws.{Ranks, rank_at}
 use Rattle.state_maps.specs.States.{State}
 use Rattle.state_maps.specs.Cleaning.{held_by}
 use Rattle.state_maps.specs.Moving.{held_value}
-use Rattle.state_maps.proofs.MapLaws.{funext}
 use Rattle.map_circuits.specs.Growing.{Extends}
 use Rattle.map_circuits.specs.Following.{Follows, IsCovered, entry_of, state_of}
 use Rattle.map_circuits.specs.Stepping.{AreMoved, ArePassed}
 use Rattle.map_circuits.proofs.FollowingLaws.{source-from}
+use Rattle.aig_graph.proofs.StreamLaws.{funext}
 
 -- the state that functions say stays so as the graph grows
 pub state-kept : (g h : Graph) (functions : List ℕ) → Extends g h → All (λ lit. IsLiteralOf g lit) functions → (s : State) → state_of h functions s ≡ state_of g functions s

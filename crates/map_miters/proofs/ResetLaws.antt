@@ -19,6 +19,7 @@ use Rattle.map_miters.specs.Asking.{AreLeaves, asked_state}
 use Rattle.map_miters.specs.Holding.{AreResets, Held, HoldAs, IsImage, reset_at, reset_state}
 use Rattle.map_miters.proofs.HoldingLaws.{resets-hold}
 use Rattle.map_miters.specs.Questions.{Begins, FreeStay, IsFirst}
+use Rattle.map_circuits.proofs.ConjunctionLaws.{both}
 
 -- outputs that are what latches hold at step 0 are a first state
 firsts-say : (h d : Graph) (outputs firsts : List ℕ) (t : Held) → length outputs ≡ length d.latches → length firsts ≡ length d.latches → HoldAs h outputs t
@@ -53,10 +54,6 @@ firsts-hold g d m t image latches own lits valid p many of_latches of_own resets
 clash : (b : Bool) → b ≡ true → b ≡ false → ⊥
 clash true one none = absurd (cc)
 clash false one none = absurd (cc)
-
-both : (a b : Bool) → (a && b) ≡ true → (a ≡ true) × (b ≡ true)
-both true b h = (refl, h)
-both false b h = absurd (cc)
 
 module _ (c d m : Netlist) (s : Held) where
   -- where the free latches stay, the negation of what says the rest

@@ -30,6 +30,7 @@ use Rattle.mapped_answers.specs.Holding.{CanHold, IsHolding, IsHoldingError, IsM
 use Rattle.mapped_answers.specs.Answering.{IsHeldAnswer, IsHeldStop, IsHeldWritten, IsMarkedStop, IsMarkedWritten, IsNamedStop}
 use Rattle.mapped_answers.proofs.LimitLaws.{unmarked-within}
 use Rattle.mapped_answers.proofs.MarkLaws.{marks-found}
+use Rattle.latch_marks.proofs.HeldLaws.{circuit-freed}
 
 -- ---- a run that holds marks
 
@@ -110,18 +111,13 @@ by_places h (place ∷ places) spelt r some is can retimed =
 held-answer : (h : HeldOptions) (spelt : SpeltCircuit) (m : Netlist) (r : Retimed) → 0 < length h.places.items → IsMarked h spelt.circuit m → IsRetimedMarked h.options m r → IsHeldAnswer h spelt r
 held-answer h spelt m r some is retimed = by_places h h.places.items spelt r some refl is.can (subst (λ (c : Netlist). IsRetimedMarked h.options c r) is.is retimed)
 
--- what is written then has no marks
-pub freed-is : (places : List ℕ) (c : Netlist) → 0 < length places → circuit_freed places c ≡ unmarked c
-freed-is [] c some = absurd (omega (arith, some))
-freed-is (place ∷ places) c some = refl
-
 -- a circuit that was marked was retimed and written
 pub held-written : (h : HeldOptions) (spelt : SpeltCircuit) (m : SpeltCircuit) (old new : Output) (r : Retimed) → 0 < length h.places.items
     → IsMarked h spelt.circuit m.circuit → m.spelling ≡ spelt.spelling → IsMarkedWritten h.options m.circuit (unwrap_or h.options.spelling m.spelling) old new r → IsHeldWritten h spelt old new r
 held-written h spelt m old new r some is same written =
     let spelling = unwrap_or h.options.spelling spelt.spelling in
     let answer = held-answer h spelt m.circuit r some is written.retimed in
-    let free = freed-is h.places.items r.circuit some in
+    let free = circuit-freed h.places.items r.circuit some in
     let retimed = subst (λ (c : Netlist). IsRetimedMarked h.options c r) is.is written.retimed in
     let marks = marks_in h spelt.circuit in
     let shape = (streams-kept h spelt.circuit r retimed).shape in
@@ -147,7 +143,7 @@ held-stop h spelt m old new (Write e) some is same stop =
     record {
       retimed = stop.retimed;
       answer = held-answer h spelt m.circuit stop.retimed some is stop.is;
-      writes = subst (λ (d : Netlist). O d (here spelt.spelling)) (sym (freed-is h.places.items stop.retimed.circuit some))
+      writes = subst (λ (d : Netlist). O d (here spelt.spelling)) (sym (circuit-freed h.places.items stop.retimed.circuit some))
           (subst (λ (s : Spelling). O (unmarked stop.retimed.circuit) (here s)) same stop.writes);
     }
 

@@ -14,8 +14,8 @@ use Rattle.retimed_circuits.specs.Frames.{AfterFrames, frame}
 use Rattle.retimed_circuits.proofs.RunLaws.{SameEnd, after-one}
 use Rattle.retiming_maps.specs.declared.parts.MapParts.{MapParts}
 use Rattle.retiming_maps.specs.Mapping.{IsMapTo}
-use Rattle.retiming_maps.proofs.StepLaws.{composed-then}
 use Rattle.mapped_answers.specs.Following.{IsFollowed}
+use Rattle.clean.proofs.CleaningLaws.{composed-then}
 
 -- what so many frames make is one
 pub one-taken : (options : Options) (c d : Netlist) (kept : List ℕ) (n : ℕ) (r after : Retimed) (taken : Frame) (parts : MapParts) → IsUnderway options d n r → Moves options r.circuit taken → IsUnderway options d (suc n) after

@@ -1,10 +1,7 @@
 -- What is written of a circuit that was read is within the limits of a header where that is.
 use Rattle.std.proofs.Common.{ℕ, Bool, true, false, ◌+◌, ◌≡◌, List, length, map, ap, sym, subst, arith}
-use Rattle.std.specs.List.{sum}
-use Rattle.std.proofs.lemmas.List.{length-map}
-use Rattle.std.proofs.lemmas.List.Elements.{All-from_recursion, recursion_from_All}
+use Rattle.std.proofs.lemmas.List.Elements.{recursion_from_All}
 use Rattle.aig_graph.specs.declared.properties.Symbol.{Symbol}
-use Rattle.aig_graph.specs.declared.properties.Symbols.{Symbols}
 use Rattle.aig_graph.specs.Graph.{first_latch}
 use Rattle.aig_graph.specs.Circuits.{Netlist}
 use Rattle.aig_graph.specs.Keep.{held_in}
@@ -15,7 +12,7 @@ use Rattle.cleaned_circuits.specs.Cleaned.{IsPass, Cleans, unchanged, after_pass
 use Rattle.variable_tables.specs.Counting.{count_below}
 use Rattle.rebuild.specs.Moved.{is_latched, moved_symbols, stays}
 use Rattle.ascii_file.specs.Laws.{all_names, IsWithinLimits}
-use Rattle.ascii_file.proofs.OneLineLaws.{HasOneLineNames, IsOneLine}
+use Rattle.ascii_file.proofs.OneLineLaws.{IsOneLine}
 use Rattle.merged_latches.specs.declared.counts.MergeCounts.{MergeCounts}
 use Rattle.aig_graph.specs.declared.choice.Choice.{Choice}
 use Rattle.retimed_circuits.specs.declared.report.FrameReport.{FrameReport}
@@ -25,6 +22,7 @@ use Rattle.retimed_circuits.specs.Merging.{MergesIn}
 use Rattle.retimed_circuits.specs.Retiming.{IsRetimedWith}
 use Rattle.latch_marks.specs.Marks.{marked, unmarked}
 use Rattle.mapped_answers.proofs.MarkLaws.{HasOwnNames, own-latches, own-marked, own-names, own-picked}
+use Rattle.retimed_circuits.proofs.LimitLaws.{within-by}
 
 abbrev HasOwn : Netlist → Type 0
 HasOwn c = HasOwnNames c.symbols
@@ -64,21 +62,6 @@ retimed-own true choice c names max_frames certify r retimed own =
     let s = retimed.from_start in
     let ended = after-own choice names retimed.start (length s.frames) s.circuit s.kept_free s.frames retimed.retimed.frames (merged-own names c retimed.start retimed.kept retimed.counts retimed.merges own) in
     subst HasOwn (sym (ap (λ (x : Retimed). x.circuit) retimed.whole)) ended
-
--- a circuit of as many properties, whose names are of one line each
-within-by : (c d : Netlist) → SameShape c d → HasOneLineNames d → IsWithinLimits c → IsWithinLimits d
-within-by c d shape names within =
-    let sizes : sum (map length d.props.justice) ≡ sum (map length c.props.justice) = ap sum shape.justice in
-    let same : length (map length d.props.justice) ≡ length (map length c.props.justice) = ap (λ (ns : List ℕ). length ns) shape.justice in
-    record {
-      outputs = omega (arith, shape.outputs, within.outputs);
-      bad = omega (arith, shape.bad, within.bad);
-      constraints = omega (arith, shape.constraints, within.constraints);
-      justice = omega (arith, same, within.justice, length-map d.props.justice (λ (lits : List ℕ). length lits), length-map c.props.justice (λ (lits : List ℕ). length lits));
-      justice_literals = omega (arith, sizes, within.justice_literals);
-      fairness = omega (arith, shape.fairness, within.fairness);
-      names = All-from_recursion IsOneLine (all_names d.symbols) names;
-    }
 
 -- c's latches marked, that retimed, and its marks taken away
 pub unmarked-within : (merge : Bool) (choice : Choice) (held : List ℕ) (c : Netlist) (names : List (List ℕ)) (max_frames : ℕ) (certify : Bool) (r : Retimed)

@@ -27,7 +27,8 @@ use Rattle.mapped_answers.specs.declared.options.HeldOptions.{HeldOptions}
 use Rattle.mapped_answers.specs.Holding.{IsHolding, IsMarked, IsRetimedMarked, IsUnwritten, WritesCircuit}
 use Rattle.mapped_answers.specs.Answering.{IsHeldMapped, IsHeldMapStop, IsMarkedStop, IsMarkedWritten}
 use Rattle.mapped_answers.specs.HeldMapping.{IsMadeMarked, IsMadeOwn, IsMapUnwritten, IsMappedFrom, IsMarkedMapStop, IsMarkedMapped, IsNamedMapStop, IsWithOwnMap, of_mapped_error}
-use Rattle.mapped_answers.proofs.AnswerLaws.{freed-is, held-stop, held-written, holding-retimed, marked-unwritten, marked-written, named-stop, named-written, no-places}
+use Rattle.mapped_answers.proofs.AnswerLaws.{held-stop, held-written, holding-retimed, marked-unwritten, marked-written, named-stop, named-written, no-places}
+use Rattle.latch_marks.proofs.HeldLaws.{circuit-freed}
 
 -- where no name is missing, there is no map since memory was refused, or since it is too large
 pub made-unmade : (options : Options) (c : Netlist) (e : MappedError) → NoneMissingBy options c → IsMakingError options c e → IsMapError e
@@ -117,7 +118,7 @@ held-mapped h spelt m old new mapped some is same written =
     let here : IsMapCircuit c (unmarked r.circuit) r.kept_free mapped.map.circuit = renamed-map c (unmarked r.circuit) _ _ r.kept_free mapped.map.circuit there in
     record {
       written = held-written h spelt m old new r some is same written.written;
-      map = subst (λ (d : Netlist). IsMapCircuit c d r.kept_free mapped.map.circuit) (sym (freed-is h.places.items r.circuit some)) here;
+      map = subst (λ (d : Netlist). IsMapCircuit c d r.kept_free mapped.map.circuit) (sym (circuit-freed h.places.items r.circuit some)) here;
       spelling = written.spelt ∙ ap (λ (s : Spelling). unwrap_or h.options.spelling s) same;
     }
 

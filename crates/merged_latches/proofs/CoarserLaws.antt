@@ -237,7 +237,7 @@ module _ (g : Graph) (held finer coarser : List ℕ) (valid : IsGraph g) (one : 
       runs-literal (merge_gates g.gates (merging_from (leaves g finer))) (merge_gates g.gates (merging_from (leaves g coarser))) all lit (omega (arith, length-substitutes_after g (leaves g finer) p))
 
 -- gates add entries, and change none
-substitutes-stay : (gates : List Gate) (m : Merging) (v : ℕ) → v < length m.substitutes → get_or (merge_gates gates m).substitutes v 0 ≡ get_or m.substitutes v 0
+pub substitutes-stay : (gates : List Gate) (m : Merging) (v : ℕ) → v < length m.substitutes → get_or (merge_gates gates m).substitutes v 0 ≡ get_or m.substitutes v 0
 unfolding merge_gates
 substitutes-stay [] m v h = refl
 substitutes-stay (gate ∷ gates) m v h =

@@ -9,6 +9,7 @@ use Rattle.variable_tables.proofs.TableLaws.{table-same, table-from, length-tabl
 use Rattle.aig_graph.specs.Graph.{Graph, variables_end}
 use Rattle.aig_graph.specs.Circuits.{Netlist}
 use Rattle.pictures.specs.Near.{is_centre, is_near, is_next}
+use Rattle.aig_graph.proofs.StreamLaws.{funext}
 
 -- where the condition holds, the marks of a test are those of the condition and the test together
 pub marks-where : (old new : List Bool) (p : ℕ → Bool) (holds test : Bool) → test ≡ holds → test ≡ true → Marks 0 old new p → Marks 0 old new (λ v. holds && p v)
@@ -17,9 +18,6 @@ marks-where old new p holds test same passes marks = subst (λ (b : Bool). Marks
 -- where the condition doesn't hold, no mark is added for it and any test together
 pub marks-nowhere : (old : List Bool) (p : ℕ → Bool) (holds test : Bool) → test ≡ holds → test ≡ false → Marks 0 old old (λ v. holds && p v)
 marks-nowhere old p holds test same fails = subst (λ (b : Bool). Marks 0 old old (λ v. b && p v)) (sym fails ∙ same) (Marks-none 0 old)
-
-funext : {A B : Type 0} (f g : A → B) → ((x : A) → f x ≡ g x) → f ≡ g
-funext f g h = λ i. λ x. h x i
 
 near-past : (c : Netlist) (name : List ℕ) (depth v : ℕ) → variables_end c.aig ≤ v → is_near c name depth v ≡ false
 unfolding is_near

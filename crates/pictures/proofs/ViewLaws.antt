@@ -18,9 +18,7 @@ use Rattle.pictures.specs.Pictures.{dot_text, picture}
 use Rattle.pictures.specs.Views.{look_in, drawn_in, plain}
 use Rattle.pictures.specs.declared.look.Look.{Look}
 use Rattle.pictures.specs.declared.look.View.{View}
-
-funext : {A B : Type 0} (f g : A → B) → ((x : A) → f x ≡ g x) → f ≡ g
-funext f g h = λ i. λ x. h x i
+use Rattle.aig_graph.proofs.StreamLaws.{funext}
 
 -- what is neither a latch nor a gate
 no_latch : (g : Graph) (held : List ℕ) (v : ℕ) → latch_at g v ≡ None → is_held g held v ≡ false

@@ -47,7 +47,7 @@ after-names choice names c _ _ _ _ (frame n d e kept left reports report run las
     cleans-names e (held_in names moved) moved left last.cleaned (moved-names names d last.set (after-names choice names c n d kept reports run all))
 
 -- a circuit of as many properties, whose names are of one line each
-within-by : (c d : Netlist) → SameShape c d → HasOneLineNames d → IsWithinLimits c → IsWithinLimits d
+pub within-by : (c d : Netlist) → SameShape c d → HasOneLineNames d → IsWithinLimits c → IsWithinLimits d
 within-by c d shape names within =
     let sizes : sum (map length d.props.justice) ≡ sum (map length c.props.justice) = ap sum shape.justice in
     let same : length (map length d.props.justice) ≡ length (map length c.props.justice) = ap (λ (ns : List ℕ). length ns) shape.justice in

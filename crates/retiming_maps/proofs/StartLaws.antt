@@ -22,11 +22,12 @@ use Rattle.variable_tables.specs.Tables.{table}
 use Rattle.variable_tables.proofs.ListLaws.{map-same}
 use Rattle.variable_tables.proofs.TableLaws.{length-table, table-at}
 use Rattle.state_maps.specs.States.{Digits, IsStateMap, SameReads, State, after_step, opening_state}
-use Rattle.state_maps.proofs.MapLaws.{funext, opening-same}
+use Rattle.state_maps.proofs.MapLaws.{opening-same}
 use Rattle.state_maps.proofs.WithinLaws.{within_laws}
 use Rattle.map_circuits.specs.Constraining.{AreOne}
 use Rattle.map_circuits.specs.Following.{state_of}
 use Rattle.retiming_maps.specs.Mapping.{IsMapBy}
+use Rattle.aig_graph.proofs.StreamLaws.{funext}
 
 -- the values of a step rest on what the latches hold alone
 module _ (g : Graph) (valid : IsGraph g) (x : Digits) (s t : State) (same : (j : ℕ) → j < length g.latches → s j ≡ t j) where

@@ -1,7 +1,7 @@
 -- A map that follows passes and moves is one to what they make.
 use Rattle.std.proofs.Common.{ℕ, ◌+◌, ◌<◌, ◌≤◌, ◌≡◌, Bool, slice_get, List, length, get_or, ap, sym, ◌∙◌, subst, zero-add}
 use Rattle.std.specs.List.{All, range_with_len}
-use Rattle.std.proofs.lemmas.List.{get_or-map, length-map}
+use Rattle.std.proofs.lemmas.List.{length-map}
 use Rattle.aig_graph.specs.declared.literal.TheConstants.{MAX_VARIABLES}
 use Rattle.aig_graph.specs.Circuits.{Netlist}
 use Rattle.aig_graph.specs.Closed.{IsClosedSet}
@@ -15,7 +15,6 @@ use Rattle.cleaned_circuits.proofs.MergedLaws.{IsGraph-merged}
 use Rattle.cleaned_circuits.proofs.PassLaws.{IsCircuit, IsCircuit-pass, pass-streams}
 use Rattle.rebuild.specs.Moved.{moved_graph, moved_of}
 use Rattle.rebuild.proofs.MovedLaws.{IsGraph-moved}
-use Rattle.variable_tables.proofs.ListLaws.{map-map, map-same}
 use Rattle.variable_tables.specs.Counting.{places}
 use Rattle.variable_tables.specs.Tables.{table}
 use Rattle.variable_tables.proofs.TableLaws.{table-from}
@@ -23,7 +22,7 @@ use Rattle.state_maps.specs.States.{IsStateMap, State}
 use Rattle.state_maps.specs.Cleaning.{SubstitutesHold, held_by, trimmed_state}
 use Rattle.state_maps.specs.Moving.{moved_state}
 use Rattle.state_maps.proofs.FrameMapLaws.{restated}
-use Rattle.state_maps.proofs.MapLaws.{funext, maps-compose, moving-maps}
+use Rattle.state_maps.proofs.MapLaws.{maps-compose, moving-maps}
 use Rattle.state_maps.proofs.PassStepLaws.{cleaning-maps, small-many}
 use Rattle.map_circuits.specs.Constraining.{AddsSubstitutes, AreOne}
 use Rattle.map_circuits.specs.Following.{state_of}
@@ -34,6 +33,8 @@ use Rattle.map_circuits.proofs.SteppingLaws.{state-kept}
 use Rattle.retiming_maps.specs.declared.parts.MapParts.{MapParts}
 use Rattle.retiming_maps.specs.Mapping.{IsMapBy, IsMapTo, LeadsOn}
 use Rattle.retiming_maps.proofs.SubstitutesLaws.{latch_substitutes, substitutes-below, substitutes-hold}
+use Rattle.clean.proofs.CleaningLaws.{composed-then}
+use Rattle.aig_graph.proofs.StreamLaws.{funext}
 
 -- a merged circuit has the latches that stay where the circuit has them
 pass-places : (d : Netlist) (held : List ℕ) (r : ℕ → Bool)
@@ -103,13 +104,6 @@ module _ (c : Netlist) (m : Move) (kept : List ℕ) (g h : Graph) (functions new
         (maps-compose c m.circuit (moved_of m) kept (all_free m.circuit.aig) (AreOne g constraints) (λ s. Unit {0}) (state_of g functions) (moved_state m)
         (IsGraph-moved m valid.graph set room) free p.maps (moving-maps m valid.graph valid.netlist set room)));
   })
-
--- places in places in places
-pub composed-then : (first second third : List ℕ) → All (λ place. place < length second) third → composed first (composed second third) ≡ composed (composed first second) third
-composed-then first second third below =
-    map-map (λ i. get_or first i 0) (λ i. get_or second i 0) third
-    ∙ map-same (λ place. place < length second) (λ place. get_or first (get_or second place 0) 0) (λ place. get_or (composed first second) place 0)
-    (λ place less. sym (get_or-map (λ i. get_or first i 0) second place 0 0 less)) third below
 
 -- what leads on twice leads on
 pub leads-more : (c d e : Netlist) (old mid new : MapParts) (first second both : List ℕ) → LeadsOn c old d first mid → LeadsOn d mid e second new → both ≡ composed first second

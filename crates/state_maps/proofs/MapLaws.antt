@@ -3,7 +3,7 @@ use Rattle.std.proofs.Common.{ℕ, ◌+◌, ◌*◌, ◌<◌, ◌≡◌, suc, ze
 use Rattle.std.specs.List.{All, flat_map}
 use Rattle.std.proofs.lemmas.List.{get_or-map, map-append}
 use Rattle.aig_graph.proofs.PropsLaws.{flat-map_map, of_literals}
-use Rattle.aig_graph.proofs.StreamLaws.{value-same}
+use Rattle.aig_graph.proofs.StreamLaws.{value-same, funext}
 use Rattle.aig_graph.proofs.ValueLaws.{value_laws}
 use Rattle.aig_graph.specs.Circuits.{Netlist}
 use Rattle.aig_graph.specs.Closed.{IsClosedSet}
@@ -27,10 +27,6 @@ use Rattle.state_maps.specs.States.{Digits, IsAllowed, IsStateMap, SameReads, St
 use Rattle.state_maps.specs.Moving.{held_value, moved_state}
 use Rattle.state_maps.specs.Laws.{InvariantsComeBack, MapsCompose, MapsGiveStreams, MovingMaps}
 use Rattle.state_maps.proofs.MoveStepLaws.{moved_literal-value, next_latched-value}
-
--- functions that agree everywhere are one
-pub funext : {A B : Type 0} (f g : A → B) → ((x : A) → f x ≡ g x) → f ≡ g
-funext f g h = λ i. λ x. h x i
 
 -- what is past a list is past its map
 pub slice_get-map_none : {A B : Type 0} (f : A → B) (xs : List A) (k : ℕ) → slice_get xs k ≡ None → slice_get (map f xs) k ≡ None

@@ -21,11 +21,12 @@ use Rattle.merged_latches.proofs.ReadingLaws.{are-leaves}
 use Rattle.state_maps.specs.States.{Digits, IsStateMap, State, after_step, opening_state}
 use Rattle.state_maps.specs.Retimed.{HasStateMap}
 use Rattle.state_maps.proofs.FrameMapLaws.{restated}
-use Rattle.state_maps.proofs.MapLaws.{funext, mapped-reads, opening-same, slice_get-map_none}
+use Rattle.state_maps.proofs.MapLaws.{mapped-reads, opening-same, slice_get-map_none}
 use Rattle.state_maps.proofs.WithinLaws.{WithinLaws, within_laws}
 use Rattle.state_maps.specs.MergedStates.{ReadsHold, reads_right}
 use Rattle.state_maps.specs.MergingLaws.{HasMergingMap, MergingMaps}
 use Rattle.state_maps.proofs.ReadsHoldLaws.{holds-test, reads-first, reads-keep, substitutes-value, test-holds}
+use Rattle.aig_graph.proofs.StreamLaws.{funext}
 
 module _ (g : Graph) (held reads : List ℕ) (valid : IsGraph g) (kept : IsKept g held reads) where
   within-each : SubstitutesWithin g (substitutes_by g reads)

@@ -28,7 +28,8 @@ use Rattle.state_maps.specs.States.{Digits, IsStateMap, SameReads, State, after_
 use Rattle.state_maps.specs.Cleaning.{SubstitutesHold, held_by, trimmed_state}
 use Rattle.state_maps.specs.Laws.{CleaningMaps}
 use Rattle.state_maps.proofs.WithinLaws.{WithinLaws, within_laws}
-use Rattle.state_maps.proofs.MapLaws.{funext, mapped-reads, reads-transitive, slice_get-map_none}
+use Rattle.state_maps.proofs.MapLaws.{mapped-reads, reads-transitive, slice_get-map_none}
+use Rattle.aig_graph.proofs.StreamLaws.{funext}
 
 -- the constant of a reset has one value in all states
 pub constant-within : (g : Graph) (x y : Digits) (s t : State) → IsGraph g → (r : Reset) → value_within g x s (constant_of r) ≡ value_within g y t (constant_of r)

@@ -3,12 +3,7 @@ use Rattle.std.proofs.Common.{ℕ, ◌+◌, ◌<◌, ◌≤◌, ◌≡◌, suc, 
 use Rattle.std.specs.List.{All, range_with_len}
 use Rattle.std.specs.List.Sorted.{IsStrictlyIncreasing}
 use Rattle.std.proofs.lemmas.List.Elements.{All-head, All-tail}
-
-tail_rising : (x : ℕ) (xs : List ℕ) → IsStrictlyIncreasing (x ∷ xs) → IsStrictlyIncreasing xs
-tail_rising x xs rising k h =
-    let place : suc k + 1 ≡ suc (k + 1) = omega arith in
-    let less : get_or (x ∷ xs) (suc k) 0 < get_or (x ∷ xs) (suc k + 1) 0 = rising (suc k) (omega arith) in
-    subst (λ (n : ℕ). get_or xs k 0 < get_or (x ∷ xs) n 0) place less
+use Rattle.variable_tables.proofs.MemberLaws.{rising_rest}
 
 -- what follows the head lies above it
 tail_above : (x y : ℕ) (ys : List ℕ) → IsStrictlyIncreasing (x ∷ y ∷ ys) → x < y
@@ -18,7 +13,7 @@ tail_above x y ys rising = rising 0 (omega arith)
 room : (x bound : ℕ) (xs : List ℕ) → IsStrictlyIncreasing (x ∷ xs) → All (λ y. y < bound) (x ∷ xs) → x + suc (length xs) ≤ bound
 room x bound [] rising below = omega (arith, All-head (λ (y : ℕ). y < bound) x [] below)
 room x bound (y ∷ ys) rising below =
-    omega (arith, tail_above x y ys rising, room y bound ys (tail_rising x (y ∷ ys) rising) (All-tail (λ (z : ℕ). z < bound) x (y ∷ ys) below))
+    omega (arith, tail_above x y ys rising, room y bound ys (rising_rest x (y ∷ ys) rising) (All-tail (λ (z : ℕ). z < bound) x (y ∷ ys) below))
 
 from_head : (n x a : ℕ) (xs : List ℕ) → a ≤ x → length xs ≡ n → IsStrictlyIncreasing (x ∷ xs) → All (λ y. y < a + suc n) (x ∷ xs) → x ∷ xs ≡ range_with_len a (suc n)
 from_head zero x a [] low long rising below =
@@ -29,7 +24,7 @@ from_head (suc n) x a [] low long rising below = absurd (omega (arith, long))
 from_head (suc n) x a (y ∷ ys) low long rising below =
     let here : x ≡ a = omega (arith, low, long, room x (a + suc (suc n)) (y ∷ ys) rising below) in
     let rest : y ∷ ys ≡ range_with_len (a + 1) (suc n) =
-    from_head n y (a + 1) ys (omega (arith, here, tail_above x y ys rising)) (omega (arith, long)) (tail_rising x (y ∷ ys) rising)
+    from_head n y (a + 1) ys (omega (arith, here, tail_above x y ys rising)) (omega (arith, long)) (rising_rest x (y ∷ ys) rising)
     (λ k d h. omega (arith, All-tail (λ (z : ℕ). z < a + suc (suc n)) x (y ∷ ys) below k d h)) in
     ap (λ (b : ℕ). b ∷ y ∷ ys) here ∙ ap (λ (zs : List ℕ). a ∷ zs) rest
 

@@ -19,26 +19,14 @@ use Rattle.cleaned_circuits.proofs.LatchLaws.{stands_for, by_constant, by_itself
 use Rattle.cleaned_circuits.proofs.SubstituteLaws.{GateIn, gate_substitutes, gates-in, length-substitutes_of, lookup_push, merge-all, start-entry, start-length, with_earlier, with_equal, with_false, with_opposite, with_true, same_fan_ins-is}
 use Rattle.cleaned_circuits.proofs.OwnLaws.{leaf-latch, leaf-low}
 use Rattle.tidy.specs.Tidy.{IsPlain, IsTidy}
-
--- a variable's even literal with the sign of one of its literals is that literal
-pub twice : (lit v : ℕ) → v ≡ variable lit → signed_as lit (2 * v) ≡ lit
-twice lit v e = omega arith
-
--- the gate of a gate's own literals is that gate
-pub ordered-gate : (gate : Gate) → gate.rhs1 ≤ gate.rhs0 → gate_of gate.rhs0 gate.rhs1 ≡ gate
-ordered-gate gate h =
-    let first : (gate_of gate.rhs0 gate.rhs1).rhs0 ≡ gate.rhs0 = omega arith in
-    let second : (gate_of gate.rhs0 gate.rhs1).rhs1 ≡ gate.rhs1 = omega arith in
-    let one : ℕ → Gate = λ n. record { rhs0 = n; rhs1 = (gate_of gate.rhs0 gate.rhs1).rhs1 } in
-    let two : ℕ → Gate = λ n. record { rhs0 = gate.rhs0; rhs1 = n } in
-    ap one first ∙ ap two second
+use Rattle.cleaned_circuits.proofs.UnchangedLaws.{gate-ordered, twice}
 
 -- a gate whose variables stand for themselves stays
 pub own-gate : (substitutes : List ℕ) (v : ℕ) (gate : Gate) → IsGateAt v gate → ((w : ℕ) → w < v → get_or substitutes w 0 ≡ 2 * w) → replaced_gate substitutes gate ≡ gate
 own-gate substitutes v gate at own =
     let first : replaced substitutes gate.rhs0 ≡ gate.rhs0 = ap (signed_as gate.rhs0) (own (variable gate.rhs0) at.below) ∙ twice gate.rhs0 (variable gate.rhs0) refl in
     let second : replaced substitutes gate.rhs1 ≡ gate.rhs1 = ap (signed_as gate.rhs1) (own (variable gate.rhs1) (omega (arith, at.below, at.ordered))) ∙ twice gate.rhs1 (variable gate.rhs1) refl in
-    ap (λ (n : ℕ). gate_of n (replaced substitutes gate.rhs1)) first ∙ ap (λ (n : ℕ). gate_of gate.rhs0 n) second ∙ ordered-gate gate at.ordered
+    ap (λ (n : ℕ). gate_of n (replaced substitutes gate.rhs1)) first ∙ ap (λ (n : ℕ). gate_of gate.rhs0 n) second ∙ gate-ordered gate at.ordered
 
 latch-is : (a b : Latch) → a.next ≡ b.next → a.reset ≡ b.reset → a ≡ b
 latch-is a b next reset =

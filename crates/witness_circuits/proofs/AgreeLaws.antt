@@ -12,7 +12,7 @@ use Rattle.aig_graph.proofs.SignLaws.{value_signed}
 use Rattle.variable_tables.proofs.ListLaws.{map-same}
 use Rattle.state_maps.specs.States.{Digits, State, after_step}
 use Rattle.state_maps.proofs.WithinLaws.{within_laws}
-use Rattle.witness_circuits.proofs.OpeningLaws.{funext}
+use Rattle.aig_graph.proofs.StreamLaws.{funext}
 
 -- as many inputs and latches, and the same gates
 pub record AreAlike (g h : Graph) : Type 0 where

@@ -12,10 +12,7 @@ use Rattle.aig_graph.specs.Value.{Choice, opening, opening_at}
 use Rattle.aig_graph.proofs.FreeLaws.{free-count, is_free_at}
 use Rattle.aig_graph.proofs.KindLaws.{element, latch_at-first_latch}
 use Rattle.state_maps.specs.States.{State, opening_state}
-
--- functions that agree everywhere are one
-pub funext : {A B : Type 0} (f g : A → B) → ((x : A) → f x ≡ g x) → f ≡ g
-funext f g h = λ i. λ x. h x i
+use Rattle.aig_graph.proofs.StreamLaws.{funext}
 
 -- what is held at step 0 is what the reset leaves
 pub opening-twice : (r : Reset) (b : Bool) → opening r (opening r b) ≡ opening r b

@@ -12,7 +12,8 @@ use Rattle.witness_circuits.specs.Joining.{joined}
 use Rattle.witness_circuits.specs.Witnesses.{Agree, GoesOn, HasResets, IsGood, IsSharing, IsWitness}
 use Rattle.witness_circuits.specs.Laws.{ShowsGood}
 use Rattle.witness_circuits.proofs.JoiningLaws.{joined-agrees, joined-own, joined-past}
-use Rattle.witness_circuits.proofs.OpeningLaws.{funext, held_choice, opened, opening-twice}
+use Rattle.witness_circuits.proofs.OpeningLaws.{held_choice, opened, opening-twice}
+use Rattle.aig_graph.proofs.StreamLaws.{funext}
 
 -- what a latch without a choice holds at step 0
 abbrev plain : Option Latch → Bool
