@@ -2,9 +2,8 @@
 //! which argument it comes from; that the library matched the words as it should is only tested.
 ghost use Rattle.std.specs.Prelude.{◌≡◌, ◌^◌, IfOk, IfSome, MatchOption, None, codes, map};
 ghost use Rattle.clap.specs.Words.{first_value, found_of};
-ghost use Rattle.command_line.specs.Asking.{AreSequences, AreStimuli, Asks, AsksFor, IsChoice, IsFlag, IsNumber, IsShown, IsSomeSource, IsSomeTarget, IsSource, IsSpelling, number_of, values_of};
+ghost use Rattle.command_line.specs.Asking.{AreSequences, AreStimuli, Asks, IsChecking, IsChoice, IsFlag, IsNumber, IsShown, IsSomeSource, IsSomeTarget, IsSource, IsSpelling, number_of, values_of};
 ghost use Rattle.command_line.specs.StreamUses.{UsesStreamsOnce};
-ghost use Rattle.command_line.specs.declared.task.Task.TheVariants.{Dot, Retime, Verify};
 
 use crate::program::program;
 use crate::stream_uses::stream_conflict;
@@ -145,14 +144,13 @@ fn merge(matches: &ArgMatches<'_>) -> bool
     matches.get_flag("merge")
 }
 
-fn retiming<'a>(alloc: Global, matches: &ArgMatches<'a>) -> Result<Option<Retiming<'a>>, AllocError>
-    ensures { IfOk result (λ found. IfSome found (λ retiming. AsksFor matches.now
-        (Retime retiming))) }
+fn retiming<'a>(alloc: Global, matches: &ArgMatches<'a>) -> Result<Option<Task<'a>>, AllocError>
+    ensures { IfOk result (λ found. IfSome found (Asks (codes "retime") matches.now)) }
 {
     let (Some(input), Some(output)) = (source(matches, "IN"), target(matches, "OUT")) else {
         return Ok(None);
     };
-    Ok(Some(Retiming {
+    Ok(Some(Task::Retime(Retiming {
         input,
         output,
         spelling: spelling(matches),
@@ -166,32 +164,16 @@ fn retiming<'a>(alloc: Global, matches: &ArgMatches<'a>) -> Result<Option<Retimi
         shown: shown(matches),
         keep: keep(alloc, matches)?,
         keep_latches: keep_latches(alloc, matches)?,
-    }))
+    })))
 }
 
-fn retiming_task<'a>(
-    alloc: Global,
-    matches: &ArgMatches<'a>,
-) -> Result<Option<Task<'a>>, AllocError>
-    ensures { IfOk result (λ found. IfSome found (Asks (codes "retime") matches.now)) }
-{
-    match retiming(alloc, matches)? {
-        Some(retiming) => Ok(Some(Task::Retime(retiming))),
-        None => Ok(None),
-    }
-}
-
-fn verification<'a>(
-    alloc: Global,
-    matches: &ArgMatches<'a>,
-) -> Result<Option<Verification<'a>>, AllocError>
-    ensures { IfOk result (λ found. IfSome found (λ verification. AsksFor matches.now
-        (Verify verification))) }
+fn verification<'a>(alloc: Global, matches: &ArgMatches<'a>) -> Result<Option<Task<'a>>, AllocError>
+    ensures { IfOk result (λ found. IfSome found (Asks (codes "verify") matches.now)) }
 {
     let (Some(input), Some(certificates)) = (source(matches, "IN"), source(matches, "CERT")) else {
         return Ok(None);
     };
-    Ok(Some(Verification {
+    Ok(Some(Task::Verify(Verification {
         input,
         certificates,
         retimed: source_if_given(matches, "out"),
@@ -199,19 +181,7 @@ fn verification<'a>(
         json: json(matches),
         keep: keep(alloc, matches)?,
         keep_latches: keep_latches(alloc, matches)?,
-    }))
-}
-
-fn verification_task<'a>(
-    alloc: Global,
-    matches: &ArgMatches<'a>,
-) -> Result<Option<Task<'a>>, AllocError>
-    ensures { IfOk result (λ found. IfSome found (Asks (codes "verify") matches.now)) }
-{
-    match verification(alloc, matches)? {
-        Some(verification) => Ok(Some(Task::Verify(verification))),
-        None => Ok(None),
-    }
+    })))
 }
 
 fn depth(matches: &ArgMatches<'_>) -> u32
@@ -220,13 +190,13 @@ fn depth(matches: &ArgMatches<'_>) -> u32
     number(matches, "depth", 2)
 }
 
-fn drawing<'a>(alloc: Global, matches: &ArgMatches<'a>) -> Result<Option<Drawing<'a>>, AllocError>
-    ensures { IfOk result (λ found. IfSome found (λ drawing. AsksFor matches.now (Dot drawing))) }
+fn drawing<'a>(alloc: Global, matches: &ArgMatches<'a>) -> Result<Option<Task<'a>>, AllocError>
+    ensures { IfOk result (λ found. IfSome found (Asks (codes "dot") matches.now)) }
 {
     let (Some(input), Some(output)) = (source(matches, "IN"), target(matches, "OUT")) else {
         return Ok(None);
     };
-    Ok(Some(Drawing {
+    Ok(Some(Task::Dot(Drawing {
         input,
         output,
         frame: matches.get_flag("frame"),
@@ -235,16 +205,7 @@ fn drawing<'a>(alloc: Global, matches: &ArgMatches<'a>) -> Result<Option<Drawing
         depth: depth(matches),
         keep: keep(alloc, matches)?,
         keep_latches: keep_latches(alloc, matches)?,
-    }))
-}
-
-fn drawing_task<'a>(alloc: Global, matches: &ArgMatches<'a>) -> Result<Option<Task<'a>>, AllocError>
-    ensures { IfOk result (λ found. IfSome found (Asks (codes "dot") matches.now)) }
-{
-    match drawing(alloc, matches)? {
-        Some(drawing) => Ok(Some(Task::Dot(drawing))),
-        None => Ok(None),
-    }
+    })))
 }
 
 fn batch<'a>(matches: &ArgMatches<'a>) -> Option<Task<'a>>
@@ -305,9 +266,12 @@ fn stimuli<'a>(matches: &ArgMatches<'a>) -> Option<Stimuli<'a>>
 fn simulation<'a>(matches: &ArgMatches<'a>) -> Option<Task<'a>>
     ensures { IfSome result (Asks (codes "sim") matches.now) }
 {
+    let (Some(input), Some(stimuli)) = (source(matches, "IN"), stimuli(matches)) else {
+        return None;
+    };
     Some(Task::Sim(Simulation {
-        input: source(matches, "IN")?,
-        stimuli: stimuli(matches)?,
+        input,
+        stimuli,
         waves: target(matches, "vcd"),
     }))
 }
@@ -315,11 +279,18 @@ fn simulation<'a>(matches: &ArgMatches<'a>) -> Option<Task<'a>>
 fn comparison<'a>(matches: &ArgMatches<'a>) -> Option<Task<'a>>
     ensures { IfSome result (Asks (codes "same") matches.now) }
 {
+    let (Some(first), Some(second), Some(stimuli)) = (
+        source(matches, "A"),
+        source(matches, "B"),
+        stimuli(matches),
+    ) else {
+        return None;
+    };
     Some(Task::Same(Comparison {
-        first: source(matches, "A")?,
-        second: source(matches, "B")?,
+        first,
+        second,
         kept: source_if_given(matches, "kept"),
-        stimuli: stimuli(matches)?,
+        stimuli,
         json: json(matches),
     }))
 }
@@ -327,32 +298,56 @@ fn comparison<'a>(matches: &ArgMatches<'a>) -> Option<Task<'a>>
 fn witness<'a>(matches: &ArgMatches<'a>) -> Option<Task<'a>>
     ensures { IfSome result (Asks (codes "witness") matches.now) }
 {
+    let (Some(input), Some(retimed), Some(witness)) = (
+        source(matches, "IN"),
+        source(matches, "OUT"),
+        source(matches, "WITNESS"),
+    ) else {
+        return None;
+    };
     Some(Task::Witness(Carrying {
-        input: source(matches, "IN")?,
-        retimed: source(matches, "OUT")?,
-        witness: source(matches, "WITNESS")?,
+        input,
+        retimed,
+        witness,
         merge: merge(matches),
     }))
+}
+
+/// Two circuits and the map of the states of the one to those of the other.
+fn checking<'a>(matches: &ArgMatches<'a>) -> Option<Checking<'a>>
+    ensures { IfSome result (IsChecking matches.now) }
+{
+    let (Some(input), Some(retimed), Some(map)) = (
+        source(matches, "IN"),
+        source(matches, "OUT"),
+        source(matches, "MAP"),
+    ) else {
+        return None;
+    };
+    Some(Checking {
+        input,
+        retimed,
+        map,
+    })
 }
 
 fn check<'a>(matches: &ArgMatches<'a>) -> Option<Task<'a>>
     ensures { IfSome result (Asks (codes "check") matches.now) }
 {
-    Some(Task::Check(Checking {
-        input: source(matches, "IN")?,
-        retimed: source(matches, "OUT")?,
-        map: source(matches, "MAP")?,
-    }))
+    Some(Task::Check(checking(matches)?))
 }
 
 fn miter<'a>(matches: &ArgMatches<'a>) -> Option<Task<'a>>
     ensures { IfSome result (Asks (codes "miter") matches.now) }
 {
+    let (Some(asked), Some(output)) = (checking(matches), target(matches, "MITER")) else {
+        return None;
+    };
     Some(Task::Miter(Asking {
-        input: source(matches, "IN")?,
-        retimed: source(matches, "OUT")?,
-        map: source(matches, "MAP")?,
-        output: target(matches, "MITER")?,
+        input: asked.input,
+        retimed: asked.retimed,
+        map: asked.map,
+        output,
         certificate: target(matches, "certificate"),
         spelling: spelling(matches),
     }))
@@ -361,12 +356,19 @@ fn miter<'a>(matches: &ArgMatches<'a>) -> Option<Task<'a>>
 fn lifting<'a>(matches: &ArgMatches<'a>) -> Option<Task<'a>>
     ensures { IfSome result (Asks (codes "lift") matches.now) }
 {
+    let (Some(asked), Some(witness), Some(output)) = (
+        checking(matches),
+        source(matches, "CERT"),
+        target(matches, "RESULT"),
+    ) else {
+        return None;
+    };
     Some(Task::Lift(Lifting {
-        input: source(matches, "IN")?,
-        retimed: source(matches, "OUT")?,
-        map: source(matches, "MAP")?,
-        witness: source(matches, "CERT")?,
-        output: target(matches, "RESULT")?,
+        input: asked.input,
+        retimed: asked.retimed,
+        map: asked.map,
+        witness,
+        output,
         spelling: spelling(matches),
     }))
 }
@@ -405,9 +407,9 @@ fn task<'a>(
     ensures { IfOk result (λ found. IfSome found (Asks name.now matches.now)) }
 {
     match name {
-        "retime" => retiming_task(alloc, matches),
-        "verify" => verification_task(alloc, matches),
-        "dot" => drawing_task(alloc, matches),
+        "retime" => retiming(alloc, matches),
+        "verify" => verification(alloc, matches),
+        "dot" => drawing(alloc, matches),
         _ => Ok(task_without_names(name, matches)),
     }
 }
@@ -490,5 +492,7 @@ pub fn parse_arguments<'a>(alloc: Global, words: &'a [String]) -> Result<Task<'a
     ensures { IfOk result UsesStreamsOnce }
 {
     let mut program = program(alloc)?;
-    task_asked_of(alloc, &mut program, words)
+    let asked = task_asked_of(alloc, &mut program, words);
+    drop(program);
+    asked
 }

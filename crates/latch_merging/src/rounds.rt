@@ -1,12 +1,12 @@
 //! One round of merging latches: each class of a reading is parted by what its latches are told, where all latches read so. Whatever is
 //! kept and finer than the reading stays finer than what the round makes of it.
-ghost use Rattle.std.specs.Prelude.{◌≡◌, ◌<◌, slice_get, length, Some, OnOk, IfOk};
+ghost use Rattle.std.specs.Prelude.{◌≡◌, ◌<◌, ◌∷◌, [], slice_get, length, Some, OnOk, IfOk};
 ghost use Rattle.std.specs.Map.{lookup};
 ghost use Rattle.aig_graph.specs.Graph.{variable};
 ghost use Rattle.cleaned_circuits.specs.Merged.{substitute_or_own};
 ghost use Rattle.merged_latches.specs.Readings.{from_reset, may_merge, substitutes_by, told};
 ghost use Rattle.merged_latches.specs.Counts.{constant_latches, counts_of, is_constant, merged_latches};
-ghost use Rattle.latch_merging.specs.Rounds.{entries_told, first_read, first_round, is_told, next_round, read_told, told_after};
+ghost use Rattle.latch_merging.specs.Rounds.{constant_told, entries_told, first_read, first_round, is_told, next_round, read_told, told_after};
 
 use crate::told::{FirstTold, Told};
 use aig_graph::{Aig, Latch, Lit, NoMemory, Reset};
@@ -114,6 +114,51 @@ pub(crate) fn next_read(
     }
 }
 
+/// The reading after a round, where these stand for the variables, and nothing but the constant was told yet.
+fn next_reads(
+    alloc: Global,
+    aig: &Aig,
+    held: &Held<'_>,
+    reads: &[Lit],
+    substitutes: &Substitution,
+    firsts: &mut FirstTold,
+) -> Result<Vec<Lit>, NoMemory>
+    requires held { length held.now.marks.items ≡ length aig.now.latches }
+    requires reads { length reads.now ≡ length aig.now.latches }
+    requires substitutes { substitutes.now ≡ substitutes_by aig.now reads.now }
+    requires firsts { firsts.old ≡ (constant_told, 0) ∷ [] }
+    ensures { IfOk result (λ next. next.items
+        ≡ next_round aig.now held.now.positions.now reads.now) }
+{
+    let mut next = Vec::with_capacity(alloc, reads.len())?;
+    for (place, latch) in aig.latches().iter().enumerate() {
+        let told = told_of(substitutes, reads[place], latch);
+        let lit = next_read(firsts, aig, held, told, place, latch)?;
+        next.push(lit)?;
+    }
+    Ok(next)
+}
+
+/// The reading after a round, where these stand for the variables.
+fn next_by(
+    alloc: Global,
+    aig: &Aig,
+    held: &Held<'_>,
+    reads: &[Lit],
+    substitutes: &Substitution,
+) -> Result<Vec<Lit>, NoMemory>
+    requires held { length held.now.marks.items ≡ length aig.now.latches }
+    requires reads { length reads.now ≡ length aig.now.latches }
+    requires substitutes { substitutes.now ≡ substitutes_by aig.now reads.now }
+    ensures { IfOk result (λ next. next.items
+        ≡ next_round aig.now held.now.positions.now reads.now) }
+{
+    let mut firsts = FirstTold::new(alloc)?;
+    let next = next_reads(alloc, aig, held, reads, substitutes, &mut firsts);
+    drop(firsts);
+    next
+}
+
 /// The reading after a round.
 pub(crate) fn next_round(
     alloc: Global,
@@ -127,14 +172,9 @@ pub(crate) fn next_round(
         ≡ next_round aig.now held.now.positions.now reads.now) }
 {
     let substitutes = substitutes_by(alloc, aig, reads)?;
-    let mut firsts = FirstTold::new(alloc)?;
-    let mut next = Vec::with_capacity(alloc, reads.len())?;
-    for (place, latch) in aig.latches().iter().enumerate() {
-        let told = told_of(&substitutes, reads[place], latch);
-        let lit = next_read(&mut firsts, aig, held, told, place, latch)?;
-        next.push(lit)?;
-    }
-    Ok(next)
+    let next = next_by(alloc, aig, held, reads, &substitutes);
+    drop(substitutes);
+    next
 }
 
 /// How many latches read as another.

@@ -2,7 +2,7 @@
 //! latches are told the name of their next literal, those of a class that leave what they were told get another name, group by group,
 //! and then gates get the name of their fan-ins' pair. What reads a variable that got another name is marked, and what is marked alone
 //! is looked at, so a turn costs what it changes: a delay line no more than it is long.
-ghost use Rattle.std.specs.Prelude.{ℕ, List, true, ◌≡◌, ◌<◌, ◌+◌, ◌++◌, IfOk, OnOk, length, replicate, slice_get, Some};
+ghost use Rattle.std.specs.Prelude.{ℕ, List, true, ◌≡◌, ◌<◌, ◌+◌, ◌++◌, IfOk, IfSome, OnOk, length, replicate, slice_get, Some};
 ghost use Rattle.aig_graph.specs.declared.graph.Gate.{Gate as Pair};
 ghost use Rattle.aig_graph.specs.Graph.{variable, first_latch, variables_end};
 ghost use Rattle.cleaned_circuits.specs.Merged.{replaced, replaced_gate};
@@ -386,6 +386,30 @@ impl Splitting {
         }
         Ok(false)
     }
+
+    /// Turns to the end: the reading by the names then, or none where names run out.
+    fn reading(
+        &mut self,
+        alloc: Global,
+        aig: &Aig,
+        held: &Held<'_>,
+        classes: &mut Classes,
+    ) -> Result<Option<Vec<Lit>>, NoMemory>
+        requires held { length held.now.marks.items ≡ length aig.now.latches }
+        requires readers { AreReaders aig.now self.old.readers.heads.items
+            self.old.readers.links.items }
+        requires rest { AreAtRest aig.now held.now.positions.now self.old.names.items
+            self.old.tolds.items self.old.pairs self.old.marked.latches self.old.marked.gates
+            self.old.leaving }
+        ensures { IfOk result (λ finer. IfSome finer (λ reads. IsRough aig.now
+            held.now.positions.now reads.items)) }
+    {
+        if !self.run(alloc, aig, held, classes)? {
+            return Ok(None);
+        }
+        let reads = reading_by_names(alloc, aig, held, self.names.as_slice())?;
+        Ok(Some(reads))
+    }
 }
 
 /// The names before the first turn: what latches read as, and any for the gates.
@@ -434,6 +458,25 @@ fn reading_by_names(
     Ok(reads)
 }
 
+/// What splitting makes of a reading, or none where names run out.
+fn finer_reading(
+    alloc: Global,
+    aig: &Aig,
+    held: &Held<'_>,
+    reads: &[Lit],
+) -> Result<Option<Vec<Lit>>, NoMemory>
+    requires held { length held.now.marks.items ≡ length aig.now.latches }
+    requires rough { IsRough aig.now held.now.positions.now reads.now }
+    ensures { IfOk result (λ finer. IfSome finer (λ reads. IsRough aig.now
+        held.now.positions.now reads.items)) }
+{
+    let mut classes = Classes::of(alloc, aig, reads)?;
+    let mut splitting = Splitting::start(alloc, aig, reads)?;
+    let finer = splitting.reading(alloc, aig, held, &mut classes);
+    drop(splitting);
+    finer
+}
+
 /// What splitting makes of a reading that is as coarse as each kept one: another one that is, and that is kept too, but where names run out.
 pub(crate) fn split_reading(
     alloc: Global,
@@ -445,11 +488,8 @@ pub(crate) fn split_reading(
     requires rough { IsRough aig.now held.now.positions.now reads.items }
     ensures { IfOk result (λ finer. IsRough aig.now held.now.positions.now finer.items) }
 {
-    let mut classes = Classes::of(alloc, aig, reads.as_slice())?;
-    let mut splitting = Splitting::start(alloc, aig, reads.as_slice())?;
-    if splitting.run(alloc, aig, held, &mut classes)? {
-        reading_by_names(alloc, aig, held, splitting.names.as_slice())
-    } else {
-        Ok(reads)
+    match finer_reading(alloc, aig, held, reads.as_slice())? {
+        Some(finer) => Ok(finer),
+        None => Ok(reads),
     }
 }

@@ -1,6 +1,6 @@
 //! A witness as AIGER's tools read it. What was found of it follows after its end, as comments, so that what is printed is a
 //! witness still.
-ghost use Rattle.std.specs.Prelude.{◌≡◌, ◌∷◌, []};
+ghost use Rattle.std.specs.Prelude.{◌≡◌, ◌∷◌, [], decimal};
 ghost use Rattle.std.specs.List.{flat_map};
 ghost use Rattle.counted_io.specs.Buffered.{Puts};
 ghost use Rattle.counted_io.specs.Output.{Writes};
@@ -46,18 +46,20 @@ fn put_steps<W: CountedWrite>(out: &mut Buffered<'_, W>, steps: &[Sequence<Digit
     }
 }
 
+/// Puts the letter of a kind of property, and a number.
+fn put_numbered<W: CountedWrite>(out: &mut Buffered<'_, W>, letter: u8, number: usize)
+    ensures { Puts W.output out.old out.new (letter ∷ decimal number) }
+{
+    out.put_byte(letter);
+    out.put_number(number as u64);
+}
+
 fn put_property<W: CountedWrite>(out: &mut Buffered<'_, W>, property: Property)
     ensures { Puts W.output out.old out.new (property_text property) }
 {
     match property {
-        Property::Bad(number) => {
-            out.put_byte(b'b');
-            out.put_number(number as u64);
-        }
-        Property::Justice(number) => {
-            out.put_byte(b'j');
-            out.put_number(number as u64);
-        }
+        Property::Bad(number) => put_numbered(out, b'b', number),
+        Property::Justice(number) => put_numbered(out, b'j', number),
     }
 }
 

@@ -7,12 +7,12 @@ use Rattle.latch_merging.specs.Rounds.{entries_told, read_told, told_of}
 use Rattle.clean.proofs.MappingLaws.{latch-there}
 use Rattle.latch_merging.proofs.RoundLaws.{firsts-start, firsts-more, read-more}
 use Rattle.latch_merging.proofs.RoundStepLaws.{substitutes_by-long, next-more, next-end, told-is, item-read}
-use Rattle.latch_merging.proofs.rounds.next_round.Goals as goal
+use Rattle.latch_merging.proofs.rounds.next_reads.Goals as goal
 
 pub loop-place-init : goal.loop-place-init
 loop-place-init c = record {
   next = c.in_ok-next.ensures.items ∙ sym (table-none 0 _);
-  firsts = rw c.in_ok-firsts.ensures (firsts-start c.args.aig.now c.args.held.now.positions.now (told_of c.args.aig.now c.args.reads.now));
+  firsts = rw c.requires.firsts (firsts-start c.args.aig.now c.args.held.now.positions.now (told_of c.args.aig.now c.args.reads.now));
 }
 
 pub told_of-told-requires : goal.told_of-told-requires
@@ -20,7 +20,7 @@ told_of-told-requires c =
     let g : Graph = c.args.aig.now in
     let there = latch-there g c.latches-latch-items.result.now c.loop-place.place c.latch-item.result c.latches-latch-items.ensures.value c.loop-place-test.true c.latch-item.is in
     let within : variable c.latch-item.result.next < variables_end g = c.latches-latch-items.ensures.graph.latches c.loop-place.place c.latch-item.result there in
-    omega (arith, within, ap (λ (xs : List ℕ). length xs) c.in_ok-substitutes.ensures, substitutes_by-long g c.args.reads.now c.requires.reads)
+    omega (arith, within, ap (λ (xs : List ℕ). length xs) c.requires.substitutes, substitutes_by-long g c.args.reads.now c.requires.reads)
 
 pub next_read-requires-clause-there : goal.next_read-requires-clause-there
 next_read-requires-clause-there c =
@@ -37,7 +37,7 @@ loop-place-preserved c =
     let within : k < length reads =
     omega (arith, c.loop-place-test.true, c.requires.reads, ap (λ (xs : List Latch). length xs) c.latches-latch-items.ensures.value) in
     let key : c.told_of-told.result ≡ told_of g reads k latch =
-    told-is g reads c.in_ok-substitutes.substitutes k latch c.index-reads-place.result c.told_of-told.result c.in_ok-substitutes.ensures
+    told-is g reads c.args.substitutes.now k latch c.index-reads-place.result c.told_of-told.result c.requires.substitutes
     (item-read reads k c.index-reads-place.result within c.index-reads-place.is) c.told_of-told.ensures.class c.told_of-told.ensures.literal in
     record {
       next = next-more g held (told_of g reads) k c.loop-place.next.items c.push.new.self.items c.in_ok-lit.lit c.loop-place.invariant.next

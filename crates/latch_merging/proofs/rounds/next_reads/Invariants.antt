@@ -1,7 +1,7 @@
 use Rattle.std.proofs.Common.{◌≡◌, slice_get}
 use Rattle.variable_tables.specs.Tables.{table}
 use Rattle.latch_merging.specs.Rounds.{AreFirstTold, next_read, told_of}
-use Rattle.latch_merging.proofs.rounds.next_round.Given as goal
+use Rattle.latch_merging.proofs.rounds.next_reads.Given as goal
 
 abbrev pub invariant-loop-place : goal.invariant-loop-place
 invariant-loop-place l = record {
