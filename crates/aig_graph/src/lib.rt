@@ -1,7 +1,6 @@
 //! And-inverter graphs with latches: literals, graphs, circuits, what a circuit means, and the closed sets of gates over
 //! which latches move forward. Every other crate stands on the definitions of this one.
-//!
-//! Which of a circuit's least sets a frame takes: the one that holds all others, or the one that lies in all others.
+//! Of a circuit's least sets a frame takes one: that which holds all others, or that which lies in all others.
 #![tactic(auto)]
 
 mod border;

@@ -6,12 +6,10 @@
 //! keeps some of its excess is relabelled by its residuals after delivery. So the state after a pulse depends on no order of
 //! nodes and on no number of workers.
 //!
-//! Residuals are natural numbers and a pair's flow is its capacity less its residual. Nothing here speaks of arcs or memory: each
-//! law is the contract of a function without a body, for the crates that compute the flow to cite.
+//! Residuals are natural numbers and a pair's flow is its capacity less its residual. Each law is the contract of a function
+//! without a body, for the crates that compute the flow to cite.
 //!
-//! Rows of arcs against functions on pairs of nodes.
-//!
-//! A node's row holds its arcs by rising head, so a walk over the row in order is a walk over all nodes in which those without
+//! Of arcs and memory rows alone speak. A node's row holds its arcs by rising head, so a walk over the row in order is a walk over all nodes in which those without
 //! an arc count for nothing: the pushes of a row written in arc order are the pushes of the definition, and so are sums and
 //! least labels.
 #![tactic(auto)]

@@ -1,8 +1,7 @@
 //! Latches that always agree, merged: those that a kept partition holds together read as the first of their class.
 //!
-//! Merging latches of a circuit whose latches were merged finds nothing more. Laws alone.
-//!
-//! What frames start from where latches that always agree are merged before the first one.
+//! Merging once is enough: of a circuit whose latches were merged it finds nothing more. So frames start from a circuit that was
+//! cleaned and merged once, where that is asked for.
 #![tactic(auto)]
 
 mod groups;
