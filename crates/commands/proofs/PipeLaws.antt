@@ -182,16 +182,10 @@ has_failed : (target : Option Target) (failure : Failure) → HasFailed target f
 has_failed None failure failed = absurd failed
 has_failed (Some target) failure failed = failed.0
 
-fails_beside : (map certificates : Option Target) (failure : Failure) (old new : Output) → HasFailed map failure ⊎ HasFailed certificates failure → Prints (outcome_of failure) old new
+-- a run that ends as the map or the certificates could not be written gives standard output no more than such a run may
+pub fails_beside : (map certificates : Option Target) (failure : Failure) (old new : Output) → HasFailed map failure ⊎ HasFailed certificates failure → Prints (outcome_of failure) old new
 fails_beside map certificates failure old new (inl failed) = subst (λ (e : Outcome). Prints e old new) (sym (has_failed map failure failed)) tt
 fails_beside map certificates failure old new (inr failed) = subst (λ (e : Outcome). Prints e old new) (sym (has_failed certificates failure failed)) tt
-
--- a run that ends as the map or the certificates could not be written gives standard output no more than such a run may
-pub stops_beside : {T : Type 0} (map certificates : Option Target) (result : Result T Failure) (failure : Failure) (old new : Output) → IsErrAnd result (λ x. x ≡ failure)
-    → HasFailed map failure ⊎ HasFailed certificates failure → IfErr result (λ x. Prints (outcome_of x) old new)
-stops_beside map certificates (Ok x) failure old new is failed = tt
-stops_beside map certificates (Err e) failure old new is failed =
-    subst (λ (x : Failure). Prints (outcome_of x) old new) (sym is) (fails_beside map certificates failure old new failed)
 
 -- a file can't be opened
 pub unopened : (failure : Failure) (path : Bor (List ℕ)) (old new : Output) → failure ≡ fails.Device path → Prints (outcome_of failure) old new

@@ -221,6 +221,21 @@ struct Timed {
     map: Option<MapCounts>,
 }
 
+/// What is told of an answer whose parts took so long.
+fn with_times(answer: Answer, times: Option<Times>) -> Timed
+    ensures retimed { result.retimed ≡ answer.retimed }
+    ensures levels { result.levels ≡ answer.levels }
+{
+    let map = map_counts(&answer);
+    let levels = answer.levels;
+    Timed {
+        retimed: retimed_of(answer),
+        levels,
+        times,
+        map,
+    }
+}
+
 /// Writes the circuit, and then the map and the certificates. Shows on standard error how far the run is, until the circuit is written.
 fn certified<
     'a,
@@ -247,16 +262,13 @@ fn certified<
     let ended = retimed(rt, alloc, task, stdin, out, &mut progress);
     let times = progress.end();
     let mut answer = ended?;
-    write_beside(rt, alloc, task, &mut answer, out)?;
-    let map = map_counts(&answer);
-    let levels = answer.levels;
-    let retimed = retimed_of(answer);
-    Ok(Timed {
-        retimed,
-        levels,
-        times,
-        map,
-    })
+    match write_beside(rt, alloc, task, &mut answer, out) {
+        Ok(()) => Ok(with_times(answer, times)),
+        Err(failure) => {
+            drop(answer);
+            Err(failure)
+        }
+    }
 }
 
 /// The names by which the task holds latches in this circuit.

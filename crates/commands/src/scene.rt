@@ -1,9 +1,9 @@
 //! What `dot` draws. It is made by steps, each of which consumes what the one before it made: the circuit that is read, the circuit
 //! that is shown, the scene.
-ghost use Rattle.std.specs.Prelude.{◌≡◌, true, IfOk};
+ghost use Rattle.std.specs.Prelude.{◌≡◌, true, IfOk, OnOk};
 ghost use Rattle.aig_graph.specs.Keep.{held_in, names_of};
 ghost use Rattle.latch_marks.specs.Marks.{circuit_freed};
-ghost use Rattle.commands.specs.Drawings.{AreOptionsFor, IsCircuitFor, IsCleanedFor, IsScene, IsSceneOf, IsSceneWith, IsSetFor, held_for, names_for};
+ghost use Rattle.commands.specs.Drawings.{AreOptionsFor, CanBeDrawn, IsCircuitFor, IsCleanedFor, IsScene, IsSceneOf, IsSceneWith, IsSetFor, held_for, names_for};
 
 use crate::drawable::check_drawable;
 use crate::holding::{freed_circuit, held_circuit, names_held};
@@ -75,7 +75,9 @@ fn cleaned<'a, R: Threads + Sync>(
         return Err(Failure::Memory);
     };
     let crew = Crew::new(1, OpenGate);
-    match retime(rt, alloc, circuit, &options, &crew) {
+    let retimed = retime(rt, alloc, circuit, &options, &crew);
+    drop(options);
+    match retimed {
         Ok(retimed) => Ok(circuit_of(retimed)),
         Err(RetimeError::NoMemory) => Err(Failure::Memory),
         Err(RetimeError::NoSuchName(place)) => {
@@ -152,6 +154,21 @@ fn set_for<'a, R: Threads + Sync>(
     }
 }
 
+/// The set that is shown in a circuit that can be drawn as it is.
+fn set_drawn<'a, R: Threads + Sync>(
+    rt: &R,
+    alloc: Global,
+    circuit: &Circuit,
+    keep: &Keep,
+    task: &Drawing<'a>,
+) -> Result<Option<ClosedSet>, Failure<'a>>
+    ensures can { OnOk result (CanBeDrawn task.now.around circuit.now) }
+    ensures set { IfOk result (IsSetFor task.now.frame circuit.now keep.now) }
+{
+    check_drawable(circuit, task)?;
+    set_for(rt, alloc, circuit, keep, task.frame)
+}
+
 /// The scene of a circuit that can be drawn as it is, in which these latches are held.
 fn scene_with<'a, R: Threads + Sync>(
     rt: &R,
@@ -162,9 +179,14 @@ fn scene_with<'a, R: Threads + Sync>(
 ) -> Result<Scene, Failure<'a>>
     ensures { IfOk result (IsSceneWith task.now circuit keep) }
 {
-    check_drawable(&circuit, task)?;
-    let set = set_for(rt, alloc, &circuit, &keep, task.frame)?;
-    Ok(Scene { circuit, keep, set })
+    match set_drawn(rt, alloc, &circuit, &keep, task) {
+        Ok(set) => Ok(Scene { circuit, keep, set }),
+        Err(failure) => {
+            drop(circuit);
+            drop(keep);
+            Err(failure)
+        }
+    }
 }
 
 /// The circuit that is shown, whose latches are let go.
@@ -181,6 +203,26 @@ fn shown_circuit<'a>(
     }
 }
 
+/// The scene of a circuit, in which these latches are held, when they are let go.
+fn scene_freed<'a, R: Threads + Sync>(
+    rt: &R,
+    alloc: Global,
+    circuit: Circuit,
+    keep: Keep,
+    task: &Drawing<'a>,
+) -> Result<Scene, Failure<'a>>
+    ensures { IfOk result (IsSceneWith task.now
+        (circuit_freed task.now.keep_latches.items circuit) keep) }
+{
+    match shown_circuit(alloc, circuit, task) {
+        Ok(shown) => scene_with(rt, alloc, shown, keep, task),
+        Err(failure) => {
+            drop(keep);
+            Err(failure)
+        }
+    }
+}
+
 /// The scene of a circuit in which the latches are held.
 fn scene_of<'a, R: Threads + Sync>(
     rt: &R,
@@ -190,9 +232,13 @@ fn scene_of<'a, R: Threads + Sync>(
 ) -> Result<Scene, Failure<'a>>
     ensures { IfOk result (IsScene task.now circuit) }
 {
-    let keep = keep_for(alloc, &circuit, task)?;
-    let shown = shown_circuit(alloc, circuit, task)?;
-    scene_with(rt, alloc, shown, keep, task)
+    match keep_for(alloc, &circuit, task) {
+        Ok(keep) => scene_freed(rt, alloc, circuit, keep, task),
+        Err(failure) => {
+            drop(circuit);
+            Err(failure)
+        }
+    }
 }
 
 /// The circuit that is read while the task holds its latches.

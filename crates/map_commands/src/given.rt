@@ -47,8 +47,13 @@ fn pair_at<'a, R: Files, I: CountedRead>(
         (I.input stdin.new)) }
 {
     let first = circuit_at(rt, alloc, input, stdin)?;
-    let second = circuit_at(rt, alloc, retimed, stdin)?;
-    Ok(Pair { first, second })
+    match circuit_at(rt, alloc, retimed, stdin) {
+        Ok(second) => Ok(Pair { first, second }),
+        Err(failure) => {
+            drop(first);
+            Err(failure)
+        }
+    }
 }
 
 /// Reads the circuits and the map, in this order.
@@ -61,8 +66,13 @@ pub(crate) fn mapped_for<'a, R: Files, I: CountedRead>(
     ensures { IfOk result (AreMapped task.now (I.input stdin.old) (I.input stdin.new)) }
 {
     let pair = pair_at(rt, alloc, task.input, task.retimed, stdin)?;
-    let map = circuit_at(rt, alloc, task.map, stdin)?;
-    Ok(Mapped { pair, map })
+    match circuit_at(rt, alloc, task.map, stdin) {
+        Ok(map) => Ok(Mapped { pair, map }),
+        Err(failure) => {
+            drop(pair);
+            Err(failure)
+        }
+    }
 }
 
 /// Reads the circuits, the map and the witness circuit, in this order.
@@ -75,7 +85,18 @@ pub(crate) fn given_for<'a, R: Files, I: CountedRead>(
     ensures { IfOk result (AreGiven task.now (I.input stdin.old) (I.input stdin.new)) }
 {
     let pair = pair_at(rt, alloc, task.input, task.retimed, stdin)?;
-    let map = circuit_at(rt, alloc, task.map, stdin)?;
-    let witness = circuit_at(rt, alloc, task.witness, stdin)?;
-    Ok(Given { pair, map, witness })
+    match circuit_at(rt, alloc, task.map, stdin) {
+        Ok(map) => match circuit_at(rt, alloc, task.witness, stdin) {
+            Ok(witness) => Ok(Given { pair, map, witness }),
+            Err(failure) => {
+                drop(map);
+                drop(pair);
+                Err(failure)
+            }
+        },
+        Err(failure) => {
+            drop(pair);
+            Err(failure)
+        }
+    }
 }
