@@ -5,6 +5,7 @@ use Rattle.std.specs.List.{All, Contains}
 use Rattle.std.specs.List.Sorted.{IsStrictlyIncreasing}
 use Rattle.std.proofs.Math.ListN.{get_or-append}
 use Rattle.std.proofs.lemmas.Bool.{cases_eq, cases_lt}
+use Rattle.std.proofs.lemmas.Option.{get_or_from_slice_get}
 use Rattle.std.proofs.lemmas.List.{get_or-map, get_or-set_same, get_or-set_other, get_or_default, get_or_past, length-append, length-replicate, length-set}
 use Rattle.std.proofs.lemmas.List.Elements.{All-append, All-replicate, All-set}
 use Rattle.std.proofs.lemmas.List.Kept.{AllPairs-from_increasing}
@@ -29,7 +30,7 @@ source-from g held set closed w (inr inside) =
     omega (arith, place.from)
 
 -- no member comes before the first one
-none-before : (xs : List ℕ) (end w : ℕ) → IsStrictlyIncreasing xs → w < get_or xs 0 end → Contains xs w → ⊥
+pub none-before : (xs : List ℕ) (end w : ℕ) → IsStrictlyIncreasing xs → w < get_or xs 0 end → Contains xs w → ⊥
 none-before xs end w rising below (i, within, is) = elim (cases_eq i 0) [
   | inl same ↦ (
       let here : get_or xs i w ≡ get_or xs 0 end = ap (λ (k : ℕ). get_or xs k w) same ∙ get_or_default xs 0 w end (omega arith) in
@@ -41,7 +42,7 @@ none-before xs end w rising below (i, within, is) = elim (cases_eq i 0) [
 ]
 
 -- no member lies between one and the next, or after the last one
-none-between : (xs : List ℕ) (end k w : ℕ) → IsStrictlyIncreasing xs → k < length xs → get_or xs k 0 < w → w < get_or xs (k + 1) end → Contains xs w → ⊥
+pub none-between : (xs : List ℕ) (end k w : ℕ) → IsStrictlyIncreasing xs → k < length xs → get_or xs k 0 < w → w < get_or xs (k + 1) end → Contains xs w → ⊥
 none-between xs end k w rising inside above below (i, within, is) = elim (cases_lt i (k + 1)) [
   | inl low ↦ (
       let here : get_or xs i w ≡ get_or xs i 0 = get_or_default xs i w 0 within in
@@ -62,6 +63,21 @@ pub member-at : (set vars : List ℕ) (k : ℕ) → vars ≡ set → k < length 
 member-at set vars k same within =
     let v : ℕ = get_or vars k 0 in
     subst (λ (ws : List ℕ). Contains ws v) same (k, within, get_or_default vars k v 0 within)
+
+-- the list of members is read as the list that a loop goes through
+pub at-place : (set vars : List ℕ) (k end : ℕ) → vars ≡ set → k < length vars → get_or set k end ≡ get_or vars k 0
+at-place set vars k end same within =
+    get_or_default set k end 0 (subst (λ (ws : List ℕ). k < length ws) same within) ∙ ap (λ (ws : List ℕ). get_or ws k 0) (sym same)
+
+-- a member's gate, read by its place among the gates
+pub gate-read : (g : Graph) (held set : List ℕ) → IsClosedSet g held set → (v start : ℕ) (own : List Gate) (gate : Gate) → own ≡ g.gates → start ≡ first_gate g → Contains set v
+    → gate ≡ get_or own (v - start) gate → gate_at g v ≡ Some gate
+gate-read g held set closed v start own gate same starts member read =
+    let there = closed.closed.passable v member in
+    let place : GatePlace g v there.0 = gate_place g v there.0 there.1 in
+    let here : v - start ≡ v - first_gate g = ap (λ (n : ℕ). v - n) starts in
+    let is : gate ≡ there.0 = read ∙ ap (λ (gates : List Gate). get_or gates (v - start) gate) same ∙ ap (λ (k : ℕ). get_or g.gates k gate) here ∙ get_or_from_slice_get g.gates (v - first_gate g) there.0 gate place.there in
+    there.1 ∙ ap (λ (x : Gate). Some x) (sym is)
 
 -- what a member reads has an entry
 pub fan_ins-covered : (g : Graph) (held set : List ℕ) → IsGraph g → IsClosedSet g held set → (v first : ℕ) (gate : Gate) (literals : List ℕ) → gate_at g v ≡ Some gate → first ≡ first_latch g
@@ -127,11 +143,9 @@ module _ (g c : Graph) (functions held set : List ℕ) (valid : IsGraph c) (clos
   }
 
   -- before the first member
-  pub follows-first : IsGraph g → (literals : List ℕ) (gates : ℕ) → literals ≡ functions ++ replicate gates 0 → first_gate c + gates ≡ variables_end c → length functions ≡ length c.latches
-      → All (λ l. IsLiteralOf g l) functions → Follows g functions c set (get_or set 0 (variables_end c)) g literals
-  follows-first graph literals gates same counted many all =
-      follows-skip g literals (first_gate c) (get_or set 0 (variables_end c)) (omega arith) (λ w from less inside. none-before set (variables_end c) w closed.rising less inside)
-      (follows-start graph literals gates same counted many all)
+  pub follows-first : (h : Graph) (literals : List ℕ) → Follows g functions c set (first_gate c) h literals → Follows g functions c set (get_or set 0 (variables_end c)) h literals
+  follows-first h literals p =
+      follows-skip h literals (first_gate c) (get_or set 0 (variables_end c)) (omega arith) (λ w from less inside. none-before set (variables_end c) w closed.rising less inside) p
 
   -- the literal that stands for a fan-in has its value
   fan_in-value : (h : Graph) (literals : List ℕ) (n : ℕ) → IsGraph h → Follows g functions c set n h literals → (s : State) (lit : ℕ) → variable lit < n → IsLatchOrIn c set (variable lit)

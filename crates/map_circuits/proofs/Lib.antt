@@ -1,5 +1,6 @@
 pub mod GrowingLaws
 pub mod FollowingLaws
+pub mod GatheringLaws
 pub mod SteppingLaws
 pub mod ConstrainingLaws
 pub mod SubstituteLaws

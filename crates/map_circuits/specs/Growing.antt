@@ -1,5 +1,6 @@
 -- Graphs that grow, and what the literals of new gates say.
-use Rattle.std.specs.Prelude.{ℕ, ◌≡◌, ◌&&◌}
+use Rattle.std.specs.Prelude.{ℕ, ◌≡◌, ◌&&◌, List, []}
+use Rattle.aig_graph.specs.declared.graph.Gate.{Gate}
 use Rattle.aig_graph.specs.Graph.{Graph, IsGraph, IsLiteralOf}
 use Rattle.aig_graph.specs.Value.{value_within}
 use Rattle.state_maps.specs.States.{Digits, State}
@@ -22,3 +23,7 @@ pub record IsConjunction (g : Graph) (a b lit : ℕ) : Type 0 where
 pub record IsEquality (g : Graph) (a b lit : ℕ) : Type 0 where
   pub within : IsLiteralOf g lit
   pub is : (x : Digits) (s : State) → value_within g x s lit ≡ agrees (value_within g x s a) (value_within g x s b)
+
+-- gates over inputs alone
+abbrev pub gates_over : ℕ → List Gate → Graph
+gates_over inputs gates = record { inputs = inputs; latches = []; gates = gates }

@@ -2,5 +2,6 @@ pub mod Growing
 pub mod Following
 pub mod Stepping
 pub mod Constraining
+pub mod Gathering
 pub mod Steps
 pub mod Instances

@@ -6,7 +6,8 @@ ghost use Rattle.map_circuits.specs.Steps.{IsSomeReading};
 
 use crate::constraining::add_constraints;
 use crate::errors::MapError;
-use aig_graph::{Aig, AigBuilder, Lit};
+use crate::map_gates::MapGates;
+use aig_graph::{Aig, Lit};
 
 /// Adds the constraints that each latch of a graph is equal to what it reads as, by the functions of the latches: none for a latch that
 /// reads as itself.
@@ -16,7 +17,7 @@ use aig_graph::{Aig, AigBuilder, Lit};
 /// `NoMemory` where memory is refused, `TooLarge` where there would be more gates than a graph may have; some gates and constraints
 /// may have been added then.
 pub fn add_readings(
-    gates: &mut AigBuilder,
+    gates: &mut MapGates,
     constraints: &mut Vec<Lit>,
     functions: &[Lit],
     aig: &Aig,

@@ -5,9 +5,9 @@ ghost use Rattle.aig_graph.specs.Graph.{IsGraph, IsLiteralOf};
 ghost use Rattle.map_circuits.specs.Constraining.{AddsEquality, AddsSubstitutes, IsSubstitute, substitute_function};
 
 use crate::errors::MapError;
-use crate::gates::add_equality;
-use crate::moving::standing;
-use aig_graph::{AigBuilder, Lit};
+use crate::map_gates::MapGates;
+use crate::standing::standing;
+use aig_graph::Lit;
 
 /// The function of what stands for a latch: a constant, or a literal of a latch.
 fn function_of(functions: &[Lit], first: u32, substitute: Lit) -> Lit
@@ -23,7 +23,7 @@ fn function_of(functions: &[Lit], first: u32, substitute: Lit) -> Lit
 
 /// Adds a constraint that two literals are equal, unless they are one.
 fn add_constraint(
-    gates: &mut AigBuilder,
+    gates: &mut MapGates,
     constraints: &mut Vec<Lit>,
     a: Lit,
     b: Lit,
@@ -37,7 +37,7 @@ fn add_constraint(
     if a == b {
         return Ok(());
     }
-    let equality = add_equality(gates, a, b)?;
+    let equality = gates.add_equality(a, b)?;
     constraints.push(equality)?;
     Ok(())
 }
@@ -50,7 +50,7 @@ fn add_constraint(
 /// `NoMemory` where memory is refused, `TooLarge` where there would be more gates than a graph may have; some gates and constraints
 /// may have been added then.
 pub fn add_constraints(
-    gates: &mut AigBuilder,
+    gates: &mut MapGates,
     constraints: &mut Vec<Lit>,
     functions: &[Lit],
     first: u32,

@@ -9,14 +9,16 @@
 mod adding;
 mod conjunctions;
 mod constraining;
-mod entries;
 mod errors;
 mod functions;
 mod gates;
+mod gathering;
 mod instances;
 mod laws;
+mod map_gates;
 mod moving;
 mod passing;
+mod standing;
 
 pub use adding::add_readings;
 pub use conjunctions::add_conjunction_of;
@@ -26,5 +28,6 @@ pub use functions::read_functions;
 pub use gates::{add_conjunction, add_equality};
 pub use instances::{Instance, add_instance};
 pub use laws::{merged_step_law, merging_step_law};
-pub use moving::moved_functions;
-pub use passing::passed_functions;
+pub use map_gates::MapGates;
+pub use moving::move_functions;
+pub use passing::pass_functions;

@@ -114,7 +114,7 @@ fn moved_over(
 {
     circuit.known();
     let copies = set.vars().len();
-    follow_move(alloc, parts, circuit, set, keep, &marks)?;
+    follow_move(parts, circuit, set, keep, &marks)?;
     let after = moved_by(alloc, circuit, set, keep, marks)?;
     settled(alloc, parts, after, copies, options)
 }

@@ -43,7 +43,7 @@ fn finished(alloc: Global, parts: MapParts, symbols: Symbols) -> Circuit
     } = parts;
     let mut props = Props::of_outputs(alloc, functions);
     props.constraints = Sequence::from_vec(constraints);
-    Circuit::new(gates.finish(), props, symbols)
+    Circuit::new(gates.finish(alloc), props, symbols)
 }
 
 /// The parts of a map, as a circuit: its inputs are the latches of the circuit that was read, its outputs what the latches of the

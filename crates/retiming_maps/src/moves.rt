@@ -9,18 +9,16 @@ ghost use Rattle.retiming_maps.specs.Mapping.{IsSomeMapTo, LeadsWhole};
 
 use crate::parts::MapParts;
 use aig_graph::{Circuit, ClosedSet, Keep};
-use map_circuits::{MapError, moved_functions};
+use map_circuits::{MapError, move_functions};
 use rebuild::MoveMarks;
-use std::alloc::Global;
 
-/// Follows a move of latches over a closed set, by the marks of the move. The moved circuit isn't made. Linear in the circuit; inputs cost
-/// nothing.
+/// Follows a move of latches over a closed set, by the marks of the move. The moved circuit isn't made. Linear in the latches and the set,
+/// but for a table that is cleared; inputs cost nothing.
 ///
 /// # Errors
 ///
 /// `NoMemory` where memory is refused, `TooLarge` where the map would have more variables than a graph may have.
 pub fn follow_move(
-    alloc: Global,
     parts: &mut MapParts,
     circuit: &Circuit,
     set: &ClosedSet,
@@ -35,9 +33,7 @@ pub fn follow_move(
         (moved_of (move_of circuit.now keep.now set.now)) parts.new) }
 {
     circuit.known();
-    let functions = parts.functions.as_slice();
-    let gates = &mut parts.gates;
-    let new = moved_functions(alloc, gates, functions, circuit, set, keep, marks)?;
-    parts.functions = new;
+    let functions = &mut parts.functions;
+    move_functions(&mut parts.gates, functions, circuit, set, keep, marks)?;
     Ok(())
 }

@@ -1,10 +1,11 @@
-use aig_graph::{AigBuilder, Lit};
+use aig_graph::Lit;
+use map_circuits::MapGates;
 
 /// A map of states, as far as it has come. It is made by [`identity`](crate::identity), and follows a circuit by what the other functions do.
 #[derive(Drop)]
 pub struct MapParts {
     /// Gates over an input for each latch of the circuit that was read.
-    pub gates: AigBuilder,
+    pub gates: MapGates,
     /// What each latch of the circuit that the run has come to holds.
     pub functions: Vec<Lit>,
     /// What the functions rest on.

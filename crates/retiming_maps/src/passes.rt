@@ -8,12 +8,11 @@ ghost use Rattle.retiming_maps.specs.Mapping.{IsCleanedAlong, IsNextAlong, IsPas
 use crate::parts::MapParts;
 use aig_graph::{Circuit, Keep, Sequence};
 use clean::{Cleaned, TracedPass, composed, has_more, picked, traced_pass};
-use map_circuits::{MapError, add_constraints, passed_functions};
+use map_circuits::{MapError, add_constraints, pass_functions};
 use std::alloc::Global;
 
 /// Follows a pass that was made with these latches held.
 fn follow_pass(
-    alloc: Global,
     parts: &mut MapParts,
     circuit: &Circuit,
     held: &[u32],
@@ -36,8 +35,7 @@ fn follow_pass(
         substitutes,
     )?;
     let stays = pass.stays.as_slice();
-    let new = passed_functions(alloc, functions, stays)?;
-    parts.functions = new;
+    pass_functions(&mut parts.functions, stays);
     Ok(())
 }
 
@@ -53,7 +51,7 @@ fn passed(
     ensures { IfOk result (IsPassAlong held.now circuit.now parts.old parts.new) }
 {
     let pass = traced_pass(alloc, circuit, held)?;
-    match follow_pass(alloc, parts, circuit, held, &pass) {
+    match follow_pass(parts, circuit, held, &pass) {
         Ok(()) => Ok(pass),
         Err(error) => {
             drop(pass);

@@ -6,8 +6,8 @@ ghost use Rattle.variable_tables.specs.Tables.{table};
 ghost use Rattle.retiming_maps.specs.Mapping.{IsMapTo};
 
 use crate::parts::MapParts;
-use aig_graph::{AigBuilder, Circuit, Lit, NoMemory};
-use map_circuits::MapError;
+use aig_graph::{Circuit, Lit, NoMemory};
+use map_circuits::{MapError, MapGates};
 use std::alloc::Global;
 
 /// The literals of this many inputs.
@@ -32,8 +32,7 @@ pub fn identity(alloc: Global, circuit: &Circuit) -> Result<MapParts, MapError>
 {
     circuit.known();
     let count = circuit.aig().latches().len() as u32;
-    let resets = Vec::new(alloc);
-    let gates = AigBuilder::new(alloc, count, resets)?;
+    let gates = MapGates::new(alloc, count);
     let functions = input_literals(alloc, count)?;
     let constraints = Vec::new(alloc);
     Ok(MapParts {

@@ -46,23 +46,16 @@ add_constraints-requires-clause-long c =
       c.requires.map.2.many,
     )
 
-pub passed_functions-requires-clause-long : goal.passed_functions-requires-clause-long
-passed_functions-requires-clause-long c =
+pub pass_functions-requires : goal.pass_functions-requires
+pass_functions-requires c =
     let d : Graph = c.args.circuit.now.aig in
     let filled : c.as_slice-stays.result.now ≡ table 0 (length d.latches) (λ j. c.requires.traced.pass.reached (first_latch d + j)) = c.as_slice-stays.ensures.value ∙ c.requires.traced.stays in
     omega (
       arith,
       ap (λ (xs : List Bool). length xs) filled,
       length-table 0 (length d.latches) (λ j. c.requires.traced.pass.reached (first_latch d + j)),
-      ap (λ (xs : List ℕ). length xs) c.as_slice-functions.ensures.value,
       c.requires.map.2.many,
     )
-
-pub passed_functions-requires-clause-few : goal.passed_functions-requires-clause-few
-passed_functions-requires-clause-few c =
-    let d : Graph = c.args.circuit.now.aig in
-    let filled : c.as_slice-stays.result.now ≡ table 0 (length d.latches) (λ j. c.requires.traced.pass.reached (first_latch d + j)) = c.as_slice-stays.ensures.value ∙ c.requires.traced.stays in
-    omega (arith, ap (λ (xs : List Bool). length xs) filled, length-table 0 (length d.latches) (λ j. c.requires.traced.pass.reached (first_latch d + j)), c.aig.ensures.graph.small)
 
 pub returns : goal.returns
 returns c = λ b k p.
@@ -84,8 +77,8 @@ returns c = λ b k p.
     subst (λ (substitutes : List ℕ). P (first_latch d.aig) functions substitutes) listed
     (subst (λ (lits : List ℕ). P (first_latch d.aig) lits c.as_slice-substitutes.result.now) same
     (subst (λ (n : ℕ). P n c.as_slice-functions.result.now c.as_slice-substitutes.result.now) start c.in_ok-add_constraints.ensures)) in
+    let new : List ℕ = c.pass_functions.new.functions.items in
     let within : AreLiteralsOf h functions = λ j a less. adds.extends.literals (get_or functions j a) (p.functions_within j a less) in
-    let Q : List ℕ → Type 0 = λ lits. ArePassed h lits d.aig r c.in_ok-new.new.items in
-    let passed : Q functions = subst Q same (c.in_ok-new.ensures h d.aig r (subst (λ (lits : List ℕ). AreLiteralsOf h lits) (sym same) within) filled) in
-    pass-map b d c.args.pass.now.circuit held k c.args.pass.now.kept_free.items c.args.pass.now.held.items g h functions c.in_ok-new.new.items old constraints
+    let passed : ArePassed h functions d.aig r new = c.pass_functions.ensures h d.aig r within filled in
+    pass-map b d c.args.pass.now.circuit held k c.args.pass.now.kept_free.items c.args.pass.now.held.items g h functions new old constraints
     (record { graph = c.aig.ensures.graph; netlist = c.aig.ensures.netlist }) traced.pass p adds passed

@@ -11,9 +11,8 @@ pub returns : goal.returns
 returns c =
     let n : ℕ = length c.args.circuit.now.aig.latches in
     let many : length c.latches.result.now ≡ n = ap (λ (xs : List Latch). length xs) c.latches.ensures.value ∙ ap (λ (g : Graph). length g.latches) c.aig.ensures.value in
-    let built : c.in_ok-gates.gates ≡ without_gates n [] =
-    c.in_ok-gates.ensures.ok ∙ ap (λ (k : ℕ). without_gates k c.new-resets.result.items) many ∙ ap (λ (resets : List Reset). without_gates n resets) c.new-resets.ensures.items in
-    let graph : IsGraph c.in_ok-gates.gates = subst (λ (g : Graph). IsGraph g) (sym built) (inputs-graph n (omega (arith, c.known.ensures.graph.small))) in
-    identity-map c.args.circuit.now c.in_ok-gates.gates c.in_ok-functions.functions.items c.new-constraints.result.items
+    let built : c.new-gates.result ≡ without_gates n [] = c.new-gates.ensures ∙ ap (λ (k : ℕ). without_gates k []) many in
+    let graph : IsGraph c.new-gates.result = subst (λ (g : Graph). IsGraph g) (sym built) (inputs-graph n (omega (arith, c.known.ensures.graph.small))) in
+    identity-map c.args.circuit.now c.new-gates.result c.in_ok-functions.functions.items c.new-constraints.result.items
     (record { graph = c.known.ensures.graph; netlist = c.known.ensures.netlist }) graph built
     (c.in_ok-functions.ensures ∙ ap (λ (k : ℕ). table 0 k (λ j. 2 * (1 + j))) many) c.new-constraints.ensures.items

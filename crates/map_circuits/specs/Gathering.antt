@@ -1,0 +1,14 @@
+-- Entries that move to the front of a table.
+use Rattle.std.specs.Prelude.{ℕ, ◌-◌, ◌<◌, ◌≤◌, ◌≡◌, Bool, List, length}
+use Rattle.std.specs.List.{slice_index_or}
+use Rattle.variable_tables.specs.Counting.{places}
+use Rattle.map_circuits.specs.Following.{entry_of}
+
+-- The first of the new entries are those that the variables below n that pass had before, in their order; from that of n on all are as
+-- they were.
+pub record IsGathered (first : ℕ) (p : ℕ → Bool) (n : ℕ) (old new : List ℕ) (kept : ℕ) : Type 0 where
+  pub long : length new ≡ length old
+  pub few : kept ≤ n - first
+  pub many : kept ≡ length (places p n)
+  pub front : (i : ℕ) → i < kept → slice_index_or new i 0 ≡ entry_of first old (slice_index_or (places p n) i 0)
+  pub rest : (j : ℕ) → n - first ≤ j → slice_index_or new j 0 ≡ slice_index_or old j 0

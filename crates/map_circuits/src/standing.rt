@@ -1,0 +1,14 @@
+ghost use Rattle.std.specs.Prelude.{◌≡◌, ◌<◌, ◌≤◌, ◌-◌, length};
+ghost use Rattle.aig_graph.specs.Graph.{variable};
+ghost use Rattle.map_circuits.specs.Following.{literal_at};
+
+use aig_graph::Lit;
+
+/// What stands for a literal of a variable that has an entry.
+pub(crate) fn standing(literals: &[Lit], first: u32, lit: Lit) -> Lit
+    requires from { first ≤ variable lit }
+    requires below { variable lit - first < length literals.now }
+    ensures { result ≡ literal_at first literals.now lit }
+{
+    literals[(lit.var() - first) as usize].signed_as(lit)
+}
