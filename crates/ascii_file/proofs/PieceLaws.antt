@@ -156,6 +156,7 @@ end_taken part (b ∷ bytes) clean = by_test (nat_eq b 10) (end_taken part bytes
 
 -- ---- the law
 
+-- steps that may fail, one after another, in either grouping
 pub bind_assoc : {A B C : Type 0} (r : Result A ReadError) (f : A → Result B ReadError) (g : B → Result C ReadError) → ((r >>= f) >>= g) ≡ (r >>= λ x. f x >>= g)
 bind_assoc (Ok x) f g = refl
 bind_assoc (Err e) f g = refl

@@ -24,6 +24,7 @@ bind_ok (Err d) f y e = absurd cc
 
 -- ---- the item of a line is of the line's section
 
+-- an item that is found is one
 pub same_some : (a b : Item) → ◌≡◌ {A = Option Item} (Some a) (Some b) → a ≡ b
 same_some a b e = cc
 

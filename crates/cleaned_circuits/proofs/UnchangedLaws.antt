@@ -66,6 +66,7 @@ props-fixed f P p fixed all =
     ap one (map-fixed_all P f fixed p.outputs parts.outputs) ∙ ap two (map-fixed_all P f fixed p.bad parts.bad) ∙ ap three (map-fixed_all P f fixed p.constraints parts.constraints)
     ∙ ap four (map-fixed_all (λ (lits : List ℕ). All P lits) (map f) (map-fixed_all P f fixed) p.justice parts.justice) ∙ ap five (map-fixed_all P f fixed p.fairness parts.fairness)
 
+-- a gate whose larger fan-in is first is the gate of its fan-ins
 pub gate-ordered : (gate : Gate) → gate.rhs1 ≤ gate.rhs0 → gate_of gate.rhs0 gate.rhs1 ≡ gate
 gate-ordered gate h =
     let first : (gate_of gate.rhs0 gate.rhs1).rhs0 ≡ gate.rhs0 = omega arith in

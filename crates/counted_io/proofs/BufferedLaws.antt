@@ -171,6 +171,7 @@ module _ {W : Type 0} {output : W → Output} where
 
 -- ---- numbered things, and ranges of numbers
 
+-- numbering joined lists goes on where the first one ends
 pub enumerate_from-append : {X : Type 0} (first : ℕ) (xs ys : List X) → enumerate_from first (xs ++ ys) ≡ enumerate_from first xs ++ enumerate_from (first + length xs) ys
 enumerate_from-append first [] ys = ap (λ n. enumerate_from n ys) (omega arith)
 enumerate_from-append first (x ∷ xs) ys =

@@ -1,6 +1,6 @@
 //! Files of either spelling, in pieces and from devices that fail.
 use aag_text::{Counted, CountedRead, FailAfter, Failure, OneByte, ReadError};
-use aig_binary::{AnyReader, Spelling, SpeltCircuit, read_circuit, write};
+use aig_binary::{AnyReader, Spelling, read_circuit, write};
 use aig_graph::Circuit;
 use std::alloc::Global;
 use std::test::*;
@@ -22,21 +22,25 @@ fn is_two_latches(alloc: Global, circuit: &Circuit) -> bool {
     written.is_ok() & (text.as_slice() == BINARY)
 }
 
-/// The circuit of two pieces of a binary file, if the reader takes them and names the spelling.
-fn circuit_of_pieces(reader: &mut AnyReader, first: &[u8], second: &[u8]) -> Option<Circuit> {
-    let taken = reader.feed(first).is_ok() && reader.feed(second).is_ok();
-    if taken && reader.spelling() == Some(Spelling::Binary) {
-        reader.finish().ok()
-    } else {
-        None
-    }
+/// Whether a reader takes two pieces of a binary file, and names the spelling.
+fn takes_both(reader: &mut AnyReader, first: &[u8], second: &[u8]) -> bool {
+    let first_taken = reader.feed(first).is_ok();
+    let second_taken = reader.feed(second).is_ok();
+    first_taken & second_taken & (reader.spelling() == Some(Spelling::Binary))
 }
 
-fn read_two_pieces(alloc: Global, first: &[u8], second: &[u8]) -> Option<Circuit> {
+/// Whether two pieces are read as the circuit of two latches.
+fn reads_two_pieces(alloc: Global, first: &[u8], second: &[u8]) -> bool {
     let mut reader = AnyReader::new(alloc);
-    let circuit = circuit_of_pieces(&mut reader, first, second);
+    let taken = takes_both(&mut reader, first, second);
+    let read = reader.finish();
     drop(reader);
-    circuit
+    let whole = match &read {
+        Ok(circuit) => is_two_latches(alloc, circuit),
+        Err(_) => false,
+    };
+    drop(read);
+    taken & whole
 }
 
 /// The fault at the end of what a reader took, if there is one.
@@ -44,38 +48,16 @@ fn fault_at_end(reader: &mut AnyReader) -> Option<ReadError> {
     reader.finish().err()
 }
 
-/// Whether two pieces are read as the circuit of two latches.
-fn reads_two_pieces(alloc: Global, first: &[u8], second: &[u8]) -> bool {
-    let circuit = read_two_pieces(alloc, first, second);
-    let whole = match &circuit {
-        Some(circuit) => is_two_latches(alloc, circuit),
-        None => false,
-    };
-    drop(circuit);
-    whole
-}
-
-/// Whether a reader gives the circuit, and then no other.
-fn ends_after(reader: &mut AnyReader, bytes: &[u8]) -> bool {
-    reader.feed(bytes).is_ok()
-        && fault_at_end(reader).is_none()
-        && fault_at_end(reader) == Some(ReadError::BadHeader(0))
-        && reader.feed(b"\n") == Err(ReadError::BadHeader(0))
-}
-
-fn ends_after_circuit(alloc: Global, bytes: &[u8]) -> bool {
+/// Whether a reader gives the circuit of a file, and then no other.
+fn ends_after(alloc: Global, bytes: &[u8]) -> bool {
     let mut reader = AnyReader::new(alloc);
-    let ends = ends_after(&mut reader, bytes);
+    let taken = reader.feed(bytes).is_ok();
+    let first = fault_at_end(&mut reader);
+    let second = fault_at_end(&mut reader);
+    let more = reader.feed(b"\n");
     drop(reader);
-    ends
-}
-
-/// Whether the circuit of two latches was read.
-fn is_read(alloc: Global, spelt: &Result<SpeltCircuit, ReadError>) -> bool {
-    match spelt {
-        Ok(spelt) => is_two_latches(alloc, &spelt.circuit),
-        Err(_) => false,
-    }
+    let no_other = Some(ReadError::BadHeader(0));
+    taken & first.is_none() & (second == no_other) & (more.err() == no_other)
 }
 
 /// What is read of a device that gives one byte a read and fails from a number of reads on: whether it is the circuit of two latches,
@@ -86,7 +68,10 @@ fn read_failing(alloc: Global, bytes: &[u8], reads: usize) -> (bool, Option<Read
     let mut circuits = AnyReader::new(alloc);
     let spelt = read_circuit(&mut reader, &mut circuits);
     drop(circuits);
-    let whole = is_read(alloc, &spelt);
+    let whole = match &spelt {
+        Ok(spelt) => is_two_latches(alloc, &spelt.circuit),
+        Err(_) => false,
+    };
     (whole, spelt.err(), CountedRead::failures(&reader))
 }
 
@@ -101,21 +86,12 @@ fn ends_where_it_should(alloc: Global, bytes: &[u8]) -> bool {
 }
 
 #[test]
-fn reads_a_delta_in_two_pieces(rt: HostRuntime) {
+fn reads_in_pieces_and_to_the_end_or_to_a_failed_read(rt: HostRuntime) {
     let (first, second) = LONG_DELTA.split_at(22);
-    assert!(rt; reads_two_pieces(rt.alloc(), first, second));
-}
-
-#[test]
-fn ends_after_a_circuit(rt: HostRuntime) {
-    let ascii = ends_after_circuit(rt.alloc(), TWO_LATCHES);
-    let binary = ends_after_circuit(rt.alloc(), BINARY);
-    assert!(rt; ascii & binary);
-}
-
-#[test]
-fn reads_to_the_end_or_to_a_failed_read(rt: HostRuntime) {
-    let ascii = ends_where_it_should(rt.alloc(), TWO_LATCHES);
-    let binary = ends_where_it_should(rt.alloc(), LONG_DELTA);
-    assert!(rt; ascii & binary);
+    let alloc = rt.alloc();
+    let pieces = reads_two_pieces(alloc, first, second);
+    let ends = ends_after(alloc, TWO_LATCHES) & ends_after(alloc, BINARY);
+    let ascii = ends_where_it_should(alloc, TWO_LATCHES);
+    let binary = ends_where_it_should(alloc, LONG_DELTA);
+    assert!(rt; pieces & ends & ascii & binary);
 }

@@ -30,14 +30,6 @@ fn is_given(alloc: Global, calls: u64, failure: Failure, text: &[u8], failures: 
     (failed == (failures > 0)) & (counted == failures) & (taken.as_slice() == text)
 }
 
-#[test]
-fn goes_on_after_a_partial_write_and_stops_at_a_failed_one(rt: HostRuntime) {
-    let goes_on = is_given(rt.alloc(), 1000, Failure::Error, SOME, 0);
-    let stops = is_given(rt.alloc(), 3, Failure::Error, b"6 0", 1);
-    let stops_at_nothing = is_given(rt.alloc(), 3, Failure::Nothing, b"6 0", 1);
-    assert!(rt; goes_on & stops & stops_at_nothing);
-}
-
 /// Whether a vector is given the whole text at once.
 fn writes_all(alloc: Global, text: &[u8]) -> bool {
     let mut out = Counted::new(Vec::new(alloc));
@@ -49,17 +41,13 @@ fn writes_all(alloc: Global, text: &[u8]) -> bool {
 /// Whether a device that gives one byte a call is read to its end.
 fn reads_all(alloc: Global, text: &[u8]) -> bool {
     let mut reader = Counted::new(OneByte::new(text));
-    match read_all(alloc, &mut &mut reader) {
+    let read = read_all(alloc, &mut &mut reader);
+    let same = match &read {
         Ok(bytes) => bytes.as_slice() == text,
         Err(_) => false,
-    }
-}
-
-#[test]
-fn writes_at_once_and_reads_to_the_end(rt: HostRuntime) {
-    let writes = writes_all(rt.alloc(), b"aag 0");
-    let reads = reads_all(rt.alloc(), b"aag 0");
-    assert!(rt; writes & reads);
+    };
+    drop(read);
+    same
 }
 
 /// Whether a device that gives nothing from the third call on ends the reading there.
@@ -73,8 +61,14 @@ fn ends_at_third_read(alloc: Global) -> bool {
 }
 
 #[test]
-fn stops_at_a_failed_read(rt: HostRuntime) {
-    assert!(rt; ends_at_third_read(rt.alloc()));
+fn goes_on_after_a_part_and_stops_at_a_failure(rt: HostRuntime) {
+    let alloc = rt.alloc();
+    let goes_on = is_given(alloc, 1000, Failure::Error, SOME, 0);
+    let stops = is_given(alloc, 3, Failure::Error, b"6 0", 1);
+    let stops_at_nothing = is_given(alloc, 3, Failure::Nothing, b"6 0", 1);
+    let wholly = writes_all(alloc, b"aag 0") & reads_all(alloc, b"aag 0");
+    let ends = ends_at_third_read(alloc);
+    assert!(rt; goes_on & stops & stops_at_nothing & wholly & ends);
 }
 
 /// Whether an error has this text.

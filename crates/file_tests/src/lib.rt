@@ -1,5 +1,6 @@
 //! Tests of the public calls that read and write circuits in both spellings, of the parts that their readers are made of, of buffered
-//! writing and devices that fail. They stand in a crate of their own, since a crate with tests is proved twice.
+//! writing and devices that fail, and of latches that are held by their places. They stand in a crate of their own, since a crate with
+//! tests is proved twice.
 #![tactic(auto)]
 
 #[cfg(test)]
@@ -14,6 +15,8 @@ mod devices;
 mod faults;
 #[cfg(test)]
 mod gate_orders;
+#[cfg(test)]
+mod held_latches;
 #[cfg(test)]
 mod names_and_properties;
 #[cfg(test)]

@@ -16,10 +16,7 @@ fn name_two_outputs(alloc: Global, names: &mut Names) -> Result<bool, NoMemory> 
 }
 
 /// Whether two outputs have names, by rising position, and no input has one.
-fn are_two_outputs(symbols: &Result<Symbols, NoMemory>) -> bool {
-    let Ok(symbols) = symbols else {
-        return false;
-    };
+fn are_two_outputs(symbols: &Symbols) -> bool {
     match symbols.outputs.as_slice() {
         [one, other] => one.position == 2 && other.position == 7 && symbols.inputs.is_empty(),
         _ => false,
@@ -28,16 +25,14 @@ fn are_two_outputs(symbols: &Result<Symbols, NoMemory>) -> bool {
 
 fn names_two_outputs(alloc: Global) -> bool {
     let mut names = Names::new(alloc);
-    let taken = name_two_outputs(alloc, &mut names);
+    let taken = name_two_outputs(alloc, &mut names) == Ok(true);
     let symbols = names.into_symbols(alloc);
-    let named = are_two_outputs(&symbols);
+    let named = match &symbols {
+        Ok(symbols) => are_two_outputs(symbols),
+        Err(_) => false,
+    };
     drop(symbols);
-    named && taken == Ok(true)
-}
-
-#[test]
-fn names_rise_and_are_taken_once(rt: HostRuntime) {
-    assert!(rt; names_two_outputs(rt.alloc()));
+    taken & named
 }
 
 /// The lists of an output, a justice property of one literal, and a fairness literal.
@@ -63,7 +58,14 @@ fn is_literal(literals: &[Lit], code: u32) -> bool {
     }
 }
 
-fn parts_by_kind(alloc: Global) -> Result<bool, NoMemory> {
+/// Whether the properties of a circuit that the header counts have one fairness literal.
+fn is_parted(alloc: Global, lists: PropertyLists) -> bool
+    requires { lists ≡ record {
+      safety = 4 ∷ [];
+      sizes = 1 ∷ [];
+      liveness = 6 ∷ 8 ∷ [];
+    } }
+{
     let header = Header {
         greatest: 4,
         inputs: 4,
@@ -75,14 +77,21 @@ fn parts_by_kind(alloc: Global) -> Result<bool, NoMemory> {
         justice: 1,
         fairness: 1,
     };
-    let lists = collected(alloc)?;
-    let props = lists.into_props(alloc, &header)?;
-    let is_fair = is_literal(props.fairness.as_slice(), 8);
+    let props = lists.into_props(alloc, &header);
+    let is_fair = match &props {
+        Ok(props) => is_literal(props.fairness.as_slice(), 8),
+        Err(_) => false,
+    };
     drop(props);
-    Ok(is_fair)
+    is_fair
 }
 
 #[test]
-fn properties_are_parted_by_kind(rt: HostRuntime) {
-    assert!(rt; parts_by_kind(rt.alloc()) == Ok(true));
+fn names_rise_and_are_taken_once_and_properties_are_parted_by_kind(rt: HostRuntime) {
+    let alloc = rt.alloc();
+    let is_fair = match collected(alloc) {
+        Ok(lists) => is_parted(alloc, lists),
+        Err(_) => false,
+    };
+    assert!(rt; names_two_outputs(alloc) & is_fair);
 }

@@ -44,16 +44,9 @@ fn names_justice(alloc: Global, first: &[u8], second: &[u8], place: u32, wanted:
 }
 
 #[test]
-fn reads_a_header_in_pieces(rt: HostRuntime) {
-    assert!(rt; greatest(b"aag 1", b"1 0 0 0 0") == Some(11));
-}
-
-#[test]
-fn reads_numbers_in_pieces(rt: HostRuntime) {
-    assert!(rt; has_numbers(b"10 0", b"6 8", &[10, 6, 8]));
-}
-
-#[test]
-fn reads_a_name_in_pieces(rt: HostRuntime) {
-    assert!(rt; names_justice(rt.alloc(), b"j1", b"2 no ne", 12, b"no ne"));
+fn reads_lines_in_pieces(rt: HostRuntime) {
+    let header = greatest(b"aag 1", b"1 0 0 0 0") == Some(11);
+    let numbers = has_numbers(b"10 0", b"6 8", &[10, 6, 8]);
+    let name = names_justice(rt.alloc(), b"j1", b"2 no ne", 12, b"no ne");
+    assert!(rt; header & numbers & name);
 }

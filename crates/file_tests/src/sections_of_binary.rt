@@ -53,14 +53,6 @@ fn take_all(alloc: Global, sections: &mut Sections) -> Result<(), ReadError> {
     take_name(alloc, sections)
 }
 
-fn read(alloc: Global) -> Result<Circuit, ReadError> {
-    let mut sections = two_latches(alloc);
-    match take_all(alloc, &mut sections) {
-        Ok(()) => sections.finish(alloc, 29),
-        Err(fault) => Err(fault),
-    }
-}
-
 /// Whether the gate is that of the two latches, and one input has a name.
 fn is_two_latches(circuit: &Circuit) -> bool {
     match circuit.aig().gate(5) {
@@ -72,13 +64,15 @@ fn is_two_latches(circuit: &Circuit) -> bool {
 }
 
 fn is_read(alloc: Global) -> bool {
-    let circuit = read(alloc);
-    let is = match &circuit {
+    let mut sections = two_latches(alloc);
+    let taken = take_all(alloc, &mut sections).is_ok();
+    let read = sections.finish(alloc, 29);
+    let is = match &read {
         Ok(circuit) => is_two_latches(circuit),
         Err(_) => false,
     };
-    drop(circuit);
-    is
+    drop(read);
+    taken & is
 }
 
 #[test]

@@ -1,10 +1,16 @@
 //! The passable gates of the first worked circuit, and the arcs and rows of its network.
 use crate::nets::{TWO_LATCHES, net_of_text};
 use aag_text::read_aag;
-use aig_graph::{Circuit, Keep, NoMemory};
-use frame_net::{Net, PassSet, Point, passable};
+use aig_graph::{Circuit, Keep};
+use frame_net::{Net, Point, passable};
 use std::alloc::Global;
-use std::test::Fail;
+use std::test::*;
+
+const HEADS: [u32; 12] = [2, 3, 5, 0, 4, 0, 4, 2, 3, 5, 1, 4];
+
+const MATES: [u32; 12] = [3, 5, 10, 0, 7, 1, 8, 4, 6, 11, 2, 9];
+
+const CAPS: [u32; 12] = [1, 1, 0, 0, 3, 0, 3, 0, 0, 1, 3, 0];
 
 fn has_arcs(net: &Net, heads: &[u32], mates: &[u32], caps: &[u32]) -> bool {
     net.known_capacities();
@@ -34,20 +40,26 @@ fn has_rows(net: &Net, starts: &[u32]) -> bool {
 }
 
 /// Whether the gate alone is passable.
-fn passes_gate(alloc: Global, circuit: &Circuit) -> Result<bool, NoMemory> {
-    let pass: PassSet = passable(alloc, circuit.aig(), &Keep::none())?;
-    let passes = pass.has(5) && !pass.has(4) && pass.count() == 1;
-    drop(pass);
-    Ok(passes)
+fn passes_gate(alloc: Global, circuit: &Circuit) -> bool {
+    match passable(alloc, circuit.aig(), &Keep::none()) {
+        Ok(pass) => {
+            let passes = pass.has(5) & !pass.has(4) & (pass.count() == 1);
+            drop(pass);
+            passes
+        }
+        Err(_) => false,
+    }
 }
 
 #[test]
-fn tells_passable_gates(rt: HostRuntime) -> Result<(), Fail> {
-    let circuit = read_aag(rt.alloc(), TWO_LATCHES)?;
-    let holds = passes_gate(rt.alloc(), &circuit);
+fn tells_passable_gates(rt: HostRuntime) {
+    let circuit = read_aag(rt.alloc(), TWO_LATCHES);
+    let passes = match &circuit {
+        Ok(circuit) => passes_gate(rt.alloc(), circuit),
+        Err(_) => false,
+    };
     drop(circuit);
-    assert!(rt; holds?);
-    Ok(())
+    assert!(rt; passes);
 }
 
 /// The point of node 4, if there is one.
@@ -55,21 +67,24 @@ fn fourth_point(net: &Net) -> Option<Point> {
     if 4 < net.nodes() { net.point(4) } else { None }
 }
 
-#[test]
-fn builds_the_arcs_in_their_rows(rt: HostRuntime) -> Result<(), Fail> {
-    let net = net_of_text(rt.alloc(), TWO_LATCHES)?;
+/// Whether the arcs and their rows are those that were worked by hand.
+fn is_as_worked(net: &Net) -> bool {
     let before = Point {
         var: 5,
         behind: false,
     };
-    let arcs = has_arcs(
-        &net,
-        &[2, 3, 5, 0, 4, 0, 4, 2, 3, 5, 1, 4],
-        &[3, 5, 10, 0, 7, 1, 8, 4, 6, 11, 2, 9],
-        &[1, 1, 0, 0, 3, 0, 3, 0, 0, 1, 3, 0],
-    );
-    let rows = has_rows(&net, &[0, 2, 3, 5, 7, 10]) && fourth_point(&net) == Some(before);
+    has_arcs(net, &HEADS, &MATES, &CAPS)
+        && has_rows(net, &[0, 2, 3, 5, 7, 10])
+        && fourth_point(net) == Some(before)
+}
+
+#[test]
+fn builds_the_arcs_in_their_rows(rt: HostRuntime) {
+    let net = net_of_text(rt.alloc(), TWO_LATCHES);
+    let holds = match &net {
+        Ok(net) => is_as_worked(net),
+        Err(_) => false,
+    };
     drop(net);
-    assert!(rt; arcs && rows);
-    Ok(())
+    assert!(rt; holds);
 }

@@ -1,14 +1,14 @@
 //! The first worked network between its first two pulses, and what the pushes of the second one send.
 ghost use Rattle.std.specs.Prelude.{◌≡◌, false};
-ghost use Rattle.pulse.specs.Conditions.{ArePushesOf, IsFlowOf};
+ghost use Rattle.pulse.specs.Conditions.{ArePushesOf, IsBetween, IsFlowOf};
 
 use crate::nets::{TWO_LATCHES, net_of_text};
+use crate::starts::start;
 use crate::worked_pulses::pulse_by_ranges;
-use aig_graph::NoMemory;
 use frame_net::Net;
 use pulse::{Flow, Pushes, read_range};
 use std::alloc::Global;
-use std::test::Fail;
+use std::test::*;
 
 /// Whether no node is delivered, and memory was refused neither to the flow nor to the pushes.
 fn is_between(net: &Net, flow: &Flow, pushes: &Pushes) -> bool
@@ -36,21 +36,38 @@ fn sent(net: &Net, pushes: &Pushes) -> u32
 }
 
 /// Whether the second pulse sends the units of both latches.
-fn sends_both_units(alloc: Global, net: &Net) -> Result<bool, NoMemory> {
+fn sends_both(net: &Net, flow: &mut Flow, pushes: &mut Pushes) -> bool
+    requires flow { IsBetween net.now flow.old }
+    requires pushes { ArePushesOf net.now pushes.old }
+    requires usable { pushes.old.spent ≡ false }
+{
     let nodes = net.nodes();
-    let mut flow = Flow::start(alloc, net)?;
-    let mut pushes = Pushes::new(alloc, net)?;
-    pulse_by_ranges(net, &mut flow, &mut pushes);
-    let between = is_between(net, &flow, &pushes);
-    read_range(net, &flow, &mut pushes, 0, nodes);
-    Ok(between && sent(net, &pushes) == 2)
+    pulse_by_ranges(net, flow, pushes);
+    let between = is_between(net, flow, pushes);
+    read_range(net, flow, pushes, 0, nodes);
+    between & (sent(net, pushes) == 2)
+}
+
+/// Whether it does from the start.
+fn sends_both_units(alloc: Global, net: &Net) -> bool {
+    match start(alloc, net) {
+        Ok((mut flow, mut pushes)) => {
+            let holds = sends_both(net, &mut flow, &mut pushes);
+            drop(flow);
+            drop(pushes);
+            holds
+        }
+        Err(_) => false,
+    }
 }
 
 #[test]
-fn sends_both_units_in_the_second_pulse(rt: HostRuntime) -> Result<(), Fail> {
-    let net = net_of_text(rt.alloc(), TWO_LATCHES)?;
-    let holds = sends_both_units(rt.alloc(), &net);
+fn sends_both_units_in_the_second_pulse(rt: HostRuntime) {
+    let net = net_of_text(rt.alloc(), TWO_LATCHES);
+    let holds = match &net {
+        Ok(net) => sends_both_units(rt.alloc(), net),
+        Err(_) => false,
+    };
     drop(net);
-    assert!(rt; holds?);
-    Ok(())
+    assert!(rt; holds);
 }

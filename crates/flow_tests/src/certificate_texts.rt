@@ -17,7 +17,7 @@ fn is_written_as(alloc: Global, file: &CertFile, text: &[u8]) -> bool {
     let mut out = Counted::new(Vec::new(alloc));
     let written = write_cert(file, &mut out).is_ok();
     let bytes = out.into_inner();
-    written && bytes.as_slice() == text
+    written & (bytes.as_slice() == text)
 }
 
 /// Whether the file is read, and written as this text.
@@ -33,15 +33,12 @@ fn is_read(alloc: Global, bytes: &[u8], text: &[u8]) -> bool {
 }
 
 #[test]
-fn reads_and_writes(rt: HostRuntime) {
-    let first = is_read(rt.alloc(), FIRST_VERSION, SECOND_VERSION);
-    let second = is_read(rt.alloc(), SECOND_VERSION, SECOND_VERSION);
-    let no_frame = is_read(rt.alloc(), NO_FRAME, NO_FRAME);
-    assert!(rt; first && second && no_frame);
-}
-
-#[test]
-fn numbers_faults_and_objections(rt: HostRuntime) {
+fn reads_writes_and_numbers_faults_and_objections(rt: HostRuntime) {
+    let alloc = rt.alloc();
+    let first = is_read(alloc, FIRST_VERSION, SECOND_VERSION);
+    let second = is_read(alloc, SECOND_VERSION, SECOND_VERSION);
+    let no_frame = is_read(alloc, NO_FRAME, NO_FRAME);
+    assert!(rt; first & second & no_frame);
     let of_objections = [
         Objection::NotClosed.code(),
         Objection::BadRoute.code(),
@@ -55,5 +52,5 @@ fn numbers_faults_and_objections(rt: HostRuntime) {
         CertError::Truncated(0).code(),
         CertError::NoMemory.code(),
     ];
-    assert!(rt; of_objections == [1, 2, 3, 4] && of_faults == [1, 2, 3, 4, 5]);
+    assert!(rt; (of_objections == [1, 2, 3, 4]) & (of_faults == [1, 2, 3, 4, 5]));
 }

@@ -4,27 +4,26 @@ ghost use Rattle.pulse.specs.Conditions.{IsMaxPreflow};
 
 use crate::nets::{TWO_LATCHES, net_of};
 use aag_text::read_aag;
-use aig_graph::{Circuit, Keep, NoMemory};
-use cut_cert::{Routes, Verdict, certificate, check, routes};
+use aig_graph::{Circuit, Keep};
+use cut_cert::{Verdict, certificate, check, routes};
 use frame_net::Net;
-use pulse::{Crew, MaxPreflow, OpenGate, PulseError, run_to_end};
+use pulse::{Crew, MaxPreflow, OpenGate, run_to_end};
 use std::alloc::Global;
-use std::test::Fail;
+use std::test::*;
 use std::thread::Threads;
 
-/// Whether this is one route, of three points.
-fn is_one_of_three(found: &Routes) -> bool {
-    found.len() == 1 && found.route(0).len() == 3
-}
-
 /// Whether there is one route, of three points.
-fn is_one_route(alloc: Global, net: &Net, preflow: &MaxPreflow) -> Result<bool, NoMemory>
+fn is_one_route(alloc: Global, net: &Net, preflow: &MaxPreflow) -> bool
     requires { IsMaxPreflow net.now preflow.now }
 {
-    let found = routes(alloc, net, preflow)?;
-    let one = is_one_of_three(&found);
-    drop(found);
-    Ok(one)
+    match routes(alloc, net, preflow) {
+        Ok(found) => {
+            let one = found.len() == 1 && found.route(0).len() == 3;
+            drop(found);
+            one
+        }
+        Err(_) => false,
+    }
 }
 
 /// Whether the certificate passes all tests.
@@ -34,14 +33,18 @@ fn is_certified(
     keep: &Keep,
     net: &Net,
     preflow: &MaxPreflow,
-) -> Result<bool, NoMemory>
+) -> bool
     requires network { IsNetworkOf circuit.now keep.now net.now }
     requires preflow { IsMaxPreflow net.now preflow.now }
 {
-    let made = certificate(alloc, circuit, keep, net, preflow)?;
-    let verdict = check(alloc, circuit, &made, keep);
-    drop(made);
-    Ok(verdict? == Verdict::Yes)
+    match certificate(alloc, circuit, keep, net, preflow) {
+        Ok(made) => {
+            let verdict = check(alloc, circuit, &made, keep);
+            drop(made);
+            verdict == Ok(Verdict::Yes)
+        }
+        Err(_) => false,
+    }
 }
 
 /// Whether a run ends with one route, and with a certificate that passes.
@@ -51,33 +54,39 @@ fn certified_at_end<R: Threads + Sync>(
     circuit: &Circuit,
     keep: &Keep,
     net: &Net,
-) -> Result<bool, PulseError>
+) -> bool
     requires { IsNetworkOf circuit.now keep.now net.now }
 {
-    let end = run_to_end(rt, alloc, net, &Crew::new(1, OpenGate))?;
-    let one = is_one_route(alloc, net, &end);
-    let certified = is_certified(alloc, circuit, keep, net, &end);
-    drop(end);
-    Ok(one? && certified?)
+    match run_to_end(rt, alloc, net, &Crew::new(1, OpenGate)) {
+        Ok(end) => {
+            let one = is_one_route(alloc, net, &end);
+            let certified = is_certified(alloc, circuit, keep, net, &end);
+            drop(end);
+            one & certified
+        }
+        Err(_) => false,
+    }
 }
 
-fn has_certificate<R: Threads + Sync>(
-    rt: &R,
-    alloc: Global,
-    circuit: &Circuit,
-) -> Result<bool, PulseError> {
+fn has_certificate<R: Threads + Sync>(rt: &R, alloc: Global, circuit: &Circuit) -> bool {
     let keep = Keep::none();
-    let net = net_of(alloc, circuit, &keep)?;
-    let certified = certified_at_end(rt, alloc, circuit, &keep, &net);
-    drop(net);
-    certified
+    match net_of(alloc, circuit, &keep) {
+        Ok(net) => {
+            let certified = certified_at_end(rt, alloc, circuit, &keep, &net);
+            drop(net);
+            certified
+        }
+        Err(_) => false,
+    }
 }
 
 #[test]
-fn the_certificate_of_one_route_passes(rt: HostRuntime) -> Result<(), Fail> {
-    let circuit = read_aag(rt.alloc(), TWO_LATCHES)?;
-    let holds = has_certificate(&rt, rt.alloc(), &circuit);
+fn the_certificate_of_one_route_passes(rt: HostRuntime) {
+    let circuit = read_aag(rt.alloc(), TWO_LATCHES);
+    let holds = match &circuit {
+        Ok(circuit) => has_certificate(&rt, rt.alloc(), circuit),
+        Err(_) => false,
+    };
     drop(circuit);
-    assert!(rt; holds?);
-    Ok(())
+    assert!(rt; holds);
 }

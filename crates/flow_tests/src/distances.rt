@@ -3,29 +3,32 @@ use crate::nets::{TWO_LATCHES, net_of_text};
 use flow_whole::{exact_labels, start_parts};
 use frame_net::Net;
 use std::alloc::{AllocError, Global};
-use std::test::Fail;
+use std::test::*;
 
 /// Whether these are the distances at the start, when the source's arcs are full.
 fn starts_with(alloc: Global, net: &Net, distances: &[u32]) -> Result<bool, AllocError> {
     let nodes = net.nodes();
     net.known_capacities();
-    let parts = start_parts(alloc, net, 2, Vec::new(alloc))?;
     let mut labels = vec![in alloc; 0u32; nodes as usize]?;
     let mut queue = vec![in alloc; 0u32; nodes as usize]?;
+    let parts = start_parts(alloc, net, 2, Vec::new(alloc))?;
     exact_labels(
         net,
         parts.as_slice(),
         labels.as_mut_slice(),
         queue.as_mut_slice(),
     );
+    drop(parts);
     Ok(labels.as_slice() == distances)
 }
 
 #[test]
-fn finds_the_distances_at_the_start(rt: HostRuntime) -> Result<(), Fail> {
-    let net = net_of_text(rt.alloc(), TWO_LATCHES)?;
-    let holds = starts_with(rt.alloc(), &net, &[6, 0, 3, 3, 2, 1]);
+fn finds_the_distances_at_the_start(rt: HostRuntime) {
+    let net = net_of_text(rt.alloc(), TWO_LATCHES);
+    let holds = match &net {
+        Ok(net) => starts_with(rt.alloc(), net, &[6, 0, 3, 3, 2, 1]).unwrap_or(false),
+        Err(_) => false,
+    };
     drop(net);
-    assert!(rt; holds?);
-    Ok(())
+    assert!(rt; holds);
 }

@@ -23,6 +23,8 @@ mod phase_gates;
 #[cfg(test)]
 mod runs;
 #[cfg(test)]
+mod starts;
+#[cfg(test)]
 mod wished_runs;
 #[cfg(test)]
 mod worked_pulses;

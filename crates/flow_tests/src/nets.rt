@@ -2,11 +2,10 @@
 ghost use Rattle.std.specs.Prelude.{IfOk};
 ghost use Rattle.frame_net.specs.Cuts.{IsNetworkOf};
 
-use aag_text::read_aag;
+use aag_text::{ReadError, read_aag};
 use aig_graph::{Circuit, Keep, NoMemory};
 use frame_net::{Net, passable};
 use std::alloc::Global;
-use std::test::Fail;
 
 /// Two inputs, a latch at each, and the gate of the latches, which is variable 5 and the output.
 pub(crate) const TWO_LATCHES: &[u8] = b"aag 5 2 2 1 1\n2\n4\n6 2\n8 4\n10\n10 8 6\n";
@@ -28,9 +27,12 @@ pub(crate) fn net_of(alloc: Global, circuit: &Circuit, keep: &Keep) -> Result<Ne
 }
 
 /// The network of a circuit that is read, no latch held.
-pub(crate) fn net_of_text(alloc: Global, text: &[u8]) -> Result<Net, Fail> {
+pub(crate) fn net_of_text(alloc: Global, text: &[u8]) -> Result<Net, ReadError> {
     let circuit = read_aag(alloc, text)?;
     let net = net_of(alloc, &circuit, &Keep::none());
     drop(circuit);
-    Ok(net?)
+    match net {
+        Ok(net) => Ok(net),
+        Err(_) => Err(ReadError::NoMemory),
+    }
 }

@@ -3,14 +3,14 @@ ghost use Rattle.std.specs.Prelude.{◌≡◌, OnOk, false};
 ghost use Rattle.pulse.specs.Conditions.{ArePushesOf, IsBetween, IsFlowOf};
 
 use crate::nets::{FOUR_LATCHES, TWO_LATCHES, net_of_text};
-use aig_graph::NoMemory;
+use crate::starts::start;
 use frame_net::Net;
 use pulse::{
     Crew, Flow, OpenGate, PhaseGate, PulseError, Pushes, deliver_phase, deliver_range, read_phase,
     read_range,
 };
 use std::alloc::Global;
-use std::test::Fail;
+use std::test::*;
 use std::thread::Threads;
 
 /// Numbers of workers: one, some that divide the nodes unevenly, one for each node of the second network, and the most.
@@ -112,55 +112,6 @@ fn pulses_from<R: Threads + Sync>(
     Ok(before && between)
 }
 
-/// Whether the pulses of a crew go through the states.
-fn follows_states<R: Threads + Sync>(
-    rt: &R,
-    alloc: Global,
-    net: &Net,
-    crew: &Crew<OpenGate>,
-) -> Result<bool, PulseError> {
-    net.known();
-    let mut flow = Flow::start(alloc, net)?;
-    let mut pushes = Pushes::new(alloc, net)?;
-    for state in &STATES {
-        match pulses_from(rt, alloc, net, &mut flow, &mut pushes, crew, state) {
-            Ok(true) => {}
-            ended => {
-                drop(flow);
-                drop(pushes);
-                return ended;
-            }
-        }
-    }
-    drop(flow);
-    drop(pushes);
-    Ok(true)
-}
-
-/// Whether the pulses of every crew do.
-fn all_follow_states<R: Threads + Sync>(
-    rt: &R,
-    alloc: Global,
-    net: &Net,
-) -> Result<bool, PulseError> {
-    for workers in CREWS {
-        let crew = Crew::new(workers.clamp(1, 64), OpenGate);
-        if !follows_states(rt, alloc, net, &crew)? {
-            return Ok(false);
-        }
-    }
-    Ok(true)
-}
-
-#[test]
-fn follows_the_worked_states_by_every_crew(rt: HostRuntime) -> Result<(), Fail> {
-    let net = net_of_text(rt.alloc(), TWO_LATCHES)?;
-    let holds = all_follow_states(&rt, rt.alloc(), &net);
-    drop(net);
-    assert!(rt; holds?);
-    Ok(())
-}
-
 /// A pulse by both phases.
 pub(crate) fn pulse<R: Threads + Sync, G: PhaseGate>(
     rt: &R,
@@ -182,51 +133,112 @@ pub(crate) fn pulse<R: Threads + Sync, G: PhaseGate>(
     Ok(())
 }
 
-/// Whether the flow is in the second network's state after eleven pulses of a crew.
-fn is_at_after_eleven<R: Threads + Sync>(
+/// Makes so many pulses of a crew.
+fn pulse_times<R: Threads + Sync>(
     rt: &R,
     alloc: Global,
     net: &Net,
+    flow: &mut Flow,
+    pushes: &mut Pushes,
     crew: &Crew<OpenGate>,
-) -> Result<bool, PulseError> {
-    net.known();
-    let mut flow = Flow::start(alloc, net)?;
-    let mut pushes = Pushes::new(alloc, net)?;
-    for _ in 0..11u32 {
-        if let Err(error) = pulse(rt, alloc, net, &mut flow, &mut pushes, crew) {
-            drop(flow);
-            drop(pushes);
-            return Err(error);
-        }
+    times: u32,
+) -> Result<(), PulseError>
+    requires flow { IsBetween net.now flow.old }
+    requires pushes { ArePushesOf net.now pushes.old }
+    requires usable { pushes.old.spent ≡ false }
+    ensures flow { OnOk result (IsBetween net.now flow.new) }
+    ensures pushes { OnOk result (ArePushesOf net.now pushes.new) }
+    ensures usable { OnOk result (pushes.new.spent ≡ false) }
+{
+    for _ in 0..times {
+        pulse(rt, alloc, net, flow, pushes, crew)?;
     }
-    let is_at = pulses_from(rt, alloc, net, &mut flow, &mut pushes, crew, &AFTER_ELEVEN);
-    drop(flow);
-    drop(pushes);
-    is_at
+    Ok(())
 }
 
-/// Whether it is after eleven pulses of every crew.
-fn all_are_at_after_eleven<R: Threads + Sync>(
+/// Whether the pulses of a crew go through the states.
+fn goes_through<R: Threads + Sync>(
     rt: &R,
     alloc: Global,
     net: &Net,
-) -> Result<bool, PulseError> {
-    for workers in CREWS {
-        let crew = Crew::new(workers.clamp(1, 64), OpenGate);
-        if !is_at_after_eleven(rt, alloc, net, &crew)? {
+    flow: &mut Flow,
+    pushes: &mut Pushes,
+    crew: &Crew<OpenGate>,
+    states: &[State],
+) -> Result<bool, PulseError>
+    requires flow { IsBetween net.now flow.old }
+    requires pushes { ArePushesOf net.now pushes.old }
+    requires usable { pushes.old.spent ≡ false }
+{
+    for state in states {
+        if !pulses_from(rt, alloc, net, flow, pushes, crew, state)? {
             return Ok(false);
         }
     }
     Ok(true)
 }
 
+/// Whether they do after so many pulses from the start.
+fn follows<R: Threads + Sync>(
+    rt: &R,
+    alloc: Global,
+    net: &Net,
+    crew: &Crew<OpenGate>,
+    before: u32,
+    states: &[State],
+) -> bool {
+    match start(alloc, net) {
+        Ok((mut flow, mut pushes)) => {
+            let follows = match pulse_times(rt, alloc, net, &mut flow, &mut pushes, crew, before) {
+                Ok(()) => goes_through(rt, alloc, net, &mut flow, &mut pushes, crew, states),
+                Err(error) => Err(error),
+            };
+            drop(flow);
+            drop(pushes);
+            follows == Ok(true)
+        }
+        Err(_) => false,
+    }
+}
+
+/// Whether the pulses of every crew do.
+fn all_follow<R: Threads + Sync>(
+    rt: &R,
+    alloc: Global,
+    net: &Net,
+    before: u32,
+    states: &[State],
+) -> bool {
+    for workers in CREWS {
+        let crew = Crew::new(workers.clamp(1, 64), OpenGate);
+        if !follows(rt, alloc, net, &crew, before, states) {
+            return false;
+        }
+    }
+    true
+}
+
 #[test]
-fn relabels_over_the_arcs_after_delivery_by_every_crew(rt: HostRuntime) -> Result<(), Fail> {
-    let net = net_of_text(rt.alloc(), FOUR_LATCHES)?;
-    let holds = all_are_at_after_eleven(&rt, rt.alloc(), &net);
+fn follows_the_worked_states_by_every_crew_and_by_ranges(rt: HostRuntime) {
+    let net = net_of_text(rt.alloc(), TWO_LATCHES);
+    let holds = match &net {
+        Ok(net) => all_follow(&rt, rt.alloc(), net, 0, &STATES)
+            & follows_states_by_ranges(rt.alloc(), net),
+        Err(_) => false,
+    };
     drop(net);
-    assert!(rt; holds?);
-    Ok(())
+    assert!(rt; holds);
+}
+
+#[test]
+fn relabels_over_the_arcs_after_delivery_by_every_crew(rt: HostRuntime) {
+    let net = net_of_text(rt.alloc(), FOUR_LATCHES);
+    let holds = match &net {
+        Ok(net) => all_follow(&rt, rt.alloc(), net, 11, &[AFTER_ELEVEN]),
+        Err(_) => false,
+    };
+    drop(net);
+    assert!(rt; holds);
 }
 
 /// A pulse by the ranges of all nodes.
@@ -246,28 +258,29 @@ pub(crate) fn pulse_by_ranges(net: &Net, flow: &mut Flow, pushes: &mut Pushes)
 }
 
 /// Whether the pulses by ranges go through the states.
-fn follows_states_by_ranges(alloc: Global, net: &Net) -> Result<bool, NoMemory> {
-    net.known();
-    let mut flow = Flow::start(alloc, net)?;
-    let mut pushes = Pushes::new(alloc, net)?;
+fn goes_through_by_ranges(net: &Net, flow: &mut Flow, pushes: &mut Pushes) -> bool
+    requires flow { IsBetween net.now flow.old }
+    requires pushes { ArePushesOf net.now pushes.old }
+    requires usable { pushes.old.spent ≡ false }
+{
     for state in &STATES {
-        if !is_at(net, &flow, state) {
-            drop(flow);
-            drop(pushes);
-            return Ok(false);
+        if !is_at(net, flow, state) {
+            return false;
         }
-        pulse_by_ranges(net, &mut flow, &mut pushes);
+        pulse_by_ranges(net, flow, pushes);
     }
-    drop(flow);
-    drop(pushes);
-    Ok(true)
+    true
 }
 
-#[test]
-fn follows_the_worked_states_by_ranges(rt: HostRuntime) -> Result<(), Fail> {
-    let net = net_of_text(rt.alloc(), TWO_LATCHES)?;
-    let holds = follows_states_by_ranges(rt.alloc(), &net);
-    drop(net);
-    assert!(rt; holds?);
-    Ok(())
+/// Whether they do from the start.
+fn follows_states_by_ranges(alloc: Global, net: &Net) -> bool {
+    match start(alloc, net) {
+        Ok((mut flow, mut pushes)) => {
+            let follows = goes_through_by_ranges(net, &mut flow, &mut pushes);
+            drop(flow);
+            drop(pushes);
+            follows
+        }
+        Err(_) => false,
+    }
 }

@@ -20,6 +20,7 @@ reads_push n t (v ∷ vs) u w = reads_push n (read_at n t v) vs u w ∙ both (u 
     both false true x y = refl
     both false false x y = refl
 
+-- the second side of a disjunction whose first one is false
 pub or_true : (a b : Bool) → a ≡ false → (a || b) ≡ true → b ≡ true
 or_true true b e h = absurd (false≢true (sym e))
 or_true false b e h = h

@@ -1,9 +1,10 @@
 //! A circuit with free latches that is cleaned, and one whose latches have names, by which they are held.
+use crate::names::list_of;
 use aag_text::read_aag;
 use aig_graph::{Circuit, Keep, KeepError, Latch, Lit, NoMemory, Reset, keep_of};
 use clean::{Cleaned, clean};
 use std::alloc::Global;
-use std::test::Fail;
+use std::test::*;
 
 /// An input, and three free latches: the first two read it, the third reads the first and is the output.
 const FREE_LATCHES: &[u8] = b"aag 4 1 3 1 0\n2\n4 2 4\n6 2 6\n8 4 8\n8\n";
@@ -26,20 +27,26 @@ fn are_first_and_third(cleaned: &Cleaned) -> bool {
 }
 
 /// Whether this is what is left of the circuit, no latch held.
-fn cleans_to_two_free_latches(alloc: Global, circuit: &Circuit) -> Result<bool, NoMemory> {
-    let cleaned = clean(alloc, circuit, &Keep::none())?;
-    let are_left = are_first_and_third(&cleaned);
-    drop(cleaned);
-    Ok(are_left)
+fn cleans_to_two_free_latches(alloc: Global, circuit: &Circuit) -> bool {
+    match clean(alloc, circuit, &Keep::none()) {
+        Ok(cleaned) => {
+            let are_left = are_first_and_third(&cleaned);
+            drop(cleaned);
+            are_left
+        }
+        Err(_) => false,
+    }
 }
 
 #[test]
-fn tells_which_free_latches_stay(rt: HostRuntime) -> Result<(), Fail> {
-    let circuit = read_aag(rt.alloc(), FREE_LATCHES)?;
-    let holds = cleans_to_two_free_latches(rt.alloc(), &circuit);
+fn tells_which_free_latches_stay(rt: HostRuntime) {
+    let circuit = read_aag(rt.alloc(), FREE_LATCHES);
+    let holds = match &circuit {
+        Ok(circuit) => cleans_to_two_free_latches(rt.alloc(), circuit),
+        Err(_) => false,
+    };
     drop(circuit);
-    assert!(rt; holds?);
-    Ok(())
+    assert!(rt; holds);
 }
 
 /// An input, two latches that read it, and one that reads itself; the second is the output, and it and the third have names.
@@ -71,25 +78,35 @@ fn cleaned_past(alloc: Global, circuit: &Circuit, names: &[Vec<u8>]) -> Result<C
 }
 
 /// Whether these are left where the latches of these names are held.
-fn cleans_past(alloc: Global, circuit: &Circuit, names: &[Vec<u8>]) -> Result<bool, KeepError> {
-    let cleaned = cleaned_past(alloc, circuit, names)?;
-    let are_left = are_twin_and_stuck(&cleaned);
-    drop(cleaned);
-    Ok(are_left)
+fn cleans_past(alloc: Global, circuit: &Circuit, names: &[Vec<u8>]) -> bool {
+    match cleaned_past(alloc, circuit, names) {
+        Ok(cleaned) => {
+            let are_left = are_twin_and_stuck(&cleaned);
+            drop(cleaned);
+            are_left
+        }
+        Err(_) => false,
+    }
 }
 
 /// The same of both names.
-fn cleans_past_held_latches(alloc: Global, circuit: &Circuit) -> Result<bool, KeepError> {
-    let twin = Vec::from_slice(alloc, b"twin")?;
-    let stuck = Vec::from_slice(alloc, b"stuck")?;
-    cleans_past(alloc, circuit, &[twin, stuck])
+fn cleans_past_held_latches(alloc: Global, circuit: &Circuit) -> bool {
+    let names = list_of(alloc, &[b"twin", b"stuck"]);
+    let cleans = match &names {
+        Ok(names) => cleans_past(alloc, circuit, names.as_slice()),
+        Err(_) => false,
+    };
+    drop(names);
+    cleans
 }
 
 #[test]
-fn cleans_neither_a_held_twin_nor_a_held_stuck_latch(rt: HostRuntime) -> Result<(), Fail> {
-    let circuit = read_aag(rt.alloc(), HELD_LATCHES)?;
-    let holds = cleans_past_held_latches(rt.alloc(), &circuit);
+fn cleans_neither_a_held_twin_nor_a_held_stuck_latch(rt: HostRuntime) {
+    let circuit = read_aag(rt.alloc(), HELD_LATCHES);
+    let holds = match &circuit {
+        Ok(circuit) => cleans_past_held_latches(rt.alloc(), circuit),
+        Err(_) => false,
+    };
     drop(circuit);
-    assert!(rt; holds?);
-    Ok(())
+    assert!(rt; holds);
 }

@@ -1,6 +1,8 @@
 //! The numbers and the texts of errors.
 use aag_text::{ReadError, WriteError};
 use aig_graph::{BuildError, KeepError, NoMemory};
+use batch_lists::ListError;
+use batch_pool::BatchError;
 use frames::{BytesError, RetimeError};
 use lane_sim::{SimError, StimError};
 use pulse::PulseError;
@@ -31,10 +33,10 @@ fn numbers_its_errors(rt: HostRuntime) {
         BytesError::Write(WriteError::Device).code(),
     ];
     assert!(rt;
-        of_building == [1, 1, 2]
-            && of_stimuli == [1, 2, 3, 4]
-            && of_simulating == [1, 2]
-            && of_retiming == [1, 1, 2, 1, 2, 3]
+        (of_building == [1, 1, 2])
+            & (of_stimuli == [1, 2, 3, 4])
+            & (of_simulating == [1, 2])
+            & (of_retiming == [1, 1, 2, 1, 2, 3])
     );
 }
 
@@ -50,9 +52,7 @@ fn spell<E: Display>(alloc: Global, errors: &[(E, &str)]) -> bool {
     same
 }
 
-#[test]
-fn spells_errors_of_circuits(rt: HostRuntime) {
-    let alloc = rt.alloc();
+fn spells_errors_of_circuits(alloc: Global) -> bool {
     let memory = spell(alloc, &[(NoMemory, "out of memory")]);
     let building = spell(
         alloc,
@@ -68,12 +68,10 @@ fn spells_errors_of_circuits(rt: HostRuntime) {
             (KeepError::NoMemory, "out of memory"),
         ],
     );
-    assert!(rt; memory && building && holding);
+    memory & building & holding
 }
 
-#[test]
-fn spells_errors_of_simulating(rt: HostRuntime) {
-    let alloc = rt.alloc();
+fn spells_errors_of_simulating(alloc: Global) -> bool {
     let stimuli = spell(
         alloc,
         &[
@@ -90,12 +88,10 @@ fn spells_errors_of_simulating(rt: HostRuntime) {
             (SimError::NoMemory, "out of memory"),
         ],
     );
-    assert!(rt; stimuli && shapes);
+    stimuli & shapes
 }
 
-#[test]
-fn spells_errors_of_retiming(rt: HostRuntime) {
-    let alloc = rt.alloc();
+fn spells_errors_of_retiming(alloc: Global) -> bool {
     let pulses = spell(alloc, &[(PulseError::NoMemory, "out of memory")]);
     let circuits = spell(
         alloc,
@@ -115,5 +111,26 @@ fn spells_errors_of_retiming(rt: HostRuntime) {
             (BytesError::Write(WriteError::Device), "device"),
         ],
     );
-    assert!(rt; pulses && circuits && bytes);
+    pulses & circuits & bytes
+}
+
+fn spells_errors_of_batches(alloc: Global) -> bool {
+    let lists = spell(
+        alloc,
+        &[
+            (ListError::BadLine(0), "BadLine at 0"),
+            (ListError::TooLarge(4294967296), "TooLarge at 4294967296"),
+            (ListError::NoMemory, "out of memory"),
+        ],
+    );
+    lists & spell(alloc, &[(BatchError::NoMemory, "out of memory")])
+}
+
+#[test]
+fn spells_errors(rt: HostRuntime) {
+    let circuits = spells_errors_of_circuits(rt.alloc());
+    let simulating = spells_errors_of_simulating(rt.alloc());
+    let retiming = spells_errors_of_retiming(rt.alloc());
+    let batches = spells_errors_of_batches(rt.alloc());
+    assert!(rt; circuits & simulating & retiming & batches);
 }

@@ -1,7 +1,9 @@
 //! Retiming from a device that fails at each of its reads, and to one that fails at each of its writes.
-use crate::circuits::CHAINS;
-use aag_text::{Counted, FailAfter, Failure, OneByte, ReadError, WriteError};
-use frames::{BytesError, Choice, Options, Retimed, retime_bytes};
+use crate::circuits::{CHAINS, options};
+use aag_text::{
+    Counted, CountedRead, CountedWrite, FailAfter, Failure, OneByte, ReadError, WriteError,
+};
+use frames::{BytesError, Options, retime_bytes};
 use pulse::{Crew, OpenGate};
 use std::alloc::Global;
 use std::test::*;
@@ -10,26 +12,16 @@ use std::thread::Threads;
 /// The chains after their two frames.
 const TEXT: &[u8] = b"aag 5 2 2 1 1\n2\n4\n6 8\n8 10\n6\n10 4 2\n";
 
-fn defaults(alloc: Global) -> Options {
-    Options {
-        spelling: None,
-        max_frames: 1 << 28,
-        choice: Choice::Greatest,
-        certify: false,
-        keep: Vec::new(alloc),
-        merge: false,
-    }
-}
-
 /// Why there is no answer, where there is none.
-fn fault(ended: Result<Retimed, BytesError>) -> Option<BytesError> {
-    match ended {
-        Ok(retimed) => {
-            drop(retimed);
-            None
-        }
-        Err(error) => Some(error),
-    }
+fn fault<R: Threads + Sync, I: CountedRead, O: CountedWrite>(
+    rt: &R,
+    alloc: Global,
+    reader: &mut I,
+    writer: &mut O,
+    options: &Options,
+) -> Option<BytesError> {
+    let crew = Crew::new(1, OpenGate);
+    retime_bytes(rt, alloc, reader, writer, options, &crew).err()
 }
 
 /// Whether a device that gives one byte a call, and fails from a number of calls on, ends the retiming before anything is written.
@@ -37,24 +29,19 @@ fn is_unread<R: Threads + Sync>(rt: &R, alloc: Global, options: &Options, calls:
     let device = FailAfter::new(OneByte::new(CHAINS), calls as u64, Failure::Error);
     let mut reader = Counted::new(device);
     let mut writer = Counted::new(Vec::new(alloc));
-    let crew = Crew::new(1, OpenGate);
-    let ended = retime_bytes(rt, alloc, &mut reader, &mut writer, options, &crew);
-    fault(ended) == Some(BytesError::Read(ReadError::Device)) && writer.into_inner().is_empty()
+    let fault = fault(rt, alloc, &mut reader, &mut writer, options);
+    let is_empty = writer.into_inner().is_empty();
+    (fault == Some(BytesError::Read(ReadError::Device))) & is_empty
 }
 
 fn is_unread_by_each<R: Threads + Sync>(rt: &R, alloc: Global) -> bool {
-    let options = defaults(alloc);
+    let options = options(alloc, 1 << 28);
     for calls in 0..=CHAINS.len() {
         if !is_unread(rt, alloc, &options, calls) {
             return false;
         }
     }
     true
-}
-
-#[test]
-fn writes_nothing_after_each_failed_read(rt: HostRuntime) {
-    assert!(rt; is_unread_by_each(&rt, rt.alloc()));
 }
 
 /// How the retiming to a device that takes one byte a call, and fails from a number of calls on, ends, and what it took.
@@ -66,11 +53,8 @@ fn written<R: Threads + Sync>(
     failure: Failure,
 ) -> (Option<BytesError>, Vec<u8>) {
     let mut taken = Vec::new(alloc);
-    let device = FailAfter::new(OneByte::new(&mut taken), calls as u64, failure);
-    let mut writer = Counted::new(device);
-    let mut reader = Counted::new(CHAINS);
-    let crew = Crew::new(1, OpenGate);
-    let ended = fault(retime_bytes(rt, alloc, &mut reader, &mut writer, options, &crew));
+    let mut writer = Counted::new(FailAfter::new(OneByte::new(&mut taken), calls as u64, failure));
+    let ended = fault(rt, alloc, &mut Counted::new(CHAINS), &mut writer, options);
     (ended, taken)
 }
 
@@ -90,7 +74,7 @@ fn is_beginning<R: Threads + Sync>(
 
 /// Whether that is so of each call, and the whole text is written where none fails.
 fn is_written_up_to_each<R: Threads + Sync>(rt: &R, alloc: Global) -> bool {
-    let options = defaults(alloc);
+    let options = options(alloc, 1 << 28);
     for calls in 0..TEXT.len() {
         if !is_beginning(rt, alloc, &options, calls, Failure::Error)
             || !is_beginning(rt, alloc, &options, calls, Failure::Nothing)
@@ -103,6 +87,7 @@ fn is_written_up_to_each<R: Threads + Sync>(rt: &R, alloc: Global) -> bool {
 }
 
 #[test]
-fn stops_at_each_failed_write(rt: HostRuntime) {
-    assert!(rt; is_written_up_to_each(&rt, rt.alloc()));
+fn writes_nothing_after_a_failed_read_and_stops_at_a_failed_write(rt: HostRuntime) {
+    let unread = is_unread_by_each(&rt, rt.alloc());
+    assert!(rt; unread & is_written_up_to_each(&rt, rt.alloc()));
 }

@@ -8,7 +8,7 @@ use aig_graph::{
     Props, Reset, Symbols, count, is_closed, reset_value, set_laws, stream_laws, value_laws,
 };
 use std::alloc::Global;
-use std::test::Fail;
+use std::test::*;
 
 /// Two inputs and two latches.
 fn two_latches(alloc: Global) -> Result<AigBuilder, BuildError>
@@ -44,9 +44,9 @@ fn example(alloc: Global) -> Result<Circuit, BuildError> {
     with_output(alloc, aig, Lit::new(5, true))
 }
 
-/// The size of the border of a closed set, no latch held.
-fn counted(alloc: Global, circuit: &Circuit, vars: Vec<u32>) -> Option<u32> {
-    let set = ClosedSet::new(vars)?;
+/// The size of the border of the gate alone, no latch held.
+fn counted(alloc: Global, circuit: &Circuit) -> Option<u32> {
+    let set = ClosedSet::new(Vec::from_array(alloc, [5]).ok()?)?;
     let keep = Keep::none();
     if !is_closed(circuit.aig(), &set, &keep) {
         return None;
@@ -69,14 +69,17 @@ fn is_gate_of_two_latches(aig: &Aig) -> bool {
         && aig.gates() == [gate].as_slice()
 }
 
-#[test]
-fn builds_a_graph_and_reads_a_value_at_step_0(rt: HostRuntime) -> Result<(), Fail> {
-    let aig = gate_of_two_latches(rt.alloc())?;
-    let is_built = is_gate_of_two_latches(&aig);
-    let is_set = reset_value(&aig, &[false, true, true], Lit::new(5, true));
-    drop(aig);
-    assert!(rt; is_built && !is_set);
-    Ok(())
+/// Whether the graph is built, and its gate's negation is 0 where the latches are 1.
+fn builds_the_gate(alloc: Global) -> bool {
+    match gate_of_two_latches(alloc) {
+        Ok(aig) => {
+            let is_built = is_gate_of_two_latches(&aig);
+            let is_set = reset_value(&aig, &[false, true, true], Lit::new(5, true));
+            drop(aig);
+            is_built & !is_set
+        }
+        Err(_) => false,
+    }
 }
 
 /// Whether so many inputs are too many variables.
@@ -90,44 +93,45 @@ fn are_too_many(alloc: Global, inputs: u32) -> bool {
     }
 }
 
-#[test]
-fn refuses_too_many_variables(rt: HostRuntime) {
-    assert!(rt; !are_too_many(rt.alloc(), (1 << 28) - 1) && are_too_many(rt.alloc(), 1 << 28));
-}
-
-/// The size of the border of the gate alone.
-fn border_of_the_gate(alloc: Global) -> Result<Option<u32>, BuildError> {
-    let vars = Vec::from_array(alloc, [5])?;
-    let circuit = example(alloc)?;
-    let border = counted(alloc, &circuit, vars);
-    drop(circuit);
-    Ok(border)
-}
-
-#[test]
-fn counts_the_border_of_a_gate(rt: HostRuntime) -> Result<(), Fail> {
-    let border = border_of_the_gate(rt.alloc())?;
-    assert_eq!(rt; border, Some(1));
-    Ok(())
+/// Whether the border of the gate alone is its output.
+fn counts_the_border(alloc: Global) -> bool {
+    match example(alloc) {
+        Ok(circuit) => {
+            let border = counted(alloc, &circuit);
+            drop(circuit);
+            border == Some(1)
+        }
+        Err(_) => false,
+    }
 }
 
 #[test]
-fn refuses_a_list_that_does_not_rise(rt: HostRuntime) -> Result<(), Fail> {
-    let vars = Vec::from_array(rt.alloc(), [5, 5])?;
-    assert!(rt; ClosedSet::new(vars).is_none());
-    Ok(())
+fn builds_a_graph_reads_a_value_at_step_0_and_counts_a_border(rt: HostRuntime) {
+    assert!(rt; builds_the_gate(rt.alloc()) & counts_the_border(rt.alloc()));
+}
+
+/// Whether a list that doesn't rise is none of a closed set.
+fn is_no_set(alloc: Global) -> bool {
+    match Vec::from_array(alloc, [5, 5]) {
+        Ok(vars) => ClosedSet::new(vars).is_none(),
+        Err(_) => false,
+    }
 }
 
 #[test]
-fn reads_literals_and_codes(rt: HostRuntime) {
+fn refuses_too_many_variables_and_a_list_that_does_not_rise_and_reads_literals(rt: HostRuntime) {
+    let most = are_too_many(rt.alloc(), (1 << 28) - 1);
+    let more = are_too_many(rt.alloc(), 1 << 28);
+    let refused = !most & more & is_no_set(rt.alloc());
     let codes = (
         NoMemory.code(),
         BuildError::TooLarge.code(),
         KeepError::NoMemory.code(),
     );
     let signed = Lit::new(7, true).signed_as(Lit::TRUE).code();
-    assert!(rt; Lit::FALSE.not() == Lit::TRUE && signed == 14 && codes == (1, 2, 2));
+    let read = (Lit::FALSE.not() == Lit::TRUE) & (signed == 14) & (codes == (1, 2, 2));
     value_laws();
     stream_laws();
     set_laws();
+    assert!(rt; refused & read);
 }

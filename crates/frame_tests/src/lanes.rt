@@ -25,15 +25,18 @@ fn ands(len: usize, neg_a: bool, neg_b: bool) -> bool {
     true
 }
 
-fn ands_by_sign(len: usize) -> bool {
-    ands(len, false, false)
-        && ands(len, false, true)
-        && ands(len, true, false)
-        && ands(len, true, true)
+fn ands_each() -> bool {
+    for len in [0, 1, 3, 4, 5, 8, 9] {
+        let plain = ands(len, false, false);
+        let one_negated = ands(len, false, true) & ands(len, true, false);
+        if !(plain & one_negated & ands(len, true, true)) {
+            return false;
+        }
+    }
+    true
 }
 
 #[test]
 fn ands_rows_of_any_length(rt: HostRuntime) {
-    let all = [0, 1, 3, 4, 5, 8, 9].iter().all(|len| ands_by_sign(*len));
-    assert!(rt; all);
+    assert!(rt; ands_each());
 }

@@ -10,7 +10,7 @@ use aig_graph::{
 };
 use rebuild::{moved, resets};
 use std::alloc::Global;
-use std::test::Fail;
+use std::test::*;
 
 /// Whether there is room for the free latches and so many others beside the gates.
 fn has_room(aig: &Aig, others: u32) -> bool
@@ -78,20 +78,24 @@ fn starts_at(alloc: Global, aig: &Aig, reset: Reset) -> bool {
 }
 
 #[test]
-fn moves_over_a_gate_that_starts_at_1(rt: HostRuntime) -> Result<(), Fail> {
-    let circuit = read_aag(rt.alloc(), NEGATED_LATCHES)?;
-    let holds = starts_at(rt.alloc(), circuit.aig(), Reset::One)
-        && moves_to_one_latch(rt.alloc(), &circuit);
+fn moves_over_a_gate_that_starts_at_1(rt: HostRuntime) {
+    let circuit = read_aag(rt.alloc(), NEGATED_LATCHES);
+    let holds = match &circuit {
+        Ok(circuit) => starts_at(rt.alloc(), circuit.aig(), Reset::One)
+            & moves_to_one_latch(rt.alloc(), circuit),
+        Err(_) => false,
+    };
     drop(circuit);
     assert!(rt; holds);
-    Ok(())
 }
 
 #[test]
-fn resets_no_gate_on_a_free_latch(rt: HostRuntime) -> Result<(), Fail> {
-    let circuit = read_aag(rt.alloc(), FREE_LATCH)?;
-    let holds = starts_at(rt.alloc(), circuit.aig(), Reset::Free);
+fn resets_no_gate_on_a_free_latch(rt: HostRuntime) {
+    let circuit = read_aag(rt.alloc(), FREE_LATCH);
+    let holds = match &circuit {
+        Ok(circuit) => starts_at(rt.alloc(), circuit.aig(), Reset::Free),
+        Err(_) => false,
+    };
     drop(circuit);
     assert!(rt; holds);
-    Ok(())
 }

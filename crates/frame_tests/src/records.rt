@@ -5,7 +5,7 @@ use aig_graph::{Circuit, Keep};
 use cut_cert::{GateFlow, greatest_least_along};
 use pulse::{Crew, OpenGate};
 use std::alloc::Global;
-use std::test::Fail;
+use std::test::*;
 use std::thread::Threads;
 
 /// The flow of a gate that a number spells, bit by bit.
@@ -48,10 +48,12 @@ fn moves_gate_for_all<R: Threads + Sync>(rt: &R, alloc: Global, circuit: &Circui
 }
 
 #[test]
-fn finds_the_same_set_whatever_is_known(rt: HostRuntime) -> Result<(), Fail> {
-    let circuit = read_aag(rt.alloc(), CHAINS)?;
-    let holds = moves_gate_for_all(&rt, rt.alloc(), &circuit);
+fn finds_the_same_set_whatever_is_known(rt: HostRuntime) {
+    let circuit = read_aag(rt.alloc(), CHAINS);
+    let holds = match &circuit {
+        Ok(circuit) => moves_gate_for_all(&rt, rt.alloc(), circuit),
+        Err(_) => false,
+    };
     drop(circuit);
     assert!(rt; holds);
-    Ok(())
 }

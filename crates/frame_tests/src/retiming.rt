@@ -1,30 +1,14 @@
 //! The retimed circuit of two chains of latches, in one frame and in two, and a name that no latch has.
-use crate::circuits::CHAINS;
+use crate::circuits::{CHAINS, options};
+use crate::names::list_of;
 use aag_text::read_aag;
 use aig_graph::{Circuit, Gate, Latch, Lit, Reset};
-use frames::{Choice, FrameReport, Options, RetimeError, Retimed, retime};
+use frames::{FrameReport, RetimeError, Retimed, retime};
 use pulse::{Crew, OpenGate};
 use std::alloc::Global;
-use std::test::Fail;
+use std::mem;
+use std::test::*;
 use std::thread::Threads;
-
-/// Retimed by one worker, no latch held.
-fn retimed<R: Threads + Sync>(
-    rt: &R,
-    alloc: Global,
-    circuit: &Circuit,
-    max_frames: u32,
-) -> Option<Retimed> {
-    let options = Options {
-        spelling: None,
-        max_frames,
-        choice: Choice::Greatest,
-        certify: false,
-        keep: Vec::new(alloc),
-        merge: false,
-    };
-    retime(rt, alloc, circuit, &options, &Crew::new(1, OpenGate)).ok()
-}
 
 fn latch(next: Lit) -> Latch {
     Latch {
@@ -55,28 +39,28 @@ fn has_two_latches(retimed: &Retimed) -> bool {
         && retimed.kept_free.is_empty()
 }
 
-/// Whether that is what is left.
-fn leaves_two_latches<R: Threads + Sync>(rt: &R, alloc: Global, circuit: &Circuit) -> bool {
-    match retimed(rt, alloc, circuit, 1 << 28) {
-        Some(retimed) => {
-            let left = has_two_latches(&retimed);
-            drop(retimed);
-            left
-        }
-        None => false,
-    }
+/// Whether one frame was taken.
+fn has_stopped_after_one(retimed: &Retimed) -> bool {
+    retimed.frames.as_slice() == [over_one_gate(4)].as_slice()
 }
 
-/// Whether one frame is taken where that is the limit.
-fn stops_after_one<R: Threads + Sync>(rt: &R, alloc: Global, circuit: &Circuit) -> bool {
-    match retimed(rt, alloc, circuit, 1) {
-        Some(retimed) => {
-            let stops = retimed.frames.as_slice() == [over_one_gate(4)].as_slice();
-            drop(retimed);
-            stops
-        }
-        None => false,
-    }
+/// Whether one frame is taken where that is the limit, and two where more may be, by one worker, no latch held.
+fn takes_frames<R: Threads + Sync>(
+    rt: &R,
+    alloc: Global,
+    circuit: &Circuit,
+    max_frames: u32,
+) -> bool {
+    let options = options(alloc, max_frames);
+    let retimed = retime(rt, alloc, circuit, &options, &Crew::new(1, OpenGate));
+    drop(options);
+    let right = match &retimed {
+        Ok(retimed) if max_frames == 1 => has_stopped_after_one(retimed),
+        Ok(retimed) => has_two_latches(retimed),
+        Err(_) => false,
+    };
+    drop(retimed);
+    right
 }
 
 /// Whether there is no latch with the name.
@@ -84,39 +68,33 @@ fn refuses_name<R: Threads + Sync>(
     rt: &R,
     alloc: Global,
     circuit: &Circuit,
-    name: Vec<u8>,
+    keep: Vec<Vec<u8>>,
 ) -> bool {
-    let Ok(keep) = Vec::from_array(alloc, [name]) else {
-        return false;
-    };
-    let options = Options {
-        spelling: None,
-        max_frames: 1,
-        choice: Choice::Greatest,
-        certify: false,
-        keep,
-        merge: false,
-    };
+    let mut options = options(alloc, 1);
+    drop(mem::replace(&mut options.keep, keep));
     let refused = retime(rt, alloc, circuit, &options, &Crew::new(1, OpenGate)).err();
     refused == Some(RetimeError::NoSuchName(0))
 }
 
-#[test]
-fn takes_one_frame_after_another_up_to_the_limit(rt: HostRuntime) -> Result<(), Fail> {
-    let circuit = read_aag(rt.alloc(), CHAINS)?;
-    let holds = leaves_two_latches(&rt, rt.alloc(), &circuit)
-        && stops_after_one(&rt, rt.alloc(), &circuit);
-    drop(circuit);
-    assert!(rt; holds);
-    Ok(())
+/// Whether the chains end as they should.
+fn ends_as_worked<R: Threads + Sync>(rt: &R, alloc: Global, circuit: &Circuit) -> bool {
+    let refused = match list_of(alloc, &[b"b"]) {
+        Ok(names) => refuses_name(rt, alloc, circuit, names),
+        Err(_) => false,
+    };
+    let two = takes_frames(rt, alloc, circuit, 1 << 28);
+    refused & two & takes_frames(rt, alloc, circuit, 1)
 }
 
 #[test]
-fn refuses_a_name_that_no_latch_has(rt: HostRuntime) -> Result<(), Fail> {
-    let circuit = read_aag(rt.alloc(), CHAINS)?;
-    let name = Vec::from_array(rt.alloc(), [b'b'])?;
-    let holds = refuses_name(&rt, rt.alloc(), &circuit, name);
+fn takes_one_frame_after_another_up_to_the_limit_and_refuses_a_name_that_no_latch_has(
+    rt: HostRuntime,
+) {
+    let circuit = read_aag(rt.alloc(), CHAINS);
+    let holds = match &circuit {
+        Ok(circuit) => ends_as_worked(&rt, rt.alloc(), circuit),
+        Err(_) => false,
+    };
     drop(circuit);
     assert!(rt; holds);
-    Ok(())
 }

@@ -1,48 +1,42 @@
 //! Marks, ranks and tables by variable.
-use std::test::Fail;
+use std::alloc::Global;
+use std::test::*;
 use variable_tables::{
     NoMemory, count_marks, entry, mark_at, mark_variable, marked_variables, marks_of, number_marks,
     renumber,
 };
 
-#[test]
-fn marks_variables_from_the_first_on(rt: HostRuntime) -> Result<(), Fail> {
-    let mut marks = marks_of(rt.alloc(), 5, 3, &[2, 5, 9])?;
-    mark_variable(marks.as_mut_slice(), 5, 7);
-    assert!(rt; marks.as_slice() == [true, false, true].as_slice());
-    Ok(())
+fn marks_from_the_first_on(alloc: Global) -> bool {
+    match marks_of(alloc, 5, 3, &[2, 5, 9]) {
+        Ok(mut marks) => {
+            mark_variable(marks.as_mut_slice(), 5, 7);
+            marks.as_slice() == [true, false, true].as_slice()
+        }
+        Err(_) => false,
+    }
+}
+
+/// Whether these are the numbers that were found.
+fn are(found: Result<Vec<u32>, NoMemory>, wanted: &[u32]) -> bool {
+    match found {
+        Ok(numbers) => numbers.as_slice() == wanted,
+        Err(_) => false,
+    }
 }
 
 #[test]
-fn reads_marks(rt: HostRuntime) {
+fn marks_numbers_and_lists_variables(rt: HostRuntime) {
+    let alloc = rt.alloc();
     let marks = [true, false, true];
-    assert!(rt; mark_at(&marks, 5, 7) && !mark_at(&marks, 5, 4) && !entry(&marks, 5, 6));
-}
-
-#[test]
-fn numbers_marks(rt: HostRuntime) -> Result<(), Fail> {
-    let numbers = number_marks(rt.alloc(), &[true, false, true], 10)?;
-    assert!(rt; numbers.as_slice() == [10, 11, 11].as_slice() && count_marks(&[true, false]) == 1);
-    Ok(())
-}
-
-#[test]
-fn renumbers(rt: HostRuntime) -> Result<(), Fail> {
-    let numbers = renumber(
-        rt.alloc(),
-        5,
-        &[false, true, false],
-        &[true, true, false],
-        10,
-        20,
-    )?;
-    assert!(rt; numbers.as_slice() == [20, 10, 7].as_slice());
-    Ok(())
-}
-
-#[test]
-fn lists_marked_variables(rt: HostRuntime) -> Result<(), Fail> {
-    let vars = marked_variables(rt.alloc(), 5, &[true, false, true])?;
-    assert!(rt; vars.as_slice() == [5, 7].as_slice() && NoMemory.code() == 1);
-    Ok(())
+    let reads = mark_at(&marks, 5, 7) & !mark_at(&marks, 5, 4) & !entry(&marks, 5, 6);
+    let counts = (count_marks(&[true, false]) == 1) & (NoMemory.code() == 1);
+    let numbers = are(number_marks(alloc, &marks, 10), &[10, 11, 11]);
+    let listed = are(marked_variables(alloc, 5, &marks), &[5, 7]);
+    let others = [false, true, false];
+    let renumbers = are(
+        renumber(alloc, 5, &others, &[true, true, false], 10, 20),
+        &[20, 10, 7],
+    );
+    let marks_first = marks_from_the_first_on(alloc);
+    assert!(rt; marks_first & reads & counts & numbers & listed & renumbers);
 }

@@ -1,9 +1,9 @@
 //! What a watcher is told of a run, in order.
 ghost use Rattle.std.specs.Prelude.{⊤};
 
-use crate::circuits::CHAINS;
+use crate::circuits::{CHAINS, options};
 use aag_text::Counted;
-use frames::{Choice, FrameWatcher, Options, Stage, retime_bytes_watched};
+use frames::{FrameWatcher, Stage, retime_bytes_watched};
 use pulse::{Crew, OpenGate};
 use std::alloc::Global;
 use std::test::*;
@@ -47,14 +47,7 @@ impl FrameWatcher for Stages {
 
 /// The stages of the bytes' retiming by one worker, in so many frames at most.
 fn stages_of<R: Threads + Sync>(rt: &R, alloc: Global, bytes: &[u8], max_frames: u32) -> Vec<Told> {
-    let options = Options {
-        spelling: None,
-        max_frames,
-        choice: Choice::Greatest,
-        certify: false,
-        keep: Vec::new(alloc),
-        merge: false,
-    };
+    let options = options(alloc, max_frames);
     let crew = Crew::new(1, OpenGate);
     let mut reader = Counted::new(bytes);
     let mut writer = Counted::new(Vec::new(alloc));

@@ -1,12 +1,12 @@
 //! That two workers are at work in a phase at once: one is held as the phase begins for it, until the other has left it.
-use crate::circuits::TWO_LATCHES;
+use crate::circuits::{TWO_LATCHES, options};
 use aag_text::read_aag;
 use aig_graph::Circuit;
-use frames::{Choice, Options, retime};
+use frames::retime;
 use pulse::{Crew, PhaseGate};
 use std::alloc::Global;
 use std::sync::atomic::{AtomicU64, Ordering};
-use std::test::Fail;
+use std::test::*;
 use std::thread::Threads;
 
 /// How often a held worker looks for the other at most.
@@ -87,25 +87,22 @@ impl PhaseGate for HeldGate {
 
 /// Whether two workers, of which this one is held, are at work at once.
 fn works_at_once<R: Threads + Sync>(rt: &R, alloc: Global, circuit: &Circuit, held: u32) -> bool {
-    let options = Options {
-        spelling: None,
-        max_frames: 1,
-        choice: Choice::Greatest,
-        certify: false,
-        keep: Vec::new(alloc),
-        merge: false,
-    };
+    let options = options(alloc, 1);
     let crew = Crew::new(2, HeldGate::new(held));
-    let done = retime(rt, alloc, circuit, &options, &crew).is_ok();
-    done && crew.gate().saw_both()
+    let retimed = retime(rt, alloc, circuit, &options, &crew);
+    let done = retimed.is_ok();
+    drop(retimed);
+    done & crew.gate().saw_both()
 }
 
 #[test]
-fn holds_either_worker(rt: HostRuntime) -> Result<(), Fail> {
-    let circuit = read_aag(rt.alloc(), TWO_LATCHES)?;
-    let first = works_at_once(&rt, rt.alloc(), &circuit, 0);
-    let second = works_at_once(&rt, rt.alloc(), &circuit, 1);
+fn holds_either_worker(rt: HostRuntime) {
+    let circuit = read_aag(rt.alloc(), TWO_LATCHES);
+    let holds = match &circuit {
+        Ok(circuit) => works_at_once(&rt, rt.alloc(), circuit, 0)
+            & works_at_once(&rt, rt.alloc(), circuit, 1),
+        Err(_) => false,
+    };
     drop(circuit);
-    assert!(rt; first && second);
-    Ok(())
+    assert!(rt; holds);
 }

@@ -35,6 +35,7 @@ conjunction-one g valid a b within one = record {
       sym (ap (λ (t : Bool). t && value_within g z u b) is_one);
 }
 
+-- both sides of a conjunction that is true
 pub both : (a b : Bool) → (a && b) ≡ true → (a ≡ true) × (b ≡ true)
 both true b h = (refl, h)
 both false b h = absurd (cc)

@@ -12,6 +12,7 @@ use Rattle.variable_tables.specs.Counting.{places}
 below_first : (x : ℕ) (xs : List ℕ) → IsStrictlyIncreasing (x ∷ xs) → All (λ y. x < y) xs
 below_first x xs rising k d h = AllPairs-from_increasing (x ∷ xs) rising 0 (suc k) d (omega arith) (omega arith)
 
+-- what follows the first of a rising list rises
 pub rising_rest : (x : ℕ) (xs : List ℕ) → IsStrictlyIncreasing (x ∷ xs) → IsStrictlyIncreasing xs
 rising_rest x xs rising k h = AllPairs-from_increasing (x ∷ xs) rising (suc k) (suc (k + 1)) 0 (omega arith) (omega arith)
 

@@ -1,6 +1,5 @@
 //! Worked files and their answers.
 use batch_pool::Job;
-use frames::{Choice, Options};
 use std::alloc::{AllocError, Global};
 
 /// A latch after each of two inputs, and the gate of the latches; and its answer.
@@ -33,16 +32,4 @@ pub(crate) fn five_files(alloc: Global) -> Result<Vec<Job>, AllocError> {
         jobs.push(job(alloc, text)?)?;
     }
     Ok(jobs)
-}
-
-/// As many frames as can be, each over the greatest least set, no latch held, each text in the spelling of its file.
-pub(crate) fn defaults(alloc: Global) -> Options {
-    Options {
-        spelling: None,
-        max_frames: 1 << 28,
-        choice: Choice::Greatest,
-        certify: false,
-        keep: Vec::new(alloc),
-        merge: false,
-    }
 }

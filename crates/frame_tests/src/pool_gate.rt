@@ -34,21 +34,15 @@ impl Visits {
         }
     }
 
-    /// Whether this place comes after so many calls of its own.
+    /// A call at a place, which is to come after so many calls there: whether it does.
     fn count(&self, place: u64, before: u64) -> bool {
+        if before == 1 {
+            self.left.fetch_add(1, Ordering::SeqCst);
+        }
         match self.calls.as_slice().get(place as usize) {
             Some(calls) => calls.fetch_add(1, Ordering::SeqCst) == before,
             None => false,
         }
-    }
-
-    fn pass(&self, place: u64) -> bool {
-        self.count(place, 0)
-    }
-
-    fn leave(&self, place: u64) -> bool {
-        self.left.fetch_add(1, Ordering::SeqCst);
-        self.count(place, 1)
     }
 
     /// Whether all places but one were left.
@@ -133,7 +127,13 @@ impl PoolGate {
         }
     }
 
-    fn note(&self, right: bool) {
+    /// A worker's call in a phase, which is to come after so many in it: where it doesn't, it is wrong.
+    fn note(&self, phase: u64, worker: u32, before: u64) {
+        let worker = worker as u64;
+        let right = match phase {
+            0 => self.workers.count(worker, before),
+            _ => { self.workers.are_at(worker) && self.jobs.count(phase.saturating_sub(1), before) }
+        };
         if !right {
             self.wrong.fetch_add(1, Ordering::SeqCst);
         }
@@ -152,18 +152,10 @@ impl PoolGate {
 impl PhaseGate for PoolGate {
     fn pass(&self, phase: u64, worker: u32) {
         self.meet(phase, worker);
-        let worker = worker as u64;
-        self.note(match phase {
-            0 => self.workers.pass(worker),
-            _ => self.workers.are_at(worker) && self.jobs.pass(phase.saturating_sub(1)),
-        });
+        self.note(phase, worker, 0);
     }
 
     fn leave(&self, phase: u64, worker: u32) {
-        let worker = worker as u64;
-        self.note(match phase {
-            0 => self.workers.leave(worker),
-            _ => self.workers.are_at(worker) && self.jobs.leave(phase.saturating_sub(1)),
-        });
+        self.note(phase, worker, 1);
     }
 }

@@ -1,0 +1,64 @@
+//! That the workers of a batch are at work at once, and draw the files one at a time: one of two workers is held as the batch begins for it,
+//! until the other has left the batch, with files and with none; and one of five files is held until the other worker has run all others.
+use crate::batch_files::five_files;
+use crate::batch_outcomes::ended_with;
+use crate::circuits::options;
+use crate::pool_gate::{Held, PoolGate};
+use batch_pool::{Job, run_batch};
+use pulse::Crew;
+use std::alloc::Global;
+use std::test::*;
+use std::thread::Threads;
+
+/// Whether two workers run all files past this one that is held.
+fn runs_past<R: Threads + Sync>(rt: &R, alloc: Global, jobs: &[Job], held: Held) -> bool {
+    match PoolGate::of(alloc, 2, jobs.len() as u64, held) {
+        Ok(gate) => {
+            let crew = Crew::new(2, gate);
+            let runs = runs_with(rt, alloc, jobs, &crew);
+            let saw_all = crew.gate().saw_all();
+            drop(crew);
+            runs & saw_all
+        }
+        Err(_) => false,
+    }
+}
+
+/// Whether a crew gives the files their outcomes.
+fn runs_with<R: Threads + Sync>(
+    rt: &R,
+    alloc: Global,
+    jobs: &[Job],
+    crew: &Crew<PoolGate>,
+) -> bool {
+    let options = options(alloc, 1 << 28);
+    let ended = run_batch(rt, alloc, jobs, &options, crew);
+    drop(options);
+    ended_with(ended, !jobs.is_empty())
+}
+
+/// Whether either worker can be held.
+fn runs_past_workers<R: Threads + Sync>(rt: &R, alloc: Global, jobs: &[Job]) -> bool {
+    let first = runs_past(rt, alloc, jobs, Held::Worker(0));
+    first & runs_past(rt, alloc, jobs, Held::Worker(1))
+}
+
+/// Whether either worker, and each of five files, can be held.
+fn runs_past_each<R: Threads + Sync>(rt: &R, alloc: Global, jobs: &[Job]) -> bool {
+    let mut all = runs_past_workers(rt, alloc, jobs);
+    for number in 0..5u64 {
+        all &= runs_past(rt, alloc, jobs, Held::Job(number));
+    }
+    all
+}
+
+#[test]
+fn runs_past_either_worker_and_each_file_and_past_workers_without_files(rt: HostRuntime) {
+    let jobs = five_files(rt.alloc());
+    let holds = match &jobs {
+        Ok(jobs) => runs_past_each(&rt, rt.alloc(), jobs.as_slice()),
+        Err(_) => false,
+    };
+    drop(jobs);
+    assert!(rt; holds & runs_past_workers(&rt, rt.alloc(), &[]));
+}
