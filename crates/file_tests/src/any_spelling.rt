@@ -60,19 +60,24 @@ fn ends_after(alloc: Global, bytes: &[u8]) -> bool {
     taken & first.is_none() & (second == no_other) & (more.err() == no_other)
 }
 
-/// What is read of a device that gives one byte a read and fails from a number of reads on: whether it is the circuit of two latches,
-/// the fault where there is one, and how many reads failed.
-fn read_failing(alloc: Global, bytes: &[u8], reads: usize) -> (bool, Option<ReadError>, u64) {
-    let device = FailAfter::new(OneByte::new(bytes), reads as u64, Failure::Error);
-    let mut reader = Counted::new(device);
+/// What a reader gives: whether it is the circuit of two latches, and the fault where there is one.
+fn read_from<R: CountedRead>(alloc: Global, reader: &mut R) -> (bool, Option<ReadError>) {
     let mut circuits = AnyReader::new(alloc);
-    let spelt = read_circuit(&mut reader, &mut circuits);
+    let spelt = read_circuit(reader, &mut circuits);
     drop(circuits);
     let whole = match &spelt {
         Ok(spelt) => is_two_latches(alloc, &spelt.circuit),
         Err(_) => false,
     };
-    (whole, spelt.err(), CountedRead::failures(&reader))
+    (whole, spelt.err())
+}
+
+/// The same of a device that gives one byte a read and fails from a number of reads on, and how many reads failed.
+fn read_failing(alloc: Global, bytes: &[u8], reads: usize) -> (bool, Option<ReadError>, u64) {
+    let device = FailAfter::new(OneByte::new(bytes), reads as u64, Failure::Error);
+    let mut reader = Counted::new(device);
+    let (whole, fault) = read_from(alloc, &mut reader);
+    (whole, fault, CountedRead::failures(&reader))
 }
 
 /// Whether the reading ends at each first read that fails, and answers that failure, and else reads to the end.

@@ -1,5 +1,5 @@
 //! The passable gates of the first worked circuit, and the arcs and rows of its network.
-use crate::nets::{TWO_LATCHES, net_of_text};
+use crate::nets::TWO_LATCHES;
 use aag_text::read_aag;
 use aig_graph::{Circuit, Keep};
 use frame_net::{Net, Point, passable};
@@ -68,7 +68,7 @@ fn fourth_point(net: &Net) -> Option<Point> {
 }
 
 /// Whether the arcs and their rows are those that were worked by hand.
-fn is_as_worked(net: &Net) -> bool {
+pub(crate) fn are_as_worked(net: &Net) -> bool {
     let before = Point {
         var: 5,
         behind: false,
@@ -76,15 +76,4 @@ fn is_as_worked(net: &Net) -> bool {
     has_arcs(net, &HEADS, &MATES, &CAPS)
         && has_rows(net, &[0, 2, 3, 5, 7, 10])
         && fourth_point(net) == Some(before)
-}
-
-#[test]
-fn builds_the_arcs_in_their_rows(rt: HostRuntime) {
-    let net = net_of_text(rt.alloc(), TWO_LATCHES);
-    let holds = match &net {
-        Ok(net) => is_as_worked(net),
-        Err(_) => false,
-    };
-    drop(net);
-    assert!(rt; holds);
 }

@@ -2,13 +2,11 @@
 ghost use Rattle.std.specs.Prelude.{◌≡◌, false};
 ghost use Rattle.pulse.specs.Conditions.{ArePushesOf, IsBetween, IsFlowOf};
 
-use crate::nets::{TWO_LATCHES, net_of_text};
 use crate::starts::start;
 use crate::worked_pulses::pulse_by_ranges;
 use frame_net::Net;
 use pulse::{Flow, Pushes, read_range};
 use std::alloc::Global;
-use std::test::*;
 
 /// Whether no node is delivered, and memory was refused neither to the flow nor to the pushes.
 fn is_between(net: &Net, flow: &Flow, pushes: &Pushes) -> bool
@@ -49,7 +47,7 @@ fn sends_both(net: &Net, flow: &mut Flow, pushes: &mut Pushes) -> bool
 }
 
 /// Whether it does from the start.
-fn sends_both_units(alloc: Global, net: &Net) -> bool {
+pub(crate) fn sends_both_units(alloc: Global, net: &Net) -> bool {
     match start(alloc, net) {
         Ok((mut flow, mut pushes)) => {
             let holds = sends_both(net, &mut flow, &mut pushes);
@@ -59,15 +57,4 @@ fn sends_both_units(alloc: Global, net: &Net) -> bool {
         }
         Err(_) => false,
     }
-}
-
-#[test]
-fn sends_both_units_in_the_second_pulse(rt: HostRuntime) {
-    let net = net_of_text(rt.alloc(), TWO_LATCHES);
-    let holds = match &net {
-        Ok(net) => sends_both_units(rt.alloc(), net),
-        Err(_) => false,
-    };
-    drop(net);
-    assert!(rt; holds);
 }

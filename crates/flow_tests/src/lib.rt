@@ -27,4 +27,6 @@ mod starts;
 #[cfg(test)]
 mod wished_runs;
 #[cfg(test)]
+mod worked_networks;
+#[cfg(test)]
 mod worked_pulses;

@@ -1,13 +1,11 @@
 //! That each worker of a crew passes the gate of each phase once, and then leaves it once, before it passes the next; that phases count
 //! on after a pulse by ranges; and that a later pulse is handed to the crew too.
-use crate::nets::{FOUR_LATCHES, TWO_LATCHES, net_of_text};
 use crate::starts::start;
 use crate::worked_pulses::{pulse, pulse_by_ranges};
 use frame_net::Net;
 use pulse::{Crew, PhaseGate, run_to_end, run_with_global_relabeling};
 use std::alloc::{AllocError, Global};
 use std::sync::atomic::{AtomicU64, Ordering};
-use std::test::*;
 use std::thread::Threads;
 
 /// How many calls each worker made, and how many calls didn't follow that worker's calls before.
@@ -125,22 +123,11 @@ fn sees_all<R: Threads + Sync>(
 }
 
 /// Whether one worker, which is the calling thread, two, and more workers than nodes do so of a run, and one after a pulse by ranges.
-fn each_crew_passes<R: Threads + Sync>(rt: &R, alloc: Global, net: &Net) -> bool {
+pub(crate) fn each_crew_passes<R: Threads + Sync>(rt: &R, alloc: Global, net: &Net) -> bool {
     let one = sees_all(rt, alloc, net, 1, false);
     let two = sees_all(rt, alloc, net, 2, false);
     let many = sees_all(rt, alloc, net, 7, false);
     one & two & many & sees_all(rt, alloc, net, 1, true)
-}
-
-#[test]
-fn passes_and_leaves_each_phase_once(rt: HostRuntime) {
-    let net = net_of_text(rt.alloc(), TWO_LATCHES);
-    let holds = match &net {
-        Ok(net) => each_crew_passes(&rt, rt.alloc(), net),
-        Err(_) => false,
-    };
-    drop(net);
-    assert!(rt; holds);
 }
 
 /// How many phases of the second pulse the second worker passed.
@@ -161,7 +148,7 @@ impl PhaseGate for SecondPulseGate {
 
 /// Whether the second worker has a part in both phases of the second pulse. All four latches of twelve nodes are active in the first,
 /// which is over a quarter.
-fn second_pulse_is_shared<R: Threads + Sync>(rt: &R, alloc: Global, net: &Net) -> bool {
+pub(crate) fn second_pulse_is_shared<R: Threads + Sync>(rt: &R, alloc: Global, net: &Net) -> bool {
     let gate = SecondPulseGate {
         passed: AtomicU64::new(0),
     };
@@ -171,15 +158,4 @@ fn second_pulse_is_shared<R: Threads + Sync>(rt: &R, alloc: Global, net: &Net) -
     drop(ended);
     let passed = crew.gate().passed.load(Ordering::SeqCst);
     has_ended & (passed == 2)
-}
-
-#[test]
-fn hands_out_the_second_pulse(rt: HostRuntime) {
-    let net = net_of_text(rt.alloc(), FOUR_LATCHES);
-    let holds = match &net {
-        Ok(net) => second_pulse_is_shared(&rt, rt.alloc(), net),
-        Err(_) => false,
-    };
-    drop(net);
-    assert!(rt; holds);
 }

@@ -2,11 +2,9 @@
 ghost use Rattle.std.specs.Prelude.{IfOk};
 ghost use Rattle.pulse.specs.Conditions.{IsMaxPreflow};
 
-use crate::nets::{TWO_LATCHES, net_of_text};
 use frame_net::Net;
 use pulse::{Crew, MaxPreflow, OpenGate, PulseError, run_to_end, run_with_global_relabeling};
 use std::alloc::Global;
-use std::test::*;
 use std::thread::Threads;
 
 fn has_labels(net: &Net, end: &MaxPreflow, labels: &[u32]) -> bool
@@ -37,19 +35,8 @@ fn ended_as_worked(net: &Net, ended: Result<MaxPreflow, PulseError>, pulses: u64
 
 /// Whether a run of six pulses does, and one with global relabeling: in that both units of excess go to the gate; one goes on to the
 /// sink, the other back to a latch, which can't reach the sink any more.
-fn end_as_worked<R: Threads + Sync>(rt: &R, alloc: Global, net: &Net) -> bool {
+pub(crate) fn end_as_worked<R: Threads + Sync>(rt: &R, alloc: Global, net: &Net) -> bool {
     let crew = Crew::new(2, OpenGate);
     let plain = ended_as_worked(net, run_to_end(rt, alloc, net, &crew), 6);
     plain & ended_as_worked(net, run_with_global_relabeling(rt, alloc, net, &crew), 3)
-}
-
-#[test]
-fn runs_to_the_end_in_six_pulses_and_with_global_relabeling(rt: HostRuntime) {
-    let net = net_of_text(rt.alloc(), TWO_LATCHES);
-    let holds = match &net {
-        Ok(net) => end_as_worked(&rt, rt.alloc(), net),
-        Err(_) => false,
-    };
-    drop(net);
-    assert!(rt; holds);
 }

@@ -1,14 +1,12 @@
-//! Runs in the memory of one before, from a start along wishes, which are wrong.
+//! Runs from a start along wishes, wrong ones and one for each arc, in the memory of a run before.
 ghost use Rattle.pulse.specs.Conditions.{IsMaxPreflow};
 
 use crate::cuts::is_set;
-use crate::nets::{TWO_LATCHES, net_of_text};
 use cut_cert::greatest_cut;
 use frame_net::Net;
 use pulse::{Crew, FlowTables, MaxPreflow, OpenGate, run_along_wishes};
 use std::alloc::{AllocError, Global};
 use std::mem;
-use std::test::*;
 use std::thread::Threads;
 
 /// What flows into the sink.
@@ -86,20 +84,9 @@ fn one_unit_flows_along<R: Threads + Sync>(
     }
 }
 
-fn one_unit_flows<R: Threads + Sync>(rt: &R, alloc: Global, net: &Net) -> bool {
+pub(crate) fn one_unit_flows<R: Threads + Sync>(rt: &R, alloc: Global, net: &Net) -> bool {
     let again = one_unit_flows_again(rt, alloc, net);
     let wrong = one_unit_flows_along(rt, alloc, net, filled(alloc, 7, 100, 100));
     let wished = one_unit_flows_along(rt, alloc, net, filled(alloc, 1, 0, net.arcs()));
     again & wrong & wished
-}
-
-#[test]
-fn uses_the_memory_of_a_run_before_and_moves_the_gate_by_exact_labels(rt: HostRuntime) {
-    let net = net_of_text(rt.alloc(), TWO_LATCHES);
-    let holds = match &net {
-        Ok(net) => one_unit_flows(&rt, rt.alloc(), net),
-        Err(_) => false,
-    };
-    drop(net);
-    assert!(rt; holds);
 }

@@ -2,7 +2,6 @@
 ghost use Rattle.std.specs.Prelude.{◌≡◌, OnOk, false};
 ghost use Rattle.pulse.specs.Conditions.{ArePushesOf, IsBetween, IsFlowOf};
 
-use crate::nets::{FOUR_LATCHES, TWO_LATCHES, net_of_text};
 use crate::starts::start;
 use frame_net::Net;
 use pulse::{
@@ -10,7 +9,6 @@ use pulse::{
     read_range,
 };
 use std::alloc::Global;
-use std::test::*;
 use std::thread::Threads;
 
 /// Numbers of workers: one, some that divide the nodes unevenly, one for each node of the second network, and the most.
@@ -218,29 +216,6 @@ fn all_follow<R: Threads + Sync>(
     true
 }
 
-#[test]
-fn follows_the_worked_states_by_every_crew_and_by_ranges(rt: HostRuntime) {
-    let net = net_of_text(rt.alloc(), TWO_LATCHES);
-    let holds = match &net {
-        Ok(net) => all_follow(&rt, rt.alloc(), net, 0, &STATES)
-            & follows_states_by_ranges(rt.alloc(), net),
-        Err(_) => false,
-    };
-    drop(net);
-    assert!(rt; holds);
-}
-
-#[test]
-fn relabels_over_the_arcs_after_delivery_by_every_crew(rt: HostRuntime) {
-    let net = net_of_text(rt.alloc(), FOUR_LATCHES);
-    let holds = match &net {
-        Ok(net) => all_follow(&rt, rt.alloc(), net, 11, &[AFTER_ELEVEN]),
-        Err(_) => false,
-    };
-    drop(net);
-    assert!(rt; holds);
-}
-
 /// A pulse by the ranges of all nodes.
 pub(crate) fn pulse_by_ranges(net: &Net, flow: &mut Flow, pushes: &mut Pushes)
     requires flow { IsBetween net.now flow.old }
@@ -283,4 +258,15 @@ fn follows_states_by_ranges(alloc: Global, net: &Net) -> bool {
         }
         Err(_) => false,
     }
+}
+
+/// Whether the pulses of the first network go through its states, by every crew and by ranges.
+pub(crate) fn follow_states<R: Threads + Sync>(rt: &R, alloc: Global, net: &Net) -> bool {
+    let by_ranges = follows_states_by_ranges(alloc, net);
+    by_ranges & all_follow(rt, alloc, net, 0, &STATES)
+}
+
+/// Whether the second network's flow is in its state after eleven pulses of every crew.
+pub(crate) fn follow_after_eleven<R: Threads + Sync>(rt: &R, alloc: Global, net: &Net) -> bool {
+    all_follow(rt, alloc, net, 11, &[AFTER_ELEVEN])
 }
