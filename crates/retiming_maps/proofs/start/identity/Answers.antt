@@ -1,5 +1,4 @@
 use Rattle.std.proofs.Common.{ℕ, List, [], ◌≡◌, ◌∙◌, ◌+◌, ◌*◌, arith, ap, sym, subst, length}
-use Rattle.aig_graph.specs.declared.graph.Reset.{Reset}
 use Rattle.aig_graph.specs.declared.graph.Latch.{Latch}
 use Rattle.aig_graph.specs.Building.{without_gates}
 use Rattle.aig_graph.specs.Graph.{Graph, IsGraph}
