@@ -42,6 +42,18 @@ enum Fate {
     ShapesDiffer,
 }
 
+/// These places of as many free latches, where there are so many.
+fn if_many(many: u32, places: Sequence<u32>, free: u32) -> Option<Sequence<u32>>
+    ensures { result ≡ if_many many places free }
+{
+    if many == free {
+        Some(places)
+    } else {
+        drop(places);
+        None
+    }
+}
+
 /// The places that cleaning leaves, where there are so many.
 fn places_left(cleaned: Cleaned, free: u32) -> Option<Sequence<u32>>
     ensures { result ≡ if_many (graphs.free_latches cleaned.circuit.aig) cleaned.kept_free free }
@@ -51,11 +63,9 @@ fn places_left(cleaned: Cleaned, free: u32) -> Option<Sequence<u32>>
         kept_free,
         ..
     } = cleaned;
-    if circuit.aig().free_latches() == free {
-        Some(kept_free)
-    } else {
-        None
-    }
+    let many = circuit.aig().free_latches();
+    drop(circuit);
+    if_many(many, kept_free, free)
 }
 
 /// The places that a retiming leaves, where there are so many.
@@ -69,11 +79,9 @@ fn places_of(retimed: Retimed, free: u32) -> Option<Sequence<u32>>
         ..
     } = retimed;
     drop(certificates);
-    if circuit.aig().free_latches() == free {
-        Some(kept_free)
-    } else {
-        None
-    }
+    let many = circuit.aig().free_latches();
+    drop(circuit);
+    if_many(many, kept_free, free)
 }
 
 /// The options of a retiming that merges latches and takes no frame.
@@ -254,13 +262,24 @@ fn case_for<'a, R: Files, I: CountedRead>(
     ensures { IfOk result (IsCaseOf task.now (I.input stdin.old) (I.input stdin.new)) }
 {
     let circuit = read_circuit(rt, alloc, task.input, stdin)?;
-    let retimed = read_circuit(rt, alloc, task.retimed, stdin)?;
-    let witness = witness_at(rt, alloc, task.witness, &retimed, stdin)?;
-    Ok(Case {
-        circuit,
-        retimed,
-        witness,
-    })
+    match read_circuit(rt, alloc, task.retimed, stdin) {
+        Ok(retimed) => match witness_at(rt, alloc, task.witness, &retimed, stdin) {
+            Ok(witness) => Ok(Case {
+                circuit,
+                retimed,
+                witness,
+            }),
+            Err(failure) => {
+                drop(circuit);
+                drop(retimed);
+                Err(failure)
+            }
+        },
+        Err(failure) => {
+            drop(circuit);
+            Err(failure)
+        }
+    }
 }
 
 fn print_confirmed<'a, O: CountedWrite>(
