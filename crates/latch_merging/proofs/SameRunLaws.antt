@@ -1,21 +1,14 @@
 -- Over gates that read what a finer reading made of their literals, a coarser one makes what it makes over the gates.
-use Rattle.std.proofs.Common.{ℕ, ◌+◌, ◌*◌, ◌<◌, ◌≤◌, ◌≡◌, inl, inr, suc, List, [], ◌∷◌, length, map, Some, slice_get, get_or, refl, arith, ap, sym, ◌∙◌, subst}
+use Rattle.std.proofs.Common.{ℕ, ◌+◌, ◌<◌, ◌≤◌, ◌≡◌, inl, inr, suc, List, [], ◌∷◌, length, map, Some, slice_get, get_or, refl, arith, ap, sym, ◌∙◌, subst}
 use Rattle.std.proofs.lemmas.Bool.{cases_lt}
-use Rattle.std.proofs.lemmas.List.{get_or_append_left}
 use Rattle.aig_graph.specs.declared.graph.Gate.{Gate}
 use Rattle.aig_graph.specs.Graph.{IsGateAt, variable}
 use Rattle.aig_graph.specs.Value.{signed_as}
 use Rattle.aig_graph.specs.Building.{gate_of}
-use Rattle.cleaned_circuits.specs.Merged.{Merging, known_substitute, merge_gate, merge_gates, replaced, replaced_gate, substitute_or_own, with_substitute}
+use Rattle.cleaned_circuits.specs.Merged.{Merging, known_substitute, merge_gate, merge_gates, replaced, replaced_gate, with_substitute}
 use Rattle.cleaned_circuits.proofs.SubstituteLaws.{length-merge_gate}
 use Rattle.merged_latches.proofs.RunLaws.{gate_of-either}
 use Rattle.merged_latches.proofs.CoarserLaws.{substitutes-stay}
-
-unfolding merge_gates
-substitutes-stay [] m v h = refl
-substitutes-stay (gate ∷ gates) m v h =
-    substitutes-stay gates (merge_gate m gate) v (omega (arith, h, length-merge_gate m gate))
-    ∙ get_or_append_left m.substitutes (substitute_or_own (2 * length m.substitutes) (known_substitute m.kept (replaced_gate m.substitutes gate)) ∷ []) 0 v h
 
 -- a gate that reads what stands for its literals
 pair-same : (substitutes finer : List ℕ) (gate : Gate) → replaced substitutes (replaced finer gate.rhs0) ≡ replaced substitutes gate.rhs0
