@@ -11,7 +11,7 @@ ghost use Rattle.commands.specs.Pipes.{IsAnswerTo};
 ghost use Rattle.commands.specs.RetimingTasks.{AreOptionsOf, HasFailed, IsFailureOf, IsHeldFailureOf, IsMappedFailureOf, counts_of, levels_told};
 
 use crate::holding::missing_latch;
-use aig_binary::{SpeltCircuit, write};
+use aig_binary::SpeltCircuit;
 use aig_graph::{Circuit, NoMemory};
 use circuit_counts::levels;
 use circuit_files::{Failure, LazyFile};
@@ -22,7 +22,8 @@ use file_words::ReadError;
 use frames::{BytesError, FrameWatcher, RetimeError, Retimed};
 use json_reports::MapCounts;
 use mapped_answers::{
-    HeldError, HeldMapError, HeldOptions, Mapped, retime_held, retime_held_mapped,
+    HeldError, HeldMapError, HeldOptions, Mapped, SpeltMap, retime_held, retime_held_mapped,
+    write_state_map,
 };
 use pulse::{Crew, OpenGate};
 use std::alloc::Global;
@@ -38,7 +39,7 @@ const MOST_WORKERS: u32 = 64;
 pub(crate) struct Answer {
     pub retimed: Retimed,
     pub levels: Option<u32>,
-    pub map: Option<SpeltCircuit>,
+    pub map: Option<SpeltMap>,
 }
 
 fn crew(task: &Retiming<'_>) -> Crew<OpenGate>
@@ -166,7 +167,7 @@ pub(crate) fn map_counts(answer: &Answer) -> Option<MapCounts>
 {
     match &answer.map {
         Some(map) => Some(MapCounts {
-            gates: map.circuit.aig().gates().len() as u64,
+            gates: u64::from(map.circuit.gates().count()),
             constraints: map.circuit.props().constraints.len() as u64,
         }),
         None => None,
@@ -212,7 +213,7 @@ pub(crate) fn retime_to<'a, R: Threads + Sync, W: CountedWrite, V: FrameWatcher>
 /// Writes a map to what it is written to.
 fn write_map<'a, R: Files, O: CountedWrite>(
     rt: &R,
-    map: &SpeltCircuit,
+    map: &SpeltMap,
     target: Target<'a>,
     out: &mut O,
 ) -> Result<(), WriteError>
@@ -221,10 +222,10 @@ fn write_map<'a, R: Files, O: CountedWrite>(
     ensures file { is_stdout target.entry ≡ false → O.output out.new ≡ O.output out.old }
 {
     match target {
-        Target::Stdout => write(&map.circuit, map.spelling, out),
+        Target::Stdout => write_state_map(&map.circuit, map.spelling, out),
         Target::File(path) => {
             let mut writer = Counted::new(LazyFile::new(rt, path));
-            write(&map.circuit, map.spelling, &mut writer)
+            write_state_map(&map.circuit, map.spelling, &mut writer)
         }
     }
 }

@@ -3,7 +3,7 @@ ghost use Rattle.std.specs.Prelude.{ℕ, ◌≡◌, IfOk, IsErrOf, MatchOption, 
 ghost use Rattle.aig_graph.specs.Circuits.{AreNamesBelow, AreSymbolsOf};
 ghost use Rattle.aig_graph.specs.Keep.{IsFirstMissing, NoneMissing, names_of};
 ghost use Rattle.aig_graph.specs.declared.holding.KeepError.TheVariants as names_missing;
-ghost use Rattle.latch_marks.specs.Marks.{AreLatches, IsFirstNoLatch, held_places, marked, marks_of, own_names, unmarked, unmarked_map, with_latch_names};
+ghost use Rattle.latch_marks.specs.Marks.{AreLatches, IsFirstNoLatch, held_places, marked, marks_of, own_names, unmarked, with_latch_names};
 ghost use Rattle.latch_marks.specs.declared.places.MarkError.TheVariants.{NoSuchLatch, NoSuchName};
 
 use crate::names::{copied, is_marked, marked_names, own_names};
@@ -186,8 +186,12 @@ pub fn marks_of(alloc: Global, circuit: &Circuit) -> Result<Vec<Vec<u8>>, NoMemo
     Ok(marks)
 }
 
-/// The names of a map of states without marks: its inputs and its outputs have those of latches.
-fn own_symbols(alloc: Global, symbols: &Symbols) -> Result<Symbols, NoMemory>
+/// A copy of the names of a map of states without marks: its inputs and its outputs have those of latches.
+///
+/// # Errors
+///
+/// Memory is refused.
+pub fn unmark_symbols(alloc: Global, symbols: &Symbols) -> Result<Symbols, NoMemory>
     ensures { IfOk result (λ own. own ≡ record symbols.now {
       inputs = own_names symbols.now.inputs;
       outputs = own_names symbols.now.outputs;
@@ -209,17 +213,4 @@ fn own_symbols(alloc: Global, symbols: &Symbols) -> Result<Symbols, NoMemory>
         justice: Sequence::from_vec(justice),
         fairness: Sequence::from_vec(fairness),
     })
-}
-
-/// A copy of a map of states, of circuits with marked latches, without their marks.
-///
-/// # Errors
-///
-/// Memory is refused.
-pub fn unmark_map(alloc: Global, map: &Circuit) -> Result<Circuit, NoMemory>
-    ensures { IfOk result (λ copy. copy ≡ unmarked_map map.now) }
-{
-    map.known();
-    let symbols = own_symbols(alloc, map.symbols())?;
-    with_symbols(alloc, map, symbols)
 }

@@ -8,6 +8,6 @@ mod laws;
 mod names;
 mod places;
 
-pub use circuits::{mark_latches, marks_of, unmark_latches, unmark_map};
+pub use circuits::{mark_latches, marks_of, unmark_latches, unmark_symbols};
 pub use laws::marking_law;
 pub use places::MarkError;

@@ -1,4 +1,5 @@
 pub mod GrowingLaws
+pub mod PackingLaws
 pub mod FollowingLaws
 pub mod GatheringLaws
 pub mod SteppingLaws

@@ -1,4 +1,5 @@
 pub mod Growing
+pub mod Packing
 pub mod Following
 pub mod Stepping
 pub mod Constraining

@@ -17,6 +17,7 @@ mod instances;
 mod laws;
 mod map_gates;
 mod moving;
+mod packing;
 mod passing;
 mod standing;
 

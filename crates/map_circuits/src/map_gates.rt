@@ -1,33 +1,45 @@
-//! The gates of a map: over inputs alone, one for each latch. Those of a set are added in room that is asked for before.
-ghost use Rattle.std.specs.Prelude.{ℕ, ◌≡◌, ◌+◌, ◌*◌, ◌<◌, ◌≤◌, [], All, IfOk, List, OnOk, length, vec_capacity};
+//! The gates of a map: over inputs alone, as the bytes that they are written as. Those of a set are added in room that is asked for
+//! before.
+ghost use Rattle.std.specs.Prelude.{ℕ, ◌≡◌, ◌+◌, ◌*◌, ◌<◌, ◌≤◌, ◌↔◌, [], All, IfOk, IsErrOf, List, OnOk, length, vec_capacity};
 ghost use Rattle.aig_graph.specs.Building.{gate_of, with_gate, without_gates};
 ghost use Rattle.aig_graph.specs.Closed.{IsClosedSet};
 ghost use Rattle.aig_graph.specs.Graph.{IsGraph, IsLiteralOf, first_gate, first_latch, variables_end};
+ghost use Rattle.aig_graph.specs.declared.build.BuildError.TheVariants.{TooLarge};
 ghost use Rattle.aig_graph.specs.declared.literal.TheConstants.{MAX_VARIABLES};
+ghost use Rattle.aig_binary.specs.Text.{gate_deltas};
+ghost use Rattle.counted_io.specs.Line.{numbered_lines};
 ghost use Rattle.map_circuits.specs.Following.{Follows};
-ghost use Rattle.map_circuits.specs.Growing.{Extends, IsConjunction, IsEquality, gates_over};
+ghost use Rattle.map_circuits.specs.Growing.{Extends, IsConjunction, IsEquality};
+ghost use Rattle.map_circuits.specs.Packing.{ArePacked, packed};
+ghost use Rattle.map_circuits.specs.declared.packing.TheConstants.{GATE_BYTES};
 
+use crate::packing::{GATE_BYTES, append_gate, append_reserved, leave_room, put_gate};
 use crate::standing::standing;
 use aig_graph::{Aig, BuildError, ClosedSet, Gate, Keep, Lit, MAX_VARIABLES};
 use std::alloc::Global;
 use std::marker::Model;
 
-/// Gates over inputs alone, that grow.
+/// How many bytes of gates are gathered before they are appended.
+const CHUNK: usize = 640;
+
+/// Gates over inputs alone, that grow. They stand as the deltas of the binary form: it costs some three bytes a gate to have them, and
+/// nothing to write them.
 #[derive(Drop)]
 pub struct MapGates {
     inputs: u32,
-    list: Vec<Gate>,
+    count: u32,
+    deltas: Vec<u8>,
 }
 
 impl Model for MapGates {
-    ghost use Rattle.std.specs.Prelude.{[]};
-    ghost use Rattle.aig_graph.specs.Graph.{Graph, IsGraph};
+    ghost use Rattle.aig_graph.specs.Graph.{Graph};
+    ghost use Rattle.map_circuits.specs.Packing.{ArePacked, packed};
 
     ghost Value = { Graph };
 
-    ghost view = { λ m. record { inputs = m.inputs; latches = []; gates = m.list.items } };
+    ghost view = { λ m. packed m.inputs m.deltas.items };
 
-    ghost invariant = { λ m. IsGraph (record { inputs = m.inputs; latches = []; gates = m.list.items }) };
+    ghost invariant = { λ m. ArePacked m.inputs m.count m.deltas.items };
 }
 
 impl MapGates {
@@ -38,8 +50,38 @@ impl MapGates {
     {
         MapGates {
             inputs,
-            list: Vec::new(alloc),
+            count: 0,
+            deltas: Vec::new(alloc),
         }
+    }
+
+    /// What holds of all such gates. Costs nothing: a caller sees the value alone, and has its invariant by this call.
+    pub fn known(&self)
+        ensures graph { IsGraph self.now }
+        ensures latches { self.now.latches ≡ [] }
+    {
+        let _deltas = self.deltas.as_slice();
+    }
+
+    /// The number of inputs.
+    pub fn inputs(&self) -> u32
+        ensures { result ≡ self.now.inputs }
+    {
+        self.inputs
+    }
+
+    /// The number of gates.
+    pub fn count(&self) -> u32
+        ensures { result ≡ length self.now.gates }
+    {
+        self.count
+    }
+
+    /// The bytes of the gates in the binary form.
+    pub fn deltas(&self) -> &[u8]
+        ensures { result.now ≡ numbered_lines gate_deltas (first_gate self.now) self.now.gates }
+    {
+        self.deltas.as_slice()
     }
 
     /// Adds the gate of two literals, and returns its literal. After an `Err` the gates are as they were.
@@ -49,13 +91,15 @@ impl MapGates {
         ensures ok { OnOk result (self.new ≡ with_gate self.old (gate_of a b)) }
         ensures literal { IfOk result (λ lit. lit ≡ 2 * variables_end self.old) }
         ensures small { OnOk result (variables_end self.old < MAX_VARIABLES) }
+        ensures large { IsErrOf result TooLarge ↔ (variables_end self.old ≡ MAX_VARIABLES) }
     {
-        let variable = 1 + self.inputs as usize + self.list.len();
-        if variable == MAX_VARIABLES {
+        let variable = 1 + self.inputs + self.count;
+        if variable as usize == MAX_VARIABLES {
             return Err(BuildError::TooLarge);
         }
-        self.list.push(Gate::of(a, b))?;
-        Ok(Lit::new(variable as u32, false))
+        append_gate(&mut self.deltas, variable, Gate::of(a, b))?;
+        self.count += 1;
+        Ok(Lit::new(variable, false))
     }
 
     /// Adds the conjunction of two literals.
@@ -65,6 +109,8 @@ impl MapGates {
         requires b { IsLiteralOf self.old b }
         ensures extends { OnOk result (Extends self.old self.new) }
         ensures is { IfOk result (IsConjunction self.new a b) }
+        ensures one { OnOk result (variables_end self.new ≡ variables_end self.old + 1) }
+        ensures large { IsErrOf result TooLarge ↔ (variables_end self.old ≡ MAX_VARIABLES) }
     {
         let lit = self.and(a, b)?;
         Ok(lit)
@@ -77,6 +123,7 @@ impl MapGates {
         requires b { IsLiteralOf self.old b }
         ensures extends { OnOk result (Extends self.old self.new) }
         ensures is { IfOk result (IsEquality self.new a b) }
+        ensures large { IsErrOf result TooLarge → MAX_VARIABLES < variables_end self.old + 3 }
     {
         let above = self.add_conjunction(a, b.not())?;
         let below = self.add_conjunction(a.not(), b)?;
@@ -91,6 +138,7 @@ impl MapGates {
         requires b { IsLiteralOf self.old b }
         ensures extends { OnOk result (Extends self.old self.new) }
         ensures is { IfOk result (IsEquality self.new a b) }
+        ensures large { IsErrOf result TooLarge → MAX_VARIABLES < variables_end self.old + 3 }
     {
         if b == Lit::TRUE {
             Ok(a)
@@ -118,59 +166,68 @@ impl MapGates {
             → Follows self.old functions aig.now set.now (first_gate aig.now) self.old literals.old
             → Follows self.old functions aig.now set.now (variables_end aig.now) self.new
             literals.new) }
+        ensures large { IsErrOf result TooLarge
+            ↔ (MAX_VARIABLES < variables_end self.old + length set.now) }
     {
-        let count = set.vars().len();
-        if count > MAX_VARIABLES - 1 - self.inputs as usize - self.list.len() {
+        let more = set.vars().len();
+        if more > MAX_VARIABLES - 1 - self.inputs as usize - self.count as usize {
             return Err(BuildError::TooLarge);
         }
-        self.list.reserve(count)?;
-        add_in_room(&mut self.list, self.inputs, literals, aig, set, keep);
+        self.deltas.reserve(GATE_BYTES * more)?;
+        add_in_room(
+            &mut self.deltas,
+            self.inputs,
+            self.count,
+            literals,
+            aig,
+            set,
+            keep,
+        );
+        self.count += more as u32;
         Ok(())
-    }
-
-    /// The graph of the gates.
-    pub fn finish(self, alloc: Global) -> Aig
-        ensures { result ≡ self }
-    {
-        let MapGates { inputs, list } = self;
-        Aig::from_parts(inputs, Vec::new(alloc), list)
     }
 }
 
-/// The same, in a list that has room for as many gates as the set has members.
+/// The same, in bytes that have room for those of as many gates as the set has members; there are so many gates before.
 fn add_in_room(
-    list: &mut Vec<Gate>,
+    deltas: &mut Vec<u8>,
     inputs: u32,
+    count: u32,
     literals: &mut [Lit],
     aig: &Aig,
     set: &ClosedSet,
     keep: &Keep,
 )
-    requires graph { IsGraph (gates_over inputs list.old.items) }
+    requires packed { ArePacked inputs count deltas.old.items }
     requires closed { IsClosedSet aig.now keep.now set.now }
-    requires room { length list.old.items + length set.now ≤ vec_capacity list.old }
-    requires small { 1 + inputs + length list.old.items + length set.now ≤ MAX_VARIABLES }
+    requires room { length deltas.old.items + GATE_BYTES * length set.now
+        ≤ vec_capacity deltas.old }
+    requires small { 1 + inputs + count + length set.now ≤ MAX_VARIABLES }
     requires long { first_latch aig.now + length literals.old ≡ variables_end aig.now }
-    requires within { All (λ lit. IsLiteralOf (gates_over inputs list.old.items) lit) literals.old }
-    ensures extends { Extends (gates_over inputs list.old.items)
-        (gates_over inputs list.new.items) }
+    requires within { All (λ lit. IsLiteralOf (packed inputs deltas.old.items) lit) literals.old }
+    ensures packed { ArePacked inputs (count + length set.now) deltas.new.items }
+    ensures extends { Extends (packed inputs deltas.old.items) (packed inputs deltas.new.items) }
     ensures follows { (functions : List ℕ)
-        → Follows (gates_over inputs list.old.items) functions aig.now set.now
-        (first_gate aig.now) (gates_over inputs list.old.items) literals.old
-        → Follows (gates_over inputs list.old.items) functions aig.now set.now
-        (variables_end aig.now) (gates_over inputs list.new.items) literals.new }
+        → Follows (packed inputs deltas.old.items) functions aig.now set.now
+        (first_gate aig.now) (packed inputs deltas.old.items) literals.old
+        → Follows (packed inputs deltas.old.items) functions aig.now set.now
+        (variables_end aig.now) (packed inputs deltas.new.items) literals.new }
 {
     let _keep = keep;
     let first = aig.first_latch();
     let start = aig.first_gate();
     let own = aig.gates();
-    let mut next = 1 + inputs + list.len() as u32;
+    let mut next = 1 + inputs + count;
+    let mut chunk = [0; CHUNK];
+    let mut waiting = 0;
     for var in set.vars() {
         let gate = own[(*var - start) as usize];
         let a = standing(literals, first, gate.rhs0);
         let b = standing(literals, first, gate.rhs1);
-        list.push_reserved(Gate::of(a, b));
+        let at = leave_room(deltas, &chunk, waiting);
+        waiting = put_gate(&mut chunk, at, next, Gate::of(a, b));
         literals[(*var - first) as usize] = Lit::new(next, false);
         next += 1;
     }
+    append_reserved(deltas, &chunk[..waiting]);
 }

@@ -6,3 +6,4 @@ pub mod MarkLaws
 pub mod LimitLaws
 pub mod AnswerLaws
 pub mod MapLaws
+pub mod MapTextLaws

@@ -1,6 +1,7 @@
 pub mod Following
 pub mod Framing
 pub mod Mapping
+pub mod MapText
 pub mod Holding
 pub mod Answering
 pub mod HeldMapping

@@ -9,7 +9,7 @@ ghost use Rattle.frames.specs.Stages.{Tells, Writing, stages_of};
 ghost use Rattle.mapped_answers.specs.Mapping.{IsMadeCutOff, IsMadeWritten, IsMapped, IsMappedError, IsMappedOf, IsMappingStop};
 
 use crate::making::{Made, made_over};
-use crate::mapped::{Mapped, MappedError};
+use crate::mapped::{Mapped, MappedError, SpeltMap};
 use aig_binary::{AnyReader, Spelling, SpeltCircuit, write};
 use aig_graph::Circuit;
 use counted_io::{CountedRead, CountedWrite, WriteError};
@@ -49,7 +49,7 @@ fn write_made<W: CountedWrite>(
             let Made { retimed, map } = made;
             Ok(Mapped {
                 retimed,
-                map: SpeltCircuit {
+                map: SpeltMap {
                     circuit: map,
                     spelling,
                 },

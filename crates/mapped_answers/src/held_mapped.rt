@@ -1,6 +1,8 @@
 //! The same with a map of states.
 ghost use Rattle.std.specs.Prelude.{◌≡◌, ◌<◌, IfErr, IfOk, length, unwrap_or};
+ghost use Rattle.aig_graph.specs.Circuits.{IsNetlist};
 ghost use Rattle.frames.specs.Named.{NoneMissingBy};
+ghost use Rattle.latch_marks.specs.Marks.{own_names, unmarked_map};
 ghost use Rattle.mapped_answers.specs.Mapping.{IsMade, IsMapError, IsMappedOf};
 ghost use Rattle.mapped_answers.specs.Answering.{IsHeldMapStop, IsHeldMapped};
 ghost use Rattle.mapped_answers.specs.HeldMapping.{IsMadeMarked, IsMadeOwn, IsMapUnwritten, IsMappedFrom, IsMarkedMapStop, IsMarkedMapped, IsNamedMapStop, IsWithOwnMap, of_mapped_error};
@@ -9,15 +11,16 @@ use crate::bytes::retime_spelt_mapped;
 use crate::errors::{HeldError, HeldMapError};
 use crate::holding::{holding, marked_over};
 use crate::making::{Made, made_over};
-use crate::mapped::{Mapped, MappedError};
+use crate::mapped::{Mapped, MappedError, SpeltMap};
 use crate::options::HeldOptions;
 use crate::writing::write_unmarked;
 use aig_binary::{Spelling, SpeltCircuit};
-use aig_graph::{Circuit, NoMemory};
+use aig_graph::{Circuit, NoMemory, Symbols};
 use counted_io::CountedWrite;
 use frames::{BytesError, FrameWatcher, Options, RetimeError, Stage};
-use latch_marks::unmark_map;
+use latch_marks::unmark_symbols;
 use pulse::{Crew, PhaseGate};
+use retiming_maps::StateMap;
 use std::alloc::Global;
 use std::thread::Threads;
 
@@ -72,19 +75,33 @@ fn made_by_marks<G: PhaseGate, V: FrameWatcher>(
     }
 }
 
+/// A map with its names without marks.
+fn own_map(map: StateMap, symbols: Symbols) -> StateMap
+    requires { symbols ≡ record map.symbols {
+      inputs = own_names map.symbols.inputs;
+      outputs = own_names map.symbols.outputs;
+    } }
+    ensures own { result ≡ unmarked_map map }
+    ensures netlist { IsNetlist result }
+{
+    map.known();
+    let own = map.with_symbols(symbols);
+    own.known();
+    own
+}
+
 /// What was made with a map that has no marks.
 fn with_own_map(alloc: Global, made: Made) -> Result<Made, NoMemory>
     ensures { IfOk result (IsWithOwnMap made) }
 {
     let Made { retimed, map } = made;
-    let own = unmark_map(alloc, &map);
-    drop(map);
-    match own {
-        Ok(map) => {
-            map.known();
-            Ok(Made { retimed, map })
-        }
+    match unmark_symbols(alloc, map.symbols()) {
+        Ok(symbols) => Ok(Made {
+            retimed,
+            map: own_map(map, symbols),
+        }),
         Err(error) => {
+            drop(map);
             drop(retimed);
             Err(error)
         }
@@ -129,7 +146,7 @@ fn written<W: CountedWrite>(
             let Made { retimed, map } = made;
             Ok(Mapped {
                 retimed,
-                map: SpeltCircuit {
+                map: SpeltMap {
                     circuit: map,
                     spelling,
                 },

@@ -1,4 +1,4 @@
-//! From a reader's bytes to a writer's, as `frames` does it, with the map of states beside the answer.
+//! From a reader's bytes to a writer's, as `frames` does it, with the map of states beside the answer, and the map written.
 //!
 //! Retimings that hold latches by their places too. Where there are places, the circuit that was read is marked (`latch_marks`), that is
 //! retimed as any circuit is, where its marks hold, and what is written has no marks. Where there are none, the run is that of `frames`.
@@ -11,6 +11,7 @@ mod framing;
 mod held_mapped;
 mod holding;
 mod making;
+mod map_text;
 mod mapped;
 mod merging;
 mod options;
@@ -23,6 +24,7 @@ pub use bytes::{retime_bytes_mapped, retime_spelt_mapped};
 pub use errors::{HeldError, HeldMapError};
 pub use held_mapped::retime_held_mapped;
 pub use making::{Made, made_over};
-pub use mapped::{Mapped, MappedError};
+pub use map_text::write_state_map;
+pub use mapped::{Mapped, MappedError, SpeltMap};
 pub use options::HeldOptions;
 pub use plain::retime_held;

@@ -17,7 +17,7 @@ use frames::{
     FrameWatcher, Options, ReadCircuit, Records, Retimed, Stage, told_of_read, with_certificates,
 };
 use pulse::{Crew, PhaseGate};
-use retiming_maps::{MapError, state_map};
+use retiming_maps::{MapError, StateMap, state_map};
 use std::alloc::Global;
 use std::thread::Threads;
 
@@ -25,7 +25,7 @@ use std::thread::Threads;
 #[derive(Drop)]
 pub struct Made {
     pub retimed: Retimed,
-    pub map: Circuit,
+    pub map: StateMap,
 }
 
 /// What a run came to, with the certificates that were recorded, and its map as a circuit.

@@ -1,9 +1,16 @@
 ghost use Rattle.mapped_answers.specs.Mapping.{IsMapError};
 
-use aig_binary::SpeltCircuit;
+use aig_binary::Spelling;
 use frames::{BytesError, RetimeError, Retimed};
-use retiming_maps::MapError;
+use retiming_maps::{MapError, StateMap};
 use thiserror::Error;
+
+/// A map and the spelling in which it is written.
+#[derive(Drop)]
+pub struct SpeltMap {
+    pub circuit: StateMap,
+    pub spelling: Spelling,
+}
 
 /// A retiming, with its map in the spelling that the circuit is written in.
 #[derive(Drop)]
@@ -11,7 +18,7 @@ pub struct Mapped {
     /// The retiming, whose circuit was written.
     pub retimed: Retimed,
     /// The map of the states of the circuit that was read to those of the one that was written.
-    pub map: SpeltCircuit,
+    pub map: SpeltMap,
 }
 
 /// Why a reader's bytes weren't retimed, mapped and written.

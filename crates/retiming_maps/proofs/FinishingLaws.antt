@@ -1,16 +1,17 @@
 -- The finished parts are a map as a circuit.
-use Rattle.std.proofs.Common.{ℕ, List, [], length, arith, sym, subst}
+use Rattle.std.proofs.Common.{ℕ, List, [], length, arith, refl, sym, subst}
 use Rattle.aig_graph.specs.Circuits.{AreNamesBelow, IsNetlist, Netlist}
 use Rattle.state_maps.specs.MapCircuits.{IsMapCircuit}
 use Rattle.retiming_maps.specs.declared.parts.MapParts.{MapParts}
 use Rattle.retiming_maps.specs.Mapping.{IsMapTo, map_of, map_symbols}
+use Rattle.retiming_maps.specs.Plain.{IsPlainMap}
 
 no-names : (n : ℕ) → AreNamesBelow n []
 no-names n = record { rising = λ k less. absurd (omega (arith, less)); below = λ k a less. absurd (omega (arith, less)) }
 
 module _ (c d : Netlist) (kept : List ℕ) (m : MapParts) (one : IsNetlist c) (two : IsNetlist d) (map : IsMapTo c d kept m) where
   -- the parts of a map with the names are a netlist
-  pub map-netlist : IsNetlist (map_of m (map_symbols c d))
+  map-netlist : IsNetlist (map_of m (map_symbols c d))
   map-netlist = record {
     props = record {
       outputs = map.functions_within;
@@ -29,6 +30,10 @@ module _ (c d : Netlist) (kept : List ℕ) (m : MapParts) (one : IsNetlist c) (t
       fairness = no-names 0;
     };
   }
+
+  -- their properties are outputs and constraints alone
+  pub map-plain : IsPlainMap (map_of m (map_symbols c d))
+  map-plain = record { netlist = map-netlist; bad = refl; justice = refl; fairness = refl }
 
   -- the parts of a map with the names are a map as a circuit
   pub map-circuit : IsMapCircuit c d kept (map_of m (map_symbols c d))

@@ -5,6 +5,7 @@
 mod maps;
 mod merging;
 mod moves;
+mod packed_maps;
 mod parts;
 mod passes;
 mod start;
@@ -13,6 +14,7 @@ pub use map_circuits::MapError;
 pub use maps::state_map;
 pub use merging::start_along;
 pub use moves::follow_move;
+pub use packed_maps::StateMap;
 pub use parts::MapParts;
 pub use passes::cleaned_along;
 pub use start::identity;

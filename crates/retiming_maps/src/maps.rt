@@ -1,9 +1,10 @@
 //! A map that has come to the end of a retiming, as a circuit.
 ghost use Rattle.std.specs.Prelude.{ℕ, ◌≡◌, IfOk, List};
-ghost use Rattle.aig_graph.specs.Circuits.{IsNetlist};
 ghost use Rattle.state_maps.specs.MapCircuits.{IsMapCircuit};
 ghost use Rattle.retiming_maps.specs.Mapping.{IsMapTo, map_of, map_symbols};
+ghost use Rattle.retiming_maps.specs.Plain.{IsPlainMap};
 
+use crate::packed_maps::StateMap;
 use crate::parts::MapParts;
 use aig_graph::{Circuit, NoMemory, Props, Sequence, Symbol, Symbols};
 use std::alloc::Global;
@@ -32,8 +33,8 @@ fn names_of_map(alloc: Global, circuit: &Circuit, retimed: &Circuit) -> Result<S
 }
 
 /// The parts as a circuit with these names. Takes no memory.
-fn finished(alloc: Global, parts: MapParts, symbols: Symbols) -> Circuit
-    requires { IsNetlist (map_of parts symbols) }
+fn finished(alloc: Global, parts: MapParts, symbols: Symbols) -> StateMap
+    requires { IsPlainMap (map_of parts symbols) }
     ensures { result ≡ map_of parts symbols }
 {
     let MapParts {
@@ -43,7 +44,7 @@ fn finished(alloc: Global, parts: MapParts, symbols: Symbols) -> Circuit
     } = parts;
     let mut props = Props::of_outputs(alloc, functions);
     props.constraints = Sequence::from_vec(constraints);
-    Circuit::new(gates.finish(alloc), props, symbols)
+    StateMap::new(gates, props, symbols)
 }
 
 /// The parts of a map, as a circuit: its inputs are the latches of the circuit that was read, its outputs what the latches of the
@@ -57,7 +58,7 @@ pub fn state_map(
     parts: MapParts,
     circuit: &Circuit,
     retimed: &Circuit,
-) -> Result<Circuit, NoMemory>
+) -> Result<StateMap, NoMemory>
     requires { (kept : List ℕ) × IsMapTo circuit.now retimed.now kept parts }
     ensures map { IfOk result (λ map. (kept : List ℕ) → IsMapTo circuit.now retimed.now kept parts
         → IsMapCircuit circuit.now retimed.now kept map) }

@@ -1,17 +1,18 @@
 use Rattle.std.proofs.Common.{◌∙◌, ap, subst, sym}
 use Rattle.aig_graph.specs.declared.properties.Symbols.{Symbols}
-use Rattle.aig_graph.specs.Circuits.{IsNetlist, Netlist}
+use Rattle.aig_graph.specs.Circuits.{Netlist}
 use Rattle.state_maps.specs.MapCircuits.{IsMapCircuit}
 use Rattle.retiming_maps.specs.Mapping.{map_of}
-use Rattle.retiming_maps.proofs.FinishingLaws.{map-circuit, map-netlist}
+use Rattle.retiming_maps.specs.Plain.{IsPlainMap}
+use Rattle.retiming_maps.proofs.FinishingLaws.{map-circuit, map-plain}
 use Rattle.retiming_maps.proofs.maps.state_map.Goals as goal
 
 pub finished-requires : goal.finished-requires
 finished-requires c =
     let d = c.args.retimed.now in
     let parts = c.args.parts in
-    subst (λ (symbols : Symbols). IsNetlist (map_of parts symbols)) (sym c.in-Ok.ensures)
-    (map-netlist c.args.circuit.now d c.requires.0 parts c.known.ensures.netlist c.known-2.ensures.netlist c.requires.1)
+    subst (λ (symbols : Symbols). IsPlainMap (map_of parts symbols)) (sym c.in-Ok.ensures)
+    (map-plain c.args.circuit.now d c.requires.0 parts c.known.ensures.netlist c.known-2.ensures.netlist c.requires.1)
 
 pub returns-in-Ok-clause-map : goal.returns-in-Ok-clause-map
 returns-in-Ok-clause-map c = λ kept map.

@@ -1,0 +1,92 @@
+//! A gate of a map waits to be written, and is read by nothing until then: so it stands as the bytes that it is written as, some three in
+//! place of the eight of a gate. Less memory is touched, which costs more than the bytes do. The bytes of many gates are gathered in a
+//! small chunk, whose place is at hand, before they are appended.
+ghost use Rattle.std.specs.Prelude.{◌≡◌, ◌+◌, ◌≤◌, ◌<◌, ◌++◌, is_ok, length, take, vec_capacity, if◌then◌else◌};
+ghost use Rattle.aig_graph.specs.Graph.{IsGateAt};
+ghost use Rattle.aig_graph.specs.declared.literal.TheConstants.{MAX_VARIABLES};
+ghost use Rattle.aig_binary.specs.Text.{gate_deltas};
+ghost use Rattle.binary_file.specs.Deltas.{delta_of};
+
+use aig_graph::Gate;
+use std::alloc::AllocError;
+
+/// The most bytes of a gate: of two deltas, five each.
+pub(crate) const GATE_BYTES: usize = 10;
+
+/// Puts the delta of a number at this place, in as few bytes as can be, and says where it ends.
+#[inline(always)]
+fn put_delta(bytes: &mut [u8], at: usize, number: u32) -> usize
+    requires { at + 5 ≤ length bytes.old }
+    ensures delta { take result bytes.new ≡ take at bytes.old ++ delta_of number }
+    ensures long { length bytes.new ≡ length bytes.old }
+    ensures few { result ≤ at + 5 }
+{
+    let mut end = at;
+    let mut rest = number;
+    while rest >= 128 {
+        bytes[end] = (rest % 128 + 128) as u8;
+        rest /= 128;
+        end += 1;
+    }
+    bytes[end] = rest as u8;
+    end + 1
+}
+
+/// Puts the deltas of the gate of a variable at this place, and says where they end.
+#[inline(always)]
+#[tactic(auto, unfolding(aig_binary::specs::Text::gate_deltas))]
+pub(crate) fn put_gate(bytes: &mut [u8], at: usize, var: u32, gate: Gate) -> usize
+    requires small { var < MAX_VARIABLES }
+    requires gate { IsGateAt var gate }
+    requires room { at + GATE_BYTES ≤ length bytes.old }
+    ensures deltas { take result bytes.new ≡ take at bytes.old ++ gate_deltas var gate }
+    ensures long { length bytes.new ≡ length bytes.old }
+    ensures few { result ≤ at + GATE_BYTES }
+{
+    let rhs0 = gate.rhs0.code();
+    let rhs1 = gate.rhs1.code();
+    let middle = put_delta(bytes, at, 2 * var - rhs0);
+    put_delta(bytes, middle, rhs0 - rhs1)
+}
+
+/// Appends the deltas of the gate of a variable.
+pub(crate) fn append_gate(deltas: &mut Vec<u8>, var: u32, gate: Gate) -> Result<(), AllocError>
+    requires small { var < MAX_VARIABLES }
+    requires gate { IsGateAt var gate }
+    ensures { deltas.new.items
+        ≡ (if is_ok result then deltas.old.items ++ gate_deltas var gate else deltas.old.items) }
+{
+    let mut bytes = [0; GATE_BYTES];
+    let end = put_gate(&mut bytes, 0, var, gate);
+    deltas.extend_from_slice(&bytes[..end])
+}
+
+/// Appends bytes for which there is room.
+pub(crate) fn append_reserved(deltas: &mut Vec<u8>, bytes: &[u8])
+    requires { length deltas.old.items + length bytes.now ≤ vec_capacity deltas.old }
+    ensures items { deltas.new.items ≡ deltas.old.items ++ bytes.now }
+    ensures capacity { vec_capacity deltas.old ≤ vec_capacity deltas.new }
+{
+    let _appended = deltas.extend_from_slice(bytes);
+}
+
+/// Appends the first bytes of the chunk, for which there is room, where a gate's may find none beside them in the chunk, and says how
+/// many still wait in it.
+#[inline(always)]
+pub(crate) fn leave_room(deltas: &mut Vec<u8>, chunk: &[u8], waiting: usize) -> usize
+    requires long { GATE_BYTES ≤ length chunk.now }
+    requires within { waiting ≤ length chunk.now }
+    requires room { length deltas.old.items + waiting ≤ vec_capacity deltas.old }
+    ensures bytes { deltas.new.items ++ take result chunk.now
+        ≡ deltas.old.items ++ take waiting chunk.now }
+    ensures many { length deltas.new.items + result ≡ length deltas.old.items + waiting }
+    ensures capacity { vec_capacity deltas.old ≤ vec_capacity deltas.new }
+    ensures room { result + GATE_BYTES ≤ length chunk.now }
+{
+    if chunk.len() - waiting < GATE_BYTES {
+        append_reserved(deltas, &chunk[..waiting]);
+        0
+    } else {
+        waiting
+    }
+}

@@ -1,0 +1,163 @@
+//! A map written. Its gates stand as the bytes of the binary form, so there they are put as they are; in the ASCII form they are read one
+//! by one, so that no memory is taken there either.
+ghost use Rattle.std.specs.Prelude.{ℕ, ◌≡◌, ◌+◌, ◌≤◌, ◌<◌, ◌++◌, List, length};
+ghost use Rattle.aig_graph.specs.declared.graph.Gate.{Gate};
+ghost use Rattle.aig_graph.specs.declared.literal.TheConstants.{MAX_VARIABLES};
+ghost use Rattle.aig_graph.specs.Graph.{IsGateAt, first_gate};
+ghost use Rattle.aig_binary.specs.Spellings.{text_in};
+ghost use Rattle.aig_binary.specs.Text.{gate_deltas, text_binary};
+ghost use Rattle.counted_io.specs.Buffered.{Puts};
+ghost use Rattle.counted_io.specs.Line.{line};
+ghost use Rattle.counted_io.specs.Output.{Writes};
+ghost use Rattle.file_words.specs.Text.{gate_row, header_row, input_rows, numbered_rows, text};
+ghost use Rattle.mapped_answers.specs.MapText.{BeginsWith};
+
+use aig_binary::Spelling;
+use ascii_writer::{put_properties, put_symbols};
+use counted_io::{Buffered, CountedWrite, WriteError};
+use map_circuits::MapGates;
+use retiming_maps::StateMap;
+
+/// Puts the numbers of the header, with a newline. The count of constraints stands there where it isn't 0.
+fn put_counts<W: CountedWrite>(out: &mut Buffered<'_, W>, map: &StateMap)
+    ensures { Puts W.output out.old out.new (line (header_row map.now)) }
+{
+    map.known();
+    let inputs = u64::from(map.gates().inputs());
+    let gates = u64::from(map.gates().count());
+    let outputs = map.props().outputs.len() as u64;
+    let constraints = map.props().constraints.len() as u64;
+    if constraints == 0 {
+        out.put_line(&[inputs + gates, inputs, 0, outputs, gates]);
+    } else {
+        out.put_line(&[inputs + gates, inputs, 0, outputs, gates, 0, constraints]);
+    }
+}
+
+/// Puts a line for each input. It ends at a write that failed.
+fn put_inputs<W: CountedWrite>(out: &mut Buffered<'_, W>, inputs: u32)
+    ensures { Puts W.output out.old out.new (input_rows inputs) }
+{
+    for input in 0..u64::from(inputs) {
+        if out.has_failed() {
+            return;
+        }
+        out.put_line(&[2 * (1 + input)]);
+    }
+}
+
+/// The number whose delta the bytes begin with, and the bytes after it.
+fn read_delta(bytes: &[u8]) -> (u32, &[u8])
+    requires { (more n : ℕ) × (tail : List ℕ) × BeginsWith more n tail bytes.now }
+    ensures { (more n : ℕ) (tail : List ℕ) → BeginsWith more n tail bytes.now
+        → (result.0 ≡ n) × (result.1.now ≡ tail) }
+{
+    match bytes.split_first() {
+        None => (0, bytes),
+        Some((byte, rest)) => {
+            if *byte < 128 {
+                return (u32::from(*byte), rest);
+            }
+            let (others, tail) = read_delta(rest);
+            (u32::from(*byte) - 128 + 128 * others, tail)
+        }
+    }
+}
+
+/// Puts the line of the gate of a variable whose deltas the bytes begin with, and returns the bytes after them.
+fn put_gate<'a, W: CountedWrite>(out: &mut Buffered<'_, W>, var: u32, bytes: &'a [u8]) -> &'a [u8]
+    requires small { var < MAX_VARIABLES }
+    requires begins { (gate : Gate) × (tail : List ℕ) × IsGateAt var gate
+        × (bytes.now ≡ gate_deltas var gate ++ tail) }
+    ensures { (gate : Gate) (tail : List ℕ) → IsGateAt var gate
+        → bytes.now ≡ gate_deltas var gate ++ tail
+        → Puts W.output out.old out.new (line (gate_row var gate)) × (result.now ≡ tail) }
+{
+    let (first, middle) = read_delta(bytes);
+    let (second, rest) = read_delta(middle);
+    let rhs0 = 2 * var - first;
+    out.put_line(&[
+        u64::from(2 * var),
+        u64::from(rhs0),
+        u64::from(rhs0 - second),
+    ]);
+    rest
+}
+
+/// Puts a line for each gate. It ends at a write that failed.
+fn put_gates<W: CountedWrite>(out: &mut Buffered<'_, W>, gates: &MapGates)
+    ensures { Puts W.output out.old out.new
+        (numbered_rows gate_row (first_gate gates.now) gates.now.gates) }
+{
+    gates.known();
+    let first = 1 + gates.inputs();
+    let mut rest = gates.deltas();
+    for place in 0..gates.count() {
+        if out.has_failed() {
+            return;
+        }
+        rest = put_gate(out, first + place, rest);
+    }
+}
+
+/// Puts the whole ASCII text, section by section.
+fn put_ascii<W: CountedWrite>(out: &mut Buffered<'_, W>, map: &StateMap)
+    ensures { Puts W.output out.old out.new (text map.now) }
+{
+    map.known();
+    out.put(b"aag ");
+    put_counts(out, map);
+    put_inputs(out, map.gates().inputs());
+    put_properties(out, map.props());
+    put_gates(out, map.gates());
+    put_symbols(out, map.symbols());
+}
+
+/// Puts the whole binary text, section by section.
+fn put_binary<W: CountedWrite>(out: &mut Buffered<'_, W>, map: &StateMap)
+    ensures { Puts W.output out.old out.new (text_binary map.now) }
+{
+    map.known();
+    out.put(b"aig ");
+    put_counts(out, map);
+    put_properties(out, map.props());
+    out.put(map.gates().deltas());
+    put_symbols(out, map.symbols());
+}
+
+/// Writes the ASCII text.
+fn write_ascii<W: CountedWrite>(map: &StateMap, writer: &mut W) -> Result<(), WriteError>
+    ensures { Writes (W.output writer.old) (W.output writer.new) result (text map.now) }
+{
+    let mut out = Buffered::new(writer);
+    put_ascii(&mut out, map);
+    out.flush()
+}
+
+/// Writes the binary text.
+fn write_binary<W: CountedWrite>(map: &StateMap, writer: &mut W) -> Result<(), WriteError>
+    ensures { Writes (W.output writer.old) (W.output writer.new) result (text_binary map.now) }
+{
+    let mut out = Buffered::new(writer);
+    put_binary(&mut out, map);
+    out.flush()
+}
+
+/// Writes the map's text in the spelling. Takes no memory, and calls the writer about once for each 8 KiB of text.
+///
+/// # Errors
+///
+/// `Device` where a write failed: a beginning of the text was written then, and the writer isn't called again.
+pub fn write_state_map<W: CountedWrite>(
+    map: &StateMap,
+    spelling: Spelling,
+    writer: &mut W,
+) -> Result<(), WriteError>
+    ensures { Writes (W.output writer.old) (W.output writer.new) result
+        (text_in spelling map.now) }
+{
+    match spelling {
+        Spelling::Ascii => write_ascii(map, writer),
+        Spelling::Binary => write_binary(map, writer),
+    }
+}
