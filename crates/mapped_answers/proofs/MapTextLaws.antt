@@ -30,11 +30,17 @@ not_zero n h = search rules
 some-constraints : (n : ℕ) → n ≢ 0 → without_last_zeros (0 ∷ n ∷ 0 ∷ 0 ∷ []) ≡ 0 ∷ n ∷ []
 some-constraints n some = let test : (n == 0) ≡ false = not_zero n some in rw test refl
 
-module _ (m : Netlist) (latches : m.aig.latches ≡ []) (plain : IsPlainMap m) (variables : ℕ) (sum : variables ≡ m.aig.inputs + length m.aig.gates) where
-  counts : header_row m ≡ variables ∷ m.aig.inputs ∷ 0 ∷ length m.props.outputs ∷ length m.aig.gates ∷ without_last_zeros (0 ∷ length m.props.constraints ∷ 0 ∷ 0 ∷ [])
+module _ (m : Netlist) (latches : m.aig.latches ≡ []) (plain : IsPlainMap m) where
+  abbrev variables : ℕ
+  variables = m.aig.inputs + length m.aig.gates
+
+  abbrev first_counts : List ℕ → List ℕ
+  first_counts ns = variables ∷ m.aig.inputs ∷ 0 ∷ length m.props.outputs ∷ length m.aig.gates ∷ ns
+
+  counts : header_row m ≡ first_counts (without_last_zeros (0 ∷ length m.props.constraints ∷ 0 ∷ 0 ∷ []))
   counts =
       let no_latches : length m.aig.latches ≡ 0 = ap (λ (xs : List Latch). length xs) latches in
-      let all : 1 + m.aig.inputs + length m.aig.latches + length m.aig.gates - 1 ≡ variables = omega (arith, no_latches, sum) in
+      let all : 1 + m.aig.inputs + length m.aig.latches + length m.aig.gates - 1 ≡ variables = omega (arith, no_latches) in
       let no_bad : length m.props.bad ≡ 0 = ap (λ (xs : List ℕ). length xs) plain.bad in
       let no_justice : length m.props.justice ≡ 0 = ap (λ (xs : List (List ℕ)). length xs) plain.justice in
       let no_fairness : length m.props.fairness ≡ 0 = ap (λ (xs : List ℕ). length xs) plain.fairness in
@@ -46,16 +52,31 @@ module _ (m : Netlist) (latches : m.aig.latches ≡ []) (plain : IsPlainMap m) (
       ∙ ap (λ (n : ℕ). row variables 0 0 n (length m.props.fairness)) no_justice
       ∙ ap (λ (n : ℕ). row variables 0 0 0 n) no_fairness
 
+  -- these counts of inputs, gates, outputs and constraints are the map's
+  pub record AreCountsOf (inputs gates outputs constraints : ℕ) : Type 0 where
+    pub inputs_are : inputs ≡ m.aig.inputs
+    pub gates_are : gates ≡ length m.aig.gates
+    pub outputs_are : outputs ≡ length m.props.outputs
+    pub constraints_are : constraints ≡ length m.props.constraints
+
+  same-counts : (i n o k : ℕ) (ns : List ℕ) → AreCountsOf i n o k → (i + n) ∷ i ∷ 0 ∷ o ∷ n ∷ ns ≡ first_counts ns
+  same-counts i n o k ns are =
+      ap (λ (x : ℕ). (x + n) ∷ x ∷ 0 ∷ o ∷ n ∷ ns) are.inputs_are
+      ∙ ap (λ (x : ℕ). (m.aig.inputs + x) ∷ m.aig.inputs ∷ 0 ∷ o ∷ x ∷ ns) are.gates_are
+      ∙ ap (λ (x : ℕ). variables ∷ m.aig.inputs ∷ 0 ∷ x ∷ length m.aig.gates ∷ ns) are.outputs_are
+
   -- the header of a map without constraints
-  pub header-without : length m.props.constraints ≡ 0 → header_row m ≡ variables ∷ m.aig.inputs ∷ 0 ∷ length m.props.outputs ∷ length m.aig.gates ∷ []
-  header-without none =
-      counts ∙ ap (λ (n : ℕ). variables ∷ m.aig.inputs ∷ 0 ∷ length m.props.outputs ∷ length m.aig.gates ∷ without_last_zeros (0 ∷ n ∷ 0 ∷ 0 ∷ [])) none
+  pub header-without : (i n o k : ℕ) → AreCountsOf i n o k → k ≡ 0 → (i + n) ∷ i ∷ 0 ∷ o ∷ n ∷ [] ≡ header_row m
+  header-without i n o k are none =
+      same-counts i n o k [] are
+      ∙ sym (counts ∙ ap (λ (x : ℕ). first_counts (without_last_zeros (0 ∷ x ∷ 0 ∷ 0 ∷ []))) (sym are.constraints_are ∙ none))
 
   -- that of one with some
-  pub header-with : length m.props.constraints ≢ 0
-      → header_row m ≡ variables ∷ m.aig.inputs ∷ 0 ∷ length m.props.outputs ∷ length m.aig.gates ∷ 0 ∷ length m.props.constraints ∷ []
-  header-with some =
-      counts ∙ ap (λ (ns : List ℕ). variables ∷ m.aig.inputs ∷ 0 ∷ length m.props.outputs ∷ length m.aig.gates ∷ ns) (some-constraints (length m.props.constraints) some)
+  pub header-with : (i n o k : ℕ) → AreCountsOf i n o k → k ≢ 0 → (i + n) ∷ i ∷ 0 ∷ o ∷ n ∷ 0 ∷ k ∷ [] ≡ header_row m
+  header-with i n o k are some =
+      same-counts i n o k (0 ∷ k ∷ []) are
+      ∙ sym (counts ∙ ap (λ (x : ℕ). first_counts (without_last_zeros (0 ∷ x ∷ 0 ∷ 0 ∷ []))) (sym are.constraints_are)
+      ∙ ap first_counts (some-constraints k some))
 
 -- ---- numbers from bytes
 
@@ -133,12 +154,12 @@ module _ (var : ℕ) (gate : Gate) (tail : List ℕ) (small : var < MAX_VARIABLE
   gate-ends bytes is = record { small = omega (arith, small, here.below); word = omega (arith, small, here.below); is = is }
 
   -- the row of a gate, from its deltas
-  pub gate-row : (first second : ℕ) → first ≡ 2 * var - gate.rhs0 → second ≡ gate.rhs0 - gate.rhs1 → line (2 * var ∷ 2 * var - first ∷ 2 * var - first - second ∷ []) ≡ line (gate_row var gate)
+  pub gate-row : (first second : ℕ) → first ≡ 2 * var - gate.rhs0 → second ≡ gate.rhs0 - gate.rhs1 → line (2 * var ∷ (2 * var - first) ∷ (2 * var - first - second) ∷ []) ≡ line (gate_row var gate)
   unfolding gate_row
   gate-row first second one two =
       let a : 2 * var - first ≡ gate.rhs0 = omega (arith, one, here.below) in
       let b : 2 * var - first - second ≡ gate.rhs1 = omega (arith, one, two, here.below, here.ordered) in
-      ap (λ (x : ℕ). line (2 * var ∷ x ∷ 2 * var - first - second ∷ [])) a ∙ ap (λ (x : ℕ). line (2 * var ∷ gate.rhs0 ∷ x ∷ [])) b
+      ap (λ (x : ℕ). line (2 * var ∷ x ∷ (2 * var - first - second) ∷ [])) a ∙ ap (λ (x : ℕ). line (2 * var ∷ gate.rhs0 ∷ x ∷ [])) b
 
 abbrev no_gate : Gate
 no_gate = record { rhs0 = 0; rhs1 = 0 }
