@@ -54,9 +54,13 @@ module _ (m : Netlist) (latches : m.aig.latches ≡ []) (plain : IsPlainMap m) w
 
   -- these counts of inputs, gates, outputs and constraints are the map's
   pub record AreCountsOf (inputs gates outputs constraints : ℕ) : Type 0 where
+    -- the first count is that of inputs
     pub inputs_are : inputs ≡ m.aig.inputs
+    -- the second that of gates
     pub gates_are : gates ≡ length m.aig.gates
+    -- the third that of outputs
     pub outputs_are : outputs ≡ length m.props.outputs
+    -- the fourth that of constraints
     pub constraints_are : constraints ≡ length m.props.constraints
 
   same-counts : (i n o k : ℕ) (ns : List ℕ) → AreCountsOf i n o k → (i + n) ∷ i ∷ 0 ∷ o ∷ n ∷ ns ≡ first_counts ns
