@@ -13,7 +13,7 @@ ghost use Rattle.map_circuits.specs.Growing.{Extends, IsConjunction, IsEquality}
 ghost use Rattle.map_circuits.specs.Packing.{ArePacked, packed};
 ghost use Rattle.map_circuits.specs.declared.packing.TheConstants.{GATE_BYTES};
 
-use crate::packing::{GATE_BYTES, append_gate, append_reserved, leave_room, put_gate};
+use crate::packing::{append_gate, append_reserved, leave_room, put_gate, reserve_gates};
 use crate::standing::standing;
 use aig_graph::{Aig, BuildError, ClosedSet, Gate, Keep, Lit, MAX_VARIABLES};
 use std::alloc::Global;
@@ -173,7 +173,7 @@ impl MapGates {
         if more > MAX_VARIABLES - 1 - self.inputs as usize - self.count as usize {
             return Err(BuildError::TooLarge);
         }
-        self.deltas.reserve(GATE_BYTES * more)?;
+        reserve_gates(&mut self.deltas, more)?;
         add_in_room(
             &mut self.deltas,
             self.inputs,

@@ -1,7 +1,7 @@
 //! A gate of a map waits to be written, and is read by nothing until then: so it stands as the bytes that it is written as, some three in
 //! place of the eight of a gate. Less memory is touched, which costs more than the bytes do. The bytes of many gates are gathered in a
 //! small chunk, whose place is at hand, before they are appended.
-ghost use Rattle.std.specs.Prelude.{◌≡◌, ◌+◌, ◌≤◌, ◌<◌, ◌++◌, is_ok, length, take, vec_capacity, if◌then◌else◌};
+ghost use Rattle.std.specs.Prelude.{◌≡◌, ◌+◌, ◌≤◌, ◌<◌, ◌*◌, ◌++◌, OnOk, is_ok, length, take, vec_capacity, if◌then◌else◌};
 ghost use Rattle.aig_graph.specs.Graph.{IsGateAt};
 ghost use Rattle.aig_graph.specs.declared.literal.TheConstants.{MAX_VARIABLES};
 ghost use Rattle.aig_binary.specs.Text.{gate_deltas};
@@ -12,6 +12,9 @@ use std::alloc::AllocError;
 
 /// The most bytes of a gate: of two deltas, five each.
 pub(crate) const GATE_BYTES: usize = 10;
+
+/// For how many sets as large as the first there is room at first.
+const SETS: usize = 8;
 
 /// Puts the delta of a number at this place, in as few bytes as can be, and says where it ends.
 #[inline(always)]
@@ -59,6 +62,21 @@ pub(crate) fn append_gate(deltas: &mut Vec<u8>, var: u32, gate: Gate) -> Result<
     let mut bytes = [0; GATE_BYTES];
     let end = put_gate(&mut bytes, 0, var, gate);
     deltas.extend_from_slice(&bytes[..end])
+}
+
+/// Makes room for the bytes of so many gates: the first time for those of eight times as many, where memory allows, since as many sets of
+/// that size are likely to follow, and bytes that are many at once never move.
+pub(crate) fn reserve_gates(deltas: &mut Vec<u8>, gates: usize) -> Result<(), AllocError>
+    requires { gates < MAX_VARIABLES }
+    ensures items { deltas.new.items ≡ deltas.old.items }
+    ensures room { OnOk result (length deltas.old.items + GATE_BYTES * gates
+        ≤ vec_capacity deltas.new) }
+{
+    let bytes = GATE_BYTES * gates;
+    if deltas.capacity() == 0 && deltas.reserve(SETS * bytes).is_ok() {
+        return Ok(());
+    }
+    deltas.reserve(bytes)
 }
 
 /// Appends bytes for which there is room.
