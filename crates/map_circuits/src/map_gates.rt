@@ -221,12 +221,13 @@ fn add_in_room(
     let mut chunk = [0; CHUNK];
     let mut waiting = 0;
     for var in set.vars() {
+        let place = (*var - first) as usize;
         let gate = own[(*var - start) as usize];
         let a = standing(literals, first, gate.rhs0);
         let b = standing(literals, first, gate.rhs1);
         let at = leave_room(deltas, &chunk, waiting);
         waiting = put_gate(&mut chunk, at, next, Gate::of(a, b));
-        literals[(*var - first) as usize] = Lit::new(next, false);
+        literals[place] = Lit::new(next, false);
         next += 1;
     }
     append_reserved(deltas, &chunk[..waiting]);

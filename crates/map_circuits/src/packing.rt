@@ -101,7 +101,7 @@ pub(crate) fn leave_room(deltas: &mut Vec<u8>, chunk: &[u8], waiting: usize) -> 
     ensures capacity { vec_capacity deltas.old ≤ vec_capacity deltas.new }
     ensures room { result + GATE_BYTES ≤ length chunk.now }
 {
-    if chunk.len() - waiting < GATE_BYTES {
+    if waiting > chunk.len() - GATE_BYTES {
         append_reserved(deltas, &chunk[..waiting]);
         0
     } else {

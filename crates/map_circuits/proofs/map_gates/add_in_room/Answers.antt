@@ -94,16 +94,16 @@ standing-b-requires-clause-below c =
     let there : gate_at g v ≡ Some gate = gate-read g c.args.keep.now set c.requires.closed v c.first_gate-start.result c.gates-own.result.now gate c.gates-own.ensures.value c.first_gate-start.ensures.value member c.index-own-var.is in
     (fan_ins-covered g c.args.keep.now set c.first_latch-first.ensures.graph c.requires.closed v c.first_latch-first.result gate c.loop-var.literals there c.first_latch-first.ensures.value c.loop-var.invariant.long member).1.1
 
-pub overflow_sub-var : goal.overflow_sub-var
-overflow_sub-var c =
+pub overflow_sub-place : goal.overflow_sub-place
+overflow_sub-place c =
     let g : Graph = c.args.aig.now in
     let v : ℕ = get_or c.vars-var-items.result.now c.loop-var.var-index 0 in
     let gate = c.requires.closed.closed.passable v (member-at c.args.set.now c.vars-var-items.result.now c.loop-var.var-index c.vars-var-items.ensures.value c.loop-var-test.true) in
     let place : GatePlace g v gate.0 = gate_place g v gate.0 gate.1 in
     omega (arith, place.from, c.first_latch-first.ensures.value)
 
-pub bounds-literals-var : goal.bounds-literals-var
-bounds-literals-var c =
+pub bounds-literals-place : goal.bounds-literals-place
+bounds-literals-place c =
     let g : Graph = c.args.aig.now in
     let v : ℕ = get_or c.vars-var-items.result.now c.loop-var.var-index 0 in
     let gate = c.requires.closed.closed.passable v (member-at c.args.set.now c.vars-var-items.result.now c.loop-var.var-index c.vars-var-items.ensures.value c.loop-var-test.true) in
