@@ -1,5 +1,5 @@
 -- The bytes of gates are read as these gates, and those of one gate more as one gate more.
-use Rattle.std.proofs.Common.{ℕ, ◌+◌, ◌-◌, ◌*◌, ◌/◌, ◌%◌, ◌^◌, ◌<◌, ◌≤◌, ◌≡◌, inl, inr, zero, suc, nat_lt, Bool, true, false, cond, List, [], ◌∷◌, ◌++◌, length, take, Some, slice_get, refl, arith, ap, ap₂, sym, ◌∙◌, subst}
+use Rattle.std.proofs.Common.{ℕ, ◌+◌, ◌-◌, ◌*◌, ◌/◌, ◌%◌, ◌^◌, ◌<◌, ◌≤◌, ◌≡◌, inl, inr, zero, suc, nat_lt, true, false, List, [], ◌∷◌, ◌++◌, length, take, Some, slice_get, refl, arith, ap, ap₂, sym, ◌∙◌, subst}
 use Rattle.std.proofs.Common.{set as put}
 use Rattle.std.specs.List.{flat_map, enumerate_from}
 use Rattle.std.proofs.lemmas.Bool.{cases_lt, lt-ltb, le-ltb}
@@ -9,7 +9,7 @@ use Rattle.std.proofs.lemmas.Option.{none-some}
 use Rattle.aig_graph.specs.declared.graph.Gate.{Gate}
 use Rattle.aig_graph.specs.declared.literal.TheConstants.{MAX_VARIABLES}
 use Rattle.aig_graph.specs.Building.{gate_of, with_gate}
-use Rattle.aig_graph.specs.Graph.{Graph, IsGraph, IsGateAt, IsLiteralOf, variable, variables_end, first_gate}
+use Rattle.aig_graph.specs.Graph.{Graph, IsGraph, IsGateAt, IsLiteralOf, variable, first_gate}
 use Rattle.aig_graph.proofs.GraphLaws.{IsGraph-with_gate}
 use Rattle.counted_io.specs.Line.{numbered_lines}
 use Rattle.counted_io.proofs.BufferedLaws.{enumerate_from-append}

@@ -1,10 +1,10 @@
-use Rattle.std.proofs.Common.{ℕ, ◌<◌, ◌≤◌, ◌≡◌, ◌∙◌, ◌*◌, ◌+◌, ◌-◌, ◌++◌, Some, List, [], ◌∷◌, arith, ap, refl, sym, subst, length, get_or, take}
+use Rattle.std.proofs.Common.{ℕ, ◌<◌, ◌≡◌, ◌∙◌, ◌*◌, ◌+◌, ◌-◌, ◌++◌, Some, List, [], arith, ap, sym, subst, length, get_or, take}
 use Rattle.std.specs.List.{All}
 use Rattle.std.proofs.Common.{set as put}
 use Rattle.std.proofs.lemmas.List.{append-nil, append_assoc, length-set, length-replicate, length-take-le}
 use Rattle.std.proofs.lemmas.List.Elements.{All-set}
 use Rattle.aig_graph.specs.declared.graph.Gate.{Gate}
-use Rattle.aig_graph.specs.Graph.{Graph, IsGraph, IsGateAt, IsLiteralOf, first_gate, first_latch, gate_at, variables_end}
+use Rattle.aig_graph.specs.Graph.{Graph, IsGraph, IsGateAt, IsLiteralOf, first_latch, gate_at, variables_end}
 use Rattle.aig_graph.specs.Building.{gate_of, with_gate}
 use Rattle.aig_graph.specs.declared.literal.TheConstants.{MAX_VARIABLES}
 use Rattle.aig_graph.proofs.KindLaws.{GatePlace, gate_place}

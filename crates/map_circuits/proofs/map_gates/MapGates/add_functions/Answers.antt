@@ -1,8 +1,7 @@
-use Rattle.std.proofs.Common.{ℕ, ◌≡◌, ◌∙◌, ◌≤◌, ◌+◌, ◌*◌, List, All, ap, arith, length, subst, sym}
-use Rattle.aig_graph.specs.Graph.{Graph, IsLiteralOf, first_gate, variables_end}
+use Rattle.std.proofs.Common.{◌≡◌, ◌∙◌, ap, subst}
+use Rattle.aig_graph.specs.Graph.{Graph, first_gate, variables_end}
 use Rattle.map_circuits.specs.Following.{Follows}
-use Rattle.map_circuits.specs.Growing.{Extends}
-use Rattle.map_circuits.specs.Packing.{ArePacked, packed}
+use Rattle.map_circuits.specs.Packing.{packed}
 use Rattle.map_circuits.proofs.map_gates.MapGates.add_functions.Goals as goal
 
 pub returns-clause-follows : goal.returns-clause-follows

@@ -1,11 +1,11 @@
-use Rattle.std.proofs.Common.{ℕ, ◌+◌, ◌<◌, ◌≡◌, ◌∙◌, ◌++◌, List, ap, arith, subst, sym}
+use Rattle.std.proofs.Common.{ℕ, ◌+◌, ◌<◌, ◌∙◌, ◌++◌, List, ap, arith, subst, sym}
 use Rattle.aig_graph.specs.declared.graph.Gate.{Gate}
 use Rattle.aig_graph.specs.declared.literal.TheConstants.{MAX_VARIABLES}
 use Rattle.aig_graph.specs.Building.{gate_of, with_gate}
-use Rattle.aig_graph.specs.Graph.{Graph, IsGateAt, IsLiteralOf, variables_end}
+use Rattle.aig_graph.specs.Graph.{Graph, IsLiteralOf}
 use Rattle.aig_binary.specs.Text.{gate_deltas}
 use Rattle.map_circuits.specs.Packing.{packed}
-use Rattle.map_circuits.proofs.PackingLaws.{are-packed-more, gate_of-at, packed-more}
+use Rattle.map_circuits.proofs.PackingLaws.{are-packed-more, packed-more}
 use Rattle.map_circuits.proofs.map_gates.MapGates.and.Goals as goal
 
 pub invariant_of-self-2 : goal.invariant_of-self-2
