@@ -1,5 +1,5 @@
 -- The text of a map: its header, and its gates from their bytes.
-use Rattle.std.proofs.Common.{ℕ, ◌+◌, ◌-◌, ◌*◌, ◌/◌, ◌%◌, ◌^◌, ◌<◌, ◌≤◌, ◌≡◌, ◌≢◌, ◌⊎◌, inl, inr, zero, suc, true, false, ◌==◌, List, [], ◌∷◌, ◌++◌, length, take, drop, get_or, refl, arith, ap, sym, ◌∙◌, subst, rules}
+use Rattle.std.proofs.Common.{ℕ, ◌+◌, ◌-◌, ◌*◌, ◌/◌, ◌%◌, ◌^◌, ◌<◌, ◌≤◌, ◌≡◌, ◌≢◌, ◌⊎◌, inl, inr, zero, suc, true, false, ◌==◌, List, [], ◌∷◌, ◌++◌, length, take, drop, get_or, Result, Ok, Err, refl, arith, ap, sym, ◌∙◌, subst, rules}
 use Rattle.std.specs.List.{IsFirstAndRest, flat_map, enumerate_from}
 use Rattle.std.proofs.lemmas.Bool.{cases_lt}
 use Rattle.std.proofs.lemmas.List.{append_assoc, drop_more, get_or_default, take-append-drop, take_all}
@@ -14,13 +14,14 @@ use Rattle.binary_file.specs.Deltas.{bytes_within, delta_of}
 use Rattle.binary_file.proofs.DeltaLaws.{bytes-low, bytes-high, fewer}
 use Rattle.counted_io.specs.Buffered.{Puts}
 use Rattle.counted_io.specs.Line.{line, numbered_lines}
-use Rattle.counted_io.specs.Output.{Output}
+use Rattle.counted_io.specs.Output.{Output, Writes, WritesAll, WritesPart}
 use Rattle.counted_io.specs.declared.buffered.Buffered.{Buffered}
+use Rattle.counted_io.proofs.OutputLaws.{all-then, part-more, part-then}
 use Rattle.counted_io.proofs.BufferedLaws.{enumerate_from-append, puts-no_more, puts-numbered_next}
-use Rattle.file_words.specs.Text.{gate_row, header_row, numbered_rows, without_last_zeros}
-use Rattle.aig_binary.specs.Text.{gate_deltas}
+use Rattle.file_words.specs.Text.{all_symbols, gate_row, header_row, numbered_rows, without_last_zeros}
+use Rattle.aig_binary.specs.Text.{gate_deltas, text_binary}
 use Rattle.retiming_maps.specs.Plain.{IsPlainMap}
-use Rattle.mapped_answers.specs.MapText.{BeginsWith}
+use Rattle.mapped_answers.specs.MapText.{BeginsWith, before_gates}
 
 -- ---- the header
 
@@ -208,3 +209,19 @@ module _ {W : Type 0} {output : W → Output} where
   pub puts-gates-end : {b c : Buffered W} (first k : ℕ) (gates : List Gate) → length gates ≤ k → Puts output b c (numbered_rows gate_row first (take k gates))
       → Puts output b c (numbered_rows gate_row first gates)
   puts-gates-end {b = b} {c = c} first k gates all before = subst (λ (gs : List Gate). Puts output b c (numbered_rows gate_row first gs)) (take_all k gates all) before
+
+-- ---- one text written after another
+
+-- where the first was written, the second
+pub writes-then : {T E : Type 0} (s t u : Output) (r : Result T E) (a b : List ℕ) → WritesAll s t a → Writes t u r b → Writes s u r (a ++ b)
+writes-then s t u (Ok x) a b before after = record { ok = all-then s t u a b before after.ok; err = tt }
+writes-then s t u (Err e) a b before after = record { ok = tt; err = part-then s t u a b before after.err }
+
+-- where it wasn't, a beginning of both
+pub writes-no-more : {T E : Type 0} (s t : Output) (e : E) (a b : List ℕ) → WritesPart s t a → Writes {T = T} s t (Err e) (a ++ b)
+writes-no-more s t e a b part = record { ok = tt; err = part-more s t a b part }
+
+-- the binary text in three pieces
+pub binary-pieces : (m : Netlist) → before_gates m ++ (numbered_lines gate_deltas (first_gate m.aig) m.aig.gates ++ all_symbols m.symbols) ≡ text_binary m
+unfolding before_gates text_binary
+binary-pieces m = sym (append_assoc (before_gates m) (numbered_lines gate_deltas (first_gate m.aig) m.aig.gates) (all_symbols m.symbols))

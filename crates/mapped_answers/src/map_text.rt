@@ -1,4 +1,4 @@
-//! A map written. Its gates stand as the bytes of the binary form, so there they are put as they are; in the ASCII form they are read one
+//! A map written. Its gates stand as the bytes of the binary form, so there they are written as they are, without a copy; in the ASCII form they are read one
 //! by one, so that no memory is taken there either.
 ghost use Rattle.std.specs.Prelude.{ℕ, ◌≡◌, ◌+◌, ◌≤◌, ◌<◌, ◌++◌, List, length};
 ghost use Rattle.aig_graph.specs.declared.graph.Gate.{Gate};
@@ -7,14 +7,14 @@ ghost use Rattle.aig_graph.specs.Graph.{IsGateAt, first_gate};
 ghost use Rattle.aig_binary.specs.Spellings.{text_in};
 ghost use Rattle.aig_binary.specs.Text.{gate_deltas, text_binary};
 ghost use Rattle.counted_io.specs.Buffered.{Puts};
-ghost use Rattle.counted_io.specs.Line.{line};
+ghost use Rattle.counted_io.specs.Line.{line, numbered_lines};
 ghost use Rattle.counted_io.specs.Output.{Writes};
-ghost use Rattle.file_words.specs.Text.{gate_row, header_row, input_rows, numbered_rows, text};
-ghost use Rattle.mapped_answers.specs.MapText.{BeginsWith};
+ghost use Rattle.file_words.specs.Text.{all_symbols, gate_row, header_row, input_rows, numbered_rows, text};
+ghost use Rattle.mapped_answers.specs.MapText.{BeginsWith, before_gates};
 
 use aig_binary::Spelling;
 use ascii_writer::{put_properties, put_symbols};
-use counted_io::{Buffered, CountedWrite, WriteError};
+use counted_io::{Buffered, CountedWrite, WriteError, write_all};
 use map_circuits::MapGates;
 use retiming_maps::StateMap;
 
@@ -113,16 +113,33 @@ fn put_ascii<W: CountedWrite>(out: &mut Buffered<'_, W>, map: &StateMap)
     put_symbols(out, map.symbols());
 }
 
-/// Puts the whole binary text, section by section.
-fn put_binary<W: CountedWrite>(out: &mut Buffered<'_, W>, map: &StateMap)
-    ensures { Puts W.output out.old out.new (text_binary map.now) }
+/// Puts the binary text up to the gates, section by section.
+fn put_before_gates<W: CountedWrite>(out: &mut Buffered<'_, W>, map: &StateMap)
+    ensures { Puts W.output out.old out.new (before_gates map.now) }
 {
     map.known();
     out.put(b"aig ");
     put_counts(out, map);
     put_properties(out, map.props());
-    out.put(map.gates().deltas());
-    put_symbols(out, map.symbols());
+}
+
+/// Writes the binary text up to the gates.
+fn write_before_gates<W: CountedWrite>(map: &StateMap, writer: &mut W) -> Result<(), WriteError>
+    ensures { Writes (W.output writer.old) (W.output writer.new) result (before_gates map.now) }
+{
+    let mut out = Buffered::new(writer);
+    put_before_gates(&mut out, map);
+    out.flush()
+}
+
+/// Writes the lines of the symbols.
+fn write_symbols<W: CountedWrite>(map: &StateMap, writer: &mut W) -> Result<(), WriteError>
+    ensures { Writes (W.output writer.old) (W.output writer.new) result
+        (all_symbols map.now.symbols) }
+{
+    let mut out = Buffered::new(writer);
+    put_symbols(&mut out, map.symbols());
+    out.flush()
 }
 
 /// Writes the ASCII text.
@@ -134,16 +151,30 @@ fn write_ascii<W: CountedWrite>(map: &StateMap, writer: &mut W) -> Result<(), Wr
     out.flush()
 }
 
+/// Writes the gates as they stand, and the symbols.
+fn write_gates_on<W: CountedWrite>(map: &StateMap, writer: &mut W) -> Result<(), WriteError>
+    ensures { Writes (W.output writer.old) (W.output writer.new) result
+        (numbered_lines gate_deltas (first_gate map.now.aig) map.now.aig.gates
+        ++ all_symbols map.now.symbols) }
+{
+    match write_all(writer, map.gates().deltas()) {
+        Ok(()) => write_symbols(map, writer),
+        Err(error) => Err(error),
+    }
+}
+
 /// Writes the binary text.
 fn write_binary<W: CountedWrite>(map: &StateMap, writer: &mut W) -> Result<(), WriteError>
     ensures { Writes (W.output writer.old) (W.output writer.new) result (text_binary map.now) }
 {
-    let mut out = Buffered::new(writer);
-    put_binary(&mut out, map);
-    out.flush()
+    match write_before_gates(map, writer) {
+        Ok(()) => write_gates_on(map, writer),
+        Err(error) => Err(error),
+    }
 }
 
-/// Writes the map's text in the spelling. Takes no memory, and calls the writer about once for each 8 KiB of text.
+/// Writes the map's text in the spelling. Takes no memory. Calls the writer about once for each 8 KiB of text, but for the gates of the
+/// binary form, which it gives to it together.
 ///
 /// # Errors
 ///
