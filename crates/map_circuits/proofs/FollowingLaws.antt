@@ -1,13 +1,11 @@
 -- The functions of latches and of gates that latches move over, gate by gate.
-use Rattle.std.proofs.Common.{inl, inr, ℕ, ◌+◌, ◌-◌, ◌*◌, ◌<◌, ◌≤◌, ◌≡◌, Bool, false, ◌&&◌, Some, List, ◌++◌, length, get_or, replicate, arith, ap, sym, ◌∙◌, subst}
+use Rattle.std.proofs.Common.{inl, inr, ℕ, ◌+◌, ◌-◌, ◌*◌, ◌<◌, ◌≤◌, ◌≡◌, Bool, false, ◌&&◌, Some, List, length, get_or, arith, ap, sym, ◌∙◌, subst}
 use Rattle.std.proofs.Common.{set as put}
 use Rattle.std.specs.List.{All, Contains}
 use Rattle.std.specs.List.Sorted.{IsStrictlyIncreasing}
-use Rattle.std.proofs.Math.ListN.{get_or-append}
 use Rattle.std.proofs.lemmas.Bool.{cases_eq, cases_lt}
 use Rattle.std.proofs.lemmas.Option.{get_or_from_slice_get}
-use Rattle.std.proofs.lemmas.List.{get_or-map, get_or-set_same, get_or-set_other, get_or_default, get_or_past, length-append, length-replicate, length-set}
-use Rattle.std.proofs.lemmas.List.Elements.{All-append, All-replicate, All-set}
+use Rattle.std.proofs.lemmas.List.{get_or-map, get_or-set_same, get_or-set_other, get_or_default, get_or_past, length-set}
 use Rattle.std.proofs.lemmas.List.Kept.{AllPairs-from_increasing}
 use Rattle.aig_graph.specs.declared.graph.Gate.{Gate}
 use Rattle.aig_graph.specs.Closed.{IsClosedSet, IsLatchOrIn}
@@ -19,7 +17,7 @@ use Rattle.aig_graph.proofs.SignLaws.{value_signed, value_signed_as, variable-si
 use Rattle.state_maps.specs.States.{State}
 use Rattle.state_maps.proofs.WithinLaws.{within_laws, within-gate_at, within-latch_at}
 use Rattle.map_circuits.specs.Growing.{Extends, IsConjunction}
-use Rattle.map_circuits.specs.Following.{Follows, IsCovered, entry_of, literal_at, state_of}
+use Rattle.map_circuits.specs.Following.{AreWithin, Follows, IsCovered, entry_of, literal_at, state_of}
 
 -- no member, and no latch, comes before the first latch
 pub source-from : (g : Graph) (held set : List ℕ) → IsClosedSet g held set → (w : ℕ) → IsLatchOrIn g set w → first_latch g ≤ w
@@ -92,45 +90,123 @@ fan_ins-covered g held set valid closed v first gate literals there starts long 
       (omega (arith, starts, from1), omega (arith, starts, from1, at.below, at.ordered, place.below, long)),
     )
 
--- what stands for a literal whose variable has an entry is a literal of the graph
+-- what stands for a literal whose variable has an entry is a literal of the graph, where all entries are
 pub literal-within : (h : Graph) (first : ℕ) (literals : List ℕ) (lit : ℕ) → All (λ l. IsLiteralOf h l) literals → variable lit - first < length literals → IsLiteralOf h (literal_at first literals lit)
 literal-within h first literals lit all less =
     let same : variable (literal_at first literals lit) ≡ variable (entry_of first literals (variable lit)) = variable-signed_as lit (entry_of first literals (variable lit)) in
     let here : IsLiteralOf h (entry_of first literals (variable lit)) = all (variable lit - first) 0 less in
     subst (λ (w : ℕ). w < variables_end h) (sym same) here
 
+-- what stands for a literal of a latch, or of a member below n, is a literal of the graph
+pub source-within : (h c : Graph) (set : List ℕ) (n : ℕ) (literals : List ℕ) (lit : ℕ) → AreWithin h c set n literals → variable lit < n → IsLatchOrIn c set (variable lit)
+    → IsLiteralOf h (literal_at (first_latch c) literals lit)
+source-within h c set n literals lit all less source =
+    let same : variable (literal_at (first_latch c) literals lit) ≡ variable (entry_of (first_latch c) literals (variable lit)) = variable-signed_as lit (entry_of (first_latch c) literals (variable lit)) in
+    let here : IsLiteralOf h (entry_of (first_latch c) literals (variable lit)) = all (variable lit) less source in
+    subst (λ (w : ℕ). w < variables_end h) (sym same) here
+
+-- what stands for the fan-ins of a member is literals of the graph
+pub fan_ins-within : (h c : Graph) (held set : List ℕ) → IsGraph c → IsClosedSet c held set → (v first : ℕ) (gate : Gate) (literals : List ℕ) → gate_at c v ≡ Some gate → first ≡ first_latch c
+    → Contains set v → AreWithin h c set v literals → IsLiteralOf h (literal_at first literals gate.rhs0) × IsLiteralOf h (literal_at first literals gate.rhs1)
+fan_ins-within h c held set valid closed v first gate literals there starts member all =
+    let sources = closed.closed.fan_ins v gate member there in
+    let at : IsGateAt v gate = gate_at-is c valid v gate there in
+    let P : ℕ → Type 0 = λ f. IsLiteralOf h (literal_at f literals gate.rhs0) × IsLiteralOf h (literal_at f literals gate.rhs1) in
+    subst P (sym starts) (source-within h c set v literals gate.rhs0 all at.below sources.0, source-within h c set v literals gate.rhs1 all (omega (arith, at.below, at.ordered)) sources.1)
+
+module _ (c : Graph) (held set : List ℕ) (closed : IsClosedSet c held set) where
+  -- before the first gate the entries are literals where they are the functions of the latches, whatever stands for the gates
+  pub within-start : (h : Graph) (functions literals : List ℕ) → ((j : ℕ) → j < length functions → get_or literals j 0 ≡ get_or functions j 0) → length functions ≡ length c.latches
+      → All (λ l. IsLiteralOf h l) functions → AreWithin h c set (first_gate c) literals
+  within-start h functions literals front many all v less source = elim source [
+    | inl latch ↦ (
+        let place : LatchPlace c v latch.0 = latch_place c v latch.0 latch.1 in
+        let inside : v - first_latch c < length functions = omega (arith, place.from, place.below, many) in
+        subst (λ (l : ℕ). IsLiteralOf h l) (sym (front (v - first_latch c) inside)) (all (v - first_latch c) 0 inside))
+    | inr inside ↦ (
+        let gate = closed.closed.passable v inside in
+        let place : GatePlace c v gate.0 = gate_place c v gate.0 gate.1 in
+        absurd (omega (arith, place.from, less)))
+  ]
+
+  -- where no member lies from n up to m, what holds below n holds below m
+  within-skip : (h : Graph) (literals : List ℕ) (n m : ℕ) → first_gate c ≤ n → ((w : ℕ) → n ≤ w → w < m → Contains set w → ⊥) → AreWithin h c set n literals → AreWithin h c set m literals
+  within-skip h literals n m from none_there p w less source = elim (cases_lt w n) [
+    | inl below ↦ p w below source
+    | inr above ↦ elim source [
+      | inl latch ↦ (
+          let place : LatchPlace c w latch.0 = latch_place c w latch.0 latch.1 in
+          absurd (omega (arith, place.below)))
+      | inr inside ↦ absurd (none_there w above less inside)
+    ]
+  ]
+
+  -- before the first member
+  pub within-first : (h : Graph) (literals : List ℕ) → AreWithin h c set (first_gate c) literals → AreWithin h c set (get_or set 0 (variables_end c)) literals
+  within-first h literals p =
+      within-skip h literals (first_gate c) (get_or set 0 (variables_end c)) (omega arith) (λ w from less inside. none-before set (variables_end c) w closed.rising less inside) p
+
+  -- with a literal as a member's entry, below the next variable
+  within-one : (h i : Graph) (literals : List ℕ) (v lit : ℕ) (gate : Gate) → gate_at c v ≡ Some gate → first_latch c + length literals ≡ variables_end c → Extends h i → IsLiteralOf i lit
+      → AreWithin h c set v literals → AreWithin i c set (v + 1) (put literals (v - first_latch c) lit)
+  within-one h i literals v lit gate there long more is p w less source =
+      let place : GatePlace c v gate = gate_place c v gate there in
+      elim (cases_eq w v) [
+        | inl same ↦ (
+            let here : entry_of (first_latch c) (put literals (v - first_latch c) lit) v ≡ lit = get_or-set_same literals (v - first_latch c) lit 0 (omega (arith, long, place.from, place.below)) in
+            let Q : ℕ → Type 0 = λ u. IsLiteralOf i (entry_of (first_latch c) (put literals (v - first_latch c) lit) u) in
+            subst Q (sym same) (subst (λ (l : ℕ). IsLiteralOf i l) (sym here) is))
+        | inr other ↦ (
+            let from : first_latch c ≤ w = source-from c held set closed w source in
+            let kept : entry_of (first_latch c) (put literals (v - first_latch c) lit) w ≡ entry_of (first_latch c) literals w =
+            get_or-set_other literals (v - first_latch c) (w - first_latch c) lit 0 (λ e. other (omega (arith, e, from, place.from))) in
+            subst (λ (l : ℕ). IsLiteralOf i l) (sym kept) (more.literals (entry_of (first_latch c) literals w) (p w (omega (arith, less, other)) source)))
+      ]
+
+  -- with that of the member at a place, below the next member
+  pub within-more : (h i : Graph) (literals vars : List ℕ) (k lit : ℕ) (gate : Gate) → vars ≡ set → k < length vars → gate_at c (get_or vars k 0) ≡ Some gate
+      → first_latch c + length literals ≡ variables_end c → Extends h i → IsLiteralOf i lit → AreWithin h c set (get_or set k (variables_end c)) literals
+      → AreWithin i c set (get_or set (k + 1) (variables_end c)) (put literals (get_or vars k 0 - first_latch c) lit)
+  within-more h i literals vars k lit gate same within there long more is p =
+      let v : ℕ = get_or vars k 0 in
+      let inside : k < length set = omega (arith, within, ap (λ (ws : List ℕ). length ws) same) in
+      let place : GatePlace c v gate = gate_place c v gate there in
+      let one : AreWithin i c set (v + 1) (put literals (v - first_latch c) lit) =
+      within-one h i literals v lit gate there long more is (subst (λ (n : ℕ). AreWithin h c set n literals) (at-place set vars k (variables_end c) same within) p) in
+      let none_there : (w : ℕ) → v + 1 ≤ w → w < get_or set (k + 1) (variables_end c) → Contains set w → ⊥ =
+      λ w from less member. none-between set (variables_end c) k w closed.rising inside (omega (arith, from, ap (λ (ws : List ℕ). get_or ws k 0) same)) less member in
+      within-skip i (put literals (v - first_latch c) lit) (v + 1) (get_or set (k + 1) (variables_end c)) (omega (arith, place.from)) none_there one
+
 module _ (g c : Graph) (functions held set : List ℕ) (valid : IsGraph c) (closed : IsClosedSet c held set) where
   abbrev none : ℕ → Bool
   none = λ j. false
 
   -- before the first gate the functions of the latches follow the circuit, whatever stands for the gates
-  pub follows-start : IsGraph g → (literals : List ℕ) (gates : ℕ) → literals ≡ functions ++ replicate gates 0 → first_gate c + gates ≡ variables_end c → length functions ≡ length c.latches
-      → All (λ l. IsLiteralOf g l) functions → Follows g functions c set (first_gate c) g literals
-  follows-start graph literals gates same counted many all =
-      let P : List ℕ → Type 0 = λ ls. Follows g functions c set (first_gate c) g ls in
-      subst P (sym same) (record {
-        long = omega (arith, many, counted, length-append {A = ℕ} functions (replicate {A = ℕ} gates 0), length-replicate {A = ℕ} gates 0);
-        within = All-append (λ l. IsLiteralOf g l) functions (replicate gates 0) all (All-replicate (λ l. IsLiteralOf g l) gates 0 (omega arith));
-        values = λ s v less source. elim source [
-          | inl latch ↦ (
-              let place : LatchPlace c v latch.0 = latch_place c v latch.0 latch.1 in
-              let inside : v - first_latch c < length functions = omega (arith, place.from, place.below, many) in
-              ap (value_within g s none) (get_or-append functions (replicate gates 0) 0 (v - first_latch c) inside)
-              ∙ sym (within-latch_at c valid none (state_of g functions s) v latch.0 latch.1
-              ∙ get_or-map (value_within g s none) functions (v - first_latch c) 0 false inside))
-          | inr inside ↦ (
-              let gate = closed.closed.passable v inside in
-              let place : GatePlace c v gate.0 = gate_place c v gate.0 gate.1 in
-              absurd (omega (arith, place.from, less)))
-        ];
-      })
+  pub follows-start : (literals : List ℕ) → ((j : ℕ) → j < length functions → get_or literals j 0 ≡ get_or functions j 0) → first_latch c + length literals ≡ variables_end c
+      → length functions ≡ length c.latches → All (λ l. IsLiteralOf g l) functions → Follows g functions c set (first_gate c) g literals
+  follows-start literals front long many all = record {
+    long = long;
+    within = within-start c held set closed g functions literals front many all;
+    values = λ s v less source. elim source [
+      | inl latch ↦ (
+          let place : LatchPlace c v latch.0 = latch_place c v latch.0 latch.1 in
+          let inside : v - first_latch c < length functions = omega (arith, place.from, place.below, many) in
+          ap (value_within g s none) (front (v - first_latch c) inside)
+          ∙ sym (within-latch_at c valid none (state_of g functions s) v latch.0 latch.1
+          ∙ get_or-map (value_within g s none) functions (v - first_latch c) 0 false inside))
+      | inr inside ↦ (
+          let gate = closed.closed.passable v inside in
+          let place : GatePlace c v gate.0 = gate_place c v gate.0 gate.1 in
+          absurd (omega (arith, place.from, less)))
+    ];
+  }
 
   -- where no member lies from n up to m, entries that follow below n follow below m
   follows-skip : (h : Graph) (literals : List ℕ) (n m : ℕ) → first_gate c ≤ n → ((w : ℕ) → n ≤ w → w < m → Contains set w → ⊥) → Follows g functions c set n h literals
       → Follows g functions c set m h literals
   follows-skip h literals n m from none_there p = record {
     long = p.long;
-    within = p.within;
+    within = within-skip c held set closed h literals n m from none_there p.within;
     values = λ s w less source. elim (cases_lt w n) [
       | inl below ↦ p.values s w below source
       | inr above ↦ elim source [
@@ -163,7 +239,7 @@ module _ (g c : Graph) (functions held set : List ℕ) (valid : IsGraph c) (clos
       let P : List ℕ → Type 0 = λ ls. Follows g functions c set (v + 1) i ls in
       subst P (sym written) (record {
         long = omega (arith, p.long, length-set literals (v - first_latch c) lit);
-        within = All-set (λ l. IsLiteralOf i l) literals (v - first_latch c) lit is.within (λ k d less. more.literals (get_or literals k d) (p.within k d less));
+        within = within-one c held set closed h i literals v lit gate there p.long more is.within p.within;
         values = values-more;
       })
     where
@@ -178,11 +254,11 @@ module _ (g c : Graph) (functions held set : List ℕ) (valid : IsGraph c) (clos
           let sources = closed.closed.fan_ins v gate member there in
           let first : value_within i s none (literal_at (first_latch c) literals gate.rhs0) ≡ value_within c none (state_of g functions s) gate.rhs0 =
           more.values s none (literal_at (first_latch c) literals gate.rhs0)
-          (literal-within h (first_latch c) literals gate.rhs0 p.within (omega (arith, p.long, at.below, place.below, source-from c held set closed (variable gate.rhs0) sources.0)))
+          (source-within h c set v literals gate.rhs0 p.within at.below sources.0)
           ∙ fan_in-value h literals v graph p s gate.rhs0 at.below sources.0 in
           let second : value_within i s none (literal_at (first_latch c) literals gate.rhs1) ≡ value_within c none (state_of g functions s) gate.rhs1 =
           more.values s none (literal_at (first_latch c) literals gate.rhs1)
-          (literal-within h (first_latch c) literals gate.rhs1 p.within (omega (arith, p.long, at.below, at.ordered, place.below, source-from c held set closed (variable gate.rhs1) sources.1)))
+          (source-within h c set v literals gate.rhs1 p.within (omega (arith, at.below, at.ordered)) sources.1)
           ∙ fan_in-value h literals v graph p s gate.rhs1 (omega (arith, at.below, at.ordered)) sources.1 in
           ap (value_within i s none) (get_or-set_same literals (v - first_latch c) lit 0 (omega (arith, p.long, place.from, place.below)))
           ∙ is.is s none
@@ -198,9 +274,8 @@ module _ (g c : Graph) (functions held set : List ℕ) (valid : IsGraph c) (clos
             subst Q (sym same) (here s))
         | inr other ↦ (
             let from : first_latch c ≤ w = source-from c held set closed w source in
-            let inside : w - first_latch c < length literals = omega (arith, p.long, less, other, from, place.below) in
             ap (value_within i s none) (get_or-set_other literals (v - first_latch c) (w - first_latch c) lit 0 (λ e. other (omega (arith, e, from, place.from))))
-            ∙ more.values s none (entry_of (first_latch c) literals w) (p.within (w - first_latch c) 0 inside)
+            ∙ more.values s none (entry_of (first_latch c) literals w) (p.within w (omega (arith, less, other)) source)
             ∙ p.values s w (omega (arith, less, other)) source)
       ]
 

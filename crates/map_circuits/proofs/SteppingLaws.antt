@@ -71,7 +71,7 @@ module _ (g : Graph) (functions : List ℕ) (m : Move) (h : Graph) (literals : L
         within = All-map (λ lit. IsLiteralOf h lit) (entry_of first literals) vars (all_from_slice_get (λ v. IsLiteralOf h (entry_of first literals v)) vars
             (λ k v e.
             let r : Ranks (is_latched m) end k v = rank_at (is_latched m) end k v e in
-            follows.within (v - first) 0 (covered v r.below r.passes).1));
+            follows.within v r.below (latched-source v r.passes)));
         many = length-map vars (entry_of first literals) ∙ sym (latches-many m);
         states = λ s. funext _ _ (λ j. entries-hold (value_within h s (λ j. false)) (entry_of first literals) m.circuit.aig (state_of g functions s) vars
             (λ k v e.

@@ -1,5 +1,5 @@
 -- The functions of latches and of gates that latches move over.
-use Rattle.std.specs.Prelude.{ℕ, ◌+◌, ◌-◌, ◌*◌, ◌<◌, ◌≤◌, ◌≡◌, false, List, length, All}
+use Rattle.std.specs.Prelude.{ℕ, ◌+◌, ◌-◌, ◌*◌, ◌<◌, ◌≤◌, ◌≡◌, false, List, length}
 use Rattle.std.specs.List.{slice_index_or}
 use Rattle.aig_graph.specs.Closed.{IsLatchOrIn}
 use Rattle.aig_graph.specs.Graph.{Graph, IsLiteralOf, variable, first_latch, variables_end}
@@ -23,10 +23,14 @@ IsCovered first literals v = (first ≤ v) × (v - first < length literals)
 abbrev pub literal_at : ℕ → List ℕ → ℕ → ℕ
 literal_at first literals lit = signed_as lit (entry_of first literals (variable lit))
 
--- The entries are literals of h, one for each latch and gate of c; those of latches and of gates of the set below n are what these
+-- the entries of latches, and of gates of the set, below n are literals of h
+abbrev pub AreWithin : Graph → Graph → List ℕ → ℕ → List ℕ → Type 0
+AreWithin h c set n literals = (v : ℕ) → v < n → IsLatchOrIn c set v → IsLiteralOf h (entry_of (first_latch c) literals v)
+
+-- There is an entry for each latch and gate of c; those of latches and of gates of the set below n are literals of h that are what these
 -- are, where c's latches hold what the functions are in g.
 pub record Follows (g : Graph) (functions : List ℕ) (c : Graph) (set : List ℕ) (n : ℕ) (h : Graph) (literals : List ℕ) : Type 0 where
   pub long : first_latch c + length literals ≡ variables_end c
-  pub within : All (λ lit. IsLiteralOf h lit) literals
+  pub within : AreWithin h c set n literals
   pub values : (s : State) (v : ℕ) → v < n → IsLatchOrIn c set v
       → value_within h s (λ j. false) (entry_of (first_latch c) literals v) ≡ value_within c (λ i. false) (state_of g functions s) (2 * v)

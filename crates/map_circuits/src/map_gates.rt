@@ -8,7 +8,7 @@ ghost use Rattle.aig_graph.specs.declared.build.BuildError.TheVariants.{TooLarge
 ghost use Rattle.aig_graph.specs.declared.literal.TheConstants.{MAX_VARIABLES};
 ghost use Rattle.aig_binary.specs.Text.{gate_deltas};
 ghost use Rattle.counted_io.specs.Line.{numbered_lines};
-ghost use Rattle.map_circuits.specs.Following.{Follows};
+ghost use Rattle.map_circuits.specs.Following.{AreWithin, Follows};
 ghost use Rattle.map_circuits.specs.Growing.{Extends, IsConjunction, IsEquality};
 ghost use Rattle.map_circuits.specs.Packing.{ArePacked, packed};
 ghost use Rattle.map_circuits.specs.declared.packing.TheConstants.{GATE_BYTES};
@@ -160,7 +160,7 @@ impl MapGates {
     ) -> Result<(), BuildError>
         requires closed { IsClosedSet aig.now keep.now set.now }
         requires long { first_latch aig.now + length literals.old ≡ variables_end aig.now }
-        requires within { All (λ lit. IsLiteralOf self.old lit) literals.old }
+        requires within { AreWithin self.old aig.now set.now (first_gate aig.now) literals.old }
         ensures extends { OnOk result (Extends self.old self.new) }
         ensures follows { OnOk result ((functions : List ℕ)
             → Follows self.old functions aig.now set.now (first_gate aig.now) self.old literals.old
@@ -204,7 +204,8 @@ fn add_in_room(
         ≤ vec_capacity deltas.old }
     requires small { 1 + inputs + count + length set.now ≤ MAX_VARIABLES }
     requires long { first_latch aig.now + length literals.old ≡ variables_end aig.now }
-    requires within { All (λ lit. IsLiteralOf (packed inputs deltas.old.items) lit) literals.old }
+    requires within { AreWithin (packed inputs deltas.old.items) aig.now set.now
+        (first_gate aig.now) literals.old }
     ensures packed { ArePacked inputs (count + length set.now) deltas.new.items }
     ensures extends { Extends (packed inputs deltas.old.items) (packed inputs deltas.new.items) }
     ensures follows { (functions : List ℕ)

@@ -41,6 +41,7 @@ fn finished(alloc: Global, parts: MapParts, symbols: Symbols) -> StateMap
         gates,
         functions,
         constraints,
+        ..
     } = parts;
     let mut props = Props::of_outputs(alloc, functions);
     props.constraints = Sequence::from_vec(constraints);

@@ -12,8 +12,8 @@ use aig_graph::{Circuit, ClosedSet, Keep};
 use map_circuits::{MapError, move_functions};
 use rebuild::MoveMarks;
 
-/// Follows a move of latches over a closed set, by the marks of the move. The moved circuit isn't made. Linear in the latches and the set,
-/// but for a table that is cleared; inputs cost nothing.
+/// Follows a move of latches over a closed set, by the marks of the move. The moved circuit isn't made. Linear in the latches and the set;
+/// inputs cost nothing.
 ///
 /// # Errors
 ///
@@ -33,7 +33,14 @@ pub fn follow_move(
         (moved_of (move_of circuit.now keep.now set.now)) parts.new) }
 {
     circuit.known();
-    let functions = &mut parts.functions;
-    move_functions(&mut parts.gates, functions, circuit, set, keep, marks)?;
+    move_functions(
+        &mut parts.gates,
+        &mut parts.functions,
+        &mut parts.table,
+        circuit,
+        set,
+        keep,
+        marks,
+    )?;
     Ok(())
 }

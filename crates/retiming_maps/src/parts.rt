@@ -8,6 +8,8 @@ pub struct MapParts {
     pub gates: MapGates,
     /// What each latch of the circuit that the run has come to holds.
     pub functions: Vec<Lit>,
+    /// Room for what variables stand for in a move, which is kept from move to move; what is in it says nothing.
+    pub table: Vec<Lit>,
     /// What the functions rest on.
     pub constraints: Vec<Lit>,
 }

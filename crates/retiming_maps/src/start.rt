@@ -10,20 +10,19 @@ use aig_graph::{Circuit, Lit, NoMemory};
 use map_circuits::{MapError, MapGates};
 use std::alloc::Global;
 
-/// The literals of this many inputs, in a table that has room for so many entries.
-fn input_literals(alloc: Global, count: u32, room: usize) -> Result<Vec<Lit>, NoMemory>
+/// The literals of this many inputs.
+fn input_literals(alloc: Global, count: u32) -> Result<Vec<Lit>, NoMemory>
     requires { count < MAX_VARIABLES }
     ensures { IfOk result (λ literals. literals.items ≡ table 0 count (λ j. 2 * (1 + j))) }
 {
-    let mut literals = Vec::with_capacity(alloc, room)?;
+    let mut literals = Vec::with_capacity(alloc, count as usize)?;
     for place in 0..count {
         literals.push(Lit::new(1 + place, false))?;
     }
     Ok(literals)
 }
 
-/// The map of a circuit's states to themselves. Linear in the latches. The table of functions has room at once for an entry for each gate
-/// too, as a move needs it, so that it stays where it is.
+/// The map of a circuit's states to themselves. Linear in the latches.
 ///
 /// # Errors
 ///
@@ -34,11 +33,13 @@ pub fn identity(alloc: Global, circuit: &Circuit) -> Result<MapParts, MapError>
     circuit.known();
     let count = circuit.aig().latches().len() as u32;
     let gates = MapGates::new(alloc, count);
-    let functions = input_literals(alloc, count, circuit.aig().latches_and_gates())?;
+    let functions = input_literals(alloc, count)?;
+    let table = Vec::new(alloc);
     let constraints = Vec::new(alloc);
     Ok(MapParts {
         gates,
         functions,
+        table,
         constraints,
     })
 }

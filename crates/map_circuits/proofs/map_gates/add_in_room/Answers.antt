@@ -1,8 +1,6 @@
 use Rattle.std.proofs.Common.{ℕ, ◌<◌, ◌≡◌, ◌∙◌, ◌*◌, ◌+◌, ◌-◌, ◌++◌, Some, List, [], arith, ap, sym, subst, length, get_or, take}
-use Rattle.std.specs.List.{All}
 use Rattle.std.proofs.Common.{set as put}
 use Rattle.std.proofs.lemmas.List.{append-nil, append_assoc, length-set, length-replicate, length-take-le}
-use Rattle.std.proofs.lemmas.List.Elements.{All-set}
 use Rattle.aig_graph.specs.declared.graph.Gate.{Gate}
 use Rattle.aig_graph.specs.Graph.{Graph, IsGraph, IsGateAt, IsLiteralOf, first_latch, gate_at, variables_end}
 use Rattle.aig_graph.specs.Building.{gate_of, with_gate}
@@ -10,10 +8,10 @@ use Rattle.aig_graph.specs.declared.literal.TheConstants.{MAX_VARIABLES}
 use Rattle.aig_graph.proofs.KindLaws.{GatePlace, gate_place}
 use Rattle.aig_binary.specs.Text.{gate_deltas}
 use Rattle.map_circuits.specs.Growing.{Extends, IsConjunction}
-use Rattle.map_circuits.specs.Following.{Follows, literal_at}
+use Rattle.map_circuits.specs.Following.{AreWithin, Follows, literal_at}
 use Rattle.map_circuits.specs.Packing.{ArePacked, packed}
 use Rattle.map_circuits.proofs.GrowingLaws.{conjunction-gate, extends-gate, extends-itself, extends-transitive}
-use Rattle.map_circuits.proofs.FollowingLaws.{fan_ins-covered, follows-all, follows-first, follows-more, gate-read, literal-within, member-at}
+use Rattle.map_circuits.proofs.FollowingLaws.{at-place, fan_ins-covered, fan_ins-within, follows-all, follows-first, follows-more, gate-read, member-at, within-first, within-more}
 use Rattle.map_circuits.proofs.PackingLaws.{are-packed-more, gate_of-at, packed-grown, packed-more}
 use Rattle.map_circuits.proofs.map_gates.add_in_room.Goals as goal
 
@@ -29,7 +27,8 @@ loop-var-init c =
       are = subst (λ (k : ℕ). ArePacked n k (old ++ [])) none (subst (λ (xs : List ℕ). ArePacked n c.args.count xs) same c.requires.packed);
       extends = subst (λ (xs : List ℕ). Extends h (packed n xs)) same (extends-itself h c.requires.packed.graph);
       long = c.requires.long;
-      within = subst (λ (xs : List ℕ). All (λ lit. IsLiteralOf (packed n xs) lit) c.args.literals.now) same c.requires.within;
+      within = subst (λ (xs : List ℕ). AreWithin (packed n xs) g c.args.set.now (get_or c.args.set.now 0 (variables_end g)) c.args.literals.now) same
+          (within-first g c.args.keep.now c.args.set.now c.requires.closed h c.args.literals.now c.requires.within);
       follows = λ functions p. subst (λ (xs : List ℕ). Follows h functions g c.args.set.now (get_or c.args.set.now 0 (variables_end g)) (packed n xs) c.args.literals.now) same
           (follows-first h g functions c.args.keep.now c.args.set.now c.first_latch-first.ensures.graph c.requires.closed h c.args.literals.now p);
       next = omega arith;
@@ -136,9 +135,10 @@ put_gate-waiting-requires-clause-gate c =
     let start : c.first_latch-first.result ≡ first_latch g = c.first_latch-first.ensures.value in
     let member = member-at set c.vars-var-items.result.now c.loop-var.var-index c.vars-var-items.ensures.value c.loop-var-test.true in
     let there : gate_at g v ≡ Some gate = gate-read g held set c.requires.closed v c.first_gate-start.result c.gates-own.result.now gate c.gates-own.ensures.value c.first_gate-start.ensures.value member c.index-own-var.is in
-    let covered = fan_ins-covered g held set c.first_latch-first.ensures.graph c.requires.closed v c.first_latch-first.result gate literals there start c.loop-var.invariant.long member in
-    let within_a : IsLiteralOf h a = subst (λ (l : ℕ). IsLiteralOf h l) (sym c.standing-a.ensures) (literal-within h c.first_latch-first.result literals gate.rhs0 c.loop-var.invariant.within covered.0.1) in
-    let within_b : IsLiteralOf h b = subst (λ (l : ℕ). IsLiteralOf h l) (sym c.standing-b.ensures) (literal-within h c.first_latch-first.result literals gate.rhs1 c.loop-var.invariant.within covered.1.1) in
+    let all : AreWithin h g set v literals = subst (λ (n : ℕ). AreWithin h g set n literals) (at-place set c.vars-var-items.result.now c.loop-var.var-index (variables_end g) c.vars-var-items.ensures.value c.loop-var-test.true) c.loop-var.invariant.within in
+    let both_within = fan_ins-within h g held set c.first_latch-first.ensures.graph c.requires.closed v c.first_latch-first.result gate literals there start member all in
+    let within_a : IsLiteralOf h a = subst (λ (l : ℕ). IsLiteralOf h l) (sym c.standing-a.ensures) both_within.0 in
+    let within_b : IsLiteralOf h b = subst (λ (l : ℕ). IsLiteralOf h l) (sym c.standing-b.ensures) both_within.1 in
     let many = c.loop-var.invariant.are.many in
     subst (λ (x : Gate). IsGateAt c.loop-var.next x) (sym c.of.ensures)
     (gate_of-at c.loop-var.next a b (omega (arith, within_a, many, c.loop-var.invariant.next)) (omega (arith, within_b, many, c.loop-var.invariant.next)))
@@ -171,9 +171,10 @@ loop-var-preserved c =
     let valid : IsGraph h = are.graph in
     let member = member-at set vars k same c.loop-var-test.true in
     let there : gate_at g v ≡ Some gate = gate-read g held set c.requires.closed v c.first_gate-start.result c.gates-own.result.now gate c.gates-own.ensures.value c.first_gate-start.ensures.value member c.index-own-var.is in
-    let covered = fan_ins-covered g held set c.first_latch-first.ensures.graph c.requires.closed v c.first_latch-first.result gate literals there start c.loop-var.invariant.long member in
-    let within_a : IsLiteralOf h a = subst (λ (l : ℕ). IsLiteralOf h l) (sym c.standing-a.ensures) (literal-within h c.first_latch-first.result literals gate.rhs0 c.loop-var.invariant.within covered.0.1) in
-    let within_b : IsLiteralOf h b = subst (λ (l : ℕ). IsLiteralOf h l) (sym c.standing-b.ensures) (literal-within h c.first_latch-first.result literals gate.rhs1 c.loop-var.invariant.within covered.1.1) in
+    let all : AreWithin h g set v literals = subst (λ (n : ℕ). AreWithin h g set n literals) (at-place set c.vars-var-items.result.now c.loop-var.var-index (variables_end g) c.vars-var-items.ensures.value c.loop-var-test.true) c.loop-var.invariant.within in
+    let both_within = fan_ins-within h g held set c.first_latch-first.ensures.graph c.requires.closed v c.first_latch-first.result gate literals there start member all in
+    let within_a : IsLiteralOf h a = subst (λ (l : ℕ). IsLiteralOf h l) (sym c.standing-a.ensures) both_within.0 in
+    let within_b : IsLiteralOf h b = subst (λ (l : ℕ). IsLiteralOf h l) (sym c.standing-b.ensures) both_within.1 in
     let here : c.loop-var.next ≡ 1 + n + count = omega (arith, c.loop-var.invariant.next) in
     let pushed : after ≡ before ++ gate_deltas (1 + n + count) (gate_of a b) =
     ap (λ (xs : List ℕ). standing ++ xs) c.put_gate-waiting.ensures.deltas
@@ -198,7 +199,8 @@ loop-var-preserved c =
       are = subst (λ (m : ℕ). ArePacked n m after) one (are-packed-more n count before after a b are small within_a within_b pushed);
       extends = extends-transitive old h i c.loop-var.invariant.extends more;
       long = ap (λ (m : ℕ). first_latch g + m) (length-set literals place lit) ∙ c.loop-var.invariant.long;
-      within = All-set (λ l. IsLiteralOf i l) literals place lit is.within (λ j d less. more.literals (get_or literals j d) (c.loop-var.invariant.within j d less));
+      within = subst (λ (ls : List ℕ). AreWithin i g set (get_or set (k + 1) (variables_end g)) ls) (sym written)
+          (within-more g held set c.requires.closed h i literals vars k lit gate same c.loop-var-test.true there c.loop-var.invariant.long more is.within c.loop-var.invariant.within);
       follows = λ functions p. follows-more old g functions held set c.first_latch-first.ensures.graph c.requires.closed h i literals (put literals place lit) vars k lit gate same c.loop-var-test.true there
           valid (c.loop-var.invariant.follows functions p) more is written;
       next = omega (arith, c.loop-var.invariant.next);

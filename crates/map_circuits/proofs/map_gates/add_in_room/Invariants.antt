@@ -1,8 +1,7 @@
 use Rattle.std.proofs.Common.{ℕ, ◌+◌, ◌-◌, ◌*◌, ◌≡◌, ◌≤◌, List, ◌++◌, length, get_or, take, vec_capacity}
-use Rattle.std.specs.List.{All}
-use Rattle.aig_graph.specs.Graph.{IsLiteralOf, first_gate, first_latch, variables_end}
+use Rattle.aig_graph.specs.Graph.{first_gate, first_latch, variables_end}
 use Rattle.map_circuits.specs.Growing.{Extends}
-use Rattle.map_circuits.specs.Following.{Follows}
+use Rattle.map_circuits.specs.Following.{AreWithin, Follows}
 use Rattle.map_circuits.specs.Packing.{ArePacked, packed}
 use Rattle.map_circuits.proofs.map_gates.add_in_room.Given as goal
 
@@ -13,7 +12,7 @@ invariant-loop-var l = record {
   are : ArePacked l.inputs (l.count + l.var-index) (l.deltas.items ++ take l.waiting l.chunk);
   extends : Extends (packed l.inputs l.fn.deltas.items) (packed l.inputs (l.deltas.items ++ take l.waiting l.chunk));
   long : first_latch l.aig + length l.literals ≡ variables_end l.aig;
-  within : All (λ lit. IsLiteralOf (packed l.inputs (l.deltas.items ++ take l.waiting l.chunk)) lit) l.literals;
+  within : AreWithin (packed l.inputs (l.deltas.items ++ take l.waiting l.chunk)) l.aig l.set (get_or l.set l.var-index (variables_end l.aig)) l.literals;
   follows : (functions : List ℕ) → Follows (packed l.inputs l.fn.deltas.items) functions l.aig l.set (first_gate l.aig) (packed l.inputs l.fn.deltas.items) l.fn.literals
       → Follows (packed l.inputs l.fn.deltas.items) functions l.aig l.set (get_or l.set l.var-index (variables_end l.aig)) (packed l.inputs (l.deltas.items ++ take l.waiting l.chunk)) l.literals;
   next : l.next ≡ 1 + l.inputs + l.count + l.var-index;

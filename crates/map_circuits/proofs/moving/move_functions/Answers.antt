@@ -1,29 +1,31 @@
-use Rattle.std.proofs.Common.{ℕ, ◌+◌, ◌-◌, ◌≡◌, ◌∙◌, ◌++◌, List, arith, ap, sym, length, replicate}
-use Rattle.std.specs.Vec.{vec_len}
-use Rattle.std.proofs.lemmas.List.{length-append, length-replicate, take_all}
-use Rattle.aig_graph.specs.Graph.{Graph, first_gate, latches_and_gates}
+use Rattle.std.proofs.Common.{ℕ, ◌+◌, ◌<◌, ◌≡◌, ◌∙◌, List, arith, ap, sym, length, take, get_or}
+use Rattle.std.proofs.lemmas.List.{get_or-take}
+use Rattle.aig_graph.specs.Graph.{Graph, first_gate, first_latch, latches_and_gates, variables_end}
 use Rattle.map_circuits.specs.Following.{Follows}
-use Rattle.map_circuits.proofs.FollowingLaws.{follows-start}
-use Rattle.map_circuits.proofs.GatheringLaws.{cut-back}
+use Rattle.map_circuits.proofs.FollowingLaws.{follows-start, within-start}
 use Rattle.map_circuits.proofs.moving.move_functions.Goals as goal
+
+-- what was put at the front is read there
+read-front : (functions entries table : List ℕ) → entries ≡ functions → take (length entries) table ≡ entries → (j : ℕ) → j < length functions → get_or table j 0 ≡ get_or functions j 0
+read-front functions entries table same front j inside =
+    let less : j < length entries = omega (arith, inside, ap (λ (xs : List ℕ). length xs) same) in
+    sym (get_or-take (length entries) table j 0 less) ∙ ap (λ (xs : List ℕ). get_or xs j 0) (front ∙ same)
+
+pub moved_in-requires-clause-within : goal.moved_in-requires-clause-within
+moved_in-requires-clause-within c =
+    let functions : List ℕ = c.args.functions.now.items in
+    within-start c.args.circuit.now.aig c.args.keep.now c.args.set.now c.requires.closed c.args.gates.now functions c.put_front.new.table
+    (read-front functions c.as_slice.result.now c.put_front.new.table c.as_slice.ensures.value c.put_front.ensures.front) c.requires.long c.requires.within
 
 pub returns-clause-moved : goal.returns-clause-moved
 returns-clause-moved c =
     let g : Graph = c.args.circuit.now.aig in
-    let old : Graph = c.args.gates.now in
     let functions : List ℕ = c.args.functions.now.items in
-    let longer : List ℕ = c.resize.new.self.items in
-    let n : ℕ = c.latches_and_gates.result in
-    let gates : ℕ = n - vec_len c.args.functions.now in
-    let counted : n ≡ latches_and_gates g = c.latches_and_gates.ensures.value ∙ ap latches_and_gates c.aig.ensures.value in
-    let filled : longer ≡ functions ++ replicate {A = ℕ} gates 0 =
-    c.in_ok-resize.ensures.items ∙ ap (λ (xs : List ℕ). xs ++ replicate {A = ℕ} gates 0) (take_all n functions (omega (arith, counted, c.requires.long))) in
-    let long : length longer ≡ n = ap (λ (xs : List ℕ). length xs) (sym c.as_mut_slice.ensures.value) ∙ c.as_mut_slice.ensures.len ∙ c.in_ok-resize.ensures.len in
-    let parts : length longer ≡ length functions + gates =
-    ap (λ (xs : List ℕ). length xs) filled ∙ length-append {A = ℕ} functions (replicate {A = ℕ} gates 0) ∙ ap (λ (k : ℕ). length functions + k) (length-replicate {A = ℕ} gates 0) in
-    let follows : Follows old functions g c.args.set.now (first_gate g) old c.as_mut_slice.result.now =
-    follows-start old g functions c.args.keep.now c.args.set.now c.aig.ensures.graph c.requires.closed c.requires.graph c.as_mut_slice.result.now gates (c.as_mut_slice.ensures.value ∙ filled)
-    (omega (arith, counted, c.requires.long, long, parts)) c.requires.long c.requires.within in
-    let table : length c.moved_in.new.table ≡ length longer = c.moved_in.auto.table ∙ ap (λ (xs : List ℕ). length xs) c.as_mut_slice.ensures.value in
-    let cut = cut-back c.in_ok-kept.kept c.resize.new.self.len c.moved_in.new.table longer c.truncate.new.self.items (c.in_ok-resize.ensures.len ∙ sym long) table c.truncate.ensures.items in
-    c.in_ok-kept.ensures.moved functions c.truncate.new.self.items follows cut
+    let table : List ℕ = c.put_front.new.table in
+    let counted : c.latches_and_gates.result ≡ latches_and_gates g = c.latches_and_gates.ensures.value ∙ ap latches_and_gates c.aig.ensures.value in
+    let many : length table ≡ c.latches_and_gates.result = c.put_front.ensures.long ∙ c.as_mut_slice-entries.ensures.len ∙ c.in_ok-resize.ensures.len in
+    let long : first_latch g + length table ≡ variables_end g = omega (arith, many, counted) in
+    let follows : Follows c.args.gates.now functions g c.args.set.now (first_gate g) c.args.gates.now table =
+    follows-start c.args.gates.now g functions c.args.keep.now c.args.set.now c.aig.ensures.graph c.requires.closed table
+    (read-front functions c.as_slice.result.now table c.as_slice.ensures.value c.put_front.ensures.front) long c.requires.long c.requires.within in
+    c.in_ok-kept.ensures.moved functions c.take_front.new.entries.items follows c.in_ok-take_front.ensures
