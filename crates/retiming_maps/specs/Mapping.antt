@@ -25,7 +25,7 @@ pub record IsMapBy (c d : Netlist) (kept : List ℕ) (g : Graph) (functions cons
 
 -- the parts are a map of c's states to those of d
 abbrev pub IsMapTo : Netlist → Netlist → List ℕ → MapParts → Type 0
-IsMapTo c d kept m = IsMapBy c d kept m.gates m.functions.items m.constraints.items
+IsMapTo c d kept m = IsMapBy c d kept m.gates m.functions m.constraints.items
 
 -- the parts are a map of some circuit's states to those of d
 abbrev pub IsSomeMapTo : Netlist → MapParts → Type 0
@@ -64,6 +64,6 @@ map_symbols c d = record { inputs = c.symbols.latches; latches = []; outputs = d
 abbrev pub map_of : MapParts → Symbols → Netlist
 map_of m symbols = record {
   aig = m.gates;
-  props = record { outputs = m.functions.items; bad = []; constraints = m.constraints.items; justice = []; fairness = [] };
+  props = record { outputs = m.functions; bad = []; constraints = m.constraints.items; justice = []; fairness = [] };
   symbols = symbols;
 }

@@ -41,9 +41,8 @@ fn finished(alloc: Global, parts: MapParts, symbols: Symbols) -> StateMap
         gates,
         functions,
         constraints,
-        ..
     } = parts;
-    let mut props = Props::of_outputs(alloc, functions);
+    let mut props = Props::of_outputs(alloc, functions.into_vec());
     props.constraints = Sequence::from_vec(constraints);
     StateMap::new(gates, props, symbols)
 }

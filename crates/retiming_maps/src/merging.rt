@@ -11,7 +11,7 @@ use crate::passes::cleaned_along;
 use aig_graph::{Circuit, Keep, Lit, keep_by_names};
 use clean::Cleaned;
 use latch_merging::{MergedCircuit, MergedStart, latch_reading, merged_by};
-use map_circuits::{MapError, add_readings, read_functions};
+use map_circuits::{LatchFunctions, MapError, add_readings, read_functions};
 use std::alloc::Global;
 
 /// Follows a merging that was made with these latches held, by what the latches read as.
@@ -38,7 +38,7 @@ fn follow_merging(
         reads,
     )?;
     let new = read_functions(alloc, functions, aig, reads)?;
-    parts.functions = new;
+    parts.functions = LatchFunctions::of(new);
     Ok(())
 }
 

@@ -9,7 +9,7 @@ ghost use Rattle.retiming_maps.specs.Mapping.{IsSomeMapTo, LeadsWhole};
 
 use crate::parts::MapParts;
 use aig_graph::{Circuit, ClosedSet, Keep};
-use map_circuits::{MapError, move_functions};
+use map_circuits::MapError;
 use rebuild::MoveMarks;
 
 /// Follows a move of latches over a closed set, by the marks of the move. The moved circuit isn't made. Linear in the latches and the set;
@@ -33,14 +33,8 @@ pub fn follow_move(
         (moved_of (move_of circuit.now keep.now set.now)) parts.new) }
 {
     circuit.known();
-    move_functions(
-        &mut parts.gates,
-        &mut parts.functions,
-        &mut parts.table,
-        circuit,
-        set,
-        keep,
-        marks,
-    )?;
+    parts
+        .functions
+        .follow_move(&mut parts.gates, circuit, set, keep, marks)?;
     Ok(())
 }

@@ -1,5 +1,5 @@
 use aig_graph::Lit;
-use map_circuits::MapGates;
+use map_circuits::{LatchFunctions, MapGates};
 
 /// A map of states, as far as it has come. It is made by [`identity`](crate::identity), and follows a circuit by what the other functions do.
 #[derive(Drop)]
@@ -7,9 +7,7 @@ pub struct MapParts {
     /// Gates over an input for each latch of the circuit that was read.
     pub gates: MapGates,
     /// What each latch of the circuit that the run has come to holds.
-    pub functions: Vec<Lit>,
-    /// Room for what variables stand for in a move, which is kept from move to move; what is in it says nothing.
-    pub table: Vec<Lit>,
+    pub functions: LatchFunctions,
     /// What the functions rest on.
     pub constraints: Vec<Lit>,
 }

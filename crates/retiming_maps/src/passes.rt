@@ -8,7 +8,7 @@ ghost use Rattle.retiming_maps.specs.Mapping.{IsCleanedAlong, IsNextAlong, IsPas
 use crate::parts::MapParts;
 use aig_graph::{Circuit, Keep, Sequence};
 use clean::{Cleaned, TracedPass, composed, has_more, picked, traced_pass};
-use map_circuits::{MapError, add_constraints, pass_functions};
+use map_circuits::{MapError, add_constraints};
 use std::alloc::Global;
 
 /// Follows a pass that was made with these latches held.
@@ -35,7 +35,7 @@ fn follow_pass(
         substitutes,
     )?;
     let stays = pass.stays.as_slice();
-    pass_functions(&mut parts.functions, stays);
+    parts.functions.follow_pass(stays);
     Ok(())
 }
 

@@ -7,7 +7,7 @@ ghost use Rattle.retiming_maps.specs.Mapping.{IsMapTo};
 
 use crate::parts::MapParts;
 use aig_graph::{Circuit, Lit, NoMemory};
-use map_circuits::{MapError, MapGates};
+use map_circuits::{LatchFunctions, MapError, MapGates};
 use std::alloc::Global;
 
 /// The literals of this many inputs.
@@ -33,13 +33,11 @@ pub fn identity(alloc: Global, circuit: &Circuit) -> Result<MapParts, MapError>
     circuit.known();
     let count = circuit.aig().latches().len() as u32;
     let gates = MapGates::new(alloc, count);
-    let functions = input_literals(alloc, count)?;
-    let table = Vec::new(alloc);
+    let literals = input_literals(alloc, count)?;
     let constraints = Vec::new(alloc);
     Ok(MapParts {
         gates,
-        functions,
-        table,
+        functions: LatchFunctions::of(literals),
         constraints,
     })
 }

@@ -1,11 +1,15 @@
-use Rattle.std.proofs.Common.{ℕ, Bool, ◌≡◌, ◌+◌, ◌≤◌, length}
+use Rattle.std.proofs.Common.{ℕ, Bool, ◌≡◌, ◌+◌, ◌-◌, ◌≤◌, length}
 use Rattle.variable_tables.specs.Marking.{AreAllMarks}
 use Rattle.map_circuits.specs.Gathering.{IsGathered}
 use Rattle.map_circuits.proofs.gathering.gather_marked.Given as goal
 
-abbrev pub invariant-loop-k : goal.invariant-loop-k
-invariant-loop-k l = record {
-  few : l.kept ≤ l.k;
+abbrev pub invariant-loop-from : goal.invariant-loop-from
+invariant-loop-from l = record {
+  few : l.kept ≤ l.from;
+  inside : l.from ≤ length l.marks;
   long : length l.entries ≡ length l.fn.entries;
-  gathered : (first : ℕ) (p : ℕ → Bool) → AreAllMarks first l.marks p → IsGathered first p (first + l.k) l.fn.entries l.entries l.kept;
+  gathered : (first : ℕ) (p : ℕ → Bool) → AreAllMarks first l.marks p → IsGathered first p (first + l.from) l.fn.entries l.entries l.kept;
 }
+
+abbrev pub decreases-loop-from : goal.decreases-loop-from
+decreases-loop-from l = length l.marks - l.from

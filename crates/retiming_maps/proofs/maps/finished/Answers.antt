@@ -10,7 +10,8 @@ new-requires c =
     let P : Props → List ℕ → Type 0 = λ p ones.
     IsPlainMap (record { aig = m.gates; props = record { outputs = p.outputs; bad = p.bad; constraints = ones; justice = p.justice; fairness = p.fairness }; symbols = c.args.symbols }) in
     subst (λ (p : Props). P p c.from_vec.result) (sym c.of_outputs-props.ensures)
-    (subst (λ (ones : List ℕ). P (outputs_alone m.functions.items) ones) (sym c.from_vec.ensures) c.requires)
+    (subst (λ (lits : List ℕ). P (outputs_alone lits) c.from_vec.result) (sym c.into_vec.ensures)
+    (subst (λ (ones : List ℕ). P (outputs_alone m.functions) ones) (sym c.from_vec.ensures) c.requires))
 
 pub returns : goal.returns
 returns c =
@@ -18,4 +19,5 @@ returns c =
     let F : Props → List ℕ → Netlist = λ p ones.
     record { aig = m.gates; props = record { outputs = p.outputs; bad = p.bad; constraints = ones; justice = p.justice; fairness = p.fairness }; symbols = c.args.symbols } in
     c.new.ensures ∙ ap (λ (p : Props). F p c.from_vec.result) c.of_outputs-props.ensures
-    ∙ ap (λ (ones : List ℕ). F (outputs_alone m.functions.items) ones) c.from_vec.ensures
+    ∙ ap (λ (lits : List ℕ). F (outputs_alone lits) c.from_vec.result) c.into_vec.ensures
+    ∙ ap (λ (ones : List ℕ). F (outputs_alone m.functions) ones) c.from_vec.ensures
