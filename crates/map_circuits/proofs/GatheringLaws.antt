@@ -1,17 +1,26 @@
 -- Entries that move to the front of a table, one after the other.
 use Rattle.std.proofs.Common.{inl, inr, ℕ, ◌+◌, ◌-◌, ◌<◌, ◌≤◌, ◌≡◌, suc, zero, Bool, true, false, Some, List, [], ◌∷◌, ◌++◌, length, map, take, drop, get_or, slice_get, refl, arith, ap, sym, ◌∙◌, subst}
 use Rattle.std.proofs.Common.{set as put}
-use Rattle.std.proofs.Math.ListN.{get_or-append}
-use Rattle.std.specs.List.{CopiedTo, SameBelow, SameFrom}
 use Rattle.std.proofs.Math.Bool.{beq}
-use Rattle.std.proofs.lemmas.Bool.{cases_eq, cases_lt, true≢false}
-use Rattle.std.proofs.lemmas.List.{ext_get_or, get_or-map, get_or-set_other, get_or-set_same, get_or-drop, get_or-take, get_or_push, get_or_read, length-append, length-drop, length-map, length-set, length-take-le, length_push, take-append-le, take-take, take_all}
+use Rattle.std.proofs.Math.ListN.{get_or-append}
+use Rattle.std.specs.List.{Contains, CopiedTo, SameBelow, SameFrom}
+use Rattle.std.proofs.lemmas.Bool.{cases_eq, cases_lt, false_from_ne_true, true≢false}
+use Rattle.std.proofs.lemmas.List.{ext_get_or, get_or-drop, get_or-map, get_or-set_other, get_or-set_same, get_or-take, get_or_past, get_or_push, get_or_read, get_or_default, length-append, length-drop, length-map, length-set, length-take-le, length_push, take-append-le, take-take, take_all}
+use Rattle.std.proofs.lemmas.List.Kept.{AllPairs-from_increasing}
 use Rattle.std.proofs.lemmas.Option.{get_or_from_slice_get}
+use Rattle.aig_graph.specs.Closed.{IsClosedSet}
+use Rattle.aig_graph.specs.Graph.{first_gate, first_latch, variables_end}
+use Rattle.aig_graph.specs.Move.{Move}
+use Rattle.aig_graph.proofs.KindLaws.{GatePlace, gate_place}
+use Rattle.aig_graph.proofs.SearchLaws.{has_iff_contains}
+use Rattle.rebuild.proofs.BorderLaws.{border-member}
+use Rattle.rebuild.specs.Moved.{is_latched}
 use Rattle.variable_tables.proofs.CountingLaws.{places-none}
 use Rattle.variable_tables.proofs.PlacesLaws.{at_rank, count-pass, length-places, places-fail, places-pass, take-places}
 use Rattle.variable_tables.specs.Counting.{count_below, places}
 use Rattle.map_circuits.specs.Following.{entry_of}
 use Rattle.map_circuits.specs.Gathering.{IsGathered}
+use Rattle.map_circuits.proofs.FollowingLaws.{none-before, none-between}
 
 -- what is cut from a table whose first entries were lent, and came back as xs, is cut from xs
 pub front-cut : (kept long : ℕ) (xs rest back items : List ℕ) → back ≡ xs ++ rest → kept ≤ length xs → kept ≤ long → take kept (take long (back ++ drop (length back) items)) ≡ take kept xs
@@ -213,3 +222,78 @@ module _ (first : ℕ) (p : ℕ → Bool) (old : List ℕ) where
     where
       long : length (take kept xs) ≡ kept
       long = length-take-le kept xs inside
+
+-- A move's latches: of the gates, members alone.
+module _ (m : Move) (set : IsClosedSet m.circuit.aig m.held m.set) (old : List ℕ) where
+  abbrev first : ℕ
+  first = first_latch m.circuit.aig
+
+  abbrev end : ℕ
+  end = variables_end m.circuit.aig
+
+  -- a member is a variable among the gates
+  pub member-within : (v : ℕ) → Contains m.set v → (first_gate m.circuit.aig ≤ v) × (v < end)
+  member-within v member =
+      let gate = set.closed.passable v member in
+      let place : GatePlace m.circuit.aig v gate.0 = gate_place m.circuit.aig v gate.0 gate.1 in
+      (place.from, place.below)
+
+  other-fails : (v : ℕ) → first_gate m.circuit.aig ≤ v → (Contains m.set v → ⊥) → is_latched m v ≡ false
+  other-fails v from other = false_from_ne_true (is_latched m v) (λ kept. other ((has_iff_contains m.set v).0 (border-member m v from kept)))
+
+  first-member : first_gate m.circuit.aig ≤ get_or m.set 0 end
+  first-member = elim (cases_lt 0 (length m.set)) [
+    | inl some ↦ (member-within (get_or m.set 0 end) (0, some, get_or_default m.set 0 (get_or m.set 0 end) end some)).0
+    | inr none ↦ omega (arith, get_or_past m.set 0 end none)
+  ]
+
+  -- the entries of the latches have moved, so those below the first member have
+  pub gathered-first : (n kept : ℕ) (xs : List ℕ) → n ≡ first_gate m.circuit.aig → IsGathered first (is_latched m) n old xs kept → IsGathered first (is_latched m) (get_or m.set 0 end) old xs kept
+  gathered-first n kept xs at g =
+      gathered-skip first (is_latched m) old n (get_or m.set 0 end) kept xs g (omega (arith, at, first-member))
+      (λ v from less. other-fails v (omega (arith, at, from)) (none-before m.set end v set.rising less))
+
+  -- past a member all below the next one have moved
+  gathered-next : (k kept : ℕ) (xs : List ℕ) → k < length m.set → IsGathered first (is_latched m) (get_or m.set k 0 + 1) old xs kept → IsGathered first (is_latched m) (get_or m.set (k + 1) end) old xs kept
+  gathered-next k kept xs inside g =
+      let v : ℕ = get_or m.set k 0 in
+      let within = member-within v (k, inside, get_or_default m.set k v 0 inside) in
+      let above : v + 1 ≤ get_or m.set (k + 1) end = elim (cases_lt (k + 1) (length m.set)) [
+        | inl some ↦ (
+            let less : get_or m.set k end < get_or m.set (k + 1) end = AllPairs-from_increasing m.set set.rising k (k + 1) end (omega arith) some in
+            omega (arith, less, get_or_default m.set k end 0 inside))
+        | inr none ↦ omega (arith, get_or_past m.set (k + 1) end none, within.1)
+      ] in
+      gathered-skip first (is_latched m) old (v + 1) (get_or m.set (k + 1) end) kept xs g above
+      (λ w from less. other-fails w (omega (arith, from, within.0)) (none-between m.set end k w set.rising inside (omega (arith, from)) less))
+
+  module _ (vars : List ℕ) (k : ℕ) (same : vars ≡ m.set) (within : k < length vars) where
+    inside : k < length m.set
+    inside = subst (λ (ws : List ℕ). k < length ws) same within
+
+    here : get_or vars k 0 ≡ get_or m.set k 0
+    here = ap (λ (ws : List ℕ). get_or ws k 0) same
+
+    at-member : (kept : ℕ) (xs : List ℕ) → IsGathered first (is_latched m) (get_or m.set k end) old xs kept → IsGathered first (is_latched m) (get_or m.set k 0) old xs kept
+    at-member kept xs g = subst (λ (n : ℕ). IsGathered first (is_latched m) n old xs kept) (get_or_default m.set k end 0 inside) g
+
+    -- a member that has a latch after the move
+    pub gathered-member : (start kept after : ℕ) (xs ys : List ℕ) (x : ℕ) → start ≡ first → IsGathered first (is_latched m) (get_or m.set k end) old xs kept
+        → first + length xs ≡ end → is_latched m (get_or vars k 0) ≡ true → x ≡ get_or xs (get_or vars k 0 - start) x → ys ≡ put xs kept x → after ≡ kept + 1
+        → IsGathered first (is_latched m) (get_or m.set (k + 1) end) old ys after
+    gathered-member start kept after xs ys x starts g long pass read moved one =
+        let v : ℕ = get_or m.set k 0 in
+        let place : ℕ = get_or vars k 0 - start in
+        let bounds = member-within v (k, inside, get_or_default m.set k v 0 inside) in
+        gathered-next k after ys inside (gathered-kept first (is_latched m) old v place kept after xs ys x (at-member kept xs g) (omega (arith, here, starts, bounds.0)) (omega (arith, here, starts, bounds.0, bounds.1, long))
+        (ap (is_latched m) (sym here) ∙ pass) read moved one)
+
+    -- one that has none
+    pub gathered-other : (kept : ℕ) (xs : List ℕ) → IsGathered first (is_latched m) (get_or m.set k end) old xs kept → is_latched m (get_or vars k 0) ≡ false
+        → IsGathered first (is_latched m) (get_or m.set (k + 1) end) old xs kept
+    gathered-other kept xs g fails = gathered-next k kept xs inside (gathered-left first (is_latched m) old (get_or m.set k 0) kept xs (at-member kept xs g) (ap (is_latched m) (sym here) ∙ fails))
+
+  -- past the last member all have moved
+  pub gathered-end : (vars : List ℕ) (k kept : ℕ) (xs : List ℕ) → vars ≡ m.set → length vars ≤ k → IsGathered first (is_latched m) (get_or m.set k end) old xs kept → IsGathered first (is_latched m) end old xs kept
+  gathered-end vars k kept xs same past g =
+      subst (λ (n : ℕ). IsGathered first (is_latched m) n old xs kept) (get_or_past m.set k end (subst (λ (ws : List ℕ). length ws ≤ k) same past)) g

@@ -1,12 +1,17 @@
-//! Entries of a table that move to its front, in their order: the table of functions before a step becomes that after it in place. Most
-//! marks are like those beside them: most latches stay in a step, and most gates get no latch. So marks are looked at in blocks, and those
-//! of a block that are alike cost no more than a few.
+//! Entries of a table that move to its front, in their order: the table of functions before a step becomes that after it in place. Whether
+//! a latch stays in a step is mostly as it is for those beside it. So marks of latches are looked at in blocks, and a block whose marks are
+//! all alike costs no more than a few of them.
 ghost use Rattle.std.specs.Prelude.{ℕ, Bool, ◌≡◌, ◌+◌, ◌-◌, ◌≤◌, length};
 ghost use Rattle.std.specs.List.{CopiedTo, SameBelow, SameFrom};
+ghost use Rattle.aig_graph.specs.Closed.{IsClosedSet};
+ghost use Rattle.aig_graph.specs.Graph.{first_latch, variables_end};
+ghost use Rattle.aig_graph.specs.Move.{move_of};
+ghost use Rattle.rebuild.specs.Entries.{by_variable};
+ghost use Rattle.rebuild.specs.Moved.{is_latched};
 ghost use Rattle.variable_tables.specs.Marking.{AreAllMarks};
 ghost use Rattle.map_circuits.specs.Gathering.{GathersOn, IsGathered};
 
-use aig_graph::Lit;
+use aig_graph::{Circuit, ClosedSet, Keep, Lit};
 
 /// How many marks are looked at at once.
 const BLOCK: usize = 64;
@@ -67,18 +72,51 @@ fn gather_block(entries: &mut [Lit], marks: &[bool], from: usize, to: usize, kep
 }
 
 /// Moves those of the first entries that are marked to the front, and says how many they are. Both tables begin with the same variable.
-pub(crate) fn gather_marked(entries: &mut [Lit], marks: &[bool]) -> usize
-    requires { length marks.now ≤ length entries.old }
-    ensures few { result ≤ length marks.now }
+pub(crate) fn gather_marked(entries: &mut [Lit], marks: &[bool], count: usize) -> usize
+    requires marks { count ≤ length marks.now }
+    requires entries { length marks.now ≤ length entries.old }
+    ensures few { result ≤ count }
     ensures gathered { (first : ℕ) (p : ℕ → Bool) → AreAllMarks first marks.now p →
-        IsGathered first p (first + length marks.now) entries.old entries.new result }
+        IsGathered first p (first + count) entries.old entries.new result }
 {
     let mut from = 0;
     let mut kept = 0;
-    while from < marks.len() {
-        let to = from + (marks.len() - from).min(BLOCK);
+    while from < count {
+        let to = from + (count - from).min(BLOCK);
         kept = gather_block(entries, marks, from, to, kept);
         from = to;
+    }
+    kept
+}
+
+/// Moves the entries of the variables that have a latch after a move to the front, by the marks of these, and says how many they are. Of
+/// the gates it looks at the members of the set alone, of which many are marked, here and there.
+pub(crate) fn gather_latched(
+    entries: &mut [Lit],
+    circuit: &Circuit,
+    set: &ClosedSet,
+    keep: &Keep,
+    marks: &[bool],
+) -> usize
+    requires closed { IsClosedSet circuit.now.aig keep.now set.now }
+    requires marked { marks.now
+        ≡ by_variable circuit.now.aig (is_latched (move_of circuit.now keep.now set.now)) }
+    requires long { first_latch circuit.now.aig + length entries.old
+        ≡ variables_end circuit.now.aig }
+    ensures { IsGathered (first_latch circuit.now.aig)
+        (is_latched (move_of circuit.now keep.now set.now)) (variables_end circuit.now.aig)
+        entries.old entries.new result }
+{
+    let _keep = keep;
+    let aig = circuit.aig();
+    let first = aig.first_latch();
+    let mut kept = gather_marked(entries, marks, aig.latches().len());
+    for var in set.vars() {
+        let place = (*var - first) as usize;
+        if marks[place] {
+            entries[kept] = entries[place];
+            kept += 1;
+        }
     }
     kept
 }

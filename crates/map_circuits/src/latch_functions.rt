@@ -56,11 +56,11 @@ fn pass_in(table: &mut Vec<Lit>, count: usize, stays: &[bool]) -> usize
     ensures long { length table.new.items ≡ length table.old.items }
     ensures few { result ≤ count }
     ensures gathered { (first : ℕ) (p : ℕ → Bool) → AreAllMarks first stays.now p
-        → IsGathered first p (first + length stays.now) (take count table.old.items)
+        → IsGathered first p (first + count) (take count table.old.items)
         (take count table.new.items) result }
 {
     let entries = table.as_mut_slice();
-    gather_marked(&mut entries[0..count], stays)
+    gather_marked(&mut entries[0..count], stays, count)
 }
 
 /// Puts the functions of the latches after a move at the front of a table that begins with those of the latches before it, and says how

@@ -9,7 +9,7 @@ ghost use Rattle.aig_graph.specs.Move.{move_of};
 ghost use Rattle.map_circuits.specs.Following.{AreWithin, Follows};
 ghost use Rattle.map_circuits.specs.Stepping.{AreMoved};
 
-use crate::gathering::gather_marked;
+use crate::gathering::gather_latched;
 use crate::map_gates::MapGates;
 use aig_graph::{BuildError, Circuit, ClosedSet, Keep, Lit};
 use rebuild::MoveMarks;
@@ -39,5 +39,5 @@ pub(crate) fn moved_in(
         → AreMoved gates.old functions (move_of circuit.now keep.now set.now) gates.new new) }
 {
     gates.add_functions(table, circuit.aig(), set, keep)?;
-    Ok(gather_marked(table, marks.latched()))
+    Ok(gather_latched(table, circuit, set, keep, marks.latched()))
 }

@@ -1,4 +1,4 @@
-use Rattle.std.proofs.Common.{ℕ, ◌≡◌, ◌+◌, ◌∙◌, length, refl, arith, subst}
+use Rattle.std.proofs.Common.{ℕ, ◌≡◌, ◌+◌, ◌∙◌, refl, arith, subst}
 use Rattle.map_circuits.specs.Gathering.{IsGathered}
 use Rattle.map_circuits.proofs.GatheringLaws.{gathered-none}
 use Rattle.map_circuits.proofs.gathering.gather_marked.Goals as goal
@@ -22,5 +22,5 @@ loop-from-preserved c = record {
 pub returns-clause-gathered : goal.returns-clause-gathered
 returns-clause-gathered c = λ first p all.
     let P : ℕ → Type 0 = λ n. IsGathered first p (first + n) c.args.entries.now c.loop-from.entries c.loop-from.kept in
-    let ends : c.loop-from.from ≡ length c.args.marks.now = omega (arith, c.loop-from-test.false, c.loop-from.invariant.inside) in
+    let ends : c.loop-from.from ≡ c.args.count = omega (arith, c.loop-from-test.false, c.loop-from.invariant.inside) in
     subst P ends (c.loop-from.invariant.gathered first p all)

@@ -11,5 +11,5 @@ returns-clause-gathered c = λ first p all.
     let start : List ℕ = take (n - 0) c.as_mut_slice-entries.result.now in
     let whole : n - 0 ≡ n = omega arith in
     let many : length start ≡ n = length-take-le (n - 0) c.as_mut_slice-entries.result.now (omega (arith, c.requires.within, c.as_mut_slice-entries.ensures.len)) ∙ whole in
-    gathered-back first p (take n items) (first + length c.args.stays.now) n c.args.table.now.len c.gather_marked.result start c.gather_marked.new.entries _ _ items
+    gathered-back first p (take n items) (first + n) n c.args.table.now.len c.gather_marked.result start c.gather_marked.new.entries _ _ items
     (ap (λ (k : ℕ). take k c.as_mut_slice-entries.result.now) whole ∙ ap (λ (xs : List ℕ). take n xs) same) refl many (omega (arith, c.requires.within)) (c.gather_marked.ensures.gathered first p all)

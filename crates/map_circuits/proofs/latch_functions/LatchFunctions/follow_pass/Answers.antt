@@ -23,11 +23,12 @@ returns c = λ g d reached all filled.
     let marks : AreAllMarks 0 stays p = AreAllMarks-table 0 n stays p filled (λ v h. absurd (omega (arith, h))) in
     let many : length stays ≡ n = ap (λ (xs : List Bool). length xs) filled ∙ length-table 0 n p in
     let same : start ≡ functions = c.self.view_is in
-    let ends : 0 + length stays ≡ n = omega (arith, many) in
+    let sized : length start ≡ count = length-take-le count c.self.inside.table.items c.self.invariant in
+    let ends : 0 + count ≡ n = omega (arith, many, c.requires, ap (λ (ys : List ℕ). length ys) same, sized) in
     let gathered = c.pass_in-self-inside.ensures.gathered 0 p marks in
     let few : kept ≤ count = c.pass_in-self-inside.ensures.few in
     let long : length (take count items) ≡ count = length-take-le count items (omega (arith, c.self.invariant, c.pass_in-self-inside.ensures.long)) in
     let picked : take kept items ≡ map (entry_of 0 functions) (places p n) =
-    gathered-all 0 p start (0 + length stays) kept (take count items) (take kept items) gathered (omega (arith, few, long)) (sym (take-take kept count items few))
+    gathered-all 0 p start (0 + count) kept (take count items) (take kept items) gathered (omega (arith, few, long)) (sym (take-take kept count items few))
     ∙ ap (λ (k : ℕ). map (entry_of 0 start) (places p k)) ends ∙ ap (λ (ys : List ℕ). map (entry_of 0 ys) (places p n)) same in
     are-passed g functions d reached (sym c.requires ∙ many) (places p n) (take kept items) all refl picked
