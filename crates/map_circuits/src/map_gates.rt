@@ -13,7 +13,9 @@ ghost use Rattle.map_circuits.specs.Growing.{Extends, IsConjunction, IsEquality}
 ghost use Rattle.map_circuits.specs.Packing.{ArePacked, packed};
 ghost use Rattle.map_circuits.specs.declared.packing.TheConstants.{GATE_BYTES};
 
-use crate::packing::{append_gate, append_reserved, leave_room, put_gate, reserve_gates};
+use crate::packing::{
+    append_gate, append_reserved, keep_heap, leave_room, put_gate, reserve_gates,
+};
 use crate::standing::standing;
 use aig_graph::{Aig, BuildError, ClosedSet, Gate, Keep, Lit, MAX_VARIABLES};
 use std::alloc::Global;
@@ -48,6 +50,7 @@ impl MapGates {
         requires { inputs < MAX_VARIABLES }
         ensures { result ≡ without_gates inputs [] }
     {
+        keep_heap(alloc);
         MapGates {
             inputs,
             count: 0,
@@ -188,7 +191,9 @@ impl MapGates {
     }
 }
 
-/// The same, in bytes that have room for those of as many gates as the set has members; there are so many gates before.
+/// The same, in bytes that have room for those of as many gates as the set has members; there are so many gates before. The compiler keeps
+/// it a function of its own, whose loop has the registers for itself.
+#[inline(never)]
 fn add_in_room(
     deltas: &mut Vec<u8>,
     inputs: u32,

@@ -8,13 +8,16 @@ ghost use Rattle.aig_binary.specs.Text.{gate_deltas};
 ghost use Rattle.binary_file.specs.Deltas.{delta_of};
 
 use aig_graph::Gate;
-use std::alloc::AllocError;
+use std::alloc::{AllocError, Global};
 
 /// The most bytes of a gate: of two deltas, five each.
 pub(crate) const GATE_BYTES: usize = 10;
 
 /// For how many sets as large as the first there is room at first.
 const SETS: usize = 8;
+
+/// The bytes of a block that is asked for and given back, and twice as many, for which there is room at first at least.
+const BLOCK: usize = 4 * 1024 * 1024;
 
 /// Puts the delta of a number at this place, in as few bytes as can be, and says where it ends.
 #[inline(always)]
@@ -64,8 +67,17 @@ pub(crate) fn append_gate(deltas: &mut Vec<u8>, var: u32, gate: Gate) -> Result<
     deltas.extend_from_slice(&bytes[..end])
 }
 
+/// Asks for a block and gives it back. The C library then keeps up to twice as much at the end of the heap (`M_TRIM_THRESHOLD` of mallopt(3)
+/// follows the largest block with a mapping of its own that is given back). Else it gives the end of the heap to the kernel after many a
+/// frame, and the next frame has the kernel find and clear the same pages anew.
+pub(crate) fn keep_heap(alloc: Global) {
+    let mut block: Vec<u8> = Vec::new(alloc);
+    let _granted = block.reserve(BLOCK);
+}
+
 /// Makes room for the bytes of so many gates: the first time for those of eight times as many, where memory allows, since as many sets of
-/// that size are likely to follow, and bytes that are many at once never move.
+/// that size are likely to follow, and for so many that they have a mapping of their own, since such bytes never move. Room that isn't used
+/// costs nothing.
 pub(crate) fn reserve_gates(deltas: &mut Vec<u8>, gates: usize) -> Result<(), AllocError>
     requires { gates < MAX_VARIABLES }
     ensures items { deltas.new.items ≡ deltas.old.items }
@@ -73,7 +85,7 @@ pub(crate) fn reserve_gates(deltas: &mut Vec<u8>, gates: usize) -> Result<(), Al
         ≤ vec_capacity deltas.new) }
 {
     let bytes = GATE_BYTES * gates;
-    if deltas.capacity() == 0 && deltas.reserve(SETS * bytes).is_ok() {
+    if deltas.capacity() == 0 && deltas.reserve((SETS * bytes).max(2 * BLOCK)).is_ok() {
         return Ok(());
     }
     deltas.reserve(bytes)
