@@ -76,6 +76,7 @@ class Tree:
         copy(TOP / 'fretime', self.top)
         for name in ('make', 'parts.sh'):
             copy(TOP / 'release' / name, self.top / 'release')
+        self.write('HANDLES', 'Handles allowed: Threads.\n')
         self.write('crates.txt', CRATES)
         for name in ('low', 'middle', 'aside', 'fretime'):
             self.write(f'crates/{name}/src/lib.rt', f'// {name}\n')

@@ -99,9 +99,14 @@ def path_to_sink(residual):
             if capacity and head not in parent:
                 parent[head] = node
                 queue.append(head)
-    if 'sink' not in parent:
-        return None
-    arcs, node = [], 'sink'
+        if 'sink' in parent:
+            return arcs_to('sink', parent)
+    return None
+
+
+def arcs_to(node, parent):
+    """The arcs by which a search came to a node, the last one first."""
+    arcs = []
     while parent[node] is not None:
         arcs.append((parent[node], node))
         node = parent[node]

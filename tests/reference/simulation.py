@@ -56,9 +56,8 @@ def words_of(seed):
 
 def digits_of(seed, count):
     """So many bits of the words from a seed, the lowest of each first."""
-    words = words_of(seed)
-    bits = [bool(word >> place & 1) for word, _ in zip(words, range(-(-count // 64))) for place in range(64)]
-    return bits[:count]
+    words = zip(range(0, count, 64), words_of(seed))
+    return [bool(word >> place & 1) for first, word in words for place in range(min(64, count - first))]
 
 
 def random_stimulus(inputs, free, sequences, steps, seed):
@@ -93,7 +92,8 @@ def values_of(c, choice, rows):
     for row in rows:
         values = [False, *row, *state]
         for a, b in c.gates:
-            values.append(value_of(a, values) and value_of(b, values))
+            # (as `value_of`, which would be called twice a gate)
+            values.append(values[a // 2] != a % 2 and values[b // 2] != b % 2)
         yield values
         state = [value_of(next_lit, values) for next_lit, _ in c.latches]
 
