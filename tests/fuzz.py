@@ -11,6 +11,8 @@ import subprocess
 import sys
 import tempfile
 
+import checker
+import loaded
 import map_checker
 import random_files
 from reference import program as reference_program
@@ -61,7 +63,11 @@ OWN = {who: {'OUT': f'{who}.out', 'CERT': f'{who}.cert', 'MAP': f'{who}.map'} fo
 def ran(words):
     """The status, standard output and standard error of a program."""
     said = subprocess.run(words, capture_output=True, timeout=600, check=False)
-    return said.returncode, said.stdout.decode('latin-1'), said.stderr.decode('latin-1')
+    return texts(said.returncode, said.stdout, said.stderr)
+
+
+def texts(status, out, err):
+    return status, out.decode('latin-1'), err.decode('latin-1')
 
 
 def write(name, data):
@@ -284,7 +290,7 @@ def compare_lifts(rng, comparison, data, retimed, map_data):
 def compare_judges(comparison, certificates, held, data):
     """The program, the reference and the checker say the same."""
     comparison.run(['verify', 'in', 'cert', *held], {'in': data, 'cert': certificates})
-    said = ran([sys.executable, TESTS / 'checker.py', 'in', 'cert', *held])
+    said = texts(*loaded.ran(checker.main, ['in', 'cert', *held]))
     wanted = reference_program.run(['verify', 'in', 'cert', *held])
     comparison.count(said == wanted, f'the checker, {held} on {certificates} of {data}\nexpected {wanted}\ngot {said}')
 
