@@ -1,5 +1,5 @@
 -- Entries that move to the front of a table, one after the other.
-use Rattle.std.proofs.Common.{inl, inr, ℕ, ◌+◌, ◌-◌, ◌<◌, ◌≤◌, ◌≡◌, suc, zero, Bool, true, false, Some, List, [], ◌∷◌, ◌++◌, length, map, take, drop, get_or, slice_get, refl, arith, ap, sym, ◌∙◌, subst}
+use Rattle.std.proofs.Common.{inl, inr, ℕ, ◌+◌, ◌-◌, ◌<◌, ◌≤◌, ◌≡◌, suc, zero, Bool, true, false, not, Some, List, [], ◌∷◌, ◌++◌, length, map, take, drop, get_or, slice_get, refl, arith, ap, sym, ◌∙◌, subst}
 use Rattle.std.proofs.Common.{set as put}
 use Rattle.std.proofs.Math.Bool.{beq}
 use Rattle.std.proofs.Math.ListN.{get_or-append}
@@ -41,14 +41,12 @@ front-read old new entries few long within more is same j less =
     ∙ ap (λ (xs : List ℕ). get_or xs j 0) same
     ∙ sym (get_or-take few old j 0 inside)
 
--- a mark that isn't the one is the other
-not-marked : (b : Bool) → beq b true ≡ false → b ≡ false
-not-marked true e = absurd (true≢false e)
-not-marked false e = refl
-
-not-unmarked : (b : Bool) → beq b false ≡ false → b ≡ true
-not-unmarked true e = refl
-not-unmarked false e = absurd (true≢false e)
+-- a mark that isn't the other one is this one
+this-mark : (b x : Bool) → beq x (not b) ≡ false → x ≡ b
+this-mark true true e = refl
+this-mark true false e = absurd (true≢false e)
+this-mark false true e = absurd (true≢false e)
+this-mark false false e = refl
 
 -- what no mark of a block is, none of the marks from one place up to the other is
 in-block : (marks : List Bool) (from to : ℕ) (b : Bool) → from ≤ to → to ≤ length marks
@@ -62,17 +60,11 @@ in-block marks from to b ordered within none k low less =
     let rest : to - from ≤ length (drop from marks) = omega (arith, length-drop from marks, within, ordered) in
     ap (λ (x : Bool). beq x b) (sym at) ∙ none (k - from) false (omega arith) (omega (arith, low, less, length-take-le (to - from) (drop from marks) rest))
 
--- in a block without a mark none is marked
-pub block-unmarked : (marks : List Bool) (from to : ℕ) → from ≤ to → to ≤ length marks
-    → ((k : ℕ) (d : Bool) → 0 ≤ k → k < length (take (to - from) (drop from marks)) → beq (get_or (take (to - from) (drop from marks)) k d) true ≡ false)
-    → (k : ℕ) → from ≤ k → k < to → get_or marks k false ≡ false
-block-unmarked marks from to ordered within none k low less = not-marked (get_or marks k false) (in-block marks from to true ordered within none k low less)
-
--- in one where none is missing all are
-pub block-marked : (marks : List Bool) (from to : ℕ) → from ≤ to → to ≤ length marks
-    → ((k : ℕ) (d : Bool) → 0 ≤ k → k < length (take (to - from) (drop from marks)) → beq (get_or (take (to - from) (drop from marks)) k d) false ≡ false)
-    → (k : ℕ) → from ≤ k → k < to → get_or marks k false ≡ true
-block-marked marks from to ordered within none k low less = not-unmarked (get_or marks k false) (in-block marks from to false ordered within none k low less)
+-- in a block without the other mark all are this one
+pub block-all : (b : Bool) (marks : List Bool) (from to : ℕ) → from ≤ to → to ≤ length marks
+    → ((k : ℕ) (d : Bool) → 0 ≤ k → k < length (take (to - from) (drop from marks)) → beq (get_or (take (to - from) (drop from marks)) k d) (not b) ≡ false)
+    → (k : ℕ) → from ≤ k → k < to → get_or marks k false ≡ b
+block-all b marks from to ordered within none k low less = this-mark b (get_or marks k false) (in-block marks from to (not b) ordered within none k low less)
 
 module _ (first : ℕ) (p : ℕ → Bool) (old : List ℕ) where
   -- those of a table whose first entries were lent

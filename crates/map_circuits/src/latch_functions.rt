@@ -14,7 +14,7 @@ ghost use Rattle.map_circuits.specs.Stepping.{AreMoved, ArePassed};
 use crate::errors::MapError;
 use crate::gathering::gather_marked;
 use crate::map_gates::MapGates;
-use crate::moving::moved_in;
+use crate::moving::moved_front;
 use aig_graph::{Circuit, ClosedSet, Keep, Lit};
 use rebuild::MoveMarks;
 use std::alloc::AllocError;
@@ -50,7 +50,7 @@ fn lengthen(table: &mut Vec<Lit>, long: usize) -> Result<(), AllocError>
 }
 
 /// Moves those of the first entries of a table that are marked to the front, and says how many they are.
-fn pass_in(table: &mut Vec<Lit>, count: usize, stays: &[bool]) -> usize
+fn pass_front(table: &mut Vec<Lit>, count: usize, stays: &[bool]) -> usize
     requires within { count ≤ length table.old.items }
     requires many { length stays.now ≡ count }
     ensures long { length table.new.items ≡ length table.old.items }
@@ -65,7 +65,7 @@ fn pass_in(table: &mut Vec<Lit>, count: usize, stays: &[bool]) -> usize
 
 /// Puts the functions of the latches after a move at the front of a table that begins with those of the latches before it, and says how
 /// many they are. The table grows to have an entry for each latch and gate.
-fn move_in(
+fn move_front(
     table: &mut Vec<Lit>,
     gates: &mut MapGates,
     circuit: &Circuit,
@@ -89,7 +89,7 @@ fn move_in(
     let long = circuit.aig().latches_and_gates();
     lengthen(table, long)?;
     let entries = table.as_mut_slice();
-    let kept = moved_in(gates, &mut entries[0..long], circuit, set, keep, marks)?;
+    let kept = moved_front(gates, &mut entries[0..long], circuit, set, keep, marks)?;
     Ok(kept)
 }
 
@@ -129,7 +129,7 @@ impl LatchFunctions {
             → stays.now ≡ table 0 (length c.latches) (λ j. reached (first_latch c + j))
             → ArePassed g self.old c reached self.new }
     {
-        self.count = pass_in(&mut self.table, self.count, stays);
+        self.count = pass_front(&mut self.table, self.count, stays);
     }
 
     /// Becomes the functions of the latches after a move, by the marks of the move. A gate is added for each gate of the set. Linear in the
@@ -156,7 +156,7 @@ impl LatchFunctions {
         ensures moved { OnOk result (AreMoved gates.old self.old
             (move_of circuit.now keep.now set.now) gates.new self.new) }
     {
-        self.count = move_in(&mut self.table, gates, circuit, set, keep, marks)?;
+        self.count = move_front(&mut self.table, gates, circuit, set, keep, marks)?;
         Ok(())
     }
 }

@@ -16,7 +16,7 @@ use rebuild::MoveMarks;
 
 /// The functions of the latches after a move, at the front of a table that begins with those of the latches before it and has an entry
 /// for each gate; how many they are.
-pub(crate) fn moved_in(
+pub(crate) fn moved_front(
     gates: &mut MapGates,
     table: &mut [Lit],
     circuit: &Circuit,

@@ -1,5 +1,5 @@
 use Rattle.std.proofs.Common.{ℕ, ◌≡◌, ◌+◌, ◌-◌, ◌∙◌, ◌≤◌, ◌<◌, true, false, arith, ap, sym}
-use Rattle.map_circuits.proofs.GatheringLaws.{block-marked, block-unmarked, gathered-run, gathered-skip}
+use Rattle.map_circuits.proofs.GatheringLaws.{block-all, gathered-run, gathered-skip}
 use Rattle.map_circuits.proofs.gathering.gather_block.Goals as goal
 
 pub returns-then-not-contains-clause-gathered : goal.returns-then-not-contains-clause-gathered
@@ -10,7 +10,7 @@ returns-then-not-contains-clause-gathered c = λ first p old all g.
     λ v low less.
     let at : v ≡ first + (v - first) = omega (arith, low) in
     ap p at ∙ sym (all.each (v - first) (omega (arith, low, less, c.requires.within)))
-    ∙ block-unmarked c.args.marks.now from to c.requires.ordered c.requires.within c.if-not-contains.ensures.cases (v - first) (omega (arith, low)) (omega (arith, low, less)) in
+    ∙ block-all false c.args.marks.now from to c.requires.ordered c.requires.within c.if-not-contains.ensures.cases (v - first) (omega (arith, low)) (omega (arith, low, less)) in
     gathered-skip first p old (first + from) (first + to) c.args.kept c.args.entries.now g (omega (arith, c.requires.ordered)) fails
 
 pub returns-then-not-contains-2-clause-gathered : goal.returns-then-not-contains-2-clause-gathered
@@ -19,6 +19,6 @@ returns-then-not-contains-2-clause-gathered c = λ first p old all g.
     let to : ℕ = c.args.to in
     let pass : (k : ℕ) → from ≤ k → k < to → p (first + k) ≡ true =
     λ k low less. sym (all.each k (omega (arith, less, c.requires.within)))
-    ∙ block-marked c.args.marks.now from to c.requires.ordered c.requires.within c.if-not-contains-2.ensures.cases k low less in
+    ∙ block-all true c.args.marks.now from to c.requires.ordered c.requires.within c.if-not-contains-2.ensures.cases k low less in
     gathered-run first p old from to c.args.kept c.args.entries.now c.move_run.new.entries g c.requires.ordered c.requires.before c.move_run.ensures.long
     pass c.move_run.ensures.moved c.move_run.ensures.below c.move_run.ensures.above

@@ -6,7 +6,7 @@ use Rattle.variable_tables.specs.Counting.{places}
 use Rattle.map_circuits.specs.Following.{Follows, entry_of}
 use Rattle.map_circuits.proofs.GatheringLaws.{gathered-all}
 use Rattle.map_circuits.proofs.SteppingLaws.{are-moved}
-use Rattle.map_circuits.proofs.moving.moved_in.Goals as goal
+use Rattle.map_circuits.proofs.moving.moved_front.Goals as goal
 
 pub returns-clause-moved : goal.returns-clause-moved
 returns-clause-moved c = λ functions new p cut.

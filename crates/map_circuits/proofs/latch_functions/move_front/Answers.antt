@@ -4,10 +4,10 @@ use Rattle.aig_graph.specs.Graph.{Graph, first_gate, latches_and_gates}
 use Rattle.map_circuits.specs.Following.{Follows}
 use Rattle.map_circuits.proofs.FollowingLaws.{follows-start, within-start}
 use Rattle.map_circuits.proofs.GatheringLaws.{front-cut, front-read}
-use Rattle.map_circuits.proofs.latch_functions.move_in.Goals as goal
+use Rattle.map_circuits.proofs.latch_functions.move_front.Goals as goal
 
-pub moved_in-requires-clause-within : goal.moved_in-requires-clause-within
-moved_in-requires-clause-within c =
+pub moved_front-requires-clause-within : goal.moved_front-requires-clause-within
+moved_front-requires-clause-within c =
     let g : Graph = c.args.circuit.now.aig in
     let l : ℕ = length g.latches in
     let n : ℕ = c.latches_and_gates-long.result - 0 in
@@ -30,6 +30,6 @@ returns-clause-moved c =
     follows-start c.args.gates.now g (take l old) c.args.keep.now c.args.set.now c.aig.ensures.graph c.requires.closed (take n entries)
     (front-read old c.lengthen.new.table.items entries l n c.requires.many (omega (arith, counted)) c.as_mut_slice-entries.ensures.value c.in_ok-lengthen.ensures.same)
     (omega (arith, sized, counted)) (length-take-le l old c.requires.many) c.requires.within in
-    let inside : c.in_ok-kept.kept ≤ length c.moved_in.new.table = c.in_ok-kept.ensures.few in
-    let within : c.in_ok-kept.kept ≤ c.lengthen.new.table.len = omega (arith, inside, c.moved_in.auto.table, sized, c.in_ok-lengthen.ensures.long) in
-    c.in_ok-kept.ensures.moved (take l old) _ follows (front-cut c.in_ok-kept.kept c.lengthen.new.table.len c.moved_in.new.table _ _ c.lengthen.new.table.items refl inside within)
+    let inside : c.in_ok-kept.kept ≤ length c.moved_front.new.table = c.in_ok-kept.ensures.few in
+    let within : c.in_ok-kept.kept ≤ c.lengthen.new.table.len = omega (arith, inside, c.moved_front.auto.table, sized, c.in_ok-lengthen.ensures.long) in
+    c.in_ok-kept.ensures.moved (take l old) _ follows (front-cut c.in_ok-kept.kept c.lengthen.new.table.len c.moved_front.new.table _ _ c.lengthen.new.table.items refl inside within)

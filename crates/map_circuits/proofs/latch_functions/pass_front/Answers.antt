@@ -1,7 +1,7 @@
 use Rattle.std.proofs.Common.{ℕ, ◌≡◌, ◌+◌, ◌-◌, ◌∙◌, List, arith, ap, length, take, refl}
 use Rattle.std.proofs.lemmas.List.{length-take-le}
 use Rattle.map_circuits.proofs.GatheringLaws.{gathered-back}
-use Rattle.map_circuits.proofs.latch_functions.pass_in.Goals as goal
+use Rattle.map_circuits.proofs.latch_functions.pass_front.Goals as goal
 
 pub returns-clause-gathered : goal.returns-clause-gathered
 returns-clause-gathered c = λ first p all.
