@@ -10,7 +10,7 @@ use Rattle.std.specs.Int.Bits.{or_zero_r}
 use mir.Val.{bool_byte}
 use Rattle.std.proofs.lemmas.List.{set-get_or}
 use Rattle.std.proofs.lemmas.Bool.{eqb-true, eqb-false, eq-eqb, ltb-true, ltb-false}
-use Rattle.lane_words.specs.Words.{negated_if, and_words, signed_if}
+use Rattle.lane_sim.specs.Words.{negated_if, and_words, signed_if}
 use Rattle.lane_sim.specs.Lanes.{AreLanes, lane}
 
 one_of_not : (x : ℕ) → x < 2 → (1 - x == 1) ≡ not (x == 1)

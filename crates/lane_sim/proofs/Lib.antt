@@ -1,3 +1,4 @@
+pub mod WordLaws
 pub mod LaneLaws
 pub mod TableLaws
 pub mod BlockLaws

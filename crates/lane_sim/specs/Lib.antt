@@ -1,3 +1,4 @@
+pub mod Words
 pub mod Lanes
 pub mod Traces
 pub mod Blocks

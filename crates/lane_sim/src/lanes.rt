@@ -1,9 +1,9 @@
 //! One bit for each of the 256 sequences of a block.
 ghost use Rattle.std.specs.Prelude.{ℕ, ◌≡◌, ◌<◌, ◌==◌, ◌||◌, ◌&&◌, false, true, not, if◌then◌else◌};
 ghost use Rattle.lane_sim.specs.Lanes.{lane};
-ghost use Rattle.lane_words.specs.Words.{signed_if};
+ghost use Rattle.lane_sim.specs.Words.{signed_if};
 
-use lane_words::and_lanes;
+use crate::kernel::and_lanes;
 use std::marker::Model;
 
 /// The sequences of a block.

@@ -1,5 +1,5 @@
 use Rattle.std.proofs.Common.{◌/◌, ◌∙◌, ◌&&◌, ap₂, arith}
-use Rattle.lane_words.specs.Words.{signed_if}
+use Rattle.lane_sim.specs.Words.{signed_if}
 use Rattle.lane_sim.specs.Lanes.{lane}
 use Rattle.lane_sim.proofs.LaneLaws.{lane-and, AreLanes-and}
 use Rattle.lane_sim.proofs.lanes.Lanes.and.Goals as goal

@@ -1,6 +1,6 @@
 use Rattle.std.proofs.Common.{◌≡◌, ◌-◌, ◌<◌, ◌≤◌, ℕ, length, slice_index}
-use Rattle.lane_words.specs.Words.{and_words}
-use Rattle.lane_words.proofs.kernel.and_lanes.Given as goal
+use Rattle.lane_sim.specs.Words.{and_words}
+use Rattle.lane_sim.proofs.kernel.and_lanes.Given as goal
 
 abbrev pub invariant-chunks : goal.invariant-chunks
 invariant-chunks l =

@@ -9,7 +9,7 @@ use Rattle.std.proofs.lemmas.Nat.Bits.{bit_at_xor, bit_at_ones, bit_at_not, same
 use Rattle.std.proofs.lemmas.Simd.{get_or-zip2, get_or-chunk, length-zip2, length-chunk, length-replicate, get_or-replicate}
 use Rattle.std.proofs.Common.{nat_lt, subst}
 use Rattle.std.proofs.lemmas.Bool.{ltb-true, ltb-false}
-use Rattle.lane_words.specs.Words.{negated_if, and_words}
+use Rattle.lane_sim.specs.Words.{negated_if, and_words}
 
 xor_ones : (x : ℕ) → x < 2 ^ 64 → bit_xor x (2 ^ 64 - 1) ≡ bit_not w64 x
 xor_ones x small =

@@ -1,6 +1,6 @@
 //! The AND of two rows of words.
 ghost use Rattle.std.specs.Prelude.{ℕ, ◌≡◌, ◌+◌, ◌-◌, ◌^◌, ◌<◌, ◌≤◌, length, slice_index, EachIndex, if◌then◌else◌};
-ghost use Rattle.lane_words.specs.Words.{and_words};
+ghost use Rattle.lane_sim.specs.Words.{and_words};
 
 use std::simd::prelude::*;
 

@@ -1,8 +1,8 @@
 use Rattle.std.proofs.Common.{◌+◌, ◌∙◌, ap₂, arith, get_or, bit_and}
 use Rattle.std.specs.Int.RustNames.{bit_xor}
 use Rattle.std.proofs.lemmas.Simd.{get_or-put_chunk_at, get_or-put_chunk_below}
-use Rattle.lane_words.proofs.WordLaws.{and_vectors, and_vectors-lane, and_vectors-length, and_flips}
-use Rattle.lane_words.proofs.kernel.and_chunk.Goals as goal
+use Rattle.lane_sim.proofs.WordLaws.{and_vectors, and_vectors-lane, and_vectors-length, and_flips}
+use Rattle.lane_sim.proofs.kernel.and_chunk.Goals as goal
 
 pub returns-clause-before : goal.returns-clause-before
 returns-clause-before c = λ k h. get_or-put_chunk_below c.args.at c.args.out.now _ k 0 h

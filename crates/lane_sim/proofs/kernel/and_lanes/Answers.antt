@@ -1,8 +1,8 @@
 use Rattle.std.proofs.Common.{◌≡◌, ◌<◌, ◌∙◌, ap₂, rules, arith, get_or, length, bit_and, below_more, get_or-set_same, get_or-set_other, ◌≢◌}
 use Rattle.std.specs.Int.RustNames.{bit_xor}
-use Rattle.lane_words.specs.Words.{and_words}
-use Rattle.lane_words.proofs.WordLaws.{and_flips, four_more}
-use Rattle.lane_words.proofs.kernel.and_lanes.Goals as goal
+use Rattle.lane_sim.specs.Words.{and_words}
+use Rattle.lane_sim.proofs.WordLaws.{and_flips, four_more}
+use Rattle.lane_sim.proofs.kernel.and_lanes.Goals as goal
 
 pub chunks-preserved : goal.chunks-preserved
 chunks-preserved c = (
