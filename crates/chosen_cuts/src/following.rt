@@ -12,7 +12,7 @@ use std::alloc::Global;
 const NOBODY: u32 = u32::MAX;
 
 /// How a unit goes on from before a gate: through it, or to before the fan-in of this variable.
-#[derive(Clone, Copy, Debug, PartialEq, Eq)]
+#[derive(Clone, Copy, PartialEq, Eq)]
 enum Step {
     Through,
     Down(u32),

@@ -13,7 +13,7 @@ pub struct Reads {
 }
 
 /// Which of the two fan-ins.
-#[derive(Clone, Copy, Debug, PartialEq, Eq)]
+#[derive(Clone, Copy, PartialEq, Eq)]
 pub(crate) enum Side {
     First,
     Second,

@@ -11,7 +11,7 @@ use std::alloc::Global;
 use std::marker::Model;
 
 /// A class, by what its latches read as, and what a latch of it is told. Both literals are negated where the latch's reset is 1.
-#[derive(Clone, Copy, PartialEq, Eq, Hash, Debug)]
+#[derive(Clone, Copy, PartialEq, Eq, Hash)]
 pub(crate) struct Told {
     pub(crate) class: Lit,
     pub(crate) literal: Lit,

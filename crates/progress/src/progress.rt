@@ -14,7 +14,7 @@ use std::mem;
 use std::time::{Clock, Instant};
 
 /// What is shown of a run.
-#[derive(Clone, Copy, Debug, PartialEq, Eq)]
+#[derive(Clone, Copy, PartialEq, Eq)]
 enum Show {
     /// Nothing.
     Nothing,

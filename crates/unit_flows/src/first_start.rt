@@ -14,7 +14,7 @@ use aig_graph::NoMemory;
 use std::alloc::Global;
 
 /// The places of a passable gate's own variable and of its two fan-ins, from the first latch on, the smaller fan-in first.
-#[derive(Clone, Copy, Debug)]
+#[derive(Clone, Copy)]
 struct GatePlaces {
     own: usize,
     smaller: usize,

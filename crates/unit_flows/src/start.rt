@@ -6,14 +6,14 @@ use std::alloc::Global;
 use std::mem;
 
 /// One of the two fan-ins of a gate, by their variables.
-#[derive(Clone, Copy, Debug, PartialEq, Eq)]
+#[derive(Clone, Copy, PartialEq, Eq)]
 pub(crate) enum FanIn {
     Smaller,
     Larger,
 }
 
 /// What stands after a latch or a gate: whether it leaves there, whether its unit is asked for, and whether a unit waits there.
-#[derive(Clone, Copy, Debug)]
+#[derive(Clone, Copy)]
 struct Spot {
     is_observed: bool,
     asked: bool,

@@ -11,7 +11,7 @@ use unit_flows::GateFlow;
 const MOST_ROUNDS: u32 = 65_536;
 
 /// Which gates a sweep sees: all that hold, or those of them without a label before.
-#[derive(Clone, Copy, Debug, PartialEq, Eq)]
+#[derive(Clone, Copy, PartialEq, Eq)]
 enum Seen {
     All,
     Open,

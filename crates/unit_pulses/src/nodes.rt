@@ -30,7 +30,7 @@ impl Nodes {
 }
 
 /// Units that come to the node before a gate in a pulse.
-#[derive(Clone, Copy, Debug)]
+#[derive(Clone, Copy)]
 pub(crate) struct Arrival {
     pub place: u32,
     pub units: u32,

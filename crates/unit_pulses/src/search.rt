@@ -7,7 +7,7 @@ use std::alloc::Global;
 use unit_flows::{Frame, GateFlow};
 
 /// The places of a gate's two fan-ins, that of the smaller variable first.
-#[derive(Clone, Copy, Debug)]
+#[derive(Clone, Copy)]
 pub(crate) struct FanIns {
     pub smaller: u32,
     pub larger: u32,

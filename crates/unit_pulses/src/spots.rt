@@ -4,7 +4,7 @@
 pub(crate) const FAR: u32 = u32::MAX;
 
 /// How many arcs a way to the sink has from the node before a place, and from that after it.
-#[derive(Clone, Copy, Debug)]
+#[derive(Clone, Copy)]
 pub(crate) struct Labels {
     pub before: u32,
     pub after: u32,
@@ -18,7 +18,7 @@ impl Labels {
 }
 
 /// How many units stand before a place, and whether one waits after it.
-#[derive(Clone, Copy, Debug)]
+#[derive(Clone, Copy)]
 pub(crate) struct Spot {
     pub excess: u32,
     /// Whether it is a known latch or a passable gate.
