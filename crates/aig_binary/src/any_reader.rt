@@ -24,10 +24,19 @@ pub(crate) enum Phase {
 }
 
 /// A reader of a file of either spelling that comes in pieces, however cut. The first three bytes say which it is.
-#[derive(Drop)]
 pub struct AnyReader {
     alloc: Global,
     phase: Phase,
+}
+
+impl Drop for AnyReader {
+    // written out: docs/PROOFS.md, Drops and exits
+    fn drop(self) {
+        let AnyReader {
+            alloc: _alloc,
+            phase: _phase,
+        } = self;
+    }
 }
 
 impl AnyReader {

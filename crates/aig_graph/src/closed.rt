@@ -13,9 +13,15 @@ use crate::rising::{contains, is_rising};
 use std::marker::Model;
 
 /// A set of variables, as a strictly rising list. `is_closed` returns whether it is a closed set of a graph.
-#[derive(Drop)]
 pub struct ClosedSet {
     vars: Vec<u32>,
+}
+
+impl Drop for ClosedSet {
+    // written out: docs/PROOFS.md, Drops and exits
+    fn drop(self) {
+        let ClosedSet { vars: _vars } = self;
+    }
 }
 
 impl Model for ClosedSet {

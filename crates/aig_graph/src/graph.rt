@@ -59,11 +59,21 @@ impl Gate {
 /// A sequential and-inverter graph. Variable 0 is the constant; after it come the inputs, the latches and the gates, in
 /// this order. The fan-ins of a gate have variables below its own, all literals are in range, and there are at most
 /// `MAX_VARIABLES` variables.
-#[derive(Drop)]
 pub struct Aig {
     inputs: u32,
     latches: Vec<Latch>,
     gates: Vec<Gate>,
+}
+
+impl Drop for Aig {
+    // written out: docs/PROOFS.md, Drops and exits
+    fn drop(self) {
+        let Aig {
+            inputs: _inputs,
+            latches: _latches,
+            gates: _gates,
+        } = self;
+    }
 }
 
 impl Model for Aig {

@@ -1,3 +1,4 @@
+//! What is asked of a circuit, by kind, and what its inputs, latches and properties are called.
 ghost use Rattle.std.specs.Prelude.{◌≡◌};
 ghost use Rattle.aig_graph.specs.Circuits.{outputs_alone, no_symbols};
 
@@ -6,13 +7,25 @@ use crate::sequence::Sequence;
 use std::alloc::Global;
 
 /// The properties of a circuit, by kind. A justice property is a list of literals.
-#[derive(Drop)]
 pub struct Props {
     pub outputs: Sequence<Lit>,
     pub bad: Sequence<Lit>,
     pub constraints: Sequence<Lit>,
     pub justice: Sequence<Sequence<Lit>>,
     pub fairness: Sequence<Lit>,
+}
+
+impl Drop for Props {
+    // written out: docs/PROOFS.md, Drops and exits
+    fn drop(self) {
+        let Props {
+            outputs: _outputs,
+            bad: _bad,
+            constraints: _constraints,
+            justice: _justice,
+            fairness: _fairness,
+        } = self;
+    }
 }
 
 impl Props {
@@ -39,7 +52,6 @@ pub struct Symbol {
 }
 
 /// The symbol table: by kind the symbols, their positions strictly rising. A justice symbol names a property, not a literal.
-#[derive(Drop)]
 pub struct Symbols {
     pub inputs: Sequence<Symbol>,
     pub latches: Sequence<Symbol>,
@@ -48,6 +60,21 @@ pub struct Symbols {
     pub constraints: Sequence<Symbol>,
     pub justice: Sequence<Symbol>,
     pub fairness: Sequence<Symbol>,
+}
+
+impl Drop for Symbols {
+    // written out: docs/PROOFS.md, Drops and exits
+    fn drop(self) {
+        let Symbols {
+            inputs: _inputs,
+            latches: _latches,
+            outputs: _outputs,
+            bad: _bad,
+            constraints: _constraints,
+            justice: _justice,
+            fairness: _fairness,
+        } = self;
+    }
 }
 
 impl Symbols {

@@ -10,7 +10,7 @@ pub struct Sequence<T> {
 }
 
 impl<T: Drop> Drop for Sequence<T> {
-    // written out so that a value with many sequences is dropped in one step each, and not by the parts of each vector
+    // written out: docs/PROOFS.md, Drops and exits
     fn drop(self) {
         let Sequence {
             elements: _elements,

@@ -16,7 +16,7 @@ pub struct Routes {
 }
 
 impl Drop for Routes {
-    // written out, as that of a sequence is
+    // written out: docs/PROOFS.md, Drops and exits
     fn drop(self) {
         let Routes {
             points: _points,

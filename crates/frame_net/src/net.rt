@@ -25,7 +25,6 @@ pub struct Point {
 /// A flow network: for each node the arcs with it as tail, by rising number of the head. Each arc has a mate from its
 /// head to its tail. Node 0 is the source and node 1 the sink; then there is a node after each known latch, in latch
 /// order, and for each passable gate, in gate order, one before and one after it.
-#[derive(Drop)]
 pub struct Net {
     starts: Vec<u32>,
     heads: Vec<u32>,
@@ -33,6 +32,20 @@ pub struct Net {
     caps: Capacities,
     latches: u32,
     variables: Vec<u32>,
+}
+
+impl Drop for Net {
+    // written out: docs/PROOFS.md, Drops and exits
+    fn drop(self) {
+        let Net {
+            starts: _starts,
+            heads: _heads,
+            mates: _mates,
+            caps: _caps,
+            latches: _latches,
+            variables: _variables,
+        } = self;
+    }
 }
 
 impl Model for Net {
@@ -100,10 +113,12 @@ impl Net {
     /// The memory of the tables by arc, for a network to come. That of the capacities is among it unless a flow still shares them.
     pub fn into_tables(self) -> Tables {
         let Net {
+            starts: _starts,
             heads,
             mates,
             caps,
-            ..
+            latches: _latches,
+            variables: _variables,
         } = self;
         Tables {
             heads,

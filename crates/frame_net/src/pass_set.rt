@@ -13,11 +13,21 @@ use variable_tables::{count_marks, mark_at};
 
 /// The passable gates of a graph, by a table from the first latch on: inputs, of which a short file can have hundreds of
 /// millions, have no entry.
-#[derive(Drop)]
 pub struct PassSet {
     first: u32,
     marks: Vec<bool>,
     count: u32,
+}
+
+impl Drop for PassSet {
+    // written out: docs/PROOFS.md, Drops and exits
+    fn drop(self) {
+        let PassSet {
+            first: _first,
+            marks: _marks,
+            count: _count,
+        } = self;
+    }
 }
 
 impl PassSet {

@@ -12,9 +12,17 @@ pub struct InputSequence {
 }
 
 /// Input sequences. Contracts see their list.
-#[derive(Drop)]
 pub struct Stimulus {
     sequences: Vec<InputSequence>,
+}
+
+impl Drop for Stimulus {
+    // written out: docs/PROOFS.md, Drops and exits
+    fn drop(self) {
+        let Stimulus {
+            sequences: _sequences,
+        } = self;
+    }
 }
 
 impl Model for Stimulus {

@@ -22,7 +22,6 @@ use std::marker::Model;
 ///
 /// A delivery phase that is refused memory leaves the flow spent: its parts are gone, and each later phase is refused. Where `listed`
 /// is false the parts' lists of active nodes aren't those of this flow.
-#[derive(Drop)]
 pub struct Flow {
     pub(crate) labels: Vec<u32>,
     pub(crate) delivered: Vec<bool>,
@@ -31,6 +30,21 @@ pub struct Flow {
     pub(crate) phase: u32,
     pub(crate) spent: bool,
     pub(crate) listed: bool,
+}
+
+impl Drop for Flow {
+    // written out: docs/PROOFS.md, Drops and exits
+    fn drop(self) {
+        let Flow {
+            labels: _labels,
+            delivered: _delivered,
+            caps: _caps,
+            parts: _parts,
+            phase: _phase,
+            spent: _spent,
+            listed: _listed,
+        } = self;
+    }
 }
 
 impl Model for Flow {
@@ -135,7 +149,15 @@ impl Flow {
 
     /// The memory of the residuals of the last part, which is the only one where one thread made the last pulse.
     pub(crate) fn into_residuals(self, alloc: Global) -> Vec<u32> {
-        let Flow { mut parts, .. } = self;
+        let Flow {
+            labels: _labels,
+            delivered: _delivered,
+            caps: _caps,
+            mut parts,
+            phase: _phase,
+            spent: _spent,
+            listed: _listed,
+        } = self;
         match parts.pop() {
             Some(part) => part.residuals,
             None => Vec::new(alloc),

@@ -6,7 +6,6 @@ use std::alloc::Global;
 use std::marker::Model;
 
 /// The symbols of a file as they come: the names of each kind, by rising position. A position of a kind has one name.
-#[derive(Drop)]
 pub struct Names {
     inputs: KindNames,
     latches: KindNames,
@@ -15,6 +14,21 @@ pub struct Names {
     constraints: KindNames,
     justice: KindNames,
     fairness: KindNames,
+}
+
+impl Drop for Names {
+    // written out: docs/PROOFS.md, Drops and exits
+    fn drop(self) {
+        let Names {
+            inputs: _inputs,
+            latches: _latches,
+            outputs: _outputs,
+            bad: _bad,
+            constraints: _constraints,
+            justice: _justice,
+            fairness: _fairness,
+        } = self;
+    }
 }
 
 impl Model for Names {
