@@ -1,12 +1,12 @@
 """Runs a script in a process of its own, but without an interpreter of its own, which takes a tenth of a second to begin: its module
 is loaded once, and each run is a fork."""
 import os
-import resource
+import signal
 import sys
 import tempfile
 import traceback
 
-# the seconds of a processor after which a run is taken to hang
+# the seconds after which a run is taken to hang, and is ended by a signal
 LONGEST = 600
 
 
@@ -27,7 +27,7 @@ def status_of(main, words, folder, before, streams):
     """The status of the run, in the process that is its own."""
     try:
         os.chdir(folder)
-        resource.setrlimit(resource.RLIMIT_CPU, (LONGEST, LONGEST))
+        signal.alarm(LONGEST)
         before()
         for number, stream in enumerate(streams, 1):
             os.dup2(stream.fileno(), number)
