@@ -182,7 +182,7 @@ def run_all(tests, words):
     parser.add_argument('--only', default='', metavar='TEXT', help='only the tests whose names have this text')
     only = parser.parse_args(words).only
     tests = [test for test in tests if only in test.__name__]
-    with concurrent.futures.ThreadPoolExecutor(os.cpu_count()) as pool:
+    with concurrent.futures.ThreadPoolExecutor(len(os.sched_getaffinity(0))) as pool:
         passed = list(pool.map(passes, tests))
     for test, well in zip(tests, passed):
         if not well:
