@@ -1,8 +1,14 @@
 # Completions of fretime for fish.
 
 # The names of a kind in the circuit that is read, which is the first word after the command that is no option, nor the value of one.
+# Those with a control sign, or that no option can have, since they begin with -, are left out, and so are those with a tilde first,
+# but within quotes: fish quotes all others.
 function __fretime_names
     set -l is_value no
+    set -l first '^-[:cntrl:]~'
+    if string match -qr '^["\']' -- (commandline -ct)
+        set first '^-[:cntrl:]'
+    end
     for word in (commandline -opc)[3..-1]
         if test $is_value = yes
             set is_value no
@@ -10,7 +16,9 @@ function __fretime_names
             set is_value yes
         else if not string match -q -- '--*' $word
             set -l circuit (string replace -r '^~/' "$HOME/" -- $word)
-            grep -a "^[$argv[1]][0-9]* " -- $circuit 2> /dev/null | string replace -r '^[a-z][0-9]* ' ''
+            if test -f "$circuit"
+                env LC_ALL=C.UTF-8 grep -axE "[$argv[1]][0-9]* [$first][^[:cntrl:]]*" <$circuit | string replace -r '^[a-z][0-9]* ' ''
+            end
             return
         end
     end
