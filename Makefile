@@ -17,8 +17,8 @@ DATADIR = $(PREFIX)/share/fretime
 DATE = 2026-11-25
 
 VERSION := $(shell sed -n 's/.*\.version("\([^"]*\)").*/\1/p' crates/*/src/*.rt)
-INSTALLED = $(addprefix $(PREFIX)/bin/,$(COMMANDS)) $(addprefix $(MANDIR)/,$(COMMANDS:=.1)) $(BASHDIR)/fretime $(ZSHDIR)/_fretime \
-	$(FISHDIR)/fretime.fish $(DATADIR) $(DOCDIR)
+INSTALLED = $(addprefix $(PREFIX)/bin/,$(COMMANDS)) $(addprefix $(MANDIR)/,$(COMMANDS:=.1)) $(addprefix $(BASHDIR)/,$(COMMANDS)) \
+	$(addprefix $(ZSHDIR)/_,$(COMMANDS)) $(addprefix $(FISHDIR)/,$(COMMANDS:=.fish)) $(DATADIR) $(DOCDIR)
 COMMANDS = fretime fretime_verilog
 # the script from Verilog to Verilog, and its modules, which the examples lead to
 SCRIPTS = fretime_verilog circuits.py netlists.py writing.py
@@ -47,9 +47,9 @@ install: all
 	install -m 755 "$$(release/make --program)" $(DESTDIR)$(PREFIX)/bin/fretime
 	for name in $(COMMANDS); do $(FILLED) install/$$name.1 > $(DESTDIR)$(MANDIR)/$$name.1; done
 	chmod 644 $(addprefix $(DESTDIR)$(MANDIR)/,$(COMMANDS:=.1))
-	install -m 644 install/fretime.bash $(DESTDIR)$(BASHDIR)/fretime
-	install -m 644 install/_fretime $(DESTDIR)$(ZSHDIR)/_fretime
-	install -m 644 install/fretime.fish $(DESTDIR)$(FISHDIR)/fretime.fish
+	for name in $(COMMANDS); do install -m 644 install/$$name.bash $(DESTDIR)$(BASHDIR)/$$name; done
+	install -m 644 $(addprefix install/_,$(COMMANDS)) $(DESTDIR)$(ZSHDIR)
+	install -m 644 $(addprefix install/,$(COMMANDS:=.fish)) $(DESTDIR)$(FISHDIR)
 	install -m 644 README.md LICENSE-APACHE LICENSE-MIT release/record $(DESTDIR)$(DOCDIR)
 	install -m 644 docs/*.md docs/reports.schema.json $(DESTDIR)$(DOCDIR)/docs
 	install -m 644 docs/pictures/*.svg $(DESTDIR)$(DOCDIR)/docs/pictures

@@ -220,6 +220,11 @@ def registers_without_a_value(netlist):
     return list(dict.fromkeys(names))
 
 
+def bits_with(netlist, pin):
+    """How many bits of registers are in cells with this pin."""
+    return sum(len(cell['connections']['Q']) for cell in netlist.cells.values() if {'Q', pin} <= set(cell['connections']))
+
+
 def assertions_of(netlist):
     """The assertions and assumptions, with labels that no name of the design is."""
     taken, found = set(netlist.wires) | set(netlist.cells), []

@@ -1,0 +1,15 @@
+# Completions of fretime_verilog for fish.
+
+complete -c fretime_verilog -r -s o -d 'the file to write, or - for standard output'
+complete -c fretime_verilog -x -s I -a '(__fish_complete_directories)' -d 'a folder of files to include'
+complete -c fretime_verilog -x -s D -d 'a macro that is defined'
+complete -c fretime_verilog -x -s P -d 'the value of a parameter of the top module, as 8 or 4\'b0011'
+complete -c fretime_verilog -l zero -d 'registers without an initial value begin with 0: another design'
+complete -c fretime_verilog -x -l clock -d 'the clock, to be sure that it is this port'
+complete -c fretime_verilog -x -l keep -d 'a register that stays, as one with the attribute keep; may be given more than once'
+complete -c fretime_verilog -l near -d 'each frame takes the smallest of its least sets'
+complete -c fretime_verilog -l merge -d 'merges registers that always agree, before anything moves'
+complete -c fretime_verilog -x -l frames -d 'the most frames that are taken'
+complete -c fretime_verilog -x -l seconds -d 'how long the check may take, 60 by default'
+complete -c fretime_verilog -r -l program -d 'fretime, else that of this repository, else that of PATH'
+complete -c fretime_verilog -s h -l help -d 'show this help message and exit'
