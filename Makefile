@@ -1,4 +1,4 @@
-# make            the program: the release, or where that is of other sources it is proved and built (./fretime --build)
+# make            whether there is a program: the release, or one that ./fretime --build proved and built; neither begins a proof
 # make test       the program from outside; make prove: every proof from nothing first
 # make install    programs, man pages, completions and documents below PREFIX; make uninstall takes them away
 # make deb        a Debian package of the same, out/fretime_VERSION_amd64.deb
