@@ -3,6 +3,7 @@
     import fretime
     answer = fretime.retime(circuit)       # bytes of an .aig or .aag file
     answer.circuit, answer.frames, answer.report
+    fretime.run(['stat', '-'], circuit).output          # any other command
 
 The program is the one beside this module, as a wheel has it, else the one on the path; `FRETIME` in the environment names another.
 Each call runs it once, on pipes and files of its own, so calls may be made from several threads.
@@ -43,12 +44,26 @@ class Frame:
 
 @dataclasses.dataclass(frozen=True)
 class Retimed:
-    """The circuit that was written, its frames, the text of the certificates where they were asked for, and the report of
-    `retime --json` as a dictionary (`docs/reports.schema.json`)."""
+    """The circuit that was written, its frames, the text of the certificates where they were asked for, the report of
+    `retime --json` as a dictionary (`docs/reports.schema.json`), and the map of states where it was asked for
+    (`docs/STATE_MAPS.md`)."""
     circuit: bytes
     frames: tuple[Frame, ...]
     certificates: bytes | None
     report: dict[str, Any]
+    map: bytes | None = None
+
+
+@dataclasses.dataclass(frozen=True)
+class Ran:
+    """How a command ended: its exit status, and what it printed on standard output and on standard error."""
+    status: int
+    output: bytes
+    messages: bytes
+
+    def report(self) -> dict[str, Any] | None:
+        """The object that `--json` prints, or None where there is none."""
+        return report_of(self.output) or report_of(self.messages)
 
 
 def program() -> str:
@@ -59,43 +74,51 @@ def program() -> str:
     return found
 
 
-def refused(run: subprocess.CompletedProcess[bytes], report: dict[str, Any] | None) -> RetimeError:
+def refused(ran: Ran, report: dict[str, Any] | None) -> RetimeError:
     """The error of a run that failed. Where no memory was left for an object, the status alone tells."""
     if report is None:
-        return RetimeError({1: 'Refused', 2: 'Usage', 3: 'Device', 4: 'NoMemory'}.get(run.returncode, 'Ended'), status=run.returncode)
+        return RetimeError({1: 'Refused', 2: 'Usage', 3: 'Device', 4: 'NoMemory'}.get(ran.status, 'Ended'), status=ran.status)
     fault = report['fault']
     return RetimeError(fault['name'], fault['offset'], report['latch'], report['status'])
 
 
 def report_of(text: bytes) -> dict[str, Any] | None:
-    """The object among the lines of standard error, if it is there."""
+    """The object among lines that were printed, if it is there."""
     lines = [line for line in text.splitlines() if line.startswith(b'{')]
     return json.loads(lines[-1]) if lines else None
 
 
-def retime(circuit: bytes, *, near: bool = False, merge: bool = False, keep: Iterable[str] = (), frames: int | None = None,
-           workers: int = 1, ascii: bool | None = None, certificates: bool = False, seconds: float | None = None) -> Retimed:
+def run(words: Iterable[str | os.PathLike[str]], input: bytes = b'', *, seconds: float | None = None) -> Ran:
+    """Runs the program with these words, as ['check', 'in.aig', 'out.aig', 'map.aig'], and these bytes on standard input, which is
+    the file `-`. No status raises an error: 5 is an answer. A run of over `seconds` raises subprocess.TimeoutExpired."""
+    ran = subprocess.run([program(), *words], input=input, capture_output=True, timeout=seconds, check=False)
+    return Ran(ran.returncode, ran.stdout, ran.stderr)
+
+
+def retime(circuit: bytes, *, near: bool = False, merge: bool = False, keep: Iterable[str] = (), keep_latch: Iterable[int] = (),
+           frames: int | None = None, workers: int = 1, ascii: bool | None = None, certificates: bool = False, map: bool = False,
+           seconds: float | None = None) -> Retimed:
     """The circuit with its latches moved forward, frame by frame, until no move leaves fewer.
 
     `near` takes the smallest of a frame's least sets, `merge` merges latches that always agree before the first frame, `keep` holds
-    the latches with these names, `frames` is the most that are taken, `ascii` chooses the spelling (that of the circuit where it is
-    None). A run of over `seconds` raises subprocess.TimeoutExpired.
-    A circuit that is refused, a name of no latch, or want of memory raises RetimeError.
+    the latches with these names, `keep_latch` those at these places, from 0; `frames` is the most that are taken, `ascii` chooses the
+    spelling (that of the circuit where it is None), `certificates` and `map` ask for these. A run of over `seconds` raises
+    subprocess.TimeoutExpired. A circuit that is refused, a name or place of no latch, or want of memory raises RetimeError.
     """
-    words = [program(), 'retime', '-', '-', '--json', '--quiet', '--workers', str(workers)]
-    words += ['--near'] * near + ['--merge'] * merge + [f'--keep={name}' for name in keep]
+    words = ['retime', '-', '-', '--json', '--quiet', '--workers', str(workers)]
+    words += ['--near'] * near + ['--merge'] * merge
+    words += [f'--keep={name}' for name in keep] + [f'--keep-latch={place}' for place in keep_latch]
     words += [] if frames is None else ['--frames', str(frames)]
     words += [] if ascii is None else ['--ascii' if ascii else '--binary']
     with tempfile.TemporaryDirectory(prefix='fretime-') as folder:
-        written = pathlib.Path(folder, 'certificates')
-        words += ['--cert', str(written)] * certificates
-        run = subprocess.run(words, input=circuit, capture_output=True, timeout=seconds, check=False)
-        report = report_of(run.stderr)
-        if run.returncode != 0 or report is None:
-            raise refused(run, report)
-        text = written.read_bytes() if certificates else None
-    taken = tuple(Frame(**frame) for frame in report['frames'])
-    return Retimed(run.stdout, taken, text, report)
+        text, states = pathlib.Path(folder, 'certificates'), pathlib.Path(folder, 'map')
+        words += ['--cert', str(text)] * certificates + ['--map', str(states)] * map
+        ran = run(words, circuit, seconds=seconds)
+        report = report_of(ran.messages)
+        if ran.status != 0 or report is None:
+            raise refused(ran, report)
+        taken = tuple(Frame(**frame) for frame in report['frames'])
+        return Retimed(ran.output, taken, text.read_bytes() if certificates else None, report, states.read_bytes() if map else None)
 
 
 def main() -> None:
