@@ -5,6 +5,8 @@
 # make wheel      a wheel for Python, out/fretime-VERSION-py3-none-manylinux_2_34_x86_64.whl
 # make dist       what is installed, as a plain tar, out/fretime-VERSION-x86_64-linux.tar.gz
 # make version    the version, which stands in the program's command line alone
+# make clean      takes away out/, with these packages; what was proved and built in crates/ stays
+# make help       prints these lines
 
 PREFIX = /usr/local
 BASHDIR = $(PREFIX)/share/bash-completion/completions
@@ -22,14 +24,31 @@ INSTALLED = $(addprefix $(PREFIX)/bin/,$(COMMANDS)) $(addprefix $(MANDIR)/,$(COM
 COMMANDS = fretime fretime_verilog
 # the script from Verilog to Verilog, and its modules, which the examples lead to
 SCRIPTS = fretime_verilog circuits.py netlists.py writing.py
+# the documents that are installed: all but those of work on the sources
+DOCUMENTS = README.md CHANGELOG.md SECURITY.md examples/verilog/README.md \
+	$(filter-out $(addprefix docs/,ARCHITECTURE.md COSTS.md PROOFS.md),$(wildcard docs/*.md))
 STAGE = out/deb
 PACKAGE = out/fretime_$(VERSION)_amd64.deb
 TARBALL = out/fretime-$(VERSION)-x86_64-linux.tar.gz
 WHEELS = out
-FILLED = sed -e 's/@VERSION@/$(VERSION)/' -e 's/@DATE@/$(DATE)/' -e "s/@TIME@/$$(LC_ALL=C date -u -R -d $(DATE))/"
+FILLED = sed -e 's/@VERSION@/$(VERSION)/' -e 's/@DATE@/$(DATE)/'
+
+# A path with a blank would be two to make.
+EMPTY =
+PATHS = PREFIX DESTDIR BASHDIR ZSHDIR FISHDIR MANDIR DOCDIR DATADIR STAGE PACKAGE TARBALL WHEELS
+WITH_BLANKS := $(strip $(foreach it,$(PATHS),$(if $(findstring $(EMPTY) $(EMPTY),$($(it)))$(findstring $(EMPTY)	$(EMPTY),$($(it))),$(it))))
+ifneq ($(WITH_BLANKS),)
+$(error $(firstword $(WITH_BLANKS)): a path here can't have a blank, and nothing was made)
+endif
 
 all:
 	@./fretime --version
+
+help:
+	@sed -n -e '/^#/!q' -e 's/^# //p' Makefile
+
+clean:
+	rm -rf out
 
 test:
 	./test
@@ -43,21 +62,24 @@ version:
 install: all
 	install -d $(DESTDIR)$(PREFIX)/bin $(DESTDIR)$(MANDIR) $(DESTDIR)$(BASHDIR) $(DESTDIR)$(ZSHDIR) $(DESTDIR)$(FISHDIR) \
 		$(DESTDIR)$(DATADIR)
-	install -d $(addprefix $(DESTDIR)$(DOCDIR)/,docs/pictures tests $(addprefix examples/,cluster match proof verilog))
+	install -d $(addprefix $(DESTDIR)$(DOCDIR)/,docs/pictures release tests $(addprefix examples/,cluster match proof verilog))
 	install -m 755 "$$(release/make --program)" $(DESTDIR)$(PREFIX)/bin/fretime
 	for name in $(COMMANDS); do $(FILLED) install/$$name.1 > $(DESTDIR)$(MANDIR)/$$name.1; done
 	chmod 644 $(addprefix $(DESTDIR)$(MANDIR)/,$(COMMANDS:=.1))
 	for name in $(COMMANDS); do install -m 644 install/$$name.bash $(DESTDIR)$(BASHDIR)/$$name; done
 	install -m 644 $(addprefix install/_,$(COMMANDS)) $(DESTDIR)$(ZSHDIR)
 	install -m 644 $(addprefix install/,$(COMMANDS:=.fish)) $(DESTDIR)$(FISHDIR)
-	install -m 644 README.md LICENSE-APACHE LICENSE-MIT release/record $(DESTDIR)$(DOCDIR)
-	install -m 644 docs/*.md docs/reports.schema.json $(DESTDIR)$(DOCDIR)/docs
+	for name in $(DOCUMENTS); do sed -E -f install/documents.sed $$name > $(DESTDIR)$(DOCDIR)/$$name; done
+	chmod 644 $(addprefix $(DESTDIR)$(DOCDIR)/,$(DOCUMENTS))
+	install -m 644 LICENSE-APACHE LICENSE-MIT $(DESTDIR)$(DOCDIR)
+	install -m 644 release/record $(DESTDIR)$(DOCDIR)/release
+	install -m 644 docs/reports.schema.json $(DESTDIR)$(DOCDIR)/docs
 	install -m 644 docs/pictures/*.svg $(DESTDIR)$(DOCDIR)/docs/pictures
 	install -m 644 examples/*.aag examples/*.py $(DESTDIR)$(DOCDIR)/examples
 	install -m 755 examples/cluster/* $(DESTDIR)$(DOCDIR)/examples/cluster
 	install -m 644 examples/match/*.v examples/match/*.ys examples/match/*.stim $(DESTDIR)$(DOCDIR)/examples/match
 	install -m 644 examples/proof/*.aag examples/proof/*.py $(DESTDIR)$(DOCDIR)/examples/proof
-	install -m 644 examples/verilog/README.md examples/verilog/*.v $(DESTDIR)$(DOCDIR)/examples/verilog
+	install -m 644 examples/verilog/*.v $(DESTDIR)$(DOCDIR)/examples/verilog
 	install -m 644 examples/verilog/*.py $(DESTDIR)$(DATADIR)
 	install -m 755 examples/verilog/fretime_verilog $(DESTDIR)$(DATADIR)
 	ln -sfr $(addprefix $(DESTDIR)$(DATADIR)/,$(SCRIPTS)) $(DESTDIR)$(DOCDIR)/examples/verilog
@@ -75,7 +97,7 @@ deb:
 	$(MAKE) install DESTDIR=$(STAGE) PREFIX=/usr ZSHDIR=/usr/share/zsh/vendor-completions
 	rm $(STAGE)/usr/share/doc/fretime/LICENSE-*
 	install -m 644 install/debian/copyright $(STAGE)/usr/share/doc/fretime/copyright
-	$(FILLED) install/debian/changelog | gzip -9n > $(STAGE)/usr/share/doc/fretime/changelog.gz
+	awk -f install/debian/changelog.awk CHANGELOG.md | gzip -9n > $(STAGE)/usr/share/doc/fretime/changelog.gz
 	gzip -9n $(STAGE)/usr/share/man/man1/*.1
 	install -d $(STAGE)/usr/share/lintian/overrides $(STAGE)/DEBIAN
 	install -m 644 install/debian/overrides $(STAGE)/usr/share/lintian/overrides/fretime
@@ -97,4 +119,4 @@ dist:
 		-c fretime-$(VERSION) | gzip -9n > $(TARBALL)
 	rm -rf $(STAGE)
 
-.PHONY: all test prove version install uninstall deb wheel dist
+.PHONY: all help clean test prove version install uninstall deb wheel dist
