@@ -22,6 +22,12 @@ class Refused(Exception):
         super().__init__(f'{word} {about}')
 
 
+def index_of(wire, place):
+    """The index that Verilog gives the bit at a place of a wire."""
+    offset = wire.get('offset', 0)
+    return offset + (len(wire['bits']) - 1 - place if wire.get('upto') else place)
+
+
 @dataclasses.dataclass(frozen=True)
 class Clock:
     """The clock: its port, and whether registers take their values at its rising edge."""
@@ -32,13 +38,18 @@ class Clock:
 @dataclasses.dataclass
 class Names:
     """Names of the netlist's latches, in the order of the file: for each all of its names, and the one that it keeps. A name is
-    that of a wire, with the place of the bit in it, from 0."""
+    that of a wire, with the place of the bit in it, from 0. And the wires."""
     all_names: list
     kept: list
+    wires: dict
 
     def registers(self):
-        """For each latch the names of its registers."""
-        return [{name.removesuffix('$held') for name, _ in names} for names in self.all_names]
+        """For each latch the names of its registers, and those of its bit in them, as acc[3]."""
+        return [{it for name, place in names for it in self.asked_as(name, place)} for names in self.all_names]
+
+    def asked_as(self, name, place):
+        shown = name.removesuffix('$held')
+        return shown, f'{shown}[{index_of(self.wires[name], place)}]'
 
 
 @dataclasses.dataclass(frozen=True)
@@ -186,7 +197,7 @@ def names_of_latches(netlist, found, count):
             raise Refused('Names', 'a register has no name')
         best = preferred(netlist, [name for name, _ in names])
         kept.append(next((name, index) for name, index in names if name == best))
-    return Names(all_names, kept)
+    return Names(all_names, kept, netlist.wires)
 
 
 def outputs_of(netlist, circuit):

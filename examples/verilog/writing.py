@@ -13,12 +13,6 @@ class Register:
     latches: list
 
 
-def index_of(wire, place):
-    """The index that Verilog gives the bit at a place of a wire."""
-    offset = wire.get('offset', 0)
-    return offset + (len(wire['bits']) - 1 - place if wire.get('upto') else place)
-
-
 class Registers:
     """The registers of the retimed circuit, and which latch of the old circuit each of their bits was."""
 
@@ -64,12 +58,12 @@ class Registers:
             self.add(name, wire, latches)
             return
         if whole or neighbours:
-            lowest = min(index_of(wire, bit) for bit in bits)
+            lowest = min(netlists.index_of(wire, bit) for bit in bits)
             part = {**wire, 'bits': latches, 'offset': lowest}
             self.add(self.fresh(f'{shown}_held') if shown in self.taken else shown, part, latches)
             return
         for bit, latch in sorted(bits.items()):
-            self.add(self.fresh(f'{shown}[{index_of(wire, bit)}]'), {'bits': [latch]}, [latch])
+            self.add(self.fresh(f'{shown}[{netlists.index_of(wire, bit)}]'), {'bits': [latch]}, [latch])
 
 
 def identifier(name):
