@@ -1,5 +1,10 @@
 # Completions of fretime for bash.
 
+# made by docs/make: names
+_fretime_commands='retime batch stat convert sim same verify check miter lift dot witness explain help'
+_fretime_faults='BadHeader TooLarge MaxIndex BadLine BadLiteral DefinedTwice Undefined Cycle BadReset BadDelta Truncated BadSymbol Trailing Width TooMany NoSuchProperty TooManySteps NoSuchName NoSuchLatch TooManyNodes NotAMap NoSuchLiteral NotClosed BadRoute UsedTwice CountDiffers NoMemory Device'
+# end of names
+
 # Reads the line up to the cursor, of which nothing is run or expanded but a home folder. Sets `words` to its words without their
 # quotes, the last of which is the one that is completed, `quote` to the quote that is open in that, or to nothing, and `fixed` to the
 # part of it that readline leaves as it is: what stands before that quote, or up to the last sign that breaks words for readline.
@@ -92,26 +97,22 @@ _fretime() {
     COMPREPLY=()
     _fretime_read
     if [ ${#words[@]} = 2 ]; then
-        mapfile -t COMPREPLY < <(compgen -W "retime batch stat convert sim same verify check miter lift dot witness explain help --help --version" -- "$word")
+        mapfile -t COMPREPLY < <(compgen -W "$_fretime_commands --help --version" -- "$word")
         return
     fi
     case ${words[1]} in
-        retime | batch | convert | verify | dot | stat | same | sim | witness | check | miter | lift) options=$(_fretime_options) ;;
         explain)
-            if [ ${#words[@]} = 3 ]; then
-                mapfile -t COMPREPLY < <(compgen -W "--help BadHeader TooLarge MaxIndex BadLine BadLiteral DefinedTwice Undefined Cycle \
-                    BadReset BadDelta Truncated BadSymbol Trailing Width TooMany NoSuchProperty TooManySteps \
-                    NoSuchName NoSuchLatch TooManyNodes NotAMap NoSuchLiteral NotClosed BadRoute UsedTwice CountDiffers NoMemory Device" -- "$word")
-            fi
+            if [ ${#words[@]} = 3 ]; then mapfile -t COMPREPLY < <(compgen -W "--help $_fretime_faults" -- "$word"); fi
             return
             ;;
         help)
-            if [ ${#words[@]} = 3 ]; then
-                mapfile -t COMPREPLY < <(compgen -W "retime batch stat convert sim same verify check miter lift dot witness explain help" -- "$word")
-            fi
+            if [ ${#words[@]} = 3 ]; then mapfile -t COMPREPLY < <(compgen -W "$_fretime_commands" -- "$word"); fi
             return
             ;;
-        *) return ;;
+        *)
+            if [[ " $_fretime_commands " != *" ${words[1]} "* ]]; then return; fi
+            options=$(_fretime_options)
+            ;;
     esac
     case ${words[-2]} in
         --keep)

@@ -12,7 +12,9 @@ function __fretime_names
     for word in (commandline -opc)[3..-1]
         if test $is_value = yes
             set is_value no
-        else if string match -qr '^--(workers|frames|keep|keep-from|keep-latch|cert|out|map|around|depth)$' -- $word
+        # made by docs/make: options with a value
+        else if string match -qr '^--(workers|frames|cert|map|keep|keep-from|keep-latch|random|steps|seed|vcd|kept|out|certificate|around|depth)$' -- $word
+        # end of options with a value
             set is_value yes
         else if not string match -q -- '--*' $word
             set -l circuit (string replace -r '^~/' "$HOME/" -- $word)
@@ -24,6 +26,7 @@ function __fretime_names
     end
 end
 
+# made by docs/make: commands and options
 complete -c fretime -n __fish_use_subcommand -f -a retime -d 'Moves latches forward over gates, frame by frame, until none helps'
 complete -c fretime -n __fish_use_subcommand -f -a batch -d 'Retimes the circuits of a list, many at once'
 complete -c fretime -n __fish_use_subcommand -f -a stat -d 'Counts what a circuit has, as it was read'
@@ -48,14 +51,14 @@ complete -c fretime -n '__fish_seen_subcommand_from retime' -x -l workers -d 'Th
 complete -c fretime -n '__fish_seen_subcommand_from retime' -x -l frames -d 'The most frames to take'
 complete -c fretime -n '__fish_seen_subcommand_from retime' -l near -d 'Move latches as few gates as a least count allows'
 complete -c fretime -n '__fish_seen_subcommand_from retime' -l merge -d 'Merge latches that always agree, before any frame'
+complete -c fretime -n '__fish_seen_subcommand_from retime' -r -l cert -d 'Write a certificate of each frame to FILE'
+complete -c fretime -n '__fish_seen_subcommand_from retime' -r -l map -d 'Write how OUT\'s latches follow from IN\'s to MAP'
+complete -c fretime -n '__fish_seen_subcommand_from retime' -l progress -d 'Write a line to standard error as each frame begins'
+complete -c fretime -n '__fish_seen_subcommand_from retime' -l quiet -d 'Show no progress on a terminal either'
 complete -c fretime -n '__fish_seen_subcommand_from retime' -x -l keep -d 'Hold each latch with this name; may be repeated'
 complete -c fretime -n '__fish_seen_subcommand_from retime' -r -l keep-from -d 'Hold the latches that the lines of FILE name'
 complete -c fretime -n '__fish_seen_subcommand_from retime' -x -l keep-latch -d 'Hold the latch at position n, from 0; may be repeated'
-complete -c fretime -n '__fish_seen_subcommand_from retime' -r -l cert -d 'Write a certificate of each frame to FILE'
-complete -c fretime -n '__fish_seen_subcommand_from retime' -r -l map -d 'Write how OUT\'s latches follow from IN\'s to MAP'
 complete -c fretime -n '__fish_seen_subcommand_from retime' -l json -d 'Print an object of JSON in place of the lines'
-complete -c fretime -n '__fish_seen_subcommand_from retime' -l progress -d 'Write a line to standard error as each frame begins'
-complete -c fretime -n '__fish_seen_subcommand_from retime' -l quiet -d 'Show no progress on a terminal either'
 
 complete -c fretime -n '__fish_seen_subcommand_from batch' -l ascii -d 'Write ASCII'
 complete -c fretime -n '__fish_seen_subcommand_from batch' -l binary -d 'Write binary'
@@ -112,3 +115,4 @@ complete -c fretime -n '__fish_seen_subcommand_from dot' -x -l around -a '(__fre
     -d 'Draw the neighbourhood of what has this name alone'
 
 complete -c fretime -n '__fish_seen_subcommand_from explain' -f -a 'BadHeader TooLarge MaxIndex BadLine BadLiteral DefinedTwice Undefined Cycle BadReset BadDelta Truncated BadSymbol Trailing Width TooMany NoSuchProperty TooManySteps NoSuchName NoSuchLatch TooManyNodes NotAMap NoSuchLiteral NotClosed BadRoute UsedTwice CountDiffers NoMemory Device'
+# end of commands and options

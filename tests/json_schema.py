@@ -8,7 +8,7 @@ TYPES = {
     'boolean': lambda value: isinstance(value, bool),
     'null': lambda value: value is None,
 }
-WORDS = {'$schema', '$defs', '$ref', 'title', 'type', 'const', 'enum', 'oneOf', 'minimum', 'items', 'properties', 'required',
+WORDS = {'$schema', '$defs', '$ref', 'title', 'description', 'type', 'const', 'enum', 'oneOf', 'minimum', 'items', 'properties', 'required',
          'additionalProperties'}
 
 

@@ -1,5 +1,5 @@
-"""Runs the commands that README.md, docs/TUTORIAL.md and docs/EMBEDDING.md show, and compares what they print with what these say,
-so that a reader gets what the text promises. Commands of programs that aren't installed are left out, and so are those after them
+"""Runs the commands that README.md, docs/TUTORIAL.md and docs/EMBEDDING.md show, and compares what they print with what these and
+docs/MANUAL.md say, so that a reader gets what the text promises. Commands of programs that aren't installed are left out, and so are those after them
 that rest on their files."""
 import dataclasses
 import os
@@ -39,16 +39,16 @@ class Saying:
 SAYINGS = [
     Saying('README.md', 'retime examples/two_latches.aag out.aag', 0, 'frame 1: 2 to 1'),
     Saying('README.md', 'retime examples/two_latches.aag out.aag', 0, 'latches 2 to 1'),
-    Saying('README.md', 'retime examples/refused.aag out.aag', 1, 'examples/refused.aag: DefinedTwice at 16'),
-    Saying('README.md', 'retime examples/two_latches.aag out.aag --keep none', 1, 'NoSuchName'),
-    Saying('README.md', 'retime missing.aag out.aag', 3, 'device'),
-    Saying('README.md', 'retime examples/two_latches.aag out.aag --workers 65', 2, '--workers'),
+    Saying('docs/MANUAL.md', 'retime examples/refused.aag out.aag', 1, 'examples/refused.aag: DefinedTwice at 16'),
+    Saying('docs/MANUAL.md', 'retime examples/two_latches.aag out.aag --keep none', 1, 'NoSuchName'),
+    Saying('docs/MANUAL.md', 'retime missing.aag out.aag', 3, 'device'),
+    Saying('docs/MANUAL.md', 'retime examples/two_latches.aag out.aag --workers 65', 2, '--workers'),
     Saying('README.md', 'stat examples/two_latches.aag', 0, 'latches'),
-    Saying('README.md', 'retime examples/two_latches.aag out.aag --cert two.cert', 0, 'latches 2 to 1'),
-    Saying('README.md', 'verify examples/two_latches.aag two.cert', 0, 'end certified'),
-    Saying('README.md', 'verify examples/two_latches.aag two.cert --keep none', 1, 'NoSuchName'),
+    Saying('docs/MANUAL.md', 'retime examples/two_latches.aag out.aag --cert two.cert', 0, 'latches 2 to 1'),
+    Saying('docs/MANUAL.md', 'verify examples/two_latches.aag two.cert', 0, 'end certified'),
+    Saying('docs/MANUAL.md', 'verify examples/two_latches.aag two.cert --keep none', 1, 'NoSuchName'),
     Saying('README.md', 'stat examples/two_latches.aag', 0, 'free'),
-    *(Saying('README.md', f'{command} --help', 0, option) for command, options in
+    *(Saying('docs/MANUAL.md', f'{command} --help', 0, option) for command, options in
       {'retime': ['--ascii', '--binary', '--workers', '--frames', '--keep', '--cert'], 'convert': ['--ascii', '--binary']}.items()
       for option in options),
     Saying('docs/TUTORIAL.md', 'stat less.aig', 0, 'passable'),
@@ -223,9 +223,9 @@ def faults_of_commands(program):
     """Each command and printed text of these documents, with what is wrong; or 'left out' with a command. A block of code is
     commands where its first word is a program; what is printed where the paragraph before it says 'prints'; and else the contents
     of the file that the paragraph before it names."""
-    for path in (TOP / 'README.md', TOP / 'docs' / 'TUTORIAL.md', TOP / 'docs' / 'EMBEDDING.md'):
+    for path in (TOP / 'README.md', TOP / 'docs' / 'MANUAL.md', TOP / 'docs' / 'TUTORIAL.md', TOP / 'docs' / 'EMBEDDING.md'):
         folder = folder_of(path)
-        shown = pages.blocks(path, is_command)
+        shown = [] if path.name == 'MANUAL.md' else pages.blocks(path, is_command)
         yield from faults_of_files(path, folder, shown)
         for number, block in enumerate(shown):
             if is_commands(block):

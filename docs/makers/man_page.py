@@ -1,0 +1,71 @@
+"""The synopsis and the options of the man page install/fretime.1."""
+import re
+
+from manual import described
+
+
+def plain(text):
+    """A text, as roff takes it as it is."""
+    text = text.replace('\\', '\\e').replace('-', '\\-')
+    return re.sub(r"(?m)^(?=[.'])", r'\\&', text)
+
+
+def fonts(text):
+    """A text in which backquotes stand round words: arguments are in italics, all else that is typed or printed is bold."""
+    parts = re.split('`([^`]*)`', text)
+    shown = [plain(part) if number % 2 == 0 else ('\\fI' if part.isupper() else '\\fB') + plain(part) + '\\fR'
+             for number, part in enumerate(parts)]
+    return ''.join(shown)
+
+
+def option_words(option):
+    """An option in the synopsis, as macros of one bracket need it."""
+    return f'{plain("--" + option.name)}'
+
+
+def bracket(command, group):
+    """The lines of a group of options in the synopsis."""
+    option = group[0]
+    if len(group) > 1 and not any(it.value for it in group):
+        return ['.RB [ ' + ' " | " '.join(option_words(it) for it in group) + ' ]']
+    lines = []
+    for number, it in enumerate(group):
+        end = '"]..."' if it.repeats else ']'
+        begin = '[' if number == 0 else '"| "'
+        inner = command.needing(it)
+        end = end if number == len(group) - 1 and not inner else ''
+        lines += [f'.RB {begin} {option_words(it)}' + ('' if it.value or not end else f' {end}')]
+        lines += [f'.IR {it.value} {end}'.rstrip()] if it.value else []
+        for place, other in enumerate(inner):
+            close = ']]' if place == len(inner) - 1 else ']'
+            lines += [f'.RB [ {option_words(other)}' + ('' if other.value else f' {close}')]
+            lines += [f'.IR {other.value} {close}'] if other.value else []
+    return lines
+
+
+def synopsis(program):
+    """The synopsis of all commands."""
+    each = []
+    for command in program.commands.values():
+        lines = [f'.B fretime {command.name}', f'.I {" ".join(command.required)}']
+        lines += [f'.RI [ {name} ]' for name in command.optional]
+        for group in command.groups():
+            lines += bracket(command, group)
+        each.append('\n'.join(lines))
+    return '\n.br\n'.join([*each, '.B fretime help\n.RI [ COMMAND ]']) + '\n'
+
+
+def options(program, details):
+    """The options of all commands that have any."""
+    lines = []
+    for command in program.commands.values():
+        lines += [f'.SS Of {command.name}'] if command.options else []
+        for option in command.options:
+            head = f'.BI {plain("--" + option.name)} " {option.value}"' if option.value else f'.B {plain("--" + option.name)}'
+            lines += ['.TP', head, *sentences(fonts(described(command, option, details)))]
+    return '\n'.join(lines) + '\n'
+
+
+def sentences(text):
+    """A sentence a line, as man pages have them."""
+    return re.sub(r'(?<=[^.]\.) (?=\S)', '\n', text).split('\n')
