@@ -188,9 +188,7 @@ def fast(stored):
     took = f'{seconds_of(large)} s and {megabytes_of(large)} MB'
     more = f'A circuit of 10^7 gates with two frames took {took}. ' if 'seconds' in large else ''
     paragraph = ('Seconds and megabytes of the whole process by one worker, beside `fretime -f` of ABC 1.01; `bench/RESULTS.md` has the '
-                 f'rest. {measured(stored).replace("**", "")} {more}`GLIBC_TUNABLES=glibc.malloc.hugetlb=1` in the environment, which '
-                 'asks for pages of 2 MB, makes a run over millions of gates quicker. `--workers` helps little in `retime`, and much in '
-                 '`batch`, where it is how many circuits are retimed at once.')
+                 f'rest. {measured(stored).replace("**", "")} {more}').strip()
     return [*textwrap.wrap(paragraph, 128), '', *table([HEAD[k] for k in wanted], [[cells[k] for k in wanted] for cells in rows])]
 
 
