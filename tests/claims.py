@@ -4,6 +4,8 @@ import re
 
 from tree import CRATES, TOP, crates, crates_with_a_test, is_of_tests, sources
 
+# The most lines of a function's body.
+LONGEST_FUNCTION = 40
 WORDS = 'no one two three four five six seven eight nine ten eleven twelve'.split()
 NUMBERS = {word: number for number, word in enumerate(WORDS)}
 
@@ -75,6 +77,7 @@ def claims():
     """All claims that are computed."""
     greatest = constant('reader_parts', 'GREATEST_VARIABLE')
     return [
+        Claim('CONTRIBUTING.md', r'functions of at most (\d+) lines', LONGEST_FUNCTION),
         Claim('README.md', r'With `([^`]+)`', kit()),
         Claim('docs/PROVED.md', r'With `([^`]+)`', kit()),
         Claim('docs/PROVED.md', r'every beginning of (\w+) files', cases_of('beginnings')),

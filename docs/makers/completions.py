@@ -25,8 +25,12 @@ def bash(program):
 
 def zsh_value(option):
     """What completes the value of an option."""
-    kinds = {'': '', 'n': ': ', 'NAME': ':_fretime_around' if option.name == AROUND else ':_fretime_names'}
-    return f':{option.value}' + kinds.get(option.value, ':_files') if option.value else ''
+    if not option.value:
+        return ''
+    if option.value == 'NAME':
+        return f':NAME:_fretime_{AROUND if option.name == AROUND else "names"}'
+    choices = f'({" ".join(option.choices)})' if option.choices else ' ' if option.is_number else '_files'
+    return f':{option.value}:{choices}'
 
 
 def zsh_option(option):
@@ -62,7 +66,7 @@ def fish_values(program):
 
 def fish_option(command, option):
     """The line of an option; names are no files."""
-    takes = '' if not option.value else ' -x' if option.value in ('n', 'NAME') else ' -r'
+    takes = '' if not option.value else ' -x' if option.is_number or option.choices or option.value == 'NAME' else ' -r'
     return (f"complete -c fretime -n '__fish_seen_subcommand_from {command.name}'{takes} -l {option.name} "
             f"-d '{quoted_for_fish(option.about)}'\n")
 

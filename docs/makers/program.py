@@ -8,20 +8,25 @@ import subprocess
 import tempfile
 
 import helps
+from marks import NotMade
 
 
 class Option:
     """An option of a command: its name, the name of its value, its line of help, its default, and how it goes with the others."""
 
     def __init__(self, name, value, about, default):
-        self.name, self.value, self.about, self.default = name, value, about, default
+        self.name, self.value, self.default = name, value, default
+        self.about, _, choices = about.partition(' [possible values: ')
+        self.choices = re.findall(r'[\w-]+', choices)
+        self.is_number = value in ('n', 'N')
         self.repeats = False
         self.needs = None
         self.excludes = set()
 
     def words(self, number=1):
         """The option as it is given, with a value of its kind."""
-        return [f'--{self.name}', *([str(number) if self.value == 'n' else f'{self.name}{number}'] if self.value else [])]
+        text = str(number) if self.is_number else self.choices[0] if self.choices else f'{self.name}{number}'
+        return [f'--{self.name}', *([text] if self.value else [])]
 
     def shown(self):
         return f'--{self.name} {self.value}' if self.value else f'--{self.name}'
@@ -54,7 +59,9 @@ class Command:
         for option in self.options:
             if not taken(option):
                 partners = [it for it in self.options if it is not option and taken(it, option)]
-                option.needs = partners[0] if partners else None
+                if not partners:
+                    raise NotMade(f'{self.name} --{option.name} is refused by itself and beside each other option')
+                option.needs = partners[0]
             beside = [option.needs] if option.needs else []
             option.repeats = taken(*beside, option, option)
         alone = [it for it in self.options if it.needs is None]
