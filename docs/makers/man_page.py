@@ -1,4 +1,5 @@
-"""The synopsis and the options of the man page install/fretime.1."""
+"""The synopsis, the description of each command and the options of the man page install/fretime.1."""
+import itertools
 import re
 
 from manual import described
@@ -6,8 +7,7 @@ from manual import described
 
 def plain(text):
     """A text, as roff takes it as it is."""
-    text = text.replace('\\', '\\e').replace('-', '\\-')
-    return re.sub(r"(?m)^(?=[.'])", r'\\&', text)
+    return text.replace('\\', '\\e').replace('-', '\\-')
 
 
 def fonts(text):
@@ -55,17 +55,45 @@ def synopsis(program):
     return '\n.br\n'.join([*each, '.B fretime help\n.RI [ COMMAND ]']) + '\n'
 
 
-def options(program, details):
+def options(program, notes):
     """The options of all commands that have any."""
     lines = []
     for command in program.commands.values():
         lines += [f'.SS Of {command.name}'] if command.options else []
         for option in command.options:
             head = f'.BI {plain("--" + option.name)} " {option.value}"' if option.value else f'.B {plain("--" + option.name)}'
-            lines += ['.TP', head, *sentences(fonts(described(command, option, details)))]
+            lines += ['.TP', head, *sentences(fonts(described(command, option, notes)))]
     return '\n'.join(lines) + '\n'
 
 
+def prose(paragraph):
+    """A paragraph of the help: what is shifted by two columns is an example."""
+    for is_code, lines in itertools.groupby(paragraph, lambda line: line.startswith('  ')):
+        if is_code:
+            yield from ['.PP', '.in +4n', '.EX', *(plain(line.strip()) for line in lines), '.EE', '.in', '.PP']
+        else:
+            yield from sentences(fonts(' '.join(lines)))
+
+
+def description(command, notes):
+    """What the help says of a command, but for its arguments, its options and its statuses, and what is said beside that."""
+    texts = [it for it in command.before + command.after if not it[0].startswith('Exit status:')]
+    if len(command.before) == 1:
+        texts[0] = [*texts[0][:-1], texts[0][-1] + '.']
+    lines = [f'.SS {command.name}']
+    for paragraph in [*texts, *([text] for text in notes.of_commands.get(command.name, []))]:
+        lines += ['.PP', *prose(paragraph)]
+    wanted = [line for line, after in zip(lines, [*lines[1:], '']) if (line, after) != ('.PP', '.PP')]
+    return '\n'.join(wanted[:1] + wanted[2:]).removesuffix('\n.PP') + '\n'
+
+
+def descriptions(program, notes):
+    """The descriptions of all commands."""
+    last = '.SS help\nPrints the help of the program or of\n.IR COMMAND .\n'
+    return ''.join([*(description(command, notes) for command in program.commands.values()), last])
+
+
 def sentences(text):
-    """A sentence a line, as man pages have them."""
-    return re.sub(r'(?<=[^.]\.) (?=\S)', '\n', text).split('\n')
+    """A sentence a line, as man pages have them; a line that begins like a macro is marked as text."""
+    lines = re.sub(r'(?<=[^.]\.) (?=\S)', '\n', text).split('\n')
+    return [re.sub(r"^(?=[.'])", r'\\&', line) for line in lines]

@@ -1,5 +1,6 @@
 """The part of docs/MANUAL.md that says what the help says: each command with its synopsis, its arguments, its options and its statuses."""
 import re
+import textwrap
 
 MOST_COLUMNS = 100
 
@@ -53,7 +54,7 @@ def table(head, rows):
     return [f'| {" | ".join(head)} |', '|---' * len(head) + '|', *(f'| {" | ".join(row)} |' for row in rows)]
 
 
-def described(command, option, details):
+def described(command, option, notes):
     """What an option does: its line of help, its default, what it excludes or needs, and what is said of it beside that."""
     texts = [option.about + '.']
     if option.default:
@@ -64,10 +65,10 @@ def described(command, option, details):
         texts.append(f'Only with `--{option.needs.name}`.')
     if option.excludes:
         texts.append(f'Not with {", ".join(f"`--{name}`" for name in sorted(option.excludes))}.')
-    return ' '.join([*texts, details.get((command.name, option.name), '')]).strip()
+    return ' '.join([*texts, notes.of_options.get((command.name, option.name), '')]).strip()
 
 
-def section(command, details):
+def section(command, notes):
     """The section of a command."""
     lines = [f'### `{command.name}`', '', '```', *synopsis(command), '```']
     for paragraph in command.before:
@@ -75,10 +76,12 @@ def section(command, details):
         if len(command.before) == 1:
             text[-1] += '.'
         lines += ['', *text]
+    for text in notes.of_commands.get(command.name, []):
+        lines += ['', *textwrap.wrap(text, 128)]
     if command.arguments:
         lines += ['', *table(['Argument', 'What it is'], [[f'`{name}`', about] for name, about in command.arguments.items()])]
     if command.options:
-        rows = [[f'`{option.shown()}`', described(command, option, details)] for option in command.options]
+        rows = [[f'`{option.shown()}`', described(command, option, notes)] for option in command.options]
         lines += ['', *table(['Option', 'What it does'], rows)]
     for paragraph in command.after:
         if paragraph[0].startswith('Exit status:'):
@@ -88,8 +91,8 @@ def section(command, details):
     return '\n'.join(lines) + '\n'
 
 
-def commands(program, details):
+def commands(program, notes):
     """The part of the manual about the commands."""
     rows = [[f'[`{name}`](#{name})', program.abouts[name]] for name in program.commands]
     head = '\n'.join(table(['Command', 'What it does'], rows))
-    return '\n'.join([head + '\n', *(section(command, details) for command in program.commands.values())])
+    return '\n'.join([head + '\n', *(section(command, notes) for command in program.commands.values())])
