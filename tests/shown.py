@@ -1,6 +1,6 @@
 """Runs the commands that README.md, docs/TUTORIAL.md and docs/EMBEDDING.md show, and compares what they print with what these and
-docs/MANUAL.md say, so that a reader gets what the text promises. Commands of programs that aren't installed are left out, and so are those after them
-that rest on their files."""
+docs/MANUAL.md say, so that a reader gets what the text promises. Commands of programs that aren't installed are left out, and so are
+those after them that rest on their files."""
 import dataclasses
 import os
 import pathlib

@@ -45,7 +45,8 @@ def zsh_block(program, command):
     kinds = f'({" ".join(program.faults)})' if command.name == 'explain' else '_files'
     arguments = ' '.join(f"'{number}:{name}:{kinds}'" for number, name in enumerate(names, 2))
     lines = [*map(zsh_option, command.options), "'(-h --help)'{-h,--help}'[Print help]'", arguments]
-    return f'        {command.name})\n            _arguments \\\n' + ' \\\n'.join(f'                {it}' for it in lines) + '\n            ;;\n'
+    listed = ' \\\n'.join(f'                {it}' for it in lines)
+    return f'        {command.name})\n            _arguments \\\n{listed}\n            ;;\n'
 
 
 def zsh_abouts(program):

@@ -18,41 +18,27 @@ def fonts(text):
     return ''.join(shown)
 
 
-def option_words(option):
-    """An option in the synopsis, as macros of one bracket need it."""
-    return f'{plain("--" + option.name)}'
+def flag(option):
+    """The word of an option."""
+    return plain(f'--{option.name}')
 
 
-def bracket(command, group):
-    """The lines of a group of options in the synopsis."""
-    option = group[0]
-    if len(group) > 1 and not any(it.value for it in group):
-        return ['.RB [ ' + ' " | " '.join(option_words(it) for it in group) + ' ]']
-    lines = []
-    for number, it in enumerate(group):
-        end = '"]..."' if it.repeats else ']'
-        begin = '[' if number == 0 else '"| "'
-        inner = command.needing(it)
-        end = end if number == len(group) - 1 and not inner else ''
-        lines += [f'.RB {begin} {option_words(it)}' + ('' if it.value or not end else f' {end}')]
-        lines += [f'.IR {it.value} {end}'.rstrip()] if it.value else []
-        for place, other in enumerate(inner):
-            close = ']]' if place == len(inner) - 1 else ']'
-            lines += [f'.RB [ {option_words(other)}' + ('' if other.value else f' {close}')]
-            lines += [f'.IR {other.value} {close}'] if other.value else []
-    return lines
+def shown(command, option):
+    """An option in the synopsis, with its value, and with what needs it."""
+    value = f' \\fI{option.value}\\fR' if option.value else ''
+    return f'\\fB{flag(option)}\\fR{value}' + ''.join(f' [{shown(command, it)}]' for it in command.needing(option))
 
 
 def synopsis(program):
-    """The synopsis of all commands."""
+    """The synopsis of all commands, a line for each group of options."""
     each = []
     for command in program.commands.values():
-        lines = [f'.B fretime {command.name}', f'.I {" ".join(command.required)}']
-        lines += [f'.RI [ {name} ]' for name in command.optional]
+        lines = [f'\\fBfretime {command.name}\\fR', f'\\fI{" ".join(command.required)}\\fR']
+        lines += [f'[\\fI{name}\\fR]' for name in command.optional]
         for group in command.groups():
-            lines += bracket(command, group)
+            lines += [f'[{" | ".join(shown(command, it) for it in group)}]' + ('...' if group[0].repeats else '')]
         each.append('\n'.join(lines))
-    return '\n.br\n'.join([*each, '.B fretime help\n.RI [ COMMAND ]']) + '\n'
+    return '\n.br\n'.join([*each, '\\fBfretime help\\fR\n[\\fICOMMAND\\fR]']) + '\n'
 
 
 def options(program, notes):
@@ -61,7 +47,7 @@ def options(program, notes):
     for command in program.commands.values():
         lines += [f'.SS Of {command.name}'] if command.options else []
         for option in command.options:
-            head = f'.BI {plain("--" + option.name)} " {option.value}"' if option.value else f'.B {plain("--" + option.name)}'
+            head = f'.BI {flag(option)} " {option.value}"' if option.value else f'.B {flag(option)}'
             lines += ['.TP', head, *sentences(fonts(described(command, option, notes)))]
     return '\n'.join(lines) + '\n'
 

@@ -45,7 +45,7 @@ class Command:
         defaults = dict(re.findall(r'--([a-z-]+) <\w+> .*\[default: (\d+)\]$', said(program, name, '-h'), re.M))
         self.options = [Option(it, value, told.abouts[it], defaults.get(it)) for it, value in told.options.items()]
         help_text = said(program, name, '--help')
-        self.arguments = dict(re.findall(r'^  [<\[](\w+)[>\]]\s+(\S.*)$', part_of(help_text, 'Arguments'), re.M))
+        self.arguments = arguments_in(help_text)
         head, _, rest = help_text.partition('\nUsage: ')
         self.before = paragraphs(head)
         tail = re.split(r'(?m)^ *-h, --help +Print help.*\n|^ *-h, --help\n +Print help.*\n', rest, maxsplit=1)[-1]
@@ -102,10 +102,11 @@ def said(program, *words):
     return helps.call(program, *words).stderr
 
 
-def part_of(text, title):
-    """The part of a help below a title, up to the next one, with what a name is said to be on the line of the name."""
-    found = re.search(rf'(?ms)^{title}:\n(.*?)(?=^\w|\Z)', text)
-    return re.sub(r'([>\]])\n +', r'\1  ', found[1]) if found else ''
+def arguments_in(text):
+    """The arguments that a help lists, each with what it is, on its own line or on those below."""
+    part = re.search(r'(?ms)^Arguments:\n(.*?)(?=^\w|\Z)', text)
+    found = re.findall(r'(?m)^  [<\[](\w+)[>\]](.*(?:\n {6,}\S.*)*)', part[1]) if part else []
+    return {name: ' '.join(about.split()) for name, about in found}
 
 
 def paragraphs(text):

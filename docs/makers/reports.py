@@ -4,9 +4,10 @@ import re
 import textwrap
 
 from manual import table
-from marks import TOP, NotMade, text_of
+from marks import TOP, NotMade
 
 SCHEMA = 'docs/reports.schema.json'
+KINDS = {'null': '`null`', 'string': 'a text', 'boolean': '`true` or `false`', 'integer': 'a number', 'object': 'an object'}
 # The crates whose files of faults have those of commands with --json, and those faults of json_reports that other commands alone have.
 WITH_FAULTS = ('file_words', 'lane_sim', 'batch_lists', 'certificate_files', 'json_reports')
 OF_OTHERS = {'TooManyNodes': ['dot'], 'NotAMap': ['check', 'miter', 'lift'], 'NoSuchLiteral': ['lift']}
@@ -47,7 +48,7 @@ class Objects:
             return ', '.join(f'`{json.dumps(it)}`' for it in texts)
         if value['type'] == 'array':
             return 'array: each is ' + self.kind(value['items'])
-        return {'null': '`null`', 'string': 'a text', 'boolean': '`true` or `false`', 'integer': 'a number', 'object': 'an object'}[value['type']]
+        return KINDS[value['type']]
 
     def rows(self, title, definition, before=''):
         """A row for each member, and for those of an object that stands in it."""
