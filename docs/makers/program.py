@@ -38,8 +38,7 @@ class Command:
     def __init__(self, program, name, about):
         self.name, self.about = name, about
         told = helps.Command(program, name)
-        usage = re.search(rf'^Usage: \S+ {name}(.*)$', said(program, name, '-h'), re.M)[1]
-        arguments = [word for word in usage.split() if word != '[OPTIONS]']
+        arguments = words_of_usage(said(program, name, '-h'), name)
         self.required = [word.strip('<>') for word in arguments if word.startswith('<')]
         self.optional = [word.strip('[]') for word in arguments if word.startswith('[')]
         defaults = dict(re.findall(r'--([a-z-]+) <\w+> .*\[default: (\d+)\]$', said(program, name, '-h'), re.M))
@@ -100,6 +99,13 @@ class Program:
 
 def said(program, *words):
     return helps.call(program, *words).stderr
+
+
+def words_of_usage(text, name):
+    """The arguments in the usage of a command; one in whose place an option may stand (`<STIM|--random <n>>`) may be left out."""
+    usage = re.search(rf'^Usage: \S+ {name}(.*(?:\n {{2,}}\S.*)*)', text, re.M)[1]
+    usage = re.sub(r'<(\w+)\|--[a-z-]+ <\w+>>', r'[\1]', usage)
+    return [word for word in usage.split() if word != '[OPTIONS]']
 
 
 def arguments_in(text):
