@@ -1,5 +1,5 @@
 use Rattle.binary_reader.proofs.CuttingLaws.{taken_where_pushed, refused_where_pushed, first_and_rest}
-use Rattle.binary_reader.proofs.delta.take_byte.Goals as goal
+use Rattle.binary_reader.proofs.delta.take_delta.Goals as goal
 
 pub returns-in-Ok-clause-taken : goal.returns-in-Ok-clause-taken
 returns-in-Ok-clause-taken c at state end_delta are =
