@@ -51,7 +51,7 @@ class Command:
     def __init__(self, program, name):
         said = call(program, name, '-h').stderr
         usage = re.search(r'^Usage: \S+ ' + name + r'(.*)$', said, re.M)[1]
-        self.arguments = arguments_in(usage.split())
+        self.arguments = arguments_in(re.sub(r'\|--\w+ <\w+>(?=>)', '', usage).split())
         found = re.findall(r'^ +(?:-\w, )?--([a-z-]+)(?: <(\w+)>)? +(\S.*?)(?: \[default: \d+\])?$', said, re.M)
         self.options = {option: value for option, value, _ in found if option != 'help'}
         self.abouts = {option: about for option, _, about in found if option != 'help'}

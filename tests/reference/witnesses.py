@@ -92,8 +92,9 @@ def kept_free(c, d, merge):
 
 
 def carried(c, d, kept, latches):
-    free = [digit for digit, (_, reset) in zip(latches, d.latches) if reset is FREE]
-    values = iter(free[kept.index(place)] if place in kept else 'x' for place in range(c.free_latches()))
+    """The values of c's latches that are simulated: 0 for each x, and where d has none."""
+    free = [digit.replace('x', '0') for digit, (_, reset) in zip(latches, d.latches) if reset is FREE]
+    values = iter(free[kept.index(place)] if place in kept else '0' for place in range(c.free_latches()))
     return ''.join(next(values) if reset is FREE else str(reset) for _, reset in c.latches)
 
 
@@ -104,7 +105,7 @@ def carried_text(c, d, data, merge):
     kept = kept_free(c, d, merge) if counts[0] == counts[1] else None
     if kept is None:
         return 'shapes differ\n', 1
-    back, comments = carried(c, d, kept, latches), []
+    back, rows, comments = carried(c, d, kept, latches), [row.replace('x', '0') for row in rows], []
     for kind, number in properties:
         if kind == 'j':
             return f"j{number} isn't checked\n", 5

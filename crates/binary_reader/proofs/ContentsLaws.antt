@@ -1,8 +1,9 @@
 -- The next item by the contents.
-use Rattle.std.proofs.Common.{ℕ, ◌+◌, ◌*◌, ◌<◌, ◌≤◌, ◌≡◌, length, Bool, true, false, cond, nat_lt, refl, sym, ap, ap₂, ◌∙◌, arith}
+use Rattle.std.proofs.Common.{ℕ, ◌+◌, ◌*◌, ◌<◌, ◌≤◌, ◌≡◌, [], ◌∷◌, ◌++◌, length, Bool, true, false, cond, nat_lt, refl, sym, ap, ap₂, ◌∙◌, arith}
 use Rattle.std.specs.List.{sum}
-use Rattle.std.proofs.lemmas.Bool.{cond-false, le-ltb, ltb-true, ltb-false}
+use Rattle.std.proofs.lemmas.Bool.{cond-false, le-ltb, lt-ltb, ltb-true, ltb-false}
 use Rattle.std.proofs.lemmas.List.{length-map}
+use Rattle.aig_graph.specs.declared.graph.Gate.{Gate}
 use Rattle.ascii_file.specs.declared.header.Header.{Header}
 use Rattle.ascii_file.specs.declared.raw.Section.{Section}
 use Rattle.ascii_file.specs.declared.raw.Section.TheVariants.{Inputs, Latches, Safety, Sizes, Liveness, Gates, Symbols}
@@ -10,6 +11,7 @@ use Rattle.ascii_file.specs.Raw.{Raw, safety_count, liveness_count}
 use Rattle.ascii_file.specs.Reading as ascii
 use Rattle.binary_file.specs.Items.{next_section, next_latch, next_gate}
 use Rattle.binary_reader.specs.Contents.{Contents, latch_of, gate_of, IsAt, section_of, latch_literal, gate_literal}
+use Rattle.binary_reader.specs.Items.{with_gate}
 
 -- the section of the next item
 pub section_is : (c : Contents) (h : Header) (raw : Raw) → IsAt c h raw → section_of c ≡ next_section h raw
@@ -56,6 +58,17 @@ gates_have_room false false false false false is = absurd cc
 -- and so of gates
 pub gate_room : (c : Contents) → section_of c ≡ Gates → length c.gates < c.header.gates
 gate_room c is = ltb-true _ _ (gates_have_room _ _ _ _ _ is)
+
+gates_again : (a b c d e : Bool) → first_with_room a b c d e ≡ Gates → (again : Bool) → again ≡ true → first_with_room a b c d again ≡ Gates
+gates_again true b c d e is again room = absurd cc
+gates_again false true c d e is again room = absurd cc
+gates_again false false true d e is again room = absurd cc
+gates_again false false false true e is again room = absurd cc
+gates_again false false false false e is again room = ap (λ (x : Bool). cond x Gates Symbols) room
+
+-- gates still come next after a gate, where one is missing then
+pub gates_stay : (c : Contents) (gate : Gate) → section_of c ≡ Gates → length (c.gates ++ gate ∷ []) < c.header.gates → section_of (with_gate c gate) ≡ Gates
+gates_stay c gate is room = gates_again _ _ _ _ _ is (nat_lt (length (c.gates ++ gate ∷ [])) c.header.gates) (lt-ltb (length (c.gates ++ gate ∷ [])) c.header.gates room)
 
 none_has_room : (a b c d e : Bool) → first_with_room a b c d e ≡ Symbols → (a ≡ false) × (b ≡ false) × (c ≡ false) × (d ≡ false) × (e ≡ false)
 none_has_room true b c d e is = absurd cc

@@ -10,40 +10,76 @@ use Rattle.binary_file.specs.declared.deltas.decode.DeltaError.{DeltaError}
 use Rattle.binary_file.specs.declared.deltas.decode.DeltaError.TheVariants.{TooLong}
 use Rattle.binary_file.specs.Reading.{State, feed}
 use Rattle.binary_file.proofs.StepLaws.{delta_fed}
-use Rattle.binary_reader.specs.Cutting.{BeginsWithDelta, IsShortDelta, AreDeltaStates, IsTaken}
+use Rattle.binary_reader.specs.Cutting.{BeginsWithDelta, AreDeltaStates, IsTaken}
 
--- ---- deltas of at most three bytes
+-- ---- deltas that are whole
 
 -- bytes of which the first is below 128 begin with the delta of that byte
-pub one_byte : (bytes : List ℕ) (number : ℕ) → 3 ≤ length bytes → get_or bytes 0 0 < 128 → number ≡ get_or bytes 0 0 → BeginsWithDelta bytes number (drop 1 bytes)
+pub one_byte : (bytes : List ℕ) (number : ℕ) → 5 ≤ length bytes → get_or bytes 0 0 < 128 → number ≡ get_or bytes 0 0 % 128 → BeginsWithDelta bytes number (drop 1 bytes)
 unfolding is_delta delta_value
 one_byte [] number enough small e = absurd (omega (arith, enough))
-one_byte (b ∷ bytes) number enough small e = record { delta = b ∷ []; parts = refl; form = lt-ltb b 128 small; few = omega arith; value = omega (arith, e, small) }
+one_byte (b ∷ bytes) number enough small e = record {
+  delta = b ∷ [];
+  parts = refl;
+  form = lt-ltb b 128 small;
+  few = omega arith;
+  value = omega (arith, e, small);
+}
 
 -- bytes of which the second is the first below 128 begin with the delta of these two
-pub two_bytes : (bytes : List ℕ) (number : ℕ) → 3 ≤ length bytes → 128 ≤ get_or bytes 0 0 → get_or bytes 1 0 < 128 → number ≡ get_or bytes 0 0 % 128 + 128 * get_or bytes 1 0 → BeginsWithDelta bytes number (drop 2 bytes)
+pub two_bytes : (bytes : List ℕ) (number : ℕ) → 5 ≤ length bytes → 128 ≤ get_or bytes 0 0 → get_or bytes 1 0 < 128 → number ≡ get_or bytes 0 0 % 128 + 128 * (get_or bytes 1 0 % 128) → BeginsWithDelta bytes number (drop 2 bytes)
 unfolding is_delta delta_value
-two_bytes [] number enough high small e = absurd (omega (arith, enough))
-two_bytes (b ∷ []) number enough high small e = absurd (omega (arith, enough))
-two_bytes (b ∷ d ∷ bytes) number enough high small e = record {
+two_bytes [] number enough high0 small e = absurd (omega (arith, enough))
+two_bytes (b ∷ []) number enough high0 small e = absurd (omega (arith, enough))
+two_bytes (b ∷ d ∷ bytes) number enough high0 small e = record {
   delta = b ∷ d ∷ [];
   parts = refl;
-  form = and_from (nat_lt 127 b) (nat_lt d 128) (lt-ltb 127 b (omega (arith, high))) (lt-ltb d 128 small);
+  form = and_from (nat_lt 127 b) (nat_lt d 128) (lt-ltb 127 b (omega (arith, high0))) (lt-ltb d 128 small);
   few = omega arith;
   value = omega (arith, e, small);
 }
 
 -- bytes of which the third is the first below 128 begin with the delta of these three
-pub three_bytes : (bytes : List ℕ) (number : ℕ) → 3 ≤ length bytes → 128 ≤ get_or bytes 0 0 → 128 ≤ get_or bytes 1 0 → get_or bytes 2 0 < 128
-    → number ≡ get_or bytes 0 0 % 128 + 128 * (get_or bytes 1 0 % 128 + 128 * get_or bytes 2 0) → BeginsWithDelta bytes number (drop 3 bytes)
+pub three_bytes : (bytes : List ℕ) (number : ℕ) → 5 ≤ length bytes → 128 ≤ get_or bytes 0 0 → 128 ≤ get_or bytes 1 0 → get_or bytes 2 0 < 128 → number ≡ get_or bytes 0 0 % 128 + 128 * (get_or bytes 1 0 % 128 + 128 * (get_or bytes 2 0 % 128)) → BeginsWithDelta bytes number (drop 3 bytes)
 unfolding is_delta delta_value
-three_bytes [] number enough high next small e = absurd (omega (arith, enough))
-three_bytes (b ∷ []) number enough high next small e = absurd (omega (arith, enough))
-three_bytes (b ∷ d ∷ []) number enough high next small e = absurd (omega (arith, enough))
-three_bytes (b ∷ d ∷ f ∷ bytes) number enough high next small e = record {
+three_bytes [] number enough high0 high1 small e = absurd (omega (arith, enough))
+three_bytes (b ∷ []) number enough high0 high1 small e = absurd (omega (arith, enough))
+three_bytes (b ∷ d ∷ []) number enough high0 high1 small e = absurd (omega (arith, enough))
+three_bytes (b ∷ d ∷ f ∷ bytes) number enough high0 high1 small e = record {
   delta = b ∷ d ∷ f ∷ [];
   parts = refl;
-  form = and_from (nat_lt 127 b) (nat_lt 127 d && nat_lt f 128) (lt-ltb 127 b (omega (arith, high))) (and_from (nat_lt 127 d) (nat_lt f 128) (lt-ltb 127 d (omega (arith, next))) (lt-ltb f 128 small));
+  form = and_from (nat_lt 127 b) (nat_lt 127 d && nat_lt f 128) (lt-ltb 127 b (omega (arith, high0))) (and_from (nat_lt 127 d) (nat_lt f 128) (lt-ltb 127 d (omega (arith, high1))) (lt-ltb f 128 small));
+  few = omega arith;
+  value = omega (arith, e, small);
+}
+
+-- bytes of which the fourth is the first below 128 begin with the delta of these four
+pub four_bytes : (bytes : List ℕ) (number : ℕ) → 5 ≤ length bytes → 128 ≤ get_or bytes 0 0 → 128 ≤ get_or bytes 1 0 → 128 ≤ get_or bytes 2 0 → get_or bytes 3 0 < 128 → number ≡ get_or bytes 0 0 % 128 + 128 * (get_or bytes 1 0 % 128 + 128 * (get_or bytes 2 0 % 128 + 128 * (get_or bytes 3 0 % 128))) → BeginsWithDelta bytes number (drop 4 bytes)
+unfolding is_delta delta_value
+four_bytes [] number enough high0 high1 high2 small e = absurd (omega (arith, enough))
+four_bytes (b ∷ []) number enough high0 high1 high2 small e = absurd (omega (arith, enough))
+four_bytes (b ∷ d ∷ []) number enough high0 high1 high2 small e = absurd (omega (arith, enough))
+four_bytes (b ∷ d ∷ f ∷ []) number enough high0 high1 high2 small e = absurd (omega (arith, enough))
+four_bytes (b ∷ d ∷ f ∷ g ∷ bytes) number enough high0 high1 high2 small e = record {
+  delta = b ∷ d ∷ f ∷ g ∷ [];
+  parts = refl;
+  form = and_from (nat_lt 127 b) (nat_lt 127 d && (nat_lt 127 f && nat_lt g 128)) (lt-ltb 127 b (omega (arith, high0))) (and_from (nat_lt 127 d) (nat_lt 127 f && nat_lt g 128) (lt-ltb 127 d (omega (arith, high1))) (and_from (nat_lt 127 f) (nat_lt g 128) (lt-ltb 127 f (omega (arith, high2))) (lt-ltb g 128 small)));
+  few = omega arith;
+  value = omega (arith, e, small);
+}
+
+-- bytes of which the fifth is the first below 128 begin with the delta of these five
+pub five_bytes : (bytes : List ℕ) (number : ℕ) → 5 ≤ length bytes → 128 ≤ get_or bytes 0 0 → 128 ≤ get_or bytes 1 0 → 128 ≤ get_or bytes 2 0 → 128 ≤ get_or bytes 3 0 → get_or bytes 4 0 < 128 → number ≡ get_or bytes 0 0 % 128 + 128 * (get_or bytes 1 0 % 128 + 128 * (get_or bytes 2 0 % 128 + 128 * (get_or bytes 3 0 % 128 + 128 * (get_or bytes 4 0 % 128)))) → BeginsWithDelta bytes number (drop 5 bytes)
+unfolding is_delta delta_value
+five_bytes [] number enough high0 high1 high2 high3 small e = absurd (omega (arith, enough))
+five_bytes (b ∷ []) number enough high0 high1 high2 high3 small e = absurd (omega (arith, enough))
+five_bytes (b ∷ d ∷ []) number enough high0 high1 high2 high3 small e = absurd (omega (arith, enough))
+five_bytes (b ∷ d ∷ f ∷ []) number enough high0 high1 high2 high3 small e = absurd (omega (arith, enough))
+five_bytes (b ∷ d ∷ f ∷ g ∷ []) number enough high0 high1 high2 high3 small e = absurd (omega (arith, enough))
+five_bytes (b ∷ d ∷ f ∷ g ∷ k ∷ bytes) number enough high0 high1 high2 high3 small e = record {
+  delta = b ∷ d ∷ f ∷ g ∷ k ∷ [];
+  parts = refl;
+  form = and_from (nat_lt 127 b) (nat_lt 127 d && (nat_lt 127 f && (nat_lt 127 g && nat_lt k 128))) (lt-ltb 127 b (omega (arith, high0))) (and_from (nat_lt 127 d) (nat_lt 127 f && (nat_lt 127 g && nat_lt k 128)) (lt-ltb 127 d (omega (arith, high1))) (and_from (nat_lt 127 f) (nat_lt 127 g && nat_lt k 128) (lt-ltb 127 f (omega (arith, high2))) (and_from (nat_lt 127 g) (nat_lt k 128) (lt-ltb 127 g (omega (arith, high3))) (lt-ltb k 128 small))));
   few = omega arith;
   value = omega (arith, e, small);
 }
@@ -77,19 +113,14 @@ module _ (at : ℕ) (state : List ℕ → State) (end_delta : List ℕ → Resul
     omega (arith, length_push old b),
   )
 
-  short_taken : (piece left : List ℕ) (number : ℕ) → BeginsWithDelta piece number left → IsTaken state end_delta [] [] piece (Some number) left
-  short_taken piece left number begins = (
+  -- a delta that the bytes begin with is taken where none has begun
+  pub whole_taken : (piece left : List ℕ) (number : ℕ) → BeginsWithDelta piece number left → IsTaken state end_delta [] [] piece (Some number) left
+  whole_taken piece left number begins = (
     begins.delta,
     begins.value,
     ap (λ (bytes : List ℕ). feed (state []) bytes) begins.parts ∙ delta_fed at state end_delta are begins.delta [] left begins.form (let few = begins.few in omega (arith, few)),
     omega (arith, ap length begins.parts, length-append begins.delta left),
   )
-
-  -- a delta that the bytes begin with is taken at once where none has begun
-  pub taken_short : (old new piece : List ℕ) (number len : ℕ) → old ≡ [] → IsShortDelta piece number len → IsTaken state end_delta old new piece (Some number) (take (length piece - len) (drop len piece))
-  taken_short old new piece number len none (some, fits, begins) =
-      subst (λ (bytes : List ℕ). IsTaken state end_delta old new piece (Some number) bytes) (sym (take_rest piece len))
-      (subst (λ (bytes : List ℕ). IsTaken state end_delta bytes new piece (Some number) (drop len piece)) (sym none) (short_taken piece (drop len piece) number begins))
 
 -- what a byte makes of a delta that has begun
 pub record Pushed (old new : List ℕ) (b : ℕ) (result : Result (Option ℕ) DeltaError) : Type 0 where

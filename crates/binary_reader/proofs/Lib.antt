@@ -13,4 +13,5 @@ pub mod KeptLaws
 pub mod LineLaws
 pub mod SymbolTextLaws
 pub mod GateLaws
+pub mod WholeGateLaws
 pub mod CircuitLaws

@@ -192,7 +192,36 @@ impl Items {
         }
     }
 
-    /// Takes bytes of a gate's first delta: up to its last one, or one.
+    /// Takes whole gates where the first delta of one hasn't begun, and else a byte of it.
+    fn feed_gates<'a>(
+        &mut self,
+        alloc: Global,
+        delta: DeltaReader,
+        end: u64,
+        piece: &'a [u8],
+    ) -> Result<&'a [u8], ReadError>
+        requires { 0 < length piece.now }
+        ensures fed { (state : State) (offset : ℕ) → IsInFirst self.old.sections self.old.at offset
+            delta state → offset + length piece.now ≡ end
+            → Feeds self.new end state piece.now result }
+        ensures shorter { IfOk result (λ left. length left.now < length piece.now) }
+    {
+        if !delta.is_new() {
+            return self.feed_first(delta, end, piece);
+        }
+        match self.sections.take_gates(piece) {
+            Ok(left) => {
+                if left.len() == piece.len() {
+                    return self.feed_first(delta, end, piece);
+                }
+                self.begin(alloc, offset_of(left, end));
+                Ok(left)
+            }
+            Err(fault) => Err(fault),
+        }
+    }
+
+    /// Takes a byte of a gate's first delta.
     fn feed_first<'a>(
         &mut self,
         delta: DeltaReader,
@@ -219,7 +248,7 @@ impl Items {
         }
     }
 
-    /// Takes bytes of a gate's second delta: up to its last one, or one.
+    /// Takes a byte of a gate's second delta.
     fn feed_second<'a>(
         &mut self,
         alloc: Global,
@@ -268,7 +297,7 @@ impl Items {
         match mem::replace(&mut self.opened, Opened::Comment) {
             Opened::Numbers(line) => self.feed_numbers(alloc, line, end, piece),
             Opened::Symbol(line) => self.feed_symbol(alloc, line, end, piece),
-            Opened::First(delta) => self.feed_first(delta, end, piece),
+            Opened::First(delta) => self.feed_gates(alloc, delta, end, piece),
             Opened::Second(rhs0, delta) => self.feed_second(alloc, rhs0, delta, end, piece),
             Opened::Comment => Ok(&piece[piece.len()..]),
         }

@@ -29,8 +29,6 @@ pub(crate) enum Tie {
     Free,
     /// It has to be given.
     Always,
-    /// It has to be given where that one isn't.
-    Unless(&'static str),
     /// It isn't given together with that one.
     Apart(&'static str),
     /// It is given together with that one alone.
@@ -97,7 +95,6 @@ pub(crate) fn arg_of<'a>(alloc: Global, argument: &Argument) -> Result<Arg<'a>, 
     match tie {
         Tie::Free => Ok(arg),
         Tie::Always => Ok(arg.required(true)),
-        Tie::Unless(other) => arg.required_unless_present(other),
         Tie::Apart(other) => arg.conflicts_with(other),
         Tie::With(other) => arg.requires_arg(other),
         Tie::WithApart(one, other) => with_apart(arg, one, other),

@@ -1,7 +1,7 @@
 //! The arguments of each command, in the order of its help. Those of several commands come first.
 use crate::argument::Argument;
 use crate::argument::Form::{Flag, Limit, Number, Numbers, Path, Text, Texts};
-use crate::argument::Tie::{Always, Apart, Free, Unless, With, WithApart};
+use crate::argument::Tie::{Always, Apart, Free, With, WithApart};
 
 /// The flag for ASCII, which isn't given together with the one for binary.
 const ASCII: Argument = Argument("ascii", Flag, Apart("binary"), "Write ASCII");
@@ -165,7 +165,7 @@ pub(crate) const CONVERT: &[Argument] = &[READ_CIRCUIT, WRITTEN_CIRCUIT, ASCII, 
 
 pub(crate) const SIM: &[Argument] = &[
     READ_CIRCUIT,
-    Argument("STIM", Path, Unless("random"), "The stimulus"),
+    Argument("STIM", Path, Free, "The stimulus"),
     RANDOM,
     STEPS,
     SEED,
@@ -180,12 +180,7 @@ pub(crate) const SIM: &[Argument] = &[
 pub(crate) const SAME: &[Argument] = &[
     Argument("A", Path, Always, "The first AIGER file"),
     Argument("B", Path, Always, "The second AIGER file"),
-    Argument(
-        "STIM",
-        Path,
-        Unless("random"),
-        "The stimulus, with the widths of A",
-    ),
+    Argument("STIM", Path, Free, "The stimulus, with the widths of A"),
     RANDOM,
     STEPS,
     SEED,

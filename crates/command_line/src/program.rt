@@ -3,7 +3,7 @@
 use crate::argument::{Argument, arg_of};
 use crate::subcommands::{COUNT, Subcommand, subcommand_at};
 use crate::texts;
-use clap::Command;
+use clap::{ArgGroup, Command};
 use std::alloc::{AllocError, Global};
 
 /// A command with one more argument.
@@ -46,12 +46,41 @@ fn with_texts<'a>(command: Command<'a>, subcommand: &Subcommand) -> Command<'a> 
     }
 }
 
+/// The arguments of which a command that takes a stimulus wants one.
+fn stimulus<'a>(alloc: Global) -> Result<ArgGroup<'a>, AllocError> {
+    let group = ArgGroup::new(alloc, "stimulus")
+        .required(true)
+        .multiple(true);
+    group.arg("STIM")?.arg("random")
+}
+
+/// A command that takes a stimulus wants it read or random, and has a usage that names both after the circuits.
+fn with_stimulus<'a>(
+    alloc: Global,
+    command: Command<'a>,
+    name: &str,
+) -> Result<Command<'a>, AllocError> {
+    let usage = match name {
+        "sim" => "fretime sim [OPTIONS] <IN> <STIM|--random <n>>",
+        "same" => "fretime same [OPTIONS] <A> <B> <STIM|--random <n>>",
+        _ => return Ok(command),
+    };
+    match stimulus(alloc) {
+        Ok(group) => command.override_usage(usage).group(group),
+        Err(error) => {
+            drop(command);
+            Err(error)
+        }
+    }
+}
+
 /// A command, whose help is shown where it is given nothing.
 fn command_of<'a>(alloc: Global, subcommand: &Subcommand) -> Result<Command<'a>, AllocError> {
     let command = Command::new(alloc, subcommand.name)
         .about(subcommand.about)
         .arg_required_else_help(true);
-    with_arguments(alloc, with_texts(command, subcommand), subcommand.arguments)
+    let command = with_stimulus(alloc, with_texts(command, subcommand), subcommand.name)?;
+    with_arguments(alloc, command, subcommand.arguments)
 }
 
 /// A program with one more command.

@@ -285,9 +285,9 @@ model checker found for that one, and prints the witness for the first.
 
 Both circuits are simulated, with 0 for each x: each property of the witness has
 to fail first at the same step in both. Latches with a known reset hold it, free
-latches that OUT has hold what they did there, and the others x. The inputs are
-the same. Give --merge as for 'retime': which free latches OUT has may rest on
-it.";
+latches that OUT has hold what they did there, and the others 0. The inputs are
+the same. What is printed are the values that were simulated, without an x. Give
+--merge as for 'retime': which free latches OUT has may rest on it.";
 
 pub(crate) const WITNESS_EXAMPLE: &str = "Example:
   fretime retime counter.aag smaller.aag

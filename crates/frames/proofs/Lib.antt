@@ -4,3 +4,5 @@ pub mod AnswerLaws
 pub mod StopLaws
 pub mod MergedLaws
 pub mod StageLaws
+pub mod FollowingLaws
+pub mod BeginningLaws

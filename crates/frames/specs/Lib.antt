@@ -6,5 +6,7 @@ pub mod Found
 pub mod Certified
 pub mod Underway
 pub mod Merging
+pub mod Following
+pub mod Beginning
 pub mod Stages
 pub mod Answering

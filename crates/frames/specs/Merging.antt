@@ -6,18 +6,17 @@ use Rattle.retimed_circuits.specs.declared.report.Retimed.{Retimed}
 use Rattle.retimed_circuits.specs.Merging.{MergesIn}
 use Rattle.retimed_circuits.specs.Names.{held_latches}
 use Rattle.retimed_circuits.specs.Retiming.{since_merged}
-use Rattle.frames.specs.declared.merging.ReadCircuit.{ReadCircuit}
-use Rattle.frames.specs.declared.merging.Start.{Start}
+use Rattle.frames.specs.declared.run.ReadCircuit.{ReadCircuit}
 use Rattle.frames.specs.declared.options.Options.{Options}
 use Rattle.frames.specs.Named.{NoneMissingBy, names_in}
 
 -- c cleaned and merged, and what is told of c
-pub record IsStart (options : Options) (c : Netlist) (start : Start) : Type 0 where
-  pub latches : start.read.latches ≡ length c.aig.latches
-  pub merges : MergesIn (names_in options) c start.circuit start.read.kept_free start.read.counts
-  pub streams : SameStreams c start.circuit start.read.kept_free
-  pub held : held_latches (names_in options) start.circuit ≡ held_latches (names_in options) c
-  pub names : NoneMissingBy options start.circuit
+pub record IsStart (options : Options) (c start : Netlist) (read : ReadCircuit) : Type 0 where
+  pub latches : read.latches ≡ length c.aig.latches
+  pub merges : MergesIn (names_in options) c start read.kept_free read.counts
+  pub streams : SameStreams c start read.kept_free
+  pub held : held_latches (names_in options) start ≡ held_latches (names_in options) c
+  pub names : NoneMissingBy options start
 
 -- what is told of the circuit that was read, where this is what frames start from retimed
 abbrev pub told_of_read : ReadCircuit → Retimed → Retimed

@@ -6,7 +6,7 @@ use Rattle.retimed_circuits.specs.declared.report.Retimed.{Retimed}
 use Rattle.retimed_circuits.specs.Frames.{AfterFrames}
 use Rattle.frames.specs.Certified.{AreCollected}
 use Rattle.frames.specs.declared.options.Options.{Options}
-use Rattle.frames.specs.Named.{NoneMissingBy, names_in}
+use Rattle.frames.specs.Named.{names_in}
 use Rattle.frames.specs.Retiming.{Keeps, NoneSmallerBy}
 
 -- r is what n frames make of c, which is cleaned first; nothing is left to clean in it
@@ -15,12 +15,6 @@ pub record IsUnderway (options : Options) (c : Netlist) (n : ℕ) (r : Retimed) 
   pub read_latches : r.read_latches ≡ length c.aig.latches
   pub none_merged : r.merged ≡ None
   pub keeps : Keeps options c r.circuit r.kept_free
-
--- r is some circuit that has latches of all names, cleaned; it is named here alone, since it may have been dropped
-pub record IsBegun (options : Options) (r : Retimed) : Type 0 where
-  pub read : Netlist
-  pub underway : IsUnderway options read 0 r
-  pub names : NoneMissingBy options read
 
 -- the run took so many frames, and ended at their limit or where no closed set counts less; certificates were collected of the circuits that
 -- were looked at, which the last one was where the limit didn't end the run

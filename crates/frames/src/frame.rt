@@ -1,16 +1,17 @@
 //! One frame: the latches of a cleaned circuit move over its chosen least set, and the circuit is cleaned again.
 ghost use Rattle.std.specs.Prelude.{◌≡◌, [], ◌∷◌, IfOk, OnOk, MatchOption};
-ghost use Rattle.aig_graph.specs.Graph.{IsGraph};
 ghost use Rattle.aig_graph.specs.Move.{move_of};
 ghost use Rattle.rebuild.specs.Marked.{AreMarksOf};
 ghost use Rattle.frames.specs.Certified.{AddsChosen};
-ghost use Rattle.frames.specs.Found.{Moves};
+ghost use Rattle.frames.specs.Following.{HasComeTo, IsMovedFollowed, MovesFollowed};
 ghost use Rattle.frames.specs.Named.{NoneMissingBy, kept_by};
-ghost use Rattle.frames.specs.Retiming.{IsHelpingSetBy, IsMovedBy, IsTidyBy, NoneSmallerBy};
+ghost use Rattle.frames.specs.Retiming.{IsHelpingSetBy, IsTidyBy, NoneSmallerBy};
 ghost use Rattle.frames.specs.Stages.{Moving, Tells};
 
+use crate::follower::RunFollower;
 use crate::helping::helping_set;
 use crate::options::Options;
+use crate::run::Run;
 use crate::settling::settled;
 use crate::watcher::{FrameWatcher, Stage};
 use aig_graph::{Circuit, ClosedSet, Keep, NoMemory, keep_by_names};
@@ -25,7 +26,7 @@ use std::thread::Threads;
 
 /// The circuit that a frame makes, its report, and the set that latches moved over.
 #[derive(Drop)]
-pub struct Frame {
+pub(crate) struct Frame {
     /// The circuit with its latches moved, cleaned.
     pub cleaned: Cleaned,
     /// What the frame is reported as.
@@ -34,27 +35,30 @@ pub struct Frame {
     pub set: ClosedSet,
 }
 
-/// The circuit with its latches moved over the set, cleaned.
-fn moved_over(
+/// The circuit with its latches moved over the set, cleaned, which is followed.
+fn moved_over<F: RunFollower>(
     alloc: Global,
+    follower: &mut F,
     circuit: &Circuit,
     keep: &Keep,
     set: &ClosedSet,
     marks: MoveMarks,
     options: &Options,
-) -> Result<Cleaned, NoMemory>
+) -> Result<Cleaned, F::Stop>
+    requires there { HasComeTo F.has_come follower.old circuit.now }
     requires keep { keep.now ≡ kept_by options.now circuit.now }
     requires names { NoneMissingBy options.now circuit.now }
-    requires graph { IsGraph circuit.now.aig }
     requires tidy { IsTidyBy options.now circuit.now }
     requires helps { IsHelpingSetBy options.now circuit.now set.now }
     requires marked { AreMarksOf (move_of circuit.now keep.now set.now) marks }
-    ensures { IfOk result (IsMovedBy options.now circuit.now set.now) }
+    ensures { IfOk result (IsMovedFollowed F.has_come options.now circuit.now set.now follower.old
+        follower.new) }
 {
     circuit.known();
     let copies = set.vars().len();
+    follower.see_move(circuit, set, keep, &marks)?;
     let after = moved_by(alloc, circuit, set, keep, marks)?;
-    settled(alloc, after, copies, options)
+    settled(alloc, follower, after, copies, options)
 }
 
 /// What the flow did at each gate, by the gates after a move over the set and a cleaning that keeps gates at these places; none are
@@ -74,7 +78,7 @@ fn carried(
 }
 
 /// Carries what the flow did at each gate over a move and a cleaning that keeps gates at these places; where memory is refused, it is lost.
-pub fn carry(
+fn carry(
     alloc: Global,
     circuit: &Circuit,
     set: &ClosedSet,
@@ -87,40 +91,45 @@ pub fn carry(
     }
 }
 
-/// The frame of a cleaned circuit, where one makes fewer latches: its chosen least set, and what is left of it after its latches have
-/// moved over that and it is cleaned. A watcher is told of the move. Where the records want certificates, they get one of the circuit.
-///
-/// # Errors
-///
-/// `NoMemory` where memory is refused.
-pub fn next_frame<G: PhaseGate, V: FrameWatcher>(
+/// The frame of the circuit that a run has come to, where one makes fewer latches: its chosen least set, and what is left of it after its
+/// latches have moved over that and it is cleaned, which is followed. A watcher is told of the move. Where the records want certificates,
+/// they get one of the circuit. Of the run only the follower changes.
+pub(crate) fn next_frame<F: RunFollower, G: PhaseGate, V: FrameWatcher>(
     rt: &(impl Threads + Sync),
     alloc: Global,
-    circuit: &Circuit,
+    run: &mut Run<F>,
     options: &Options,
     crew: &Crew<G>,
     records: &mut Records,
     watcher: &mut V,
-) -> Result<Option<Frame>, NoMemory>
-    requires names { NoneMissingBy options.now circuit.now }
-    requires tidy { IsTidyBy options.now circuit.now }
+) -> Result<Option<Frame>, F::Stop>
+    requires there { HasComeTo F.has_come run.old.follower run.old.retimed.circuit }
+    requires names { NoneMissingBy options.now run.old.retimed.circuit }
+    requires tidy { IsTidyBy options.now run.old.retimed.circuit }
+    ensures same { OnOk result (run.new.retimed ≡ run.old.retimed) }
     ensures found { IfOk result (λ found. MatchOption found
-        (NoneSmallerBy options.now circuit.now) (Moves options.now circuit.now)) }
+        (NoneSmallerBy options.now run.old.retimed.circuit
+        × (run.new.follower ≡ run.old.follower))
+        (MovesFollowed F.has_come options.now run.old.retimed.circuit run.old.follower
+        run.new.follower)) }
     ensures certificate { OnOk result
-        (AddsChosen options.now circuit.now records.old records.new) }
+        (AddsChosen options.now run.old.retimed.circuit records.old records.new) }
     ensures told { IfOk result (λ found. MatchOption found
         (Tells V.was_told watcher.old watcher.new [])
         (λ _. Tells V.was_told watcher.old watcher.new (Moving ∷ []))) }
 {
+    let circuit = &run.retimed.circuit;
     circuit.known();
     let keep = keep_by_names(alloc, circuit, options.keep.as_slice())?;
     match helping_set(rt, alloc, circuit, &keep, options, crew, records)? {
         Some(found) => {
             watcher.enter(Stage::Moving);
             let marks = found.marks;
-            let cleaned = moved_over(alloc, circuit, &keep, &found.set, marks, options)?;
+            let set = &found.set;
+            let follower = &mut run.follower;
+            let cleaned = moved_over(alloc, follower, circuit, &keep, set, marks, options)?;
             let kept_gates = cleaned.kept_gates.as_slice();
-            carry(alloc, circuit, &found.set, kept_gates, &mut records.flows);
+            carry(alloc, circuit, set, kept_gates, &mut records.flows);
             Ok(Some(Frame {
                 cleaned,
                 report: found.report,

@@ -16,7 +16,7 @@ use std::thread::Threads;
 
 /// A closed set over which a circuit has fewer latches, the marks of its move, and what its frame is reported as.
 #[derive(Drop)]
-pub struct Helping {
+pub(crate) struct Helping {
     /// The chosen least set.
     pub set: ClosedSet,
     /// The marks of a move over it.
@@ -27,11 +27,7 @@ pub struct Helping {
 
 /// The chosen least set, with its report, where it counts less than the circuit has known latches. A certificate of the set is added in any
 /// case, where certificates are wanted.
-///
-/// # Errors
-///
-/// `NoMemory` where memory is refused.
-pub fn helping_set<G: PhaseGate>(
+pub(crate) fn helping_set<G: PhaseGate>(
     rt: &(impl Threads + Sync),
     alloc: Global,
     circuit: &Circuit,

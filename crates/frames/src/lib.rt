@@ -2,32 +2,33 @@
 //! the circuit is cleaned again, until no closed set needs fewer latches (Hurst, Mishchenko and Brayton, 2007).
 #![tactic(auto)]
 
+mod beginning;
 mod bytes;
 mod errors;
+mod finishing;
+mod follower;
 mod frame;
 mod helping;
 mod history;
 mod laws;
-mod merging;
 mod options;
 mod retiming;
+mod run;
 mod runs;
 mod settling;
 mod watcher;
 
 pub use aig_graph::Choice;
+pub use beginning::begin;
 pub use bytes::{read_by, retime_bytes, retime_bytes_watched, retime_spelt};
 pub use certificates::Certificate;
-pub use chosen_cuts::Records;
 pub use errors::{BytesError, RetimeError};
-pub use frame::{Frame, carry, next_frame};
-pub use helping::{Helping, helping_set};
+pub use finishing::finish;
+pub use follower::{NoFollower, RunFollower};
 pub use laws::answer_law;
 pub use merged_latches::MergeCounts;
-pub use merging::{ReadCircuit, told_of_read};
 pub use options::Options;
 pub use retimed_circuits::{FrameReport, Retimed};
-pub use retiming::{after_frame, begun, enter_looking, with_certificates};
+pub use run::{Begun, ReadCircuit, Run};
 pub use runs::{retime, retime_watched};
-pub use settling::{as_cleaned, is_settled};
 pub use watcher::{FrameWatcher, NoWatcher, Stage};

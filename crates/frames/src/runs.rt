@@ -1,20 +1,61 @@
-//! Whole runs: a circuit retimed as it is, or merged first.
+//! Whole runs that nothing follows.
 ghost use Rattle.std.specs.Prelude.{ℕ, IfOk, OnOk, IsErrOf};
+ghost use Rattle.aig_graph.specs.Circuits.{Netlist};
+ghost use Rattle.frames.specs.Beginning.{IsBegun};
 ghost use Rattle.frames.specs.Named.{IsFirstMissingBy, NoneMissingBy};
 ghost use Rattle.frames.specs.Retiming.{IsRetimedBy};
-ghost use Rattle.frames.specs.Stages.{Tells, stages_of};
+ghost use Rattle.frames.specs.Stages.{Tells, looks_of, stages_of};
 ghost use Rattle.frames.specs.declared.errors.RetimeError.TheVariants.{NoSuchName};
 
+use crate::beginning::begin;
 use crate::errors::RetimeError;
-use crate::merging::{retime_merged, retime_merged_over};
+use crate::finishing::finish;
+use crate::follower::{NoFollower, RunFollower};
 use crate::options::Options;
-use crate::retiming::{retime_as_is, retime_as_is_over};
+use crate::run::Begun;
 use crate::watcher::{FrameWatcher, NoWatcher, Stage};
-use aig_graph::Circuit;
+use aig_graph::{Circuit, NoMemory, keep_of};
 use pulse::{Crew, PhaseGate};
 use retimed_circuits::Retimed;
 use std::alloc::Global;
 use std::thread::Threads;
+
+/// Begins a run that nothing follows, where a latch has each of the names.
+fn begin_plain(
+    alloc: Global,
+    circuit: &Circuit,
+    options: &Options,
+) -> Result<Begun<NoFollower>, RetimeError>
+    ensures begun { IfOk result (λ begun. IsBegun ⟦<NoFollower as RunFollower>⟧.has_come options.now
+        circuit.now begun.read begun.run.retimed begun.run.follower) }
+    ensures missing { (place : ℕ) → IsErrOf result (NoSuchName place)
+        → IsFirstMissingBy options.now circuit.now place }
+{
+    let keep = keep_of(alloc, circuit, options.keep.as_slice())?;
+    let begun = begin(alloc, circuit, &keep, options, NoFollower)?;
+    Ok(begun)
+}
+
+/// Takes its frames.
+fn finish_plain<G: PhaseGate, V: FrameWatcher>(
+    rt: &(impl Threads + Sync),
+    alloc: Global,
+    begun: Begun<NoFollower>,
+    options: &Options,
+    crew: &Crew<G>,
+    watcher: &mut V,
+) -> Result<Retimed, NoMemory>
+    requires { (c : Netlist) × IsBegun ⟦<NoFollower as RunFollower>⟧.has_come options.now c
+        begun.read begun.run.retimed begun.run.follower }
+    ensures retimed { IfOk result (λ r. (c : Netlist)
+        → IsBegun ⟦<NoFollower as RunFollower>⟧.has_come options.now c begun.read
+        begun.run.retimed begun.run.follower → IsRetimedBy options.now c r) }
+    ensures told { IfOk result (λ r. Tells V.was_told watcher.old watcher.new
+        (looks_of options.now.max_frames r)) }
+{
+    let end = finish(rt, alloc, begun, options, crew, watcher)?;
+    Ok(end.retimed)
+}
 
 /// Cleans a circuit and retimes it forward, frame by frame: the latches move over the chosen least set of the circuit, and the
 /// circuit is cleaned again. It ends where no closed set needs fewer latches than there are, or at the limit of frames. The
@@ -65,11 +106,9 @@ pub fn retime_watched<G: PhaseGate, V: FrameWatcher>(
         (stages_of options.now.max_frames r)) }
 {
     watcher.enter(Stage::Cleaning);
-    if options.merge {
-        retime_merged(rt, alloc, circuit, options, crew, watcher)
-    } else {
-        retime_as_is(rt, alloc, circuit, options, crew, watcher)
-    }
+    let begun = begin_plain(alloc, circuit, options)?;
+    let retimed = finish_plain(rt, alloc, begun, options, crew, watcher)?;
+    Ok(retimed)
 }
 
 /// [`retime_watched`] of a circuit that nobody needs once it is cleaned: it is dropped then, before the first frame.
@@ -93,9 +132,8 @@ pub(crate) fn retime_over<G: PhaseGate, V: FrameWatcher>(
         (stages_of options.now.max_frames r)) }
 {
     watcher.enter(Stage::Cleaning);
-    if options.merge {
-        retime_merged_over(rt, alloc, circuit, options, crew, watcher)
-    } else {
-        retime_as_is_over(rt, alloc, circuit, options, crew, watcher)
-    }
+    let begun = begin_plain(alloc, &circuit, options);
+    drop(circuit);
+    let retimed = finish_plain(rt, alloc, begun?, options, crew, watcher)?;
+    Ok(retimed)
 }

@@ -4,22 +4,20 @@ ghost use Rattle.std.specs.Prelude.{◌≡◌, ◌≤◌, ◌-◌, IfOk, length,
 ghost use Rattle.aig_graph.specs.Circuits.{IsNetlist};
 ghost use Rattle.aig_graph.specs.Graph.{IsGraph};
 ghost use Rattle.aig_graph.specs.Laws.{all_free};
+ghost use Rattle.frames.specs.Following.{HasComeTo, IsCleanedFollowed};
 ghost use Rattle.frames.specs.Named.{NoneMissingBy};
-ghost use Rattle.frames.specs.Retiming.{IsCleanedBy, IsTidyBy};
+ghost use Rattle.frames.specs.Retiming.{IsTidyBy};
 ghost use Rattle.tidy.specs.Tidy.{AreLowTidy};
 
+use crate::follower::RunFollower;
 use crate::options::Options;
-use aig_graph::{Circuit, NoMemory};
-use clean::{Cleaned, clean_by_names};
+use aig_graph::{Circuit, NoMemory, keep_by_names};
+use clean::Cleaned;
 use std::alloc::Global;
 use tidy::{all_places, are_low_tidy};
 
 /// A circuit as what it is cleaned to, which it is if it is tidy. The gates that stay aren't listed, since they all do.
-///
-/// # Errors
-///
-/// `NoMemory` where memory is refused.
-pub fn as_cleaned(alloc: Global, circuit: Circuit) -> Result<Cleaned, NoMemory>
+fn as_cleaned<E: From<NoMemory>>(alloc: Global, circuit: Circuit) -> Result<Cleaned, E>
     ensures circuit { IfOk result (λ d. d.circuit ≡ circuit) }
     ensures kept_free { IfOk result (λ d. d.kept_free ≡ all_free circuit.aig) }
 {
@@ -31,29 +29,48 @@ pub fn as_cleaned(alloc: Global, circuit: Circuit) -> Result<Cleaned, NoMemory>
         }),
         Err(error) => {
             drop(circuit);
-            Err(error)
+            Err(E::from(error))
         }
     }
 }
 
-/// A circuit cleaned, and dropped.
-fn cleaned_over(alloc: Global, circuit: Circuit, options: &Options) -> Result<Cleaned, NoMemory>
-    requires { NoneMissingBy options.now circuit }
-    ensures { IfOk result (IsCleanedBy options.now circuit) }
+/// A circuit cleaned, which is followed.
+fn cleaned<F: RunFollower>(
+    alloc: Global,
+    follower: &mut F,
+    circuit: &Circuit,
+    options: &Options,
+) -> Result<Cleaned, F::Stop>
+    requires there { HasComeTo F.has_come follower.old circuit.now }
+    requires names { NoneMissingBy options.now circuit.now }
+    ensures { IfOk result (IsCleanedFollowed F.has_come options.now circuit.now follower.old
+        follower.new) }
 {
     // That it is a circuit is what its readers ensure.
     circuit.known();
-    let cleaned = clean_by_names(alloc, &circuit, options.keep.as_slice());
+    let keep = keep_by_names(alloc, circuit, options.keep.as_slice())?;
+    follower.clean(alloc, circuit, &keep)
+}
+
+/// A circuit cleaned, which is followed, and dropped.
+fn cleaned_over<F: RunFollower>(
+    alloc: Global,
+    follower: &mut F,
+    circuit: Circuit,
+    options: &Options,
+) -> Result<Cleaned, F::Stop>
+    requires there { HasComeTo F.has_come follower.old circuit }
+    requires names { NoneMissingBy options.now circuit }
+    ensures { IfOk result (IsCleanedFollowed F.has_come options.now circuit follower.old
+        follower.new) }
+{
+    let cleaned = cleaned(alloc, follower, &circuit, options);
     drop(circuit);
     cleaned
 }
 
 /// Whether the low copies are tidy, of a circuit whose last gates are so many copies.
-///
-/// # Errors
-///
-/// `NoMemory` where memory is refused.
-pub fn is_settled(alloc: Global, circuit: &Circuit, copies: usize) -> Result<bool, NoMemory>
+fn is_settled(alloc: Global, circuit: &Circuit, copies: usize) -> Result<bool, NoMemory>
     requires { copies ≤ length circuit.now.aig.gates }
     ensures lows { IfOk result (λ yes. yes ≡ true → AreLowTidy circuit.now.aig
         (length circuit.now.aig.gates - copies)) }
@@ -63,25 +80,28 @@ pub fn is_settled(alloc: Global, circuit: &Circuit, copies: usize) -> Result<boo
     are_low_tidy(alloc, circuit.aig(), copies)
 }
 
-/// A moved circuit, whose last gates are so many copies, cleaned. It is its own cleaning where its low copies are tidy.
-pub(crate) fn settled(
+/// A moved circuit, whose last gates are so many copies, cleaned, which is followed. It is its own cleaning where its low copies are tidy.
+pub(crate) fn settled<F: RunFollower>(
     alloc: Global,
+    follower: &mut F,
     circuit: Circuit,
     copies: usize,
     options: &Options,
-) -> Result<Cleaned, NoMemory>
+) -> Result<Cleaned, F::Stop>
+    requires there { HasComeTo F.has_come follower.old circuit }
     requires copies { copies ≤ length circuit.aig.gates }
     requires names { NoneMissingBy options.now circuit }
     requires tidy { AreLowTidy circuit.aig (length circuit.aig.gates - copies)
         → IsTidyBy options.now circuit }
-    ensures { IfOk result (IsCleanedBy options.now circuit) }
+    ensures { IfOk result (IsCleanedFollowed F.has_come options.now circuit follower.old
+        follower.new) }
 {
     match is_settled(alloc, &circuit, copies) {
         Ok(true) => as_cleaned(alloc, circuit),
-        Ok(false) => cleaned_over(alloc, circuit, options),
+        Ok(false) => cleaned_over(alloc, follower, circuit, options),
         Err(error) => {
             drop(circuit);
-            Err(error)
+            Err(F::Stop::from(error))
         }
     }
 }

@@ -1,6 +1,7 @@
 pub mod WordLaws
 pub mod LaneLaws
 pub mod TableLaws
+mod StepLaws
 pub mod BlockLaws
 pub mod TraceLaws
 pub mod StimulusLaws

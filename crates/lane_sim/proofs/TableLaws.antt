@@ -13,7 +13,7 @@ use Rattle.aig_graph.specs.Value.{signed, opening}
 use Rattle.aig_graph.proofs.ValueLaws.{value_laws}
 use Rattle.lane_sim.specs.declared.stimulus.InputSequence.{InputSequence}
 use Rattle.lane_sim.specs.Lanes.{lane, held}
-use Rattle.lane_sim.specs.Blocks.{in_lane, HoldsState, HoldsBelow}
+use Rattle.lane_sim.specs.Blocks.{in_lane, HoldsState, HoldsBelow, HoldsLatches}
 use Rattle.lane_sim.specs.Traces.{inputs_of, choice_of, value_in}
 
 -- what stands past the last latch
@@ -103,40 +103,40 @@ module _ (g : Graph) (valid : IsGraph g) (s : InputSequence) where
         ] refl;
   }
 
-  -- the next values put into the latches
-  pub HoldsState-next : (before after next : List (List ℕ)) (k t : ℕ)
+  -- the next values of the latches
+  pub HoldsLatches-next : (before next : List (List ℕ)) (k t : ℕ)
       → HoldsBelow g s before k t (variables_end g)
-      → get_or after 0 [] ≡ get_or before 0 []
-      → ((j : ℕ) → j < length g.latches → get_or after (first_latch g + j) [] ≡ get_or next j [])
       → ((j : ℕ) (latch : Latch) → slice_get g.latches j ≡ Some latch → lane (get_or next j []) k ≡ signed latch.next (held before (variable latch.next) k))
-      → HoldsState g s after k (t + 1)
-  HoldsState-next before after next k t holds constant moved read = record {
-    constant = ap (λ l. lane l k) constant ∙ holds.each 0 (omega arith) ∙ (value_laws g valid (inputs_of s) (choice_of s)).constant t;
-    latches = λ j h.
+      → HoldsLatches g s next k (t + 1)
+  HoldsLatches-next before next k t holds read = record {
+    each = λ j h.
         let latch : Latch = get_or g.latches j no_latch in
         let at : slice_get g.latches j ≡ Some latch = slice_get-get_or g.latches j no_latch h in
-        ap (λ l. lane l k) (moved j h) ∙ read j latch at ∙ held-signed before k t (variables_end g) latch.next holds (valid.latches j latch at)
+        read j latch at ∙ held-signed before k t (variables_end g) latch.next holds (valid.latches j latch at)
         ∙ sym ((value_laws g valid (inputs_of s) (choice_of s)).latch_later t j latch at);
   }
 
+  -- the constant's value
+  pub HoldsBelow-constant : (table : List (List ℕ)) (k t : ℕ) → HoldsBelow g s table k t (variables_end g) → held table 0 k ≡ false
+  HoldsBelow-constant table k t holds = holds.each 0 (omega arith) ∙ (value_laws g valid (inputs_of s) (choice_of s)).constant t
+
 -- the latches below a place opened, and one more
 pub opened : (g : Graph) → IsGraph g → (s : InputSequence) (table : List (List ℕ)) (k j : ℕ) (latch : Latch) (lanes : List ℕ)
-    → slice_get g.latches j ≡ Some latch → first_latch g + j < length table
+    → slice_get g.latches j ≡ Some latch → j < length table
     → lane lanes k ≡ opening latch.reset (choice_of s (free_before g j))
-    → ((i : ℕ) → i < j → held table (first_latch g + i) k ≡ value_in g s 0 (2 * (first_latch g + i)))
-    → (i : ℕ) → i < j + 1 → held (set table (first_latch g + j) lanes) (first_latch g + i) k ≡ value_in g s 0 (2 * (first_latch g + i))
+    → ((i : ℕ) → i < j → held table i k ≡ value_in g s 0 (2 * (first_latch g + i)))
+    → (i : ℕ) → i < j + 1 → held (set table j lanes) i k ≡ value_in g s 0 (2 * (first_latch g + i))
 opened g valid s table k j latch lanes at room here before i h =
-    elim (i == j) as (λ b. (i == j) ≡ b → held (set table (first_latch g + j) lanes) (first_latch g + i) k ≡ value_in g s 0 (2 * (first_latch g + i))) [
+    elim (i == j) as (λ b. (i == j) ≡ b → held (set table j lanes) i k ≡ value_in g s 0 (2 * (first_latch g + i))) [
       | true ↦ λ e.
           let same : i ≡ j = eqb-true i j e in
-          ap (λ (w : ℕ). held (set table (first_latch g + j) lanes) (first_latch g + w) k) same
-          ∙ ap (λ l. lane l k) (get_or-set_same table (first_latch g + j) lanes [] room) ∙ here
+          ap (λ (w : ℕ). held (set table j lanes) w k) same
+          ∙ ap (λ l. lane l k) (get_or-set_same table j lanes [] room) ∙ here
           ∙ sym ((value_laws g valid (inputs_of s) (choice_of s)).latch_at_start j latch at)
           ∙ ap (λ (w : ℕ). value_in g s 0 (2 * (first_latch g + w))) (sym same)
       | false ↦ λ e.
           let other : i ≢ j = eqb-false i j e in
-          let apart : first_latch g + i ≢ first_latch g + j = omega arith in
-          ap (λ l. lane l k) (get_or-set_other table (first_latch g + j) (first_latch g + i) lanes [] apart) ∙ before i (omega arith)
+          ap (λ l. lane l k) (get_or-set_other table j i lanes [] other) ∙ before i (omega arith)
     ] refl
 
 known_reset : (r : Reset) → r ≢ Free → elim r [ Zero ↦ false | One ↦ false | Free ↦ true ] ≡ false

@@ -16,6 +16,10 @@ pub record HoldsState (g : Graph) (s : InputSequence) (table : List (List ℕ)) 
   pub constant : held table 0 k ≡ false
   pub latches : (j : ℕ) → j < length g.latches → held table (first_latch g + j) k ≡ value_in g s t (2 * (first_latch g + j))
 
+-- what a list of the latches holds at a step, in a lane
+pub record HoldsLatches (g : Graph) (s : InputSequence) (latches : List (List ℕ)) (k t : ℕ) : Type 0 where
+  pub each : (j : ℕ) → j < length g.latches → held latches j k ≡ value_in g s t (2 * (first_latch g + j))
+
 -- the values of the variables below n at a step, in a lane
 pub record HoldsBelow (g : Graph) (s : InputSequence) (table : List (List ℕ)) (k t n : ℕ) : Type 0 where
   pub each : (v : ℕ) → v < n → held table v k ≡ value_in g s t (2 * v)

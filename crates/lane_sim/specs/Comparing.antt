@@ -1,12 +1,12 @@
 -- How the rows of two circuits are compared.
-use Rattle.std.specs.Prelude.{ℕ, ◌+◌, ◌*◌, ◌<◌, ◌≤◌, ◌≡◌, ◌≢◌, Bool, List, [], length, slice_get, Option}
+use Rattle.std.specs.Prelude.{ℕ, ◌+◌, ◌*◌, ◌<◌, ◌≤◌, ◌≡◌, ◌≢◌, min, Bool, List, length, slice_get, Option, Some, None}
 use Rattle.std.specs.Option.{MatchOption}
-use Rattle.std.specs.List.{slice_index_or}
 use Rattle.aig_graph.specs.Circuits.{Netlist}
 use Rattle.aig_graph.specs.Streams.{property_literals}
 use Rattle.lane_sim.specs.declared.difference.Place.{Place}
+use Rattle.lane_sim.specs.declared.difference.Side.{Side}
 use Rattle.lane_sim.specs.declared.stimulus.InputSequence.{InputSequence}
-use Rattle.lane_sim.specs.Blocks.{in_lane, row_in, block_of}
+use Rattle.lane_sim.specs.Blocks.{in_lane, block_of}
 use Rattle.lane_sim.specs.Traces.{row_of}
 
 -- the first place where two rows differ
@@ -39,26 +39,62 @@ steps_of sequences s = length (in_lane sequences s).steps
 abbrev pub rows_by : Netlist → List InputSequence → ℕ → ℕ → List Bool
 rows_by c sequences s t = row_of c (in_lane sequences s) t
 
--- the rows that a block has in its lanes
-abbrev pub packed_rows : List (List (List ℕ)) → ℕ → ℕ → List Bool
-packed_rows rows k t = row_in k (slice_index_or rows t [])
-
--- both blocks have the row of a step, with as many places
-pub record HaveRow (xs ys : List (List (List ℕ))) (t : ℕ) : Type 0 where
-  pub first : t < length xs
-  pub second : t < length ys
-  pub places : length (slice_index_or ys t []) ≡ length (slice_index_or xs t [])
-
 -- sequences of two circuits, as many and as long
 pub record AreAlike (sequences others : List InputSequence) : Type 0 where
   pub many : length others ≡ length sequences
   pub long : (k : ℕ) → steps_of others k ≡ steps_of sequences k
 
--- what comparing a block of the sequences finds, of two circuits under sequences of their own
-unfoldable pub IsFoundIn : Netlist → Netlist → List InputSequence → List InputSequence → ℕ → Option Place → Type 0
-IsFoundIn c d sequences others b found =
-    Compares (256 * b) (256 * b + length (block_of sequences b)) (steps_of sequences) (rows_by c sequences) (rows_by d others) found
+-- ---- a step after another
+
+-- the rows f and g of a step, by sequence, are the same for the sequences below high that have the step
+abbrev pub AreSameAt : ℕ → ℕ → (ℕ → ℕ) → (ℕ → List Bool) → (ℕ → List Bool) → Type 0
+AreSameAt high t steps f g = (s : ℕ) → s < high → t < steps s → f s ≡ g s
+
+-- the first place in the step where they differ
+pub record IsFirstAt (high t : ℕ) (steps : ℕ → ℕ) (f g : ℕ → List Bool) (p : Place) : Type 0 where
+  pub below_high : p.sequence < high
+  pub step_is : p.step ≡ t
+  pub has_step : t < steps p.sequence
+  pub here : IsFirstIn (f p.sequence) (g p.sequence) p.place
+  pub before : AreSameAt p.sequence t steps f g
+
+abbrev pub ComparesAt : ℕ → ℕ → (ℕ → ℕ) → (ℕ → List Bool) → (ℕ → List Bool) → Option Place → Type 0
+ComparesAt high t steps f g found = MatchOption found (AreSameAt high t steps f g) (IsFirstAt high t steps f g)
+
+-- the steps below t alone
+abbrev pub steps_below : ℕ → (ℕ → ℕ) → ℕ → ℕ
+steps_below t steps s = min t (steps s)
+
+-- how many sequences are before the one that differs first
+abbrev pub lanes_before : ℕ → Option Place → ℕ
+lanes_before all None = all
+lanes_before all (Some p) = p.sequence
+
+-- what was found later, if anything, else what was found before
+abbrev pub later_or : Option Place → Option Place → Option Place
+later_or found None = found
+later_or found (Some p) = Some p
 
 -- the circuits have as many property literals
 abbrev pub HaveAsMany : Netlist → Netlist → Type 0
 HaveAsMany c d = length (property_literals d.props) ≡ length (property_literals c.props)
+
+-- both have as many property literals, and sequences of a block
+pub record CanCompare (a b : Side) : Type 0 where
+  pub literals : HaveAsMany a.circuit.now b.circuit.now
+  pub first : length a.sequences.now ≤ 256
+  pub second : length b.sequences.now ≤ 256
+
+-- the row at a step of a sequence
+abbrev pub row_at : ℕ → Side → ℕ → List Bool
+row_at t a s = rows_by a.circuit.now a.sequences.now s t
+
+-- what comparing both finds
+abbrev pub ComparesSides : Side → Side → Option Place → Type 0
+ComparesSides a b found =
+    Compares 0 (length a.sequences.now) (steps_of a.sequences.now) (rows_by a.circuit.now a.sequences.now) (rows_by b.circuit.now b.sequences.now) found
+
+-- what comparing a block of the sequences finds, of two circuits under sequences of their own
+unfoldable pub IsFoundIn : Netlist → Netlist → List InputSequence → List InputSequence → ℕ → Option Place → Type 0
+IsFoundIn c d sequences others b found =
+    Compares (256 * b) (256 * b + length (block_of sequences b)) (steps_of sequences) (rows_by c sequences) (rows_by d others) found

@@ -2,6 +2,8 @@ pub mod Words
 pub mod Lanes
 pub mod Traces
 pub mod Blocks
+pub mod Steps
+pub mod Runs
 pub mod Stimuli
 pub mod Kept
 pub mod Codes

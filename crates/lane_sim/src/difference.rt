@@ -1,23 +1,23 @@
 //! The first place where two circuits differ.
 ghost use Rattle.std.specs.Prelude.{ℕ, ◌≡◌, ◌≢◌, ◌+◌, ◌*◌, ◌^◌, ◌<◌, ◌≤◌, ◌↔◌, MatchOption, IfNone, IfSome, IsSomeAnd, IsErrOf, Some, None, IfOk, IsTrue, option_map, length, map, slice_get, All, OnOk};
 ghost use Rattle.std.specs.List.{slice_index_or};
-ghost use Rattle.aig_graph.specs.Graph.{variable, variables_end};
-ghost use Rattle.aig_graph.specs.Streams.{SameShape, property_literals};
-ghost use Rattle.lane_sim.specs.Blocks.{row_in, block_of, IsBlock};
-ghost use Rattle.lane_sim.specs.Comparing.{AreAlike, HaveAsMany, IsFirstIn, Compares, HaveRow, IsFoundIn, packed_rows, steps_of};
+ghost use Rattle.aig_graph.specs.Streams.{SameShape};
+ghost use Rattle.lane_sim.specs.Blocks.{row_in};
+ghost use Rattle.lane_sim.specs.Comparing.{AreAlike, CanCompare, ComparesAt, ComparesSides, HaveAsMany, IsFirstIn, IsFoundIn, lanes_before, later_or, row_at, steps_of};
 ghost use Rattle.lane_sim.specs.Traces.{trace};
 ghost use Rattle.lane_sim.specs.Differences.{DifferInKeptShape, DifferInShape, HaveKeptShape, HaveSameShape, IsFirstDifference};
 ghost use Rattle.lane_sim.specs.Kept.{for_kept};
+ghost use Rattle.lane_sim.specs.Runs.{IsRunOf};
 ghost use Rattle.lane_sim.specs.declared.fault.SimError.TheVariants.{Shape};
 
-use crate::block::{Block, block, simulate_block};
+use crate::block::{block, longest};
 use crate::fault::SimError;
 use crate::kept::sequences_for_kept;
 use crate::lanes::{LANES, Lanes};
+use crate::run::Run;
 use crate::shape::{have_kept_shape, have_same_shape};
 use crate::stimulus::{InputSequence, Stimulus};
-use crate::trace::collect_literals;
-use aig_graph::{Circuit, NoMemory, Sequence};
+use aig_graph::{Circuit, NoMemory};
 use rayon::prelude::*;
 use std::alloc::Global;
 use std::thread::Threads;
@@ -28,6 +28,13 @@ pub struct Place {
     pub sequence: usize,
     pub step: usize,
     pub place: usize,
+}
+
+/// A circuit, and the sequences of a block that it is under.
+#[derive(Clone, Copy)]
+struct Side<'a> {
+    circuit: &'a Circuit,
+    sequences: &'a [InputSequence],
 }
 
 /// The first place where two rows differ in a lane.
@@ -45,43 +52,44 @@ fn row_difference(xs: &[Lanes], ys: &[Lanes], lane: usize) -> Option<usize>
     None
 }
 
-/// The first step and place where two blocks differ in a lane that has this many steps.
-fn lane_difference(
-    xs: &[Sequence<Lanes>],
-    ys: &[Sequence<Lanes>],
+/// The first place where two rows of a step differ in the lane of a sequence, where it has the step.
+fn sequence_difference(
+    xs: &[Lanes],
+    ys: &[Lanes],
+    sequence: &InputSequence,
     lane: usize,
-    steps: usize,
-) -> Option<(usize, usize)>
+    step: usize,
+) -> Option<usize>
     requires lane { lane < 256 }
-    requires rows { (t : ℕ) → t < steps → HaveRow xs.now ys.now t }
-    ensures { MatchOption result ((t : ℕ) → t < steps
-        → packed_rows xs.now lane t ≡ packed_rows ys.now lane t)
-        (λ found. (found.0 < steps)
-        × IsFirstIn (packed_rows xs.now lane found.0) (packed_rows ys.now lane found.0) found.1
-        × ((t : ℕ) → t < found.0 → packed_rows xs.now lane t ≡ packed_rows ys.now lane t)) }
+    requires places { length ys.now ≡ length xs.now }
+    ensures { MatchOption result
+        (step < length sequence.now.steps → row_in lane xs.now ≡ row_in lane ys.now)
+        (λ place. (step < length sequence.now.steps)
+        × IsFirstIn (row_in lane xs.now) (row_in lane ys.now) place) }
 {
-    for step in 0..steps {
-        if let Some(place) = row_difference(xs[step].as_slice(), ys[step].as_slice(), lane) {
-            return Some((step, place));
-        }
+    if step < sequence.steps.len() {
+        row_difference(xs, ys, lane)
+    } else {
+        None
     }
-    None
 }
 
-/// The first place where two blocks differ. A sequence is numbered by its lane.
-fn block_difference(
-    xs: &[Sequence<Lanes>],
-    ys: &[Sequence<Lanes>],
+/// The first place where the rows of a step differ in the lanes before one, among the sequences that have the step.
+fn step_difference(
+    xs: &[Lanes],
+    ys: &[Lanes],
     sequences: &[InputSequence],
+    lanes: usize,
+    step: usize,
 ) -> Option<Place>
-    requires lanes { length sequences.now ≤ 256 }
-    requires rows { (k t : ℕ) → k < length sequences.now → t < steps_of sequences.now k
-        → HaveRow xs.now ys.now t }
-    ensures { Compares 0 (length sequences.now) (steps_of sequences.now) (packed_rows xs.now)
-        (packed_rows ys.now) result }
+    requires lanes { lanes ≤ length sequences.now }
+    requires block { length sequences.now ≤ 256 }
+    requires places { length ys.now ≡ length xs.now }
+    ensures { ComparesAt lanes step (steps_of sequences.now) (λ k. row_in k xs.now)
+        (λ k. row_in k ys.now) result }
 {
-    for (lane, sequence) in sequences.iter().enumerate() {
-        if let Some((step, place)) = lane_difference(xs, ys, lane, sequence.steps.len()) {
+    for lane in 0..lanes {
+        if let Some(place) = sequence_difference(xs, ys, &sequences[lane], lane, step) {
             return Some(Place {
                 sequence: lane,
                 step,
@@ -92,20 +100,82 @@ fn block_difference(
     None
 }
 
-/// The rows of a block of the sequences.
-fn block_rows(
+/// The first place where two circuits differ in a step, in the lanes before one.
+fn next_difference(
     alloc: Global,
-    circuit: &Circuit,
-    sequences: &[InputSequence],
-    number: usize,
-) -> Result<Block, NoMemory>
-    requires { 256 * number ≤ length sequences.now }
-    ensures { IfOk result (IsBlock circuit.now.aig (property_literals circuit.now.props)
-        (block_of sequences.now number)) }
+    a: &Side<'_>,
+    first: &mut Run,
+    b: &Side<'_>,
+    second: &mut Run,
+    lanes: usize,
+    step: usize,
+) -> Result<Option<Place>, NoMemory>
+    requires sides { CanCompare a.now b.now }
+    requires lanes { lanes ≤ length a.now.sequences.now }
+    requires first { IsRunOf a.now.circuit.now a.now.sequences.now step first.old }
+    requires second { IsRunOf b.now.circuit.now b.now.sequences.now step second.old }
+    ensures first { IfOk result (λ found. IsRunOf a.now.circuit.now a.now.sequences.now (step + 1)
+        first.new) }
+    ensures second { IfOk result (λ found. IsRunOf b.now.circuit.now b.now.sequences.now (step + 1)
+        second.new) }
+    ensures found { IfOk result (ComparesAt lanes step (steps_of a.now.sequences.now)
+        (row_at step a.now) (row_at step b.now)) }
 {
-    let literals = collect_literals(alloc, circuit.props())?;
-    let part = block(sequences, number);
-    simulate_block(alloc, circuit.aig(), literals.as_slice(), part)
+    let xs = first.next(alloc, a.circuit, a.sequences, step)?;
+    let ys = second.next(alloc, b.circuit, b.sequences, step)?;
+    Ok(step_difference(xs.as_slice(), ys.as_slice(), a.sequences, lanes, step))
+}
+
+/// How many sequences there are before the one that differs first, so far.
+fn lanes_before(all: usize, found: Option<Place>) -> usize
+    ensures { result ≡ lanes_before all found }
+{
+    match found {
+        Some(place) => place.sequence,
+        None => all,
+    }
+}
+
+/// What was found later, where that is something: it is in an earlier sequence.
+fn later_or(found: Option<Place>, later: Option<Place>) -> Option<Place>
+    ensures { result ≡ later_or found later }
+{
+    match later {
+        Some(place) => Some(place),
+        None => found,
+    }
+}
+
+/// The first place where two circuits differ, before whose first steps they stand.
+fn runs_difference(
+    alloc: Global,
+    a: &Side<'_>,
+    first: &mut Run,
+    b: &Side<'_>,
+    second: &mut Run,
+) -> Result<Option<Place>, NoMemory>
+    requires sides { CanCompare a.now b.now }
+    requires first { IsRunOf a.now.circuit.now a.now.sequences.now 0 first.old }
+    requires second { IsRunOf b.now.circuit.now b.now.sequences.now 0 second.old }
+    ensures { IfOk result (ComparesSides a.now b.now) }
+{
+    let mut found = None;
+    for step in 0..longest(a.sequences) {
+        let lanes = lanes_before(a.sequences.len(), found);
+        let next = next_difference(alloc, a, first, b, second, lanes, step)?;
+        found = later_or(found, next);
+    }
+    Ok(found)
+}
+
+/// The first place where two circuits differ under the sequences of a block. Nothing is kept of a step but what the latches hold.
+fn block_difference(alloc: Global, a: &Side<'_>, b: &Side<'_>) -> Result<Option<Place>, NoMemory>
+    requires { CanCompare a.now b.now }
+    ensures { IfOk result (ComparesSides a.now b.now) }
+{
+    let mut first = Run::open(alloc, a.circuit, a.sequences)?;
+    let mut second = Run::open(alloc, b.circuit, b.sequences)?;
+    runs_difference(alloc, a, &mut first, b, &mut second)
 }
 
 /// The first place where two circuits differ in a block, each under its own sequences.
@@ -122,10 +192,15 @@ fn compare_block(
     requires within { 256 * number ≤ length sequences.now }
     ensures { IfOk result (IsFoundIn a.now b.now sequences.now others.now number) }
 {
-    let xs = block_rows(alloc, a, sequences, number)?;
-    let ys = block_rows(alloc, b, others, number)?;
-    let part = block(sequences, number);
-    let found = block_difference(xs.as_slice(), ys.as_slice(), part);
+    let first = Side {
+        circuit: a,
+        sequences: block(sequences, number),
+    };
+    let second = Side {
+        circuit: b,
+        sequences: block(others, number),
+    };
+    let found = block_difference(alloc, &first, &second)?;
     Ok(after(found, LANES * number))
 }
 

@@ -60,7 +60,7 @@ impl Stimulus {
     }
 
     /// The sequences.
-    pub(crate) fn as_slice(&self) -> &[InputSequence]
+    pub fn as_slice(&self) -> &[InputSequence]
         ensures { result.now ≡ self.now }
     {
         self.sequences.as_slice()

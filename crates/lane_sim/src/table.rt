@@ -1,14 +1,14 @@
 //! A table of lanes by variable: one step of a block.
 //!
 //! A table has a row for each variable, of 256 bits: bit k is that of sequence k of the block. The row of the constant is never
-//! written; those of the inputs are cleared and filled at each step, those of the gates written at each step, in order, since
-//! fan-ins come first; and those of the latches are written from their next literals once the step has been read.
+//! written; those of the latches are filled at each step from the state, which is a row for each latch, those of the inputs are cleared
+//! and filled, and those of the gates written in order, since fan-ins come first. Then the state is written from the next literals.
 ghost use Rattle.std.specs.Prelude.{ℕ, ◌≡◌, ◌+◌, ◌<◌, ◌≤◌, ◌==◌, ◌&&◌, ◌||◌, false, [], length, All, IfOk, map};
 ghost use Rattle.std.specs.List.{slice_index_or};
 ghost use Rattle.aig_graph.specs.Graph.{IsGraph, variable, variables_end, first_latch, first_gate};
 ghost use Rattle.aig_graph.specs.Value.{signed, opening};
 ghost use Rattle.lane_sim.specs.Lanes.{lane, held};
-ghost use Rattle.lane_sim.specs.Blocks.{in_lane, row_in, HoldsState, HoldsBelow};
+ghost use Rattle.lane_sim.specs.Blocks.{in_lane, row_in, HoldsState, HoldsBelow, HoldsLatches};
 ghost use Rattle.lane_sim.specs.Traces.{choice_of};
 
 use crate::lanes::{LANES, Lanes};
@@ -60,8 +60,21 @@ fn clear_inputs(table: &mut [Lanes], inputs: usize)
     }
 }
 
+/// Puts what the latches hold into their variables.
+fn load_latches(table: &mut [Lanes], aig: &Aig, state: &[Lanes])
+    requires variables { length table.old ≡ variables_end aig.now }
+    requires latches { length state.now ≡ length aig.now.latches }
+    ensures { (k t : ℕ) (s : InputSequence) → k < 256 → held table.old 0 k ≡ false
+        → HoldsLatches aig.now s state.now k t → HoldsState aig.now s table.new k t }
+{
+    let first = 1 + aig.inputs() as usize;
+    for j in 0..state.len() {
+        table[first + j] = state[j];
+    }
+}
+
 /// Puts the digits of a step into the inputs.
-pub(crate) fn load_inputs(table: &mut [Lanes], aig: &Aig, sequences: &[InputSequence], step: usize)
+fn load_inputs(table: &mut [Lanes], aig: &Aig, sequences: &[InputSequence], step: usize)
     requires variables { length table.old ≡ variables_end aig.now }
     requires lanes { length sequences.now ≤ 256 }
     ensures { (k : ℕ) → k < 256 → HoldsState aig.now (in_lane sequences.now k) table.old k step
@@ -91,7 +104,7 @@ fn gate_lanes(table: &[Lanes], gate: Gate) -> Lanes
 }
 
 /// Computes each gate from the inputs and latches.
-pub(crate) fn evaluate(table: &mut [Lanes], aig: &Aig)
+fn evaluate(table: &mut [Lanes], aig: &Aig)
     requires { length table.old ≡ variables_end aig.now }
     ensures values { (k t : ℕ) (s : InputSequence) → k < 256
         → HoldsBelow aig.now s table.old k t (first_gate aig.now)
@@ -104,8 +117,29 @@ pub(crate) fn evaluate(table: &mut [Lanes], aig: &Aig)
     }
 }
 
+/// Computes all variables in a step, from what the latches hold.
+pub(crate) fn fill(
+    table: &mut [Lanes],
+    aig: &Aig,
+    state: &[Lanes],
+    sequences: &[InputSequence],
+    step: usize,
+)
+    requires lanes { length sequences.now ≤ 256 }
+    requires variables { length table.old ≡ variables_end aig.now }
+    requires latches { length state.now ≡ length aig.now.latches }
+    ensures values { (k : ℕ) → k < 256 → held table.old 0 k ≡ false
+        → HoldsLatches aig.now (in_lane sequences.now k) state.now k step
+        → HoldsBelow aig.now (in_lane sequences.now k) table.new k step (variables_end aig.now) }
+    ensures graph { IsGraph aig.now }
+{
+    load_latches(table, aig, state);
+    load_inputs(table, aig, sequences, step);
+    evaluate(table, aig);
+}
+
 /// The value of a literal.
-fn literal_lanes(table: &[Lanes], lit: Lit) -> Lanes
+pub(crate) fn literal_lanes(table: &[Lanes], lit: Lit) -> Lanes
     requires { variable lit < length table.now }
     ensures { (k : ℕ) → k < 256 → lane result k ≡ signed lit (held table.now (variable lit) k) }
 {
@@ -129,20 +163,16 @@ pub(crate) fn read_literals(
     Ok(Sequence::from_vec(row))
 }
 
-/// Moves each latch's next value into the latch. `next` is room for a value of each latch.
-pub(crate) fn advance(table: &mut [Lanes], next: &mut [Lanes], aig: &Aig)
-    requires variables { length table.old ≡ variables_end aig.now }
-    requires latches { length next.old ≡ length aig.now.latches }
+/// Puts into the state what each latch holds after the step.
+pub(crate) fn advance(state: &mut [Lanes], table: &[Lanes], aig: &Aig)
+    requires variables { length table.now ≡ variables_end aig.now }
+    requires latches { length state.old ≡ length aig.now.latches }
     ensures { (k t : ℕ) (s : InputSequence) → k < 256
-        → HoldsBelow aig.now s table.old k t (variables_end aig.now)
-        → HoldsState aig.now s table.new k (t + 1) }
+        → HoldsBelow aig.now s table.now k t (variables_end aig.now)
+        → HoldsLatches aig.now s state.new k (t + 1) }
 {
-    'read: for (j, latch) in aig.latches().iter().enumerate() {
-        next[j] = literal_lanes(table, latch.next);
-    }
-    let first = 1 + aig.inputs() as usize;
-    'write: for j in 0..next.len() {
-        table[first + j] = next[j];
+    for (j, latch) in aig.latches().iter().enumerate() {
+        state[j] = literal_lanes(table, latch.next);
     }
 }
 
@@ -159,24 +189,17 @@ fn opening_lanes(reset: Reset, sequences: &[InputSequence], place: usize) -> Lan
     }
 }
 
-/// The table before the first step: the resets of the latches, and the choice for those that are free.
-pub(crate) fn open_table(
-    alloc: Global,
-    aig: &Aig,
-    sequences: &[InputSequence],
-) -> Result<Vec<Lanes>, NoMemory>
-    requires { length sequences.now ≤ 256 }
-    ensures { IfOk result (λ table. (length table.items ≡ variables_end aig.now)
-        × ((k : ℕ) → k < 256 → HoldsState aig.now (in_lane sequences.now k) table.items k 0)) }
+/// Puts into the state what each latch holds before the first step: its reset, and the choice where it is free.
+pub(crate) fn open_state(state: &mut [Lanes], aig: &Aig, sequences: &[InputSequence])
+    requires lanes { length sequences.now ≤ 256 }
+    requires latches { length state.old ≡ length aig.now.latches }
+    ensures { (k : ℕ) → k < 256 → HoldsLatches aig.now (in_lane sequences.now k) state.new k 0 }
 {
-    let mut table = vec![in alloc; Lanes::none(); aig.variables()]?;
-    let first = 1 + aig.inputs() as usize;
     let mut free = 0;
     for (j, latch) in aig.latches().iter().enumerate() {
-        table[first + j] = opening_lanes(latch.reset, sequences, free);
+        state[j] = opening_lanes(latch.reset, sequences, free);
         if let Reset::Free = latch.reset {
             free += 1;
         }
     }
-    Ok(table)
 }

@@ -112,7 +112,7 @@ fn append(literals: &mut Vec<Lit>, more: &[Lit]) -> Result<(), NoMemory>
 }
 
 /// The property literals in the order of their places.
-pub(crate) fn collect_literals(alloc: Global, props: &Props) -> Result<Vec<Lit>, NoMemory>
+pub fn property_literals(alloc: Global, props: &Props) -> Result<Vec<Lit>, NoMemory>
     ensures { IfOk result (λ literals. literals.items ≡ property_literals props.now) }
 {
     let mut literals = Vec::new(alloc);
@@ -147,7 +147,7 @@ pub fn simulate(
 ) -> Result<Trace, NoMemory>
     ensures { IfOk result (λ found. found ≡ trace circuit.now stimulus.now) }
 {
-    let literals = collect_literals(alloc, circuit.props())?;
+    let literals = property_literals(alloc, circuit.props())?;
     let sequences = stimulus.as_slice();
     let blocks = simulate_blocks(rt, alloc, circuit.aig(), literals.as_slice(), sequences)?;
     let steps = lengths(alloc, sequences)?;

@@ -1,15 +1,15 @@
 -- Shared gates, as one more is put among them.
-use Rattle.std.proofs.Common.{◌⊎◌, inl, inr, ℕ, ◌+◌, ◌*◌, ◌<◌, ◌≡◌, Bool, true, false, not, ◌&&◌, cond, nat_eq, List, [], ◌∷◌, ◌++◌, length, slice_get, Some, refl, arith, ap, sym, ◌∙◌, subst}
+use Rattle.std.proofs.Common.{◌⊎◌, inl, inr, ℕ, ◌+◌, ◌*◌, ◌<◌, ◌≡◌, Bool, not, ◌&&◌, List, [], ◌∷◌, ◌++◌, length, slice_get, Some, refl, arith, ap, sym, ◌∙◌, subst}
 use Rattle.std.proofs.Math.Bool.{and-true, and_self}
-use Rattle.std.proofs.lemmas.Bool.{and_parts, eqb-true}
-use Rattle.std.proofs.lemmas.List.{length_push}
+use Rattle.std.proofs.lemmas.List.{length-map, length_push, map_push}
 use Rattle.aig_graph.specs.declared.literal.TheConstants.{MAX_VARIABLES}
 use Rattle.aig_graph.specs.declared.graph.Gate.{Gate}
 use Rattle.aig_graph.specs.Building.{gate_of}
 use Rattle.aig_graph.specs.Graph.{IsGateAt}
 use Rattle.aig_graph.proofs.SignLaws.{gate_of-below, gate_of-ordered, value-gate_of}
-use Rattle.variable_tables.proofs.PlacesLaws.{slice_get_push, slice_get-append_left}
-use Rattle.map_checks.specs.Shared.{Shared, AreGates, Grows, IsBoth, IsFolded, IsShared, Respects, end_of}
+use Rattle.variable_tables.proofs.PlacesLaws.{slice_get_push, slice_get-append_left, slice_get-append_right}
+use Rattle.map_checks.specs.declared.shared.SharedGate.{SharedGate}
+use Rattle.map_checks.specs.Shared.{Shared, AreGates, Grows, IsBoth, IsFolded, IsShared, Respects, end_of, gates_in}
 
 -- shared gates that stay as they are count as grown
 pub grows-itself : (k : Shared) → Grows k k
@@ -34,19 +34,6 @@ respects-fewer k l grows values p = record {
 -- a literal that is shared stays shared as gates grow
 pub shared-more : (k l : Shared) → Grows k l → (lit : ℕ) → IsShared k lit → IsShared l lit
 shared-more k l grows lit within = omega (arith, grows.first, grows.long, within)
-
--- equal gates are one
-pub same-gate : (gate other : Gate) → (nat_eq gate.rhs0 other.rhs0 && nat_eq gate.rhs1 other.rhs1) ≡ true → gate ≡ other
-same-gate gate other e =
-    let parts = and_parts (nat_eq gate.rhs0 other.rhs0) (nat_eq gate.rhs1 other.rhs1) e in
-    let one : ℕ → Gate = λ n. record { rhs0 = n; rhs1 = gate.rhs1 } in
-    let two : ℕ → Gate = λ n. record { rhs0 = other.rhs0; rhs1 = n } in
-    ap one (eqb-true gate.rhs0 other.rhs0 parts.0) ∙ ap two (eqb-true gate.rhs1 other.rhs1 parts.1)
-
--- what a test chooses of two lists of gates is one of them
-pub one-or-other : (b : Bool) (xs ys : List Gate) → (cond b xs ys ≡ xs) ⊎ (cond b xs ys ≡ ys)
-one-or-other true xs ys = inl refl
-one-or-other false xs ys = inr refl
 
 -- what becomes of the gates: all as they were, or one more
 abbrev pub Takes : List Gate → List Gate → Gate → Type 0
@@ -129,6 +116,15 @@ both-either k a b lit both = record {
 pub gate-at : (k : Shared) (a b : ℕ) → IsShared k a → IsShared k b → IsGateAt (end_of k) (gate_of a b)
 gate-at k a b first second = record { ordered = gate_of-ordered a b; below = gate_of-below (end_of k) a b first second }
 
--- what an insertion makes of the gates
-pub takes-of : (b : Bool) (gates new : List Gate) (gate : Gate) → new ≡ cond b gates (gates ++ gate ∷ []) → Takes gates new gate
-takes-of b gates new gate e = elim (one-or-other b gates (gates ++ gate ∷ [])) [ inl same ↦ inl (e ∙ same) | inr more ↦ inr (e ∙ more) ]
+-- one more gate stands after the others
+pub takes-one : (old new : List SharedGate) (shared : SharedGate) → new ≡ old ++ shared ∷ [] → Takes (gates_in old) (gates_in new) shared.gate
+takes-one old new shared e = inr (ap gates_in e ∙ map_push (λ (s : SharedGate). s.gate) old shared)
+
+-- its place is the number of the others
+pub last-there : (old new : List SharedGate) (shared : SharedGate) (place : ℕ) → new ≡ old ++ shared ∷ [] → place ≡ length old → slice_get (gates_in new) place ≡ Some shared.gate
+last-there old new shared place e at =
+    let gate : Gate = shared.gate in
+    ap (λ (shareds : List SharedGate). slice_get (gates_in shareds) place) e
+    ∙ ap (λ (gates : List Gate). slice_get gates place) (map_push (λ (s : SharedGate). s.gate) old shared)
+    ∙ ap (λ (n : ℕ). slice_get (gates_in old ++ gate ∷ []) n) (omega (arith, at, length-map old (λ (s : SharedGate). s.gate)))
+    ∙ slice_get-append_right (gates_in old) (gate ∷ []) 0

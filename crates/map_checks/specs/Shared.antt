@@ -1,13 +1,17 @@
 -- Gates that are shared, and values of their literals.
-use Rattle.std.specs.Prelude.{ℕ, ◌+◌, ◌*◌, ◌<◌, ◌≤◌, ◌≡◌, Bool, false, not, ◌&&◌, List, length, slice_get, Some}
+use Rattle.std.specs.Prelude.{ℕ, ◌+◌, ◌*◌, ◌<◌, ◌≤◌, ◌≡◌, Bool, false, not, ◌&&◌, List, length, map, slice_get, Some}
 use Rattle.aig_graph.specs.declared.literal.TheConstants.{MAX_VARIABLES}
 use Rattle.aig_graph.specs.declared.graph.Gate.{Gate}
 use Rattle.aig_graph.specs.Graph.{Graph, IsGateAt, first_gate, variable}
+use Rattle.map_checks.specs.declared.shared.SharedGate.{SharedGate}
 
 -- gates that are numbered from a first variable on
 pub record Shared : Type 0 where
   pub first : ℕ
   pub gates : List Gate
+
+abbrev pub gates_in : List SharedGate → List Gate
+gates_in shared = map (λ s. s.gate) shared
 
 -- one more than the greatest variable
 abbrev pub end_of : Shared → ℕ

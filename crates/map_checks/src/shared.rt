@@ -1,31 +1,57 @@
 //! Gates of which no two have the same fan-ins. A gate whose fan-ins say nothing new comes down to a literal, and one with the fan-ins
-//! of an earlier gate to that gate's.
-ghost use Rattle.std.specs.Prelude.{◌≡◌, ◌+◌, ◌≤◌, ◌<◌, [], IfOk, IfSome, OnOk};
+//! of an earlier gate to that gate's. That one is looked for on the list of the gates that have its larger fan-in, of which there are
+//! few; what would make a list longer than `LONGEST` stands in a hash table. No contract says that it is found: what is proved of a
+//! gate's literal doesn't rest on it.
+ghost use Rattle.std.specs.Prelude.{◌≡◌, ◌+◌, ◌≤◌, ◌<◌, [], IfOk, IfSome, OnOk, Some, length, slice_get};
 ghost use Rattle.aig_graph.specs.declared.literal.TheConstants.{MAX_VARIABLES};
 ghost use Rattle.aig_graph.specs.Graph.{IsGateAt, variable};
 ghost use Rattle.map_checks.specs.Shared.{Grows, IsBoth, IsFolded, IsShared, end_of};
 
 use crate::errors::SharingError;
 use aig_graph::{Gate, Lit, MAX_VARIABLES};
-use indexmap::IndexSet;
+use indexmap::IndexMap;
 use std::alloc::Global;
 use std::marker::Model;
+
+/// How many gates a list takes.
+const LONGEST: u8 = 32;
+
+/// The list of a variable that no gate has as its larger fan-in.
+const NO_LIST: GateList = GateList { last: 0, length: 0 };
+
+/// A gate, and the link to the one before it in its list: one more than its place, and 0 where the list ends.
+#[derive(Clone, Copy)]
+pub(crate) struct SharedGate {
+    pub(crate) gate: Gate,
+    pub(crate) before: u32,
+}
+
+/// The link to the last gate of a list, and how many it has.
+#[derive(Clone, Copy)]
+struct GateList {
+    last: u32,
+    length: u8,
+}
 
 /// Gates, which are numbered from a first variable on.
 #[derive(Drop)]
 pub(crate) struct SharedGates {
     first: u32,
-    gates: IndexSet<Gate>,
+    gates: Vec<SharedGate>,
+    /// By variable, as far as there are any.
+    lists: Vec<GateList>,
+    /// The places of the gates that no list took.
+    rest: IndexMap<Gate, usize>,
 }
 
 impl Model for SharedGates {
-    ghost use Rattle.map_checks.specs.Shared.{Shared, AreGates};
+    ghost use Rattle.map_checks.specs.Shared.{Shared, AreGates, gates_in};
 
     ghost Value = { Shared };
 
-    ghost view = { λ s. record { first = s.first; gates = s.gates.keys } };
+    ghost view = { λ s. record { first = s.first; gates = gates_in s.gates.items } };
 
-    ghost invariant = { λ s. AreGates (record { first = s.first; gates = s.gates.keys }) };
+    ghost invariant = { λ s. AreGates (record { first = s.first; gates = gates_in s.gates.items }) };
 }
 
 /// The literal that a gate comes down to, whatever its fan-ins are.
@@ -55,7 +81,9 @@ impl SharedGates {
     {
         SharedGates {
             first,
-            gates: IndexSet::new(alloc),
+            gates: Vec::new(alloc),
+            lists: Vec::new(alloc),
+            rest: IndexMap::new(alloc),
         }
     }
 
@@ -64,6 +92,93 @@ impl SharedGates {
         ensures { AreGates self.now }
     {
         let _gates = self.gates.as_slice();
+    }
+
+    /// The place of a gate on the list of its larger fan-in.
+    fn listed(&self, gate: &Gate) -> Option<usize>
+        ensures { IfSome result (λ place. slice_get self.now.gates place ≡ Some gate.now) }
+    {
+        let mut link = self.lists.get(gate.rhs0.var() as usize)?.last;
+        for _ in 0..LONGEST {
+            let place = (link as usize).checked_sub(1)?;
+            let shared = self.gates.get(place)?;
+            if shared.gate == *gate {
+                return Some(place);
+            }
+            link = shared.before;
+        }
+        None
+    }
+
+    /// The place of a gate that no list took.
+    fn unlisted(&self, gate: &Gate) -> Option<usize>
+        ensures { IfSome result (λ place. slice_get self.now.gates place ≡ Some gate.now) }
+    {
+        let place = *self.rest.get(gate)?;
+        let shared = self.gates.get(place)?;
+        if shared.gate == *gate {
+            Some(place)
+        } else {
+            None
+        }
+    }
+
+    /// The place of a gate, if it is found.
+    fn found(&self, gate: &Gate) -> Option<usize>
+        ensures { IfSome result (λ place. slice_get self.now.gates place ≡ Some gate.now) }
+    {
+        match self.listed(gate) {
+            Some(place) => Some(place),
+            None => self.unlisted(gate),
+        }
+    }
+
+    /// Has the gate that is put next found from then on; the link that leads on from it is the answer.
+    fn linked(&mut self, gate: &Gate) -> Result<u32, SharingError>
+        requires { end_of self.old < MAX_VARIABLES }
+        ensures { OnOk result (self.new ≡ self.old) }
+    {
+        let place = self.gates.len();
+        let var = gate.rhs0.var() as usize;
+        if self.lists.len() <= var {
+            self.lists.resize(var + 1, NO_LIST)?;
+        }
+        let list = self.lists[var];
+        if list.length >= LONGEST {
+            self.rest.insert(*gate, place)?;
+            return Ok(0);
+        }
+        self.lists[var] = GateList {
+            last: (place + 1) as u32,
+            length: list.length + 1,
+        };
+        Ok(list.last)
+    }
+
+    /// Puts a gate after the others: its place.
+    fn add(&mut self, gate: Gate) -> Result<usize, SharingError>
+        requires room { end_of self.old < MAX_VARIABLES }
+        requires at { IsGateAt (end_of self.old) gate }
+        ensures grows { OnOk result (Grows self.old self.new) }
+        ensures is { IfOk result (λ place. slice_get self.new.gates place ≡ Some gate) }
+    {
+        let before = self.linked(&gate)?;
+        let place = self.gates.len();
+        self.gates.push(SharedGate { gate, before })?;
+        Ok(place)
+    }
+
+    /// The place of a gate, which is put after the others where it isn't found.
+    fn place_of(&mut self, gate: Gate) -> Result<usize, SharingError>
+        requires room { end_of self.old < MAX_VARIABLES }
+        requires at { IsGateAt (end_of self.old) gate }
+        ensures grows { OnOk result (Grows self.old self.new) }
+        ensures is { IfOk result (λ place. slice_get self.new.gates place ≡ Some gate) }
+    {
+        match self.found(&gate) {
+            Some(place) => Ok(place),
+            None => self.add(gate),
+        }
     }
 
     /// The literal of a gate that comes down to none of the others', unless one has its fan-ins.
@@ -75,7 +190,7 @@ impl SharedGates {
         if self.first as usize + self.gates.len() >= MAX_VARIABLES {
             return Err(SharingError::TooLarge);
         }
-        let (place, _) = self.gates.insert_full(gate)?;
+        let place = self.place_of(gate)?;
         Ok(Lit::new(self.first + place as u32, false))
     }
 

@@ -1,26 +1,20 @@
 -- Why there is no retiming with a map.
-use Rattle.std.proofs.Common.{ℕ, ◌≡◌, ◌∙◌, ◌++◌, ◌∷◌, [], Bool, true, false, List, inl, inr, refl, sym, subst}
+use Rattle.std.proofs.Common.{ℕ, ◌≡◌, ◌∙◌, ◌++◌, ◌∷◌, [], List, inl, inr, refl, sym, subst, Result, Ok, Err}
+use Rattle.std.specs.Result.{IfOk}
 use Rattle.aig_graph.specs.Circuits.{Netlist}
-use Rattle.aig_graph.specs.Graph.{free_latches}
-use Rattle.aig_graph.specs.Laws.{all_free}
 use Rattle.aig_graph.specs.declared.holding.KeepError.{KeepError}
 use Rattle.aig_graph.specs.declared.holding.KeepError.TheVariants as keeping
-use Rattle.clean.proofs.CleaningLaws.{composed-all}
 use Rattle.counted_io.specs.Input.{Input}
 use Rattle.counted_io.specs.Output.{Output, WritesAll, WritesPart}
 use Rattle.aig_binary.specs.declared.reading.SpeltCircuit.{SpeltCircuit}
 use Rattle.aig_binary.specs.Ending.{ReadsToEnd, Spells}
 use Rattle.frames.specs.declared.errors.BytesError.TheVariants.{Read, Retime, Write}
 use Rattle.frames.specs.declared.errors.RetimeError.TheVariants.{NoMemory, NoSuchName}
-use Rattle.frames.specs.declared.merging.ReadCircuit.{ReadCircuit}
 use Rattle.frames.specs.declared.options.Options.{Options}
 use Rattle.frames.specs.Answering.{IsWritten}
 use Rattle.frames.specs.Codes.{of_keep_error}
-use Rattle.frames.specs.Merging.{IsStart, told_of_read}
-use Rattle.frames.specs.Retiming.{IsRetimedAsIs, IsRetimedBy}
 use Rattle.frames.specs.Named.{IsFirstMissingBy, NoneMissingBy, names_in}
-use Rattle.frames.specs.Stages.{Tells, Told, Writing, stages_of}
-use Rattle.frames.proofs.MergedLaws.{merged-retimed}
+use Rattle.frames.specs.Stages.{Tells, Told, Writing, looks_of, stages_of}
 use Rattle.frames.proofs.StageLaws.{tells-then}
 use Rattle.frames.proofs.StopLaws.{stops-answering}
 use Rattle.std.specs.Option.{unwrap_or}
@@ -36,8 +30,7 @@ use Rattle.mapped_answers.specs.declared.making.Made.{Made}
 use Rattle.mapped_answers.specs.declared.mapped.Mapped.{Mapped}
 use Rattle.mapped_answers.specs.declared.mapped.MappedError.{MappedError}
 use Rattle.mapped_answers.specs.declared.mapped.MappedError.TheVariants.{Answer, MapTooLarge}
-use Rattle.mapped_answers.specs.Following.{IsMadeFrom}
-use Rattle.mapped_answers.specs.Mapping.{IsMade, IsMadeCutOff, IsMadeWritten, IsMakingError, IsMapError, IsMapped, IsMappedError, IsMappedOf, IsMappingStop}
+use Rattle.mapped_answers.specs.Mapping.{IsMade, IsMadeCutOff, IsMadeWritten, IsMakingError, IsMapError, IsMapped, IsMappedError, IsMappedOf, IsMappingStop, IsRetimedMapped}
 
 -- no map
 pub unmapped : (options : Options) (c : Netlist) (e : MappedError) → IsMapError e → IsMakingError options c e
@@ -49,34 +42,15 @@ pub unnamed : (options : Options) (c : Netlist) (e : KeepError) → ((place : �
 unnamed options c keeping.NoMemory missing = tt
 unnamed options c (keeping.NoSuchName place) missing = missing place refl
 
--- no latches are merged
-as-it-is : (options : Options) (c : Netlist) (r : Retimed) → options.merge ≡ false → IsRetimedAsIs options c r → IsRetimedBy options c r
-as-it-is options c r unasked is =
-    let P : Bool → Type 0 = λ merge. IsRetimedWith merge options.choice c (names_in options) options.max_frames options.certify r in
-    subst P (sym unasked) is
+-- what was made of a circuit that has latches of all names is what is asked for
+pub is-made : (options : Options) (c : Netlist) (m : Made) → NoneMissingBy options c → IsRetimedMapped options c m → IsMade options c m
+is-made options c m none is = record { names = none; retimed = is.retimed; map = is.map }
 
--- so what is made of the circuit that was read is what is asked for
-pub made-as_is : (options : Options) (c : Netlist) (m : Made) → options.merge ≡ false → NoneMissingBy options c → IsMadeFrom options c c (all_free c.aig) m → IsMade options c m
-made-as_is options c m unasked none is =
-    let P : List ℕ → Type 0 = λ places. IsMapCircuit c m.retimed.circuit places m.map in
-    record {
-      names = none;
-      retimed = as-it-is options c m.retimed unasked is.retimed;
-      map = subst P (composed-all (free_latches c.aig) m.retimed.kept_free is.retimed.streams.places.below) is.map;
-    }
-
--- what is made of the merged circuit, told of the circuit that was read, is what is asked for
-pub made-merged : (options : Options) (c d : Netlist) (read : ReadCircuit) (m whole : Made) → options.merge ≡ true → NoneMissingBy options c → IsStart options c (record { circuit = d; read = read })
-    → IsMadeFrom options c d read.kept_free m → whole.retimed ≡ told_of_read read m.retimed → whole.map ≡ m.map → IsMade options c whole
-made-merged options c d read m whole asked none is from told map =
-    let r : Retimed = m.retimed in
-    let P : Bool → Type 0 = λ merge. IsRetimedWith merge options.choice c (names_in options) options.max_frames options.certify whole.retimed in
-    let Q : Retimed → Netlist → Type 0 = λ x n. IsMapCircuit c x.circuit x.kept_free n in
-    record {
-      names = none;
-      retimed = subst P (sym asked) (merged-retimed options c (record { circuit = d; read = read }) whole.retimed r is from.retimed told);
-      map = subst (λ (x : Retimed). Q x whole.map) (sym told) (subst (λ (n : Netlist). Q (told_of_read read r) n) (sym map) from.map);
-    }
+-- of the same retiming the same is told
+pub same-told : {W E : Type 0} (was_told : W → List Told → Type 0) (limit : ℕ) (a b : W) (r : Retimed) (result : Result Made E) → Tells was_told a b (looks_of limit r)
+    → IfOk result (λ made. made.retimed ≡ r) → IfOk result (λ made. Tells was_told a b (looks_of limit made.retimed))
+same-told was_told limit a b r (Ok made) told same = subst (λ (x : Retimed). Tells was_told a b (looks_of limit x)) (sym same) told
+same-told was_told limit a b r (Err e) told same = tt
 
 -- nothing is written then
 pub makes-nothing : (options : Options) (spelt : SpeltCircuit) (out : Output) (e : MappedError) → IsMakingError options spelt.circuit e → IsMappingStop options spelt out out e

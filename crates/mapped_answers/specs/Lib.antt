@@ -1,5 +1,3 @@
-pub mod Following
-pub mod Framing
 pub mod Mapping
 pub mod MapText
 pub mod Holding

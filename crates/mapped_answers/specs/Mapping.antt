@@ -26,6 +26,11 @@ pub record IsMade (options : Options) (c : Netlist) (m : Made) : Type 0 where
   pub retimed : IsRetimedBy options c m.retimed
   pub map : IsMapCircuit c m.retimed.circuit m.retimed.kept_free m.map
 
+-- c retimed by the options, and its map
+pub record IsRetimedMapped (options : Options) (c : Netlist) (m : Made) : Type 0 where
+  pub retimed : IsRetimedBy options c m.retimed
+  pub map : IsMapCircuit c m.retimed.circuit m.retimed.kept_free m.map
+
 -- why there is no map of a retiming
 abbrev pub IsMapError : MappedError → Type 0
 IsMapError e = (e ≡ Answer (Retime NoMemory)) ⊎ (e ≡ MapTooLarge)

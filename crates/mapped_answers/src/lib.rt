@@ -7,17 +7,13 @@
 mod bytes;
 mod errors;
 mod following;
-mod framing;
 mod held_mapped;
 mod holding;
 mod making;
 mod map_text;
 mod mapped;
-mod merging;
 mod options;
 mod plain;
-mod starting;
-mod underway;
 mod writing;
 
 pub use bytes::{retime_bytes_mapped, retime_spelt_mapped};

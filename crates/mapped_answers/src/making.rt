@@ -1,23 +1,21 @@
 //! A circuit retimed, with its map.
-ghost use Rattle.std.specs.Prelude.{ℕ, ◌≡◌, ◌<◌, true, false, All, IfErr, IfOk, List, length};
-ghost use Rattle.aig_graph.specs.Circuits.{Netlist};
-ghost use Rattle.frames.specs.Merging.{told_of_read};
-ghost use Rattle.frames.specs.Named.{NoneMissingBy};
+ghost use Rattle.std.specs.Prelude.{◌≡◌, IfErr, IfOk};
+ghost use Rattle.frames.specs.Codes.{of_keep_error};
+ghost use Rattle.frames.specs.Following.{IsRetimedFollowed};
+ghost use Rattle.frames.specs.Named.{NoneMissingBy, kept_by};
 ghost use Rattle.frames.specs.Stages.{Tells, looks_of, stages_of};
-ghost use Rattle.mapped_answers.specs.Following.{EndsFollowed, IsBegunAlong, IsFollowed, IsMadeFrom, IsMergedUnderway};
-ghost use Rattle.mapped_answers.specs.Mapping.{IsMade, IsMakingError, IsMapError};
+ghost use Rattle.frames.specs.declared.errors.BytesError.TheVariants.{Retime};
+ghost use Rattle.mapped_answers.specs.Mapping.{IsMade, IsMakingError, IsMapError, IsRetimedMapped};
+ghost use Rattle.mapped_answers.specs.declared.mapped.MappedError.TheVariants.{Answer};
 
-use crate::following::all_frames;
+use crate::following::GrowingMap;
 use crate::mapped::{MappedError, map_error};
-use crate::merging::{MergedUnderway, merged_by_names};
-use crate::starting::begun_by_names;
-use crate::underway::Underway;
-use aig_graph::{Circuit, NoMemory};
+use aig_graph::{Circuit, Keep, KeepError, NoMemory, keep_of};
 use frames::{
-    FrameWatcher, Options, ReadCircuit, Records, Retimed, Stage, told_of_read, with_certificates,
+    BytesError, FrameWatcher, Options, RetimeError, Retimed, Run, RunFollower, Stage, begin, finish,
 };
 use pulse::{Crew, PhaseGate};
-use retiming_maps::{MapError, StateMap, state_map};
+use retiming_maps::{MapError, StateMap, identity, state_map};
 use std::alloc::Global;
 use std::thread::Threads;
 
@@ -28,173 +26,81 @@ pub struct Made {
     pub map: StateMap,
 }
 
-/// What a run came to, with the certificates that were recorded, and its map as a circuit.
-fn finished(
+/// What a run came to, and its map as a circuit.
+fn with_map(
     alloc: Global,
     circuit: &Circuit,
-    run: Underway,
-    records: Records,
+    end: Run<GrowingMap>,
     options: &Options,
 ) -> Result<Made, MapError>
-    requires { (d : Netlist) × (kept : List ℕ)
-        × EndsFollowed options.now circuit.now d kept records run }
-    ensures made { IfOk result (λ made. (d : Netlist) (kept : List ℕ)
-        → EndsFollowed options.now circuit.now d kept records run
-        → IsMadeFrom options.now circuit.now d kept made) }
-    ensures same { IfOk result (λ made. (made.retimed.frames ≡ run.retimed.frames)
-        × (made.retimed.circuit ≡ run.retimed.circuit)) }
+    requires { IsRetimedFollowed ⟦<GrowingMap as RunFollower>⟧.has_come options.now circuit.now
+        end.retimed end.follower }
+    ensures made { IfOk result (IsRetimedMapped options.now circuit.now) }
+    ensures same { IfOk result (λ made. made.retimed ≡ end.retimed) }
 {
     let _options = options;
-    let Underway { retimed, parts } = run;
-    match state_map(alloc, parts, circuit, &retimed.circuit) {
-        Ok(map) => Ok(Made {
-            retimed: with_certificates(retimed, records),
-            map,
-        }),
+    let Run { retimed, follower } = end;
+    match state_map(alloc, follower.parts, circuit, &retimed.circuit) {
+        Ok(map) => Ok(Made { retimed, map }),
         Err(NoMemory) => {
             drop(retimed);
-            drop(records);
             Err(MapError::NoMemory)
         }
     }
 }
 
-/// The circuit retimed, with its map, from what its frames start from.
-fn made_from<G: PhaseGate, V: FrameWatcher>(
+/// The circuit retimed, where these latches are held that the options name, with its map.
+fn made_kept<G: PhaseGate, V: FrameWatcher>(
     rt: &(impl Threads + Sync),
     alloc: Global,
     circuit: &Circuit,
-    start: Underway,
+    keep: &Keep,
     options: &Options,
     crew: &Crew<G>,
     watcher: &mut V,
 ) -> Result<Made, MapError>
-    requires { IsBegunAlong options.now circuit.now start }
-    ensures made { IfOk result (λ made. (d : Netlist) (kept : List ℕ)
-        → IsFollowed options.now circuit.now d kept 0 start
-        → IsMadeFrom options.now circuit.now d kept made) }
+    requires keep { keep.now ≡ kept_by options.now circuit.now }
+    requires names { NoneMissingBy options.now circuit.now }
+    ensures made { IfOk result (IsRetimedMapped options.now circuit.now) }
     ensures told { IfOk result (λ made. Tells V.was_told watcher.old watcher.new
         (looks_of options.now.max_frames made.retimed)) }
 {
-    let mut records = Records::new(alloc, options.certify);
-    match all_frames(rt, alloc, start, options, crew, &mut records, watcher) {
-        Ok(run) => finished(alloc, circuit, run, records, options),
-        Err(error) => {
-            drop(records);
-            Err(error)
-        }
-    }
+    let map = GrowingMap {
+        parts: identity(alloc, circuit)?,
+    };
+    let begun = begin(alloc, circuit, keep, options, map)?;
+    let end = finish(rt, alloc, begun, options, crew, watcher)?;
+    with_map(alloc, circuit, end, options)
 }
 
 /// The same, with the errors of a run that makes a map.
-fn made_begun<G: PhaseGate, V: FrameWatcher>(
+fn made_mapped<G: PhaseGate, V: FrameWatcher>(
     rt: &(impl Threads + Sync),
     alloc: Global,
     circuit: &Circuit,
-    start: Underway,
+    keep: &Keep,
     options: &Options,
     crew: &Crew<G>,
     watcher: &mut V,
 ) -> Result<Made, MappedError>
-    requires { IsBegunAlong options.now circuit.now start }
-    ensures ok { IfOk result (λ made. (d : Netlist) (kept : List ℕ)
-        → IsFollowed options.now circuit.now d kept 0 start
-        → IsMadeFrom options.now circuit.now d kept made) }
+    requires keep { keep.now ≡ kept_by options.now circuit.now }
+    requires names { NoneMissingBy options.now circuit.now }
+    ensures ok { IfOk result (IsMade options.now circuit.now) }
     ensures err { IfErr result IsMapError }
     ensures told { IfOk result (λ made. Tells V.was_told watcher.old watcher.new
         (looks_of options.now.max_frames made.retimed)) }
 {
-    match made_from(rt, alloc, circuit, start, options, crew, watcher) {
+    match made_kept(rt, alloc, circuit, keep, options, crew, watcher) {
         Ok(made) => Ok(made),
         Err(error) => Err(map_error(error)),
     }
 }
 
-/// The circuit retimed as it is, with its map.
-fn made_as_is<G: PhaseGate, V: FrameWatcher>(
-    rt: &(impl Threads + Sync),
-    alloc: Global,
-    circuit: &Circuit,
-    options: &Options,
-    crew: &Crew<G>,
-    watcher: &mut V,
-) -> Result<Made, MappedError>
-    requires { options.now.merge ≡ false }
-    ensures ok { IfOk result (IsMade options.now circuit.now) }
-    ensures err { IfErr result (IsMakingError options.now circuit.now) }
-    ensures told { IfOk result (λ made. Tells V.was_told watcher.old watcher.new
-        (looks_of options.now.max_frames made.retimed)) }
+/// The error that one of holding latches is.
+fn unnamed(error: KeepError) -> MappedError
+    ensures { result ≡ Answer (Retime (of_keep_error error)) }
 {
-    match begun_by_names(alloc, circuit, options) {
-        Ok(start) => made_begun(rt, alloc, circuit, start, options, crew, watcher),
-        Err(error) => Err(error),
-    }
-}
-
-/// What was made of a merged circuit, told of the circuit that was read.
-fn told(alloc: Global, made: Made, read: ReadCircuit) -> Result<Made, MappedError>
-    requires { All (λ place. place < length read.kept_free) made.retimed.kept_free }
-    ensures ok { IfOk result (λ whole. (whole.retimed ≡ told_of_read read made.retimed)
-        × (whole.map ≡ made.map)) }
-    ensures err { IfErr result IsMapError }
-{
-    let Made { retimed, map } = made;
-    match told_of_read(alloc, retimed, read) {
-        Ok(retimed) => Ok(Made { retimed, map }),
-        Err(NoMemory) => {
-            drop(map);
-            Err(map_error(MapError::NoMemory))
-        }
-    }
-}
-
-/// The merged circuit retimed, with the map of the states of the one that was read, of which that is told.
-fn made_after<G: PhaseGate, V: FrameWatcher>(
-    rt: &(impl Threads + Sync),
-    alloc: Global,
-    circuit: &Circuit,
-    start: MergedUnderway,
-    options: &Options,
-    crew: &Crew<G>,
-    watcher: &mut V,
-) -> Result<Made, MappedError>
-    requires names { NoneMissingBy options.now circuit.now }
-    requires merge { options.now.merge ≡ true }
-    requires start { IsMergedUnderway options.now circuit.now start }
-    ensures ok { IfOk result (IsMade options.now circuit.now) }
-    ensures err { IfErr result IsMapError }
-    ensures told { IfOk result (λ made. Tells V.was_told watcher.old watcher.new
-        (looks_of options.now.max_frames made.retimed)) }
-{
-    let MergedUnderway { run, read } = start;
-    match made_begun(rt, alloc, circuit, run, options, crew, watcher) {
-        Ok(made) => told(alloc, made, read),
-        Err(error) => {
-            drop(read);
-            Err(error)
-        }
-    }
-}
-
-/// The circuit merged and retimed, with its map.
-fn made_merged<G: PhaseGate, V: FrameWatcher>(
-    rt: &(impl Threads + Sync),
-    alloc: Global,
-    circuit: &Circuit,
-    options: &Options,
-    crew: &Crew<G>,
-    watcher: &mut V,
-) -> Result<Made, MappedError>
-    requires { options.now.merge ≡ true }
-    ensures ok { IfOk result (IsMade options.now circuit.now) }
-    ensures err { IfErr result (IsMakingError options.now circuit.now) }
-    ensures told { IfOk result (λ made. Tells V.was_told watcher.old watcher.new
-        (looks_of options.now.max_frames made.retimed)) }
-{
-    match merged_by_names(alloc, circuit, options) {
-        Ok(start) => made_after(rt, alloc, circuit, start, options, crew, watcher),
-        Err(error) => Err(error),
-    }
+    MappedError::Answer(BytesError::Retime(RetimeError::from(error)))
 }
 
 /// The circuit retimed, with its map, after its latches that always agree are merged where the options ask for it.
@@ -212,10 +118,9 @@ fn made_of<G: PhaseGate, V: FrameWatcher>(
         (stages_of options.now.max_frames made.retimed)) }
 {
     watcher.enter(Stage::Cleaning);
-    if options.merge {
-        made_merged(rt, alloc, circuit, options, crew, watcher)
-    } else {
-        made_as_is(rt, alloc, circuit, options, crew, watcher)
+    match keep_of(alloc, circuit, options.keep.as_slice()) {
+        Ok(keep) => made_mapped(rt, alloc, circuit, &keep, options, crew, watcher),
+        Err(error) => Err(unnamed(error)),
     }
 }
 

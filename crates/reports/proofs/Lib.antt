@@ -1,3 +1,4 @@
 pub mod AgreementLaws
 pub mod TraceTextLaws
+mod SimulatingLaws
 pub mod AuditTextLaws

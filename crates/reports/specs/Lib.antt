@@ -1,4 +1,5 @@
 pub mod Traces
+pub mod Simulating
 pub mod Differences
 pub mod Counts
 pub mod Retimings

@@ -10,6 +10,7 @@ mod counts;
 mod difference;
 mod remaining;
 mod retiming;
+mod simulating;
 mod trace;
 
 pub use agreement::{Agreement, compare};
@@ -19,4 +20,5 @@ pub use counts::print_counts;
 pub use difference::{print_difference, print_shapes_differ};
 pub use remaining::print_remaining;
 pub use retiming::print_retiming;
+pub use simulating::{Room, print_simulated};
 pub use trace::print_trace;

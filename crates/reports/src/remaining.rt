@@ -1,20 +1,49 @@
+//! Why no more latches of a retimed circuit go: what holds each of them where it is. The numbers add up to all latches.
+ghost use Rattle.std.specs.Prelude.{◌≡◌};
 ghost use Rattle.counted_io.specs.Buffered.{Puts};
 ghost use Rattle.counted_io.specs.Output.{Writes};
-ghost use Rattle.reports.specs.Remaining.{end_text, remaining_text, staying_text};
+ghost use Rattle.reports.specs.Remaining.{end_text, movable, movable_lead, remaining_text, staying_text};
 
-use circuit_counts::{HeldBack, Remaining};
+use circuit_counts::Remaining;
 use counted_io::{Buffered, CountedWrite, WriteError};
 
-/// Puts the line of the latches that stay.
-fn put_staying<W: CountedWrite>(out: &mut Buffered<'_, W>, held_back: &HeldBack)
-    ensures { Puts W.output out.old out.new (staying_text held_back.now) }
+/// How many latches nothing holds where they are: gates that they may move over alone read them.
+fn movable(remaining: &Remaining) -> u64
+    ensures { result ≡ movable remaining.now }
 {
+    let held_back = &remaining.held_back;
+    let others = remaining
+        .counts
+        .latches
+        .saturating_sub(u64::from(held_back.free));
+    let unheld = others.saturating_sub(u64::from(held_back.held));
+    unheld.saturating_sub(u64::from(held_back.read_elsewhere))
+}
+
+/// What the number of these follows.
+fn movable_lead(is_least: bool) -> &'static [u8]
+    ensures { result.now ≡ movable_lead is_least }
+{
+    if is_least {
+        b", could move without gain "
+    } else {
+        b", could move "
+    }
+}
+
+/// Puts the line of the latches that stay.
+fn put_staying<W: CountedWrite>(out: &mut Buffered<'_, W>, remaining: &Remaining)
+    ensures { Puts W.output out.old out.new (staying_text remaining.now) }
+{
+    let held_back = &remaining.held_back;
     out.put(b"latches that stay: free ");
     out.put_number(u64::from(held_back.free));
     out.put(b", held ");
     out.put_number(u64::from(held_back.held));
     out.put(b", read elsewhere ");
     out.put_number(u64::from(held_back.read_elsewhere));
+    out.put(movable_lead(remaining.is_least));
+    out.put_number(movable(remaining));
     out.put_byte(b'\n');
 }
 
@@ -32,7 +61,7 @@ fn put_end<W: CountedWrite>(out: &mut Buffered<'_, W>, is_least: bool)
 fn put_remaining<W: CountedWrite>(out: &mut Buffered<'_, W>, remaining: &Remaining)
     ensures { Puts W.output out.old out.new (remaining_text remaining.now) }
 {
-    put_staying(out, &remaining.held_back);
+    put_staying(out, remaining);
     out.put(b"passable gates ");
     out.put_number(u64::from(remaining.held_back.passable));
     put_end(out, remaining.is_least);

@@ -8,7 +8,7 @@ ghost use Rattle.reports.specs.Traces.{digit, digit_at, sequence_at, sequences_a
 use counted_io::{Buffered, CountedWrite, WriteError};
 use lane_sim::Trace;
 
-fn digit(value: bool) -> u8
+pub(crate) fn digit(value: bool) -> u8
     ensures { result ≡ digit value }
 {
     if value { b'1' } else { b'0' }

@@ -1,11 +1,9 @@
 -- What is printed of a trace and of waves, by how the run ends.
-use Rattle.std.proofs.Common.{ℕ, ◌≡◌, Bool, true, false, List, Some, IfOk, Result, Ok, Err, refl, sym, subst, ap₂}
+use Rattle.std.proofs.Common.{ℕ, ◌≡◌, true, false, List, Some, IfOk, Result, Ok, Err, refl, sym, subst, ap₂}
 use Rattle.std.proofs.lemmas.Result.{IfOk-weaker}
 use Rattle.counted_io.specs.Input.{Input}
 use Rattle.counted_io.specs.Output.{Output, WritesAll}
 use Rattle.counted_io.proofs.OutputLaws.{all-then}
-use Rattle.lane_sim.specs.Traces.{trace}
-use Rattle.reports.specs.Traces.{trace_text}
 use Rattle.waves.specs.Dumps.{waves_text}
 use Rattle.stream_paths.specs.Streams.{is_stdout}
 use Rattle.stream_paths.specs.declared.target.Target.{Target}
@@ -15,7 +13,7 @@ use Rattle.circuit_files.specs.declared.outcome.Outcome.{Outcome}
 use Rattle.circuit_files.specs.declared.outcome.Outcome.TheVariants.{Done}
 use Rattle.circuit_files.specs.declared.outcome.Failure.{Failure}
 use Rattle.command_endings.specs.Printing.{EndsPrinting, EndsWith, Prints, ending}
-use Rattle.command_endings.proofs.PrintingLaws.{ends_with_line, of_device}
+use Rattle.command_endings.proofs.PrintingLaws.{of_device}
 use Rattle.simulation_commands.specs.Dumping.{AreWavesOf, dump_of, dump_text}
 use Rattle.simulation_commands.specs.Simulating.{IsCaseOf, PrintsTrace, lines_of, printed}
 use Rattle.simulation_commands.specs.declared.dumping.Waves.{Waves}
@@ -40,20 +38,7 @@ lines_print_after lines old mid new (Err failure) p = of_device failure old new 
 dump_is : (given : Case) (waves : Waves) → AreWavesOf given waves → dump_text waves ≡ dump_of given
 dump_is given waves are = ap₂ waves_text are.names are.values
 
--- the lines of the trace of what is simulated
-pub lines_of_trace : (given : Case) (found : List (List (List Bool))) (old new : Output) (result : Result Outcome Failure)
-    → found ≡ trace given.circuit given.stimulus → EndsPrinting Done (trace_text found) old new result → IfOk result (EndsWith Done (lines_of given) old new)
-lines_of_trace given found old new result is p =
-    subst (λ (t : List (List (List Bool))). IfOk result (EndsWith Done (trace_text t) old new)) is (ends_with_line Done (trace_text found) old new result p)
-
--- the same of what is printed beside a dump
-pub printed_of_trace : (target : Target) (dump : List ℕ) (given : Case) (found : List (List (List Bool))) (old new : Output) (result : Result Outcome Failure)
-    → found ≡ trace given.circuit given.stimulus → IfOk result (EndsWith Done (printed (Some target) dump (trace_text found)) old new)
-    → IfOk result (EndsWith Done (printed (Some target) dump (lines_of given)) old new)
-printed_of_trace target dump given found old new result is p =
-    subst (λ (t : List (List (List Bool))). IfOk result (EndsWith Done (printed (Some target) dump (trace_text t)) old new)) is p
-
--- the same of the dump of its waves
+-- what is printed beside the dump of the waves
 pub printed_of_waves : (target : Target) (given : Case) (waves : Waves) (old new : Output) (result : Result Outcome Failure)
     → AreWavesOf given waves → IfOk result (EndsWith Done (printed (Some target) (dump_text waves) (lines_of given)) old new)
     → IfOk result (EndsWith Done (printed (Some target) (dump_of given) (lines_of given)) old new)

@@ -3,6 +3,7 @@ use Rattle.std.specs.Prelude.{ℕ, ◌≡◌, ◌++◌, List, Option, Some, None
 use Rattle.aig_graph.specs.Circuits.{Netlist}
 use Rattle.aig_binary.specs.declared.reading.SpeltCircuit.{SpeltCircuit}
 use Rattle.lane_sim.specs.Traces.{trace}
+use Rattle.reports.specs.Simulating.{IsRoomFor}
 use Rattle.reports.specs.Traces.{trace_text}
 use Rattle.counted_io.specs.Input.{Input}
 use Rattle.counted_io.specs.Output.{Output}
@@ -17,6 +18,8 @@ use Rattle.command_endings.specs.Sources.{IsCircuitAt}
 use Rattle.simulation_commands.specs.Dumping.{dump_of}
 use Rattle.simulation_commands.specs.Stimulating.{AreStimuliAt}
 use Rattle.simulation_commands.specs.declared.simulation.Case.{Case}
+use Rattle.simulation_commands.specs.declared.simulation.Lines.{Lines}
+use Rattle.simulation_commands.specs.declared.simulation.Lines.TheVariants.{Whole, Stepped}
 
 -- this circuit, and what it is simulated under by what is asked for
 pub record IsCaseWith (c : Netlist) (stimuli : Stimuli) (before after : Input) (given : Case) : Type 0 where
@@ -33,6 +36,11 @@ pub record IsCaseOf (task : Simulation) (before after : Input) (given : Case) : 
 -- the lines of its trace
 abbrev pub lines_of : Case → List ℕ
 lines_of given = trace_text (trace given.circuit given.stimulus)
+
+-- its trace, or room for simulating it
+abbrev pub AreLinesFor : Case → Lines → Type 0
+AreLinesFor given (Whole found) = found ≡ trace given.circuit given.stimulus
+AreLinesFor given (Stepped room) = IsRoomFor given.circuit room
 
 -- what is printed: the lines of the trace, and before them the dump of waves where that goes to standard output
 abbrev pub printed : Option Target → List ℕ → List ℕ → List ℕ

@@ -4,6 +4,7 @@ ghost use Rattle.aig_graph.specs.Streams.{property_literals};
 ghost use Rattle.simulation_commands.specs.Room as wanted;
 
 use aig_graph::{Circuit, Lit, Props, Sequence};
+use lane_sim::{InputSequence, Stimulus};
 
 /// The most bytes of steps, and of choices.
 const MOST_BYTES: u64 = 1 << 28;
@@ -64,6 +65,40 @@ fn trace_fills(circuit: &Circuit, sequences: u32, steps: u32) -> bool
 {
     let all = u64::from(sequences.max(LANES)) * u64::from(steps);
     is_over(MOST_BITS, all, literals(circuit.props()))
+}
+
+/// The most bytes of a trace that is made whole, beside those for each step that was read.
+const WHOLE_BYTES: u64 = 1 << 24;
+
+/// So many bytes of a trace may come with each step that was read, which takes some of them itself.
+const BYTES_BY_STEP: u64 = 64;
+
+/// The bytes of a literal at a step of 256 sequences.
+const LANES_BYTES: u64 = 32;
+
+/// The steps of all sequences, and those of the longest.
+fn counted_steps(sequences: &[InputSequence]) -> (u64, u64) {
+    let mut all = 0u64;
+    let mut longest = 0u64;
+    for sequence in sequences {
+        let steps = sequence.steps.len() as u64;
+        all = all.saturating_add(steps);
+        longest = longest.max(steps);
+    }
+    (all, longest)
+}
+
+/// Whether a trace takes little beside a constant and what was read, so that it may be made whole, by all processors. A hint: what is printed
+/// doesn't rest on it.
+pub(crate) fn is_small(circuit: &Circuit, stimulus: &Stimulus) -> bool {
+    let sequences = stimulus.as_slice();
+    let (all, longest) = counted_steps(sequences);
+    let blocks = sequences.len().div_ceil(LANES as usize) as u64;
+    let bytes = blocks
+        .saturating_mul(longest)
+        .saturating_mul(literals(circuit.props()))
+        .saturating_mul(LANES_BYTES);
+    bytes <= WHOLE_BYTES.saturating_add(all.saturating_mul(BYTES_BY_STEP))
 }
 
 /// Whether so many sequences, of so many steps each, or the trace of the circuit under them, take too much memory: what stays below

@@ -1,14 +1,15 @@
 //! The command `sim`.
 ghost use Rattle.std.specs.Prelude.{◌≡◌, IfOk, MatchResult, Some};
-ghost use Rattle.lane_sim.specs.Traces as traces;
+ghost use Rattle.reports.specs.Simulating.{IsRoomFor};
 ghost use Rattle.reports.specs.Traces.{trace_text};
 ghost use Rattle.circuit_files.specs.declared.outcome.Outcome.TheVariants.{Done};
 ghost use Rattle.circuit_files.specs.declared.outcome.Failure.TheVariants.{Memory};
 ghost use Rattle.command_endings.specs.Printing.{EndsPrinting, EndsWith, Prints, ending};
 ghost use Rattle.simulation_commands.specs.Dumping.{dump_of, dump_text};
-ghost use Rattle.simulation_commands.specs.Simulating.{IsCaseOf, IsCaseWith, PrintsTrace, lines_of, printed};
+ghost use Rattle.simulation_commands.specs.Simulating.{AreLinesFor, IsCaseOf, IsCaseWith, PrintsTrace, lines_of, printed};
 
 use crate::dumping::{Waves, waves_of, write_dump};
+use crate::room::is_small;
 use crate::stimuli::stimuli_for;
 use aig_graph::Circuit;
 use circuit_files::{Failure, Outcome, circuit_at};
@@ -16,7 +17,7 @@ use command_endings::ended;
 use command_line::Simulation;
 use counted_io::{CountedRead, CountedWrite};
 use lane_sim::{Stimulus, Trace, simulate};
-use reports::print_trace;
+use reports::{Room, print_simulated, print_trace};
 use std::alloc::Global;
 use std::rt::Files;
 use std::thread::Threads;
@@ -27,6 +28,15 @@ use stream_paths::Target;
 pub(crate) struct Case {
     pub(crate) circuit: Circuit,
     pub(crate) stimulus: Stimulus,
+}
+
+/// What is printed of a trace.
+#[derive(Drop)]
+enum Lines {
+    /// A trace that is made.
+    Whole(Trace),
+    /// Room in which it is simulated while it is printed.
+    Stepped(Room),
 }
 
 /// A circuit, and what the task has it simulated under.
@@ -64,21 +74,63 @@ fn case_for<'a, R: Files, I: CountedRead>(
     }
 }
 
-fn trace<'a, R: Threads + Sync>(rt: &R, alloc: Global, given: &Case) -> Result<Trace, Failure<'a>>
-    ensures { MatchResult result
-        (λ found. found ≡ traces.trace given.now.circuit given.now.stimulus)
-        (λ failure. failure ≡ Memory) }
+/// The trace of what is simulated, or room for simulating it where the trace would take much more memory than what was read.
+fn lines_for<'a, R: Threads + Sync>(
+    rt: &R,
+    alloc: Global,
+    given: &Case,
+) -> Result<Lines, Failure<'a>>
+    ensures { MatchResult result (AreLinesFor given.now) (λ failure. failure ≡ Memory) }
 {
-    match simulate(rt, alloc, &given.circuit, &given.stimulus) {
-        Ok(trace) => Ok(trace),
-        Err(_) => Err(Failure::Memory),
+    if is_small(&given.circuit, &given.stimulus) {
+        match simulate(rt, alloc, &given.circuit, &given.stimulus) {
+            Ok(trace) => Ok(Lines::Whole(trace)),
+            Err(_) => Err(Failure::Memory),
+        }
+    } else {
+        match Room::new(alloc, &given.circuit) {
+            Ok(room) => Ok(Lines::Stepped(room)),
+            Err(_) => Err(Failure::Memory),
+        }
     }
 }
 
-fn print_lines<'a, O: CountedWrite>(trace: &Trace, out: &mut O) -> Result<Outcome, Failure<'a>>
-    ensures { EndsPrinting Done (trace_text trace.now) (O.output out.old) (O.output out.new) result }
+/// Prints a trace that was made.
+fn print_whole<'a, O: CountedWrite>(trace: Trace, out: &mut O) -> Result<Outcome, Failure<'a>>
+    ensures { EndsPrinting Done (trace_text trace) (O.output out.old) (O.output out.new) result }
 {
-    ended(print_trace(trace, out), Outcome::Done)
+    let ended = ended(print_trace(&trace, out), Outcome::Done);
+    drop(trace);
+    ended
+}
+
+/// Prints the trace while the circuit is simulated.
+fn print_stepped<'a, O: CountedWrite>(
+    given: &Case,
+    room: Room,
+    out: &mut O,
+) -> Result<Outcome, Failure<'a>>
+    requires { IsRoomFor given.now.circuit room }
+    ensures { EndsPrinting Done (lines_of given.now) (O.output out.old) (O.output out.new) result }
+{
+    let mut room = room;
+    let printed = print_simulated(&given.circuit, &given.stimulus, &mut room, out);
+    drop(room);
+    ended(printed, Outcome::Done)
+}
+
+fn print_lines<'a, O: CountedWrite>(
+    given: &Case,
+    lines: Lines,
+    out: &mut O,
+) -> Result<Outcome, Failure<'a>>
+    requires { AreLinesFor given.now lines }
+    ensures { EndsPrinting Done (lines_of given.now) (O.output out.old) (O.output out.new) result }
+{
+    match lines {
+        Lines::Whole(trace) => print_whole(trace, out),
+        Lines::Stepped(room) => print_stepped(given, room, out),
+    }
 }
 
 /// Prints the trace of what is simulated, without waves.
@@ -92,12 +144,8 @@ fn print_trace_of<'a, R: Threads + Sync, O: CountedWrite>(
         (O.output out.new)) }
     ensures prints { Prints (ending result) (O.output out.old) (O.output out.new) }
 {
-    match trace(rt, alloc, given) {
-        Ok(trace) => {
-            let ended = print_lines(&trace, out);
-            drop(trace);
-            ended
-        }
+    match lines_for(rt, alloc, given) {
+        Ok(lines) => print_lines(given, lines, out),
         Err(failure) => Err(failure),
     }
 }
@@ -107,20 +155,25 @@ fn print_both<'a, R: Files, O: CountedWrite>(
     rt: &R,
     target: Target<'a>,
     waves: &Waves,
-    trace: &Trace,
+    given: &Case,
+    lines: Lines,
     out: &mut O,
 ) -> Result<Outcome, Failure<'a>>
+    requires { AreLinesFor given.now lines }
     ensures printed { IfOk result (EndsWith Done (printed (Some target.entry) (dump_text waves.now)
-        (trace_text trace.now)) (O.output out.old) (O.output out.new)) }
+        (lines_of given.now)) (O.output out.old) (O.output out.new)) }
     ensures prints { Prints (ending result) (O.output out.old) (O.output out.new) }
 {
     match write_dump(rt, waves, target, out) {
-        Ok(()) => print_lines(trace, out),
-        Err(failure) => Err(failure),
+        Ok(()) => print_lines(given, lines, out),
+        Err(failure) => {
+            drop(lines);
+            Err(failure)
+        }
     }
 }
 
-/// Writes waves once the trace of what is simulated is made, and then prints that.
+/// Writes waves once there is the trace of what is simulated, or room for it, and then prints that.
 fn print_with_waves<'a, R: Files + Threads + Sync, O: CountedWrite>(
     rt: &R,
     alloc: Global,
@@ -133,17 +186,13 @@ fn print_with_waves<'a, R: Files + Threads + Sync, O: CountedWrite>(
         (lines_of given.now)) (O.output out.old) (O.output out.new)) }
     ensures prints { Prints (ending result) (O.output out.old) (O.output out.new) }
 {
-    match trace(rt, alloc, given) {
-        Ok(trace) => {
-            let ended = print_both(rt, target, waves, &trace, out);
-            drop(trace);
-            ended
-        }
+    match lines_for(rt, alloc, given) {
+        Ok(lines) => print_both(rt, target, waves, given, lines, out),
         Err(failure) => Err(failure),
     }
 }
 
-/// Writes the waves of what is simulated, and then prints its trace. Nothing is written before both are made.
+/// Writes the waves of what is simulated, and then prints its trace. Nothing is written before there is room for both.
 fn print_with<'a, R: Files + Threads + Sync, O: CountedWrite>(
     rt: &R,
     alloc: Global,

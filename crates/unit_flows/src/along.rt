@@ -3,6 +3,7 @@
 
 use crate::frame::Frame;
 use crate::gate_flow::GateFlow;
+use crate::left_units::LeftUnits;
 use aig_graph::{Aig, Gate, NoMemory, Reset};
 use std::alloc::Global;
 
@@ -59,83 +60,122 @@ fn goes_down(aig: &Aig, literals: &Gate, known: &GateFlow, flow: &mut GateFlow) 
     None
 }
 
-/// From before a gate a unit goes through it, or through one that it goes down to. The number of the gate that it goes through.
-fn goes_through(
-    aig: &Aig,
-    known: &[GateFlow],
-    flows: &mut [GateFlow],
-    from: usize,
-) -> Option<usize> {
-    let mut gate = from;
-    for _ in 0..u32::MAX {
-        let literals = aig.gates().get(gate)?;
-        let told = known.get(gate)?;
-        let flow = flows.get_mut(gate)?;
-        if told.through && !flow.through {
-            flow.through = true;
-            return Some(gate);
-        }
-        gate = goes_down(aig, literals, told, flow)?;
-    }
-    None
+/// How far a unit goes on.
+enum Way {
+    /// Through the gate with this number.
+    Through(usize),
+    /// To before that gate, where nothing more is known.
+    Before(usize),
+    /// Nowhere.
+    Stays,
 }
 
-/// The gate that takes the unit after a place takes it, and it goes through that gate or through one that it goes down to. The number of that
-/// gate.
+/// From before a gate a unit goes through it, or through one that it goes down to.
+fn goes_through(aig: &Aig, known: &[GateFlow], flows: &mut [GateFlow], from: usize) -> Way {
+    let mut gate = from;
+    for _ in 0..u32::MAX {
+        let (Some(literals), Some(told), Some(flow)) = (
+            aig.gates().get(gate),
+            known.get(gate),
+            flows.get_mut(gate),
+        ) else {
+            return Way::Before(gate);
+        };
+        if told.through && !flow.through {
+            flow.through = true;
+            return Way::Through(gate);
+        }
+        match goes_down(aig, literals, told, flow) {
+            Some(next) => gate = next,
+            None => return Way::Before(gate),
+        }
+    }
+    Way::Before(gate)
+}
+
+/// The gate that takes the unit after a place takes it, and it goes through that gate or through one that it goes down to.
 fn goes_on(
     frame: &Frame,
     known: &[GateFlow],
     takers: &[u32],
     flows: &mut [GateFlow],
     place: usize,
-) -> Option<usize> {
-    let taker = *takers.get(place)? as usize;
+) -> Way {
+    let Some(taker) = takers.get(place).copied() else {
+        return Way::Stays;
+    };
+    let taker = taker as usize;
     let aig = frame.circuit.aig();
-    let literals = aig.gates().get(taker)?;
-    let told = known.get(taker)?;
-    let flow = flows.get_mut(taker)?;
+    let (Some(literals), Some(told), Some(flow)) = (
+        aig.gates().get(taker),
+        known.get(taker),
+        flows.get_mut(taker),
+    ) else {
+        return Way::Stays;
+    };
     let is_first = literals.rhs1.var().wrapping_sub(aig.first_latch()) as usize == place;
     flow.note_up(!(is_first && told.first_up));
     if told.through && !flow.through {
         flow.through = true;
-        return Some(taker);
+        return Way::Through(taker);
     }
-    let next = goes_down(aig, literals, told, flow)?;
-    goes_through(aig, known, flows, next)
+    match goes_down(aig, literals, told, flow) {
+        Some(next) => goes_through(aig, known, flows, next),
+        None => Way::Before(taker),
+    }
 }
 
-/// Sends the unit after a latch as far as it is known to go.
-fn send(frame: &Frame, known: &[GateFlow], takers: &[u32], flows: &mut [GateFlow], latch: usize) {
+/// Sends the unit after a latch as far as it is known to go, and notes where it is left.
+fn send(
+    frame: &Frame,
+    known: &[GateFlow],
+    takers: &[u32],
+    flows: &mut [GateFlow],
+    left: &mut LeftUnits,
+    latch: usize,
+) -> Result<(), NoMemory> {
     let latches = frame.circuit.aig().latches().len();
     let mut place = latch;
     for _ in 0..frame.leaving.len() {
         if frame.leaving.get(place).copied() != Some(false) {
-            return;
+            return Ok(());
         }
-        let Some(gate) = goes_on(frame, known, takers, flows, place) else {
-            return;
-        };
-        place = latches.saturating_add(gate);
+        match goes_on(frame, known, takers, flows, place) {
+            Way::Through(gate) => place = latches.saturating_add(gate),
+            Way::Before(gate) => return left.push_before(latches.saturating_add(gate)),
+            Way::Stays => return left.push_after(place),
+        }
     }
+    Ok(())
 }
 
-/// A flow along what is known of an earlier one at each gate: 4 bytes a latch and gate, and what the units' ways cost.
+/// A flow along what is known of an earlier one at each gate, in its place: 4 bytes a latch and gate, and what the units' ways cost. Where it
+/// leaves units.
 ///
 /// # Errors
 ///
 /// `NoMemory` where a table is refused.
-pub(crate) fn flows_along(
+pub(crate) fn put_along(
     alloc: Global,
     frame: &Frame,
-    known: &[GateFlow],
-) -> Result<Vec<GateFlow>, NoMemory> {
+    known: &mut Vec<GateFlow>,
+) -> Result<LeftUnits, NoMemory> {
     let aig = frame.circuit.aig();
-    let takers = takers_of(alloc, frame, known)?;
+    let takers = takers_of(alloc, frame, known.as_slice())?;
+    let mut left = LeftUnits::none(alloc);
     let mut flows = vec![in alloc; GateFlow::none(); aig.gates().len()]?;
     for (place, latch) in aig.latches().iter().enumerate() {
         if latch.reset != Reset::Free {
-            send(frame, known, takers.as_slice(), flows.as_mut_slice(), place);
+            send(
+                frame,
+                known.as_slice(),
+                takers.as_slice(),
+                flows.as_mut_slice(),
+                &mut left,
+                place,
+            )?;
         }
     }
-    Ok(flows)
+    *known = flows;
+    Ok(left)
 }

@@ -9,6 +9,7 @@
 
 use crate::frame::Frame;
 use crate::gate_flow::GateFlow;
+use crate::left_units::LeftUnits;
 use crate::start::{FanIn, Start};
 use aig_graph::NoMemory;
 use std::alloc::Global;
@@ -133,7 +134,14 @@ fn put(flows: &mut Vec<GateFlow>, start: &Start) -> Result<(), NoMemory> {
     Ok(())
 }
 
-/// Puts the flow of the start up the gates in place of another. How many units it brings to the sink.
+/// How many units a start brings to the sink, and where it leaves the others.
+#[derive(Drop)]
+pub(crate) struct FirstStart {
+    pub arrived: usize,
+    pub left: LeftUnits,
+}
+
+/// Puts the flow of the start up the gates in place of another.
 ///
 /// # Errors
 ///
@@ -142,10 +150,14 @@ pub(crate) fn put_start_up(
     alloc: Global,
     frame: &Frame,
     flows: &mut Vec<GateFlow>,
-) -> Result<usize, NoMemory> {
+) -> Result<FirstStart, NoMemory> {
     let start = start_up(alloc, frame)?;
     put(flows, &start)?;
-    Ok(start.arrived)
+    let left = start.left(alloc)?;
+    Ok(FirstStart {
+        arrived: start.arrived,
+        left,
+    })
 }
 
 /// Puts the flow of the start from the sink down in place of another, where it brings more units to the sink than so many. Whether it does.

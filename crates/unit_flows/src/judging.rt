@@ -4,6 +4,7 @@ ghost use Rattle.variable_tables.specs.Counting.{places};
 ghost use Rattle.variable_tables.specs.Marking.{mark_at};
 ghost use Rattle.aig_graph.specs.Graph.{first_latch, variables_end, latches_and_gates};
 ghost use Rattle.aig_graph.specs.Border.{IsGreatestLeast};
+ghost use Rattle.unit_flows.specs.Marks.{ReachSink};
 ghost use Rattle.unit_flows.specs.Shown.{is_off, HasFullCut};
 
 use crate::frame::Frame;
@@ -33,7 +34,7 @@ fn is_shown(
 {
     let aig = frame.circuit.aig();
     let entries = aig.latches_and_gates();
-    let mut went = vec![in alloc; 0u32; entries]?;
+    let mut went = vec![in alloc; 0u8; entries]?;
     let mut came = vec![in alloc; 0u32; entries]?;
     let (before, after) = (marks.before.as_slice(), marks.after.as_slice());
     Ok(
@@ -64,8 +65,39 @@ pub(crate) fn off_marks(alloc: Global, frame: &Frame, before: &[bool]) -> Result
     Ok(vars)
 }
 
-/// The greatest least set, where a flow shows it: no node of the flow gives more than it gets, and its marks are a full cut. Nothing of the
-/// flow is trusted. A few passes over the gates, and sweeps until nothing is newly marked; 12 bytes a latch and gate.
+/// The greatest least set, where a flow shows it by its marks: no node of the flow gives more than it gets, and the marks are a full cut.
+/// Nothing of the flow is trusted.
+///
+/// # Errors
+///
+/// `NoMemory` where a table is refused.
+pub(crate) fn shown_by_marks(
+    alloc: Global,
+    frame: &Frame,
+    flows: &[GateFlow],
+    marks: &NodeMarks,
+) -> Result<Option<ClosedSet>, NoMemory>
+    requires flows { length flows.now ≡ length frame.now.circuit.now.aig.gates }
+    requires reach { ReachSink frame.now.circuit.now frame.now.keep.now flows.now
+        marks.now.before.items marks.now.after.items }
+    requires before { length marks.now.before.items
+        ≡ latches_and_gates frame.now.circuit.now.aig }
+    requires after { length marks.now.after.items
+        ≡ latches_and_gates frame.now.circuit.now.aig }
+    ensures { IfOk result (λ shown. IfSome shown (λ set. IsGreatestLeast
+        frame.now.circuit.now frame.now.keep.now set)) }
+{
+    // That its gates come in order is what the graph's readers ensure.
+    frame.circuit.aig().known();
+    if !is_shown(alloc, frame, flows, marks)? {
+        return Ok(None);
+    }
+    let vars = off_marks(alloc, frame, marks.before.as_slice())?;
+    Ok(ClosedSet::new(vars))
+}
+
+/// The greatest least set, where a flow shows it. A few passes over the gates, and sweeps until nothing is newly marked; 9 bytes a latch and
+/// gate.
 ///
 /// # Errors
 ///
@@ -82,9 +114,5 @@ pub(crate) fn shown_set(
         return Ok(None);
     }
     let marks = mark(alloc, frame, flows)?;
-    if !is_shown(alloc, frame, flows, &marks)? {
-        return Ok(None);
-    }
-    let vars = off_marks(alloc, frame, marks.before.as_slice())?;
-    Ok(ClosedSet::new(vars))
+    shown_by_marks(alloc, frame, flows, &marks)
 }

@@ -14,6 +14,7 @@ mod frame;
 mod gate_flow;
 mod judging;
 mod least_set;
+mod left_units;
 mod marks;
 mod nearest;
 mod onward;
@@ -25,7 +26,7 @@ mod tallies;
 
 pub use frame::Frame;
 pub use gate_flow::GateFlow;
-pub use least_set::{first_flows, greatest_least_shown, shown_chosen, smallest_least_shown};
+pub use least_set::{Started, first_flows, shown_chosen, start_along};
 pub use sweeps::{NodeMarks, mark};
 
 /// The border of each closed set has at least as many variables as units come to the sink.

@@ -31,7 +31,7 @@ fn far_marks(
     alloc: Global,
     frame: &Frame,
     flows: &[GateFlow],
-    went: &[u32],
+    went: &[u8],
     came: &[u32],
 ) -> Result<NodeMarks, NoMemory>
     requires flows { length flows.now ≡ length frame.now.circuit.now.aig.gates }
@@ -54,7 +54,7 @@ fn far_marks(
 fn is_full_cut(
     frame: &Frame,
     flows: &[GateFlow],
-    went: &[u32],
+    went: &[u8],
     came: &[u32],
     before: &[bool],
     after: &[bool],
@@ -78,7 +78,7 @@ fn shown_by_tallies(
     alloc: Global,
     frame: &Frame,
     flows: &[GateFlow],
-    went: &[u32],
+    went: &[u8],
     came: &[u32],
 ) -> Result<Option<ClosedSet>, NoMemory>
     requires flows { length flows.now ≡ length frame.now.circuit.now.aig.gates }
@@ -116,7 +116,7 @@ pub(crate) fn shown_smallest_set(
         return Ok(None);
     }
     let entries = aig.latches_and_gates();
-    let mut went = vec![in alloc; 0u32; entries]?;
+    let mut went = vec![in alloc; 0u8; entries]?;
     let mut came = vec![in alloc; 0u32; entries]?;
     if !tally(went.as_mut_slice(), came.as_mut_slice(), aig, flows) {
         return Ok(None);

@@ -14,7 +14,7 @@ use aig_graph::NoMemory;
 use std::alloc::Global;
 
 /// Whether a unit is left after the variable at a place, and can't leave there.
-fn waits(frame: &Frame, flows: &[GateFlow], went: &[u32], place: usize) -> bool
+fn waits(frame: &Frame, flows: &[GateFlow], went: &[u8], place: usize) -> bool
     requires flows { length flows.now ≡ length frame.now.circuit.now.aig.gates }
     requires went { length went.now ≡ latches_and_gates frame.now.circuit.now.aig }
     requires place { place < latches_and_gates frame.now.circuit.now.aig }
@@ -26,7 +26,7 @@ fn waits(frame: &Frame, flows: &[GateFlow], went: &[u32], place: usize) -> bool
 }
 
 /// Marks the node after the variable at a place, where a unit is left there.
-fn mark_after(after: &mut [bool], frame: &Frame, flows: &[GateFlow], went: &[u32], place: usize)
+fn mark_after(after: &mut [bool], frame: &Frame, flows: &[GateFlow], went: &[u8], place: usize)
     requires flows { length flows.now ≡ length frame.now.circuit.now.aig.gates }
     requires went { length went.now ≡ latches_and_gates frame.now.circuit.now.aig }
     requires place { place < latches_and_gates frame.now.circuit.now.aig }
@@ -71,7 +71,7 @@ fn mark_left(
     after: &mut [bool],
     frame: &Frame,
     flows: &[GateFlow],
-    went: &[u32],
+    went: &[u8],
     came: &[u32],
 )
     requires flows { length flows.now ≡ length frame.now.circuit.now.aig.gates }
@@ -160,7 +160,7 @@ pub(crate) fn mark_onward(
     alloc: Global,
     frame: &Frame,
     flows: &[GateFlow],
-    went: &[u32],
+    went: &[u8],
     came: &[u32],
 ) -> Result<NodeMarks, NoMemory>
     requires flows { length flows.now ≡ length frame.now.circuit.now.aig.gates }
@@ -196,7 +196,7 @@ fn mark_from_left(
     open: &mut Vec<u32>,
     frame: &Frame,
     flows: &[GateFlow],
-    went: &[u32],
+    went: &[u8],
     came: &[u32],
 )
     requires flows { length flows.now ≡ length frame.now.circuit.now.aig.gates }

@@ -59,16 +59,15 @@ fn is_known(latch: &Latch) -> bool
 }
 
 /// Whether no more units go on from after a variable than come there, and it is marked where it leaves.
-fn place_holds(comes: bool, went: u32, leaves: bool, reached: bool) -> bool
+fn place_holds(comes: bool, went: u8, leaves: bool, reached: bool) -> bool
     ensures { result ≡ (nat_le went (unit comes) && (not leaves || reached)) }
 {
-    let most = unit(comes);
-    let is_balanced = went <= most;
+    let is_balanced = u32::from(went) <= unit(comes);
     is_balanced & (!leaves | reached)
 }
 
 /// Whether a unit is left after a variable, and leaves there.
-fn arrives(comes: bool, went: u32, leaves: bool) -> bool
+fn arrives(comes: bool, went: u8, leaves: bool) -> bool
     ensures { result ≡ (leaves && comes && (went == 0)) }
 {
     let is_left = went == 0;
@@ -79,7 +78,7 @@ fn arrives(comes: bool, went: u32, leaves: bool) -> bool
 pub(crate) fn places_hold(
     frame: &Frame,
     flows: &[GateFlow],
-    went: &[u32],
+    went: &[u8],
     before: &[bool],
     after: &[bool],
 ) -> bool

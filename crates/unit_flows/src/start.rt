@@ -1,6 +1,7 @@
 //! One start of a circuit's first flow: which gate takes a unit from which fan-in.
 
 use crate::frame::Frame;
+use crate::left_units::LeftUnits;
 use aig_graph::NoMemory;
 use std::alloc::Global;
 use std::mem;
@@ -65,6 +66,17 @@ impl Start {
                 spot.waits = true;
             }
         }
+    }
+
+    /// Where units wait.
+    pub(crate) fn left(&self, alloc: Global) -> Result<LeftUnits, NoMemory> {
+        let mut left = LeftUnits::none(alloc);
+        for (place, spot) in self.spots.iter().enumerate() {
+            if spot.waits {
+                left.push_after(place)?;
+            }
+        }
+        Ok(left)
     }
 
     /// Whether a unit waited after a fan-in; then the gate has taken it, and it comes after the gate's own place.

@@ -16,6 +16,14 @@ pub(crate) fn unit(holds: bool) -> u32
     if holds { 1 } else { 0 }
 }
 
+/// The same as a byte.
+#[tactic(auto, unfolding(crate::specs::Units::unit))]
+fn few(holds: bool) -> u8
+    ensures { result ≡ unit holds }
+{
+    if holds { 1 } else { 0 }
+}
+
 /// Adds units to the entry of a variable. No where some are to be added and there is no entry, or no room in it.
 fn add_units(table: &mut [u32], first: u32, var: u32, units: u32) -> bool
     ensures len { length table.new ≡ length table.old }
@@ -36,14 +44,34 @@ fn add_units(table: &mut [u32], first: u32, var: u32, units: u32) -> bool
     true
 }
 
+/// The same in a table of bytes: more than one unit never goes on from after a variable.
+fn add_few(table: &mut [u8], first: u32, var: u32, units: u8) -> bool
+    ensures len { length table.new ≡ length table.old }
+    ensures sum { IsTrue result → (weight : ℕ → ℕ) → weigh first table.new weight
+        ≡ weigh first table.old weight + units * weight var }
+{
+    if units == 0 {
+        return true;
+    }
+    if var < first || (var - first) as usize >= table.len() {
+        return false;
+    }
+    let place = (var - first) as usize;
+    if table[place] > u8::MAX - units {
+        return false;
+    }
+    table[place] += units;
+    true
+}
+
 /// Adds the units that come to before a gate from after its fan-ins.
-fn add_ups(went: &mut [u32], first: u32, gate: &Gate, flow: &GateFlow) -> bool
+fn add_ups(went: &mut [u8], first: u32, gate: &Gate, flow: &GateFlow) -> bool
     ensures len { length went.new ≡ length went.old }
     ensures sum { IsTrue result → (weight : ℕ → ℕ) → weigh first went.new weight
         ≡ weigh first went.old weight + ups weight gate.now flow.now }
 {
-    add_units(went, first, gate.rhs1.var(), unit(flow.first_up))
-        && add_units(went, first, gate.rhs0.var(), unit(flow.second_up))
+    add_few(went, first, gate.rhs1.var(), few(flow.first_up))
+        && add_few(went, first, gate.rhs0.var(), few(flow.second_up))
 }
 
 /// Adds the units that go on from before a gate to before its fan-ins.
@@ -58,7 +86,7 @@ fn add_downs(came: &mut [u32], first: u32, gate: &Gate, flow: &GateFlow) -> bool
 
 /// The tallies of all gates, in tables of zeros. No where units go from or to what has no entry. Not inlined, for its loop's registers.
 #[inline(never)]
-pub(crate) fn tally(went: &mut [u32], came: &mut [u32], aig: &Aig, flows: &[GateFlow]) -> bool
+pub(crate) fn tally(went: &mut [u8], came: &mut [u32], aig: &Aig, flows: &[GateFlow]) -> bool
     requires flows { length flows.now ≡ length aig.now.gates }
     requires went { went.old ≡ replicate (latches_and_gates aig.now) 0 }
     requires came { came.old ≡ replicate (latches_and_gates aig.now) 0 }

@@ -6,7 +6,7 @@ use crate::search::Search;
 use aig_graph::NoMemory;
 use std::alloc::Global;
 use std::mem;
-use unit_flows::{Frame, GateFlow};
+use unit_flows::{Frame, GateFlow, NodeMarks};
 
 /// After so many rounds what is left is left to the network.
 const MOST_ROUNDS: u32 = 1024;
@@ -54,7 +54,8 @@ impl<'a> Search<'a> {
     }
 }
 
-/// Brings the units that a flow leaves to the sink, as far as they can come there: 16 bytes a latch and gate, and 4 for each place of a gate in the
+/// Brings the units that a flow leaves to the sink, as far as they can come there, where the marks, if there are any, have each node from which
+/// they can: 16 bytes a latch and gate, and 4 for each place of a gate in the
 /// list of a fan-in.
 ///
 /// # Errors
@@ -63,10 +64,15 @@ impl<'a> Search<'a> {
 pub(crate) fn bring(
     alloc: Global,
     frame: &Frame,
+    marks: Option<NodeMarks>,
     flows: &mut Vec<GateFlow>,
 ) -> Result<(), NoMemory> {
     let known = mem::replace(flows, Vec::new(alloc));
     let mut search = Search::new(alloc, frame, known)?;
+    if let Some(marks) = marks {
+        search.leave_out(marks.before.as_slice());
+        drop(marks);
+    }
     search.rounds(alloc, frame)?;
     *flows = search.into_flows();
     Ok(())

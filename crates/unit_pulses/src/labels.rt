@@ -10,7 +10,7 @@ use unit_flows::GateFlow;
 /// More sweeps than these are never made. Nodes without a label are left to the network.
 const MOST_ROUNDS: u32 = 65_536;
 
-/// Which gates a sweep sees: all that hold, or those of them without a label before.
+/// Which gates a sweep sees: all from before which units could come to the sink, or those of them without a label.
 #[derive(Clone, Copy, PartialEq, Eq)]
 enum Seen {
     All,
@@ -91,7 +91,7 @@ fn look(
     let Some(spot) = spots.get_mut(place as usize) else {
         return false;
     };
-    if !(spot.is_open || (spot.holds && seen == Seen::All)) {
+    if !(spot.is_open || (spot.reaches && seen == Seen::All)) {
         return false;
     }
     let is_new = see(labels, place, &FanIns::of(gate, first), flow);
@@ -131,16 +131,17 @@ impl<'a> Search<'a> {
         is_new
     }
 
-    /// The nodes from which an arc leads to the sink have the first label, no other has one, and all that hold are open. The
-    /// end of all places.
+    /// The nodes from which an arc leads to the sink have the first label, no other has one, and all are open from which units could come to the
+    /// sink: not those that were left open. The end of all places.
     fn begin(&mut self) -> u32 {
         let mut end = 0u32;
         for (labels, spot) in self.labels.iter_mut().zip(self.spots.iter_mut()) {
             *labels = Labels::NONE;
-            if spot.holds && spot.is_observed {
+            if spot.is_observed {
                 labels.after = 1;
             }
-            spot.is_open = spot.holds;
+            spot.reaches = spot.reaches && !spot.is_open;
+            spot.is_open = spot.reaches;
             end = end.wrapping_add(1);
         }
         end

@@ -6,26 +6,10 @@ use crate::bringing::bring;
 use crate::extending::extend;
 use aig_graph::{Choice, Circuit, ClosedSet, Keep, NoMemory};
 use std::alloc::Global;
-use unit_flows::{Frame, GateFlow, greatest_least_shown, shown_chosen, smallest_least_shown};
+use unit_flows::{Frame, GateFlow, NodeMarks, Started, shown_chosen, start_along};
 
 /// Fewer units cost less by pulses than a judge that may say no.
 const MANY_BROUGHT: usize = 64;
-
-/// By a start.
-fn shown_by_start(
-    alloc: Global,
-    circuit: &Circuit,
-    keep: &Keep,
-    choice: Choice,
-    flows: &mut Vec<GateFlow>,
-) -> Result<Option<ClosedSet>, NoMemory>
-    ensures { IfOk result (λ shown. IfSome shown (IsChosen choice circuit.now keep.now)) }
-{
-    match choice {
-        Choice::Greatest => greatest_least_shown(alloc, circuit, keep, flows),
-        Choice::Smallest => smallest_least_shown(alloc, circuit, keep, flows),
-    }
-}
 
 /// By more of a start along the last flow, where that brings many units.
 fn shown_by_more(
@@ -49,48 +33,59 @@ fn shown_by_pulses(
     alloc: Global,
     frame: &Frame,
     choice: Choice,
+    marks: Option<NodeMarks>,
     flows: &mut Vec<GateFlow>,
 ) -> Result<Option<ClosedSet>, NoMemory>
     ensures { IfOk result (λ shown. IfSome shown (IsChosen choice frame.now.circuit.now
         frame.now.keep.now)) }
 {
-    bring(alloc, frame, flows)?;
+    bring(alloc, frame, marks, flows)?;
     shown_chosen(alloc, frame, choice, flows.as_slice())
 }
 
 /// By what follows a start that shows none: more of it, where it was one along the last flow, or pulses.
-fn shown_in(
+fn shown_after_start(
     alloc: Global,
     frame: &Frame,
     choice: Choice,
     is_first: bool,
+    marks: Option<NodeMarks>,
     flows: &mut Vec<GateFlow>,
 ) -> Result<Option<ClosedSet>, NoMemory>
     ensures { IfOk result (λ shown. IfSome shown (IsChosen choice frame.now.circuit.now
         frame.now.keep.now)) }
 {
     if is_first {
-        return shown_by_pulses(alloc, frame, choice, flows);
+        return shown_by_pulses(alloc, frame, choice, marks, flows);
     }
     match shown_by_more(alloc, frame, choice, flows)? {
-        Some(set) => Ok(Some(set)),
-        None => shown_by_pulses(alloc, frame, choice, flows),
+        Some(set) => {
+            drop(marks);
+            Ok(Some(set))
+        }
+        None => shown_by_pulses(alloc, frame, choice, marks, flows),
     }
 }
 
-/// The same of a circuit.
-fn shown_after_start(
+/// By a start, or by what follows it.
+fn shown_in(
     alloc: Global,
-    circuit: &Circuit,
-    keep: &Keep,
+    frame: &Frame,
     choice: Choice,
-    is_first: bool,
     flows: &mut Vec<GateFlow>,
 ) -> Result<Option<ClosedSet>, NoMemory>
-    ensures { IfOk result (λ shown. IfSome shown (IsChosen choice circuit.now keep.now)) }
+    ensures { IfOk result (λ shown. IfSome shown (IsChosen choice frame.now.circuit.now
+        frame.now.keep.now)) }
 {
-    let frame = Frame::new(alloc, circuit, keep)?;
-    shown_in(alloc, &frame, choice, is_first, flows)
+    let is_first = flows.is_empty();
+    let Started { set, marks } = start_along(alloc, frame, choice, flows)?;
+    match set {
+        Some(set) => {
+            drop(marks);
+            Ok(Some(set))
+        }
+        None => shown_after_start(alloc, frame, choice, is_first, marks, flows),
+    }
 }
 
 /// The chosen least set of a circuit whose held latches stay where they are, where a flow of units shows it: that of a start along `flows`,
@@ -109,9 +104,8 @@ pub fn chosen_least_brought(
 ) -> Result<Option<ClosedSet>, NoMemory>
     ensures { IfOk result (λ shown. IfSome shown (IsChosen choice circuit.now keep.now)) }
 {
-    let is_first = flows.is_empty();
-    match shown_by_start(alloc, circuit, keep, choice, flows)? {
-        Some(set) => Ok(Some(set)),
-        None => shown_after_start(alloc, circuit, keep, choice, is_first, flows),
-    }
+    let frame = Frame::new(alloc, circuit, keep)?;
+    let shown = shown_in(alloc, &frame, choice, flows);
+    drop(frame);
+    shown
 }

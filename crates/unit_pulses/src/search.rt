@@ -81,6 +81,13 @@ impl<'a> Search<'a> {
         Ok(search)
     }
 
+    /// From before the gates that have no mark no unit can come to the sink.
+    pub fn leave_out(&mut self, marks: &[bool]) {
+        for (spot, mark) in self.spots.iter_mut().zip(marks) {
+            spot.reaches = spot.reaches && *mark;
+        }
+    }
+
     /// Makes lists of readers, where there are none.
     ///
     /// # Errors
@@ -176,10 +183,10 @@ fn spots_of(alloc: Global, frame: &Frame) -> Result<Vec<Spot>, NoMemory> {
     for place in 0..aig.latches_and_gates() {
         let var = first.wrapping_add(place as u32);
         let holds = frame.pass.has(var) || aig.is_known_latch(var);
-        let is_observed = frame.leaving.get(place).copied().unwrap_or(false);
+        let is_observed = holds && frame.leaving.get(place).copied() == Some(true);
         spots.push(Spot {
             excess: 0,
-            holds,
+            reaches: holds,
             is_observed,
             waits: holds && !is_observed,
             is_open: false,

@@ -21,12 +21,13 @@ impl Labels {
 #[derive(Clone, Copy)]
 pub(crate) struct Spot {
     pub excess: u32,
-    /// Whether it is a known latch or a passable gate.
-    pub holds: bool,
-    /// Whether an arc leads from after it to the sink.
+    /// Whether it is a known latch or a passable gate, and units could come to the sink from before it as far as is known. Where they can't, they
+    /// can't either after more pushes.
+    pub reaches: bool,
+    /// Whether it is one, and an arc leads from after it to the sink.
     pub is_observed: bool,
     pub waits: bool,
-    /// Whether it holds, and the node before it had no label as it was last seen.
+    /// Whether the node before it had no label as it was last seen.
     pub is_open: bool,
 }
 

@@ -11,7 +11,7 @@ use Rattle.witnesses.specs.declared.confirming.Confirmed.{Confirmed}
 use Rattle.witnesses.specs.Carrying.{carried}
 use Rattle.witnesses.specs.declared.confirming.Objection.TheVariants.{Unchecked, Unreached, Lost}
 use Rattle.witnesses.specs.Reaching.{IsFirstReached, NeverReached}
-use Rattle.witnesses.specs.Runs.{run_of}
+use Rattle.witnesses.specs.Runs.{run_of, settled_witness}
 
 abbrev pub is_step : Option ℕ → ℕ → Bool
 is_step None step = false
@@ -61,8 +61,12 @@ abbrev pub with_reached : Witness → Result (List Reached) Objection → Result
 with_reached w (Ok reached) = Ok (record { witness = w; reached = reached })
 with_reached w (Err objection) = Err objection
 
--- the witness w of d carried back to c, and what is said of its properties, with 0 for each x
+-- the witness w of d carried back to c, with 0 for each x
+abbrev pub settled_back : Netlist → Netlist → List ℕ → Witness → Witness
+settled_back c d kept w = settled_witness (carried c.aig d.aig kept w)
+
+-- that witness, and what is said of its properties, where c is simulated as it says
 pub record IsConfirmedBack (c d : Netlist) (kept : List ℕ) (w : Witness) (found : Result Confirmed Objection) : Type 0 where
   pub said : Result (List Reached) Objection
-  pub is : found ≡ with_reached (carried c.aig d.aig kept w) said
-  pub agreed : IsConfirmed c d (run_of c.aig (carried c.aig d.aig kept w)) (run_of d.aig w) w.properties said
+  pub is : found ≡ with_reached (settled_back c d kept w) said
+  pub agreed : IsConfirmed c d (run_of c.aig (settled_back c d kept w)) (run_of d.aig w) w.properties said

@@ -1,5 +1,5 @@
 -- The input sequence of a witness.
-use Rattle.std.specs.Prelude.{Bool, true, false, map}
+use Rattle.std.specs.Prelude.{Bool, true, false, map, if◌then◌else◌}
 use Rattle.aig_graph.specs.Graph.{Graph}
 use Rattle.lane_sim.specs.declared.stimulus.InputSequence.{InputSequence}
 use Rattle.witnesses.specs.declared.witness.Digit.{Digit}
@@ -13,5 +13,14 @@ is_one Zero = false
 is_one One = true
 is_one Either = false
 
+-- the value that is taken, as a digit
+abbrev pub settled : Digit → Digit
+settled d = if is_one d then One else Zero
+
+-- a witness with the values that are taken: it has no x
+abbrev pub settled_witness : Witness → Witness
+settled_witness w = record { properties = w.properties; latches = map settled w.latches; inputs = map (map settled) w.inputs }
+
+-- the input sequence with them
 abbrev pub run_of : Graph → Witness → InputSequence
 run_of g w = record { choice = map is_one (free_digits g.latches w.latches); steps = map (map is_one) w.inputs }

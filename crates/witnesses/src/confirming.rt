@@ -9,6 +9,7 @@ ghost use Rattle.witnesses.specs.Confirming.{is_step, with_reached, IsAgreed, Is
 use crate::carrying::carried_back;
 use crate::reached::first_reached;
 use crate::runs::trace_of;
+use crate::settling::settled_witness;
 use crate::witness::{Property, Reached, Witness};
 use aig_graph::{Circuit, NoMemory, Sequence};
 use lane_sim::Trace;
@@ -26,7 +27,7 @@ pub enum Objection {
     Lost(Property),
 }
 
-/// A witness, and the first step at which each of its properties fails.
+/// A witness without an x, and the first step at which each of its properties fails.
 #[derive(Drop)]
 pub struct Confirmed {
     pub witness: Witness,
@@ -125,8 +126,8 @@ fn all_agreed(
 }
 
 /// Carries the witness of a retimed circuit back to the circuit that it was made of, as `carried_back` does, and simulates both, with 0 for
-/// each x: what was carried back and the first step at which each property fails, where that is the same in both circuits; or the first
-/// objection.
+/// each x: what was simulated there, and the first step at which each property fails, where that is the same in both circuits; or the
+/// first objection.
 pub fn confirm(
     rt: &(impl Threads + Sync),
     alloc: Global,
@@ -138,7 +139,8 @@ pub fn confirm(
     ensures { IfOk result (IsConfirmedBack circuit.now retimed.now kept.now witness) }
 {
     let retimed_trace = trace_of(rt, alloc, retimed, &witness)?;
-    let back = carried_back(alloc, circuit.aig(), retimed.aig(), kept, witness)?;
+    let carried = carried_back(alloc, circuit.aig(), retimed.aig(), kept, witness)?;
+    let back = settled_witness(alloc, carried)?;
     let trace = trace_of(rt, alloc, circuit, &back)?;
     let properties = back.properties.as_slice();
     let found = all_agreed(alloc, circuit, &trace, retimed, &retimed_trace, properties)?;

@@ -13,6 +13,7 @@ mod reached;
 mod reading;
 mod rows;
 mod runs;
+mod settling;
 mod widths;
 mod witness;
 mod words;

@@ -9,7 +9,7 @@ use lane_sim::{InputSequence, Stimulus, Trace, simulate};
 use std::alloc::Global;
 use std::thread::Threads;
 
-fn is_one(digit: Digit) -> bool
+pub(crate) fn is_one(digit: Digit) -> bool
     ensures { result ≡ is_one digit }
 {
     match digit {

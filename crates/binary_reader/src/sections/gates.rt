@@ -1,10 +1,11 @@
+use crate::delta::{GATE_BYTES, whole_gate};
 use crate::sections::Sections;
 use crate::sections::numbers::literal;
 use aig_graph::Gate;
 use file_words::ReadError;
 
 impl Sections {
-    ghost use Rattle.std.specs.Prelude.{ℕ, ◌≡◌, ◌<◌, ◌≤◌, ◌^◌, Ok};
+    ghost use Rattle.std.specs.Prelude.{ℕ, ◌≡◌, ◌<◌, ◌≤◌, ◌^◌, length, Ok, IfOk, IfErr};
     ghost use Rattle.ascii_file.specs.declared.header.Header.{Header};
     ghost use Rattle.ascii_file.specs.declared.raw.Section.TheVariants.{Gates};
     ghost use Rattle.ascii_file.specs.Raw.{Raw};
@@ -13,7 +14,7 @@ impl Sections {
     ghost use Rattle.binary_file.specs.Items.{next_section, next_gate};
     ghost use Rattle.binary_reader.specs.Contents.{IsAt, section_of, gate_literal};
     ghost use Rattle.binary_reader.specs.Items.{with_gate};
-    ghost use Rattle.binary_reader.specs.Taking.{Takes, read_first, read_second};
+    ghost use Rattle.binary_reader.specs.Taking.{Takes, TakesGates, read_first, read_second};
 
     /// The first fan-in of the next gate, by its delta, which begins at the offset.
     ///
@@ -47,7 +48,29 @@ impl Sections {
         self.push_gate(at, rhs0, rhs0 - delta as u32)
     }
 
-    /// Adds a gate, which is missing, of fan-ins below its own literal.
+    /// Takes whole gates while one is missing and so many bytes are left as a gate may have, up to one with a fault. What is
+    /// left of the bytes is the answer.
+    ///
+    /// # Errors
+    ///
+    /// `NoMemory`. The sections are of no more use then.
+    pub(crate) fn take_gates<'a>(&mut self, bytes: &'a [u8]) -> Result<&'a [u8], ReadError>
+        ensures taken { (h : Header) (raw : Raw) (at : ℕ) → IsAt self.old h raw
+            → next_section h raw ≡ Gates → TakesGates h raw at self.new bytes.now result }
+        ensures fewer { IfOk result (λ left. length left.now ≤ length bytes.now) }
+    {
+        let mut left = bytes;
+        while left.len() >= GATE_BYTES && self.gates.len() < self.header.gates as usize {
+            let Some(gate) = whole_gate(self.gate_literal(), left) else {
+                break;
+            };
+            self.add_gate(gate.rhs0, gate.rhs1)?;
+            left = &left[gate.len..];
+        }
+        Ok(left)
+    }
+
+    /// Adds a gate, where one is missing and these are fan-ins below its own literal.
     fn push_gate(&mut self, at: u64, rhs0: u32, rhs1: u32) -> Result<(), ReadError>
         requires { rhs1 ≤ rhs0 }
         ensures { section_of self.old ≡ Gates → rhs0 < gate_literal self.old
@@ -58,6 +81,18 @@ impl Sections {
         if !is_missing || rhs0 >= self.gate_literal() {
             return Err(ReadError::BadDelta(at));
         }
+        self.add_gate(rhs0, rhs1)
+    }
+
+    /// Adds a gate, which is missing, of fan-ins below its own literal.
+    fn add_gate(&mut self, rhs0: u32, rhs1: u32) -> Result<(), ReadError>
+        requires missing { length self.old.gates < self.old.header.gates }
+        requires ordered { rhs1 ≤ rhs0 }
+        requires below { rhs0 < gate_literal self.old }
+        ensures gate { Gives NoMemory (λ _. self.new) result
+            (Ok (with_gate self.old (record { rhs0 = rhs0; rhs1 = rhs1 }))) }
+        ensures error { IfErr result (λ error. error ≡ NoMemory) }
+    {
         self.gates.push(Gate {
             rhs0: literal(rhs0),
             rhs1: literal(rhs1),

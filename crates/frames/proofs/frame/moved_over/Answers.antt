@@ -11,20 +11,22 @@ use Rattle.retimed_circuits.proofs.HeldLaws.{moving-keeps}
 use Rattle.retimed_circuits.proofs.NameLaws.{names-stay}
 use Rattle.tidy.specs.Tidy.{AreLowTidy}
 use Rattle.tidy.proofs.FrameLaws.{copies-within, tidy-moved}
+use Rattle.frames.specs.Following.{ComesWhole}
 use Rattle.frames.specs.Named.{NoneMissingBy, names_in}
 use Rattle.frames.specs.Retiming.{IsTidyBy}
-use Rattle.frames.proofs.FrameLaws.{helping-closed, moved-by}
+use Rattle.frames.proofs.FrameLaws.{helping-closed}
+use Rattle.frames.proofs.FollowingLaws.{moved-followed}
 use Rattle.frames.proofs.frame.moved_over.Goals as goal
 
 pub moved_by-requires-clause-room : goal.moved_by-requires-clause-room
-moved_by-requires-clause-room c =
+moved_by-requires-clause-room g c =
     let before = c.args.circuit.now in
     let set = c.args.set.now in
     let P : List ℕ → Type 0 = λ held. moved_size (move_of before held set) ≤ MAX_VARIABLES in
-    subst P (sym c.requires.keep) (room before.aig (count_in (names_in c.args.options.now) before set) c.requires.graph (omega (arith, c.requires.helps.fewer)))
+    subst P (sym c.requires.keep) (room before.aig (count_in (names_in c.args.options.now) before set) c.known.ensures.graph (omega (arith, c.requires.helps.fewer)))
 
 pub settled-requires-clause-names : goal.settled-requires-clause-names
-settled-requires-clause-names c =
+settled-requires-clause-names g c =
     let options = c.args.options.now in
     let names = names_in options in
     let before = c.args.circuit.now in
@@ -33,13 +35,13 @@ settled-requires-clause-names c =
     subst (NoneMissingBy options) (sym same) (names-stay names before (moved_in names before set) (moving-keeps names before set c.known.ensures.netlist) c.requires.names)
 
 pub settled-requires-clause-copies : goal.settled-requires-clause-copies
-settled-requires-clause-copies c =
+settled-requires-clause-copies g c =
     let m = move_in (names_in c.args.options.now) c.args.circuit.now c.args.set.now in
     let same : c.in_ok-after.after ≡ moved_of m = c.in_ok-after.ensures.value ∙ ap (λ (held : List ℕ). moved_of (move_of c.args.circuit.now held c.args.set.now)) c.requires.keep in
     omega (arith, copies-within m, ap (λ (xs : List ℕ). length xs) c.vars-copies.ensures.value, ap (λ (d : Netlist). length d.aig.gates) same)
 
 pub settled-requires-clause-tidy : goal.settled-requires-clause-tidy
-settled-requires-clause-tidy c =
+settled-requires-clause-tidy g c =
     let options = c.args.options.now in
     let names = names_in options in
     let before = c.args.circuit.now in
@@ -53,20 +55,48 @@ settled-requires-clause-tidy c =
     subst P (sym same) (λ lows. tidy-moved names before set first (record { graph = c.known.ensures.graph; netlist = c.known.ensures.netlist })
     c.requires.tidy (helping-closed options before set c.requires.helps) ends lows)
 
+pub see_move-requires-clause-room : goal.see_move-requires-clause-room
+see_move-requires-clause-room g c =
+    let before = c.args.circuit.now in
+    let set = c.args.set.now in
+    let P : List ℕ → Type 0 = λ held. moved_size (move_of before held set) ≤ MAX_VARIABLES in
+    subst P (sym c.requires.keep) (room before.aig (count_in (names_in c.args.options.now) before set) c.known.ensures.graph (omega (arith, c.requires.helps.fewer)))
+
+pub see_move-requires-clause-closed : goal.see_move-requires-clause-closed
+see_move-requires-clause-closed g c =
+    subst (λ (held : List ℕ). IsClosedSet c.args.circuit.now.aig held c.args.set.now) (sym c.requires.keep)
+    (helping-closed c.args.options.now c.args.circuit.now c.args.set.now c.requires.helps)
+
+pub see_move-requires-clause-marked : goal.see_move-requires-clause-marked
+see_move-requires-clause-marked g c = c.requires.marked
+
+pub settled-requires-clause-there : goal.settled-requires-clause-there
+settled-requires-clause-there g c =
+    let start = c.requires.there in
+    let P : Netlist → Type 0 = λ d. ComesWhole g.F.RunFollower.has_come c.args.follower.now c.see_move.new.self c.args.circuit.now d in
+    let whole = subst P (sym c.in_ok-after.ensures.value) c.in_ok-see_move.ensures in
+    (start.0, start.1, whole start.0 start.1 start.2)
+
 pub moved_by-requires-clause-closed : goal.moved_by-requires-clause-closed
-moved_by-requires-clause-closed c =
+moved_by-requires-clause-closed g c =
     subst (λ (held : List ℕ). IsClosedSet c.args.circuit.now.aig held c.args.set.now) (sym c.requires.keep)
     (helping-closed c.args.options.now c.args.circuit.now c.args.set.now c.requires.helps)
 
 pub moved_by-requires-clause-marked : goal.moved_by-requires-clause-marked
-moved_by-requires-clause-marked c = c.requires.marked
+moved_by-requires-clause-marked g c = c.requires.marked
+
+pub returns-in_err-see_move : goal.returns-in_err-see_move
+returns-in_err-see_move g c = IfOk-from_err c.from_residual.result _ c.from_residual.ensures.0
 
 pub returns-in_err-after : goal.returns-in_err-after
-returns-in_err-after c = IfOk-from_err c.from_residual.result _ c.from_residual.ensures.0
+returns-in_err-after g c = IfOk-from_err c.from_residual-in_err-after.result _ c.from_residual-in_err-after.ensures.0
 
 pub returns : goal.returns
-returns c =
+returns g c =
+    let options = c.args.options.now in
     let before = c.args.circuit.now in
     let set = c.args.set.now in
     let same = c.in_ok-after.ensures.value ∙ ap (λ (held : List ℕ). moved_of (move_of before held set)) c.requires.keep in
-    moved-by c.args.options.now before c.in_ok-after.after set c.settled.result c.known.ensures.netlist same c.in_ok-after.ensures.streams c.settled.ensures
+    let P : Netlist → Type 0 = λ d. ComesWhole g.F.RunFollower.has_come c.args.follower.now c.see_move.new.self before d in
+    let whole : P c.in_ok-after.after = subst P (sym c.in_ok-after.ensures.value) c.in_ok-see_move.ensures in
+    moved-followed g.F.RunFollower.has_come options before c.in_ok-after.after set c.args.follower.now c.see_move.new.self c.settled.new.follower c.settled.result c.known.ensures.netlist same c.in_ok-after.ensures.streams whole c.settled.ensures

@@ -1,4 +1,4 @@
-use Rattle.std.proofs.Common.{List, Option, ◌∙◌, ap, subst, sym, ℕ}
+use Rattle.std.proofs.Common.{List, Option, ◌∙◌, ap, refl, subst, sym, ℕ}
 use Rattle.std.specs.Option.{MatchOption}
 use Rattle.std.proofs.lemmas.Result.{IfOk-from_err}
 use Rattle.aig_graph.specs.Keep.{NoneMissing, held_in, names_of}
@@ -11,13 +11,13 @@ use Rattle.frames.proofs.StageLaws.{tells-nothing}
 use Rattle.frames.proofs.frame.next_frame.Goals as goal
 
 pub keep_by_names-requires : goal.keep_by_names-requires
-keep_by_names-requires g c = subst (λ names. NoneMissing (names_of names) c.args.circuit.now) (sym c.as_slice.ensures.value) c.requires.names
+keep_by_names-requires g c = subst (λ names. NoneMissing (names_of names) c.args.run.now.retimed.circuit) (sym c.as_slice.ensures.value) c.requires.names
 
 pub helping_set-requires-after_bounds : goal.helping_set-requires-after_bounds
-helping_set-requires-after_bounds g c κs within = c.in_ok-keep.ensures ∙ ap (λ names. held_in (names_of names) c.args.circuit.now) c.as_slice.ensures.value
+helping_set-requires-after_bounds g c κs within = c.in_ok-keep.ensures ∙ ap (λ names. held_in (names_of names) c.args.run.now.retimed.circuit) c.as_slice.ensures.value
 
 pub moved_over-requires-clause-keep : goal.moved_over-requires-clause-keep
-moved_over-requires-clause-keep g c = c.in_ok-keep.ensures ∙ ap (λ names. held_in (names_of names) c.args.circuit.now) c.as_slice.ensures.value
+moved_over-requires-clause-keep g c = c.in_ok-keep.ensures ∙ ap (λ names. held_in (names_of names) c.args.run.now.retimed.circuit) c.as_slice.ensures.value
 
 pub moved_over-requires-clause-names : goal.moved_over-requires-clause-names
 moved_over-requires-clause-names g c = c.requires.names
@@ -25,13 +25,13 @@ moved_over-requires-clause-names g c = c.requires.names
 pub moved_over-requires-clause-tidy : goal.moved_over-requires-clause-tidy
 moved_over-requires-clause-tidy g c = c.requires.tidy
 
-pub moved_over-requires-clause-graph : goal.moved_over-requires-clause-graph
-moved_over-requires-clause-graph g c = c.known.ensures.graph
+pub moved_over-requires-clause-there : goal.moved_over-requires-clause-there
+moved_over-requires-clause-there g c = c.requires.there
 
 pub moved_over-requires-clause-helps : goal.moved_over-requires-clause-helps
 moved_over-requires-clause-helps g c =
     let options = c.args.options.now in
-    let before = c.args.circuit.now in
+    let before = c.args.run.now.retimed.circuit in
     let P : Option Helping → Type 0 = λ found. MatchOption found (NoneSmallerBy options before) (Helps options before) in
     let helps : Helps options before c.in-Some.found = subst P c.in-Some.is c.in_ok-found.ensures.found in
     helps.set
@@ -39,23 +39,26 @@ moved_over-requires-clause-helps g c =
 pub returns-in-Some-clause-found : goal.returns-in-Some-clause-found
 returns-in-Some-clause-found g c =
     let options = c.args.options.now in
-    let before = c.args.circuit.now in
+    let before = c.args.run.now.retimed.circuit in
     let P : Option Helping → Type 0 = λ found. MatchOption found (NoneSmallerBy options before) (Helps options before) in
     let helps : Helps options before c.in-Some.found = subst P c.in-Some.is c.in_ok-found.ensures.found in
     let d = c.in_ok-cleaned-in-Some.ensures in
     record {
-      set = helps.set;
-      cleaned = d.cleaned;
-      moves = record { set = c.in-Some.found.set; helps = helps.set; cleaned = d.cleaned; reported = helps.report };
-      keeps = d.keeps;
+      moves = record {
+        set = helps.set;
+        cleaned = d.moved.cleaned;
+        moves = record { set = c.in-Some.found.set; helps = helps.set; cleaned = d.moved.cleaned; reported = helps.report };
+        keeps = d.moved.keeps;
+      };
+      comes = d.comes;
     }
 
 pub returns-clause-found : goal.returns-clause-found
 returns-clause-found g c =
     let options = c.args.options.now in
-    let before = c.args.circuit.now in
+    let before = c.args.run.now.retimed.circuit in
     let P : Option Helping → Type 0 = λ found. MatchOption found (NoneSmallerBy options before) (Helps options before) in
-    subst P c.in-None.is c.in_ok-found.ensures.found
+    (subst P c.in-None.is c.in_ok-found.ensures.found, refl)
 
 pub returns-in_err-keep-clause-found : goal.returns-in_err-keep-clause-found
 returns-in_err-keep-clause-found g c = IfOk-from_err c.from_residual.result _ c.from_residual.ensures.0
@@ -100,7 +103,7 @@ returns-in-Some-clause-certificate g c =
 pub moved_over-requires-clause-marked : goal.moved_over-requires-clause-marked
 moved_over-requires-clause-marked g c =
     let options = c.args.options.now in
-    let before = c.args.circuit.now in
+    let before = c.args.run.now.retimed.circuit in
     let P : Option Helping → Type 0 = λ found. MatchOption found (NoneSmallerBy options before) (Helps options before) in
     let helps : Helps options before c.in-Some.found = subst P c.in-Some.is c.in_ok-found.ensures.found in
     let kept = c.in_ok-keep.ensures ∙ ap (λ names. held_in (names_of names) before) c.as_slice.ensures.value in
@@ -111,3 +114,12 @@ returns-clause-told g c = tells-nothing g.V.FrameWatcher.was_told c.args.watcher
 
 pub returns-in-Some-clause-told : goal.returns-in-Some-clause-told
 returns-in-Some-clause-told g c = c.enter.ensures
+
+pub returns-in_err-keep-clause-same : goal.returns-in_err-keep-clause-same
+returns-in_err-keep-clause-same g c = IfOk-from_err c.from_residual.result _ c.from_residual.ensures.0
+
+pub returns-in_err-found-clause-same : goal.returns-in_err-found-clause-same
+returns-in_err-found-clause-same g c = IfOk-from_err c.from_residual-in_err-found.result _ c.from_residual-in_err-found.ensures.0
+
+pub returns-in_err-cleaned-in-Some-clause-same : goal.returns-in_err-cleaned-in-Some-clause-same
+returns-in_err-cleaned-in-Some-clause-same g c = IfOk-from_err c.from_residual-in_err-cleaned-in-Some.result _ c.from_residual-in_err-cleaned-in-Some.ensures.0

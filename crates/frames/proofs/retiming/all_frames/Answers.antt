@@ -1,130 +1,166 @@
-use Rattle.std.proofs.Common.{◌+◌, ◌≡◌, [], ◌∷◌, Option, ap, length, suc, arith, subst, ℕ, refl}
+use Rattle.std.proofs.Common.{◌+◌, ◌≡◌, [], ◌∷◌, ◌++◌, ◌∙◌, Option, ap, length, suc, arith, subst, sym, ℕ, refl}
 use Rattle.std.specs.Option.{MatchOption}
 use Rattle.aig_graph.specs.Circuits.{Netlist}
 use Rattle.aig_graph.specs.Graph.{known_latches}
+use Rattle.aig_graph.specs.Laws.{composed}
 use Rattle.retimed_circuits.specs.declared.report.FrameReport.{FrameReport}
+use Rattle.retimed_circuits.specs.declared.report.Retimed.{Retimed}
 use Rattle.retimed_circuits.proofs.NameLaws.{names-stay}
 use Rattle.frames.specs.declared.frame.Frame.{Frame}
 use Rattle.frames.specs.Certified.{AreCollected}
 use Rattle.frames.specs.Found.{Moves}
 use Rattle.frames.specs.Named.{names_in}
 use Rattle.frames.specs.Retiming.{NoneSmallerBy}
-use Rattle.frames.specs.Stages.{Moving, Tells}
-use Rattle.frames.specs.Underway.{IsUnderway}
+use Rattle.frames.specs.Stages.{Moving, Tells, looks_of}
+use Rattle.frames.specs.Underway.{IsRun, IsUnderway}
+use Rattle.frames.specs.Following.{IsFollowed, MovesFollowed}
 use Rattle.frames.proofs.CertificateLaws.{none-collected, one-collected}
+use Rattle.frames.proofs.FollowingLaws.{many-kept}
 use Rattle.frames.proofs.StageLaws.{many-taken, none-taken, tells-end, tells-frame, tells-limit, tells-start}
 use Rattle.std.proofs.lemmas.Result.{IfOk-from_err}
 use Rattle.frames.proofs.retiming.all_frames.Goals as goal
 
 pub loop-init : goal.loop-init
 loop-init g c =
-    let begun = c.requires.begun in
+    let begun = c.requires.begun.1 in
     let start = c.args.start in (
-      λ d underway. (underway, none-collected c.args.options.now d c.args.records.now c.requires.wanted c.requires.none_yet),
-      tells-start g.V.FrameWatcher.was_told c.args.watcher.now start.frames (none-taken c.args.options.now begun.read start begun.underway),
+      λ read d kept followed. (followed, none-collected c.args.options.now d c.args.records.now c.requires.wanted c.requires.none_yet),
+      tells-start g.V.FrameWatcher.was_told c.args.watcher.now start.retimed.frames (none-taken c.args.options.now begun.start start.retimed begun.followed.underway),
     )
 
 pub next_frame-requires-clause-tidy : goal.next_frame-requires-clause-tidy
-next_frame-requires-clause-tidy g c κs within = let begun = c.requires.begun in (c.loop.invariant.0 begun.read begun.underway).0.keeps.tidy
+next_frame-requires-clause-tidy g c κs within = let begun = c.requires.begun.1 in (c.loop.invariant.0 c.requires.begun.0 begun.start begun.kept begun.followed).0.underway.keeps.tidy
+
+pub next_frame-requires-clause-there : goal.next_frame-requires-clause-there
+next_frame-requires-clause-there g c κs within = let begun = c.requires.begun.1 in (c.requires.begun.0, composed begun.kept c.loop.run.retimed.kept_free, (c.loop.invariant.0 c.requires.begun.0 begun.start begun.kept begun.followed).0.come)
 
 pub next_frame-requires-clause-names : goal.next_frame-requires-clause-names
 next_frame-requires-clause-names g c κs within =
-    let begun = c.requires.begun in
-    names-stay (names_in c.args.options.now) begun.read c.loop.retimed.circuit (c.loop.invariant.0 begun.read begun.underway).0.keeps.held begun.names
+    let begun = c.requires.begun.1 in
+    names-stay (names_in c.args.options.now) begun.start c.loop.run.retimed.circuit (c.loop.invariant.0 c.requires.begun.0 begun.start begun.kept begun.followed).0.underway.keeps.held begun.names
 
-pub after_frame-requires-clause-underway : goal.after_frame-requires-clause-underway
-after_frame-requires-clause-underway g c = let begun = c.requires.begun in (begun.read, c.loop.counter, (c.loop.invariant.0 begun.read begun.underway).0)
+pub taken-requires-clause-underway : goal.taken-requires-clause-underway
+taken-requires-clause-underway g c =
+    let begun = c.requires.begun.1 in
+    let P : Retimed → Type 0 = λ r. IsUnderway c.args.options.now begun.start c.loop.counter r in
+    (begun.start, c.loop.counter, subst P (sym c.in-Ok-Some.ensures.same) (c.loop.invariant.0 c.requires.begun.0 begun.start begun.kept begun.followed).0.underway)
 
-pub after_frame-requires-clause-moves : goal.after_frame-requires-clause-moves
-after_frame-requires-clause-moves g c =
+pub taken-requires-clause-moves : goal.taken-requires-clause-moves
+taken-requires-clause-moves g c =
+    let has_come = g.F.RunFollower.has_come in
     let options = c.args.options.now in
-    let P : Option Frame → Type 0 = λ found. MatchOption found (NoneSmallerBy options c.loop.retimed.circuit) (Moves options c.loop.retimed.circuit) in
-    subst P c.in-Ok-Some.field-0-is c.in-Ok-Some.ensures.found
+    let before = c.loop.run in
+    let after = c.next_frame.new.run in
+    let P : Option Frame → Type 0 = λ found. MatchOption found (NoneSmallerBy options before.retimed.circuit × (after.follower ≡ before.follower)) (MovesFollowed has_come options before.retimed.circuit before.follower after.follower) in
+    let followed : MovesFollowed has_come options before.retimed.circuit before.follower after.follower c.in-Ok-Some.frame = subst P c.in-Ok-Some.field-0-is c.in-Ok-Some.ensures.found in
+    subst (λ (r : Retimed). Moves options r.circuit c.in-Ok-Some.frame) (sym c.in-Ok-Some.ensures.same) followed.moves
 
 -- the last circuit was looked at, and none counts less
 pub returns-in-Ok-None-clause-run : goal.returns-in-Ok-None-clause-run
-returns-in-Ok-None-clause-run g c = λ d start.
+returns-in-Ok-None-clause-run g c = λ read d kept start.
+    let has_come = g.F.RunFollower.has_come in
     let options = c.args.options.now in
-    let before = c.loop.retimed in
-    let so_far = c.loop.invariant.0 d start in
-    let P : Option Frame → Type 0 = λ found. MatchOption found (NoneSmallerBy options before.circuit) (Moves options before.circuit) in
-    let none : NoneSmallerBy options before.circuit = subst P c.in-Ok-None.field-0-is c.in-Ok-None.ensures.found in
-    record {
+    let before = c.loop.run in
+    let after = c.next_frame.new.run in
+    let so_far = c.loop.invariant.0 read d kept start in
+    let P : Option Frame → Type 0 = λ found. MatchOption found (NoneSmallerBy options before.retimed.circuit × (after.follower ≡ before.follower)) (MovesFollowed has_come options before.retimed.circuit before.follower after.follower) in
+    let none : NoneSmallerBy options before.retimed.circuit × (after.follower ≡ before.follower) = subst P c.in-Ok-None.field-0-is c.in-Ok-None.ensures.found in
+    let run : IsRun options d c.next_frame.new.records before.retimed = record {
       taken = c.loop.counter;
-      underway = so_far.0;
+      underway = so_far.0.underway;
       within = c.loop.auto.counter-end;
-      last = λ less. none;
+      last = λ less. none.0;
       looked = suc c.loop.counter;
-      collected = one-collected options d c.loop.counter c.loop.records c.next_frame.new.records before.circuit before.kept_free before.frames so_far.1 so_far.0.frames
+      collected = one-collected options d c.loop.counter c.loop.records c.next_frame.new.records before.retimed.circuit before.retimed.kept_free before.retimed.frames so_far.1 so_far.0.underway.frames
           c.in-Ok-None.ensures.certificate;
       limited = λ at. absurd (omega (arith, at, c.loop-test.true));
       ended = λ less. refl;
+    } in
+    let Q : Retimed → Type 0 = λ r. IsRun options d c.next_frame.new.records r in
+    record {
+      run = subst Q (sym c.in-Ok-None.ensures.same) run;
+      come = subst (λ (r : Retimed). has_come after.follower read r.circuit (composed kept r.kept_free)) (sym c.in-Ok-None.ensures.same)
+          (subst (λ f. has_come f read before.retimed.circuit (composed kept before.retimed.kept_free)) (sym none.1) so_far.0.come);
     }
 
 pub loop-preserved : goal.loop-preserved
 loop-preserved g c =
+    let has_come = g.F.RunFollower.has_come in
     let options = c.args.options.now in
-    let before = c.loop.retimed in
-    let after = c.in_ok-retimed-in-Ok-Some.retimed in
-    let P : ℕ → Netlist → Type 0 = λ n d. IsUnderway options d n after in
+    let before = c.loop.run in
+    let after = c.next_frame.new.run in
+    let run = c.in_ok-run-in-Ok-Some.run' in
     let Q : ℕ → Netlist → Type 0 = λ n d. AreCollected options d n c.next_frame.new.records in
     let next : suc c.loop.counter ≡ c.loop.counter + 1 = omega arith in
     let was_told = g.V.FrameWatcher.was_told in
     let looking = c.enter_looking.new.watcher in
     let moving = c.next_frame.new.watcher in
-    let F : Option Frame → Type 0 = λ found. MatchOption found (NoneSmallerBy options before.circuit) (Moves options before.circuit) in
+    let frame = c.in-Ok-Some.frame in
+    let same : after.retimed ≡ before.retimed = c.in-Ok-Some.ensures.same in
+    let F : Option Frame → Type 0 = λ found. MatchOption found (NoneSmallerBy options before.retimed.circuit × (after.follower ≡ before.follower)) (MovesFollowed has_come options before.retimed.circuit before.follower after.follower) in
     let T : Option Frame → Type 0 = λ found. MatchOption found (Tells was_told looking moving []) (λ _. Tells was_told looking moving (Moving ∷ [])) in
-    let moves : Moves options before.circuit c.in-Ok-Some.frame = subst F c.in-Ok-Some.field-0-is c.in-Ok-Some.ensures.found in
-    let told : Tells was_told looking moving (Moving ∷ []) = subst T c.in-Ok-Some.field-0-is c.in-Ok-Some.ensures.told in (
-      λ d start.
-          let so_far = c.loop.invariant.0 d start in (
-            subst (λ n. P n d) next (c.in_ok-retimed-in-Ok-Some.ensures.underway d c.loop.counter so_far.0),
+    let followed : MovesFollowed has_come options before.retimed.circuit before.follower after.follower frame = subst F c.in-Ok-Some.field-0-is c.in-Ok-Some.ensures.found in
+    let told : Tells was_told looking moving (Moving ∷ []) = subst T c.in-Ok-Some.field-0-is c.in-Ok-Some.ensures.told in
+    let taken : run.retimed.frames ≡ before.retimed.frames ++ frame.report ∷ [] =
+    c.in_ok-run-in-Ok-Some.ensures.frames ∙ ap (λ (r : Retimed). r.frames ++ frame.report ∷ []) same in (
+      λ read d kept start.
+          let so_far = c.loop.invariant.0 read d kept start in
+          let underway : IsUnderway options d c.loop.counter after.retimed = subst (λ (r : Retimed). IsUnderway options d c.loop.counter r) (sym same) so_far.0.underway in
+          let come : has_come after.follower read frame.cleaned.circuit (composed (composed kept after.retimed.kept_free) frame.cleaned.kept_free) =
+          subst (λ (r : Retimed). has_come after.follower read frame.cleaned.circuit (composed (composed kept r.kept_free) frame.cleaned.kept_free)) (sym same)
+          (followed.comes read (composed kept before.retimed.kept_free) (many-kept options d kept c.loop.counter before.retimed so_far.0.underway) so_far.0.come) in (
+            subst (λ n. IsFollowed has_come options read d kept n run.retimed run.follower) next (c.in_ok-run-in-Ok-Some.ensures.followed read d kept c.loop.counter underway come),
             subst (λ n. Q n d) next
-                (one-collected options d c.loop.counter c.loop.records c.next_frame.new.records before.circuit before.kept_free before.frames so_far.1 so_far.0.frames c.in-Ok-Some.ensures.certificate),
+                (one-collected options d c.loop.counter c.loop.records c.next_frame.new.records before.retimed.circuit before.retimed.kept_free before.retimed.frames so_far.1 so_far.0.underway.frames
+                c.in-Ok-Some.ensures.certificate),
           ),
-      tells-frame was_told c.args.watcher.now c.loop.watcher looking moving before.frames after.frames c.in-Ok-Some.frame.report (known_latches before.circuit.aig)
-          c.in_ok-retimed-in-Ok-Some.ensures.frames (ap (λ (r : FrameReport). r.before) moves.moves.reported) c.loop.invariant.1 c.enter_looking.ensures told,
+      tells-frame was_told c.args.watcher.now c.loop.watcher looking moving before.retimed.frames run.retimed.frames frame.report (known_latches before.retimed.circuit.aig) taken
+          (ap (λ (r : FrameReport). r.before) followed.moves.moves.reported) c.loop.invariant.1 c.enter_looking.ensures told,
     )
 
 -- at the limit the last circuit isn't looked at
 pub returns-clause-run : goal.returns-clause-run
-returns-clause-run g c = λ d start.
-    let so_far = c.loop.invariant.0 d start in
+returns-clause-run g c = λ read d kept start.
+    let so_far = c.loop.invariant.0 read d kept start in
     record {
-      taken = c.loop.counter;
-      underway = so_far.0;
-      within = c.loop.auto.counter-end;
-      last = λ less. absurd (omega (arith, c.loop-test.false, less));
-      looked = c.loop.counter;
-      collected = so_far.1;
-      limited = λ at. refl;
-      ended = λ less. absurd (omega (arith, c.loop-test.false, less));
+      run = record {
+        taken = c.loop.counter;
+        underway = so_far.0.underway;
+        within = c.loop.auto.counter-end;
+        last = λ less. absurd (omega (arith, c.loop-test.false, less));
+        looked = c.loop.counter;
+        collected = so_far.1;
+        limited = λ at. refl;
+        ended = λ less. absurd (omega (arith, c.loop-test.false, less));
+      };
+      come = so_far.0.come;
     }
 
-pub returns-in_err-retimed-in-Ok-Some-clause-run : goal.returns-in_err-retimed-in-Ok-Some-clause-run
-returns-in_err-retimed-in-Ok-Some-clause-run g c = IfOk-from_err c.from_residual.result _ c.from_residual.ensures.0
+pub returns-in_err-run-in-Ok-Some-clause-run : goal.returns-in_err-run-in-Ok-Some-clause-run
+returns-in_err-run-in-Ok-Some-clause-run g c = IfOk-from_err c.from_residual.result _ c.from_residual.ensures.0
 
-pub returns-in_err-retimed-in-Ok-Some-clause-told : goal.returns-in_err-retimed-in-Ok-Some-clause-told
-returns-in_err-retimed-in-Ok-Some-clause-told g c = IfOk-from_err c.from_residual.result _ c.from_residual.ensures.0
+pub returns-in_err-run-in-Ok-Some-clause-told : goal.returns-in_err-run-in-Ok-Some-clause-told
+returns-in_err-run-in-Ok-Some-clause-told g c = IfOk-from_err c.from_residual.result _ c.from_residual.ensures.0
 
 -- the last look found none
 pub returns-in-Ok-None-clause-told : goal.returns-in-Ok-None-clause-told
 returns-in-Ok-None-clause-told g c =
     let options = c.args.options.now in
-    let begun = c.requires.begun in
-    let before = c.loop.retimed in
+    let begun = c.requires.begun.1 in
+    let before = c.loop.run.retimed in
     let was_told = g.V.FrameWatcher.was_told in
     let looking = c.enter_looking.new.watcher in
     let after = c.next_frame.new.watcher in
-    let many : length before.frames ≡ c.loop.counter = many-taken options begun.read c.loop.counter before (c.loop.invariant.0 begun.read begun.underway).0 in
+    let many : length before.frames ≡ c.loop.counter = many-taken options begun.start c.loop.counter before (c.loop.invariant.0 c.requires.begun.0 begun.start begun.kept begun.followed).0.underway in
     let T : Option Frame → Type 0 = λ found. MatchOption found (Tells was_told looking after []) (λ _. Tells was_told looking after (Moving ∷ [])) in
     let told : Tells was_told looking after [] = subst T c.in-Ok-None.field-0-is c.in-Ok-None.ensures.told in
-    tells-end was_told c.args.watcher.now c.loop.watcher looking after options.max_frames before (omega (arith, many, c.loop-test.true)) c.loop.invariant.1 c.enter_looking.ensures told
+    subst (λ (r : Retimed). Tells was_told c.args.watcher.now after (looks_of options.max_frames r)) (sym c.in-Ok-None.ensures.same)
+    (tells-end was_told c.args.watcher.now c.loop.watcher looking after options.max_frames before (omega (arith, many, c.loop-test.true)) c.loop.invariant.1 c.enter_looking.ensures told)
 
 pub returns-clause-told : goal.returns-clause-told
 returns-clause-told g c =
     let options = c.args.options.now in
-    let begun = c.requires.begun in
-    let last = c.loop.retimed in
-    let many : length last.frames ≡ c.loop.counter = many-taken options begun.read c.loop.counter last (c.loop.invariant.0 begun.read begun.underway).0 in
+    let begun = c.requires.begun.1 in
+    let last = c.loop.run.retimed in
+    let many : length last.frames ≡ c.loop.counter = many-taken options begun.start c.loop.counter last (c.loop.invariant.0 c.requires.begun.0 begun.start begun.kept begun.followed).0.underway in
     tells-limit g.V.FrameWatcher.was_told c.args.watcher.now c.loop.watcher options.max_frames last (omega (arith, many, c.loop-test.false, c.loop.auto.counter-end)) c.loop.invariant.1

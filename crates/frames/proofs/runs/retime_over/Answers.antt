@@ -1,33 +1,18 @@
 use Rattle.std.proofs.Common.{[], ◌∷◌}
 use Rattle.frames.specs.Stages.{Cleaning, looks_of}
-use Rattle.frames.proofs.MergedLaws.{by-frames, by-merging}
-use Rattle.frames.proofs.StageLaws.{all-told}
+use Rattle.frames.proofs.StageLaws.{tells-then}
 use Rattle.frames.proofs.runs.retime_over.Goals as goal
 
-pub returns-then-options-clause-retimed : goal.returns-then-options-clause-retimed
-returns-then-options-clause-retimed g c = by-merging c.args.options.now c.args.circuit c.retime_merged_over.result c.if-options.true c.retime_merged_over.ensures.retimed
+pub finish_plain-requires-after_bounds : goal.finish_plain-requires-after_bounds
+finish_plain-requires-after_bounds g c κs within = (c.args.circuit, c.in_ok-begun.ensures.begun)
 
-pub returns-then-options-clause-none_missing : goal.returns-then-options-clause-none_missing
-returns-then-options-clause-none_missing g c = c.retime_merged_over.ensures.none_missing
+pub returns-clause-retimed : goal.returns-clause-retimed
+returns-clause-retimed g c = c.in_ok-retimed.ensures.retimed c.args.circuit c.in_ok-begun.ensures.begun
 
-pub returns-then-options-clause-missing : goal.returns-then-options-clause-missing
-returns-then-options-clause-missing g c = c.retime_merged_over.ensures.missing
+pub returns-clause-none_missing : goal.returns-clause-none_missing
+returns-clause-none_missing g c = c.in_ok-begun.ensures.begun.names
 
-pub returns-else-options-clause-retimed : goal.returns-else-options-clause-retimed
-returns-else-options-clause-retimed g c = by-frames c.args.options.now c.args.circuit c.retime_as_is_over.result c.if-options.false c.retime_as_is_over.ensures.retimed
-
-pub returns-else-options-clause-none_missing : goal.returns-else-options-clause-none_missing
-returns-else-options-clause-none_missing g c = c.retime_as_is_over.ensures.none_missing
-
-pub returns-else-options-clause-missing : goal.returns-else-options-clause-missing
-returns-else-options-clause-missing g c = c.retime_as_is_over.ensures.missing
-
-pub returns-then-options-clause-told : goal.returns-then-options-clause-told
-returns-then-options-clause-told g c =
-    let limit = c.args.options.now.max_frames in
-    all-told g.V.FrameWatcher.was_told c.retime_merged_over.result c.args.watcher.now c.enter.new.self c.retime_merged_over.new.watcher (Cleaning ∷ []) (looks_of limit) c.enter.ensures c.retime_merged_over.ensures.told
-
-pub returns-else-options-clause-told : goal.returns-else-options-clause-told
-returns-else-options-clause-told g c =
-    let limit = c.args.options.now.max_frames in
-    all-told g.V.FrameWatcher.was_told c.retime_as_is_over.result c.args.watcher.now c.enter.new.self c.retime_as_is_over.new.watcher (Cleaning ∷ []) (looks_of limit) c.enter.ensures c.retime_as_is_over.ensures.told
+pub returns-clause-told : goal.returns-clause-told
+returns-clause-told g c =
+    tells-then g.V.FrameWatcher.was_told c.args.watcher.now c.enter.new.self c.finish_plain.new.watcher (Cleaning ∷ []) (looks_of c.args.options.now.max_frames c.in_ok-retimed.retimed)
+    c.enter.ensures c.in_ok-retimed.ensures.told

@@ -1,35 +1,30 @@
 use Rattle.std.proofs.Common.{ℕ, ◌≡◌, ◌+◌, ◌∙◌, sym, subst, ap, arith, List, length, map, slice_get, Option}
 use Rattle.std.proofs.lemmas.List.{length_push}
 use Rattle.std.specs.Option.{IsSomeAnd}
-use Rattle.lane_sim.specs.Blocks.{in_lane, row_in, HoldsState}
+use Rattle.lane_sim.specs.Blocks.{in_lane, row_in}
 use Rattle.lane_sim.specs.Traces.{value_in}
 use Rattle.lane_sim.proofs.BlockLaws.{pushed}
 use Rattle.lane_sim.proofs.block.simulate_block.Goals as goal
 
 pub loop-step-init : goal.loop-step-init
-loop-step-init c =
-    let opened = c.in_ok-values.ensures in
-    let items = c.as_mut_slice-table.ensures.value in
-    record {
-      long = ap length c.new-rows.ensures.items;
-      variables = ap length items ∙ opened.0;
-      latches = omega (arith, c.in_ok-next_values.next_values.ok.0, c.in_ok-next_values.ensures.len, ap length c.latches.ensures.value, ap length c.as_mut_slice-next.ensures.value);
-      state = λ k h. subst (λ table. HoldsState c.args.aig.now (in_lane c.args.sequences.now k) table k 0) (sym items) (opened.1 k h);
-      each = λ k t h l. absurd (omega arith);
-    }
+loop-step-init c = record {
+  long = ap length c.new-rows.ensures.items;
+  values = c.in_ok-values.ensures;
+  state = c.open.ensures;
+  each = λ k t h l. absurd (omega arith);
+}
 
 pub loop-step-preserved : goal.loop-step-preserved
 loop-step-preserved c =
     let held = c.loop-step.invariant in
-    let row = c.in_ok-simulate_step.field-0 in
+    let row = c.in_ok-row.row in
     record {
       long = ap length c.in_ok-push.ensures.items ∙ length_push c.loop-step.rows.items row ∙ ap (λ (n : ℕ). n + 1) held.long;
-      variables = c.simulate_step.auto.table ∙ held.variables;
-      latches = c.simulate_step.auto.next ∙ held.latches;
-      state = λ k h. c.in_ok-simulate_step.ensures.state k h (held.state k h);
+      values = c.in_ok-row.ensures.values;
+      state = c.in_ok-row.ensures.state;
       each = λ k t h l.
           let s = in_lane c.args.sequences.now k in
           let P : ℕ → Option (List (List ℕ)) → Type 0 = λ n o. IsSomeAnd o (λ row. row_in k row ≡ map (value_in c.args.aig.now s n) c.args.literals.now) in
           subst (λ rows. P t (slice_get rows t)) (sym c.in_ok-push.ensures.items)
-          (pushed P c.loop-step.rows.items row c.loop-step.step held.long (λ n m. held.each k n h m) (c.in_ok-simulate_step.ensures.row k h (held.state k h)) t l);
+          (pushed P c.loop-step.rows.items row c.loop-step.step held.long (λ n m. held.each k n h m) (c.in_ok-row.ensures.row k h) t l);
     }

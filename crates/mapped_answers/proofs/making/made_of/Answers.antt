@@ -1,14 +1,38 @@
-use Rattle.std.proofs.Common.{[], ◌∷◌}
+use Rattle.std.proofs.Common.{ℕ, List, Err, ap, subst, sym, ◌∙◌, [], ◌∷◌}
+use Rattle.std.specs.Global.{Vec}
+use Rattle.std.proofs.lemmas.Result.{IfErr-weaker}
+use Rattle.aig_graph.specs.Keep.{IsFirstMissing, NoneMissing, held_in, names_of}
+use Rattle.aig_graph.specs.declared.holding.KeepError.{KeepError}
 use Rattle.frames.specs.Stages.{Cleaning, looks_of}
 use Rattle.frames.proofs.StageLaws.{all-told}
+use Rattle.mapped_answers.specs.Mapping.{IsMakingError, IsMapError}
+use Rattle.mapped_answers.specs.declared.mapped.MappedError.{MappedError}
+use Rattle.mapped_answers.proofs.MakingLaws.{unmapped, unnamed}
 use Rattle.mapped_answers.proofs.making.made_of.Goals as goal
 
-pub returns-then-options-clause-told : goal.returns-then-options-clause-told
-returns-then-options-clause-told g c =
-    let limit = c.args.options.now.max_frames in
-    all-told g.V.FrameWatcher.was_told c.made_merged.result c.args.watcher.now c.enter.new.self c.made_merged.new.watcher (Cleaning ∷ []) (λ made. looks_of limit made.retimed) c.enter.ensures c.made_merged.ensures.told
+pub made_mapped-requires-clause-keep : goal.made_mapped-requires-clause-keep
+made_mapped-requires-clause-keep g c κs within = c.in-Ok.ensures.ok ∙ ap (λ names. held_in (names_of names) c.args.circuit.now) c.as_slice.ensures.value
 
-pub returns-else-options-clause-told : goal.returns-else-options-clause-told
-returns-else-options-clause-told g c =
+pub made_mapped-requires-clause-names : goal.made_mapped-requires-clause-names
+made_mapped-requires-clause-names g c κs within =
+    let P : List (Vec ℕ) → Type 0 = λ names. NoneMissing (names_of names) c.args.circuit.now in
+    subst P c.as_slice.ensures.value c.in-Ok.ensures.none_missing
+
+pub returns-in-Ok-clause-err : goal.returns-in-Ok-clause-err
+returns-in-Ok-clause-err g c =
+    let options = c.args.options.now in
+    let circuit = c.args.circuit.now in
+    IfErr-weaker c.made_mapped.result IsMapError (IsMakingError options circuit) (unmapped options circuit) c.made_mapped.ensures.err
+
+pub returns-in-Ok-clause-told : goal.returns-in-Ok-clause-told
+returns-in-Ok-clause-told g c =
     let limit = c.args.options.now.max_frames in
-    all-told g.V.FrameWatcher.was_told c.made_as_is.result c.args.watcher.now c.enter.new.self c.made_as_is.new.watcher (Cleaning ∷ []) (λ made. looks_of limit made.retimed) c.enter.ensures c.made_as_is.ensures.told
+    all-told g.V.FrameWatcher.was_told c.made_mapped.result c.args.watcher.now c.enter.new.self c.made_mapped.new.watcher (Cleaning ∷ []) (λ made. looks_of limit made.retimed) c.enter.ensures c.made_mapped.ensures.told
+
+pub returns-in-Err-clause-err : goal.returns-in-Err-clause-err
+returns-in-Err-clause-err g c =
+    let options = c.args.options.now in
+    let circuit = c.args.circuit.now in
+    let P : ℕ → List (Vec ℕ) → Type 0 = λ place names. IsFirstMissing (names_of names) circuit place in
+    let Q : MappedError → Type 0 = λ e. IsMakingError options circuit e in
+    subst Q (sym c.unnamed.ensures) (unnamed options circuit c.in-Err.error (λ place is. subst (P place) c.as_slice.ensures.value (c.in-Err.ensures.missing place (ap (λ (x : KeepError). Err x) is))))

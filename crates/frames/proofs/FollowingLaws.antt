@@ -1,0 +1,97 @@
+-- What follows a frame follows the frame's move and its cleaning.
+use Rattle.std.proofs.Common.{ℕ, List, ◌≡◌, ◌∙◌, ◌++◌, ◌∷◌, ◌<◌, [], Result, Ok, Err, ap, arith, get_or, length, suc, sym, subst, zero-add}
+use Rattle.std.specs.Result.{IfOk}
+use Rattle.std.specs.List.{All, range_with_len}
+use Rattle.std.proofs.lemmas.List.{length-map}
+use Rattle.std.proofs.lemmas.List.FromFn.{length-range_with_len}
+use Rattle.aig_graph.specs.Circuits.{IsNetlist, Netlist}
+use Rattle.aig_graph.specs.Graph.{free_latches}
+use Rattle.aig_graph.specs.Laws.{all_free, composed}
+use Rattle.aig_graph.specs.Streams.{SameStreams}
+use Rattle.clean.specs.declared.cleaning.Cleaned.{Cleaned}
+use Rattle.clean.proofs.CleaningLaws.{composed-then}
+use Rattle.cleaned_circuits.specs.Cleaned.{Cleans}
+use Rattle.cleaned_circuits.proofs.PassLaws.{IsCircuit, cleans-streams}
+use Rattle.retimed_circuits.specs.declared.report.FrameReport.{FrameReport}
+use Rattle.retimed_circuits.specs.declared.report.Retimed.{Retimed}
+use Rattle.retimed_circuits.specs.Frames.{AfterFrames, frame, moved_in}
+use Rattle.retimed_circuits.proofs.RunLaws.{SameEnd, after-one}
+use Rattle.frames.specs.declared.frame.Frame.{Frame}
+use Rattle.frames.specs.declared.options.Options.{Options}
+use Rattle.frames.specs.Following.{ComesOn, ComesWhole, IsCleanedFollowed, IsFollowed, IsMovedFollowed}
+use Rattle.frames.specs.Found.{Moves}
+use Rattle.frames.specs.Named.{kept_by, names_in}
+use Rattle.frames.specs.Retiming.{IsTidyBy}
+use Rattle.frames.specs.Underway.{IsUnderway}
+use Rattle.variable_tables.specs.Tables.{table}
+use Rattle.variable_tables.proofs.TableLaws.{table-from}
+use Rattle.frames.proofs.FrameLaws.{cleaned-by, moved-by, own-cleaned}
+
+-- all of what is kept
+composed-whole : (n : ℕ) (kept : List ℕ) → length kept ≡ n → composed kept (range_with_len 0 n) ≡ kept
+unfolding table
+composed-whole n kept many = sym (table-from 0 n (λ i. get_or kept i 0) kept 0 many (λ k less. ap (λ (i : ℕ). get_or kept i 0) (sym (zero-add k))))
+
+-- as many free latches where all stay
+as-many : (c d : Netlist) → SameStreams c d (all_free c.aig) → free_latches c.aig ≡ free_latches d.aig
+as-many c d streams = sym (length-range_with_len 0 (free_latches c.aig)) ∙ streams.places.each
+
+-- a cleaning that is followed keeps what a cleaning keeps
+cleaned-followed : {F : Type 0} (has_come : F → Netlist → Netlist → List ℕ → Type 0) (options : Options) (c : Netlist) (old new : F) (d : Cleaned) → IsCircuit c
+    → Cleans d.circuit (kept_by options c) c d.kept_free → ComesOn has_come old new c d.circuit d.kept_free → IsCleanedFollowed has_come options c old new d
+cleaned-followed has_come options c old new d valid cleans comes = record {
+  cleaned = cleaned-by {E = ℕ} options c (Ok d) valid cleans (cleans-streams d.circuit (kept_by options c) c d.kept_free cleans valid);
+  comes = comes;
+}
+
+-- a result of a cleaning that is followed
+pub cleaned-result : {F E : Type 0} (has_come : F → Netlist → Netlist → List ℕ → Type 0) (options : Options) (c : Netlist) (old new : F) (r : Result Cleaned E) → IsCircuit c
+    → IfOk r (λ d. Cleans d.circuit (kept_by options c) c d.kept_free) → IfOk r (λ d. ComesOn has_come old new c d.circuit d.kept_free) → IfOk r (IsCleanedFollowed has_come options c old new)
+cleaned-result has_come options c old new (Ok d) valid cleans comes = cleaned-followed has_come options c old new d valid cleans comes
+cleaned-result has_come options c old new (Err e) valid cleans comes = tt
+
+-- who follows to a circuit that is its own cleaning is there
+pub own-followed : {F E : Type 0} (has_come : F → Netlist → Netlist → List ℕ → Type 0) (options : Options) (c : Netlist) (f : F) (r : Result Cleaned E) → IfOk r (λ d. d.circuit ≡ c)
+    → IfOk r (λ d. d.kept_free ≡ all_free c.aig) → IsCircuit c → IsTidyBy options c → IfOk r (IsCleanedFollowed has_come options c f f)
+own-followed has_come options c f (Ok d) circuit places valid tidy = record {
+  cleaned = own-cleaned {E = ℕ} options c (Ok d) circuit places valid tidy;
+  comes = λ b k each come.
+      let P : Netlist → List ℕ → Type 0 = λ e js. has_come f b e (composed k js) in
+      let own : P c (all_free c.aig) = subst (λ (js : List ℕ). has_come f b c js) (sym (composed-whole (free_latches c.aig) k each)) come in
+      subst (λ (e : Netlist). P e d.kept_free) (sym circuit) (subst (P c) (sym places) own);
+}
+own-followed has_come options c f (Err e) circuit places valid tidy = tt
+
+-- a moved circuit, cleaned, where the move and the cleaning were followed
+pub moved-followed : {F E : Type 0} (has_come : F → Netlist → Netlist → List ℕ → Type 0) (options : Options) (c after : Netlist) (set : List ℕ) (old mid new : F) (r : Result Cleaned E)
+    → IsNetlist c → after ≡ moved_in (names_in options) c set → SameStreams c after (all_free c.aig) → ComesWhole has_come old mid c after
+    → IfOk r (IsCleanedFollowed has_come options after mid new) → IfOk r (IsMovedFollowed has_come options c set old new)
+moved-followed has_come options c after set old mid new (Ok d) netlist same streams whole is = record {
+  moved = moved-by {E = ℕ} options c after set (Ok d) netlist same streams is.cleaned;
+  comes = λ b k each come. is.comes b k (each ∙ as-many c after streams) (whole b k come);
+}
+moved-followed has_come options c after set old mid new (Err e) netlist same streams whole is = tt
+
+-- places among those that were kept are as many as the run's circuit has free latches
+pub many-kept : (options : Options) (d : Netlist) (kept : List ℕ) (n : ℕ) (r : Retimed) → IsUnderway options d n r → length (composed kept r.kept_free) ≡ free_latches r.circuit.aig
+many-kept options d kept n r underway = length-map r.kept_free (λ place. get_or kept place 0) ∙ underway.keeps.streams.places.each
+
+-- what so many frames make is one
+pub one-taken : {F : Type 0} (has_come : F → Netlist → Netlist → List ℕ → Type 0) (options : Options) (c d : Netlist) (kept : List ℕ) (n : ℕ) (r after : Retimed) (taken : Frame) (f : F) → IsUnderway options d n r → Moves options r.circuit taken → IsUnderway options d (suc n) after
+    → has_come f c taken.cleaned.circuit (composed (composed kept r.kept_free) taken.cleaned.kept_free) → IsFollowed has_come options c d kept (suc n) after f
+one-taken has_come options c d kept n r after taken f before moves underway come =
+    let choice = options.choice in
+    let names = names_in options in
+    let left : List ℕ = taken.cleaned.kept_free in
+    let places : List ℕ = composed r.kept_free left in
+    let reports : List FrameReport = r.frames ++ taken.report ∷ [] in
+    let made : AfterFrames choice names d (suc n) taken.cleaned.circuit places reports = frame n r.circuit taken.cleaned.circuit r.kept_free left r.frames taken.report before.frames moves.moves in
+    let same : SameEnd taken.cleaned.circuit after.circuit places after.kept_free reports after.frames =
+    after-one choice names d (suc n) taken.cleaned.circuit places reports made after.circuit after.kept_free after.frames underway.frames in
+    let below : All (λ place. place < length r.kept_free) left = λ k a h. omega (arith, moves.keeps.streams.places.below k a h, before.keeps.streams.places.each) in
+    let P : Netlist → List ℕ → Type 0 = λ e js. has_come f c e js in
+    let one : P taken.cleaned.circuit (composed kept places) = subst (P taken.cleaned.circuit) (sym (composed-then kept r.kept_free left below)) come in
+    record {
+      underway = underway;
+      come = subst (λ (e : Netlist). P e (composed kept after.kept_free)) same.circuit (subst (λ (js : List ℕ). P taken.cleaned.circuit (composed kept js)) same.free one);
+    }

@@ -1,0 +1,39 @@
+use Rattle.std.proofs.Common.{ap}
+use Rattle.std.proofs.lemmas.Result.{IfOk-weaker}
+use Rattle.retimed_circuits.specs.declared.report.Retimed.{Retimed}
+use Rattle.frames.proofs.BeginningLaws.{begun-ready, merged-below, merged-finished, plain-finished}
+use Rattle.frames.proofs.StageLaws.{same-looks}
+use Rattle.frames.proofs.finishing.finish.Goals as goal
+
+pub run_to_end-requires-after_bounds : goal.run_to_end-requires-after_bounds
+run_to_end-requires-after_bounds g c κs within =
+    let begun = c.args.begun in
+    (c.requires.0, begun-ready g.F.RunFollower.has_come c.args.options.now c.requires.0 begun.read begun.run.retimed begun.run.follower c.requires.1)
+
+pub told-requires : goal.told-requires
+told-requires g c =
+    let begun = c.args.begun in
+    let end = c.in_ok-end.end in
+    merged-below g.F.RunFollower.has_come c.args.options.now c.requires.0 begun.read c.in-Some.read begun.run.retimed end.retimed begun.run.follower end.follower c.in-Some.is
+    (c.in_ok-end.ensures.retimed c.requires.0) c.requires.1
+
+pub returns-in-None-clause-retimed : goal.returns-in-None-clause-retimed
+returns-in-None-clause-retimed g c = λ d.
+    let begun = c.args.begun in
+    let end = c.in_ok-end.end in
+    plain-finished g.F.RunFollower.has_come c.args.options.now d begun.read begun.run.retimed end.retimed begun.run.follower end.follower c.in-None.is (c.in_ok-end.ensures.retimed d)
+
+pub returns-in-Some-clause-retimed : goal.returns-in-Some-clause-retimed
+returns-in-Some-clause-retimed g c =
+    let begun = c.args.begun in
+    let end = c.in_ok-end.end in
+    IfOk-weaker c.told.result _ _
+    (λ whole same. λ d. merged-finished g.F.RunFollower.has_come c.args.options.now d begun.read c.in-Some.read begun.run.retimed end.retimed whole.retimed begun.run.follower end.follower whole.follower
+    c.in-Some.is (c.in_ok-end.ensures.retimed d) same.0 same.1) c.told.ensures
+
+pub returns-in-Some-clause-told : goal.returns-in-Some-clause-told
+returns-in-Some-clause-told g c =
+    let r = c.in_ok-end.end.retimed in
+    IfOk-weaker c.told.result _ _
+    (λ whole same. same-looks g.V.FrameWatcher.was_told c.args.watcher.now c.run_to_end.new.watcher c.args.options.now.max_frames r whole.retimed
+    (ap (λ (x : Retimed). x.frames) same.0) (ap (λ (x : Retimed). x.circuit) same.0) c.in_ok-end.ensures.told) c.told.ensures

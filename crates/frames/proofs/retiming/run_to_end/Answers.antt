@@ -1,0 +1,43 @@
+use Rattle.std.proofs.Common.{◌≡◌, List, ℕ, sym, subst}
+use Rattle.aig_graph.specs.Laws.{composed}
+use Rattle.retimed_circuits.specs.declared.report.Retimed.{Retimed}
+use Rattle.frames.specs.Following.{IsRetimedFrom}
+use Rattle.frames.proofs.FrameLaws.{ended}
+use Rattle.frames.proofs.StageLaws.{same-looks}
+use Rattle.frames.proofs.retiming.run_to_end.Goals as goal
+
+pub all_frames-requires-clause-begun : goal.all_frames-requires-clause-begun
+all_frames-requires-clause-begun g c κs within = c.requires
+
+pub all_frames-requires-clause-wanted : goal.all_frames-requires-clause-wanted
+all_frames-requires-clause-wanted g c κs within = c.new-records.ensures.certify
+
+pub all_frames-requires-clause-none_yet : goal.all_frames-requires-clause-none_yet
+all_frames-requires-clause-none_yet g c κs within = c.new-records.ensures.certificates
+
+pub returns-in-Ok-clause-retimed : goal.returns-in-Ok-clause-retimed
+returns-in-Ok-clause-retimed g c = λ read d kept start.
+    let has_come = g.F.RunFollower.has_come in
+    let options = c.args.options.now in
+    let run = c.in-Ok.run' in
+    let r = run.retimed in
+    let records = c.all_frames.new.records in
+    let whole = c.certified.ensures in
+    let s : Retimed = record { circuit = r.circuit; kept_free = r.kept_free; read_latches = r.read_latches; merged = r.merged; frames = r.frames; certificates = records.certificates.items } in
+    let same : c.certified.result.retimed ≡ s = λ i. record {
+      circuit = whole.circuit i;
+      kept_free = whole.kept_free i;
+      read_latches = whole.read_latches i;
+      merged = whole.merged i;
+      frames = whole.frames i;
+      certificates = whole.certificates i;
+    } in
+    let ends = c.in-Ok.ensures.run read d kept start in
+    let is : IsRetimedFrom has_come options read d kept s run.follower = record { retimed = ended options d records r ends.run; come = ends.come } in
+    subst (λ (x : Retimed). IsRetimedFrom has_come options read d kept x c.certified.result.follower) (sym same)
+    (subst (λ f. IsRetimedFrom has_come options read d kept s f) (sym whole.follower) is)
+
+pub returns-in-Ok-clause-told : goal.returns-in-Ok-clause-told
+returns-in-Ok-clause-told g c =
+    let whole = c.certified.ensures in
+    same-looks g.V.FrameWatcher.was_told c.args.watcher.now c.all_frames.new.watcher c.args.options.now.max_frames c.in-Ok.run'.retimed c.certified.result.retimed whole.frames whole.circuit c.in-Ok.ensures.told

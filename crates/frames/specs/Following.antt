@@ -1,0 +1,70 @@
+-- What follows a run from circuit to circuit. That a follower has come from one circuit to another, whose free latches have these places
+-- among those of the first, is a relation that each follower chooses.
+use Rattle.std.specs.Prelude.{ℕ, ◌≡◌, List, length}
+use Rattle.aig_graph.specs.Circuits.{Netlist}
+use Rattle.aig_graph.specs.Graph.{free_latches}
+use Rattle.aig_graph.specs.Laws.{composed}
+use Rattle.chosen_cuts.specs.declared.records.Records.{Records}
+use Rattle.clean.specs.declared.cleaning.Cleaned.{Cleaned}
+use Rattle.retimed_circuits.specs.declared.report.Retimed.{Retimed}
+use Rattle.frames.specs.declared.frame.Frame.{Frame}
+use Rattle.frames.specs.declared.options.Options.{Options}
+use Rattle.frames.specs.Found.{Moves}
+use Rattle.frames.specs.Named.{NoneMissingBy}
+use Rattle.frames.specs.Retiming.{IsCleanedBy, IsMovedBy, IsRetimedAsIs, IsRetimedBy}
+use Rattle.frames.specs.Underway.{IsRun, IsUnderway}
+
+-- it has come to d, from whatever circuit
+abbrev pub HasComeTo : {F : Type 0} → (F → Netlist → Netlist → List ℕ → Type 0) → F → Netlist → Type 0
+HasComeTo has_come f d = (c : Netlist) × (kept : List ℕ) × has_come f c d kept
+
+-- from d, wherever it had come from, it has come to e, which has the free latches of d at these places
+abbrev pub ComesOn : {F : Type 0} → (F → Netlist → Netlist → List ℕ → Type 0) → F → F → Netlist → Netlist → List ℕ → Type 0
+ComesOn has_come old new d e more = (c : Netlist) (kept : List ℕ) → length kept ≡ free_latches d.aig → has_come old c d kept → has_come new c e (composed kept more)
+
+-- the same, where e has all free latches of d
+abbrev pub ComesWhole : {F : Type 0} → (F → Netlist → Netlist → List ℕ → Type 0) → F → F → Netlist → Netlist → Type 0
+ComesWhole has_come old new d e = (c : Netlist) (kept : List ℕ) → has_come old c d kept → has_come new c e kept
+
+-- d is c cleaned, where the latches stay that the options hold, and it was followed
+pub record IsCleanedFollowed {F : Type 0} (has_come : F → Netlist → Netlist → List ℕ → Type 0) (options : Options) (c : Netlist) (old new : F) (d : Cleaned) : Type 0 where
+  pub cleaned : IsCleanedBy options c d
+  pub comes : ComesOn has_come old new c d.circuit d.kept_free
+
+-- d is c with its latches moved over the set, and cleaned, and it was followed
+pub record IsMovedFollowed {F : Type 0} (has_come : F → Netlist → Netlist → List ℕ → Type 0) (options : Options) (c : Netlist) (set : List ℕ) (old new : F) (d : Cleaned) : Type 0 where
+  pub moved : IsMovedBy options c set d
+  pub comes : ComesOn has_come old new c d.circuit d.kept_free
+
+-- a frame of c that was followed
+pub record MovesFollowed {F : Type 0} (has_come : F → Netlist → Netlist → List ℕ → Type 0) (options : Options) (c : Netlist) (old new : F) (frame : Frame) : Type 0 where
+  pub moves : Moves options c frame
+  pub comes : ComesOn has_come old new c frame.cleaned.circuit frame.cleaned.kept_free
+
+-- r is what n frames make of d, which is cleaned first, and the follower has come there from c: that is d itself, or was merged to d; kept has
+-- the places of d's free latches among c's
+pub record IsFollowed {F : Type 0} (has_come : F → Netlist → Netlist → List ℕ → Type 0) (options : Options) (c d : Netlist) (kept : List ℕ) (n : ℕ) (r : Retimed) (f : F) : Type 0 where
+  pub underway : IsUnderway options d n r
+  pub come : has_come f c r.circuit (composed kept r.kept_free)
+
+-- r is some circuit that has latches of all names, cleaned, and the follower has come there from c
+pub record IsReady {F : Type 0} (has_come : F → Netlist → Netlist → List ℕ → Type 0) (options : Options) (c : Netlist) (r : Retimed) (f : F) : Type 0 where
+  pub start : Netlist
+  pub kept : List ℕ
+  pub followed : IsFollowed has_come options c start kept 0 r f
+  pub names : NoneMissingBy options start
+
+-- a run from d that ended, and the follower has come from c to what it came to
+pub record EndsFollowed {F : Type 0} (has_come : F → Netlist → Netlist → List ℕ → Type 0) (options : Options) (c d : Netlist) (kept : List ℕ) (records : Records) (r : Retimed) (f : F) : Type 0 where
+  pub run : IsRun options d records r
+  pub come : has_come f c r.circuit (composed kept r.kept_free)
+
+-- d retimed, and the follower has come there from c
+pub record IsRetimedFrom {F : Type 0} (has_come : F → Netlist → Netlist → List ℕ → Type 0) (options : Options) (c d : Netlist) (kept : List ℕ) (r : Retimed) (f : F) : Type 0 where
+  pub retimed : IsRetimedAsIs options d r
+  pub come : has_come f c r.circuit (composed kept r.kept_free)
+
+-- c retimed by the options, and the follower has come there from c
+pub record IsRetimedFollowed {F : Type 0} (has_come : F → Netlist → Netlist → List ℕ → Type 0) (options : Options) (c : Netlist) (r : Retimed) (f : F) : Type 0 where
+  pub retimed : IsRetimedBy options c r
+  pub come : has_come f c r.circuit r.kept_free

@@ -1,0 +1,98 @@
+//! A run taken to its end; where latches were merged, what it came to is told of the circuit that was read.
+ghost use Rattle.std.specs.Prelude.{ℕ, ◌≡◌, ◌<◌, length, All, IfOk};
+ghost use Rattle.aig_graph.specs.Circuits.{Netlist};
+ghost use Rattle.frames.specs.Beginning.{IsBegun};
+ghost use Rattle.frames.specs.Following.{IsRetimedFollowed};
+ghost use Rattle.frames.specs.Merging.{told_of_read};
+ghost use Rattle.frames.specs.Stages.{Tells, looks_of};
+
+use crate::follower::RunFollower;
+use crate::options::Options;
+use crate::retiming::run_to_end;
+use crate::run::{Begun, ReadCircuit, Run};
+use crate::watcher::FrameWatcher;
+use aig_graph::{NoMemory, Sequence};
+use clean::composed;
+use pulse::{Crew, PhaseGate};
+use retimed_circuits::Retimed;
+use std::alloc::Global;
+use std::thread::Threads;
+
+/// The merged circuit retimed, told of the circuit that was read.
+fn told_of_read(alloc: Global, retimed: Retimed, read: ReadCircuit) -> Result<Retimed, NoMemory>
+    requires { All (λ place. place < length read.kept_free) retimed.kept_free }
+    ensures { IfOk result (λ r. r ≡ told_of_read read retimed) }
+{
+    let Retimed {
+        circuit,
+        kept_free,
+        frames,
+        certificates,
+        ..
+    } = retimed;
+    match composed(alloc, read.kept_free.as_slice(), kept_free.as_slice()) {
+        Ok(places) => Ok(Retimed {
+            circuit,
+            kept_free: Sequence::from_vec(places),
+            read_latches: read.latches,
+            merged: Some(read.counts),
+            frames,
+            certificates,
+        }),
+        Err(error) => {
+            drop(circuit);
+            drop(certificates);
+            Err(error)
+        }
+    }
+}
+
+/// A run from a merged circuit, told of the circuit that was read.
+fn told<F: RunFollower + Drop>(
+    alloc: Global,
+    run: Run<F>,
+    read: ReadCircuit,
+) -> Result<Run<F>, F::Stop>
+    requires { All (λ place. place < length read.kept_free) run.retimed.kept_free }
+    ensures { IfOk result (λ end. (end.retimed ≡ told_of_read read run.retimed)
+        × (end.follower ≡ run.follower)) }
+{
+    let Run { retimed, follower } = run;
+    match told_of_read(alloc, retimed, read) {
+        Ok(retimed) => Ok(Run { retimed, follower }),
+        Err(error) => {
+            drop(follower);
+            Err(F::Stop::from(error))
+        }
+    }
+}
+
+/// Takes the frames of a run that was begun: the answer for every circuit that it was begun of. A watcher is told of each look for a set
+/// and each move over one.
+///
+/// # Errors
+///
+/// What stops the follower; memory that is refused.
+pub fn finish<F: RunFollower + Drop, G: PhaseGate, V: FrameWatcher>(
+    rt: &(impl Threads + Sync),
+    alloc: Global,
+    begun: Begun<F>,
+    options: &Options,
+    crew: &Crew<G>,
+    watcher: &mut V,
+) -> Result<Run<F>, F::Stop>
+    requires { (c : Netlist) × IsBegun F.has_come options.now c begun.read begun.run.retimed
+        begun.run.follower }
+    ensures retimed { IfOk result (λ end. (c : Netlist)
+        → IsBegun F.has_come options.now c begun.read begun.run.retimed begun.run.follower
+        → IsRetimedFollowed F.has_come options.now c end.retimed end.follower) }
+    ensures told { IfOk result (λ end. Tells V.was_told watcher.old watcher.new
+        (looks_of options.now.max_frames end.retimed)) }
+{
+    let Begun { run, read } = begun;
+    let end = run_to_end(rt, alloc, run, options, crew, watcher)?;
+    match read {
+        None => Ok(end),
+        Some(read) => told(alloc, end, read),
+    }
+}

@@ -1,0 +1,115 @@
+//! What follows a run of frames from circuit to circuit, as a map of states does. It makes the cleanings itself, since it may want to know
+//! of each pass what a plain cleaning doesn't keep, and it sees each move by the marks that the move is made with, so that nothing is done
+//! twice. What it has followed so far is a relation that each follower chooses; the answer of the run doesn't depend on it.
+ghost use Rattle.std.specs.Prelude.{ℕ, ◌≡◌, ◌<◌, ◌≤◌, ⊤, All, IfOk, List, OnOk, length};
+ghost use Rattle.aig_graph.specs.Circuits.{Netlist};
+ghost use Rattle.aig_graph.specs.Closed.{IsClosedSet};
+ghost use Rattle.aig_graph.specs.Keep.{NoneMissing, names_of};
+ghost use Rattle.aig_graph.specs.Move.{move_of};
+ghost use Rattle.aig_graph.specs.Streams.{SameStreams};
+ghost use Rattle.aig_graph.specs.declared.literal.TheConstants.{MAX_VARIABLES};
+ghost use Rattle.cleaned_circuits.specs.Cleaned.{Cleans};
+ghost use Rattle.rebuild.specs.Marked.{AreMarksOf};
+ghost use Rattle.rebuild.specs.Moved.{moved_of, moved_size};
+ghost use Rattle.retimed_circuits.specs.Merging.{MergesIn};
+ghost use Rattle.retimed_circuits.specs.Names.{held_latches};
+ghost use Rattle.frames.specs.Following.{ComesOn, ComesWhole, HasComeTo};
+
+use aig_graph::{Circuit, ClosedSet, Keep, NoMemory};
+use clean::{Cleaned, clean};
+use latch_merging::{MergedStart, merged_start};
+use rebuild::MoveMarks;
+use std::alloc::Global;
+
+/// Follows a run from circuit to circuit.
+pub trait RunFollower {
+    /// Why it can't follow any further.
+    type Stop: From<NoMemory>;
+
+    /// It has come from the first circuit to the second one, whose free latches have these places among those of the first.
+    ghost has_come: { Self → Netlist → Netlist → List ℕ → Type 0 };
+
+    /// Cleans the circuit that the run has come to, as `clean::clean` does.
+    fn clean(
+        &mut self,
+        alloc: Global,
+        circuit: &Circuit,
+        keep: &Keep,
+    ) -> Result<Cleaned, Self::Stop>
+        requires there { HasComeTo has_come self.old circuit.now }
+        requires in_range { All (λ j. j < length circuit.now.aig.latches) keep.now }
+        ensures cleaned { IfOk result (λ d. Cleans d.circuit keep.now circuit.now d.kept_free) }
+        ensures comes { IfOk result (λ d. ComesOn has_come self.old self.new circuit.now d.circuit
+            d.kept_free) };
+
+    /// Cleans the circuit that was read, and merges its latches that always agree, as `latch_merging::merged_start` does.
+    fn clean_and_merge(
+        &mut self,
+        alloc: Global,
+        circuit: &Circuit,
+        names: &[Vec<u8>],
+    ) -> Result<MergedStart, Self::Stop>
+        requires there { HasComeTo has_come self.old circuit.now }
+        requires names { NoneMissing (names_of names.now) circuit.now }
+        ensures merges { IfOk result (λ m. MergesIn (names_of names.now) circuit.now m.circuit
+            m.kept_free m.counts) }
+        ensures streams { IfOk result (λ m. SameStreams circuit.now m.circuit m.kept_free) }
+        ensures held { IfOk result (λ m. held_latches (names_of names.now) m.circuit
+            ≡ held_latches (names_of names.now) circuit.now) }
+        ensures comes { IfOk result (λ m. ComesOn has_come self.old self.new circuit.now m.circuit
+            m.kept_free) };
+
+    /// Sees latches move over a closed set of the circuit that the run has come to, by the marks of the move. The moved circuit isn't
+    /// there yet.
+    fn see_move(
+        &mut self,
+        circuit: &Circuit,
+        set: &ClosedSet,
+        keep: &Keep,
+        marks: &MoveMarks,
+    ) -> Result<(), Self::Stop>
+        requires there { HasComeTo has_come self.old circuit.now }
+        requires closed { IsClosedSet circuit.now.aig keep.now set.now }
+        requires marked { AreMarksOf (move_of circuit.now keep.now set.now) marks.now }
+        requires room { moved_size (move_of circuit.now keep.now set.now) ≤ MAX_VARIABLES }
+        ensures { OnOk result (ComesWhole has_come self.old self.new circuit.now
+            (moved_of (move_of circuit.now keep.now set.now))) };
+}
+
+/// A follower that wants to know nothing: a run with it is a plain one.
+#[derive(Clone, Copy)]
+pub struct NoFollower;
+
+impl RunFollower for NoFollower {
+    type Stop = NoMemory;
+
+    ghost has_come = { λ _ _ _ _. ⊤ };
+
+    fn clean(
+        &mut self,
+        alloc: Global,
+        circuit: &Circuit,
+        keep: &Keep,
+    ) -> Result<Cleaned, NoMemory> {
+        clean(alloc, circuit, keep)
+    }
+
+    fn clean_and_merge(
+        &mut self,
+        alloc: Global,
+        circuit: &Circuit,
+        names: &[Vec<u8>],
+    ) -> Result<MergedStart, NoMemory> {
+        merged_start(alloc, circuit, names)
+    }
+
+    fn see_move(
+        &mut self,
+        _circuit: &Circuit,
+        _set: &ClosedSet,
+        _keep: &Keep,
+        _marks: &MoveMarks,
+    ) -> Result<(), NoMemory> {
+        Ok(())
+    }
+}

@@ -1,0 +1,27 @@
+use Rattle.std.proofs.Common.{ap, subst}
+use Rattle.std.proofs.lemmas.Result.{IfOk-weaker}
+use Rattle.retimed_circuits.specs.declared.report.Retimed.{Retimed}
+use Rattle.frames.specs.Stages.{Tells, looks_of}
+use Rattle.mapped_answers.proofs.MakingLaws.{same-told}
+use Rattle.mapped_answers.proofs.making.made_kept.Goals as goal
+
+pub begin-requires-clause-there : goal.begin-requires-clause-there
+begin-requires-clause-there g c = c.in_ok-identity.ensures
+
+pub begin-requires-clause-keep : goal.begin-requires-clause-keep
+begin-requires-clause-keep g c = c.requires.keep
+
+pub begin-requires-clause-names : goal.begin-requires-clause-names
+begin-requires-clause-names g c = c.requires.names
+
+pub finish-requires-after_bounds : goal.finish-requires-after_bounds
+finish-requires-after_bounds g c κs within = (c.args.circuit.now, c.in_ok-begun.ensures)
+
+pub with_map-requires : goal.with_map-requires
+with_map-requires g c = c.in_ok-end.ensures.retimed c.args.circuit.now c.in_ok-begun.ensures
+
+pub returns-clause-made : goal.returns-clause-made
+returns-clause-made g c = c.with_map.ensures.made
+
+pub returns-clause-told : goal.returns-clause-told
+returns-clause-told g c = same-told g.V.FrameWatcher.was_told c.args.options.now.max_frames c.args.watcher.now c.finish.new.watcher c.in_ok-end.end.retimed c.with_map.result c.in_ok-end.ensures.told c.with_map.ensures.same

@@ -1,0 +1,47 @@
+//! Where a start left units.
+
+use crate::sweeps::NodeMarks;
+use aig_graph::NoMemory;
+use std::alloc::Global;
+
+/// The places of the nodes at which units are left, from the first latch on.
+#[derive(Drop)]
+pub(crate) struct LeftUnits {
+    before: Vec<usize>,
+    after: Vec<usize>,
+}
+
+/// Whether a place is marked.
+fn has_mark(places: &[usize], marks: &[bool]) -> bool {
+    places
+        .iter()
+        .any(|place| marks.get(*place).copied() == Some(true))
+}
+
+impl LeftUnits {
+    /// None are left.
+    pub fn none(alloc: Global) -> LeftUnits {
+        LeftUnits {
+            before: Vec::new(alloc),
+            after: Vec::new(alloc),
+        }
+    }
+
+    /// A unit is left before the gate at a place.
+    pub fn push_before(&mut self, place: usize) -> Result<(), NoMemory> {
+        self.before.push(place)?;
+        Ok(())
+    }
+
+    /// A unit is left after a place.
+    pub fn push_after(&mut self, place: usize) -> Result<(), NoMemory> {
+        self.after.push(place)?;
+        Ok(())
+    }
+
+    /// Whether one is left at a marked node.
+    pub fn are_marked(&self, marks: &NodeMarks) -> bool {
+        has_mark(self.before.as_slice(), marks.before.as_slice())
+            || has_mark(self.after.as_slice(), marks.after.as_slice())
+    }
+}
