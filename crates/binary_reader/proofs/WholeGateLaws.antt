@@ -43,10 +43,15 @@ none_taken h raw at c bytes is here = record {
 
 -- what reading the bytes of one gate gives
 record GateRead (h : Header) (raw : Raw) (at : ℕ) (new : Contents) (bytes rest : List ℕ) : Type 0 where
+  -- the raw circuit with the gate
   pub more : Raw
+  -- the offset after it
   pub after : ℕ
+  -- the contents are those of that circuit
   pub contents : IsAt new h more
+  -- the rest ends where the bytes do
   pub place : after + length rest ≡ at + length bytes
+  -- reading the bytes is reading the rest from there
   pub read : feed (InFirst h raw at []) bytes ≡ feed (before_item h more after) rest
 
 gate_read : (h : Header) (raw : Raw) (at : ℕ) (c : Contents) (rhs0 rhs1 : ℕ) (bytes rest : List ℕ) → IsAt c h raw → BeginsWithGate (gate_literal c) rhs0 rhs1 bytes rest

@@ -1,3 +1,4 @@
+//! Gates of a binary file: one by its two deltas as they come, or all that are whole at the front of some bytes.
 use crate::delta::{GATE_BYTES, whole_gate};
 use crate::sections::Sections;
 use crate::sections::numbers::literal;
