@@ -174,8 +174,7 @@ fn have_same_widths(circuit: &Circuit, retimed: &Circuit) -> bool
 }
 
 /// What becomes of a witness, where these free latches were kept.
-fn judged_with<R: Threads + Sync>(
-    rt: &R,
+fn judged_with(
     alloc: Global,
     circuit: &Circuit,
     retimed: &Circuit,
@@ -184,7 +183,7 @@ fn judged_with<R: Threads + Sync>(
 ) -> Result<Fate, NoMemory>
     ensures { IfOk result (IsJudged circuit.now retimed.now kept.now witness) }
 {
-    match confirm(rt, alloc, circuit, retimed, kept, witness) {
+    match confirm(alloc, circuit, retimed, kept, witness) {
         Ok(Ok(confirmed)) => Ok(Fate::Confirmed(confirmed)),
         Ok(Err(objection)) => Ok(Fate::Objected(objection)),
         Err(error) => Err(error),
@@ -210,7 +209,7 @@ fn judged<'a, R: Threads + Sync>(
     let Some(kept) = places else {
         return Ok(Fate::ShapesDiffer);
     };
-    match judged_with(rt, alloc, circuit, retimed, kept.as_slice(), witness) {
+    match judged_with(alloc, circuit, retimed, kept.as_slice(), witness) {
         Ok(fate) => Ok(fate),
         Err(_) => Err(Failure::Memory),
     }

@@ -3,5 +3,5 @@ pub mod WordLaws
 pub mod ReadingLaws
 pub mod FreeLaws
 pub mod StreamLaws
-pub mod TraceLaws
+pub mod FoundLaws
 pub mod ConfirmingLaws

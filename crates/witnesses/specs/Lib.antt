@@ -8,6 +8,6 @@ pub mod Texts
 pub mod Carrying
 pub mod Runs
 pub mod Reaching
-pub mod Places
+pub mod Found
 pub mod Confirming
 pub mod Laws

@@ -1,20 +1,18 @@
 //! Whether a witness, carried back, shows in the one circuit what it shows in the other. The laws have it so where the properties
 //! of both always agree; whether two files are such a pair isn't known here, so both are simulated.
-ghost use Rattle.std.specs.Prelude.{◌≡◌, ◌∷◌, [], IfOk};
+ghost use Rattle.std.specs.Prelude.{◌≡◌, IfOk, length};
+ghost use Rattle.aig_graph.specs.Circuits.{Netlist};
 ghost use Rattle.lane_sim.specs.declared.stimulus.InputSequence.{InputSequence};
-ghost use Rattle.lane_sim.specs.Traces as traces;
 ghost use Rattle.witnesses.specs.declared.witness.Property.TheVariants.{Bad};
+ghost use Rattle.witnesses.specs.Found.{AreFound, IsFound};
 ghost use Rattle.witnesses.specs.Confirming.{is_step, with_reached, IsAgreed, IsConfirmed, IsConfirmedBack};
 
 use crate::carrying::carried_back;
-use crate::reached::first_reached;
-use crate::runs::trace_of;
+use crate::runs::steps_found;
 use crate::settling::settled_witness;
 use crate::witness::{Property, Reached, Witness};
 use aig_graph::{Circuit, NoMemory, Sequence};
-use lane_sim::Trace;
 use std::alloc::Global;
-use std::thread::Threads;
 
 /// Why a witness of a retimed circuit isn't confirmed.
 #[derive(Clone, Copy, Debug, PartialEq, Eq)]
@@ -60,23 +58,20 @@ fn is_step(found: Option<usize>, step: usize) -> bool
     }
 }
 
-/// The step at which a bad state is reached first in both circuits, by the trace of each.
+/// The step at which a bad state is reached first in both circuits, by what was found in each.
 fn agreed_step(
-    circuit: &Circuit,
-    trace: &Trace,
-    retimed: &Circuit,
-    retimed_trace: &Trace,
     number: usize,
+    found: Option<usize>,
+    retimed_found: Option<usize>,
 ) -> Result<Reached, Objection>
-    ensures { (run other : InputSequence) → trace.now ≡ traces.trace circuit.now (run ∷ [])
-        → retimed_trace.now ≡ traces.trace retimed.now (other ∷ [])
-        → IsAgreed circuit.now retimed.now run other (Bad number) result }
+    ensures { (c d : Netlist) (run other : InputSequence) → IsFound c run (Bad number) found
+        → IsFound d other (Bad number) retimed_found
+        → IsAgreed c d run other (Bad number) result }
 {
     let property = Property::Bad(number);
-    let Some(step) = first_reached(retimed, retimed_trace, number) else {
+    let Some(step) = retimed_found else {
         return Err(Objection::Unreached(property));
     };
-    let found = first_reached(circuit, trace, number);
     if is_step(found, step) {
         return Ok(Reached { property, step });
     }
@@ -85,18 +80,15 @@ fn agreed_step(
 
 /// The step at which a property fails first in both circuits.
 fn agreed(
-    circuit: &Circuit,
-    trace: &Trace,
-    retimed: &Circuit,
-    retimed_trace: &Trace,
     property: Property,
+    found: Option<usize>,
+    retimed_found: Option<usize>,
 ) -> Result<Reached, Objection>
-    ensures { (run other : InputSequence) → trace.now ≡ traces.trace circuit.now (run ∷ [])
-        → retimed_trace.now ≡ traces.trace retimed.now (other ∷ [])
-        → IsAgreed circuit.now retimed.now run other property result }
+    ensures { (c d : Netlist) (run other : InputSequence) → IsFound c run property found
+        → IsFound d other property retimed_found → IsAgreed c d run other property result }
 {
     match property {
-        Property::Bad(number) => agreed_step(circuit, trace, retimed, retimed_trace, number),
+        Property::Bad(number) => agreed_step(number, found, retimed_found),
         Property::Justice(_) => Err(Objection::Unchecked(property)),
     }
 }
@@ -104,21 +96,24 @@ fn agreed(
 /// The steps at which properties fail first in both circuits, or the first objection.
 fn all_agreed(
     alloc: Global,
-    circuit: &Circuit,
-    trace: &Trace,
-    retimed: &Circuit,
-    retimed_trace: &Trace,
     properties: &[Property],
+    found: &[Option<usize>],
+    retimed_found: &[Option<usize>],
 ) -> Result<Result<Sequence<Reached>, Objection>, NoMemory>
-    ensures { IfOk result (λ found. (run other : InputSequence)
-        → trace.now ≡ traces.trace circuit.now (run ∷ [])
-        → retimed_trace.now ≡ traces.trace retimed.now (other ∷ [])
-        → IsConfirmed circuit.now retimed.now run other properties.now found) }
+    requires found { length found.now ≡ length properties.now }
+    requires retimed { length retimed_found.now ≡ length properties.now }
+    ensures { IfOk result (λ said. (c d : Netlist) (run other : InputSequence)
+        → AreFound c run properties.now found.now
+        → AreFound d other properties.now retimed_found.now
+        → IsConfirmed c d run other properties.now said) }
 {
     let mut reached = Vec::new(alloc);
-    for property in properties {
-        match agreed(circuit, trace, retimed, retimed_trace, *property) {
-            Ok(one) => reached.push(one)?,
+    for k in 0..properties.len() {
+        let property = properties[k];
+        let one = found[k];
+        let other = retimed_found[k];
+        match agreed(property, one, other) {
+            Ok(step) => reached.push(step)?,
             Err(objection) => return Ok(Err(objection)),
         }
     }
@@ -129,7 +124,6 @@ fn all_agreed(
 /// each x: what was simulated there, and the first step at which each property fails, where that is the same in both circuits; or the
 /// first objection.
 pub fn confirm(
-    rt: &(impl Threads + Sync),
     alloc: Global,
     circuit: &Circuit,
     retimed: &Circuit,
@@ -138,13 +132,18 @@ pub fn confirm(
 ) -> Result<Result<Confirmed, Objection>, NoMemory>
     ensures { IfOk result (IsConfirmedBack circuit.now retimed.now kept.now witness) }
 {
-    let retimed_trace = trace_of(rt, alloc, retimed, &witness)?;
+    let retimed_found = steps_found(alloc, retimed, &witness)?;
     let carried = carried_back(alloc, circuit.aig(), retimed.aig(), kept, witness)?;
     let back = settled_witness(alloc, carried)?;
-    let trace = trace_of(rt, alloc, circuit, &back)?;
+    let found = steps_found(alloc, circuit, &back)?;
     let properties = back.properties.as_slice();
-    let found = all_agreed(alloc, circuit, &trace, retimed, &retimed_trace, properties)?;
-    Ok(with_reached(back, found))
+    let said = all_agreed(
+        alloc,
+        properties,
+        found.as_slice(),
+        retimed_found.as_slice(),
+    )?;
+    Ok(with_reached(back, said))
 }
 
 fn with_reached(

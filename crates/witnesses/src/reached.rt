@@ -1,80 +1,158 @@
-ghost use Rattle.std.specs.Prelude.{ℕ, ◌≡◌, ◌<◌, ◌≤◌, ◌↔◌, ◌∷◌, [], true, Some, IsTrue, MatchOption};
-ghost use Rattle.lane_sim.specs.declared.stimulus.InputSequence.{InputSequence};
-ghost use Rattle.lane_sim.specs.Traces.{at_place};
-ghost use Rattle.lane_sim.specs.Traces as traces;
-ghost use Rattle.witnesses.specs.Reaching.{IsFirstReached, NeverReached};
-ghost use Rattle.witnesses.specs.Places.{bad_place, constraint_places, AreTrue, IsFirstMet, NeverMet};
+//! At which steps bad states are reached under one sequence. The circuit is simulated a step after another, and of each the named bad states and
+//! the constraints alone are read.
+ghost use Rattle.std.specs.Prelude.{ℕ, ◌≡◌, ◌<◌, ◌↔◌, false, All, IfOk, IsTrue, List, length, map, None};
+ghost use Rattle.std.specs.List.{slice_index_or};
+ghost use Rattle.aig_graph.specs.Graph.{Graph, variable};
+ghost use Rattle.lane_sim.specs.declared.stimulus.InputSequence.{InputSequence as Sequenced};
+ghost use Rattle.lane_sim.specs.Blocks.{in_lane};
+ghost use Rattle.lane_sim.specs.Steps.{AreAt, AreFor, HoldsAt};
+ghost use Rattle.lane_sim.specs.Traces.{value_in};
+ghost use Rattle.witnesses.specs.Found.{AreFound, AreTrue, is_one_of, noted};
+ghost use Rattle.witnesses.specs.declared.witness.Property.TheVariants.{Bad};
 
 use crate::widths::bad_literals;
-use aig_graph::{Circuit, Props};
-use lane_sim::Trace;
+use crate::witness::Property;
+use aig_graph::{Circuit, Lit, NoMemory};
+use lane_sim::{InputSequence, State, Values};
+use std::alloc::Global;
 
-/// Places of a trace, from the first up to the end.
-#[derive(Clone, Copy)]
-struct Places {
-    first: usize,
-    end: usize,
-}
-
-/// The place of a bad state with this number.
-fn bad_place(props: &Props, number: usize) -> Option<usize>
-    ensures { result ≡ bad_place props.now number }
+/// Whether each of these literals is 1.
+fn are_true(values: &Values, literals: &[Lit]) -> bool
+    requires { All (λ lit. variable lit < length values.now.table.items) literals.now }
+    ensures { (g : Graph) (sequences : List Sequenced) (t : ℕ) → AreAt g sequences values.now t
+        → (IsTrue result ↔ AreTrue (value_in g (in_lane sequences 0) t) literals.now) }
 {
-    if number >= bad_literals(props).len() {
-        return None;
-    }
-    if props.bad.is_empty() {
-        Some(number)
-    } else {
-        Some(props.outputs.as_slice().len() + number)
-    }
-}
-
-/// The places of the constraints.
-fn constraint_places(props: &Props) -> Places
-    ensures { result ≡ constraint_places props.now }
-{
-    let first = props.outputs.as_slice().len() + props.bad.as_slice().len();
-    let end = first + props.constraints.as_slice().len();
-    Places { first, end }
-}
-
-/// Whether there is a 1 at each of the places, in a step of the first sequence.
-fn are_true(trace: &Trace, step: usize, places: Places) -> bool
-    ensures { IsTrue result ↔ AreTrue trace.now step places }
-{
-    for place in places.first..places.end {
-        if trace.get(0, step, place) != Some(true) {
+    for k in 0..literals.len() {
+        if !values.get(0, literals[k]) {
             return false;
         }
     }
     true
 }
 
-/// The first step of the first sequence with a 1 at a place, where there was a 1 at each of the other places up to then.
-fn first_met(trace: &Trace, place: usize, places: Places) -> Option<usize>
-    ensures { MatchOption result (NeverMet trace.now place places)
-        (IsFirstMet trace.now place places) }
+/// Whether there is a bad state with this number, and it is 1.
+fn is_one(values: &Values, bad: &[Lit], number: usize) -> bool
+    requires { All (λ lit. variable lit < length values.now.table.items) bad.now }
+    ensures { (g : Graph) (sequences : List Sequenced) (t : ℕ) → AreAt g sequences values.now t
+        → result ≡ slice_index_or (map (value_in g (in_lane sequences 0) t) bad.now) number false }
 {
-    for step in 0..trace.steps(0) {
-        if !are_true(trace, step, places) {
-            return None;
-        }
-        if trace.get(0, step, place) == Some(true) {
-            return Some(step);
-        }
+    if number < bad.len() {
+        return values.get(0, bad[number]);
     }
-    None
+    false
 }
 
-/// The first step, from 0, of a trace of one sequence at which the bad state with this number is reached: it is 1, and each constraint
-/// has been 1 up to then. In a circuit without bad states the outputs are those.
-pub fn first_reached(circuit: &Circuit, trace: &Trace, number: usize) -> Option<usize>
-    ensures { (run : InputSequence) → trace.now ≡ traces.trace circuit.now (run ∷ [])
-        → MatchOption result (NeverReached circuit.now run number)
-        (IsFirstReached circuit.now run number) }
+/// Whether a property is a bad state that is 1.
+fn is_one_of(values: &Values, bad: &[Lit], property: Property) -> bool
+    requires { All (λ lit. variable lit < length values.now.table.items) bad.now }
+    ensures { (g : Graph) (sequences : List Sequenced) (t : ℕ) → AreAt g sequences values.now t
+        → result ≡ is_one_of (map (value_in g (in_lane sequences 0) t) bad.now) property }
 {
+    match property {
+        Property::Bad(number) => is_one(values, bad, number),
+        Property::Justice(_) => false,
+    }
+}
+
+/// The step, where nothing was found before and the property is a bad state that is 1.
+fn noted(
+    found: Option<usize>,
+    values: &Values,
+    bad: &[Lit],
+    property: Property,
+    step: usize,
+) -> Option<usize>
+    requires { All (λ lit. variable lit < length values.now.table.items) bad.now }
+    ensures { (g : Graph) (sequences : List Sequenced) (t : ℕ) → AreAt g sequences values.now t
+        → result ≡ noted (map (value_in g (in_lane sequences 0) t) bad.now) step property found }
+{
+    match found {
+        Some(found) => Some(found),
+        None => {
+            if is_one_of(values, bad, property) {
+                Some(step)
+            } else {
+                None
+            }
+        }
+    }
+}
+
+/// Notes the step for each property that is reached at it first.
+fn note_step(
+    found: &mut [Option<usize>],
+    values: &Values,
+    bad: &[Lit],
+    properties: &[Property],
+    step: usize,
+)
+    requires long { length found.old ≡ length properties.now }
+    requires literals { All (λ lit. variable lit < length values.now.table.items) bad.now }
+    ensures { (g : Graph) (sequences : List Sequenced) (t : ℕ) → AreAt g sequences values.now t
+        → (i : ℕ) → i < length properties.now
+        → slice_index_or found.new i None
+        ≡ noted (map (value_in g (in_lane sequences 0) t) bad.now) step
+        (slice_index_or properties.now i (Bad 0)) (slice_index_or found.old i None) }
+{
+    for i in 0..found.len() {
+        found[i] = noted(found[i], values, bad, properties[i], step);
+    }
+}
+
+/// Simulates the circuit under the one sequence, and notes at which step each property is reached first. After a step in which a constraint is
+/// 0 nothing is reached.
+fn note_steps(
+    circuit: &Circuit,
+    sequences: &[InputSequence],
+    properties: &[Property],
+    state: &mut State,
+    values: &mut Values,
+    found: &mut [Option<usize>],
+)
+    requires one { length sequences.now ≡ 1 }
+    requires long { length found.old ≡ length properties.now }
+    requires state { HoldsAt circuit.now.aig sequences.now state.old 0 }
+    requires values { AreFor circuit.now.aig values.old }
+    requires none { (i : ℕ) → slice_index_or found.old i None ≡ None }
+    ensures { AreFound circuit.now (in_lane sequences.now 0) properties.now found.new }
+{
+    circuit.known();
+    let aig = circuit.aig();
     let props = circuit.props();
-    let place = bad_place(props, number)?;
-    first_met(trace, place, constraint_places(props))
+    for step in 0..sequences[0].steps.len() {
+        values.evaluate(aig, state, sequences, step);
+        if !are_true(values, props.constraints.as_slice()) {
+            return;
+        }
+        note_step(found, values, bad_literals(props), properties, step);
+        state.advance(aig, values);
+    }
+}
+
+/// For each property, if it is a bad state, the first step of the one sequence at which it is reached: it is 1, and each constraint has been 1
+/// up to then. In a circuit without bad states the outputs are those.
+pub(crate) fn first_steps(
+    alloc: Global,
+    circuit: &Circuit,
+    sequences: &[InputSequence],
+    properties: &[Property],
+) -> Result<Vec<Option<usize>>, NoMemory>
+    requires { length sequences.now ≡ 1 }
+    ensures many { IfOk result (λ found. length found.items ≡ length properties.now) }
+    ensures found { IfOk result (λ found. AreFound circuit.now (in_lane sequences.now 0)
+        properties.now found.items) }
+{
+    let mut found = vec![in alloc; None; properties.len()]?;
+    let mut values = Values::new(alloc, circuit.aig())?;
+    let mut state = State::new(alloc, circuit.aig())?;
+    state.open(circuit.aig(), sequences);
+    note_steps(
+        circuit,
+        sequences,
+        properties,
+        &mut state,
+        &mut values,
+        found.as_mut_slice(),
+    );
+    Ok(found)
 }

@@ -1,13 +1,13 @@
-ghost use Rattle.std.specs.Prelude.{◌≡◌, ◌∷◌, [], IfOk, map};
-ghost use Rattle.lane_sim.specs.Traces.{trace};
+ghost use Rattle.std.specs.Prelude.{◌≡◌, IfOk, length, map};
+ghost use Rattle.witnesses.specs.Found.{AreFound};
 ghost use Rattle.witnesses.specs.Runs.{is_one, run_of};
 
 use crate::free::free_digits;
+use crate::reached::first_steps;
 use crate::witness::{Digit, Witness};
 use aig_graph::{Aig, Circuit, NoMemory, Sequence};
-use lane_sim::{InputSequence, Stimulus, Trace, simulate};
+use lane_sim::InputSequence;
 use std::alloc::Global;
-use std::thread::Threads;
 
 pub(crate) fn is_one(digit: Digit) -> bool
     ensures { result ≡ is_one digit }
@@ -48,17 +48,22 @@ fn run_of(alloc: Global, aig: &Aig, witness: &Witness) -> Result<InputSequence, 
     Ok(InputSequence { choice, steps })
 }
 
-/// Simulates a circuit as a witness says, with 0 for each x.
-pub fn trace_of(
-    rt: &(impl Threads + Sync),
+/// At which step each property of a witness is reached first, where the circuit is simulated as it says, with 0 for each x.
+pub(crate) fn steps_found(
     alloc: Global,
     circuit: &Circuit,
     witness: &Witness,
-) -> Result<Trace, NoMemory>
-    ensures { IfOk result (λ found. found ≡ trace circuit.now
-        (run_of circuit.now.aig witness.now ∷ [])) }
+) -> Result<Vec<Option<usize>>, NoMemory>
+    ensures many { IfOk result (λ found. length found.items ≡ length witness.now.properties) }
+    ensures found { IfOk result (λ found. AreFound circuit.now (run_of circuit.now.aig witness.now)
+        witness.now.properties found.items) }
 {
     let mut runs = Vec::new(alloc);
     runs.push(run_of(alloc, circuit.aig(), witness)?)?;
-    simulate(rt, alloc, circuit, &Stimulus::new(runs))
+    first_steps(
+        alloc,
+        circuit,
+        runs.as_slice(),
+        witness.properties.as_slice(),
+    )
 }

@@ -1,12 +1,13 @@
-use Rattle.std.proofs.Common.{◌≡◌, ◌∷◌, [], length}
+use Rattle.std.proofs.Common.{◌≡◌, length}
+use Rattle.aig_graph.specs.Circuits.{Netlist}
 use Rattle.lane_sim.specs.declared.stimulus.InputSequence.{InputSequence}
-use Rattle.lane_sim.specs.Traces as traces
 use Rattle.witnesses.specs.Confirming.{AgreeEach}
+use Rattle.witnesses.specs.Found.{AreFound}
 use Rattle.witnesses.proofs.confirming.all_agreed.Given as goal
 
-abbrev pub invariant-loop-property : goal.invariant-loop-property
-invariant-loop-property l = record {
-  many : length l.reached.items ≡ l.property-index;
-  each : (run other : InputSequence) → l.trace ≡ traces.trace l.circuit (run ∷ []) → l.retimed_trace ≡ traces.trace l.retimed (other ∷ [])
-      → AgreeEach l.circuit l.retimed run other l.properties l.reached.items;
+abbrev pub invariant-loop-k : goal.invariant-loop-k
+invariant-loop-k l = record {
+  many : length l.reached.items ≡ l.k;
+  each : (c d : Netlist) (run other : InputSequence) → AreFound c run l.properties l.found → AreFound d other l.properties l.retimed_found
+      → AgreeEach c d run other l.properties l.reached.items;
 }
