@@ -6,7 +6,7 @@ import shlex
 import generators
 
 PARTS = {
-    'run', 'stdin', 'file', 'hex', 'escaped', 'made', 'folder', 'beginnings', 'pieces', 'limit', 'seconds',
+    'run', 'stdin', 'file', 'hex', 'escaped', 'made', 'folder', 'link', 'second', 'beginnings', 'pieces', 'limit', 'seconds',
     'status', 'stdout', 'stderr', 'after', 'absent', 'blocks', 'verified',
 }
 

@@ -5,6 +5,7 @@ import sys
 from reference.certificates import audit, certificates, first_difference, read_blocks, written
 from reference.checks import are_fitting, checked, is_map
 from reference.circuit import text
+from reference.clashes import clash
 from reference.lifts import NoSuchLiteral, lifted
 from reference.maps import state_map
 from reference.merging import merge_counts
@@ -51,21 +52,22 @@ def names_in(path):
 
 
 def with_names(words):
-    """The words, each file of names replaced by the names in it."""
-    found, rest = [], iter(words)
+    """The words, each file of names replaced by the names in it, and the paths of these files."""
+    found, files, rest = [], [], iter(words)
     for word in rest:
         option, equals, path = word.partition('=')
         path = path if equals else next(rest, None) if option == '--keep-from' else None
         if option == '--keep-from' and path is not None:
             found += [f'--keep={name}' for name in names_in(path)]
+            files.append(path)
         else:
             found.append(word)
-    return found
+    return found, files
 
 
 def parsed(words):
     """The command, its paths and its options; each option has the list of its values."""
-    words = with_names(words)
+    words, name_files = with_names(words)
     command, paths, options = words[0] if words else None, [], {}
     if any(not os.fsencode(word).decode(errors='replace') == word for word in words):
         raise Ends(2, 'error: an argument is not UTF-8')
@@ -101,9 +103,9 @@ def parsed(words):
     printed = ['-'] if command == 'sim' else []
     if (outputs + printed + beside(options)).count('-') > 1:
         raise Ends(2, 'error: standard output is written once')
-    files = [path for path in beside(options) if path != '-']
-    if set(paths) & set(files) or len(files) != len(set(files)):
-        raise Ends(2, 'error: what is written beside a circuit has a file of its own')
+    said = clash(command, paths, options, name_files)
+    if said:
+        raise Ends(2, f'error: {said}')
     return command, paths, options
 
 

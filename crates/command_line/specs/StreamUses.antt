@@ -1,10 +1,8 @@
--- How often a task uses each standard stream, and what it writes over.
-use Rattle.std.specs.Prelude.{ℕ, ◌≡◌, ◌≤◌, ◌||◌, Bool, false, List, [], ◌∷◌, Option, Some, None}
+-- How often a task uses each standard stream.
+use Rattle.std.specs.Prelude.{◌≤◌, ◌||◌, Bool, false, List, [], ◌∷◌, Option, Some, None}
 use Rattle.std.specs.List.{count_by}
-use Rattle.std.specs.Str.{bytes_eq}
 use Rattle.stream_paths.specs.Streams.{is_stdin, is_stdout}
 use Rattle.stream_paths.specs.declared.source.Source.{Source}
-use Rattle.stream_paths.specs.declared.source.Source.TheVariants as sources
 use Rattle.stream_paths.specs.declared.target.Target.{Target}
 use Rattle.stream_paths.specs.declared.target.Target.TheVariants as targets
 use Rattle.command_line.specs.declared.task.Asking.{Asking}
@@ -92,71 +90,10 @@ targets_of (Dot drawing) = drawing.output ∷ []
 targets_of (Witness carrying) = []
 targets_of (Explain name) = []
 
--- whether the file with this path is read
-abbrev pub is_read_from : List ℕ → Source → Bool
-is_read_from path sources.Stdin = false
-is_read_from path (sources.File other) = bytes_eq other.now path
-
--- whether the file with this path is written
-abbrev pub is_written_to : List ℕ → Target → Bool
-is_written_to path targets.Stdout = false
-is_written_to path (targets.File other) = bytes_eq other.now path
-
--- whether something goes to the file of the circuit, the one that is read or the one that is written
-abbrev pub covers : Retiming → Option Target → Bool
-covers retiming None = false
-covers retiming (Some targets.Stdout) = false
-covers retiming (Some (targets.File path)) = is_read_from path.now retiming.input || is_written_to path.now retiming.output
-
--- whether two things go to one file
-abbrev pub are_one_file : Option Target → Option Target → Bool
-are_one_file None second = false
-are_one_file (Some targets.Stdout) second = false
-are_one_file (Some (targets.File path)) None = false
-are_one_file (Some (targets.File path)) (Some other) = is_written_to path.now other
-
--- whether something goes to the file of something that is read
-abbrev pub is_over : Option Target → Source → Bool
-is_over None source = false
-is_over (Some targets.Stdout) source = false
-is_over (Some (targets.File path)) source = is_read_from path.now source
-
--- so to the file of a stimulus, where it is read
-abbrev pub is_over_stimulus : Option Target → Stimuli → Bool
-is_over_stimulus target (Read source) = is_over target source
-is_over_stimulus target (Random sequences) = false
-
--- whether waves go to the file of the circuit or of the stimulus
-abbrev pub covers_simulated : Simulation → Bool
-covers_simulated simulation = is_over simulation.waves simulation.input || is_over_stimulus simulation.waves simulation.stimuli
-
--- whether the certificate of a miter goes to the file of a circuit, of the map, or of the miter
-abbrev pub covers_asked : Asking → Bool
-covers_asked asking = is_over asking.certificate asking.input || is_over asking.certificate asking.retimed || is_over asking.certificate asking.map
-    || are_one_file asking.certificate (Some asking.output)
-
--- whether a map, certificates or waves go to a file that is read or written beside them
-abbrev pub covers_circuit : Task → Bool
-covers_circuit (Retime retiming) = covers retiming retiming.certificates || covers retiming retiming.map || are_one_file retiming.map retiming.certificates
-covers_circuit (Batch batch) = false
-covers_circuit (Stat counting) = false
-covers_circuit (Convert input output spelling) = false
-covers_circuit (Sim simulation) = covers_simulated simulation
-covers_circuit (Same comparison) = false
-covers_circuit (Verify verification) = false
-covers_circuit (Check checking) = false
-covers_circuit (Miter asking) = covers_asked asking
-covers_circuit (Lift lifting) = false
-covers_circuit (Dot drawing) = false
-covers_circuit (Witness carrying) = false
-covers_circuit (Explain name) = false
-
--- standard input is read once at most, and standard output written once, but for printed lines beside that; and a map, certificates
--- and waves have files of their own
+-- standard input is read once at most, and standard output written once, but for printed lines beside that
 pub record UsesStreamsOnce (task : Task) : Type 0 where
   pub stdin : count_by is_stdin (sources_of task) ≤ 1
   pub stdout : count_by is_stdout (targets_of task) ≤ 1
-  pub apart : covers_circuit task ≡ false
 
 -- whether something that is written where it is asked for goes to standard output
 abbrev pub writes_stdout : Option Target → Bool

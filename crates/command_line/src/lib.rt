@@ -5,12 +5,14 @@ mod argument;
 mod arguments;
 mod parse;
 mod program;
+mod refusing;
 mod stream_uses;
 mod subcommands;
 mod task;
 mod texts;
 
 pub use parse::parse_arguments;
+pub use refusing::command_error;
 pub use task::{
     Asking, Batch, Carrying, Checking, Comparison, Counting, Drawing, Lifting, Retiming, Sequences,
     Shown, Simulation, Stimuli, Task, Verification,

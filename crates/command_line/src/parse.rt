@@ -6,6 +6,7 @@ ghost use Rattle.command_line.specs.Asking.{AreSequences, AreStimuli, Asks, IsCh
 ghost use Rattle.command_line.specs.StreamUses.{UsesStreamsOnce};
 
 use crate::program::program;
+use crate::refusing::command_error;
 use crate::stream_uses::stream_conflict;
 use crate::task::{
     Asking, Batch, Carrying, Checking, Comparison, Counting, Drawing, Lifting, Retiming, Sequences,
@@ -446,21 +447,17 @@ fn asked_of<'a>(
     }
 }
 
-/// An error of this kind that says this.
-fn usage_error(program: &mut Command<'_>, kind: ErrorKind, message: &str) -> Error {
-    match program.error(kind, message) {
-        Ok(error) => error,
-        Err(error) => Error::from(error),
-    }
-}
-
 /// The task, where it has one use at most for each standard stream, else what is wrong.
-fn with_streams_once<'a>(program: &mut Command<'a>, task: Task<'a>) -> Result<Task<'a>, Error>
+fn with_streams_once<'a>(alloc: Global, task: Task<'a>) -> Result<Task<'a>, Error>
     ensures { IfOk result UsesStreamsOnce }
 {
     match stream_conflict(&task) {
         None => Ok(task),
-        Some(message) => Err(usage_error(program, ErrorKind::ArgumentConflict, message)),
+        Some(message) => {
+            let name = task.command();
+            drop(task);
+            Err(command_error(alloc, name, ErrorKind::ArgumentConflict, message))
+        }
     }
 }
 
@@ -473,10 +470,10 @@ fn task_asked_of<'a>(
     ensures { IfOk result UsesStreamsOnce }
 {
     match asked_of(alloc, program, words) {
-        Ok(Some(task)) => with_streams_once(program, task),
+        Ok(Some(task)) => with_streams_once(alloc, task),
         Ok(None) => {
             let message = "there is nothing to do";
-            Err(usage_error(program, ErrorKind::MissingSubcommand, message))
+            Err(command_error(alloc, "", ErrorKind::MissingSubcommand, message))
         }
         Err(error) => Err(error),
     }

@@ -75,7 +75,10 @@ fn with_stimulus<'a>(
 }
 
 /// A command, whose help is shown where it is given nothing.
-fn command_of<'a>(alloc: Global, subcommand: &Subcommand) -> Result<Command<'a>, AllocError> {
+pub(crate) fn command_of<'a>(
+    alloc: Global,
+    subcommand: &Subcommand,
+) -> Result<Command<'a>, AllocError> {
     let command = Command::new(alloc, subcommand.name)
         .about(subcommand.about)
         .arg_required_else_help(true);

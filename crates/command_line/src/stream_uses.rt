@@ -1,9 +1,8 @@
-//! Standard input is read once, and standard output written once. A map, certificates and waves are written last, so on the circuit's
-//! own file they would take its place.
+//! Standard input is read once, and standard output written once.
 ghost use Rattle.std.specs.Prelude.{◌≡◌, ◌≤◌, IfNone};
 ghost use Rattle.std.specs.List.{count_by};
 ghost use Rattle.stream_paths.specs.Streams.{is_stdin, is_stdout};
-ghost use Rattle.command_line.specs.StreamUses.{UsesStreamsOnce, are_one_file, asking_targets, covers, covers_asked, covers_circuit, covers_simulated, is_over, is_read_from, is_written_to, retiming_targets, simulation_targets, sources_of, sources_of_comparison, sources_of_lifting, sources_of_simulation, sources_of_verification, targets_of};
+ghost use Rattle.command_line.specs.StreamUses.{UsesStreamsOnce, asking_targets, retiming_targets, simulation_targets, sources_of, sources_of_comparison, sources_of_lifting, sources_of_simulation, sources_of_verification, targets_of};
 ghost use Rattle.command_line.specs.StreamUses as wanted;
 
 use crate::task::{Asking, Comparison, Lifting, Retiming, Simulation, Stimuli, Task, Verification};
@@ -139,102 +138,6 @@ fn stdout_uses(task: &Task<'_>) -> usize
     }
 }
 
-fn is_read_from(path: &str, source: Source<'_>) -> bool
-    ensures { result ≡ is_read_from path.now source.entry }
-{
-    match source {
-        Source::Stdin => false,
-        Source::File(other) => other == path,
-    }
-}
-
-fn is_written_to(path: &str, target: Target<'_>) -> bool
-    ensures { result ≡ is_written_to path.now target.entry }
-{
-    match target {
-        Target::Stdout => false,
-        Target::File(other) => other == path,
-    }
-}
-
-/// Whether something is written over the circuit, that which is read or that which is written.
-fn covers(retiming: &Retiming<'_>, target: Option<Target<'_>>) -> bool
-    ensures { result ≡ covers retiming.now target.entry }
-{
-    match target {
-        Some(Target::File(path)) => {
-            is_read_from(path, retiming.input) || is_written_to(path, retiming.output)
-        }
-        Some(Target::Stdout) | None => false,
-    }
-}
-
-/// Whether two things go to one file.
-fn are_one_file(first: Option<Target<'_>>, second: Option<Target<'_>>) -> bool
-    ensures { result ≡ are_one_file first.entry second.entry }
-{
-    match (first, second) {
-        (Some(Target::File(path)), Some(other)) => is_written_to(path, other),
-        _ => false,
-    }
-}
-
-/// Whether something is written over something that is read.
-fn is_over(target: Option<Target<'_>>, source: Source<'_>) -> bool
-    ensures { result ≡ is_over target.entry source.entry }
-{
-    match target {
-        Some(Target::File(path)) => is_read_from(path, source),
-        Some(Target::Stdout) | None => false,
-    }
-}
-
-/// Whether waves are written over the circuit or the stimulus.
-fn covers_simulated(simulation: &Simulation<'_>) -> bool
-    ensures { result ≡ covers_simulated simulation.now }
-{
-    is_over(simulation.waves, simulation.input)
-        || match simulation.stimuli {
-            Stimuli::Read(stimulus) => is_over(simulation.waves, stimulus),
-            Stimuli::Random(_) => false,
-        }
-}
-
-/// Whether the certificate of a miter is written over what is read, or over the miter.
-fn covers_asked(asking: &Asking<'_>) -> bool
-    ensures { result ≡ covers_asked asking.now }
-{
-    is_over(asking.certificate, asking.input)
-        || is_over(asking.certificate, asking.retimed)
-        || is_over(asking.certificate, asking.map)
-        || are_one_file(asking.certificate, Some(asking.output))
-}
-
-/// Whether a task writes a map, certificates or waves over a circuit, that which it reads or that which it writes, or over each other.
-fn covers_circuit(task: &Task<'_>) -> bool
-    ensures { result ≡ covers_circuit task.now }
-{
-    match task {
-        Task::Retime(retiming) => {
-            covers(retiming, retiming.certificates)
-                || covers(retiming, retiming.map)
-                || are_one_file(retiming.map, retiming.certificates)
-        }
-        Task::Sim(simulation) => covers_simulated(simulation),
-        Task::Miter(asking) => covers_asked(asking),
-        Task::Batch(_)
-        | Task::Stat(_)
-        | Task::Convert(_, _, _)
-        | Task::Same(_)
-        | Task::Verify(_)
-        | Task::Dot(_)
-        | Task::Witness(_)
-        | Task::Check(_)
-        | Task::Lift(_)
-        | Task::Explain(_) => false,
-    }
-}
-
 /// What is said of a task that writes standard output twice.
 fn stdout_message(task: &Task<'_>) -> &'static str {
     match task {
@@ -248,20 +151,7 @@ fn stdout_message(task: &Task<'_>) -> &'static str {
     }
 }
 
-/// What is said of a task that writes something over a file that it reads or writes.
-fn cover_message(task: &Task<'_>) -> &'static str {
-    match task {
-        Task::Sim(_) => "waves have a file of their own: it can't be that of IN or STIM",
-        Task::Miter(_) => {
-            "a certificate has a file of its own: it can't be that of IN, OUT, MAP or MITER"
-        }
-        _ => {
-            "a map and certificates have files of their own: neither can be that of IN or OUT, nor both one"
-        }
-    }
-}
-
-/// What is wrong where a task has more than one use for a standard stream, or a map, certificates or waves have no file of their own.
+/// What is wrong where a task has more than one use for a standard stream.
 pub(crate) fn stream_conflict(task: &Task<'_>) -> Option<&'static str>
     ensures { IfNone result (UsesStreamsOnce task.now) }
 {
@@ -269,8 +159,6 @@ pub(crate) fn stream_conflict(task: &Task<'_>) -> Option<&'static str>
         Some("standard input is read once: '-' can stand for one of these files only")
     } else if stdout_uses(task) > 1 {
         Some(stdout_message(task))
-    } else if covers_circuit(task) {
-        Some(cover_message(task))
     } else {
         None
     }

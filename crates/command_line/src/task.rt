@@ -1,5 +1,8 @@
 //! What a command line asks for, without how that was written: the words of options and their defaults are known in this crate
 //! alone. Paths and names are slices of the arguments, so a task takes memory for a list of names only.
+ghost use Rattle.std.specs.Prelude.{◌≡◌};
+ghost use Rattle.command_line.specs.Asking.{command_of};
+
 use aig_graph::Choice;
 use file_words::Spelling;
 use stream_paths::{Source, Target};
@@ -249,4 +252,27 @@ pub enum Task<'a> {
     Witness(Carrying<'a>),
     /// Print the page of the fault with this name.
     Explain(&'a str),
+}
+
+impl Task<'_> {
+    /// The word for the command.
+    pub fn command(&self) -> &'static str
+        ensures { result.now ≡ command_of self.now }
+    {
+        match self {
+            Task::Retime(_) => "retime",
+            Task::Batch(_) => "batch",
+            Task::Stat(_) => "stat",
+            Task::Convert(_, _, _) => "convert",
+            Task::Sim(_) => "sim",
+            Task::Same(_) => "same",
+            Task::Verify(_) => "verify",
+            Task::Check(_) => "check",
+            Task::Miter(_) => "miter",
+            Task::Lift(_) => "lift",
+            Task::Dot(_) => "dot",
+            Task::Witness(_) => "witness",
+            Task::Explain(_) => "explain",
+        }
+    }
 }

@@ -9,7 +9,10 @@ pub(crate) const LONG_ABOUT: &str =
 Circuits are files in the formats of AIGER 1.9, ASCII (aag) or binary (aig).
 
 '-' is standard input where a file is read, and standard output where a file is
-written. A file of that name is './-'.";
+written. A file of that name is './-'.
+
+What is written has a file of its own, by whatever paths files are named. A
+circuit may take the place of the one that it is made of, and of no other.";
 
 pub(crate) const EXAMPLE: &str = "Example:
   fretime retime counter.aag smaller.aag
@@ -69,13 +72,14 @@ Exit status: 0 done, 1 IN is no circuit or has no such latch, 2 command line,
 pub(crate) const BATCH_ABOUT: &str = "Retimes the circuits of a list, many at once";
 
 pub(crate) const BATCH_LONG_ABOUT: &str =
-    "Reads a list of circuits, retimes each as 'retime' does, and writes each to a
-file of its own.
+    "Reads a list of circuits, retimes each as 'retime' does, and writes each to its
+file.
 
 A line of LIST is the path of a circuit, a tab, and the path of the file to
 write. All circuits are read before the first is retimed. The workers take them
 one at a time; what is written is the same for every number of workers. In a
-line '-' is a file of that name.";
+line '-' is a file of that name. Of two circuits that are written to one file
+the later one stands.";
 
 pub(crate) const BATCH_EXAMPLE: &str =
     "It prints a line for each circuit, in the order of the list, once its file is

@@ -4,3 +4,4 @@ pub mod Answers
 pub mod Runs
 pub mod Explaining
 pub mod Names
+pub mod Apart

@@ -5,6 +5,7 @@
 mod answers;
 mod batch;
 mod batch_object;
+mod clashes;
 mod explaining;
 mod name_files;
 mod reporting;

@@ -149,6 +149,19 @@ fn or_memory<'a>(pushed: Result<(), AllocError>) -> Result<(), Failure<'a>>
     }
 }
 
+/// The path that the word at this place names, or the word after it, and the place after that. An option without a path names
+/// none.
+fn file_at(words: &[String], place: usize) -> Option<(&str, usize)> {
+    let word = words.get(place)?.as_str();
+    if let Some(path) = word.strip_prefix(OPTION_WITH_VALUE) {
+        return Some((path, place + 1));
+    }
+    match words.get(place + 1) {
+        Some(path) if word == OPTION => Some((path.as_str(), place + 2)),
+        _ => None,
+    }
+}
+
 /// Appends the words, each file's names in its place. An option without a path stays, and is refused by whoever parses the words.
 fn push_words<'a, R: Files>(
     rt: &R,
@@ -161,18 +174,34 @@ fn push_words<'a, R: Files>(
         if k < place {
             continue;
         }
-        place = k + 1;
-        let word = words[k].as_str();
-        if let Some(path) = word.strip_prefix(OPTION_WITH_VALUE) {
+        if let Some((path, next)) = file_at(words, k) {
             push_names(rt, alloc, path, all)?;
-        } else if word == OPTION && place < words.len() {
-            push_names(rt, alloc, words[place].as_str(), all)?;
-            place += 1;
+            place = next;
         } else {
-            or_memory(push_word(alloc, word, all))?;
+            or_memory(push_word(alloc, words[k].as_str(), all))?;
+            place = k + 1;
         }
     }
     Ok(())
+}
+
+/// The paths of the files of names, in their order.
+pub(crate) fn files_named<'a>(
+    alloc: Global,
+    words: &'a [String],
+) -> Result<Vec<&'a str>, AllocError> {
+    let mut files = Vec::new(alloc);
+    let mut place: usize = 0;
+    for k in 0..words.len() {
+        if k < place {
+            continue;
+        }
+        if let Some((path, next)) = file_at(words, k) {
+            files.push(path)?;
+            place = next;
+        }
+    }
+    Ok(files)
 }
 
 /// Whether a word names a file.

@@ -9,6 +9,7 @@ ghost use Rattle.circuit_files.specs.declared.outcome.Outcome.TheVariants.{Done,
 ghost use Rattle.fretime.specs.Runs.{Does, MayGive, MayPrint, PrintsFilesOrRefusal, PrintsShapes};
 
 use crate::batch::retime_list;
+use crate::clashes::clash_error;
 use crate::explaining::explain;
 use crate::name_files::words_with_names;
 use crate::reporting::{report_failure, reported};
@@ -91,6 +92,15 @@ fn report_usage<E: CountedWrite>(error: &Error, err: &mut E) -> Outcome
     }
 }
 
+/// The same, and lets it go.
+fn refuse_line<E: CountedWrite>(error: Error, err: &mut E) -> Outcome
+    ensures { (result ≡ Done) ⊎ (result ≡ CommandLine) ⊎ (result ≡ Memory) }
+{
+    let outcome = report_usage(&error, err);
+    drop(error);
+    outcome
+}
+
 /// Reports that the command-line arguments can't be read (out of memory, or not UTF-8), and returns the exit status. A
 /// failed write changes nothing.
 pub fn report_unreadable_arguments<E: CountedWrite>(error: &io::Error, err: &mut E) -> u8
@@ -128,11 +138,20 @@ fn finish_task<
     reported(rt, alloc, task, ended, is_terminal, out, err)
 }
 
-/// Does what the arguments ask for, which name no file of names, and returns how the run ends.
+/// The words of a command line.
+#[derive(Clone, Copy)]
+struct Words<'w> {
+    /// As they were given.
+    given: &'w [String],
+    /// With the names of files of names in place of these.
+    named: &'w [String],
+}
+
+/// Does what the arguments ask for, unless two of their files are one, and returns how the run ends.
 fn run_named<R: Files + Threads + Sync + Clock, I: CountedRead, O: CountedWrite, E: CountedWrite>(
     rt: &R,
     alloc: Global,
-    words: &[String],
+    words: &Words<'_>,
     is_terminal: bool,
     stdin: &mut I,
     out: &mut O,
@@ -140,17 +159,16 @@ fn run_named<R: Files + Threads + Sync + Clock, I: CountedRead, O: CountedWrite,
 ) -> Outcome
     ensures { MayPrint result (O.output out.old) (O.output out.new) }
 {
-    match parse_arguments(alloc, words) {
+    match parse_arguments(alloc, words.named) {
         Ok(task) => {
-            let outcome = finish_task(rt, alloc, &task, is_terminal, stdin, out, err);
+            let outcome = match clash_error(rt, alloc, &task, words.given) {
+                Some(error) => refuse_line(error, err),
+                None => finish_task(rt, alloc, &task, is_terminal, stdin, out, err),
+            };
             drop(task);
             outcome
         }
-        Err(error) => {
-            let outcome = report_usage(&error, err);
-            drop(error);
-            outcome
-        }
+        Err(error) => refuse_line(error, err),
     }
 }
 
@@ -174,12 +192,22 @@ fn run_command<R: Files + Threads + Sync + Clock, I: CountedRead, O: CountedWrit
 ) -> Outcome
     ensures { MayPrint result (O.output out.old) (O.output out.new) }
 {
-    let words = without_flag_of_help(words);
-    match words_with_names(rt, alloc, words) {
-        Ok(None) => run_named(rt, alloc, words, is_terminal, stdin, out, err),
-        Ok(Some(all)) => {
-            let outcome = run_named(rt, alloc, all.as_slice(), is_terminal, stdin, out, err);
-            drop(all);
+    let given = without_flag_of_help(words);
+    match words_with_names(rt, alloc, given) {
+        Ok(None) => {
+            let words = Words {
+                given,
+                named: given,
+            };
+            run_named(rt, alloc, &words, is_terminal, stdin, out, err)
+        }
+        Ok(Some(named)) => {
+            let words = Words {
+                given,
+                named: named.as_slice(),
+            };
+            let outcome = run_named(rt, alloc, &words, is_terminal, stdin, out, err);
+            drop(named);
             outcome
         }
         Err(failure) => report_failure(failure, err),

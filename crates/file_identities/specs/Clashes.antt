@@ -1,0 +1,93 @@
+-- Which files of a command line can't be one file, and the first two of them that are.
+use Rattle.std.specs.Prelude.{ℕ, ◌≡◌, ◌==◌, ◌&&◌, ◌||◌, ◌++◌, not, Bool, true, false, List, [], ◌∷◌, Option, Some, None, All, map, option_map, if◌then◌else◌}
+use Rattle.std.specs.Borrow.{Bor}
+use Rattle.std.specs.List.{find}
+use Rattle.std.specs.Option.{option_or}
+use Rattle.std.specs.Str.{bytes_eq}
+use Rattle.std.specs.String.{string_bytes}
+use Rattle.command_line.specs.declared.task.Task.{Task}
+use Rattle.file_identities.specs.FileUses.{name_file, read_by, written_by}
+use Rattle.file_identities.specs.declared.clash.FileClash.{FileClash}
+use Rattle.file_identities.specs.declared.clash.FileClash.TheVariants.{WrittenTwice, WrittenOver}
+use Rattle.file_identities.specs.declared.file_use.FileUse.{FileUse}
+use Rattle.file_identities.specs.declared.file_use.Place.{Place}
+use Rattle.file_identities.specs.declared.file_use.Place.TheVariants as places
+use Rattle.file_identities.specs.declared.file_use.Role.{Role}
+use Rattle.file_identities.specs.declared.file_use.Role.TheVariants as roles
+use Rattle.file_identities.specs.declared.identity.Asked.{Asked}
+use Rattle.file_identities.specs.declared.identity.Identity.{Identity}
+use Rattle.file_identities.specs.declared.identity.Keeping.{Keeping}
+use Rattle.file_identities.specs.declared.identity.Keeping.TheVariants.{Bytes, Pipe, Device}
+
+abbrev pub is_written : Role → Bool
+is_written roles.Original = false
+is_written roles.Read = false
+is_written roles.Remade = true
+is_written roles.Written = true
+
+-- whether what is written may take the place of what is read
+abbrev pub replaces : Role → Role → Bool
+replaces roles.Remade roles.Original = true
+replaces written other = false
+
+abbrev pub is_stream : Place → Bool
+is_stream places.Stdin = true
+is_stream places.Stdout = true
+is_stream (places.File path) = false
+
+-- whether something is lost where the first of two, which is written, and the second are one file
+abbrev pub loses : Keeping → FileUse → FileUse → Bool
+loses Bytes first second = not (replaces first.role second.role)
+loses Pipe first second = is_written second.role
+loses Device first second = is_written second.role && (is_stream first.place || is_stream second.place)
+
+-- whether two paths lead to one file, or to one that would be made
+abbrev pub is_same : Identity → Identity → Bool
+is_same first second =
+    first.device == second.device && (first.node == second.node && bytes_eq (string_bytes first.name) (string_bytes second.name))
+
+-- so by what the file system answered, where it did
+abbrev pub clash_at : FileUse → FileUse → Option Identity → Option Identity → Bool
+clash_at first second (Some one) (Some other) = is_same one other && loses one.keeping first second
+clash_at first second (Some one) None = false
+clash_at first second None other = false
+
+-- whether two files, of which the first is written, can't be one and are
+abbrev pub clash : Asked → Asked → Bool
+clash first second = clash_at first.file second.file first.identity second.identity
+
+-- what is said of them
+abbrev pub clash_of : Asked → Asked → FileClash
+clash_of first second =
+    if is_written second.file.role then WrittenTwice first.file second.file else WrittenOver first.file second.file
+
+-- the first of some files that clashes with one that is written
+abbrev pub clash_among : Asked → List Asked → Option FileClash
+clash_among first others = option_map (clash_of first) (find (clash first) others)
+
+-- so of those that are written after it, else of those that are read
+abbrev pub clash_with : Asked → List Asked → List Asked → Option FileClash
+clash_with first later read = option_or (clash_among first later) (clash_among first read)
+
+-- the first file that is written and clashes with one that is written after it, or with one that is read
+abbrev pub first_clash : List Asked → List Asked → Option FileClash
+first_clash [] read = None
+first_clash (first ∷ later) read = option_or (clash_with first later read) (first_clash later read)
+
+-- no file that is written clashes with one that is written after it, or with one that is read
+abbrev pub AreApart : List Asked → List Asked → Type 0
+AreApart [] read = Unit {0}
+AreApart (first ∷ later) read =
+    All (λ other. clash first other ≡ false) later × (All (λ other. clash first other ≡ false) read × AreApart later read)
+
+-- the files are all that a task writes and reads, with those of names
+pub record AreFilesOf (task : Task) (names : List (Bor (List ℕ))) (written read : List Asked) : Type 0 where
+  pub writes : map (λ asked. asked.file) written ≡ written_by task
+  pub reads : map (λ asked. asked.file) read ≡ read_by task ++ map name_file names
+
+-- the first clash of a task's files, by some answers of the file system
+pub record IsClashOf (task : Task) (names : List (Bor (List ℕ))) (found : Option FileClash) : Type 0 where
+  pub written : List Asked
+  pub read : List Asked
+  pub are : AreFilesOf task names written read
+  pub first : found ≡ first_clash written read

@@ -1,0 +1,116 @@
+-- The files that a task reads and writes, with the argument that names each, and what it is there for.
+use Rattle.std.specs.Prelude.{ℕ, List, [], ◌∷◌, Option, Some, None, if◌then◌else◌}
+use Rattle.std.specs.Borrow.{Bor}
+use Rattle.std.specs.List.{flat_map}
+use Rattle.std.specs.Option.{option_to_list}
+use Rattle.stream_paths.specs.declared.source.Source.{Source}
+use Rattle.stream_paths.specs.declared.source.Source.TheVariants as sources
+use Rattle.stream_paths.specs.declared.target.Target.{Target}
+use Rattle.stream_paths.specs.declared.target.Target.TheVariants as targets
+use Rattle.command_line.specs.StreamUses.{takes_stdout}
+use Rattle.command_line.specs.declared.task.Asking.{Asking}
+use Rattle.command_line.specs.declared.task.Lifting.{Lifting}
+use Rattle.command_line.specs.declared.task.Retiming.{Retiming}
+use Rattle.command_line.specs.declared.task.Stimuli.{Stimuli}
+use Rattle.command_line.specs.declared.task.Stimuli.TheVariants as stimuli
+use Rattle.command_line.specs.declared.task.Task.{Task}
+use Rattle.command_line.specs.declared.task.Task.TheVariants.{Retime, Batch, Stat, Convert, Sim, Same, Verify, Check, Miter, Lift, Dot, Witness, Explain}
+use Rattle.file_identities.specs.declared.file_use.Argument.{Argument}
+use Rattle.file_identities.specs.declared.file_use.Argument.TheVariants.{In, Out, Map, MapOption, Cert, Stim, Vcd, MiterFile, Certificate, WitnessFile, ResultFile, KeepFrom, Printed}
+use Rattle.file_identities.specs.declared.file_use.Role.TheVariants as roles
+use Rattle.file_identities.specs.declared.file_use.Place.{Place}
+use Rattle.file_identities.specs.declared.file_use.Place.TheVariants as places
+use Rattle.file_identities.specs.declared.file_use.FileUse.{FileUse}
+
+abbrev pub place_of_source : Source → Place
+place_of_source sources.Stdin = places.Stdin
+place_of_source (sources.File path) = places.File path
+
+abbrev pub place_of_target : Target → Place
+place_of_target targets.Stdout = places.Stdout
+place_of_target (targets.File path) = places.File path
+
+-- a file that is read
+abbrev pub reading : Argument → Source → FileUse
+reading argument source = record { argument = argument; role = roles.Read; place = place_of_source source }
+
+-- the circuit that what is written is made of, whose place that may take
+abbrev pub original : Argument → Source → FileUse
+original argument source = record { argument = argument; role = roles.Original; place = place_of_source source }
+
+-- a circuit that is made of another one
+abbrev pub remade : Argument → Target → FileUse
+remade argument target = record { argument = argument; role = roles.Remade; place = place_of_target target }
+
+-- a file that is written, and takes the place of nothing
+abbrev pub writing : Argument → Target → FileUse
+writing argument target = record { argument = argument; role = roles.Written; place = place_of_target target }
+
+-- so, where it is asked for
+abbrev pub writing_if_asked : Argument → Option Target → Option FileUse
+writing_if_asked argument None = None
+writing_if_asked argument (Some target) = Some (writing argument target)
+
+-- what is printed on standard output
+abbrev pub printed : FileUse
+printed = record { argument = Printed; role = roles.Written; place = places.Stdout }
+
+-- the lines of a retiming, unless they go to standard error
+abbrev pub printed_by : Retiming → Option FileUse
+printed_by retiming = if takes_stdout retiming then None else Some printed
+
+-- a stimulus, where one is read
+abbrev pub stimulus_of : Stimuli → Option FileUse
+stimulus_of (stimuli.Read source) = Some (reading Stim source)
+stimulus_of (stimuli.Random sequences) = None
+
+-- the file of names of an option that names one
+abbrev pub name_file : Bor (List ℕ) → FileUse
+name_file path = record { argument = KeepFrom; role = roles.Read; place = places.File path }
+
+-- those that there are
+abbrev pub given : List (Option FileUse) → List FileUse
+given files = flat_map option_to_list files
+
+abbrev pub written_by_retiming : Retiming → List FileUse
+written_by_retiming retiming =
+    given (Some (remade Out retiming.output) ∷ writing_if_asked MapOption retiming.map ∷ writing_if_asked Cert retiming.certificates ∷ printed_by retiming ∷ [])
+
+abbrev pub read_by_asking : Asking → List FileUse
+read_by_asking asking = given (Some (reading In asking.input) ∷ Some (reading Out asking.retimed) ∷ Some (original Map asking.map) ∷ [])
+
+abbrev pub read_by_lifting : Lifting → List FileUse
+read_by_lifting lifting =
+    given (Some (reading In lifting.input) ∷ Some (reading Out lifting.retimed) ∷ Some (reading Map lifting.map) ∷ Some (original WitnessFile lifting.witness) ∷ [])
+
+-- what a task writes; the files of a batch are those of its list, which may be any
+abbrev pub written_by : Task → List FileUse
+written_by (Retime retiming) = written_by_retiming retiming
+written_by (Convert input output spelling) = given (Some (remade Out output) ∷ [])
+written_by (Sim simulation) = given (Some printed ∷ writing_if_asked Vcd simulation.waves ∷ [])
+written_by (Miter asking) = given (Some (remade MiterFile asking.output) ∷ writing_if_asked Certificate asking.certificate ∷ [])
+written_by (Lift lifting) = given (Some (remade ResultFile lifting.output) ∷ [])
+written_by (Dot drawing) = given (Some (writing Out drawing.output) ∷ [])
+written_by (Batch batch) = []
+written_by (Stat counting) = []
+written_by (Same comparison) = []
+written_by (Verify verification) = []
+written_by (Check checking) = []
+written_by (Witness carrying) = []
+written_by (Explain name) = []
+
+-- what a task reads that writes a file
+abbrev pub read_by : Task → List FileUse
+read_by (Retime retiming) = given (Some (original In retiming.input) ∷ [])
+read_by (Convert input output spelling) = given (Some (original In input) ∷ [])
+read_by (Sim simulation) = given (Some (reading In simulation.input) ∷ stimulus_of simulation.stimuli ∷ [])
+read_by (Miter asking) = read_by_asking asking
+read_by (Lift lifting) = read_by_lifting lifting
+read_by (Dot drawing) = given (Some (reading In drawing.input) ∷ [])
+read_by (Batch batch) = []
+read_by (Stat counting) = []
+read_by (Same comparison) = []
+read_by (Verify verification) = []
+read_by (Check checking) = []
+read_by (Witness carrying) = []
+read_by (Explain name) = []

@@ -1,0 +1,2 @@
+pub mod FileUses
+pub mod Clashes

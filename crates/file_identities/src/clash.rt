@@ -1,0 +1,93 @@
+//! The first two files of a command line that can't be one file and are.
+ghost use Rattle.std.specs.Prelude.{◌≡◌};
+ghost use Rattle.file_identities.specs.Clashes as wanted;
+
+use crate::file_use::FileUse;
+use crate::identity::{Asked, Keeping};
+use thiserror::Error;
+
+/// Why a command line is refused: two of its files are one, and something would be lost.
+#[derive(Clone, Copy, Debug, PartialEq, Eq, Error)]
+pub enum FileClash<'a> {
+    /// Both are written.
+    #[error("{0} and {1} are one file: each thing that is written has a file of its own")]
+    WrittenTwice(FileUse<'a>, FileUse<'a>),
+    /// The first is written, and the second read.
+    #[error("{0} and {1} are one file: it would be written over what is read")]
+    WrittenOver(FileUse<'a>, FileUse<'a>),
+}
+
+/// Whether something is lost where the first of two, which is written, and the second are one file.
+fn loses(keeping: Keeping, first: FileUse<'_>, second: FileUse<'_>) -> bool
+    ensures { result ≡ wanted.loses keeping first.entry second.entry }
+{
+    match keeping {
+        Keeping::Bytes => !first.role.replaces(second.role),
+        Keeping::Pipe => second.role.is_written(),
+        Keeping::Device => {
+            second.role.is_written() && (first.place.is_stream() || second.place.is_stream())
+        }
+    }
+}
+
+/// Whether two files, of which the first is written, can't be one and are.
+fn clash(first: &Asked<'_>, second: &Asked<'_>) -> bool
+    ensures { result ≡ wanted.clash first.now second.now }
+{
+    match (&first.identity, &second.identity) {
+        (Some(one), Some(other)) => one.is_same(other)
+            && loses(one.keeping, first.file, second.file),
+        _ => false,
+    }
+}
+
+/// What is said of them.
+fn clash_of<'a>(first: &Asked<'a>, second: &Asked<'a>) -> FileClash<'a>
+    ensures { result ≡ wanted.clash_of first.now second.now }
+{
+    if second.file.role.is_written() {
+        FileClash::WrittenTwice(first.file, second.file)
+    } else {
+        FileClash::WrittenOver(first.file, second.file)
+    }
+}
+
+/// The first of some files that clashes with one that is written.
+fn clash_among<'a>(first: &Asked<'a>, others: &[Asked<'a>]) -> Option<FileClash<'a>>
+    ensures { result ≡ wanted.clash_among first.now others.now }
+{
+    for other in others {
+        if clash(first, other) {
+            return Some(clash_of(first, other));
+        }
+    }
+    None
+}
+
+/// So of those that are written after it, else of those that are read.
+fn clash_with<'a>(
+    first: &Asked<'a>,
+    later: &[Asked<'a>],
+    read: &[Asked<'a>],
+) -> Option<FileClash<'a>>
+    ensures { result ≡ wanted.clash_with first.now later.now read.now }
+{
+    match clash_among(first, later) {
+        Some(clash) => Some(clash),
+        None => clash_among(first, read),
+    }
+}
+
+/// The first file that is written and clashes with one that is written after it, or with one that is read. The time is linear in
+/// what is read, for each file that is written.
+pub(crate) fn first_clash<'a>(written: &[Asked<'a>], read: &[Asked<'a>]) -> Option<FileClash<'a>>
+    ensures { result ≡ wanted.first_clash written.now read.now }
+{
+    for (k, first) in written.iter().enumerate() {
+        let clash = clash_with(first, &written[k + 1..], read);
+        if clash.is_some() {
+            return clash;
+        }
+    }
+    None
+}

@@ -1,0 +1,327 @@
+//! The files that a task reads and writes, each asked for.
+ghost use Rattle.std.specs.Prelude.{◌≡◌, ◌++◌, [], ◌∷◌, IfOk, OnOk, map};
+ghost use Rattle.std.specs.Option.{option_to_list};
+ghost use Rattle.file_identities.specs.FileUses.{given, name_file};
+ghost use Rattle.file_identities.specs.FileUses as wanted;
+
+use crate::file_use::{Argument, FileUse, Place, Role};
+use crate::identity::{Asked, ask};
+use command_line::{Asking, Lifting, Retiming, Stimuli, Task};
+use std::alloc::{AllocError, Global};
+use std::rt::Files;
+use stream_paths::{Source, Target};
+
+fn place_of_source(source: Source<'_>) -> Place<'_>
+    ensures { result ≡ wanted.place_of_source source.entry }
+{
+    match source {
+        Source::Stdin => Place::Stdin,
+        Source::File(path) => Place::File(path),
+    }
+}
+
+fn place_of_target(target: Target<'_>) -> Place<'_>
+    ensures { result ≡ wanted.place_of_target target.entry }
+{
+    match target {
+        Target::Stdout => Place::Stdout,
+        Target::File(path) => Place::File(path),
+    }
+}
+
+/// A file that is read.
+fn reading(argument: Argument, source: Source<'_>) -> FileUse<'_>
+    ensures { result ≡ wanted.reading argument source.entry }
+{
+    FileUse {
+        argument,
+        role: Role::Read,
+        place: place_of_source(source),
+    }
+}
+
+/// The circuit that what is written is made of, whose place that may take.
+fn original(argument: Argument, source: Source<'_>) -> FileUse<'_>
+    ensures { result ≡ wanted.original argument source.entry }
+{
+    FileUse {
+        argument,
+        role: Role::Original,
+        place: place_of_source(source),
+    }
+}
+
+/// A circuit that is made of another one.
+fn remade(argument: Argument, target: Target<'_>) -> FileUse<'_>
+    ensures { result ≡ wanted.remade argument target.entry }
+{
+    FileUse {
+        argument,
+        role: Role::Remade,
+        place: place_of_target(target),
+    }
+}
+
+/// A file that is written, and takes the place of nothing.
+fn writing(argument: Argument, target: Target<'_>) -> FileUse<'_>
+    ensures { result ≡ wanted.writing argument target.entry }
+{
+    FileUse {
+        argument,
+        role: Role::Written,
+        place: place_of_target(target),
+    }
+}
+
+/// The same, where it is asked for.
+fn writing_if_asked(argument: Argument, target: Option<Target<'_>>) -> Option<FileUse<'_>>
+    ensures { result ≡ wanted.writing_if_asked argument target.entry }
+{
+    match target {
+        Some(target) => Some(writing(argument, target)),
+        None => None,
+    }
+}
+
+/// What is printed on standard output.
+fn printed<'a>() -> FileUse<'a>
+    ensures { result ≡ wanted.printed }
+{
+    FileUse {
+        argument: Argument::Printed,
+        role: Role::Written,
+        place: Place::Stdout,
+    }
+}
+
+/// The lines of a retiming, unless they go to standard error.
+fn printed_by<'a>(retiming: &Retiming<'_>) -> Option<FileUse<'a>>
+    ensures { result ≡ wanted.printed_by retiming.now }
+{
+    if retiming.takes_stdout() {
+        None
+    } else {
+        Some(printed())
+    }
+}
+
+/// A stimulus, where one is read.
+fn stimulus_of<'a>(stimuli: Stimuli<'a>) -> Option<FileUse<'a>>
+    ensures { result ≡ wanted.stimulus_of stimuli.entry }
+{
+    match stimuli {
+        Stimuli::Read(source) => Some(reading(Argument::Stim, source)),
+        Stimuli::Random(_) => None,
+    }
+}
+
+/// The file of names of an option that names one.
+fn name_file(path: &str) -> FileUse<'_>
+    ensures { result ≡ name_file path.entry }
+{
+    FileUse {
+        argument: Argument::KeepFrom,
+        role: Role::Read,
+        place: Place::File(path),
+    }
+}
+
+fn push<'a, R: Files>(
+    rt: &R,
+    alloc: Global,
+    file: FileUse<'a>,
+    files: &mut Vec<Asked<'a>>,
+) -> Result<(), AllocError>
+    ensures { OnOk result (map (λ asked. asked.file) files.new.items
+        ≡ map (λ asked. asked.file) files.old.items ++ file.entry ∷ []) }
+{
+    files.push(ask(rt, alloc, file)?)?;
+    Ok(())
+}
+
+fn push_if_given<'a, R: Files>(
+    rt: &R,
+    alloc: Global,
+    file: Option<FileUse<'a>>,
+    files: &mut Vec<Asked<'a>>,
+) -> Result<(), AllocError>
+    ensures { OnOk result (map (λ asked. asked.file) files.new.items
+        ≡ map (λ asked. asked.file) files.old.items ++ option_to_list file.entry) }
+{
+    match file {
+        Some(file) => push(rt, alloc, file, files),
+        None => Ok(()),
+    }
+}
+
+/// Asks for those of these files that there are.
+fn ask_all<'a, R: Files>(
+    rt: &R,
+    alloc: Global,
+    uses: &[Option<FileUse<'a>>],
+) -> Result<Vec<Asked<'a>>, AllocError>
+    ensures { IfOk result (λ files. map (λ asked. asked.file) files.items ≡ given uses.now) }
+{
+    let mut files = Vec::new(alloc);
+    for file in uses {
+        push_if_given(rt, alloc, *file, &mut files)?;
+    }
+    Ok(files)
+}
+
+fn read_by_asking<'a, R: Files>(
+    rt: &R,
+    alloc: Global,
+    asking: &Asking<'a>,
+) -> Result<Vec<Asked<'a>>, AllocError>
+    ensures { IfOk result (λ files. map (λ asked. asked.file) files.items
+        ≡ wanted.read_by_asking asking.now) }
+{
+    let uses = [
+        Some(reading(Argument::In, asking.input)),
+        Some(reading(Argument::Out, asking.retimed)),
+        Some(original(Argument::Map, asking.map)),
+    ];
+    ask_all(rt, alloc, &uses)
+}
+
+fn read_by_lifting<'a, R: Files>(
+    rt: &R,
+    alloc: Global,
+    lifting: &Lifting<'a>,
+) -> Result<Vec<Asked<'a>>, AllocError>
+    ensures { IfOk result (λ files. map (λ asked. asked.file) files.items
+        ≡ wanted.read_by_lifting lifting.now) }
+{
+    let uses = [
+        Some(reading(Argument::In, lifting.input)),
+        Some(reading(Argument::Out, lifting.retimed)),
+        Some(reading(Argument::Map, lifting.map)),
+        Some(original(Argument::WitnessFile, lifting.witness)),
+    ];
+    ask_all(rt, alloc, &uses)
+}
+
+fn written_by_retiming<'a, R: Files>(
+    rt: &R,
+    alloc: Global,
+    retiming: &Retiming<'a>,
+) -> Result<Vec<Asked<'a>>, AllocError>
+    ensures { IfOk result (λ files. map (λ asked. asked.file) files.items
+        ≡ wanted.written_by_retiming retiming.now) }
+{
+    let uses = [
+        Some(remade(Argument::Out, retiming.output)),
+        writing_if_asked(Argument::MapOption, retiming.map),
+        writing_if_asked(Argument::Cert, retiming.certificates),
+        printed_by(retiming),
+    ];
+    ask_all(rt, alloc, &uses)
+}
+
+/// What a task writes.
+pub(crate) fn written_by<'a, R: Files>(
+    rt: &R,
+    alloc: Global,
+    task: &Task<'a>,
+) -> Result<Vec<Asked<'a>>, AllocError>
+    ensures { IfOk result (λ files. map (λ asked. asked.file) files.items
+        ≡ wanted.written_by task.now) }
+{
+    match task {
+        Task::Retime(retiming) => written_by_retiming(rt, alloc, retiming),
+        Task::Convert(_, output, _) => {
+            ask_all(rt, alloc, &[Some(remade(Argument::Out, *output))])
+        }
+        Task::Sim(simulation) => {
+            let waves = writing_if_asked(Argument::Vcd, simulation.waves);
+            ask_all(rt, alloc, &[Some(printed()), waves])
+        }
+        Task::Miter(asking) => {
+            let miter = Some(remade(Argument::MiterFile, asking.output));
+            let certificate = writing_if_asked(Argument::Certificate, asking.certificate);
+            ask_all(rt, alloc, &[miter, certificate])
+        }
+        Task::Lift(lifting) => {
+            ask_all(
+                rt,
+                alloc,
+                &[Some(remade(Argument::ResultFile, lifting.output))],
+            )
+        }
+        Task::Dot(drawing) => ask_all(rt, alloc, &[Some(writing(Argument::Out, drawing.output))]),
+        Task::Batch(_)
+        | Task::Stat(_)
+        | Task::Same(_)
+        | Task::Verify(_)
+        | Task::Check(_)
+        | Task::Witness(_)
+        | Task::Explain(_) => Ok(Vec::new(alloc)),
+    }
+}
+
+/// What a task reads that writes a file.
+fn read_by<'a, R: Files>(
+    rt: &R,
+    alloc: Global,
+    task: &Task<'a>,
+) -> Result<Vec<Asked<'a>>, AllocError>
+    ensures { IfOk result (λ files. map (λ asked. asked.file) files.items
+        ≡ wanted.read_by task.now) }
+{
+    match task {
+        Task::Retime(retiming) => {
+            ask_all(rt, alloc, &[Some(original(Argument::In, retiming.input))])
+        }
+        Task::Convert(input, _, _) => ask_all(rt, alloc, &[Some(original(Argument::In, *input))]),
+        Task::Sim(simulation) => {
+            let input = Some(reading(Argument::In, simulation.input));
+            ask_all(rt, alloc, &[input, stimulus_of(simulation.stimuli)])
+        }
+        Task::Miter(asking) => read_by_asking(rt, alloc, asking),
+        Task::Lift(lifting) => read_by_lifting(rt, alloc, lifting),
+        Task::Dot(drawing) => ask_all(rt, alloc, &[Some(reading(Argument::In, drawing.input))]),
+        Task::Batch(_)
+        | Task::Stat(_)
+        | Task::Same(_)
+        | Task::Verify(_)
+        | Task::Check(_)
+        | Task::Witness(_)
+        | Task::Explain(_) => Ok(Vec::new(alloc)),
+    }
+}
+
+fn push_name_files<'a, R: Files>(
+    rt: &R,
+    alloc: Global,
+    names: &[&'a str],
+    files: &mut Vec<Asked<'a>>,
+) -> Result<(), AllocError>
+    ensures { OnOk result (map (λ asked. asked.file) files.new.items
+        ≡ map (λ asked. asked.file) files.old.items ++ map name_file names.now) }
+{
+    for path in names {
+        push(rt, alloc, name_file(*path), files)?;
+    }
+    Ok(())
+}
+
+/// What a task reads, and after it the files of names.
+pub(crate) fn all_read_by<'a, R: Files>(
+    rt: &R,
+    alloc: Global,
+    task: &Task<'a>,
+    names: &[&'a str],
+) -> Result<Vec<Asked<'a>>, AllocError>
+    ensures { IfOk result (λ files. map (λ asked. asked.file) files.items
+        ≡ wanted.read_by task.now ++ map name_file names.now) }
+{
+    let mut files = read_by(rt, alloc, task)?;
+    match push_name_files(rt, alloc, names, &mut files) {
+        Ok(()) => Ok(files),
+        Err(error) => {
+            drop(files);
+            Err(error)
+        }
+    }
+}

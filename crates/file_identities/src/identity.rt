@@ -1,0 +1,180 @@
+//! What the file system answers of a path: which file it leads to, or which one would be made.
+ghost use Rattle.std.specs.Prelude.{◌≡◌, IfOk};
+ghost use Rattle.file_identities.specs.Clashes as wanted;
+
+use crate::file_use::FileUse;
+use std::alloc::{AllocError, Global};
+use std::fs::Metadata;
+use std::os::unix::fs::{FileTypeExt, MetadataExt};
+use std::path::{Path, PathBuf};
+use std::rt::Files;
+use std::{fs, io};
+
+/// What a file keeps of what is written to it.
+#[derive(Clone, Copy, Debug, PartialEq, Eq)]
+pub enum Keeping {
+    /// The bytes.
+    Bytes,
+    /// Nothing, and there is one reader of all: a pipe or a socket.
+    Pipe,
+    /// Nothing: a terminal, or another character device.
+    Device,
+}
+
+/// Which file a path leads to.
+#[derive(Drop)]
+pub struct Identity {
+    /// The device of the file, or of the folder in which it would be made.
+    pub device: u64,
+    /// The number of the file, or of that folder, on its device.
+    pub node: u64,
+    /// The name of a file that would be made; nothing, where it is there.
+    pub name: String,
+    /// What it keeps.
+    pub keeping: Keeping,
+}
+
+impl Identity {
+    /// Whether two paths lead to one file, or to one that would be made.
+    pub(crate) fn is_same(&self, other: &Identity) -> bool
+        ensures { result ≡ wanted.is_same self.now other.now }
+    {
+        self.device == other.device
+            && self.node == other.node
+            && self.name.as_str() == other.name.as_str()
+    }
+}
+
+/// A file of a command line, and which one it is; unless it loses nothing, or the file system has no answer.
+#[derive(Drop)]
+pub struct Asked<'a> {
+    /// The file.
+    pub file: FileUse<'a>,
+    /// Which one it is.
+    pub identity: Option<Identity>,
+}
+
+/// As many links are followed, one to the next.
+const MOST_LINKS: u32 = 40;
+
+/// Whether a device is that of `/dev/null`, `/dev/zero` or `/dev/full`: nothing that is written there is anywhere.
+fn is_void(device: u64) -> bool {
+    matches!(device, 0x103 | 0x105 | 0x107)
+}
+
+/// What a file keeps; `None` where nothing can be lost.
+fn keeping_of(metadata: &Metadata) -> Option<Keeping> {
+    let kind = metadata.file_type();
+    if kind.is_char_device() {
+        if is_void(metadata.rdev()) {
+            None
+        } else {
+            Some(Keeping::Device)
+        }
+    } else if kind.is_fifo() || kind.is_socket() {
+        Some(Keeping::Pipe)
+    } else {
+        Some(Keeping::Bytes)
+    }
+}
+
+/// The identity of a file that is there.
+fn identity_of(alloc: Global, metadata: &Metadata) -> Option<Identity> {
+    match keeping_of(metadata) {
+        Some(keeping) => Some(Identity {
+            device: metadata.dev(),
+            node: metadata.ino(),
+            name: String::new(alloc),
+            keeping,
+        }),
+        None => None,
+    }
+}
+
+/// What a link at this path leads to, where it is one.
+fn link_at<R: Files>(rt: &R, alloc: Global, path: Path<'_>) -> Result<Option<PathBuf>, AllocError> {
+    match rt.read_link(alloc, path.as_str()) {
+        Ok(target) => {
+            let folder = path.parent().unwrap_or(Path::new(""));
+            let joined = folder.join(alloc, target.as_path());
+            drop(target);
+            Ok(Some(joined?))
+        }
+        Err(error) if error.kind() == io::ErrorKind::OutOfMemory => Err(AllocError),
+        Err(_) => Ok(None),
+    }
+}
+
+/// The path at which a file would be made: where links lead that lead to nothing.
+fn end_of_links<R: Files>(rt: &R, alloc: Global, path: &str) -> Result<PathBuf, AllocError> {
+    let mut end = PathBuf::from_str(alloc, path)?;
+    for _ in 0..MOST_LINKS {
+        match link_at(rt, alloc, end.as_path())? {
+            Some(next) => end = next,
+            None => return Ok(end),
+        }
+    }
+    Ok(end)
+}
+
+/// The identity of a file that would be made at this path, by its folder and its name in it.
+fn identity_in_folder<R: Files>(
+    rt: &R,
+    alloc: Global,
+    path: Path<'_>,
+) -> Result<Option<Identity>, AllocError> {
+    let (Some(name), Some(folder)) = (path.file_name(), path.parent()) else {
+        return Ok(None);
+    };
+    let folder = if folder.as_str().is_empty() {
+        "."
+    } else {
+        folder.as_str()
+    };
+    match fs::metadata(rt, folder) {
+        Ok(metadata) => Ok(Some(Identity {
+            device: metadata.dev(),
+            node: metadata.ino(),
+            name: String::from_str(alloc, name)?,
+            keeping: Keeping::Bytes,
+        })),
+        Err(_) => Ok(None),
+    }
+}
+
+/// The same of a path at which nothing is.
+fn identity_to_be<R: Files>(
+    rt: &R,
+    alloc: Global,
+    path: &str,
+) -> Result<Option<Identity>, AllocError> {
+    let end = end_of_links(rt, alloc, path)?;
+    let identity = identity_in_folder(rt, alloc, end.as_path());
+    drop(end);
+    identity
+}
+
+/// The identity of the file at this path; `None` where nothing can be lost, or the file system has no answer.
+fn identity_at<R: Files>(
+    rt: &R,
+    alloc: Global,
+    path: &str,
+) -> Result<Option<Identity>, AllocError> {
+    match fs::metadata(rt, path) {
+        Ok(metadata) => Ok(identity_of(alloc, &metadata)),
+        Err(error) if error.kind() == io::ErrorKind::NotFound => identity_to_be(rt, alloc, path),
+        Err(_) => Ok(None),
+    }
+}
+
+/// Asks the file system which file this is.
+pub(crate) fn ask<'a, R: Files>(
+    rt: &R,
+    alloc: Global,
+    file: FileUse<'a>,
+) -> Result<Asked<'a>, AllocError>
+    ensures { IfOk result (λ asked. asked.file ≡ file.entry) }
+{
+    let identity = identity_at(rt, alloc, file.place.path())?;
+    Ok(Asked { file, identity })
+}

@@ -1,0 +1,14 @@
+//! Which files of a command line are one file, by whatever paths, and whether something would be lost so.
+#![tactic(auto)]
+
+mod clash;
+mod file_use;
+mod file_uses;
+mod finding;
+mod identity;
+mod laws;
+
+pub use clash::FileClash;
+pub use file_use::{Argument, FileUse, Place, Role};
+pub use finding::find_clash;
+pub use laws::apart_law;
