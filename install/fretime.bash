@@ -55,7 +55,7 @@ _fretime() {
             if [ "$COMP_CWORD" = 2 ]; then
                 mapfile -t COMPREPLY < <(compgen -W "--help BadHeader TooLarge MaxIndex BadLine BadLiteral DefinedTwice Undefined Cycle \
                     BadReset BadDelta Truncated BadSymbol Trailing Width TooMany NoSuchProperty TooManySteps \
-                    NoSuchName NoSuchLatch TooManyNodes NotAMap NoSuchLiteral NotClosed BadRoute UsedTwice CountDiffers NoMemory Device" -- "$word")
+                    NoSuchName NoSuchLatch TooManyNodes NotAMap NoSuchLiteral ShapesDiffer NotClosed BadRoute UsedTwice CountDiffers NoMemory Device" -- "$word")
             fi
             return
             ;;

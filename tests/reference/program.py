@@ -50,22 +50,27 @@ def names_in(path):
     return [name for name in names if name]
 
 
-def with_names(words):
-    """The words, each file of names replaced by the names in it."""
+def with_names(words, names_of):
+    """The words, each file of names replaced by its names."""
     found, rest = [], iter(words)
     for word in rest:
         option, equals, path = word.partition('=')
         path = path if equals else next(rest, None) if option == '--keep-from' else None
         if option == '--keep-from' and path is not None:
-            found += [f'--keep={name}' for name in names_in(path)]
+            found += [f'--keep={name}' for name in names_of(path)]
         else:
             found.append(word)
     return found
 
 
 def parsed(words):
+    """What the words ask for, once the names are read that files have: wrong words are refused before."""
+    arguments(with_names(words, lambda path: ['']))
+    return arguments(with_names(words, names_in))
+
+
+def arguments(words):
     """The command, its paths and its options; each option has the list of its values."""
-    words = with_names(words)
     command, paths, options = words[0] if words else None, [], {}
     if any(not os.fsencode(word).decode(errors='replace') == word for word in words):
         raise Ends(2, 'error: an argument is not UTF-8')

@@ -13,10 +13,13 @@ ghost use Rattle.fretime.specs.Names as wanted;
 
 use batch_lists::ListError;
 use circuit_files::{Failure, bytes_of_file};
+use counted_io::CountedWrite;
+use fault_pages::tell_returns;
 use file_words::{Line, Lines};
 use std::alloc::{AllocError, Global};
 use std::rt::Files;
 use std::str;
+use stream_paths::Source;
 
 /// The option that names a file.
 const OPTION: &str = "--keep-from";
@@ -175,8 +178,25 @@ fn push_words<'a, R: Files>(
     Ok(())
 }
 
+/// Tells on a terminal of each file of names whose lines end with carriage returns.
+pub(crate) fn tell_returns_of<R: Files, E: CountedWrite>(
+    rt: &R,
+    words: &[String],
+    is_terminal: bool,
+    err: &mut E,
+) {
+    for k in 0..words.len() {
+        let word = words[k].as_str();
+        if let Some(path) = word.strip_prefix(OPTION_WITH_VALUE) {
+            tell_returns(rt, Source::File(path), is_terminal, err);
+        } else if word == OPTION && k + 1 < words.len() {
+            tell_returns(rt, Source::File(words[k + 1].as_str()), is_terminal, err);
+        }
+    }
+}
+
 /// Whether a word names a file.
-fn name_files(words: &[String]) -> bool
+pub(crate) fn name_files(words: &[String]) -> bool
     ensures { result ≡ list_any (λ word. wanted.is_option (string_bytes word)) words.now }
 {
     words.iter().any(
