@@ -51,14 +51,14 @@ def names_in(path):
     return [name for name in names if name]
 
 
-def with_names(words):
-    """The words, each file of names replaced by the names in it, and the paths of these files."""
+def with_names(words, names_of):
+    """The words, each file of names replaced by its names, and the paths of these files."""
     found, files, rest = [], [], iter(words)
     for word in rest:
         option, equals, path = word.partition('=')
         path = path if equals else next(rest, None) if option == '--keep-from' else None
         if option == '--keep-from' and path is not None:
-            found += [f'--keep={name}' for name in names_in(path)]
+            found += [f'--keep={name}' for name in names_of(path)]
             files.append(path)
         else:
             found.append(word)
@@ -66,8 +66,19 @@ def with_names(words):
 
 
 def parsed(words):
+    """What the words ask for, once the names are read that files have: wrong words are refused before, and then those of which two
+    files are one."""
+    arguments(with_names(words, lambda path: [''])[0])
+    named, name_files = with_names(words, names_in)
+    command, paths, options = arguments(named)
+    said = clash(command, paths, options, name_files)
+    if said:
+        raise Ends(2, f'error: {said}')
+    return command, paths, options
+
+
+def arguments(words):
     """The command, its paths and its options; each option has the list of its values."""
-    words, name_files = with_names(words)
     command, paths, options = words[0] if words else None, [], {}
     if any(not os.fsencode(word).decode(errors='replace') == word for word in words):
         raise Ends(2, 'error: an argument is not UTF-8')
@@ -103,9 +114,6 @@ def parsed(words):
     printed = ['-'] if command == 'sim' else []
     if (outputs + printed + beside(options)).count('-') > 1:
         raise Ends(2, 'error: standard output is written once')
-    said = clash(command, paths, options, name_files)
-    if said:
-        raise Ends(2, f'error: {said}')
     return command, paths, options
 
 

@@ -12,7 +12,7 @@ use json_reports::{Fault, Refusal, print_refusal};
 use std::alloc::Global;
 
 /// The fault that a failure is.
-fn fault_of(failure: Failure<'_>) -> Fault
+pub fn fault_of(failure: Failure<'_>) -> Fault
     ensures { result ≡ wanted.fault_of failure.entry }
 {
     match failure {

@@ -11,7 +11,7 @@ mod names;
 mod writing;
 
 pub use endings::ended;
-pub use failures::print_failure;
+pub use failures::{fault_of, print_failure};
 pub use findings::{
     print_audit, print_batch, print_difference, print_retiming, print_shapes_differ,
     print_statistics,

@@ -4,3 +4,4 @@ pub mod Lines
 pub mod Nearest
 pub mod Pages
 pub mod HintedLines
+pub mod Messages

@@ -1,7 +1,7 @@
 -- The texts of the page of each fault.
 use Rattle.std.specs.Prelude.{ℕ, List, codes}
 use Rattle.fault_pages.specs.declared.fault.Fault.{Fault}
-use Rattle.fault_pages.specs.declared.fault.Fault.TheVariants.{BadHeader, TooLarge, MaxIndex, BadLine, BadLiteral, DefinedTwice, Undefined, Cycle, BadReset, BadDelta, Truncated, BadSymbol, Trailing, Width, TooMany, NoSuchName, NoSuchLatch, NoSuchProperty, TooManyNodes, TooManySteps, NotAMap, NoSuchLiteral, NotClosed, BadRoute, UsedTwice, CountDiffers, NoMemory, Device}
+use Rattle.fault_pages.specs.declared.fault.Fault.TheVariants.{BadHeader, TooLarge, MaxIndex, BadLine, BadLiteral, DefinedTwice, Undefined, Cycle, BadReset, BadDelta, Truncated, BadSymbol, Trailing, Width, TooMany, NoSuchName, NoSuchLatch, NoSuchProperty, TooManyNodes, TooManySteps, NotAMap, NoSuchLiteral, ShapesDiffer, NotClosed, BadRoute, UsedTwice, CountDiffers, NoMemory, Device}
 
 -- what the fault is
 abbrev pub meaning_of : Fault → List ℕ
@@ -27,6 +27,7 @@ meaning_of TooManyNodes = codes "A circuit of over 2000 nodes makes no picture t
 meaning_of TooManySteps = codes "So many random sequences, of so many steps, take too much memory."
 meaning_of NotAMap = codes "The circuit of a map of states has more than gates, outputs and constraints."
 meaning_of NoSuchLiteral = codes "A name of a witness circuit says a literal that OUT hasn't, or one twice."
+meaning_of ShapesDiffer = codes "Two circuits differ in what they have, so they aren't compared."
 meaning_of NotClosed = codes "The set of gates of a certificate isn't closed."
 meaning_of BadRoute = codes "A list of points of a certificate is no route."
 meaning_of UsedTwice = codes "Two routes of a certificate pass one variable."
@@ -58,11 +59,12 @@ rule_of TooManyNodes = codes "Inputs, latches, gates and properties are nodes."
 rule_of TooManySteps = codes "All steps take 2^28 bytes at most, each 64 and one for each input; the choices\nfor free latches 2^28, one each; the trace 2^31 bits, one for each literal of a\nproperty, or with --vcd for each wave, and each step, for 256 sequences at least."
 rule_of NotAMap = codes "A map has no latch, bad state, justice property or fairness constraint. Its\ninputs are the latches of IN, its outputs those of OUT."
 rule_of NoSuchLiteral = codes "A name '= 12' of an input of CERT says the literal 12 of an input of OUT, one of\na latch that of a latch, and no two say the same. Literals are those of OUT in a\nbinary file."
+rule_of ShapesDiffer = codes "Both have as many inputs, and as many outputs, bad states, constraints, justice\nproperties of the same sizes and fairness literals; for 'same' as many free\nlatches too. A map has an input for each latch of IN and an output for each\nlatch of OUT."
 rule_of NotClosed = codes "Its gates rise strictly. Each is a gate that latches may pass, and each gate\nthat it reads is one of the set."
 rule_of BadRoute = codes "A route goes from a known latch through gates that latches may pass to what no\nmove passes, by the steps of docs/CERTIFICATES.md."
 rule_of UsedTwice = codes "Over all routes no point v+ stands twice."
 rule_of CountDiffers = codes "The count that it states, the size of the border of its set and the number of\nits routes are one number."
-rule_of NoMemory = codes "A run asks for memory as its circuit grows, and for none by a number of the\nheader alone. A refused request ends it with status 4, 'out of memory'. Files\nare as they were, but that a batch has written those of its circuits that were\ndone."
+rule_of NoMemory = codes "A run asks for memory as its circuit grows, and for none by a number of the\nheader alone. A refused request ends it with status 4, 'out of memory'. Files\nare as they were, but for the circuits of a batch that were done, and where\n'retime --json' lacked memory for its object alone, which is made last."
 rule_of Device = codes "The message names the path, or 'stdin' or 'stdout'. There is no such file or\nfolder, it may not be read or written by this user, it is a folder, the disk is\nfull, or nobody reads the pipe any more."
 
 -- what to do
@@ -89,9 +91,10 @@ advice_of TooManyNodes = codes "Draw a neighbourhood: 'fretime dot IN OUT --arou
 advice_of TooManySteps = codes "Take fewer steps or sequences. For more of them run again with another --seed."
 advice_of NotAMap = codes "See that IN, OUT and MAP are given in this order: 'fretime retime IN OUT --map\nMAP' writes MAP."
 advice_of NoSuchLiteral = codes "See that CERT is a witness circuit for OUT, not for IN nor of another run."
-advice_of NotClosed = codes "See that the certificates are of this IN, and give each --keep that 'retime'\ngot. Else they are wrong: 'fretime retime IN OUT --cert FILE' writes others."
-advice_of BadRoute = codes "See that the certificates are of this IN, and give each --keep that 'retime'\ngot. Else they are wrong: 'fretime retime IN OUT --cert FILE' writes others."
-advice_of UsedTwice = codes "See that the certificates are of this IN, and give each --keep that 'retime'\ngot. Else they are wrong: 'fretime retime IN OUT --cert FILE' writes others."
-advice_of CountDiffers = codes "See that the certificates are of this IN, and give each --keep that 'retime'\ngot. Else they are wrong: 'fretime retime IN OUT --cert FILE' writes others."
+advice_of ShapesDiffer = codes "Compare what 'fretime stat' prints of both. Where 'retime' left free latches\nout, 'same' takes --kept LIST."
+advice_of NotClosed = codes "See that the certificates are of this IN, and give what 'retime' got: --keep,\n--keep-latch, --merge. Else they are wrong: 'fretime retime IN OUT --cert FILE'\nwrites others."
+advice_of BadRoute = codes "See that the certificates are of this IN, and give what 'retime' got: --keep,\n--keep-latch, --merge. Else they are wrong: 'fretime retime IN OUT --cert FILE'\nwrites others."
+advice_of UsedTwice = codes "See that the certificates are of this IN, and give what 'retime' got: --keep,\n--keep-latch, --merge. Else they are wrong: 'fretime retime IN OUT --cert FILE'\nwrites others."
+advice_of CountDiffers = codes "See that the certificates are of this IN, and give what 'retime' got: --keep,\n--keep-latch, --merge. Else they are wrong: 'fretime retime IN OUT --cert FILE'\nwrites others."
 advice_of NoMemory = codes "See the limits of the shell: 'ulimit -v'. 'batch' with fewer --workers has fewer\ncircuits in memory at once."
 advice_of Device = codes "Look at the path: 'ls -l PATH', and at the room on its disk: 'df PATH'. An OUT\nthat was begun may have a part of the circuit: run again."

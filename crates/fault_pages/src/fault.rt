@@ -1,7 +1,7 @@
 //! Circuits, certificates, stimuli, witnesses and lists have faults of the same names, and a user looks for the name that was
 //! printed. So a fault is a name here, and has one page for all kinds of files.
 ghost use Rattle.std.specs.Prelude.{◌≡◌, MatchOption, true};
-ghost use Rattle.fault_pages.specs.Faults.{all_faults, has_name, HaveOtherNames, IsNoName, name_of};
+ghost use Rattle.fault_pages.specs.Faults.{all_faults, has_name, HaveOtherNames, IsCalled, IsNoName, name_of, said_of};
 
 /// A fault that the program names.
 #[derive(Clone, Copy, Debug, PartialEq, Eq)]
@@ -28,6 +28,7 @@ pub enum Fault {
     TooManySteps,
     NotAMap,
     NoSuchLiteral,
+    ShapesDiffer,
     NotClosed,
     BadRoute,
     UsedTwice,
@@ -36,7 +37,7 @@ pub enum Fault {
     Device,
 }
 
-const FAULTS: [Fault; 28] = [
+const FAULTS: [Fault; 29] = [
     Fault::BadHeader,
     Fault::TooLarge,
     Fault::MaxIndex,
@@ -59,6 +60,7 @@ const FAULTS: [Fault; 28] = [
     Fault::TooManySteps,
     Fault::NotAMap,
     Fault::NoSuchLiteral,
+    Fault::ShapesDiffer,
     Fault::NotClosed,
     Fault::BadRoute,
     Fault::UsedTwice,
@@ -76,7 +78,7 @@ impl Fault {
         &FAULTS
     }
 
-    /// The name, as messages have it.
+    /// The name, as reports have it, and most messages.
     pub fn name(self) -> &'static str
         ensures { result.now ≡ name_of self }
     {
@@ -103,6 +105,7 @@ impl Fault {
             Fault::TooManySteps => "TooManySteps",
             Fault::NotAMap => "NotAMap",
             Fault::NoSuchLiteral => "NoSuchLiteral",
+            Fault::ShapesDiffer => "ShapesDiffer",
             Fault::NotClosed => "NotClosed",
             Fault::BadRoute => "BadRoute",
             Fault::UsedTwice => "UsedTwice",
@@ -112,18 +115,31 @@ impl Fault {
         }
     }
 
-    /// The fault of this name.
+    /// What a message says: the name, but of three faults words.
+    fn said(self) -> &'static str
+        ensures { result.now ≡ said_of self }
+    {
+        match self {
+            Fault::ShapesDiffer => "shapes differ",
+            Fault::NoMemory => "out of memory",
+            Fault::Device => "device",
+            fault => fault.name(),
+        }
+    }
+
+    /// The fault of this name, or of which a message says this.
     pub fn named(name: &str) -> Option<Fault>
-        ensures { MatchOption result (IsNoName name.now) (λ fault. name_of fault ≡ name.now) }
+        ensures { MatchOption result (IsNoName name.now) (IsCalled name.now) }
     {
         named_among(Fault::all(), name)
     }
 }
 
+/// Whether a fault has the name, or a message says this of it.
 fn has_name(fault: Fault, name: &str) -> bool
     ensures { result ≡ has_name name.now fault }
 {
-    fault.name() == name
+    fault.name() == name || fault.said() == name
 }
 
 /// The first of these faults that has the name.

@@ -23,7 +23,8 @@ pub(crate) fn read_piece<R: Files>(rt: &R, path: &str, from: u64, piece: &mut [u
     file.read(piece).unwrap_or(0)
 }
 
-fn is_ascii<R: Files>(rt: &R, path: &str) -> bool {
+/// Whether a file begins as an ASCII circuit.
+pub(crate) fn is_ascii<R: Files>(rt: &R, path: &str) -> bool {
     let mut letters = [0u8; 3];
     read_piece(rt, path, 0, &mut letters) == 3 && letters.as_slice() == b"aag".as_slice()
 }
@@ -53,16 +54,13 @@ pub(crate) fn line_number<R: Files>(rt: &R, path: &str, offset: u64) -> Option<u
     Some(number)
 }
 
-/// The line of an ASCII file at an offset; nothing where the line is missing.
+/// The line of a file at an offset; nothing where the line is missing.
 pub(crate) fn line_of_file<R: Files>(
     rt: &R,
     alloc: Global,
     path: &str,
     offset: u64,
 ) -> Option<Vec<u8>> {
-    if !is_ascii(rt, path) {
-        return None;
-    }
     let mut piece = [0u8; PIECE];
     let count = read_piece(rt, path, offset, &mut piece);
     if count == 0 {

@@ -72,10 +72,21 @@ property, or with --vcd for each wave, and each step, for 256 sequences at least
     advice: "Take fewer steps or sequences. For more of them run again with another --seed.",
 };
 
+pub const SHAPES_DIFFER: Page = Page {
+    meaning: "Two circuits differ in what they have, so they aren't compared.",
+    rule: "Both have as many inputs, and as many outputs, bad states, constraints, justice
+properties of the same sizes and fairness literals; for 'same' as many free
+latches too. A map has an input for each latch of IN and an output for each
+latch of OUT.",
+    advice: "Compare what 'fretime stat' prints of both. Where 'retime' left free latches
+out, 'same' takes --kept LIST.",
+};
+
 /// What to do where a certificate is rejected.
 const CHECK_AGAIN: &str =
-    "See that the certificates are of this IN, and give each --keep that 'retime'
-got. Else they are wrong: 'fretime retime IN OUT --cert FILE' writes others.";
+    "See that the certificates are of this IN, and give what 'retime' got: --keep,
+--keep-latch, --merge. Else they are wrong: 'fretime retime IN OUT --cert FILE'
+writes others.";
 
 pub const NOT_CLOSED: Page = Page {
     meaning: "The set of gates of a certificate isn't closed.",
@@ -108,8 +119,8 @@ pub const NO_MEMORY: Page = Page {
     meaning: "Memory was refused.",
     rule: "A run asks for memory as its circuit grows, and for none by a number of the
 header alone. A refused request ends it with status 4, 'out of memory'. Files
-are as they were, but that a batch has written those of its circuits that were
-done.",
+are as they were, but for the circuits of a batch that were done, and where
+'retime --json' lacked memory for its object alone, which is made last.",
     advice: "See the limits of the shell: 'ulimit -v'. 'batch' with fewer --workers has fewer
 circuits in memory at once.",
 };

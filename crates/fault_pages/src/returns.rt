@@ -1,16 +1,13 @@
-//! A list whose lines end with carriage returns names files that end so.
+//! Lines of a list that end with carriage returns name files, or latches, that end so.
 use crate::hints::can_be_read_again;
 use crate::line::read_piece;
-use counted_io::{CountedWrite, write_all};
+use crate::message::Message;
+use counted_io::CountedWrite;
 use std::rt::Files;
 use stream_paths::Source;
 
 /// How many bytes of a list are looked at.
 const PIECE: usize = 4096;
-
-/// What a terminal is told of such a list.
-const RETURNS: &[u8] =
-    b"the first line of the list ends with a carriage return, and so does the name of what it wrote\n";
 
 /// Whether the first line ends with a carriage return.
 fn has_return(bytes: &[u8]) -> bool {
@@ -39,6 +36,10 @@ pub fn tell_returns<R: Files, E: CountedWrite>(
     let mut piece = [0u8; PIECE];
     let count = read_piece(rt, path, 0, &mut piece);
     if has_return(&piece[..count]) {
-        let _ = write_all(err, RETURNS);
+        let mut message = Message::new(err, is_terminal);
+        message.put(b"the first line of ");
+        message.put(path.as_bytes());
+        message.put(b" ends with a carriage return, and so does the last name in it\n");
+        message.send();
     }
 }

@@ -31,6 +31,7 @@ impl Fault {
             | Fault::TooManySteps
             | Fault::NotAMap
             | Fault::NoSuchLiteral
+            | Fault::ShapesDiffer
             | Fault::NotClosed
             | Fault::BadRoute
             | Fault::UsedTwice

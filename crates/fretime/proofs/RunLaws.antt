@@ -11,7 +11,6 @@ use Rattle.fretime.specs.Reporting.{MayRefuse, PrintsFailure}
 use Rattle.command_endings.specs.Printing.{Prints, ending}
 use Rattle.fretime.specs.Batches.{PrintsList}
 use Rattle.fretime.specs.Runs.{MayGive, MayPrint, PrintsFilesOrRefusal, PrintsShapes}
-use Rattle.command_endings.proofs.PrintingLaws.{failing}
 
 -- a command that isn't a batch
 pub by_command : (r : Result Outcome Failure) (old new : Output) → Prints (ending r) old new → MayGive r old new
@@ -53,10 +52,6 @@ by_report o r old mid new is gives p = subst (λ (e : Outcome). MayPrint e old n
 pub by_batch : (json : Bool) (o : Outcome) (old new : Output) → PrintsList json o old new → MayPrint o old new
 by_batch true o old new p = inr (inr p)
 by_batch false o old new p = inr (inl p)
-
--- a failure before any task
-pub by_failure : (o : Outcome) (f : Failure) (s : Output) → o ≡ outcome_of f → MayPrint o s s
-by_failure o f s is = subst (λ (e : Outcome). MayPrint e s s) (sym is) (inl (failing f s))
 
 -- help, the version, or a mistake in the arguments: nothing went to standard output
 pub of_usage : (o : Outcome) (s : Output) → (o ≡ Done) ⊎ (o ≡ CommandLine) ⊎ (o ≡ Memory) → MayPrint o s s

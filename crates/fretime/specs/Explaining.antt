@@ -2,7 +2,7 @@
 use Rattle.std.specs.Prelude.{ℕ, ◌≡◌, ◌==◌, ◌⊎◌, List, [], ◌∷◌, ◌++◌, Option, Some, None, codes, if◌then◌else◌}
 use Rattle.std.specs.List.{flat_map}
 use Rattle.counted_io.specs.Output.{Output, WritesPart}
-use Rattle.fault_pages.specs.Faults.{IsNoName, name_of}
+use Rattle.fault_pages.specs.Faults.{IsCalled, IsNoName, name_of}
 use Rattle.fault_pages.specs.Files.{smallest_file}
 use Rattle.fault_pages.specs.Pages.{advice_of, meaning_of, rule_of}
 use Rattle.fault_pages.specs.declared.fault.Fault.{Fault}
@@ -35,13 +35,13 @@ page_text fault =
     name_of fault ++ (codes ": " ++ (meaning_of fault ++ (codes "\n\n" ++ (rule_of fault ++ (codes "\n\n"
     ++ (file_text (smallest_file fault) ++ (advice_of fault ++ 10 ∷ [])))))))
 
--- the page of the fault with this name was printed
+-- the page of a fault that is called so was printed
 pub record IsExplained (name : List ℕ) (old new : Output) (ended : Outcome) : Type 0 where
   pub fault : Fault
-  pub named : name_of fault ≡ name
+  pub named : IsCalled name fault
   pub printed : EndsWith Done (page_text fault) old new ended
 
--- no fault has the name, and nothing was printed
+-- no fault is called so, and nothing was printed
 pub record IsUnexplained (name : List ℕ) (old new : Output) (ended : Outcome) : Type 0 where
   pub unnamed : IsNoName name
   pub ends : ended ≡ CommandLine
@@ -50,6 +50,6 @@ pub record IsUnexplained (name : List ℕ) (old new : Output) (ended : Outcome) 
 abbrev pub Explains : List ℕ → Output → Output → Outcome → Type 0
 Explains name old new ended = IsExplained name old new ended ⊎ IsUnexplained name old new ended
 
--- a device fails where a beginning of the page of the fault with this name was printed, and then standard output failed
+-- a device fails where a beginning of the page of a fault that is called so was printed, and then standard output failed
 abbrev pub FailsToExplain : List ℕ → Output → Output → Failure → Type 0
-FailsToExplain name old new failure = outcome_of failure ≡ Device → (fault : Fault) × (name_of fault ≡ name) × WritesPart old new (page_text fault)
+FailsToExplain name old new failure = outcome_of failure ≡ Device → (fault : Fault) × IsCalled name fault × WritesPart old new (page_text fault)

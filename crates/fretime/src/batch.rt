@@ -11,12 +11,13 @@ ghost use Rattle.fretime.specs.Batches as wanted;
 
 use crate::answers::{Answer, answers_of, write_answer};
 use crate::batch_object::finish_as_object;
-use crate::reporting::report_failure_as;
+use crate::reporting::{report_failure_as, told_of};
 use batch_lists::{Entry, read_list};
 use batch_pool::{Job, run_batch};
 use circuit_files::{Failure, Outcome, bytes_at, bytes_of_file};
 use command_line::Batch;
 use counted_io::{CountedRead, CountedWrite};
+use fault_pages::give_hint;
 use frames::Options;
 use pulse::{Crew, OpenGate};
 use reports::{JobReport, print_job};
@@ -249,21 +250,42 @@ fn finish_entries<'a, R: Files, O: CountedWrite>(
     }
 }
 
-/// Reports why the batch ended, also as an object of JSON where that is asked for.
-fn refuse<O: CountedWrite, E: CountedWrite>(
+/// A batch, and whether standard error is a terminal.
+#[derive(Clone, Copy)]
+struct Run<'t> {
+    task: &'t Batch<'t>,
+    is_terminal: bool,
+}
+
+/// Reports why the batch ended, also as an object of JSON where that is asked for, and with a hint on a terminal.
+fn refuse<R: Files, O: CountedWrite, E: CountedWrite>(
+    rt: &R,
     alloc: Global,
-    task: &Batch<'_>,
+    run: &Run<'_>,
     failure: Failure<'_>,
+    is_written: bool,
     out: &mut O,
     err: &mut E,
 ) -> Outcome
     ensures outcome { result ≡ outcome_of failure.entry }
-    ensures prints { PrintsFailure task.now.json (outcome_of failure.entry) (O.output out.old)
-        (O.output out.new) }
-    ensures says { SaysFailureBy task.now.json (codes "batch") failure.entry (O.output out.old)
-        (O.output out.new) }
+    ensures prints { PrintsFailure run.now.task.now.json (outcome_of failure.entry)
+        (O.output out.old) (O.output out.new) }
+    ensures says { SaysFailureBy run.now.task.now.json (codes "batch") failure.entry
+        (O.output out.old) (O.output out.new) }
 {
-    report_failure_as(alloc, "batch", failure, task.json, out, err)
+    let is_terminal = run.is_terminal;
+    let outcome = report_failure_as(
+        alloc,
+        "batch",
+        failure,
+        run.task.json,
+        is_terminal,
+        out,
+        err,
+    );
+    let told = told_of(failure, false, is_written);
+    give_hint(rt, alloc, &told, is_terminal, err);
+    outcome
 }
 
 /// Writes and prints what became of the files of the entries, or reports why that failed.
@@ -272,16 +294,16 @@ fn finish_or_refuse<R: Files, O: CountedWrite, E: CountedWrite>(
     alloc: Global,
     entries: &[Entry<'_>],
     outcomes: &[batch_pool::Outcome],
-    task: &Batch<'_>,
+    run: &Run<'_>,
     out: &mut O,
     err: &mut E,
 ) -> Outcome
     requires { length outcomes.now ≡ length entries.now }
-    ensures { PrintsList task.now.json result (O.output out.old) (O.output out.new) }
+    ensures { PrintsList run.now.task.now.json result (O.output out.old) (O.output out.new) }
 {
-    match finish_entries(rt, alloc, entries, outcomes, task.json, out) {
+    match finish_entries(rt, alloc, entries, outcomes, run.task.json, out) {
         Ok(ended) => ended,
-        Err(failure) => refuse(alloc, task, failure, out, err),
+        Err(failure) => refuse(rt, alloc, run, failure, true, out, err),
     }
 }
 
@@ -290,19 +312,19 @@ fn retime_entries<R: Files + Threads + Sync, O: CountedWrite, E: CountedWrite>(
     rt: &R,
     alloc: Global,
     entries: &[Entry<'_>],
-    task: &Batch<'_>,
+    run: &Run<'_>,
     out: &mut O,
     err: &mut E,
 ) -> Outcome
-    ensures { PrintsList task.now.json result (O.output out.old) (O.output out.new) }
+    ensures { PrintsList run.now.task.now.json result (O.output out.old) (O.output out.new) }
 {
-    match outcomes(rt, alloc, entries, task) {
+    match outcomes(rt, alloc, entries, run.task) {
         Ok(outcomes) => {
-            let ended = finish_or_refuse(rt, alloc, entries, outcomes.as_slice(), task, out, err);
+            let ended = finish_or_refuse(rt, alloc, entries, outcomes.as_slice(), run, out, err);
             drop(outcomes);
             ended
         }
-        Err(failure) => refuse(alloc, task, failure, out, err),
+        Err(failure) => refuse(rt, alloc, run, failure, false, out, err),
     }
 }
 
@@ -311,21 +333,21 @@ fn retime_lines<R: Files + Threads + Sync, O: CountedWrite, E: CountedWrite>(
     rt: &R,
     alloc: Global,
     bytes: &[u8],
-    task: &Batch<'_>,
+    run: &Run<'_>,
     out: &mut O,
     err: &mut E,
 ) -> Outcome
-    ensures { PrintsList task.now.json result (O.output out.old) (O.output out.new) }
+    ensures { PrintsList run.now.task.now.json result (O.output out.old) (O.output out.new) }
 {
     match read_list(alloc, bytes) {
         Ok(entries) => {
-            let ended = retime_entries(rt, alloc, entries.as_slice(), task, out, err);
+            let ended = retime_entries(rt, alloc, entries.as_slice(), run, out, err);
             drop(entries);
             ended
         }
         Err(error) => {
-            let failure = Failure::of_list(error, task.list.name());
-            refuse(alloc, task, failure, out, err)
+            let failure = Failure::of_list(error, run.task.list.name());
+            refuse(rt, alloc, run, failure, false, out, err)
         }
     }
 }
@@ -336,18 +358,20 @@ pub fn retime_list<R: Files + Threads + Sync, I: CountedRead, O: CountedWrite, E
     rt: &R,
     alloc: Global,
     task: &Batch<'_>,
+    is_terminal: bool,
     stdin: &mut I,
     out: &mut O,
     err: &mut E,
 ) -> Outcome
     ensures { PrintsList task.now.json result (O.output out.old) (O.output out.new) }
 {
+    let run = Run { task, is_terminal };
     match bytes_at(rt, alloc, task.list, stdin) {
         Ok(bytes) => {
-            let ended = retime_lines(rt, alloc, bytes.as_slice(), task, out, err);
+            let ended = retime_lines(rt, alloc, bytes.as_slice(), &run, out, err);
             drop(bytes);
             ended
         }
-        Err(failure) => refuse(alloc, task, failure, out, err),
+        Err(failure) => refuse(rt, alloc, &run, failure, false, out, err),
     }
 }

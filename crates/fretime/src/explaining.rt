@@ -11,7 +11,7 @@ ghost use Rattle.fretime.specs.Explaining.{Explains, FailsToExplain, file_part, 
 
 use circuit_files::{Failure, Outcome};
 use counted_io::{Buffered, CountedWrite, WriteError};
-use fault_pages::Fault;
+use fault_pages::{Fault, Message};
 use std::alloc::Global;
 
 /// Puts a byte of a file, and four spaces where it ends a line.
@@ -90,6 +90,7 @@ fn print_page<O: CountedWrite>(fault: Fault, out: &mut O) -> Result<(), WriteErr
 fn report_missing<'a, E: CountedWrite>(
     alloc: Global,
     name: &str,
+    is_terminal: bool,
     err: &mut E,
 ) -> Result<Outcome, Failure<'a>>
     ensures ends { IfOk result (λ ended. ended ≡ CommandLine) }
@@ -99,17 +100,17 @@ fn report_missing<'a, E: CountedWrite>(
     let Ok(nearest) = Fault::nearest(alloc, name) else {
         return Err(Failure::Memory);
     };
-    let mut out = Buffered::new(err);
-    out.put(b"error: there is no fault '");
-    out.put(name.as_bytes());
-    out.put(b"'");
+    let mut message = Message::new(err, is_terminal);
+    message.put(b"error: there is no fault '");
+    message.put(name.as_bytes());
+    message.put(b"'");
     if let Some(fault) = nearest {
-        out.put(b"; the nearest is '");
-        out.put(fault.name().as_bytes());
-        out.put(b"'");
+        message.put(b"; the nearest is '");
+        message.put(fault.name().as_bytes());
+        message.put(b"'");
     }
-    out.put(b"\n");
-    let _ = out.flush();
+    message.put(b"\n");
+    message.send();
     Ok(Outcome::CommandLine)
 }
 
@@ -117,6 +118,7 @@ fn report_missing<'a, E: CountedWrite>(
 pub fn explain<'a, O: CountedWrite, E: CountedWrite>(
     alloc: Global,
     name: &str,
+    is_terminal: bool,
     out: &mut O,
     err: &mut E,
 ) -> Result<Outcome, Failure<'a>>
@@ -129,6 +131,6 @@ pub fn explain<'a, O: CountedWrite, E: CountedWrite>(
             Ok(()) => Ok(Outcome::Done),
             Err(_) => Err(Failure::Device("stdout")),
         },
-        None => report_missing(alloc, name, err),
+        None => report_missing(alloc, name, is_terminal, err),
     }
 }

@@ -2,6 +2,7 @@
 //! many at once, checks certificates, carries witnesses back, simulates, compares and converts.
 #![tactic(auto)]
 
+mod advising;
 mod answers;
 mod batch;
 mod batch_object;
@@ -10,6 +11,7 @@ mod explaining;
 mod name_files;
 mod reporting;
 mod run;
+mod written;
 
 use counted_io::{Counted, CountedRead, CountedWrite};
 use run::{report_unreadable_arguments, run_words};

@@ -13,10 +13,13 @@ ghost use Rattle.fretime.specs.Names as wanted;
 
 use batch_lists::ListError;
 use circuit_files::{Failure, bytes_of_file};
+use counted_io::CountedWrite;
+use fault_pages::tell_returns;
 use file_words::{Line, Lines};
 use std::alloc::{AllocError, Global};
 use std::rt::Files;
 use std::str;
+use stream_paths::Source;
 
 /// The option that names a file.
 const OPTION: &str = "--keep-from";
@@ -204,8 +207,22 @@ pub(crate) fn files_named<'a>(
     Ok(files)
 }
 
+/// Tells on a terminal of each file of names whose lines end with carriage returns.
+pub(crate) fn tell_returns_of<R: Files, E: CountedWrite>(
+    rt: &R,
+    words: &[String],
+    is_terminal: bool,
+    err: &mut E,
+) {
+    for k in 0..words.len() {
+        if let Some((path, _)) = file_at(words, k) {
+            tell_returns(rt, Source::File(path), is_terminal, err);
+        }
+    }
+}
+
 /// Whether a word names a file.
-fn name_files(words: &[String]) -> bool
+pub(crate) fn name_files(words: &[String]) -> bool
     ensures { result ≡ list_any (λ word. wanted.is_option (string_bytes word)) words.now }
 {
     words.iter().any(

@@ -5,22 +5,28 @@ ghost use Rattle.command_endings.specs.Printing.{ending};
 ghost use Rattle.fretime.specs.Reporting.{MayRefuse, PrintsFailure, SaysFailure, SaysWhy, object_command};
 ghost use Rattle.fretime.specs.Reporting as wanted;
 
+use crate::advising::advise;
+use crate::written::is_written;
 use circuit_files::{Failure, Outcome};
-use command_endings::print_failure;
+use command_endings::{fault_of, print_failure};
 use command_line::{Drawing, Task};
-use counted_io::{Buffered, CountedWrite};
-use fault_pages::{give_hint, tell_returns};
+use counted_io::CountedWrite;
+use fault_pages::{Message, Told, give_hint, tell_returns};
 use std::alloc::Global;
 use std::fmt::Write;
 use std::rt::Files;
 
 /// Reports a failure on one line, and returns how the run ends. A failed write changes nothing.
-pub fn report_failure<E: CountedWrite>(failure: Failure<'_>, err: &mut E) -> Outcome
+pub fn report_failure<E: CountedWrite>(
+    failure: Failure<'_>,
+    is_terminal: bool,
+    err: &mut E,
+) -> Outcome
     ensures { result ≡ outcome_of failure.entry }
 {
-    let mut out = Buffered::new(err);
-    let _ = writeln!(out, "{failure}");
-    let _ = out.flush();
+    let mut message = Message::new(err, is_terminal);
+    let _ = writeln!(message, "{failure}");
+    message.send();
     failure.outcome()
 }
 
@@ -49,6 +55,7 @@ pub fn report_failure_as<O: CountedWrite, E: CountedWrite>(
     command: &str,
     failure: Failure<'_>,
     json: bool,
+    is_terminal: bool,
     out: &mut O,
     err: &mut E,
 ) -> Outcome
@@ -59,7 +66,7 @@ pub fn report_failure_as<O: CountedWrite, E: CountedWrite>(
         (O.output out.new) }
 {
     print_failure_as(alloc, command, failure, json, out);
-    report_failure(failure, err)
+    report_failure(failure, is_terminal, err)
 }
 
 /// The name of a task's command, where its failures are printed as objects; a batch prints its own.
@@ -138,6 +145,26 @@ fn is_of_all(task: &Task<'_>, failure: Failure<'_>) -> bool
     }
 }
 
+/// Whether a failure is of a file that the task writes.
+fn is_of_written(task: &Task<'_>, failure: Failure<'_>) -> bool {
+    match failure {
+        Failure::Device(path) => is_written(task, path),
+        _ => false,
+    }
+}
+
+/// What is known of a failure beside its fixed text.
+pub fn told_of<'a>(failure: Failure<'a>, of_all: bool, is_written: bool) -> Told<'a> {
+    let fault = fault_of(failure);
+    Told {
+        failure,
+        fault: fault.name(),
+        offset: fault.offset(),
+        of_all,
+        is_written,
+    }
+}
+
 /// Tells on a terminal where the lines of a batch's list end with carriage returns.
 fn tell_of_list<R: Files, E: CountedWrite>(
     rt: &R,
@@ -150,8 +177,7 @@ fn tell_of_list<R: Files, E: CountedWrite>(
     }
 }
 
-/// How a task ends. Where it failed, reports why: as an object too where the task asks for objects, and with a hint on standard
-/// error.
+/// How a task ends. Where it failed, reports why: as an object too where the task asks for objects, and with a hint on a terminal.
 pub fn reported<'a, R: Files, O: CountedWrite, E: CountedWrite>(
     rt: &R,
     alloc: Global,
@@ -168,12 +194,16 @@ pub fn reported<'a, R: Files, O: CountedWrite, E: CountedWrite>(
 {
     tell_of_list(rt, task, is_terminal, err);
     match ended {
-        Ok(outcome) => outcome,
+        Ok(outcome) => {
+            advise(task, outcome, is_terminal, err);
+            outcome
+        }
         Err(failure) => {
             print_object(alloc, task, failure, out, err);
-            let outcome = report_failure(failure, err);
+            let outcome = report_failure(failure, is_terminal, err);
             let of_all = is_of_all(task, failure);
-            give_hint(rt, alloc, failure, of_all, is_terminal, err);
+            let told = told_of(failure, of_all, is_of_written(task, failure));
+            give_hint(rt, alloc, &told, is_terminal, err);
             outcome
         }
     }

@@ -11,7 +11,7 @@ ghost use Rattle.fretime.specs.Runs.{Does, MayGive, MayPrint, PrintsFilesOrRefus
 use crate::batch::retime_list;
 use crate::clashes::clash_error;
 use crate::explaining::explain;
-use crate::name_files::words_with_names;
+use crate::name_files::{name_files, tell_returns_of, words_with_names};
 use crate::reporting::{report_failure, reported};
 use circuit_files::{Failure, Outcome};
 use clap::Error;
@@ -19,6 +19,7 @@ use clap::error::ErrorKind;
 use command_line::{Task, parse_arguments};
 use commands::{convert, print_retimed, print_statistics, print_verification, write_picture};
 use counted_io::{Buffered, CountedRead, CountedWrite};
+use fault_pages::Message;
 use map_commands::{print_check, write_lifted, write_miter};
 use simulation_commands::{print_comparison, print_simulation, print_witness_back};
 use std::alloc::Global;
@@ -52,7 +53,7 @@ fn run_task<
         Task::Retime(retiming) => {
             print_retimed(rt, alloc, retiming, is_terminal, stdin, out, err)
         }
-        Task::Batch(batch) => Ok(retime_list(rt, alloc, batch, stdin, out, err)),
+        Task::Batch(batch) => { Ok(retime_list(rt, alloc, batch, is_terminal, stdin, out, err)) }
         Task::Stat(counting) => print_statistics(rt, alloc, counting, stdin, out),
         Task::Convert(input, output, spelling) => {
             convert(rt, alloc, *input, *output, *spelling, stdin, out)
@@ -65,13 +66,13 @@ fn run_task<
         Task::Lift(lifting) => write_lifted(rt, alloc, lifting, stdin, out),
         Task::Dot(drawing) => { write_picture(rt, alloc, drawing, is_terminal, stdin, out, err) }
         Task::Witness(carrying) => print_witness_back(rt, alloc, carrying, stdin, out),
-        Task::Explain(name) => explain(alloc, *name, out, err),
+        Task::Explain(name) => explain(alloc, *name, is_terminal, out, err),
     }
 }
 
 /// Prints help, the version, or what is wrong with the arguments, and returns how the run ends. A failed write changes
 /// nothing.
-fn report_usage<E: CountedWrite>(error: &Error, err: &mut E) -> Outcome
+fn report_usage<E: CountedWrite>(error: &Error, is_terminal: bool, err: &mut E) -> Outcome
     ensures ends { (result ≡ Done) ⊎ (result ≡ CommandLine) ⊎ (result ≡ Memory) }
     ensures memory { kind_of error.now ≡ OutOfMemory → result ≡ Memory }
     ensures shown { (kind_of error.now ≡ DisplayHelp) ⊎ (kind_of error.now ≡ DisplayVersion)
@@ -80,11 +81,11 @@ fn report_usage<E: CountedWrite>(error: &Error, err: &mut E) -> Outcome
         → kind_of error.now ≢ DisplayVersion → result ≡ CommandLine }
 {
     if error.kind() == ErrorKind::OutOfMemory {
-        return report_failure(Failure::Memory, err);
+        return report_failure(Failure::Memory, is_terminal, err);
     }
-    let mut out = Buffered::new(err);
-    let _ = write!(out, "{error}");
-    let _ = out.flush();
+    let mut message = Message::new(err, is_terminal);
+    let _ = write!(message, "{error}");
+    message.send();
     if error.use_stderr() {
         Outcome::CommandLine
     } else {
@@ -93,10 +94,10 @@ fn report_usage<E: CountedWrite>(error: &Error, err: &mut E) -> Outcome
 }
 
 /// The same, and lets it go.
-fn refuse_line<E: CountedWrite>(error: Error, err: &mut E) -> Outcome
+fn refuse_line<E: CountedWrite>(error: Error, is_terminal: bool, err: &mut E) -> Outcome
     ensures { (result ≡ Done) ⊎ (result ≡ CommandLine) ⊎ (result ≡ Memory) }
 {
-    let outcome = report_usage(&error, err);
+    let outcome = report_usage(&error, is_terminal, err);
     drop(error);
     outcome
 }
@@ -108,7 +109,7 @@ pub fn report_unreadable_arguments<E: CountedWrite>(error: &io::Error, err: &mut
     ensures mistake { error_kind error.now ≢ kinds.OutOfMemory → result ≡ 2 }
 {
     if error.kind() == io::ErrorKind::OutOfMemory {
-        return report_failure(Failure::Memory, err).status();
+        return report_failure(Failure::Memory, false, err).status();
     }
     let mut out = Buffered::new(err);
     let _ = writeln!(out, "error: an argument is not UTF-8");
@@ -162,13 +163,13 @@ fn run_named<R: Files + Threads + Sync + Clock, I: CountedRead, O: CountedWrite,
     match parse_arguments(alloc, words.named) {
         Ok(task) => {
             let outcome = match clash_error(rt, alloc, &task, words.given) {
-                Some(error) => refuse_line(error, err),
+                Some(error) => refuse_line(error, is_terminal, err),
                 None => finish_task(rt, alloc, &task, is_terminal, stdin, out, err),
             };
             drop(task);
             outcome
         }
-        Err(error) => refuse_line(error, err),
+        Err(error) => refuse_line(error, is_terminal, err),
     }
 }
 
@@ -178,6 +179,28 @@ fn without_flag_of_help(words: &[String]) -> &[String] {
         && words[1].as_str() == "help"
         && (words[2].as_str() == "--help" || words[2].as_str() == "-h");
     if is_flag { &words[..2] } else { words }
+}
+
+/// Reports why names of files can't be put in, as the command that the words ask for reports its failures.
+fn report_without_names<R: Files, O: CountedWrite, E: CountedWrite>(
+    rt: &R,
+    alloc: Global,
+    words: &[String],
+    failure: Failure<'_>,
+    is_terminal: bool,
+    out: &mut O,
+    err: &mut E,
+) -> Outcome
+    ensures { MayPrint result (O.output out.old) (O.output out.new) }
+{
+    match parse_arguments(alloc, words) {
+        Ok(task) => {
+            let outcome = reported(rt, alloc, &task, Err(failure), is_terminal, out, err);
+            drop(task);
+            outcome
+        }
+        Err(error) => refuse_line(error, is_terminal, err),
+    }
 }
 
 /// Does what the arguments ask for, and returns how the run ends.
@@ -210,7 +233,57 @@ fn run_command<R: Files + Threads + Sync + Clock, I: CountedRead, O: CountedWrit
             drop(named);
             outcome
         }
-        Err(failure) => report_failure(failure, err),
+        Err(failure) => report_without_names(rt, alloc, words, failure, is_terminal, out, err),
+    }
+}
+
+/// The same of arguments that name a file of names: they are read before any file is. Where a file is refused, a terminal is told of
+/// names that end with carriage returns.
+fn run_with_files<
+    R: Files + Threads + Sync + Clock,
+    I: CountedRead,
+    O: CountedWrite,
+    E: CountedWrite,
+>(
+    rt: &R,
+    alloc: Global,
+    words: &[String],
+    is_terminal: bool,
+    stdin: &mut I,
+    out: &mut O,
+    err: &mut E,
+) -> Outcome
+    ensures { MayPrint result (O.output out.old) (O.output out.new) }
+{
+    match parse_arguments(alloc, words) {
+        Ok(task) => {
+            drop(task);
+            let outcome = run_command(rt, alloc, words, is_terminal, stdin, out, err);
+            if outcome == Outcome::Refused {
+                tell_returns_of(rt, words, is_terminal, err);
+            }
+            outcome
+        }
+        Err(error) => refuse_line(error, is_terminal, err),
+    }
+}
+
+/// The same of any arguments.
+fn run_line<R: Files + Threads + Sync + Clock, I: CountedRead, O: CountedWrite, E: CountedWrite>(
+    rt: &R,
+    alloc: Global,
+    words: &[String],
+    is_terminal: bool,
+    stdin: &mut I,
+    out: &mut O,
+    err: &mut E,
+) -> Outcome
+    ensures { MayPrint result (O.output out.old) (O.output out.new) }
+{
+    if name_files(words) {
+        run_with_files(rt, alloc, words, is_terminal, stdin, out, err)
+    } else {
+        run_command(rt, alloc, words, is_terminal, stdin, out, err)
     }
 }
 
@@ -243,5 +316,5 @@ pub fn run_words<
     ensures memory { (result ≡ 4) → (O.output out.new ≡ O.output out.old)
         ⊎ PrintsFilesOrRefusal Memory (O.output out.old) (O.output out.new) }
 {
-    run_command(rt, alloc, words, is_terminal, stdin, out, err).status()
+    run_line(rt, alloc, words, is_terminal, stdin, out, err).status()
 }

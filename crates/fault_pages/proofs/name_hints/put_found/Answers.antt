@@ -1,6 +1,6 @@
 use Rattle.counted_io.proofs.BufferedLaws.{puts-then}
 use Rattle.fault_pages.specs.HintedLines.{lead, nearest_line}
-use Rattle.fault_pages.proofs.hints.put_found.Goals as goal
+use Rattle.fault_pages.proofs.name_hints.put_found.Goals as goal
 
 pub returns : goal.returns
 unfolding nearest_line

@@ -1,0 +1,59 @@
+//! Why a file can't be read or written, in the system's words. A run counts what fails, and keeps no words: what failed is tried once
+//! more, in a way that changes no file.
+use std::fs;
+use std::fs::{File, OpenOptions};
+use std::io::{Error, ErrorKind, Read};
+use std::rt::Files;
+
+/// Why the file, or folder, that is there can't be read.
+fn why_unread<R: Files>(rt: &R, path: &str) -> Option<Error> {
+    match File::open(rt, path) {
+        Ok(file) => {
+            let mut file = file;
+            let mut piece = [0u8; 1];
+            file.read(&mut piece).err()
+        }
+        Err(error) => Some(error),
+    }
+}
+
+/// Why the file, or folder, that is there can't be written. It isn't emptied.
+fn why_unwritten<R: Files>(rt: &R, path: &str) -> Option<Error> {
+    let mut options = OpenOptions::new();
+    options.write(true);
+    options.open(rt, path).err()
+}
+
+/// Why the file, which isn't there, can't be made. One that is made after all is taken away.
+fn why_unmade<R: Files>(rt: &R, path: &str) -> Option<Error> {
+    match File::create_new(rt, path) {
+        Ok(file) => {
+            drop(file);
+            let _ = fs::remove_file(rt, path);
+            None
+        }
+        Err(error) if error.kind() == ErrorKind::AlreadyExists => None,
+        Err(error) => Some(error),
+    }
+}
+
+/// Why the file with this path can't be read, or written. Nothing is known of a standard stream, whose name is no path, nor of a pipe
+/// or a device, where trying again could wait.
+pub(crate) fn reason<R: Files>(rt: &R, path: &str, is_written: bool) -> Option<Error> {
+    if path == "stdin" || path == "stdout" {
+        return None;
+    }
+    match fs::metadata(rt, path) {
+        Ok(metadata) if !metadata.is_file() && !metadata.is_dir() => None,
+        Ok(_) if is_written => why_unwritten(rt, path),
+        Ok(_) => why_unread(rt, path),
+        Err(error) => {
+            if is_written {
+                drop(error);
+                why_unmade(rt, path)
+            } else {
+                Some(error)
+            }
+        }
+    }
+}
