@@ -74,6 +74,11 @@ def program() -> str:
     return found
 
 
+def environment() -> dict[str, str]:
+    """The environment of the program: with pages of 2 MB, which make a run over millions of gates quicker, unless it says otherwise."""
+    return {'GLIBC_TUNABLES': 'glibc.malloc.hugetlb=1', **os.environ}
+
+
 def refused(ran: Ran, report: dict[str, Any] | None) -> RetimeError:
     """The error of a run that failed. Where no memory was left for an object, the status alone tells."""
     if report is None:
@@ -91,7 +96,7 @@ def report_of(text: bytes) -> dict[str, Any] | None:
 def run(words: Iterable[str | os.PathLike[str]], input: bytes = b'', *, seconds: float | None = None) -> Ran:
     """Runs the program with these words, as ['check', 'in.aig', 'out.aig', 'map.aig'], and these bytes on standard input, which is
     the file `-`. No status raises an error: 5 is an answer. A run of over `seconds` raises subprocess.TimeoutExpired."""
-    ran = subprocess.run([program(), *words], input=input, capture_output=True, timeout=seconds, check=False)
+    ran = subprocess.run([program(), *words], input=input, capture_output=True, env=environment(), timeout=seconds, check=False)
     return Ran(ran.returncode, ran.stdout, ran.stderr)
 
 
