@@ -26,7 +26,7 @@ COMMANDS = fretime fretime_verilog
 SCRIPTS = fretime_verilog circuits.py netlists.py writing.py
 # the documents that are installed: all but those of work on the sources
 DOCUMENTS = README.md CHANGELOG.md SECURITY.md examples/verilog/README.md \
-	$(filter-out $(addprefix docs/,ARCHITECTURE.md COSTS.md PROOFS.md),$(wildcard docs/*.md))
+	$(filter-out $(addprefix docs/,ARCHITECTURE.md COSTS.md PROOFS.md TRAPS.md),$(wildcard docs/*.md))
 STAGE = out/deb
 PACKAGE = out/fretime_$(VERSION)_amd64.deb
 TARBALL = out/fretime-$(VERSION)-x86_64-linux.tar.gz

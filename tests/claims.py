@@ -88,10 +88,6 @@ def claims():
         Claim('docs/FORMAT.md', r'a number above (2\^\d+ - 1)', power(constant('certificate_files', 'MAX_NUMBER'))),
         Claim('docs/DEFINITIONS.md', r'`MAX_VARIABLES` \((2\^\d+)\)', power(constant('aig_graph', 'MAX_VARIABLES'))),
         Claim('docs/DECISIONS.md', r'links, ([\d.]+) MB', megabytes_of_release()),
-        Claim('docs/DECISIONS.md', r'at least (\d+), or a quarter of all', constant('pulse', 'MANY_ACTIVE')),
-        Claim('docs/DECISIONS.md', r'more than (\d+) arcs', constant('flow_part', 'LONG_ROW')),
-        Claim('docs/DECISIONS.md', r'below `(\d+) \* \(p', constant('reader_parts', 'VARIABLES_A_PLACE')),
-        Claim('docs/DECISIONS.md', r'\* \(p \+ (\d+)\)`', constant('reader_parts', 'SPARE')),
     ]
 
 
