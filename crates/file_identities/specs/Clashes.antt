@@ -28,7 +28,7 @@ is_written roles.Written = true
 -- whether what is written may take the place of what is read
 abbrev pub replaces : Role → Role → Bool
 replaces roles.Remade roles.Original = true
-replaces written other = false
+replaces _ _ = false
 
 abbrev pub is_stream : Place → Bool
 is_stream places.Stdin = true
