@@ -1,4 +1,3 @@
-pub mod LevelLaws
 pub mod HeldBackLaws
 pub mod RemainingLaws
 pub mod CountLaws

@@ -1,4 +1,3 @@
-pub mod Levels
 pub mod HeldBack
 pub mod Counts
 pub mod Remaining

@@ -3,11 +3,9 @@
 #![tactic(auto)]
 
 mod held_back;
-mod leveling;
 mod remaining;
 mod statistics;
 
 pub use held_back::HeldBack;
-pub use leveling::levels;
 pub use remaining::Remaining;
 pub use statistics::{Counts, Statistics};

@@ -3,9 +3,9 @@ ghost use Rattle.std.specs.Prelude.{◌≡◌, IfOk, length, []};
 ghost use Rattle.frame_net.specs.Passable.{passable_gates};
 ghost use Rattle.circuit_counts.specs.Counts.{counts, statistics};
 
-use crate::leveling::levels;
 use aig_graph::{Circuit, Keep, NoMemory};
 use frame_net::passable;
+use path_levels::levels;
 use std::alloc::Global;
 
 /// How many there are of each kind in a circuit.

@@ -16,7 +16,7 @@ use Rattle.frames.specs.declared.errors.BytesError.TheVariants.{Read, Retime, Wr
 use Rattle.frames.specs.declared.errors.RetimeError.TheVariants.{NoMemory, NoSuchName}
 use Rattle.counted_io.specs.Output.{Output}
 use Rattle.retimed_circuits.specs.declared.report.Retimed.{Retimed}
-use Rattle.circuit_counts.specs.Levels.{levels}
+use Rattle.path_levels.specs.Levels.{levels}
 use Rattle.circuit_counts.specs.Remaining.{remaining}
 use Rattle.circuit_counts.specs.declared.remaining.Remaining.{Remaining}
 use Rattle.reports.specs.Retimings.{retiming_text}

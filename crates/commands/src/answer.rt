@@ -13,7 +13,7 @@ ghost use Rattle.commands.specs.RetimingTasks.{AreOptionsOf, HasFailed, IsFailur
 use crate::holding::missing_latch;
 use aig_binary::SpeltCircuit;
 use aig_graph::{Circuit, NoMemory};
-use circuit_counts::levels;
+use path_levels::levels;
 use circuit_files::{Failure, LazyFile};
 use command_endings::missing_name;
 use command_line::Retiming;

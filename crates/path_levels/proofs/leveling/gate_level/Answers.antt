@@ -1,9 +1,9 @@
 use Rattle.std.proofs.Common.{arith, ◌∙◌, ◌≡◌, ◌≤◌, ◌+◌, ◌<◌, ℕ, length, ap, ap₂, sym, subst, max}
 use Rattle.std.proofs.Math.Nat.{max-le}
 use Rattle.aig_graph.specs.Graph.{first_gate, variable}
-use Rattle.circuit_counts.specs.Levels.{level}
-use Rattle.circuit_counts.proofs.LevelLaws.{fan-level, fan-bound}
-use Rattle.circuit_counts.proofs.leveling.gate_level.Goals as goal
+use Rattle.path_levels.specs.Levels.{level}
+use Rattle.path_levels.proofs.LevelLaws.{fan-level, fan-bound}
+use Rattle.path_levels.proofs.leveling.gate_level.Goals as goal
 
 pub overflow_add-result : goal.overflow_add-result
 overflow_add-result c =

@@ -1,7 +1,6 @@
-use Rattle.std.proofs.Common.{◌∙◌, ◌≡◌, ap, subst, List, ℕ}
-use Rattle.aig_graph.specs.Graph.{Graph, first_gate}
-use Rattle.circuit_counts.proofs.LevelLaws.{levels-by}
-use Rattle.circuit_counts.proofs.leveling.levels.Goals as goal
+use Rattle.std.proofs.Common.{◌∙◌}
+use Rattle.path_levels.proofs.LevelLaws.{levels-by}
+use Rattle.path_levels.proofs.leveling.levels.Goals as goal
 
 pub returns : goal.returns
 returns c =

@@ -5,7 +5,7 @@ ghost use Rattle.std.specs.List.{flat_map};
 ghost use Rattle.variable_tables.specs.Tables.{table};
 ghost use Rattle.aig_graph.specs.Graph.{variable, first_gate, IsGateAt};
 ghost use Rattle.aig_graph.specs.Streams.{property_literals};
-ghost use Rattle.circuit_counts.specs.Levels.{entry_at, highest, level, levels};
+ghost use Rattle.path_levels.specs.Levels.{entry_at, highest, level, levels};
 
 use aig_graph::{Aig, Circuit, Gate, Latch, Lit, NoMemory, Props, Sequence};
 use std::alloc::Global;

@@ -1,5 +1,5 @@
 -- The levels of variables, gate by gate, and the greatest of what is read.
-use Rattle.std.proofs.Common.{ℕ, ◌+◌, ◌-◌, ◌<◌, ◌≤◌, ◌≡◌, ◌∙◌, ◌++◌, ◌⊎◌, inl, inr, suc, zero, nat_le, cond, List, [], ◌∷◌, get_or, length, map, Option, Some, None, refl, sym, ap, subst, arith}
+use Rattle.std.proofs.Common.{ℕ, ◌+◌, ◌-◌, ◌<◌, ◌≤◌, ◌≡◌, ◌∙◌, ◌++◌, ◌⊎◌, inl, inr, suc, zero, List, [], ◌∷◌, get_or, length, map, Option, Some, None, refl, sym, ap, subst, arith}
 use Rattle.std.specs.Prelude.{max, slice_index_or}
 use Rattle.std.proofs.Math.Nat.{max-le}
 use Rattle.std.proofs.lemmas.Bool.{cases_lt, cond-false, cond-true, lt-leb, le-leb}
@@ -17,8 +17,15 @@ use Rattle.aig_graph.specs.Folding.{fold_step, fold_to_depth, fold_gates}
 use Rattle.aig_graph.specs.Streams.{property_literals}
 use Rattle.aig_graph.proofs.FoldingLaws.{gate_at-before, gate_at-first_gate, gate_at-is, fold_gates-leaf, fold_gates-gate}
 use Rattle.aig_graph.proofs.KindLaws.{gate_place}
-use Rattle.frame_net.proofs.PassableLaws.{gate_cases}
-use Rattle.circuit_counts.specs.Levels.{ground_level, one_above, level, highest, read_literals, levels, entry_at}
+use Rattle.path_levels.specs.Levels.{ground_level, one_above, level, highest, read_literals, levels, entry_at}
+
+-- there is a gate at a variable, or none
+gate_cases : (g : Graph) (v : ℕ) → (gate_at g v ≡ None) ⊎ ((gate : Gate) × (gate_at g v ≡ Some gate))
+gate_cases g v = cases (gate_at g v)
+  where
+    cases : (o : Option Gate) → (o ≡ None) ⊎ ((gate : Gate) × (o ≡ Some gate))
+    cases None = inl refl
+    cases (Some gate) = inr (gate, refl)
 
 step-bound : (n : ℕ) (below : ℕ → ℕ) → ((w : ℕ) → below w ≤ n) → (v : ℕ) (o : Option Gate) → fold_step ground_level one_above below v o ≤ suc n
 step-bound n below each v None = omega arith

@@ -1,9 +1,9 @@
 use Rattle.std.proofs.Common.{◌∙◌, sym}
 use Rattle.variable_tables.proofs.TableLaws.{table-none, whole-table}
 use Rattle.aig_graph.specs.Graph.{first_gate}
-use Rattle.circuit_counts.specs.Levels.{level}
-use Rattle.circuit_counts.proofs.LevelLaws.{level-more, next-gate, table-size}
-use Rattle.circuit_counts.proofs.leveling.gate_levels.Goals as goal
+use Rattle.path_levels.specs.Levels.{level}
+use Rattle.path_levels.proofs.LevelLaws.{level-more, next-gate, table-size}
+use Rattle.path_levels.proofs.leveling.gate_levels.Goals as goal
 
 pub loop-gate-init : goal.loop-gate-init
 loop-gate-init c = c.in_ok-entries.ensures.items ∙ sym (table-none (first_gate c.args.aig.now) (level c.args.aig.now))
