@@ -1,0 +1,1 @@
+//! Cleaning and merging latches raise no level.

@@ -1,0 +1,5 @@
+//! What moving latches and cleaning make of the levels of a circuit.
+#![tactic(auto)]
+
+mod cleaning;
+mod moving;
