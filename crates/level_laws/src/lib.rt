@@ -3,3 +3,5 @@
 
 mod cleaning;
 mod moving;
+
+pub use moving::moving_levels_law;
