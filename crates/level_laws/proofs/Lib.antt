@@ -1,2 +1,3 @@
 pub mod HighestLaws
 pub mod MovingLaws
+pub mod Examples

@@ -1,6 +1,6 @@
 -- The levels of what stands in a moved graph: of what is read from outside the set at most the level that it had, of a member's copy at most the
 -- member's arrival.
-use Rattle.std.proofs.Common.{ℕ, ◌+◌, ◌-◌, ◌*◌, ◌<◌, ◌≤◌, ◌≡◌, ◌∙◌, inl, inr, suc, zero, List, map, max, get_or, slice_get, Bool, true, false, cond, Option, Some, None, refl, sym, ap, subst, arith}
+use Rattle.std.proofs.Common.{ℕ, ◌+◌, ◌-◌, ◌*◌, ◌<◌, ◌≤◌, ◌≡◌, ◌∙◌, inl, inr, suc, zero, List, max, get_or, Bool, true, false, cond, Option, Some, None, refl, sym, ap, subst, arith}
 use Rattle.std.specs.List.{All}
 use Rattle.std.proofs.lemmas.Bool.{cases_Bool, cases_lt}
 use Rattle.std.proofs.lemmas.List.Elements.{All-map}
@@ -25,7 +25,7 @@ use Rattle.path_levels.proofs.LevelLaws.{level-gate}
 use Rattle.rebuild.proofs.BorderLaws.{closed-passable, latched-cases, latched-latch, latched-member, member-gate, new_variable-latched, new_variable-leaf, new_variable-outside, outside_where, read-first, read-next, read-second}
 use Rattle.rebuild.proofs.MovedLaws.{copies_start-is, copy_in, copy_variable-is, gate_in, gates_start-is, latch_source, moved-first_gate}
 use Rattle.rebuild.proofs.ReadLaws.{IsReadable, all-readable, moved-literals}
-use Rattle.rebuild.specs.Moved.{advanced, advanced_literal, copy_for, copy_variable, gate_between, gate_for, gates_start, is_latched, is_outside, latch_for, latch_from, moved_graph, moved_literal, moved_of, moved_props, new_variable, next_of}
+use Rattle.rebuild.specs.Moved.{advanced, advanced_literal, copy_variable, gate_between, gates_start, is_latched, is_outside, latch_for, latch_from, moved_graph, moved_literal, moved_of, moved_props, new_variable, next_of}
 use Rattle.variable_tables.proofs.PlacesLaws.{count-lt}
 use Rattle.variable_tables.specs.Counting.{count_below}
 use Rattle.variable_tables.specs.Marking.{has}
