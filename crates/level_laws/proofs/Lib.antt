@@ -1,0 +1,5 @@
+pub mod HighestLaws
+pub mod SubstituteLevelLaws
+pub mod ReplacedLevelLaws
+pub mod TrimmedLevelLaws
+pub mod CleaningLevelLaws

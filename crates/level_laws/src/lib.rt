@@ -3,3 +3,5 @@
 
 mod cleaning;
 mod moving;
+
+pub use cleaning::cleaning_levels_law;
