@@ -1,3 +1,7 @@
 pub mod HighestLaws
-pub mod MovingLaws
+pub mod SubstituteLevelLaws
+pub mod ReplacedLevelLaws
+pub mod TrimmedLevelLaws
+pub mod CleaningLevelLaws
+pub mod MovedLevelLaws
 pub mod Examples

@@ -1,5 +1,5 @@
 use Rattle.aig_graph.specs.Move.{move_of}
-use Rattle.level_laws.proofs.MovingLaws.{moved-levels}
+use Rattle.level_laws.proofs.MovedLevelLaws.{moved-levels}
 use Rattle.level_laws.proofs.moving.moving_levels_law.Goals as goal
 
 pub returns : goal.returns

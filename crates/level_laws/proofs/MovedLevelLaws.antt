@@ -4,7 +4,6 @@ use Rattle.std.proofs.Common.{ℕ, ◌+◌, ◌-◌, ◌*◌, ◌<◌, ◌≤◌
 use Rattle.std.specs.List.{All}
 use Rattle.std.proofs.lemmas.Bool.{cases_Bool, cases_lt}
 use Rattle.std.proofs.lemmas.List.Elements.{All-map}
-use Rattle.std.proofs.lemmas.Option.{slice_get-get_or}
 use Rattle.aig_graph.specs.declared.graph.Gate.{Gate}
 use Rattle.aig_graph.specs.declared.graph.Latch.{Latch}
 use Rattle.aig_graph.specs.Border.{is_read}
@@ -25,11 +24,11 @@ use Rattle.path_levels.proofs.LevelLaws.{level-gate}
 use Rattle.rebuild.proofs.BorderLaws.{closed-passable, latched-cases, latched-latch, latched-member, member-gate, new_variable-latched, new_variable-leaf, new_variable-outside, outside_where, read-first, read-next, read-second}
 use Rattle.rebuild.proofs.MovedLaws.{copies_start-is, copy_in, copy_variable-is, gate_in, gates_start-is, latch_source, moved-first_gate}
 use Rattle.rebuild.proofs.ReadLaws.{IsReadable, all-readable, moved-literals}
-use Rattle.rebuild.specs.Moved.{advanced, advanced_literal, copy_variable, gate_between, gates_start, is_latched, is_outside, latch_for, latch_from, moved_graph, moved_literal, moved_of, moved_props, new_variable, next_of}
+use Rattle.rebuild.specs.Moved.{advanced, advanced_literal, copy_variable, gate_between, gates_start, is_latched, is_outside, latch_for, latch_from, moved_graph, moved_literal, moved_of, new_variable, next_of}
 use Rattle.variable_tables.proofs.PlacesLaws.{count-lt}
 use Rattle.variable_tables.specs.Counting.{count_below}
 use Rattle.variable_tables.specs.Marking.{has}
-use Rattle.level_laws.proofs.HighestLaws.{levels-most, levels-next, levels-property}
+use Rattle.level_laws.proofs.HighestLaws.{IsReadWithin, levels-most, read-within_levels}
 
 -- the level of a variable, as far as this many gates on each way show it
 abbrev shown_level : Graph → ℕ → ℕ → ℕ
@@ -223,7 +222,7 @@ module _ (m : Move) (valid : IsGraph m.circuit.aig) (set : IsClosedSet m.circuit
         let next : (latch_for m v).next ≡ moved_literal m old.0.next = ap (λ (o : Option Latch). (latch_from m v o).next) old.1 in
         let same = ap (λ (lit : ℕ). level (moved_graph m) (variable lit)) next in
         let moved = level-moved_literal old.0.next (record { read = read-next m j old.0 place.there; within = valid.latches j old.0 place.there }) in
-        omega (arith, same, moved, levels-next m.circuit j old.0 place.there))
+        omega (arith, same, moved, (read-within_levels m.circuit).next j old.0 place.there))
     | inr new ↦ (
         let next : (latch_for m v).next ≡ 2 * copy_variable m v = ap (λ (o : Option Latch). (latch_from m v o).next) new.0 in
         let copy : variable (latch_for m v).next ≡ copy_variable m v = omega (arith, next) in
@@ -231,21 +230,24 @@ module _ (m : Move) (valid : IsGraph m.circuit.aig) (set : IsClosedSet m.circuit
         omega (arith, same, level-copy v new.1, within v ((has_iff_contains m.set v).0 new.1)))
   ]
 
-  all-nexts : (bound : ℕ) → ArriveWithin bound m.circuit.aig m.set → All (λ (latch : Latch). level (moved_graph m) (variable latch.next) ≤ max bound (levels m.circuit)) (moved_graph m).latches
-  all-nexts bound within = λ k d h.
-      let latch : Latch = get_or (moved_graph m).latches k d in
-      let from = latch_source m k latch (slice_get-get_or (moved_graph m).latches k d h) in
-      let P : Latch → Type 0 = λ x. level (moved_graph m) (variable x.next) ≤ max bound (levels m.circuit) in
-      subst P (sym from.2) (level-next bound from.0 within from.1.passes)
-
-  all-properties : (bound : ℕ) → IsNetlist m.circuit → All (λ lit. level (moved_graph m) (variable lit) ≤ max bound (levels m.circuit)) (property_literals (moved_props m))
-  all-properties bound netlist =
-      let P : ℕ → Type 0 = λ lit. level (moved_graph m) (variable lit) ≤ max bound (levels m.circuit) in
-      let each : All (λ lit. P (moved_literal m lit)) (property_literals m.circuit.props) = λ k d h.
-      omega (arith, level-moved_literal (get_or (property_literals m.circuit.props) k d) (all-readable m netlist k d h), levels-property m.circuit k d h) in
-      subst (λ (lits : List ℕ). All P lits) (sym (moved-literals m)) (All-map P (moved_literal m) (property_literals m.circuit.props) each)
+-- what a circuit reads whose latches have moved over gates that arrive within the bound
+moved-within : (m : Move) → IsGraph m.circuit.aig → (bound : ℕ) → IsClosedWithin bound m.circuit.aig m.held m.set → IsNetlist m.circuit → IsReadWithin (max bound (levels m.circuit)) (moved_of m)
+moved-within m valid bound set netlist =
+    let most : ℕ = max bound (levels m.circuit) in
+    let P : ℕ → Type 0 = λ lit. level (moved_graph m) (variable lit) ≤ most in
+    let each : All (λ lit. P (moved_literal m lit)) (property_literals m.circuit.props) = λ k d h.
+    omega (
+      arith,
+      level-moved_literal m valid set.closed (get_or (property_literals m.circuit.props) k d) (all-readable m netlist k d h),
+      (read-within_levels m.circuit).properties k d h,
+    ) in
+    record {
+      next = λ k latch there.
+          let from = latch_source m k latch there in
+          subst (λ (x : Latch). P x.next) (sym from.2) (level-next m valid set.closed bound from.0 set.within from.1.passes);
+      properties = subst (λ (lits : List ℕ). All P lits) (sym (moved-literals m)) (All-map P (moved_literal m) (property_literals m.circuit.props) each);
+    }
 
 -- latches that have moved over gates that arrive within the bound leave no path longer than the bound, but for those that were there
 pub moved-levels : (m : Move) → IsGraph m.circuit.aig → (bound : ℕ) → IsClosedWithin bound m.circuit.aig m.held m.set → IsNetlist m.circuit → levels (moved_of m) ≤ max bound (levels m.circuit)
-moved-levels m valid bound closed netlist =
-    levels-most (moved_of m) (max bound (levels m.circuit)) (all-nexts m valid closed.closed bound closed.within) (all-properties m valid closed.closed bound netlist)
+moved-levels m valid bound set netlist = levels-most (max bound (levels m.circuit)) (moved_of m) (moved-within m valid bound set netlist)
