@@ -72,14 +72,14 @@ unfolding level fold_gates
 shown-whole g v = refl
 
 -- a latch arrives at the level of its next literal
-pub arrival-latch : (g : Graph) (v : ℕ) (latch : Latch) → latch_at g v ≡ Some latch → arrival g v ≡ level g (variable latch.next)
+arrival-latch : (g : Graph) (v : ℕ) (latch : Latch) → latch_at g v ≡ Some latch → arrival g v ≡ level g (variable latch.next)
 unfolding arrival
 arrival-latch g v latch there =
     let place : LatchPlace g v latch = latch_place g v latch there in
     fold_gates-leaf g (next_level g) one_above v (gate_at-before g v place.below) ∙ ap (level_of_next g) there
 
 -- a gate arrives one after the later of its fan-ins
-pub arrival-gate : (g : Graph) → IsGraph g → (v : ℕ) (gate : Gate) → gate_at g v ≡ Some gate
+arrival-gate : (g : Graph) → IsGraph g → (v : ℕ) (gate : Gate) → gate_at g v ≡ Some gate
     → arrival g v ≡ suc (max (arrival g (variable gate.rhs0)) (arrival g (variable gate.rhs1)))
 unfolding arrival
 arrival-gate g valid v gate there = fold_gates-gate g valid (next_level g) one_above v gate there
@@ -204,13 +204,13 @@ module _ (m : Move) (valid : IsGraph m.circuit.aig) (set : IsClosedSet m.circuit
       omega (arith, made, arrival-gate m.circuit.aig valid v gate there.1)
 
   -- what is read in the place of a literal from outside
-  pub level-moved_literal : (lit : ℕ) → IsReadable m lit → level (moved_graph m) (variable (moved_literal m lit)) ≤ level m.circuit.aig (variable lit)
+  level-moved_literal : (lit : ℕ) → IsReadable m lit → level (moved_graph m) (variable (moved_literal m lit)) ≤ level m.circuit.aig (variable lit)
   level-moved_literal lit readable =
       let v : ℕ = variable (moved_literal m lit) in
       omega (arith, shown-whole (moved_graph m) v, moved_literal-level (suc v) (keeps-outside (suc v)) lit readable.within readable.read)
 
   -- a member's copy
-  pub level-copy : (v : ℕ) → has m.set v ≡ true → level (moved_graph m) (copy_variable m v) ≤ arrival m.circuit.aig v
+  level-copy : (v : ℕ) → has m.set v ≡ true → level (moved_graph m) (copy_variable m v) ≤ arrival m.circuit.aig v
   level-copy v member = omega (arith, shown-whole (moved_graph m) (copy_variable m v), keeps-arrival (suc (copy_variable m v)) v member)
 
   -- what the latch of a variable reads: a next literal as before, or a copy that arrives within the bound
