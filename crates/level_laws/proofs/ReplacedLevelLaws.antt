@@ -1,5 +1,5 @@
 -- A circuit that reads what stands for what it read is no deeper.
-use Rattle.std.proofs.Common.{zero-add, ℕ, ◌<◌, ◌≤◌, ◌≡◌, List, length, Some, slice_get, get_or, arith, ap, sym, ◌∙◌, subst}
+use Rattle.std.proofs.Common.{ℕ, ◌<◌, ◌≤◌, List, get_or, arith, sym, subst}
 use Rattle.std.specs.List.{All}
 use Rattle.std.proofs.lemmas.List.Elements.{All-map}
 use Rattle.aig_graph.specs.declared.graph.Latch.{Latch}
@@ -9,7 +9,7 @@ use Rattle.aig_graph.specs.Streams.{property_literals}
 use Rattle.aig_graph.proofs.PropsLaws.{mapped-literals, literals_within}
 use Rattle.variable_tables.specs.Tables.{table}
 use Rattle.cleaned_circuits.specs.Latches.{leaf_substitute}
-use Rattle.cleaned_circuits.specs.Merged.{replaced, replaced_graph, replaced_circuit, substitutes_after, substitutes_of, merged_of}
+use Rattle.cleaned_circuits.specs.Merged.{replaced, replaced_graph, replaced_circuit, substitutes_of, merged_of}
 use Rattle.cleaned_circuits.proofs.LatchLaws.{leaf_substitute-below}
 use Rattle.cleaned_circuits.proofs.SubstituteLaws.{AreLeaves, start-length, start-entry, substitutes-after}
 use Rattle.cleaned_circuits.proofs.MergedLaws.{from_latch}
