@@ -4,3 +4,5 @@ pub mod SubstituteLevelLaws
 pub mod ReplacedLevelLaws
 pub mod TrimmedLevelLaws
 pub mod CleaningLevelLaws
+pub mod MovedLevelLaws
+pub mod Examples

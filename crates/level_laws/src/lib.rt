@@ -5,3 +5,4 @@ mod cleaning;
 mod moving;
 
 pub use cleaning::cleaning_levels_law;
+pub use moving::moving_levels_law;
