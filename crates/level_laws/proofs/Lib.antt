@@ -1,4 +1,5 @@
 pub mod HighestLaws
+pub mod GateLevelLaws
 pub mod SubstituteLevelLaws
 pub mod ReplacedLevelLaws
 pub mod TrimmedLevelLaws

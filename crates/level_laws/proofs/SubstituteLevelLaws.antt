@@ -1,7 +1,7 @@
--- What stands for a literal has at most the literal's level, and a kept gate's literal at most the level of a gate of its fan-ins.
-use Rattle.std.proofs.Common.{ℕ, ◌+◌, ◌*◌, ◌<◌, ◌≤◌, ◌≡◌, inl, inr, suc, List, [], ◌∷◌, ◌++◌, length, max, Option, Some, None, slice_get, get_or, refl, arith, ap, ap₂, sym, ◌∙◌, subst}
+-- What stands for a literal has, in the circuit that reads what stands, at most the level that the literal had.
+use Rattle.std.proofs.Common.{ℕ, ◌+◌, ◌*◌, ◌<◌, ◌≤◌, ◌≡◌, inl, inr, suc, List, [], ◌∷◌, ◌++◌, length, Option, Some, None, slice_get, get_or, refl, arith, ap, ap₂, sym, ◌∙◌, subst}
 use Rattle.std.specs.Map.{lookup}
-use Rattle.std.proofs.lemmas.Bool.{cases_lt, cases_eq}
+use Rattle.std.proofs.lemmas.Bool.{cases_eq}
 use Rattle.std.proofs.lemmas.Option.{none-some, same_Some}
 use Rattle.std.proofs.lemmas.List.{length_push, get_or_append_left, get_or_push}
 use Rattle.aig_graph.specs.declared.graph.Gate.{Gate}
@@ -12,26 +12,9 @@ use Rattle.aig_graph.proofs.FoldingLaws.{gate_at-before, gate_at-first_gate}
 use Rattle.cleaned_circuits.specs.Merged.{Merging, replaced, replaced_gate, replaced_graph, same_fan_ins, known_substitute, with_substitute, merge_gate, merge_gates, merging_from, substitutes_after}
 use Rattle.cleaned_circuits.proofs.SubstituteLaws.{lookup_push, same_fan_ins-is, gate_substitutes, with_false, with_true, with_equal, with_opposite, with_earlier, replaced-variable, length-merge_gate, GateOf, AreLeaves, length-substitutes_after, gates-of, after-within}
 use Rattle.cleaned_circuits.proofs.MergedLaws.{IsGraph-replaced, replaced-first_gate, replaced-gate}
-use Rattle.path_levels.specs.Levels.{level, one_above}
+use Rattle.path_levels.specs.Levels.{level}
 use Rattle.path_levels.proofs.LevelLaws.{level-no_gate, level-gate}
-
--- the level of a gate by those of variables
-abbrev pub gate_level : (ℕ → ℕ) → Gate → ℕ
-gate_level at gate = one_above gate (at (variable gate.rhs0)) (at (variable gate.rhs1))
-
--- whichever of the two comes first
-pub gate_level-gate_of : (at : ℕ → ℕ) (a b : ℕ) → gate_level at (gate_of a b) ≡ suc (max (at (variable a)) (at (variable b)))
-gate_level-gate_of at a b = elim (cases_lt a b) [
-  | inl less ↦ (
-      let first : (gate_of a b).rhs0 ≡ b = omega arith in
-      let second : (gate_of a b).rhs1 ≡ a = omega arith in
-      let other : suc (max (at (variable b)) (at (variable a))) ≡ suc (max (at (variable a)) (at (variable b))) = omega arith in
-      ap₂ (λ (x y : ℕ). suc (max (at (variable x)) (at (variable y)))) first second ∙ other)
-  | inr more ↦ (
-      let first : (gate_of a b).rhs0 ≡ a = omega arith in
-      let second : (gate_of a b).rhs1 ≡ b = omega arith in
-      ap₂ (λ (x y : ℕ). suc (max (at (variable x)) (at (variable y)))) first second)
-]
+use Rattle.level_laws.proofs.GateLevelLaws.{gate_level, gate_level-gate_of}
 
 -- an entry stays as more gates are merged
 entry-stays : (gates : List Gate) (m : Merging) (v : ℕ) → v < length m.substitutes → get_or (merge_gates gates m).substitutes v 0 ≡ get_or m.substitutes v 0
@@ -40,17 +23,18 @@ entry-stays [] m v h = refl
 entry-stays (gate ∷ gates) m v h =
     entry-stays gates (merge_gate m gate) v (omega (arith, h, length-merge_gate m gate)) ∙ get_or_append_left m.substitutes _ 0 v h
 
--- by levels before and after
-module _ (before after : ℕ → ℕ) (ground : after 0 ≡ 0) where
+-- by the levels of variables before and after, where the constant has level 0
+module _ (before after : ℕ → ℕ) (constant : after 0 ≡ 0) where
   record IsLow (m : Merging) : Type 0 where
     -- what stands for a variable has at most its level
     each : (v : ℕ) → v < length m.substitutes → after (variable (get_or m.substitutes v 0)) ≤ before v
-    -- the literal of a kept gate has at most the gate's
+    -- the literal of a kept gate has at most the gate's level
     kept : (gate : Gate) (w : ℕ) → lookup (same_fan_ins gate) m.kept ≡ Some w → after (variable w) ≤ gate_level after gate
 
   replaced-low : (m : Merging) → IsLow m → (lit : ℕ) → variable lit < length m.substitutes → after (variable (replaced m.substitutes lit)) ≤ before (variable lit)
   replaced-low m low lit h = omega (arith, ap after (replaced-variable m.substitutes lit), low.each (variable lit) h)
 
+  -- what a gate comes down to read has at most the gate's level
   pair-low : (m : Merging) → IsLow m → (gate : Gate) → variable gate.rhs0 < length m.substitutes → variable gate.rhs1 < length m.substitutes
       → gate_level after (replaced_gate m.substitutes gate) ≤ gate_level before gate
   pair-low m low gate h0 h1 = omega (
@@ -60,11 +44,12 @@ module _ (before after : ℕ → ℕ) (ground : after 0 ≡ 0) where
     replaced-low m low gate.rhs1 h1,
   )
 
+  -- and so has what stands for the gate
   substitute-low : (kept : List (Gate × ℕ)) (gate : Gate) (substitute : ℕ) → ((w : ℕ) → lookup (same_fan_ins gate) kept ≡ Some w → after (variable w) ≤ gate_level after gate)
       → known_substitute kept gate ≡ Some substitute → after (variable substitute) ≤ gate_level after gate
   substitute-low kept gate substitute known some =
       let P : ℕ → Type 0 = λ lit. after (variable lit) ≤ gate_level after gate in
-      let zero_low : P 0 = omega (arith, ground) in
+      let zero_low : P 0 = omega (arith, constant) in
       let first_low : P gate.rhs0 = omega arith in
       elim (gate_substitutes kept gate) [
         | with_false a e ↦ subst P (same_Some 0 substitute (sym e ∙ some)) zero_low
@@ -116,11 +101,11 @@ module _ (g : Graph) (leaves : List ℕ) (begun : AreLeaves g leaves) (valid : I
   graph-after : IsGraph (replaced_graph (substitutes_after g leaves) g)
   graph-after = IsGraph-replaced g (substitutes_after g leaves) valid (after-within g leaves begun valid)
 
-  low-ground : (v : ℕ) → v < first_gate g → level after_graph v ≡ 0
-  low-ground v h = level-no_gate after_graph v (gate_at-before after_graph v (omega (arith, replaced-first_gate (substitutes_after g leaves) g)))
+  low-leaf : (v : ℕ) → v < first_gate g → level after_graph v ≡ 0
+  low-leaf v h = level-no_gate after_graph v (gate_at-before after_graph v (omega (arith, replaced-first_gate (substitutes_after g leaves) g)))
 
   low-constant : level after_graph 0 ≡ 0
-  low-constant = low-ground 0 (omega arith)
+  low-constant = low-leaf 0 (omega arith)
 
   abbrev IsLowAfter : Merging → Type 0
   IsLowAfter m = IsLow (level g) (level after_graph) low-constant m
@@ -128,7 +113,7 @@ module _ (g : Graph) (leaves : List ℕ) (begun : AreLeaves g leaves) (valid : I
   low-start : IsLowAfter (merging_from leaves)
   low-start = record {
     each = λ v h.
-        let none : level after_graph (variable (get_or leaves v 0)) ≡ 0 = low-ground (variable (get_or leaves v 0)) (omega (arith, begun.long, begun.below v (omega (arith, begun.long)))) in
+        let none : level after_graph (variable (get_or leaves v 0)) ≡ 0 = low-leaf (variable (get_or leaves v 0)) (omega (arith, begun.long, begun.below v (omega (arith, begun.long)))) in
         omega (arith, none);
     kept = λ gate w e. absurd (none-some w e);
   }
@@ -154,6 +139,7 @@ module _ (g : Graph) (leaves : List ℕ) (begun : AreLeaves g leaves) (valid : I
       low-merge_gate (level g) (level after_graph) low-constant m low gate h0 h1 (level-before (length m.substitutes) gate place)
       (level-after (length m.substitutes) gate place ∙ ap (gate_level (level after_graph)) same)
 
+  -- by all gates that are left
   low-gates : (gates : List Gate) (m : Merging) → ((i : ℕ) (gate : Gate) → slice_get gates i ≡ Some gate → GateOf g (length m.substitutes + i) gate)
       → (merge_gates gates m).substitutes ≡ substitutes_after g leaves → IsLowAfter m → IsLowAfter (merge_gates gates m)
   unfolding merge_gates

@@ -16,8 +16,8 @@ use Rattle.cleaned_circuits.specs.Trimmed.{new_variable, renumbered, renumbered_
 use Rattle.cleaned_circuits.proofs.TrimmedLaws.{stays-past, new-rises, new-less, trimmed-first_gate, gate_in, latch_from, renumbered-variable, next-reached, fan_ins-reached, IsGraph-trimmed}
 use Rattle.path_levels.specs.Levels.{level, levels}
 use Rattle.path_levels.proofs.LevelLaws.{level-no_gate, level-gate}
+use Rattle.level_laws.proofs.GateLevelLaws.{gate_level-gate_of}
 use Rattle.level_laws.proofs.HighestLaws.{IsReadWithin, read-within_levels, levels-most}
-use Rattle.level_laws.proofs.SubstituteLevelLaws.{gate_level-gate_of}
 
 module _ (c : Netlist) (held : List ℕ) (s : ℕ → Bool) (valid : IsGraph c.aig) (holds : HoldsReads c.aig c.props held s) where
   -- the level of a variable before, and that of its new one after
