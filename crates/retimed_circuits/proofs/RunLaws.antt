@@ -1,5 +1,5 @@
 -- A run of frames is one.
-use Rattle.std.proofs.Common.{ℕ, Bool, suc, inl, inr, ◌≡◌, ◌<◌, ◌≤◌, ◌++◌, List, [], ◌∷◌, length, Option, refl, arith, ap, ap₂, sym, ◌∙◌, subst}
+use Rattle.std.proofs.Common.{ℕ, Bool, suc, inl, inr, ◌≡◌, ◌<◌, ◌++◌, List, [], ◌∷◌, length, Option, refl, arith, ap, ap₂, sym, ◌∙◌, subst}
 use Rattle.std.proofs.lemmas.Bool.{cases_order}
 use Rattle.std.proofs.lemmas.List.{length-append}
 use Rattle.aig_graph.specs.Circuits.{Netlist}
