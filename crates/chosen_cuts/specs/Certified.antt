@@ -21,3 +21,9 @@ pub record AddsOne (c : Netlist) (held : List ℕ) (old new : Records) (set : Li
 pub record AddsNone (old new : Records) : Type 0 where
   pub certify : new.certify ≡ old.certify
   pub certificates : new.certificates.items ≡ old.certificates.items
+
+-- of the certificates the last one is gone, where certificates are wanted
+pub record ForgetsLast (old new : Records) : Type 0 where
+  pub certify : new.certify ≡ old.certify
+  pub others : old.certify ≡ true → (certs : List Certificate) (last : Certificate) → old.certificates.items ≡ certs ++ last ∷ [] → new.certificates.items ≡ certs
+  pub none : old.certify ≡ false → new.certificates.items ≡ old.certificates.items

@@ -29,7 +29,7 @@ impl Records {
     ghost use Rattle.aig_graph.specs.Border.{IsLeast};
     ghost use Rattle.certificates.specs.Verdicts.{IsVerdict};
     ghost use Rattle.cut_cert.specs.Shown.{AreLeastRoutes};
-    ghost use Rattle.chosen_cuts.specs.Certified.{AddsOne, AddsNone};
+    ghost use Rattle.chosen_cuts.specs.Certified.{AddsOne, AddsNone, ForgetsLast};
 
     /// Nothing is known yet.
     pub fn new(alloc: Global, certify: bool) -> Records
@@ -42,6 +42,16 @@ impl Records {
             flow_tables: FlowTables::none(alloc),
             certify,
             certificates: Vec::new(alloc),
+        }
+    }
+
+    /// Forgets the last certificate, where certificates are wanted: that of a set which isn't taken after all.
+    pub fn forget_last(&mut self)
+        ensures { ForgetsLast self.old self.new }
+    {
+        if self.certify {
+            let others = self.certificates.as_slice().len().saturating_sub(1);
+            self.certificates.truncate(others);
         }
     }
 

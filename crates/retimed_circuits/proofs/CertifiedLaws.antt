@@ -1,22 +1,19 @@
 -- Certificates of two retimings of one circuit differ in their routes alone.
-use Rattle.std.proofs.Common.{ℕ, suc, inl, inr, ◌≡◌, ◌<◌, ◌≤◌, ◌++◌, Bool, true, false, List, [], ◌∷◌, length, refl, arith, ap, sym, ◌∙◌, subst}
+use Rattle.std.proofs.Common.{ℕ, suc, inl, inr, ◌≡◌, ◌<◌, ◌≤◌, ◌++◌, Bool, true, false, List, [], ◌∷◌, length, Option, refl, arith, ap, sym, ◌∙◌, subst}
 use Rattle.std.proofs.lemmas.Bool.{cases_order}
 use Rattle.std.proofs.lemmas.Option.{slice_get_within}
 use Rattle.aig_graph.specs.Circuits.{Netlist}
 use Rattle.aig_graph.specs.Laws.{composed}
-use Rattle.aig_graph.specs.Move.{move_of}
-use Rattle.aig_graph.specs.Border.{border_size}
 use Rattle.certificates.specs.declared.certificate.Certificate.{Certificate}
 use Rattle.aig_graph.specs.declared.choice.Choice.{Choice}
-use Rattle.aig_graph.proofs.ChosenLaws.{chosen-one}
 use Rattle.retimed_circuits.specs.declared.report.FrameReport.{FrameReport}
 use Rattle.retimed_circuits.specs.declared.report.Retimed.{Retimed}
-use Rattle.aig_graph.specs.Keep.{held_in}
-use Rattle.retimed_circuits.specs.Frames.{AfterFrames, cleaned, frame}
+use Rattle.retimed_circuits.specs.Frames.{AfterFrames, cleaned, count_in, frame}
 use Rattle.retimed_circuits.specs.Certified.{IsCertificate, AreCertified, SameButRoutes}
+use Rattle.retimed_circuits.proofs.FoundLaws.{found-one}
 
 -- a circuit that fewer frames make
-pub record Reached (choice : Choice) (names : List (List ℕ)) (c : Netlist) (i : ℕ) : Type 0 where
+pub record Reached (bound : Option ℕ) (choice : Choice) (names : List (List ℕ)) (c : Netlist) (i : ℕ) : Type 0 where
   -- the circuit that the first i frames make
   pub circuit : Netlist
   -- the places of its free latches among those of c
@@ -24,65 +21,64 @@ pub record Reached (choice : Choice) (names : List (List ℕ)) (c : Netlist) (i 
   -- the reports of these frames
   pub reports : List FrameReport
   -- the first i frames of c lead to this circuit
-  pub run : AfterFrames choice names c i circuit kept reports
+  pub run : AfterFrames bound choice names c i circuit kept reports
 
 -- a run of frames passes a circuit after each smaller number of frames
-pub after-before : (choice : Choice) (names : List (List ℕ)) (c : Netlist) (n : ℕ) (d : Netlist) (kept : List ℕ) (r : List FrameReport) → AfterFrames choice names c n d kept r
-    → (i : ℕ) → i ≤ n → Reached choice names c i
-after-before choice names c _ _ _ _ (cleaned d kept cleans) i within =
-    let P : ℕ → Type 0 = λ j. AfterFrames choice names c j d kept [] in
+pub after-before : (bound : Option ℕ) (choice : Choice) (names : List (List ℕ)) (c : Netlist) (n : ℕ) (d : Netlist) (kept : List ℕ) (r : List FrameReport) → AfterFrames bound choice names c n d kept r
+    → (i : ℕ) → i ≤ n → Reached bound choice names c i
+after-before bound choice names c _ _ _ _ (cleaned d kept cleans) i within =
+    let P : ℕ → Type 0 = λ j. AfterFrames bound choice names c j d kept [] in
     let first : 0 ≡ i = omega (arith, within) in
     record { circuit = d; kept = kept; reports = []; run = subst P first (cleaned d kept cleans) }
-after-before choice names c _ _ _ _ (frame n d e kept left reports report run last) i within = elim (cases_order i (suc n)) [
+after-before bound choice names c _ _ _ _ (frame n d e kept left reports report run last) i within = elim (cases_order i (suc n)) [
   | inl here ↦ (
-      let P : ℕ → Type 0 = λ j. AfterFrames choice names c j e (composed kept left) (reports ++ report ∷ []) in
+      let P : ℕ → Type 0 = λ j. AfterFrames bound choice names c j e (composed kept left) (reports ++ report ∷ []) in
       record { circuit = e; kept = composed kept left; reports = reports ++ report ∷ []; run = subst P (sym here) (frame n d e kept left reports report run last) })
-  | inr (inl below) ↦ after-before choice names c n d kept reports run i (omega (arith, below))
+  | inr (inl below) ↦ after-before bound choice names c n d kept reports run i (omega (arith, below))
   | inr (inr past) ↦ absurd (omega (arith, past, within))
 ]
 
 -- two certificates of one circuit have the same gates and counts
-same-gates : (choice : Choice) (names : List (List ℕ)) (c : Netlist) (a b : Certificate) → IsCertificate choice names c a → IsCertificate choice names c b → a.gates ≡ b.gates
-same-gates choice names c a b p q = chosen-one choice c (held_in names c) a.gates b.gates p.chosen q.chosen
+same-gates : (bound : Option ℕ) (choice : Choice) (names : List (List ℕ)) (c : Netlist) (a b : Certificate) → IsCertificate bound choice names c a → IsCertificate bound choice names c b → a.gates ≡ b.gates
+same-gates bound choice names c a b p q = found-one bound choice names c a.gates b.gates p.found q.found
 
-same-counts : (choice : Choice) (names : List (List ℕ)) (c : Netlist) (a b : Certificate) → IsCertificate choice names c a → IsCertificate choice names c b → a.count ≡ b.count
-same-counts choice names c a b p q =
-    let border : List ℕ → ℕ = λ gates. border_size (move_of c (held_in names c) gates) in
-    p.passes.3.of_border ∙ ap border (same-gates choice names c a b p q) ∙ sym q.passes.3.of_border
+same-counts : (bound : Option ℕ) (choice : Choice) (names : List (List ℕ)) (c : Netlist) (a b : Certificate) → IsCertificate bound choice names c a → IsCertificate bound choice names c b → a.count ≡ b.count
+same-counts bound choice names c a b p q =
+    p.counted ∙ ap (count_in names c) (same-gates bound choice names c a b p q) ∙ sym q.counted
 
 -- there are no more certificates than circuits
-short : (choice : Choice) (c : Netlist) (names : List (List ℕ)) (max_frames : ℕ) (certify : Bool) (r : Retimed) → AreCertified choice c names max_frames certify r
+short : (bound : Option ℕ) (choice : Choice) (c : Netlist) (names : List (List ℕ)) (max_frames : ℕ) (certify : Bool) (r : Retimed) → AreCertified bound choice c names max_frames certify r
     → length r.frames ≤ max_frames → (i : ℕ) → i < length r.certificates → i ≤ length r.frames
-short choice c names max_frames false r p within i less =
+short bound choice c names max_frames false r p within i less =
     let empty : length r.certificates ≡ 0 = ap (λ (certs : List Certificate). length certs) (p.none refl) in absurd (omega (arith, less, empty))
-short choice c names max_frames true r p within i less = elim (cases_order (length r.frames) max_frames) [
+short bound choice c names max_frames true r p within i less = elim (cases_order (length r.frames) max_frames) [
   | inl at ↦ omega (arith, less, p.limited refl at)
   | inr (inl below) ↦ omega (arith, less, p.ended refl below)
   | inr (inr past) ↦ absurd (omega (arith, past, within))
 ]
 
-as-many : (choice : Choice) (c : Netlist) (names : List (List ℕ)) (max_frames : ℕ) (certify : Bool) (r s : Retimed) → AreCertified choice c names max_frames certify r
-    → AreCertified choice c names max_frames certify s → length r.frames ≤ max_frames → length r.frames ≡ length s.frames → length r.certificates ≡ length s.certificates
-as-many choice c names max_frames false r s p q within same = ap (λ (certs : List Certificate). length certs) (p.none refl ∙ sym (q.none refl))
-as-many choice c names max_frames true r s p q within same = elim (cases_order (length r.frames) max_frames) [
+as-many : (bound : Option ℕ) (choice : Choice) (c : Netlist) (names : List (List ℕ)) (max_frames : ℕ) (certify : Bool) (r s : Retimed) → AreCertified bound choice c names max_frames certify r
+    → AreCertified bound choice c names max_frames certify s → length r.frames ≤ max_frames → length r.frames ≡ length s.frames → length r.certificates ≡ length s.certificates
+as-many bound choice c names max_frames false r s p q within same = ap (λ (certs : List Certificate). length certs) (p.none refl ∙ sym (q.none refl))
+as-many bound choice c names max_frames true r s p q within same = elim (cases_order (length r.frames) max_frames) [
   | inl at ↦ omega (arith, same, p.limited refl at, q.limited refl (sym same ∙ at))
   | inr (inl below) ↦ omega (arith, same, p.ended refl below, q.ended refl (omega (arith, same, below)))
   | inr (inr past) ↦ absurd (omega (arith, past, within))
 ]
 
 -- two lists of certificates of one circuit's frames, of runs with as many frames, are the same but for their routes
-pub same-certificates : (choice : Choice) (c : Netlist) (names : List (List ℕ)) (max_frames : ℕ) (certify : Bool) (r s : Retimed)
-    → AfterFrames choice names c (length r.frames) r.circuit r.kept_free r.frames → AreCertified choice c names max_frames certify r
-    → AreCertified choice c names max_frames certify s → length r.frames ≤ max_frames → length r.frames ≡ length s.frames → SameButRoutes r.certificates s.certificates
-same-certificates choice c names max_frames certify r s run p q within same =
-    let reached : (i : ℕ) → i < length r.certificates → Reached choice names c i = λ i less.
-    after-before choice names c (length r.frames) r.circuit r.kept_free r.frames run i (short choice c names max_frames certify r p within i less) in
+pub same-certificates : (bound : Option ℕ) (choice : Choice) (c : Netlist) (names : List (List ℕ)) (max_frames : ℕ) (certify : Bool) (r s : Retimed)
+    → AfterFrames bound choice names c (length r.frames) r.circuit r.kept_free r.frames → AreCertified bound choice c names max_frames certify r
+    → AreCertified bound choice c names max_frames certify s → length r.frames ≤ max_frames → length r.frames ≡ length s.frames → SameButRoutes r.certificates s.certificates
+same-certificates bound choice c names max_frames certify r s run p q within same =
+    let reached : (i : ℕ) → i < length r.certificates → Reached bound choice names c i = λ i less.
+    after-before bound choice names c (length r.frames) r.circuit r.kept_free r.frames run i (short bound choice c names max_frames certify r p within i less) in
     record {
-      many = as-many choice c names max_frames certify r s p q within same;
+      many = as-many bound choice c names max_frames certify r s p q within same;
       gates = λ i a b at other.
           let e = reached i (slice_get_within r.certificates i a at) in
-          same-gates choice names e.circuit a b (p.each i e.circuit e.kept e.reports a e.run at) (q.each i e.circuit e.kept e.reports b e.run other);
+          same-gates bound choice names e.circuit a b (p.each i e.circuit e.kept e.reports a e.run at) (q.each i e.circuit e.kept e.reports b e.run other);
       counts = λ i a b at other.
           let e = reached i (slice_get_within r.certificates i a at) in
-          same-counts choice names e.circuit a b (p.each i e.circuit e.kept e.reports a e.run at) (q.each i e.circuit e.kept e.reports b e.run other);
+          same-counts bound choice names e.circuit a b (p.each i e.circuit e.kept e.reports a e.run at) (q.each i e.circuit e.kept e.reports b e.run other);
     }

@@ -1,3 +1,4 @@
+pub mod FoundLaws
 pub mod CertifiedLaws
 pub mod ReportLaws
 pub mod RunLaws

@@ -1,5 +1,5 @@
 -- Cleaning, merging and moving keep the number of properties and make no new name.
-use Rattle.std.proofs.Common.{ℕ, Bool, true, false, ◌+◌, ◌≡◌, List, length, map, ap, sym, subst, arith}
+use Rattle.std.proofs.Common.{ℕ, Bool, true, false, ◌+◌, ◌≡◌, List, Option, length, map, ap, sym, subst, arith}
 use Rattle.std.specs.List.{sum}
 use Rattle.std.proofs.lemmas.List.{length-map}
 use Rattle.std.proofs.lemmas.List.Elements.{All-from_recursion, recursion_from_All}
@@ -40,11 +40,11 @@ moved-names names c set all =
     let m = move_in names c set in
     with_latches c.symbols _ all (picked (λ x. count_below (is_latched m) (first_latch c.aig + x.position)) (stays m) c.symbols.latches)
 
-after-names : (choice : Choice) (names : List (List ℕ)) (c : Netlist) (n : ℕ) (d : Netlist) (kept : List ℕ) (reports : List FrameReport) → AfterFrames choice names c n d kept reports → HasOneLineNames c → HasOneLineNames d
-after-names choice names c _ _ _ _ (cleaned d kept cleans) all = cleans-names d (held_in names c) c kept cleans all
-after-names choice names c _ _ _ _ (frame n d e kept left reports report run last) all =
+after-names : (bound : Option ℕ) (choice : Choice) (names : List (List ℕ)) (c : Netlist) (n : ℕ) (d : Netlist) (kept : List ℕ) (reports : List FrameReport) → AfterFrames bound choice names c n d kept reports → HasOneLineNames c → HasOneLineNames d
+after-names bound choice names c _ _ _ _ (cleaned d kept cleans) all = cleans-names d (held_in names c) c kept cleans all
+after-names bound choice names c _ _ _ _ (frame n d e kept left reports report run last) all =
     let moved : Netlist = moved_in names d last.set in
-    cleans-names e (held_in names moved) moved left last.cleaned (moved-names names d last.set (after-names choice names c n d kept reports run all))
+    cleans-names e (held_in names moved) moved left last.cleaned (moved-names names d last.set (after-names bound choice names c n d kept reports run all))
 
 -- a circuit of as many properties, whose names are of one line each
 pub within-by : (c d : Netlist) → SameShape c d → HasOneLineNames d → IsWithinLimits c → IsWithinLimits d
@@ -66,13 +66,13 @@ merged-names names c d kept counts merges all =
     subst HasOneLineNames (sym merges.merged.circuit) (cleans-names merges.clean (held_in names c) c kept merges.cleaned all)
 
 -- what a circuit within the limits of a header is retimed to is within them
-pub stays-within : (merge : Bool) (choice : Choice) (c : Netlist) (names : List (List ℕ)) (max_frames : ℕ) (certify : Bool) → StaysWithin merge choice c names max_frames certify
-stays-within false choice c names max_frames certify r retimed within =
+pub stays-within : (merge : Bool) (bound : Option ℕ) (choice : Choice) (c : Netlist) (names : List (List ℕ)) (max_frames : ℕ) (certify : Bool) → StaysWithin merge bound choice c names max_frames certify
+stays-within false bound choice c names max_frames certify r retimed within =
     let all = recursion_from_All IsOneLine (all_names c.symbols) within.names in
-    within-by c r.circuit retimed.streams.shape (after-names choice names c (length r.frames) r.circuit r.kept_free r.frames retimed.frames all) within
-stays-within true choice c names max_frames certify r retimed within =
+    within-by c r.circuit retimed.streams.shape (after-names bound choice names c (length r.frames) r.circuit r.kept_free r.frames retimed.frames all) within
+stays-within true bound choice c names max_frames certify r retimed within =
     let all = recursion_from_All IsOneLine (all_names c.symbols) within.names in
     let s = retimed.from_start in
     let started : HasOneLineNames retimed.start = merged-names names c retimed.start retimed.kept retimed.counts retimed.merges all in
-    let ended : HasOneLineNames s.circuit = after-names choice names retimed.start (length s.frames) s.circuit s.kept_free s.frames retimed.retimed.frames started in
+    let ended : HasOneLineNames s.circuit = after-names bound choice names retimed.start (length s.frames) s.circuit s.kept_free s.frames retimed.retimed.frames started in
     within-by c r.circuit retimed.streams.shape (subst HasOneLineNames (sym (ap (λ (x : Retimed). x.circuit) retimed.whole)) ended) within

@@ -1,5 +1,5 @@
 -- Merging keeps the latches that names hold, and a run that merges first is one.
-use Rattle.std.proofs.Common.{ℕ, Bool, true, false, inl, inr, ◌≡◌, List, length, map, Some, slice_get, refl, arith, ap, ap₂, sym, ◌∙◌, subst, filter}
+use Rattle.std.proofs.Common.{ℕ, Bool, true, false, inl, inr, ◌≡◌, List, length, map, Option, Some, slice_get, refl, arith, ap, ap₂, sym, ◌∙◌, subst, filter}
 use Rattle.std.proofs.lemmas.List.{length-map}
 use Rattle.std.proofs.lemmas.Option.{slice_get_cases}
 use Rattle.variable_tables.proofs.ListLaws.{slice_get-map_some}
@@ -58,12 +58,12 @@ merges-one names c d e kept left counts other p q =
     }
 
 -- and so is what it is retimed to after that
-merged-one-run : (choice : Choice) (c : Netlist) (names : List (List ℕ)) (max_frames : ℕ) (certify other : Bool) (r s : Retimed) → IsMergedRetimed choice c names max_frames certify r
-    → IsMergedRetimed choice c names max_frames other s → IsSameRetiming certify other r s
-merged-one-run choice c names max_frames certify other r s p q =
+merged-one-run : (bound : Option ℕ) (choice : Choice) (c : Netlist) (names : List (List ℕ)) (max_frames : ℕ) (certify other : Bool) (r s : Retimed) → IsMergedRetimed bound choice c names max_frames certify r
+    → IsMergedRetimed bound choice c names max_frames other s → IsSameRetiming certify other r s
+merged-one-run bound choice c names max_frames certify other r s p q =
     let start = merges-one names c p.start q.start p.kept q.kept p.counts q.counts p.merges q.merges in
-    let P : Netlist → Type 0 = λ x. IsRetimed choice x names max_frames other q.from_start in
-    let ends = retiming-one choice p.start names max_frames certify other p.from_start q.from_start p.retimed (subst P (sym start.circuit) q.retimed) in
+    let P : Netlist → Type 0 = λ x. IsRetimed bound choice x names max_frames other q.from_start in
+    let ends = retiming-one bound choice p.start names max_frames certify other p.from_start q.from_start p.retimed (subst P (sym start.circuit) q.retimed) in
     let W : Retimed → Retimed → Type 0 = λ x y. IsSameRetiming certify other x y in
     let whole : W (since_merged (length c.aig.latches) p.kept p.counts p.from_start) (since_merged (length c.aig.latches) q.kept q.counts q.from_start) = record {
       circuit = ends.circuit;
@@ -76,13 +76,13 @@ merged-one-run choice c names max_frames certify other r s p q =
     subst (λ (x : Retimed). W x s) (sym p.whole) (subst (λ (y : Retimed). W (since_merged (length c.aig.latches) p.kept p.counts p.from_start) y) (sym q.whole) whole)
 
 -- merged first or not, as is chosen, a circuit is retimed to one result, but for certificates wanted of one alone, and routes
-pub retiming-with-one : (merge : Bool) (choice : Choice) (c : Netlist) (names : List (List ℕ)) (max_frames : ℕ) (certify other : Bool) (r s : Retimed)
-    → IsRetimedWith merge choice c names max_frames certify r → IsRetimedWith merge choice c names max_frames other s → IsSameRetiming certify other r s
-retiming-with-one false choice c names max_frames certify other r s p q = retiming-one choice c names max_frames certify other r s p q
-retiming-with-one true choice c names max_frames certify other r s p q = merged-one-run choice c names max_frames certify other r s p q
+pub retiming-with-one : (merge : Bool) (bound : Option ℕ) (choice : Choice) (c : Netlist) (names : List (List ℕ)) (max_frames : ℕ) (certify other : Bool) (r s : Retimed)
+    → IsRetimedWith merge bound choice c names max_frames certify r → IsRetimedWith merge bound choice c names max_frames other s → IsSameRetiming certify other r s
+retiming-with-one false bound choice c names max_frames certify other r s p q = retiming-one bound choice c names max_frames certify other r s p q
+retiming-with-one true bound choice c names max_frames certify other r s p q = merged-one-run bound choice c names max_frames certify other r s p q
 
 -- how many latches were read
-pub read-latches : (merge : Bool) (choice : Choice) (c : Netlist) (names : List (List ℕ)) (max_frames : ℕ) (certify : Bool) (r : Retimed)
-    → IsRetimedWith merge choice c names max_frames certify r → r.read_latches ≡ length c.aig.latches
-read-latches false choice c names max_frames certify r is = is.read_latches
-read-latches true choice c names max_frames certify r is = ap (λ (x : Retimed). x.read_latches) is.whole
+pub read-latches : (merge : Bool) (bound : Option ℕ) (choice : Choice) (c : Netlist) (names : List (List ℕ)) (max_frames : ℕ) (certify : Bool) (r : Retimed)
+    → IsRetimedWith merge bound choice c names max_frames certify r → r.read_latches ≡ length c.aig.latches
+read-latches false bound choice c names max_frames certify r is = is.read_latches
+read-latches true bound choice c names max_frames certify r is = ap (λ (x : Retimed). x.read_latches) is.whole

@@ -1,5 +1,5 @@
 -- Laws of frames.
-use Rattle.std.specs.Prelude.{ℕ, Bool, ◌≡◌, List}
+use Rattle.std.specs.Prelude.{ℕ, Bool, ◌≡◌, List, Option}
 use Rattle.aig_graph.specs.Graph.{IsGraph}
 use Rattle.aig_graph.specs.Circuits.{Netlist, IsNetlist}
 use Rattle.aig_graph.specs.Keep.{NoneMissing}
@@ -12,11 +12,11 @@ use Rattle.retimed_circuits.specs.Certified.{IsSameRetiming}
 use Rattle.retimed_circuits.specs.Frames.{CleansIn, moved_in}
 use Rattle.retimed_circuits.specs.Retiming.{IsRetimedWith}
 
--- what a circuit is retimed to is one, by whether latches are merged, the choice, the names and the limit of frames alone, and so are its
+-- what a circuit is retimed to is one, by whether latches are merged, the bound, the choice, the names and the limit of frames alone, and so are its
 -- certificates but for their routes
-abbrev pub IsDetermined : Bool → Choice → Netlist → List (List ℕ) → ℕ → Type 0
-IsDetermined merge choice c names max_frames = (certify other : Bool) (r s : Retimed) → IsRetimedWith merge choice c names max_frames certify r
-    → IsRetimedWith merge choice c names max_frames other s → IsSameRetiming certify other r s
+abbrev pub IsDetermined : Bool → Option ℕ → Choice → Netlist → List (List ℕ) → ℕ → Type 0
+IsDetermined merge bound choice c names max_frames = (certify other : Bool) (r s : Retimed) → IsRetimedWith merge bound choice c names max_frames certify r
+    → IsRetimedWith merge bound choice c names max_frames other s → IsSameRetiming certify other r s
 
 -- cleaning keeps the latches that the names hold
 abbrev pub CleaningKeepsHeld : List (List ℕ) → Netlist → Type 0
@@ -35,5 +35,5 @@ abbrev pub NamesStay : List (List ℕ) → Netlist → Netlist → Type 0
 NamesStay names c d = held_latches names d ≡ held_latches names c → NoneMissing names c → NoneMissing names d
 
 -- what a circuit within the limits of a header is retimed to is within them
-abbrev pub StaysWithin : Bool → Choice → Netlist → List (List ℕ) → ℕ → Bool → Type 0
-StaysWithin merge choice c names max_frames certify = (r : Retimed) → IsRetimedWith merge choice c names max_frames certify r → IsWithinLimits c → IsWithinLimits r.circuit
+abbrev pub StaysWithin : Bool → Option ℕ → Choice → Netlist → List (List ℕ) → ℕ → Bool → Type 0
+StaysWithin merge bound choice c names max_frames certify = (r : Retimed) → IsRetimedWith merge bound choice c names max_frames certify r → IsWithinLimits c → IsWithinLimits r.circuit

@@ -1,4 +1,4 @@
-ghost use Rattle.std.specs.Prelude.{ℕ, Bool, List};
+ghost use Rattle.std.specs.Prelude.{ℕ, Bool, List, Option};
 ghost use Rattle.aig_graph.specs.Circuits.{Netlist};
 ghost use Rattle.aig_graph.specs.declared.choice.Choice.{Choice};
 ghost use Rattle.retimed_circuits.specs.Laws.{
@@ -10,12 +10,12 @@ ghost use Rattle.retimed_circuits.specs.Laws.{
   StaysWithin,
 };
 
-/// What a circuit is retimed to, with its reports, rests on the circuit, on whether latches are merged, the choice of least sets, the
-/// names and the limit of frames alone, whether certificates are wanted or not. Of certificates their number, counts and gates do;
+/// What a circuit is retimed to, with its reports, rests on the circuit, on whether latches are merged, the bound on path length, the choice of
+/// least sets, the names and the limit of frames alone, whether certificates are wanted or not. Of certificates their number, counts and gates do;
 /// their routes may differ.
 pub fn retiming_law()
-    ensures { (merge : Bool) (choice : Choice) (c : Netlist) (names : List (List ℕ))
-        (max_frames : ℕ) → IsDetermined merge choice c names max_frames }
+    ensures { (merge : Bool) (bound : Option ℕ) (choice : Choice) (c : Netlist) (names : List (List ℕ))
+        (max_frames : ℕ) → IsDetermined merge bound choice c names max_frames }
 {}
 
 /// Cleaning, merging and moving keep the latches that names hold: as many, in their order, with their names and resets. So no name
@@ -30,7 +30,7 @@ pub fn held_laws()
 /// A circuit that is retimed keeps the number of its properties and gets no new name: so it stays within the limits of a
 /// header.
 pub fn retimed_limits_law()
-    ensures { (merge : Bool) (choice : Choice) (c : Netlist) (names : List (List ℕ))
+    ensures { (merge : Bool) (bound : Option ℕ) (choice : Choice) (c : Netlist) (names : List (List ℕ))
         (max_frames : ℕ) (certify : Bool)
-        → StaysWithin merge choice c names max_frames certify }
+        → StaysWithin merge bound choice c names max_frames certify }
 {}
