@@ -2,7 +2,7 @@
 -- member's arrival.
 use Rattle.std.proofs.Common.{ℕ, ◌+◌, ◌-◌, ◌*◌, ◌<◌, ◌≤◌, ◌≡◌, ◌∙◌, inl, inr, suc, zero, List, max, get_or, Bool, true, false, cond, Option, Some, None, refl, sym, ap, subst, arith}
 use Rattle.std.specs.List.{All}
-use Rattle.std.proofs.lemmas.Bool.{cases_Bool, cases_lt}
+use Rattle.std.proofs.lemmas.Bool.{cases_Bool}
 use Rattle.std.proofs.lemmas.List.Elements.{All-map}
 use Rattle.aig_graph.specs.declared.graph.Gate.{Gate}
 use Rattle.aig_graph.specs.declared.graph.Latch.{Latch}
@@ -28,6 +28,7 @@ use Rattle.rebuild.specs.Moved.{advanced, advanced_literal, copy_variable, gate_
 use Rattle.variable_tables.proofs.PlacesLaws.{count-lt}
 use Rattle.variable_tables.specs.Counting.{count_below}
 use Rattle.variable_tables.specs.Marking.{has}
+use Rattle.level_laws.proofs.GateLevelLaws.{gate_level-gate_of}
 use Rattle.level_laws.proofs.HighestLaws.{IsReadWithin, levels-most, read-within_levels}
 
 -- the level of a variable, as far as this many gates on each way show it
@@ -45,26 +46,13 @@ unfolding fold_to_depth
 shown-no_gate g zero v none = refl
 shown-no_gate g (suc n) v none = ap (fold_step ground_level one_above (fold_to_depth g ground_level one_above n) v) none
 
--- the higher of a gate's fan-ins, in whichever order they were given
-higher-of : (f : ℕ → ℕ) (a b x y : ℕ) → f (variable a) ≤ x → f (variable b) ≤ y → max (f (variable (gate_of a b).rhs0)) (f (variable (gate_of a b).rhs1)) ≤ max x y
-higher-of f a b x y p q = elim (cases_lt a b) [
-  | inl less ↦ (
-      let first : f (variable (gate_of a b).rhs0) ≡ f (variable b) = let same : (gate_of a b).rhs0 ≡ b = omega arith in ap (λ lit. f (variable lit)) same in
-      let second : f (variable (gate_of a b).rhs1) ≡ f (variable a) = let same : (gate_of a b).rhs1 ≡ a = omega arith in ap (λ lit. f (variable lit)) same in
-      omega (arith, first, second, p, q))
-  | inr more ↦ (
-      let first : f (variable (gate_of a b).rhs0) ≡ f (variable a) = let same : (gate_of a b).rhs0 ≡ a = omega arith in ap (λ lit. f (variable lit)) same in
-      let second : f (variable (gate_of a b).rhs1) ≡ f (variable b) = let same : (gate_of a b).rhs1 ≡ b = omega arith in ap (λ lit. f (variable lit)) same in
-      omega (arith, first, second, p, q))
-]
-
 -- a gate is at most one above what its literals are at most
 shown-gate : (g : Graph) (n v a b x y : ℕ) → gate_at g v ≡ Some (gate_of a b) → shown_level g n (variable a) ≤ x → shown_level g n (variable b) ≤ y → shown_level g (suc n) v ≤ suc (max x y)
 unfolding fold_to_depth
 shown-gate g n v a b x y there p q =
-    let same : shown_level g (suc n) v ≡ suc (max (shown_level g n (variable (gate_of a b).rhs0)) (shown_level g n (variable (gate_of a b).rhs1))) =
-    ap (fold_step ground_level one_above (fold_to_depth g ground_level one_above n) v) there in
-    omega (arith, same, higher-of (shown_level g n) a b x y p q)
+    let same : shown_level g (suc n) v ≡ suc (max (shown_level g n (variable a)) (shown_level g n (variable b))) =
+    ap (fold_step ground_level one_above (fold_to_depth g ground_level one_above n) v) there ∙ gate_level-gate_of (shown_level g n) a b in
+    omega (arith, same, p, q)
 
 -- a level is shown by as many gates as there are variables up to its own
 shown-whole : (g : Graph) (v : ℕ) → level g v ≡ shown_level g (suc v) v
