@@ -3,3 +3,6 @@
 
 mod cleaning;
 mod moving;
+
+pub use cleaning::cleaning_levels_law;
+pub use moving::moving_levels_law;
