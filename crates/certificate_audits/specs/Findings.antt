@@ -10,23 +10,23 @@ use Rattle.certificate_audits.specs.declared.outcome.End.TheVariants as ends
 use Rattle.certificate_audits.specs.Audits.{IsNext, IsVerdictIn, Saves, SavesNone}
 use Rattle.certificate_audits.specs.Ends.{is_accepted}
 
-abbrev pub IsFinding : List (List ℕ) → Netlist → Certificate → Finding → Type 0
-IsFinding names c block (Objected objection) = IsVerdictIn names c block (No objection)
-IsFinding names c block Fewer = Saves names c block
-IsFinding names c block NotFewer = SavesNone names c block
+abbrev pub IsFinding : Option ℕ → List (List ℕ) → Netlist → Certificate → Finding → Type 0
+IsFinding bound names c block (Objected objection) = IsVerdictIn bound names c block (No objection)
+IsFinding bound names c block Fewer = Saves bound names c block
+IsFinding bound names c block NotFewer = SavesNone bound names c block
 
 -- the audit doesn't end with the block: it saves latches, and others follow
-pub record GoesOn (names : List (List ℕ)) (c : Netlist) (block : Certificate) (rest : List Certificate) : Type 0 where
-  pub saves : Saves names c block
+pub record GoesOn (bound : Option ℕ) (names : List (List ℕ)) (c : Netlist) (block : Certificate) (rest : List Certificate) : Type 0 where
+  pub saves : Saves bound names c block
   pub follows : rest ≢ []
 
 -- the audit ends with the block, which these others follow, so many being confirmed of it, and so
-abbrev pub EndsWith : List (List ℕ) → Netlist → Certificate → List Certificate → ℕ → End → Type 0
-EndsWith names c block rest n ends.NoBlocks = ⊥
-EndsWith names c block rest n (ends.Objected objection) = (n ≡ 0) × IsVerdictIn names c block (No objection)
-EndsWith names c block rest n ends.Open = (n ≡ 1) × Saves names c block × (rest ≡ [])
-EndsWith names c block rest n ends.Certified = (n ≡ 1) × SavesNone names c block × (rest ≡ [])
-EndsWith names c block rest n ends.BlocksFollow = (n ≡ 1) × SavesNone names c block × (rest ≢ [])
+abbrev pub EndsWith : Option ℕ → List (List ℕ) → Netlist → Certificate → List Certificate → ℕ → End → Type 0
+EndsWith bound names c block rest n ends.NoBlocks = ⊥
+EndsWith bound names c block rest n (ends.Objected objection) = (n ≡ 0) × IsVerdictIn bound names c block (No objection)
+EndsWith bound names c block rest n ends.Open = (n ≡ 1) × Saves bound names c block × (rest ≡ [])
+EndsWith bound names c block rest n ends.Certified = (n ≡ 1) × SavesNone bound names c block × (rest ≡ [])
+EndsWith bound names c block rest n ends.BlocksFollow = (n ≡ 1) × SavesNone bound names c block × (rest ≢ [])
 
 -- what the blocks end in, where the audit ends so with this block of c: after a last move, or at c itself
 abbrev pub IsEndOf : List (List ℕ) → Netlist → Certificate → End → Netlist → Type 0

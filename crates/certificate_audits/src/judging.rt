@@ -1,11 +1,15 @@
 //! What one block shows of its circuit, and whether an audit ends with it.
 ghost use Rattle.std.specs.Prelude.{IfOk, MatchOption};
 ghost use Rattle.aig_graph.specs.Keep.{NoneMissing, names_of};
+ghost use Rattle.certificates.specs.Verdicts.{IsVerdict};
+ghost use Rattle.path_levels.specs.Bounded.{bounded};
+ghost use Rattle.certificate_audits.specs.Audits.{IsVerdictBy};
 ghost use Rattle.certificate_audits.specs.Findings.{EndsWith, GoesOn, IsFinding};
 
 use crate::outcome::{Audit, End};
-use aig_graph::{Circuit, NoMemory, keep_by_names};
+use aig_graph::{Circuit, Keep, NoMemory, keep_by_names};
 use certificates::{Certificate, Objection, Verdict, check};
+use path_levels::bounded;
 use std::alloc::Global;
 
 #[derive(Clone, Copy)]
@@ -18,19 +22,61 @@ pub(crate) enum Finding {
     NotFewer,
 }
 
+/// The verdict on a block for the circuit bounded.
+fn bounded_verdict(
+    alloc: Global,
+    circuit: &Circuit,
+    block: &Certificate,
+    keep: &Keep,
+    most: u32,
+) -> Result<Verdict, NoMemory>
+    ensures { IfOk result (IsVerdict (bounded most keep.now circuit.now) keep.now block.now) }
+{
+    let narrowed = bounded(alloc, circuit, keep, most)?;
+    let verdict = check(alloc, &narrowed, block, keep);
+    drop(narrowed);
+    verdict
+}
+
+/// The verdict on a block for the circuit: under a bound it passes too where it does for the circuit bounded.
+fn verdict(
+    alloc: Global,
+    circuit: &Circuit,
+    block: &Certificate,
+    keep: &Keep,
+    bound: Option<u32>,
+) -> Result<Verdict, NoMemory>
+    ensures { IfOk result (IsVerdictBy bound circuit.now keep.now block.now) }
+{
+    let whole = check(alloc, circuit, block, keep)?;
+    let Some(most) = bound else {
+        return Ok(whole);
+    };
+    match whole {
+        Verdict::Yes => Ok(Verdict::Yes),
+        Verdict::No(objection) => match bounded_verdict(alloc, circuit, block, keep, most)? {
+            Verdict::Yes => Ok(Verdict::Yes),
+            Verdict::No(_) => Ok(Verdict::No(objection)),
+        },
+    }
+}
+
 /// Judges a block for its circuit.
 fn judge(
     alloc: Global,
     circuit: &Circuit,
     block: &Certificate,
     names: &[Vec<u8>],
+    bound: Option<u32>,
 ) -> Result<Finding, NoMemory>
     requires { NoneMissing (names_of names.now) circuit.now }
-    ensures { IfOk result (IsFinding (names_of names.now) circuit.now block.now) }
+    ensures { IfOk result (IsFinding bound (names_of names.now) circuit.now block.now) }
 {
+    // That it is a circuit is what its readers ensure.
+    circuit.known();
     let keep = keep_by_names(alloc, circuit, names)?;
     let known = circuit.aig().known_latches();
-    match check(alloc, circuit, block, &keep)? {
+    match verdict(alloc, circuit, block, &keep, bound)? {
         Verdict::No(objection) => Ok(Finding::Objected(objection)),
         Verdict::Yes if block.count < known => Ok(Finding::Fewer),
         Verdict::Yes => Ok(Finding::NotFewer),
@@ -44,14 +90,15 @@ pub(crate) fn end_at(
     block: &Certificate,
     rest: &[Certificate],
     names: &[Vec<u8>],
+    bound: Option<u32>,
 ) -> Result<Option<Audit>, NoMemory>
     requires { NoneMissing (names_of names.now) circuit.now }
     ensures { IfOk result (λ found. MatchOption found
-        (GoesOn (names_of names.now) circuit.now block.now rest.now)
-        (λ audit. EndsWith (names_of names.now) circuit.now block.now rest.now
+        (GoesOn bound (names_of names.now) circuit.now block.now rest.now)
+        (λ audit. EndsWith bound (names_of names.now) circuit.now block.now rest.now
         audit.confirmed audit.end)) }
 {
-    let (confirmed, end) = match judge(alloc, circuit, block, names)? {
+    let (confirmed, end) = match judge(alloc, circuit, block, names, bound)? {
         Finding::Objected(objection) => (0, End::Objected(objection)),
         Finding::Fewer if rest.is_empty() => (1, End::Open),
         Finding::Fewer => return Ok(None),

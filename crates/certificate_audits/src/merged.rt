@@ -18,12 +18,13 @@ fn replay_named(
     circuit: &Circuit,
     blocks: &[Certificate],
     names: &[Vec<u8>],
+    bound: Option<u32>,
 ) -> Result<Replay, NoMemory>
     requires { NoneMissing (names_of names.now) circuit.now }
-    ensures { IfOk result (IsReplay (names_of names.now) circuit.now blocks.now) }
+    ensures { IfOk result (IsReplay bound (names_of names.now) circuit.now blocks.now) }
 {
     let keep = keep_by_names(alloc, circuit, names)?;
-    replay_held(alloc, circuit, &keep, blocks, names)
+    replay_held(alloc, circuit, &keep, blocks, names, bound)
 }
 
 /// The audit of blocks of what a circuit was merged to, and what they end in.
@@ -32,11 +33,12 @@ fn replay_of(
     start: MergedStart,
     blocks: &[Certificate],
     names: &[Vec<u8>],
+    bound: Option<u32>,
 ) -> Result<Replay, NoMemory>
     requires { NoneMissing (names_of names.now) start.circuit }
-    ensures { IfOk result (IsReplay (names_of names.now) start.circuit blocks.now) }
+    ensures { IfOk result (IsReplay bound (names_of names.now) start.circuit blocks.now) }
 {
-    let replay = replay_named(alloc, &start.circuit, blocks, names);
+    let replay = replay_named(alloc, &start.circuit, blocks, names, bound);
     drop(start);
     replay
 }
@@ -47,12 +49,13 @@ fn replay_start(
     circuit: &Circuit,
     blocks: &[Certificate],
     names: &[Vec<u8>],
+    bound: Option<u32>,
 ) -> Result<Replay, NoMemory>
     requires { NoneMissing (names_of names.now) circuit.now }
-    ensures { IfOk result (IsMergedReplay (names_of names.now) circuit.now blocks.now) }
+    ensures { IfOk result (IsMergedReplay bound (names_of names.now) circuit.now blocks.now) }
 {
     let start = merged_start(alloc, circuit, names)?;
-    replay_of(alloc, start, blocks, names)
+    replay_of(alloc, start, blocks, names, bound)
 }
 
 /// [`replay_blocks`](crate::replay_blocks) of what a circuit is merged to: for certificates of a run that merged latches before the
@@ -66,14 +69,15 @@ pub fn replay_merged(
     circuit: &Circuit,
     blocks: &[Certificate],
     names: &[Vec<u8>],
+    bound: Option<u32>,
 ) -> Result<Replay, KeepError>
-    ensures replay { IfOk result (IsMergedReplay (names_of names.now) circuit.now blocks.now) }
+    ensures replay { IfOk result (IsMergedReplay bound (names_of names.now) circuit.now blocks.now) }
     ensures none_missing { OnOk result (NoneMissing (names_of names.now) circuit.now) }
     ensures missing { (place : ℕ) → IsErrOf result (NoSuchName place)
         → IsFirstMissing (names_of names.now) circuit.now place }
 {
     drop(keep_of(alloc, circuit, names)?);
-    match replay_start(alloc, circuit, blocks, names) {
+    match replay_start(alloc, circuit, blocks, names, bound) {
         Ok(replay) => Ok(replay),
         Err(NoMemory) => Err(KeepError::NoMemory),
     }
@@ -90,13 +94,14 @@ pub fn audit_merged(
     circuit: &Circuit,
     blocks: &[Certificate],
     names: &[Vec<u8>],
+    bound: Option<u32>,
 ) -> Result<Audit, KeepError>
-    ensures audit { IfOk result (IsMergedAudit (names_of names.now) circuit.now blocks.now) }
+    ensures audit { IfOk result (IsMergedAudit bound (names_of names.now) circuit.now blocks.now) }
     ensures none_missing { OnOk result (NoneMissing (names_of names.now) circuit.now) }
     ensures missing { (place : ℕ) → IsErrOf result (NoSuchName place)
         → IsFirstMissing (names_of names.now) circuit.now place }
 {
-    match replay_merged(alloc, circuit, blocks, names) {
+    match replay_merged(alloc, circuit, blocks, names, bound) {
         Ok(replay) => Ok(audit_of(replay)),
         Err(error) => Err(error),
     }

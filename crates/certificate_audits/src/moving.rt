@@ -1,5 +1,5 @@
 //! The circuit that a block makes of its own.
-ghost use Rattle.std.specs.Prelude.{◌≡◌, IfOk};
+ghost use Rattle.std.specs.Prelude.{ℕ, ◌≡◌, IfOk, Option};
 ghost use Rattle.std.specs.List.Sorted.{IsStrictlyIncreasing};
 ghost use Rattle.aig_graph.specs.Keep.{NoneMissing, names_of};
 ghost use Rattle.retimed_circuits.specs.Frames.{moved_in};
@@ -33,7 +33,7 @@ fn moved_over(
     names: &[Vec<u8>],
 ) -> Result<Circuit, NoMemory>
     requires names { NoneMissing (names_of names.now) circuit.now }
-    requires saves { Saves (names_of names.now) circuit.now block.now }
+    requires saves { (bound : Option ℕ) × Saves bound (names_of names.now) circuit.now block.now }
     ensures { IfOk result (λ after. after ≡ moved_in
         (names_of names.now) circuit.now block.now.gates) }
 {
@@ -60,7 +60,7 @@ fn next_circuit(
     names: &[Vec<u8>],
 ) -> Result<Circuit, NoMemory>
     requires names { NoneMissing (names_of names.now) circuit.now }
-    requires saves { Saves (names_of names.now) circuit.now block.now }
+    requires saves { (bound : Option ℕ) × Saves bound (names_of names.now) circuit.now block.now }
     ensures next { IfOk result (IsNext (names_of names.now) circuit.now block.now) }
     ensures held { IfOk result (λ next. held_latches (names_of names.now) next
         ≡ held_latches (names_of names.now) circuit.now) }
@@ -85,7 +85,7 @@ pub(crate) fn after_block(
     names: &[Vec<u8>],
 ) -> Result<Circuit, NoMemory>
     requires names { NoneMissing (names_of names.now) circuit }
-    requires saves { Saves (names_of names.now) circuit block.now }
+    requires saves { (bound : Option ℕ) × Saves bound (names_of names.now) circuit block.now }
     ensures next { IfOk result (IsNext (names_of names.now) circuit block.now) }
     ensures held { IfOk result (λ next. held_latches (names_of names.now) next
         ≡ held_latches (names_of names.now) circuit) }

@@ -1,5 +1,5 @@
 //! Block after block.
-ghost use Rattle.std.specs.Prelude.{ℕ, ◌≡◌, IfOk, OnOk, IsErrOf};
+ghost use Rattle.std.specs.Prelude.{ℕ, ◌≡◌, IfOk, OnOk, IsErrOf, Option};
 ghost use Rattle.aig_graph.specs.Keep.{IsFirstMissing, NoneMissing, held_in, names_of};
 ghost use Rattle.aig_graph.specs.declared.holding.KeepError.TheVariants.{NoSuchName};
 ghost use Rattle.certificate_audits.specs.Audits.{IsAudit, Saves};
@@ -23,7 +23,8 @@ fn last_circuit(
     names: &[Vec<u8>],
 ) -> Result<Option<Circuit>, NoMemory>
     requires names { NoneMissing (names_of names.now) circuit }
-    requires saves { end ≡ End.Open → Saves (names_of names.now) circuit block.now }
+    requires saves { end ≡ End.Open
+        → (bound : Option ℕ) × Saves bound (names_of names.now) circuit block.now }
     ensures { IfOk result (IsLastOf (names_of names.now) circuit block.now end) }
 {
     match end {
@@ -48,7 +49,8 @@ fn ended_with(
     names: &[Vec<u8>],
 ) -> Result<Replay, NoMemory>
     requires names { NoneMissing (names_of names.now) circuit }
-    requires saves { audit.end ≡ End.Open → Saves (names_of names.now) circuit block.now }
+    requires saves { audit.end ≡ End.Open
+        → (bound : Option ℕ) × Saves bound (names_of names.now) circuit block.now }
     ensures audit { IfOk result (λ replay. replay.audit ≡ audit) }
     ensures last { IfOk result (λ replay. IsLastOf (names_of names.now) circuit block.now
         audit.end replay.last) }
@@ -65,13 +67,14 @@ fn replay_from(
     first: Circuit,
     blocks: &[Certificate],
     names: &[Vec<u8>],
+    bound: Option<u32>,
 ) -> Result<Replay, NoMemory>
     requires { NoneMissing (names_of names.now) first }
-    ensures { IfOk result (Replays (names_of names.now) first blocks.now) }
+    ensures { IfOk result (Replays bound (names_of names.now) first blocks.now) }
 {
     let mut circuit = first;
     for (place, block) in blocks.iter().enumerate() {
-        match end_at(alloc, &circuit, block, &blocks[place + 1..], names) {
+        match end_at(alloc, &circuit, block, &blocks[place + 1..], names, bound) {
             Ok(None) => circuit = after_block(alloc, circuit, block, names)?,
             Ok(Some(last)) => {
                 let audit = Audit {
@@ -102,15 +105,16 @@ pub(crate) fn replay_held(
     keep: &Keep,
     blocks: &[Certificate],
     names: &[Vec<u8>],
+    bound: Option<u32>,
 ) -> Result<Replay, NoMemory>
     requires keep { keep.now ≡ held_in (names_of names.now) circuit.now }
     requires names { NoneMissing (names_of names.now) circuit.now }
-    ensures { IfOk result (IsReplay (names_of names.now) circuit.now blocks.now) }
+    ensures { IfOk result (IsReplay bound (names_of names.now) circuit.now blocks.now) }
 {
     // That the held latches are among the circuit's is what its readers ensure.
     circuit.known();
     let first = clean(alloc, circuit, keep)?;
-    replay_from(alloc, circuit_of(first), blocks, names)
+    replay_from(alloc, circuit_of(first), blocks, names, bound)
 }
 
 /// [`audit_blocks`], and the circuit that the blocks end in: where they are those of a whole run of `retime`, or of one that the limit of
@@ -126,14 +130,15 @@ pub fn replay_blocks(
     circuit: &Circuit,
     blocks: &[Certificate],
     names: &[Vec<u8>],
+    bound: Option<u32>,
 ) -> Result<Replay, KeepError>
-    ensures replay { IfOk result (IsReplay (names_of names.now) circuit.now blocks.now) }
+    ensures replay { IfOk result (IsReplay bound (names_of names.now) circuit.now blocks.now) }
     ensures none_missing { OnOk result (NoneMissing (names_of names.now) circuit.now) }
     ensures missing { (place : ℕ) → IsErrOf result (NoSuchName place)
         → IsFirstMissing (names_of names.now) circuit.now place }
 {
     let keep = keep_of(alloc, circuit, names)?;
-    match replay_held(alloc, circuit, &keep, blocks, names) {
+    match replay_held(alloc, circuit, &keep, blocks, names, bound) {
         Ok(replay) => Ok(replay),
         Err(NoMemory) => Err(KeepError::NoMemory),
     }
@@ -142,7 +147,8 @@ pub fn replay_blocks(
 /// Audits blocks of certificates, frame by frame, as a circuit was retimed by: the first is judged for the circuit cleaned, and each
 /// further one for what the circuit is after its latches moved over the set of the block before, cleaned. The latches whose symbol
 /// has one of the names are held. It ends at the first block that isn't confirmed or that doesn't need fewer latches than there
-/// are, else at the last one.
+/// are, else at the last one. Under a bound on path length, as the run had it, a block is confirmed too whose set is least among those of
+/// gates that arrive within the bound.
 ///
 /// Each block takes the time of `check`; one that another follows also takes one move and one cleaning. Only one circuit is
 /// kept at a time.
@@ -155,13 +161,14 @@ pub fn audit_blocks(
     circuit: &Circuit,
     blocks: &[Certificate],
     names: &[Vec<u8>],
+    bound: Option<u32>,
 ) -> Result<Audit, KeepError>
-    ensures audit { IfOk result (IsAudit (names_of names.now) circuit.now blocks.now) }
+    ensures audit { IfOk result (IsAudit bound (names_of names.now) circuit.now blocks.now) }
     ensures none_missing { OnOk result (NoneMissing (names_of names.now) circuit.now) }
     ensures missing { (place : ℕ) → IsErrOf result (NoSuchName place)
         → IsFirstMissing (names_of names.now) circuit.now place }
 {
-    match replay_blocks(alloc, circuit, blocks, names) {
+    match replay_blocks(alloc, circuit, blocks, names, bound) {
         Ok(replay) => Ok(audit_of(replay)),
         Err(error) => Err(error),
     }

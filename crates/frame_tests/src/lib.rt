@@ -12,6 +12,8 @@ mod batch_files;
 #[cfg(test)]
 mod batch_outcomes;
 #[cfg(test)]
+mod bounds;
+#[cfg(test)]
 mod circuits;
 #[cfg(test)]
 mod cleaned;

@@ -1,5 +1,5 @@
 -- What follows a frame follows the frame's move and its cleaning.
-use Rattle.std.proofs.Common.{ℕ, List, ◌≡◌, ◌∙◌, ◌++◌, ◌∷◌, ◌<◌, [], Result, Ok, Err, ap, arith, get_or, length, suc, sym, subst, zero-add}
+use Rattle.std.proofs.Common.{ℕ, List, ◌≡◌, ◌∙◌, ◌++◌, ◌∷◌, ◌<◌, [], Option, Result, Ok, Err, ap, arith, get_or, length, suc, sym, subst, zero-add}
 use Rattle.std.specs.Result.{IfOk}
 use Rattle.std.specs.List.{All, range_with_len}
 use Rattle.std.proofs.lemmas.List.{length-map}
@@ -73,21 +73,21 @@ moved-followed has_come options c after set old mid new (Ok d) netlist same stre
 moved-followed has_come options c after set old mid new (Err e) netlist same streams whole is = tt
 
 -- places among those that were kept are as many as the run's circuit has free latches
-pub many-kept : (options : Options) (d : Netlist) (kept : List ℕ) (n : ℕ) (r : Retimed) → IsUnderway options d n r → length (composed kept r.kept_free) ≡ free_latches r.circuit.aig
-many-kept options d kept n r underway = length-map r.kept_free (λ place. get_or kept place 0) ∙ underway.keeps.streams.places.each
+pub many-kept : (options : Options) (bound : Option ℕ) (d : Netlist) (kept : List ℕ) (n : ℕ) (r : Retimed) → IsUnderway options bound d n r → length (composed kept r.kept_free) ≡ free_latches r.circuit.aig
+many-kept options bound d kept n r underway = length-map r.kept_free (λ place. get_or kept place 0) ∙ underway.keeps.streams.places.each
 
 -- what so many frames make is one
-pub one-taken : {F : Type 0} (has_come : F → Netlist → Netlist → List ℕ → Type 0) (options : Options) (c d : Netlist) (kept : List ℕ) (n : ℕ) (r after : Retimed) (taken : Frame) (f : F) → IsUnderway options d n r → Moves options r.circuit taken → IsUnderway options d (suc n) after
-    → has_come f c taken.cleaned.circuit (composed (composed kept r.kept_free) taken.cleaned.kept_free) → IsFollowed has_come options c d kept (suc n) after f
-one-taken has_come options c d kept n r after taken f before moves underway come =
+pub one-taken : {F : Type 0} (has_come : F → Netlist → Netlist → List ℕ → Type 0) (options : Options) (bound : Option ℕ) (c d : Netlist) (kept : List ℕ) (n : ℕ) (r after : Retimed) (taken : Frame) (f : F) → IsUnderway options bound d n r → Moves options bound r.circuit taken → IsUnderway options bound d (suc n) after
+    → has_come f c taken.cleaned.circuit (composed (composed kept r.kept_free) taken.cleaned.kept_free) → IsFollowed has_come options bound c d kept (suc n) after f
+one-taken has_come options bound c d kept n r after taken f before moves underway come =
     let choice = options.choice in
     let names = names_in options in
     let left : List ℕ = taken.cleaned.kept_free in
     let places : List ℕ = composed r.kept_free left in
     let reports : List FrameReport = r.frames ++ taken.report ∷ [] in
-    let made : AfterFrames choice names d (suc n) taken.cleaned.circuit places reports = frame n r.circuit taken.cleaned.circuit r.kept_free left r.frames taken.report before.frames moves.moves in
+    let made : AfterFrames bound choice names d (suc n) taken.cleaned.circuit places reports = frame n r.circuit taken.cleaned.circuit r.kept_free left r.frames taken.report before.frames moves.moves in
     let same : SameEnd taken.cleaned.circuit after.circuit places after.kept_free reports after.frames =
-    after-one choice names d (suc n) taken.cleaned.circuit places reports made after.circuit after.kept_free after.frames underway.frames in
+    after-one bound choice names d (suc n) taken.cleaned.circuit places reports made after.circuit after.kept_free after.frames underway.frames in
     let below : All (λ place. place < length r.kept_free) left = λ k a h. omega (arith, moves.keeps.streams.places.below k a h, before.keeps.streams.places.each) in
     let P : Netlist → List ℕ → Type 0 = λ e js. has_come f c e js in
     let one : P taken.cleaned.circuit (composed kept places) = subst (P taken.cleaned.circuit) (sym (composed-then kept r.kept_free left below)) come in

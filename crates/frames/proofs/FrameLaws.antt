@@ -1,14 +1,13 @@
 -- What the frames of a run rest on.
-use Rattle.std.proofs.Common.{ℕ, ◌≡◌, ◌<◌, ◌≤◌, ◌++◌, suc, refl, List, [], ◌∷◌, length, get_or, arith, ap, sym, ◌∙◌, subst, Result, Ok, Err, None}
+use Rattle.std.proofs.Common.{ℕ, ◌≡◌, ◌<◌, ◌≤◌, ◌++◌, suc, refl, List, [], ◌∷◌, length, get_or, arith, ap, sym, ◌∙◌, subst, Result, Ok, Err, Option, None}
 use Rattle.std.specs.Result.{IfOk}
 use Rattle.std.specs.List.{All}
 use Rattle.std.proofs.lemmas.List.FromFn.{length-range_with_len}
 use Rattle.aig_graph.specs.declared.literal.TheConstants.{MAX_VARIABLES}
-use Rattle.aig_graph.specs.Graph.{Graph, IsGraph, variables_end, free_latches, known_latches}
+use Rattle.aig_graph.specs.Graph.{Graph, IsGraph, variables_end, free_latches}
 use Rattle.aig_graph.specs.Circuits.{Netlist, IsNetlist}
 use Rattle.aig_graph.specs.Closed.{IsClosedSet}
 use Rattle.aig_graph.specs.Keep.{held_in}
-use Rattle.aig_graph.specs.Border.{IsLeast}
 use Rattle.aig_graph.specs.Laws.{all_free, composed}
 use Rattle.aig_graph.specs.Streams.{SameStreams}
 use Rattle.aig_graph.proofs.StreamLaws.{same_streams-reflexive, same_streams-transitive}
@@ -22,10 +21,9 @@ use Rattle.variable_tables.specs.Marking.{has}
 use Rattle.variable_tables.proofs.MemberLaws.{places-members}
 use Rattle.variable_tables.proofs.PlacesLaws.{length-places, count-bound}
 use Rattle.rebuild.proofs.MovedLaws.{members-below}
-use Rattle.aig_graph.proofs.ChosenLaws.{chosen-least}
 use Rattle.retimed_circuits.specs.declared.report.Retimed.{Retimed}
 use Rattle.retimed_circuits.specs.Names.{held_latches}
-use Rattle.retimed_circuits.specs.Frames.{AfterFrames, CleansIn, count_in, cleaned, frame, moved_in}
+use Rattle.retimed_circuits.specs.Frames.{AfterFrames, CleansIn, cleaned, frame, moved_in}
 use Rattle.retimed_circuits.proofs.HeldLaws.{cleaning-keeps, moving-keeps}
 use Rattle.retimed_circuits.proofs.RunLaws.{after-length}
 use Rattle.tidy.proofs.FrameLaws.{cleans-tidy, tidy-cleaned}
@@ -33,7 +31,7 @@ use Rattle.frames.specs.declared.frame.Frame.{Frame}
 use Rattle.frames.specs.declared.options.Options.{Options}
 use Rattle.frames.specs.Found.{Moves}
 use Rattle.frames.specs.Named.{kept_by, names_in}
-use Rattle.frames.specs.Retiming.{IsCleanedBy, IsHelpingSetBy, IsMovedBy, IsRetimedAsIs, IsTidyBy, Keeps, NoneSmallerBy}
+use Rattle.frames.specs.Retiming.{IsCleanedBy, IsMovedBy, IsRetimedAsIs, IsTidyBy, Keeps}
 use Rattle.frames.specs.Underway.{IsUnderway, IsRun}
 use Rattle.frames.proofs.CertificateLaws.{certified}
 
@@ -43,14 +41,6 @@ closed-length g held s valid set =
     let same : places (has s) (variables_end g) ≡ s = places-members s (variables_end g) set.rising (members-below g held s set) in
     let long : length (places (has s) (variables_end g)) ≡ length s = ap (λ (xs : List ℕ). length xs) same in
     omega (arith, long, length-places (has s) (variables_end g), count-bound (has s) (variables_end g), valid.small)
-
--- where a least set counts no less than the known latches, no closed set does
-pub none-smaller : (options : Options) (c : Netlist) (s : List ℕ) → IsLeast c (kept_by options c) s → known_latches c.aig ≤ count_in (names_in options) c s → NoneSmallerBy options c
-none-smaller options c s is_least many r closed = let least = is_least.least r closed in omega (arith, least, many)
-
--- a helping set is closed
-pub helping-closed : (options : Options) (c : Netlist) (s : List ℕ) → IsHelpingSetBy options c s → IsClosedSet c.aig (kept_by options c) s
-helping-closed options c s helps = (chosen-least options.choice c (kept_by options c) s helps.chosen).closed
 
 -- every free latch stays, and then some of them
 pub streams-through : (c d e : Netlist) (kept : List ℕ) → SameStreams c d (all_free c.aig) → SameStreams d e kept → SameStreams c e kept
@@ -100,18 +90,18 @@ moved-by options c after set (Ok d) netlist same streams is =
 moved-by options c after set (Err e) netlist same streams is = tt
 
 -- a cleaned circuit is what no frame makes
-pub underway-first : (options : Options) (c : Netlist) (d : Cleaned) (r : Retimed) → IsCircuit c → CleansIn (names_in options) c d.circuit d.kept_free → SameStreams c d.circuit d.kept_free
-    → r.circuit ≡ d.circuit → r.kept_free ≡ d.kept_free → r.read_latches ≡ length c.aig.latches → r.merged ≡ None → r.frames ≡ [] → IsUnderway options c 0 r
-underway-first options c d r valid cleans streams circuit places latches unmerged none =
+pub underway-first : (options : Options) (bound : Option ℕ) (c : Netlist) (d : Cleaned) (r : Retimed) → IsCircuit c → CleansIn (names_in options) c d.circuit d.kept_free → SameStreams c d.circuit d.kept_free
+    → r.circuit ≡ d.circuit → r.kept_free ≡ d.kept_free → r.read_latches ≡ length c.aig.latches → r.merged ≡ None → r.frames ≡ [] → IsUnderway options bound c 0 r
+underway-first options bound c d r valid cleans streams circuit places latches unmerged none =
     let s : Retimed = record { circuit = d.circuit; kept_free = d.kept_free; read_latches = length c.aig.latches; merged = None; frames = []; certificates = r.certificates } in
     let same : r ≡ s = λ i. record { circuit = circuit i; kept_free = places i; read_latches = latches i; merged = unmerged i; frames = none i; certificates = r.certificates } in
-    subst (IsUnderway options c 0) (sym same)
+    subst (IsUnderway options bound c 0) (sym same)
     (record { frames = cleaned d.circuit d.kept_free cleans; read_latches = refl; none_merged = refl; keeps = cleaned-keeps options c d.circuit d.kept_free valid cleans streams })
 
 -- whatever certificates the next state has
-pub one-more : (options : Options) (c : Netlist) (n : ℕ) (r : Retimed) (taken : Frame) (certs : List Certificate) → IsUnderway options c n r → Moves options r.circuit taken → IsUnderway options c (suc n)
+pub one-more : (options : Options) (bound : Option ℕ) (c : Netlist) (n : ℕ) (r : Retimed) (taken : Frame) (certs : List Certificate) → IsUnderway options bound c n r → Moves options bound r.circuit taken → IsUnderway options bound c (suc n)
     (record { circuit = taken.cleaned.circuit; kept_free = composed r.kept_free taken.cleaned.kept_free; read_latches = r.read_latches; merged = None; frames = r.frames ++ taken.report ∷ []; certificates = certs })
-one-more options c n r taken certs before moves = record {
+one-more options bound c n r taken certs before moves = record {
   frames = frame n r.circuit taken.cleaned.circuit r.kept_free taken.cleaned.kept_free r.frames taken.report before.frames moves.moves;
   read_latches = before.read_latches;
   none_merged = refl;
@@ -123,23 +113,23 @@ one-more options c n r taken certs before moves = record {
 }
 
 -- a run ends at the limit of frames, or where none counts less; it has the certificates that were collected
-pub ended : (options : Options) (c : Netlist) (records : Records) (r : Retimed) → IsRun options c records r
-    → IsRetimedAsIs options c
+pub ended : (options : Options) (bound : Option ℕ) (c : Netlist) (records : Records) (r : Retimed) → IsRun options bound c records r
+    → IsRetimedAsIs options bound c
     (record { circuit = r.circuit; kept_free = r.kept_free; read_latches = r.read_latches; merged = r.merged; frames = r.frames; certificates = records.certificates.items })
-ended options c records r run =
+ended options bound c records r run =
     let s : Retimed = record { circuit = r.circuit; kept_free = r.kept_free; read_latches = r.read_latches; merged = r.merged; frames = r.frames; certificates = records.certificates.items } in
     let choice = options.choice in
     let names = names_in options in
-    let taken : AfterFrames choice names c run.taken r.circuit r.kept_free r.frames = run.underway.frames in
-    let long : length r.frames ≡ run.taken = after-length choice names c run.taken r.circuit r.kept_free r.frames taken in
+    let taken : AfterFrames bound choice names c run.taken r.circuit r.kept_free r.frames = run.underway.frames in
+    let long : length r.frames ≡ run.taken = after-length bound choice names c run.taken r.circuit r.kept_free r.frames taken in
     record {
-      frames = subst (λ (m : ℕ). AfterFrames choice names c m r.circuit r.kept_free r.frames) (sym long) taken;
+      frames = subst (λ (m : ℕ). AfterFrames bound choice names c m r.circuit r.kept_free r.frames) (sym long) taken;
       within = omega (arith, long, run.within);
       last = λ less. run.last (omega (arith, long, less));
       read_latches = run.underway.read_latches;
       none_merged = run.underway.none_merged;
       streams = run.underway.keeps.streams;
-      certified = certified options c run.looked s records run.collected refl run.taken taken
+      certified = certified options bound c run.looked s records run.collected refl run.taken taken
           (λ limit. run.limited (sym long ∙ limit) ∙ sym long) (λ less. run.ended (omega (arith, long, less)) ∙ ap suc (sym long));
       held = run.underway.keeps.held;
     }

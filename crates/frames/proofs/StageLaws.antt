@@ -1,5 +1,5 @@
 -- What a watcher is told, one stage after another.
-use Rattle.std.proofs.Common.{ℕ, zero, suc, ◌+◌, ◌-◌, ◌<◌, ◌≡◌, List, [], ◌∷◌, ◌++◌, length, Result, Ok, Err, refl, ap, sym, subst, arith, append_assoc, append-nil}
+use Rattle.std.proofs.Common.{ℕ, zero, suc, ◌+◌, ◌-◌, ◌<◌, ◌≡◌, List, [], ◌∷◌, ◌++◌, Option, length, Result, Ok, Err, refl, ap, sym, subst, arith, append_assoc, append-nil}
 use Rattle.std.specs.Result.{IfOk}
 use Rattle.retimed_circuits.specs.declared.report.FrameReport.{FrameReport}
 use Rattle.retimed_circuits.specs.declared.report.Retimed.{Retimed}
@@ -36,16 +36,16 @@ look-never zero taken latches none = refl
 look-never (suc left) taken latches none = absurd (omega (arith, none))
 
 -- a run has as many reports as it took frames
-pub many-taken : (options : Options) (c : Netlist) (n : ℕ) (r : Retimed) → IsUnderway options c n r → length r.frames ≡ n
-many-taken options c n r run = after-length options.choice (names_in options) c n r.circuit r.kept_free r.frames run.frames
+pub many-taken : (options : Options) (bound : Option ℕ) (c : Netlist) (n : ℕ) (r : Retimed) → IsUnderway options bound c n r → length r.frames ≡ n
+many-taken options bound c n r run = after-length bound options.choice (names_in options) c n r.circuit r.kept_free r.frames run.frames
 
 none-listed : (reports : List FrameReport) → length reports ≡ 0 → reports ≡ []
 none-listed [] none = refl
 none-listed (report ∷ reports) none = absurd (omega (arith, none))
 
 -- a run that took no frames yet has no reports of frames
-pub none-taken : (options : Options) (c : Netlist) (r : Retimed) → IsUnderway options c 0 r → r.frames ≡ []
-none-taken options c r run = none-listed r.frames (many-taken options c 0 r run)
+pub none-taken : (options : Options) (bound : Option ℕ) (c : Netlist) (r : Retimed) → IsUnderway options bound c 0 r → r.frames ≡ []
+none-taken options bound c r run = none-listed r.frames (many-taken options bound c 0 r run)
 
 module _ {W : Type 0} (was_told : W → List Told → Type 0) where
   -- a watcher who stays the same was told nothing more

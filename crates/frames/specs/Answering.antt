@@ -58,7 +58,7 @@ pub record IsAnswered (input : Input) (old new : Output) (options : Options) (r 
 
 -- the same options, but for whether certificates are wanted
 abbrev pub certifying : Options → Bool → Options
-certifying options certify = record { spelling = options.spelling; max_frames = options.max_frames; choice = options.choice; certify = certify; keep = options.keep; merge = options.merge }
+certifying options certify = record { spelling = options.spelling; max_frames = options.max_frames; choice = options.choice; certify = certify; keep = options.keep; merge = options.merge; bound = options.bound }
 
 -- of the same bytes by the same options, with certificates or without, there is one answer but for the routes of certificates, and one text of it
 abbrev pub IsOneAnswer : List ℕ → Options → Type 0

@@ -1,22 +1,22 @@
 -- Certificates of the circuits of a run, one after another.
-use Rattle.std.specs.Prelude.{ℕ, ◌≡◌, List, [], length, true, false}
+use Rattle.std.specs.Prelude.{ℕ, ◌≡◌, ◌++◌, List, [], ◌∷◌, length, true, false, Option}
 use Rattle.aig_graph.specs.Circuits.{Netlist}
+use Rattle.certificates.specs.declared.certificate.Certificate.{Certificate}
 use Rattle.chosen_cuts.specs.declared.records.Records.{Records}
-use Rattle.chosen_cuts.specs.Certified.{AddsOne}
-use Rattle.aig_graph.specs.Chosen.{IsChosen}
-use Rattle.retimed_circuits.specs.Certified.{AreOfFrames}
+use Rattle.retimed_circuits.specs.Certified.{AreOfFrames, IsCertificate}
 use Rattle.frames.specs.declared.options.Options.{Options}
-use Rattle.frames.specs.Named.{kept_by, names_in}
+use Rattle.frames.specs.Named.{names_in}
 
--- a certificate of c's chosen least set is added where certificates are wanted, else none
-pub record AddsChosen (options : Options) (c : Netlist) (old new : Records) : Type 0 where
-  pub set : List ℕ
-  pub chosen : IsChosen options.choice c (kept_by options c) set
-  pub adds : AddsOne c (kept_by options c) old new set
+-- a certificate of the set that is found in c is added where certificates are wanted, else none
+pub record AddsFound (options : Options) (bound : Option ℕ) (c : Netlist) (old new : Records) : Type 0 where
+  pub certify : new.certify ≡ old.certify
+  pub added : old.certify ≡ true → (cert : Certificate) × IsCertificate bound options.choice (names_in options) c cert
+      × (new.certificates.items ≡ old.certificates.items ++ cert ∷ [])
+  pub none : old.certify ≡ false → new.certificates.items ≡ old.certificates.items
 
 -- certificates of the first n circuits, where they are wanted, else none
-pub record AreCollected (options : Options) (c : Netlist) (n : ℕ) (records : Records) : Type 0 where
+pub record AreCollected (options : Options) (bound : Option ℕ) (c : Netlist) (n : ℕ) (records : Records) : Type 0 where
   pub wanted : records.certify ≡ options.certify
-  pub each : options.certify ≡ true → AreOfFrames options.choice (names_in options) c records.certificates.items
+  pub each : options.certify ≡ true → AreOfFrames bound options.choice (names_in options) c records.certificates.items
   pub many : options.certify ≡ true → length records.certificates.items ≡ n
   pub none : options.certify ≡ false → records.certificates.items ≡ []

@@ -1,6 +1,6 @@
 -- What follows a run from circuit to circuit. That a follower has come from one circuit to another, whose free latches have these places
 -- among those of the first, is a relation that each follower chooses.
-use Rattle.std.specs.Prelude.{ℕ, ◌≡◌, List, length}
+use Rattle.std.specs.Prelude.{ℕ, ◌≡◌, List, Option, length}
 use Rattle.aig_graph.specs.Circuits.{Netlist}
 use Rattle.aig_graph.specs.Graph.{free_latches}
 use Rattle.aig_graph.specs.Laws.{composed}
@@ -37,31 +37,31 @@ pub record IsMovedFollowed {F : Type 0} (has_come : F → Netlist → Netlist �
   pub comes : ComesOn has_come old new c d.circuit d.kept_free
 
 -- a frame of c that was followed
-pub record MovesFollowed {F : Type 0} (has_come : F → Netlist → Netlist → List ℕ → Type 0) (options : Options) (c : Netlist) (old new : F) (frame : Frame) : Type 0 where
-  pub moves : Moves options c frame
+pub record MovesFollowed {F : Type 0} (has_come : F → Netlist → Netlist → List ℕ → Type 0) (options : Options) (bound : Option ℕ) (c : Netlist) (old new : F) (frame : Frame) : Type 0 where
+  pub moves : Moves options bound c frame
   pub comes : ComesOn has_come old new c frame.cleaned.circuit frame.cleaned.kept_free
 
 -- r is what n frames make of d, which is cleaned first, and the follower has come there from c: that is d itself, or was merged to d; kept has
 -- the places of d's free latches among c's
-pub record IsFollowed {F : Type 0} (has_come : F → Netlist → Netlist → List ℕ → Type 0) (options : Options) (c d : Netlist) (kept : List ℕ) (n : ℕ) (r : Retimed) (f : F) : Type 0 where
-  pub underway : IsUnderway options d n r
+pub record IsFollowed {F : Type 0} (has_come : F → Netlist → Netlist → List ℕ → Type 0) (options : Options) (bound : Option ℕ) (c d : Netlist) (kept : List ℕ) (n : ℕ) (r : Retimed) (f : F) : Type 0 where
+  pub underway : IsUnderway options bound d n r
   pub come : has_come f c r.circuit (composed kept r.kept_free)
 
 -- r is some circuit that has latches of all names, cleaned, and the follower has come there from c
-pub record IsReady {F : Type 0} (has_come : F → Netlist → Netlist → List ℕ → Type 0) (options : Options) (c : Netlist) (r : Retimed) (f : F) : Type 0 where
+pub record IsReady {F : Type 0} (has_come : F → Netlist → Netlist → List ℕ → Type 0) (options : Options) (bound : Option ℕ) (c : Netlist) (r : Retimed) (f : F) : Type 0 where
   pub start : Netlist
   pub kept : List ℕ
-  pub followed : IsFollowed has_come options c start kept 0 r f
+  pub followed : IsFollowed has_come options bound c start kept 0 r f
   pub names : NoneMissingBy options start
 
 -- a run from d that ended, and the follower has come from c to what it came to
-pub record EndsFollowed {F : Type 0} (has_come : F → Netlist → Netlist → List ℕ → Type 0) (options : Options) (c d : Netlist) (kept : List ℕ) (records : Records) (r : Retimed) (f : F) : Type 0 where
-  pub run : IsRun options d records r
+pub record EndsFollowed {F : Type 0} (has_come : F → Netlist → Netlist → List ℕ → Type 0) (options : Options) (bound : Option ℕ) (c d : Netlist) (kept : List ℕ) (records : Records) (r : Retimed) (f : F) : Type 0 where
+  pub run : IsRun options bound d records r
   pub come : has_come f c r.circuit (composed kept r.kept_free)
 
 -- d retimed, and the follower has come there from c
-pub record IsRetimedFrom {F : Type 0} (has_come : F → Netlist → Netlist → List ℕ → Type 0) (options : Options) (c d : Netlist) (kept : List ℕ) (r : Retimed) (f : F) : Type 0 where
-  pub retimed : IsRetimedAsIs options d r
+pub record IsRetimedFrom {F : Type 0} (has_come : F → Netlist → Netlist → List ℕ → Type 0) (options : Options) (bound : Option ℕ) (c d : Netlist) (kept : List ℕ) (r : Retimed) (f : F) : Type 0 where
+  pub retimed : IsRetimedAsIs options bound d r
   pub come : has_come f c r.circuit (composed kept r.kept_free)
 
 -- c retimed by the options, and the follower has come there from c

@@ -1,23 +1,89 @@
 -- What is found in a circuit before a frame.
-use Rattle.std.specs.Prelude.{◌≡◌}
+use Rattle.std.specs.Prelude.{ℕ, ◌≡◌, ◌<◌, ◌≤◌, ⊤, List, length, Option, Some, None, MatchOption}
+use Rattle.aig_graph.specs.Border.{border_size}
+use Rattle.aig_graph.specs.Chosen.{IsChosen}
 use Rattle.aig_graph.specs.Circuits.{Netlist}
+use Rattle.aig_graph.specs.Closed.{IsClosedSet}
+use Rattle.aig_graph.specs.Graph.{known_latches}
+use Rattle.aig_graph.specs.Move.{move_of}
+use Rattle.aig_graph.specs.declared.choice.Choice.{Choice}
+use Rattle.chosen_cuts.specs.Certified.{AddsOne}
+use Rattle.chosen_cuts.specs.declared.records.Records.{Records}
+use Rattle.path_levels.specs.Levels.{levels}
 use Rattle.rebuild.specs.Marked.{AreMarksOf}
+use Rattle.rebuild.specs.Moved.{moved_of}
 use Rattle.retimed_circuits.specs.Frames.{CleansIn, IsFrame, move_in, moved_in, report_in}
+use Rattle.retimed_circuits.specs.declared.report.FrameReport.{FrameReport}
 use Rattle.frames.specs.declared.helping.Helping.{Helping}
+use Rattle.frames.specs.declared.bounding.Judged.{Judged}
+use Rattle.frames.specs.declared.bounding.Judged.TheVariants.{Decided, TooLong}
 use Rattle.frames.specs.declared.frame.Frame.{Frame}
 use Rattle.frames.specs.declared.options.Options.{Options}
+use Rattle.frames.specs.Certified.{AddsFound}
 use Rattle.frames.specs.Named.{names_in}
-use Rattle.frames.specs.Retiming.{IsHelpingSetBy, Keeps}
+use Rattle.frames.specs.Retiming.{IsHelpingSetBy, Keeps, NoneHelpsBy}
 
--- the chosen least set, which counts less than the known latches, the marks of its move, and the frame's report
-pub record Helps (options : Options) (c : Netlist) (found : Helping) : Type 0 where
-  pub set : IsHelpingSetBy options c found.set
+-- a closed set that counts less than c has known latches
+pub record Saves (c : Netlist) (held s : List ℕ) : Type 0 where
+  pub closed : IsClosedSet c.aig held s
+  pub fewer : border_size (move_of c held s) < known_latches c.aig
+
+-- the known latches before, the set's count, and the number of its gates
+abbrev pub report_over : Netlist → List ℕ → List ℕ → FrameReport
+report_over c held s = record { before = known_latches c.aig; after = border_size (move_of c held s); moved = length s }
+
+-- it is over this set, which saves latches, with the marks of its move, and its report
+pub record IsOver (c : Netlist) (held s : List ℕ) (found : Helping) : Type 0 where
+  pub same : found.set ≡ s
+  pub saves : Saves c held found.set
+  pub marks : AreMarksOf (move_of c held found.set) found.marks
+  pub report : found.report ≡ report_over c held found.set
+
+-- what is found over a set: nothing where it counts no less than c has known latches
+abbrev pub IsFoundOver : Netlist → List ℕ → List ℕ → Option Helping → Type 0
+IsFoundOver c held s found = MatchOption found (known_latches c.aig ≤ border_size (move_of c held s)) (IsOver c held s)
+
+-- a look for a set: the chosen least set of d, with its certificate where certificates are wanted, and what is found over it in c
+pub record IsLook (choice : Choice) (c d : Netlist) (held : List ℕ) (old new : Records) (found : Option Helping) : Type 0 where
+  pub set : List ℕ
+  pub chosen : IsChosen choice d held set
+  pub adds : AddsOne d held old new set
+  pub over : IsFoundOver c held set found
+
+-- how many levels there are after the move over the set
+abbrev pub levels_over : Netlist → List ℕ → List ℕ → ℕ
+levels_over c held s = levels (moved_of (move_of c held s))
+
+-- where there is a bound, what is found keeps it
+abbrev pub KeepsBound : Option ℕ → Netlist → List ℕ → Option Helping → Type 0
+KeepsBound None c held found = ⊤
+KeepsBound (Some bound) c held None = ⊤
+KeepsBound (Some bound) c held (Some found) = levels_over c held found.set ≤ bound
+
+-- something is found, and makes a path longer than the bound
+abbrev pub BreaksBound : ℕ → Netlist → List ℕ → Option Helping → Type 0
+BreaksBound bound c held None = ⊥
+BreaksBound bound c held (Some found) = bound < levels_over c held found.set
+
+-- what becomes of what is found by the first look
+abbrev pub IsJudged : Option ℕ → Netlist → List ℕ → Option Helping → Judged → Type 0
+IsJudged bound c held first (Decided found) = (found ≡ first) × KeepsBound bound c held first
+IsJudged bound c held first (TooLong most) = (bound ≡ Some most) × BreaksBound most c held first
+
+-- the set that is found, which counts less than the known latches, the marks of its move, and the frame's report
+pub record Helps (options : Options) (bound : Option ℕ) (c : Netlist) (found : Helping) : Type 0 where
+  pub set : IsHelpingSetBy options bound c found.set
   pub marks : AreMarksOf (move_in (names_in options) c found.set) found.marks
   pub report : found.report ≡ report_in (names_in options) c found.set
 
+-- what is found in c, if anything helps; a certificate of the set is added where certificates are wanted
+pub record Finds (options : Options) (bound : Option ℕ) (c : Netlist) (old new : Records) (found : Option Helping) : Type 0 where
+  pub found : MatchOption found (NoneHelpsBy options bound c) (Helps options bound c)
+  pub adds : AddsFound options bound c old new
+
 -- a frame over its set, which keeps the streams, and the latches that the names hold, and leaves nothing to clean
-pub record Moves (options : Options) (c : Netlist) (frame : Frame) : Type 0 where
-  pub set : IsHelpingSetBy options c frame.set
+pub record Moves (options : Options) (bound : Option ℕ) (c : Netlist) (frame : Frame) : Type 0 where
+  pub set : IsHelpingSetBy options bound c frame.set
   pub cleaned : CleansIn (names_in options) (moved_in (names_in options) c frame.set) frame.cleaned.circuit frame.cleaned.kept_free
-  pub moves : IsFrame options.choice (names_in options) c frame.cleaned.circuit frame.cleaned.kept_free frame.report
+  pub moves : IsFrame bound options.choice (names_in options) c frame.cleaned.circuit frame.cleaned.kept_free frame.report
   pub keeps : Keeps options c frame.cleaned.circuit frame.cleaned.kept_free

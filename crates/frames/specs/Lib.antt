@@ -1,9 +1,10 @@
 pub mod Codes
 pub mod Defaults
 pub mod Named
+pub mod Bounds
 pub mod Retiming
-pub mod Found
 pub mod Certified
+pub mod Found
 pub mod Underway
 pub mod Merging
 pub mod Following

@@ -1,34 +1,35 @@
 -- What options make of a circuit.
-use Rattle.std.specs.Prelude.{ℕ, ◌≡◌, List}
+use Rattle.std.specs.Prelude.{ℕ, ◌≡◌, List, Option}
 use Rattle.aig_graph.specs.Circuits.{Netlist}
 use Rattle.aig_graph.specs.Streams.{SameStreams}
 use Rattle.clean.specs.declared.cleaning.Cleaned.{Cleaned}
 use Rattle.retimed_circuits.specs.declared.report.Retimed.{Retimed}
-use Rattle.retimed_circuits.specs.Frames.{CleansIn, IsHelpingSet, NoneSmaller, moved_in}
+use Rattle.retimed_circuits.specs.Frames.{CleansIn, IsHelpingSet, NoneHelps, moved_in}
 use Rattle.retimed_circuits.specs.Names.{held_latches}
 use Rattle.retimed_circuits.specs.Retiming.{IsMergedRetimed, IsRetimed, IsRetimedWith}
 use Rattle.tidy.specs.Tidy.{IsTidyIn}
 use Rattle.frames.specs.declared.options.Options.{Options}
+use Rattle.frames.specs.Bounds.{bound_in}
 use Rattle.frames.specs.Named.{names_in}
 
 -- r is c retimed by the options
 abbrev pub IsRetimedBy : Options → Netlist → Retimed → Type 0
-IsRetimedBy options c r = IsRetimedWith options.merge options.choice c (names_in options) options.max_frames options.certify r
+IsRetimedBy options c r = IsRetimedWith options.merge (bound_in options c) options.choice c (names_in options) options.max_frames options.certify r
 
--- the same without merging, and with it, whatever the options say of that
-abbrev pub IsRetimedAsIs : Options → Netlist → Retimed → Type 0
-IsRetimedAsIs options c r = IsRetimed options.choice c (names_in options) options.max_frames options.certify r
+-- the same under this bound, without merging and with it, whatever the options say of either
+abbrev pub IsRetimedAsIs : Options → Option ℕ → Netlist → Retimed → Type 0
+IsRetimedAsIs options bound c r = IsRetimed bound options.choice c (names_in options) options.max_frames options.certify r
 
-abbrev pub IsRetimedMerged : Options → Netlist → Retimed → Type 0
-IsRetimedMerged options c r = IsMergedRetimed options.choice c (names_in options) options.max_frames options.certify r
+abbrev pub IsRetimedMerged : Options → Option ℕ → Netlist → Retimed → Type 0
+IsRetimedMerged options bound c r = IsMergedRetimed bound options.choice c (names_in options) options.max_frames options.certify r
 
--- no closed set counts less than c has known latches
-abbrev pub NoneSmallerBy : Options → Netlist → Type 0
-NoneSmallerBy options c = NoneSmaller (names_in options) c
+-- no set that keeps the bound makes c's known latches fewer
+abbrev pub NoneHelpsBy : Options → Option ℕ → Netlist → Type 0
+NoneHelpsBy options bound c = NoneHelps bound options.choice (names_in options) c
 
--- s is c's chosen least set, and counts less than c has known latches
-abbrev pub IsHelpingSetBy : Options → Netlist → List ℕ → Type 0
-IsHelpingSetBy options c s = IsHelpingSet options.choice (names_in options) c s
+-- s is the set that is found in c, and counts less than c has known latches
+abbrev pub IsHelpingSetBy : Options → Option ℕ → Netlist → List ℕ → Type 0
+IsHelpingSetBy options bound c s = IsHelpingSet bound options.choice (names_in options) c s
 
 -- nothing is left to clean
 abbrev pub IsTidyBy : Options → Netlist → Type 0

@@ -3,6 +3,7 @@
 ghost use Rattle.std.specs.Prelude.{◌≡◌, false, IfOk, [], None, true};
 ghost use Rattle.aig_graph.specs.Laws.{all_free};
 ghost use Rattle.frames.specs.Beginning.{IsBegun, IsCleanedRun, IsMergedFrom};
+ghost use Rattle.frames.specs.Bounds.{bound_in};
 ghost use Rattle.frames.specs.Following.{HasComeTo};
 ghost use Rattle.frames.specs.Named.{NoneMissingBy, kept_by};
 
@@ -44,12 +45,13 @@ fn cleaned_run<F: RunFollower + Drop>(
     follower: F,
     circuit: &Circuit,
     keep: &Keep,
+    bound: Option<u32>,
     options: &Options,
 ) -> Result<Run<F>, F::Stop>
     requires there { HasComeTo F.has_come follower circuit.now }
     requires keep { keep.now ≡ kept_by options.now circuit.now }
-    ensures { IfOk result (λ run. IsCleanedRun F.has_come options.now circuit.now follower
-        run.follower run.retimed) }
+    ensures { IfOk result (λ run. IsCleanedRun F.has_come options.now bound circuit.now follower
+        run.follower run.retimed × (run.bound ≡ bound)) }
 {
     let _options = options;
     circuit.known();
@@ -59,6 +61,7 @@ fn cleaned_run<F: RunFollower + Drop>(
         Ok(cleaned) => Ok(Run {
             retimed: begun(alloc, cleaned, read_latches),
             follower,
+            bound,
         }),
         Err(error) => {
             drop(follower);
@@ -73,16 +76,18 @@ fn begun_as_is<F: RunFollower + Drop>(
     follower: F,
     circuit: &Circuit,
     keep: &Keep,
+    bound: Option<u32>,
     options: &Options,
 ) -> Result<Begun<F>, F::Stop>
     requires there { F.has_come follower circuit.now circuit.now (all_free circuit.now.aig) }
     requires keep { keep.now ≡ kept_by options.now circuit.now }
     requires names { NoneMissingBy options.now circuit.now }
+    requires bound { bound ≡ bound_in options.now circuit.now }
     requires merge { options.now.merge ≡ false }
-    ensures { IfOk result (λ begun. IsBegun F.has_come options.now circuit.now begun.read
-        begun.run.retimed begun.run.follower) }
+    ensures { IfOk result (λ begun. IsBegun F.has_come options.now begun.run.bound circuit.now
+        begun.read begun.run.retimed begun.run.follower) }
 {
-    let run = cleaned_run(alloc, follower, circuit, keep, options)?;
+    let run = cleaned_run(alloc, follower, circuit, keep, bound, options)?;
     Ok(Begun { run, read: None })
 }
 
@@ -91,15 +96,16 @@ fn cleaned_by_names<F: RunFollower + Drop>(
     alloc: Global,
     follower: F,
     circuit: &Circuit,
+    bound: Option<u32>,
     options: &Options,
 ) -> Result<Run<F>, F::Stop>
     requires there { HasComeTo F.has_come follower circuit.now }
     requires names { NoneMissingBy options.now circuit.now }
-    ensures { IfOk result (λ run. IsCleanedRun F.has_come options.now circuit.now follower
-        run.follower run.retimed) }
+    ensures { IfOk result (λ run. IsCleanedRun F.has_come options.now bound circuit.now follower
+        run.follower run.retimed × (run.bound ≡ bound)) }
 {
     let keep = keep_by_names(alloc, circuit, options.keep.as_slice())?;
-    cleaned_run(alloc, follower, circuit, &keep, options)
+    cleaned_run(alloc, follower, circuit, &keep, bound, options)
 }
 
 /// The merged circuit, of a circuit with so many latches, cleaned, and dropped.
@@ -108,19 +114,20 @@ fn merged_run<F: RunFollower + Drop>(
     follower: F,
     start: MergedStart,
     latches: u32,
+    bound: Option<u32>,
     options: &Options,
 ) -> Result<Begun<F>, F::Stop>
     requires there { HasComeTo F.has_come follower start.circuit }
     requires names { NoneMissingBy options.now start.circuit }
-    ensures { IfOk result (λ begun. IsMergedFrom F.has_come options.now start latches follower
-        begun.run.follower begun.run.retimed begun.read) }
+    ensures { IfOk result (λ begun. IsMergedFrom F.has_come options.now bound start latches
+        follower begun.run.follower begun.run.retimed begun.read × (begun.run.bound ≡ bound)) }
 {
     let MergedStart {
         circuit,
         kept_free,
         counts,
     } = start;
-    let run = cleaned_by_names(alloc, follower, &circuit, options)?;
+    let run = cleaned_by_names(alloc, follower, &circuit, bound, options)?;
     drop(circuit);
     Ok(Begun {
         run,
@@ -137,22 +144,47 @@ fn begun_merged<F: RunFollower + Drop>(
     alloc: Global,
     follower: F,
     circuit: &Circuit,
+    bound: Option<u32>,
     options: &Options,
 ) -> Result<Begun<F>, F::Stop>
     requires there { F.has_come follower circuit.now circuit.now (all_free circuit.now.aig) }
     requires names { NoneMissingBy options.now circuit.now }
+    requires bound { bound ≡ bound_in options.now circuit.now }
     requires merge { options.now.merge ≡ true }
-    ensures { IfOk result (λ begun. IsBegun F.has_come options.now circuit.now begun.read
-        begun.run.retimed begun.run.follower) }
+    ensures { IfOk result (λ begun. IsBegun F.has_come options.now begun.run.bound circuit.now
+        begun.read begun.run.retimed begun.run.follower) }
 {
     let latches = circuit.aig().latches().len() as u32;
     let mut follower = follower;
     match follower.clean_and_merge(alloc, circuit, options.keep.as_slice()) {
-        Ok(start) => merged_run(alloc, follower, start, latches, options),
+        Ok(start) => merged_run(alloc, follower, start, latches, bound, options),
         Err(error) => {
             drop(follower);
             Err(error)
         }
+    }
+}
+
+/// What frames start from under this bound, with merging where the options ask for it.
+fn begun_under<F: RunFollower + Drop>(
+    alloc: Global,
+    follower: F,
+    circuit: &Circuit,
+    keep: &Keep,
+    bound: Option<u32>,
+    options: &Options,
+) -> Result<Begun<F>, F::Stop>
+    requires there { F.has_come follower circuit.now circuit.now (all_free circuit.now.aig) }
+    requires keep { keep.now ≡ kept_by options.now circuit.now }
+    requires names { NoneMissingBy options.now circuit.now }
+    requires bound { bound ≡ bound_in options.now circuit.now }
+    ensures { IfOk result (λ begun. IsBegun F.has_come options.now begun.run.bound circuit.now
+        begun.read begun.run.retimed begun.run.follower) }
+{
+    if options.merge {
+        begun_merged(alloc, follower, circuit, bound, options)
+    } else {
+        begun_as_is(alloc, follower, circuit, keep, bound, options)
     }
 }
 
@@ -172,12 +204,14 @@ pub fn begin<F: RunFollower + Drop>(
     requires there { F.has_come follower circuit.now circuit.now (all_free circuit.now.aig) }
     requires keep { keep.now ≡ kept_by options.now circuit.now }
     requires names { NoneMissingBy options.now circuit.now }
-    ensures { IfOk result (λ begun. IsBegun F.has_come options.now circuit.now begun.read
-        begun.run.retimed begun.run.follower) }
+    ensures { IfOk result (λ begun. IsBegun F.has_come options.now begun.run.bound circuit.now
+        begun.read begun.run.retimed begun.run.follower) }
 {
-    if options.merge {
-        begun_merged(alloc, follower, circuit, options)
-    } else {
-        begun_as_is(alloc, follower, circuit, keep, options)
+    match options.bound.for_circuit(alloc, circuit) {
+        Ok(bound) => begun_under(alloc, follower, circuit, keep, bound, options),
+        Err(error) => {
+            drop(follower);
+            Err(F::Stop::from(error))
+        }
     }
 }

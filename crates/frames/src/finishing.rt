@@ -57,9 +57,17 @@ fn told<F: RunFollower + Drop>(
     ensures { IfOk result (λ end. (end.retimed ≡ told_of_read read run.retimed)
         × (end.follower ≡ run.follower)) }
 {
-    let Run { retimed, follower } = run;
+    let Run {
+        retimed,
+        follower,
+        bound,
+    } = run;
     match told_of_read(alloc, retimed, read) {
-        Ok(retimed) => Ok(Run { retimed, follower }),
+        Ok(retimed) => Ok(Run {
+            retimed,
+            follower,
+            bound,
+        }),
         Err(error) => {
             drop(follower);
             Err(F::Stop::from(error))
@@ -81,10 +89,11 @@ pub fn finish<F: RunFollower + Drop, G: PhaseGate, V: FrameWatcher>(
     crew: &Crew<G>,
     watcher: &mut V,
 ) -> Result<Run<F>, F::Stop>
-    requires { (c : Netlist) × IsBegun F.has_come options.now c begun.read begun.run.retimed
-        begun.run.follower }
+    requires { (c : Netlist) × IsBegun F.has_come options.now begun.run.bound c begun.read
+        begun.run.retimed begun.run.follower }
     ensures retimed { IfOk result (λ end. (c : Netlist)
-        → IsBegun F.has_come options.now c begun.read begun.run.retimed begun.run.follower
+        → IsBegun F.has_come options.now begun.run.bound c begun.read begun.run.retimed
+        begun.run.follower
         → IsRetimedFollowed F.has_come options.now c end.retimed end.follower) }
     ensures told { IfOk result (λ end. Tells V.was_told watcher.old watcher.new
         (looks_of options.now.max_frames end.retimed)) }

@@ -1,11 +1,12 @@
-//! One frame: the latches of a cleaned circuit move over its chosen least set, and the circuit is cleaned again.
+//! One frame: the latches of a cleaned circuit move over the set that is found, and the circuit is cleaned again.
 ghost use Rattle.std.specs.Prelude.{◌≡◌, [], ◌∷◌, IfOk, OnOk, MatchOption};
 ghost use Rattle.aig_graph.specs.Move.{move_of};
 ghost use Rattle.rebuild.specs.Marked.{AreMarksOf};
-ghost use Rattle.frames.specs.Certified.{AddsChosen};
+ghost use Rattle.frames.specs.Certified.{AddsFound};
 ghost use Rattle.frames.specs.Following.{HasComeTo, IsMovedFollowed, MovesFollowed};
+ghost use Rattle.frames.specs.Found.{Saves};
 ghost use Rattle.frames.specs.Named.{NoneMissingBy, kept_by};
-ghost use Rattle.frames.specs.Retiming.{IsHelpingSetBy, IsTidyBy, NoneSmallerBy};
+ghost use Rattle.frames.specs.Retiming.{IsTidyBy, NoneHelpsBy};
 ghost use Rattle.frames.specs.Stages.{Moving, Tells};
 
 use crate::follower::RunFollower;
@@ -31,7 +32,7 @@ pub(crate) struct Frame {
     pub cleaned: Cleaned,
     /// What the frame is reported as.
     pub report: FrameReport,
-    /// The chosen least set of the circuit before.
+    /// The set that was found in the circuit before.
     pub set: ClosedSet,
 }
 
@@ -49,7 +50,7 @@ fn moved_over<F: RunFollower>(
     requires keep { keep.now ≡ kept_by options.now circuit.now }
     requires names { NoneMissingBy options.now circuit.now }
     requires tidy { IsTidyBy options.now circuit.now }
-    requires helps { IsHelpingSetBy options.now circuit.now set.now }
+    requires saves { Saves circuit.now keep.now set.now }
     requires marked { AreMarksOf (move_of circuit.now keep.now set.now) marks }
     ensures { IfOk result (IsMovedFollowed F.has_come options.now circuit.now set.now follower.old
         follower.new) }
@@ -91,7 +92,7 @@ fn carry(
     }
 }
 
-/// The frame of the circuit that a run has come to, where one makes fewer latches: its chosen least set, and what is left of it after its
+/// The frame of the circuit that a run has come to, where one makes fewer latches: the set that is found, and what is left of it after its
 /// latches have moved over that and it is cleaned, which is followed. A watcher is told of the move. Where the records want certificates,
 /// they get one of the circuit. Of the run only the follower changes.
 pub(crate) fn next_frame<F: RunFollower, G: PhaseGate, V: FrameWatcher>(
@@ -107,13 +108,14 @@ pub(crate) fn next_frame<F: RunFollower, G: PhaseGate, V: FrameWatcher>(
     requires names { NoneMissingBy options.now run.old.retimed.circuit }
     requires tidy { IsTidyBy options.now run.old.retimed.circuit }
     ensures same { OnOk result (run.new.retimed ≡ run.old.retimed) }
+    ensures bound { OnOk result (run.new.bound ≡ run.old.bound) }
     ensures found { IfOk result (λ found. MatchOption found
-        (NoneSmallerBy options.now run.old.retimed.circuit
+        (NoneHelpsBy options.now run.old.bound run.old.retimed.circuit
         × (run.new.follower ≡ run.old.follower))
-        (MovesFollowed F.has_come options.now run.old.retimed.circuit run.old.follower
-        run.new.follower)) }
+        (MovesFollowed F.has_come options.now run.old.bound run.old.retimed.circuit
+        run.old.follower run.new.follower)) }
     ensures certificate { OnOk result
-        (AddsChosen options.now run.old.retimed.circuit records.old records.new) }
+        (AddsFound options.now run.old.bound run.old.retimed.circuit records.old records.new) }
     ensures told { IfOk result (λ found. MatchOption found
         (Tells V.was_told watcher.old watcher.new [])
         (λ _. Tells V.was_told watcher.old watcher.new (Moving ∷ []))) }
@@ -121,7 +123,7 @@ pub(crate) fn next_frame<F: RunFollower, G: PhaseGate, V: FrameWatcher>(
     let circuit = &run.retimed.circuit;
     circuit.known();
     let keep = keep_by_names(alloc, circuit, options.keep.as_slice())?;
-    match helping_set(rt, alloc, circuit, &keep, options, crew, records)? {
+    match helping_set(rt, alloc, &*run, &keep, options, crew, records)? {
         Some(found) => {
             watcher.enter(Stage::Moving);
             let marks = found.marks;

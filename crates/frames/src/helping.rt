@@ -1,13 +1,15 @@
-//! The chosen least set of a circuit, where it needs fewer latches.
-ghost use Rattle.std.specs.Prelude.{◌≡◌, IfOk, OnOk, MatchOption};
-ghost use Rattle.frames.specs.Certified.{AddsChosen};
-ghost use Rattle.frames.specs.Found.{Helps};
+//! The set that is found in a circuit, where it needs fewer latches.
+ghost use Rattle.std.specs.Prelude.{◌≡◌, IfOk};
+ghost use Rattle.aig_graph.specs.Closed.{IsClosedSet};
+ghost use Rattle.frames.specs.Found.{Finds, IsFoundOver, IsLook};
 ghost use Rattle.frames.specs.Named.{kept_by};
-ghost use Rattle.frames.specs.Retiming.{NoneSmallerBy};
 
+use crate::bounding::{Judged, chosen_over, judged};
 use crate::options::Options;
-use aig_graph::{Circuit, ClosedSet, Keep, NoMemory};
+use crate::run::Run;
+use aig_graph::{Choice, Circuit, ClosedSet, Keep, NoMemory};
 use chosen_cuts::{Records, chosen_least_along};
+use path_levels::bounded;
 use pulse::{Crew, PhaseGate};
 use rebuild::MoveMarks;
 use retimed_circuits::FrameReport;
@@ -17,7 +19,7 @@ use std::thread::Threads;
 /// A closed set over which a circuit has fewer latches, the marks of its move, and what its frame is reported as.
 #[derive(Drop)]
 pub(crate) struct Helping {
-    /// The chosen least set.
+    /// The set.
     pub set: ClosedSet,
     /// The marks of a move over it.
     pub marks: MoveMarks,
@@ -25,24 +27,16 @@ pub(crate) struct Helping {
     pub report: FrameReport,
 }
 
-/// The chosen least set, with its report, where it counts less than the circuit has known latches. A certificate of the set is added in any
-/// case, where certificates are wanted.
-pub(crate) fn helping_set<G: PhaseGate>(
-    rt: &(impl Threads + Sync),
+/// The closed set with its report, where it counts less than the circuit has known latches.
+fn helping_over(
     alloc: Global,
     circuit: &Circuit,
     keep: &Keep,
-    options: &Options,
-    crew: &Crew<G>,
-    records: &mut Records,
+    set: ClosedSet,
 ) -> Result<Option<Helping>, NoMemory>
-    requires { keep.now ≡ kept_by options.now circuit.now }
-    ensures found { IfOk result (λ found. MatchOption found
-        (NoneSmallerBy options.now circuit.now) (Helps options.now circuit.now)) }
-    ensures certificate { OnOk result
-        (AddsChosen options.now circuit.now records.old records.new) }
+    requires { IsClosedSet circuit.now.aig keep.now set }
+    ensures { IfOk result (IsFoundOver circuit.now keep.now set) }
 {
-    let set = chosen_least_along(rt, alloc, circuit, keep, options.choice, crew, records)?;
     circuit.known();
     let marks = MoveMarks::new(alloc, circuit, &set, keep)?;
     let report = FrameReport {
@@ -54,5 +48,53 @@ pub(crate) fn helping_set<G: PhaseGate>(
         Ok(Some(Helping { set, marks, report }))
     } else {
         Ok(None)
+    }
+}
+
+/// The chosen least set with its report, where it counts less than the circuit has known latches. A certificate of the set is added in any
+/// case, where certificates are wanted.
+fn least_helping<G: PhaseGate>(
+    rt: &(impl Threads + Sync),
+    alloc: Global,
+    circuit: &Circuit,
+    keep: &Keep,
+    choice: Choice,
+    crew: &Crew<G>,
+    records: &mut Records,
+) -> Result<Option<Helping>, NoMemory>
+    ensures { IfOk result (IsLook choice circuit.now circuit.now keep.now records.old records.new) }
+{
+    let set = chosen_least_along(rt, alloc, circuit, keep, choice, crew, records)?;
+    helping_over(alloc, circuit, keep, set)
+}
+
+/// The set that is found in the circuit that a run has come to, with its report, where it counts less than the circuit has known latches: the
+/// chosen least set, or, where that would make a path longer than the run's bound, the chosen one of those whose gates arrive within it. A
+/// certificate of the set is added in any case, where certificates are wanted.
+pub(crate) fn helping_set<F, G: PhaseGate>(
+    rt: &(impl Threads + Sync),
+    alloc: Global,
+    run: &Run<F>,
+    keep: &Keep,
+    options: &Options,
+    crew: &Crew<G>,
+    records: &mut Records,
+) -> Result<Option<Helping>, NoMemory>
+    requires { keep.now ≡ kept_by options.now run.now.retimed.circuit }
+    ensures { IfOk result (Finds options.now run.now.bound run.now.retimed.circuit records.old
+        records.new) }
+{
+    let circuit = &run.retimed.circuit;
+    // That it is a circuit is what its readers ensure.
+    circuit.known();
+    let first = least_helping(rt, alloc, circuit, keep, options.choice, crew, records)?;
+    match judged(alloc, circuit, keep, first, run.bound)? {
+        Judged::Decided(found) => Ok(found),
+        Judged::TooLong(most) => {
+            records.forget_last();
+            let narrowed = bounded(alloc, circuit, keep, most)?;
+            let set = chosen_over(rt, alloc, narrowed, keep, options.choice, crew, records)?;
+            helping_over(alloc, circuit, keep, set)
+        }
     }
 }

@@ -1,8 +1,11 @@
 //! Minimum-register forward retiming, frame after frame: the latches of a cleaned circuit move over its chosen least set, the greatest or the smallest, and
-//! the circuit is cleaned again, until no closed set needs fewer latches (Hurst, Mishchenko and Brayton, 2007).
+//! the circuit is cleaned again, until no closed set needs fewer latches (Hurst, Mishchenko and Brayton, 2007). A bound says how long paths may
+//! get by that.
 #![tactic(auto)]
 
 mod beginning;
+mod bound;
+mod bounding;
 mod bytes;
 mod errors;
 mod finishing;
@@ -20,6 +23,7 @@ mod watcher;
 
 pub use aig_graph::Choice;
 pub use beginning::begin;
+pub use bound::PathBound;
 pub use bytes::{read_by, retime_bytes, retime_bytes_watched, retime_spelt};
 pub use certificates::Certificate;
 pub use errors::{BytesError, RetimeError};

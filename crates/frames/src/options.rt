@@ -1,5 +1,6 @@
 ghost use Rattle.frames.specs.Defaults.{AreDefaults};
 
+use crate::bound::PathBound;
 use aig_graph::Choice;
 use file_words::Spelling;
 use std::alloc::Global;
@@ -19,6 +20,8 @@ pub struct Options {
     pub keep: Vec<Vec<u8>>,
     /// Whether latches that always agree are merged before the first frame: the circuit is cleaned, merged, and retimed as any circuit is.
     pub merge: bool,
+    /// How long paths may get. A frame whose set would make a longer one takes a set of gates that keep the bound, or none.
+    pub bound: PathBound,
 }
 
 impl Options {
@@ -34,6 +37,7 @@ impl Options {
             certify: false,
             keep: Vec::new(alloc),
             merge: false,
+            bound: PathBound::None,
         }
     }
 }

@@ -1,5 +1,5 @@
 //! Frame after frame.
-ghost use Rattle.std.specs.Prelude.{ℕ, ◌≡◌, suc, List, [], ◌∷◌, ◌++◌, length, IfOk};
+ghost use Rattle.std.specs.Prelude.{ℕ, ◌≡◌, suc, List, [], ◌∷◌, ◌++◌, length, IfOk, Option};
 ghost use Rattle.aig_graph.specs.Circuits.{Netlist};
 ghost use Rattle.aig_graph.specs.Graph.{known_latches};
 ghost use Rattle.aig_graph.specs.Laws.{composed};
@@ -28,11 +28,13 @@ fn after_frame(
     frame: Frame,
     options: &Options,
 ) -> Result<Retimed, NoMemory>
-    requires underway { (c : Netlist) × (n : ℕ) × IsUnderway options.now c n retimed }
-    requires moves { Moves options.now retimed.circuit frame }
-    ensures underway { IfOk result (λ after. (c : Netlist) (n : ℕ)
-        → IsUnderway options.now c n retimed
-        → IsUnderway options.now c (suc n) after) }
+    requires { (bound : Option ℕ) × (c : Netlist) × (n : ℕ)
+        × IsUnderway options.now bound c n retimed
+        × Moves options.now bound retimed.circuit frame }
+    ensures underway { IfOk result (λ after. (bound : Option ℕ) (c : Netlist) (n : ℕ)
+        → IsUnderway options.now bound c n retimed
+        → Moves options.now bound retimed.circuit frame
+        → IsUnderway options.now bound c (suc n) after) }
     ensures frames { IfOk result (λ after. after.frames ≡ retimed.frames ++ frame.report ∷ []) }
 {
     let Frame {
@@ -65,19 +67,30 @@ fn taken<F: RunFollower + Drop>(
     frame: Frame,
     options: &Options,
 ) -> Result<Run<F>, F::Stop>
-    requires underway { (d : Netlist) × (n : ℕ) × IsUnderway options.now d n run.retimed }
-    requires moves { Moves options.now run.retimed.circuit frame }
+    requires underway { (d : Netlist) × (n : ℕ)
+        × IsUnderway options.now run.bound d n run.retimed }
+    requires moves { Moves options.now run.bound run.retimed.circuit frame }
     ensures followed { IfOk result (λ after. (c d : Netlist) (kept : List ℕ) (n : ℕ)
-        → IsUnderway options.now d n run.retimed
+        → IsUnderway options.now run.bound d n run.retimed
         → F.has_come run.follower c frame.cleaned.circuit
         (composed (composed kept run.retimed.kept_free) frame.cleaned.kept_free)
-        → IsFollowed F.has_come options.now c d kept (suc n) after.retimed after.follower) }
+        → IsFollowed F.has_come options.now run.bound c d kept (suc n) after.retimed
+        after.follower) }
     ensures frames { IfOk result (λ after. after.retimed.frames
         ≡ run.retimed.frames ++ frame.report ∷ []) }
+    ensures bound { IfOk result (λ after. after.bound ≡ run.bound) }
 {
-    let Run { retimed, follower } = run;
+    let Run {
+        retimed,
+        follower,
+        bound,
+    } = run;
     match after_frame(alloc, retimed, frame, options) {
-        Ok(retimed) => Ok(Run { retimed, follower }),
+        Ok(retimed) => Ok(Run {
+            retimed,
+            follower,
+            bound,
+        }),
         Err(error) => {
             drop(follower);
             Err(F::Stop::from(error))
@@ -108,12 +121,13 @@ fn all_frames<F: RunFollower + Drop, G: PhaseGate, V: FrameWatcher>(
     watcher: &mut V,
 ) -> Result<Run<F>, F::Stop>
     requires begun { (c : Netlist)
-        × IsReady F.has_come options.now c start.retimed start.follower }
+        × IsReady F.has_come options.now start.bound c start.retimed start.follower }
     requires wanted { records.old.certify ≡ options.now.certify }
     requires none_yet { records.old.certificates.items ≡ [] }
     ensures run { IfOk result (λ end. (c d : Netlist) (kept : List ℕ)
-        → IsFollowed F.has_come options.now c d kept 0 start.retimed start.follower
-        → EndsFollowed F.has_come options.now c d kept records.new end.retimed end.follower) }
+        → IsFollowed F.has_come options.now start.bound c d kept 0 start.retimed start.follower
+        → EndsFollowed F.has_come options.now start.bound c d kept records.new end.retimed
+        end.follower) }
     ensures told { IfOk result (λ end. Tells V.was_told watcher.old watcher.new
         (looks_of options.now.max_frames end.retimed)) }
 {
@@ -142,7 +156,11 @@ fn certified<F>(run: Run<F>, records: Records) -> Run<F>
     ensures certificates { result.retimed.certificates ≡ records.certificates.items }
     ensures follower { result.follower ≡ run.follower }
 {
-    let Run { retimed, follower } = run;
+    let Run {
+        retimed,
+        follower,
+        bound,
+    } = run;
     let Retimed {
         circuit,
         kept_free,
@@ -162,6 +180,7 @@ fn certified<F>(run: Run<F>, records: Records) -> Run<F>
             certificates: Sequence::from_vec(certificates),
         },
         follower,
+        bound,
     }
 }
 
@@ -174,10 +193,11 @@ pub(crate) fn run_to_end<F: RunFollower + Drop, G: PhaseGate, V: FrameWatcher>(
     crew: &Crew<G>,
     watcher: &mut V,
 ) -> Result<Run<F>, F::Stop>
-    requires { (c : Netlist) × IsReady F.has_come options.now c start.retimed start.follower }
+    requires { (c : Netlist)
+        × IsReady F.has_come options.now start.bound c start.retimed start.follower }
     ensures retimed { IfOk result (λ end. (c d : Netlist) (kept : List ℕ)
-        → IsFollowed F.has_come options.now c d kept 0 start.retimed start.follower
-        → IsRetimedFrom F.has_come options.now c d kept end.retimed end.follower) }
+        → IsFollowed F.has_come options.now start.bound c d kept 0 start.retimed start.follower
+        → IsRetimedFrom F.has_come options.now start.bound c d kept end.retimed end.follower) }
     ensures told { IfOk result (λ end. Tells V.was_told watcher.old watcher.new
         (looks_of options.now.max_frames end.retimed)) }
 {

@@ -9,6 +9,8 @@ pub struct Run<F> {
     pub retimed: Retimed,
     /// What has followed it.
     pub follower: F,
+    /// How many gates may be on a path, where there is a bound: that of the options for the circuit that was read.
+    pub bound: Option<u32>,
 }
 
 /// What is told of the circuit that was read, beside what becomes of the one that it was merged to.

@@ -27,7 +27,7 @@ fn begin_plain(
     options: &Options,
 ) -> Result<Begun<NoFollower>, RetimeError>
     ensures begun { IfOk result (λ begun. IsBegun ⟦<NoFollower as RunFollower>⟧.has_come options.now
-        circuit.now begun.read begun.run.retimed begun.run.follower) }
+        begun.run.bound circuit.now begun.read begun.run.retimed begun.run.follower) }
     ensures missing { (place : ℕ) → IsErrOf result (NoSuchName place)
         → IsFirstMissingBy options.now circuit.now place }
 {
@@ -45,11 +45,11 @@ fn finish_plain<G: PhaseGate, V: FrameWatcher>(
     crew: &Crew<G>,
     watcher: &mut V,
 ) -> Result<Retimed, NoMemory>
-    requires { (c : Netlist) × IsBegun ⟦<NoFollower as RunFollower>⟧.has_come options.now c
-        begun.read begun.run.retimed begun.run.follower }
+    requires { (c : Netlist) × IsBegun ⟦<NoFollower as RunFollower>⟧.has_come options.now
+        begun.run.bound c begun.read begun.run.retimed begun.run.follower }
     ensures retimed { IfOk result (λ r. (c : Netlist)
-        → IsBegun ⟦<NoFollower as RunFollower>⟧.has_come options.now c begun.read
-        begun.run.retimed begun.run.follower → IsRetimedBy options.now c r) }
+        → IsBegun ⟦<NoFollower as RunFollower>⟧.has_come options.now
+        begun.run.bound c begun.read begun.run.retimed begun.run.follower → IsRetimedBy options.now c r) }
     ensures told { IfOk result (λ r. Tells V.was_told watcher.old watcher.new
         (looks_of options.now.max_frames r)) }
 {
@@ -58,7 +58,9 @@ fn finish_plain<G: PhaseGate, V: FrameWatcher>(
 }
 
 /// Cleans a circuit and retimes it forward, frame by frame: the latches move over the chosen least set of the circuit, and the
-/// circuit is cleaned again. It ends where no closed set needs fewer latches than there are, or at the limit of frames. The
+/// circuit is cleaned again. It ends where no closed set needs fewer latches than there are, or at the limit of frames. Under a
+/// bound on path length a frame whose set would make a longer path takes the chosen one of those sets whose gates arrive within
+/// the bound, and the run ends where that doesn't help either. The
 /// latches whose names the options have stay. Where the options ask for it, latches that always agree are merged before the first
 /// frame. The answer is the same for every crew, but for the routes of certificates.
 ///

@@ -5,4 +5,5 @@ pub mod ReplacedLevelLaws
 pub mod TrimmedLevelLaws
 pub mod CleaningLevelLaws
 pub mod MovedLevelLaws
+pub mod RetimingLevelLaws
 pub mod Examples

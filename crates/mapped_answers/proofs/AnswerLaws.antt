@@ -1,5 +1,5 @@
 -- What becomes of a circuit that was read, by what becomes of it with marks.
-use Rattle.std.proofs.Common.{ℕ, Bool, true, false, ◌≡◌, ◌<◌, List, [], ◌∷◌, length, nat_eq, Result, Ok, Err, refl, sym, ap, subst, ◌∙◌, arith}
+use Rattle.std.proofs.Common.{ℕ, Bool, true, false, ◌≡◌, ◌<◌, List, [], ◌∷◌, length, nat_eq, Option, Result, Ok, Err, refl, sym, ap, subst, ◌∙◌, arith}
 use Rattle.std.specs.Option.{unwrap_or}
 use Rattle.std.specs.Result.{IfOk, OnOk}
 use Rattle.std.proofs.lemmas.Bool.{eqb-true}
@@ -16,6 +16,7 @@ use Rattle.aig_graph.specs.declared.choice.Choice.{Choice}
 use Rattle.retimed_circuits.specs.Retiming.{IsRetimedWith}
 use Rattle.retimed_circuits.specs.declared.report.Retimed.{Retimed}
 use Rattle.frames.specs.Answering.{IsAnswer, IsStop, IsWritten}
+use Rattle.frames.specs.Bounds.{bound_in}
 use Rattle.frames.specs.Named.{NoneMissingBy, names_in}
 use Rattle.frames.specs.Retiming.{IsRetimedBy}
 use Rattle.frames.specs.declared.errors.BytesError.{BytesError}
@@ -41,8 +42,8 @@ holding-found options held m holds = subst (λ (names : List (List ℕ)). NoneMi
 -- what is retimed by them is retimed where the marks hold
 pub holding-retimed : (options held : Options) (m : Netlist) (r : Retimed) → IsHolding options m held → IsRetimedBy held m r → IsRetimedMarked options m r
 holding-retimed options held m r holds retimed =
-    subst (λ (names : List (List ℕ)). IsRetimedWith options.merge options.choice m names options.max_frames options.certify r) holds.marks
-    (subst (λ (o : Options). IsRetimedWith o.merge o.choice m (names_in held) o.max_frames o.certify r) holds.is retimed)
+    subst (λ (names : List (List ℕ)). IsRetimedWith options.merge (bound_in options m) options.choice m names options.max_frames options.certify r) holds.marks
+    (subst (λ (o : Options). IsRetimedWith o.merge (bound_in o m) o.choice m (names_in held) o.max_frames o.certify r) holds.is retimed)
 
 -- what was retimed was written
 pub marked-written : (options : Options) (m : Netlist) (spelling : Spelling) (old new : Output) (r : Retimed)
@@ -63,10 +64,10 @@ marked-unwritten options m spelling old new r (Write e) retimed un = record { re
 
 -- ---- latches that are let go
 
-streams-of : (merge : Bool) (choice : Choice) (c : Netlist) (names : List (List ℕ)) (max_frames : ℕ) (certify : Bool) (r : Retimed)
-    → IsRetimedWith merge choice c names max_frames certify r → SameStreams c r.circuit r.kept_free
-streams-of false choice c names max_frames certify r retimed = retimed.streams
-streams-of true choice c names max_frames certify r retimed = retimed.streams
+streams-of : (merge : Bool) (bound : Option ℕ) (choice : Choice) (c : Netlist) (names : List (List ℕ)) (max_frames : ℕ) (certify : Bool) (r : Retimed)
+    → IsRetimedWith merge bound choice c names max_frames certify r → SameStreams c r.circuit r.kept_free
+streams-of false bound choice c names max_frames certify r retimed = retimed.streams
+streams-of true bound choice c names max_frames certify r retimed = retimed.streams
 
 -- other names of latches change no stream
 renamed : (c d : Netlist) (names others : List Symbol) (kept : List ℕ) → SameStreams (with_latch_names c names) d kept → SameStreams c (with_latch_names d others) kept
@@ -88,7 +89,7 @@ marks_in h c = marked (held_places (names_in h.options) h.places.items c) c
 
 streams-kept : (h : HeldOptions) (c : Netlist) (r : Retimed) → IsRetimedMarked h.options (marks_in h c) r → SameStreams c (unmarked r.circuit) r.kept_free
 streams-kept h c r retimed =
-    renamed c r.circuit _ _ r.kept_free (streams-of h.options.merge h.options.choice (marks_in h c) (marks_of (marks_in h c)) h.options.max_frames h.options.certify r retimed)
+    renamed c r.circuit _ _ r.kept_free (streams-of h.options.merge (bound_in h.options (marks_in h c)) h.options.choice (marks_in h c) (marks_of (marks_in h c)) h.options.max_frames h.options.certify r retimed)
 
 -- where there are places, what is retimed with marks is the answer
 by_places : (h : HeldOptions) (places : List ℕ) (spelt : SpeltCircuit) (r : Retimed) → 0 < length places → h.places.items ≡ places → CanHold h spelt.circuit
@@ -101,7 +102,7 @@ by_places h (place ∷ places) spelt r some is can retimed =
     let C : List ℕ → Netlist = λ ps. circuit_held (names_in o) ps spelt.circuit in
     let marked_so : C h.places.items ≡ m = ap C is ∙ ap (λ (ps : List ℕ). marked (held_places (names_in o) ps spelt.circuit) spelt.circuit) (sym is) in
     let named_so : names_held (names_in o) h.places.items m ≡ marks_of m = ap (λ (ps : List ℕ). names_held (names_in o) ps m) is in
-    let R : Netlist → List (List ℕ) → Type 0 = λ c names. IsRetimedWith o.merge o.choice c names o.max_frames o.certify r in
+    let R : Netlist → List (List ℕ) → Type 0 = λ c names. IsRetimedWith o.merge (bound_in o c) o.choice c names o.max_frames o.certify r in
     record {
       can = can;
       retimed = subst (λ (c : Netlist). R c (names_held (names_in o) h.places.items c)) (sym marked_so) (subst (R m) (sym named_so) retimed);
@@ -128,7 +129,7 @@ held-written h spelt m old new r some is same written =
       answer = answer;
       writes = subst (λ (d : Netlist). O d spelling) (sym free) (subst (λ (s : Spelling). O (unmarked r.circuit) (here s)) same written.writes);
       reads_back = λ within. subst (λ (d : Netlist). B d spelling) (sym free) (subst (λ (s : Spelling). B (unmarked r.circuit) (here s)) same
-          (written.reads_back (unmarked-within h.options.merge h.options.choice (held_places (names_in h.options) h.places.items spelt.circuit) spelt.circuit (marks_of marks) h.options.max_frames h.options.certify r retimed shape within)));
+          (written.reads_back (unmarked-within h.options.merge (bound_in h.options marks) h.options.choice (held_places (names_in h.options) h.places.items spelt.circuit) spelt.circuit (marks_of marks) h.options.max_frames h.options.certify r retimed shape within)));
     }
 
 -- or not
@@ -167,12 +168,12 @@ answer_of_names : (h : HeldOptions) (spelt : SpeltCircuit) (r : Retimed) → h.p
 answer_of_names h spelt r none answer =
     let o = h.options in
     let s : [] ≡ h.places.items = sym none in
-    let R : Netlist → List (List ℕ) → Type 0 = λ c names. IsRetimedWith o.merge o.choice c names o.max_frames o.certify r in
+    let R : Netlist → List (List ℕ) → Type 0 = λ c names. IsRetimedWith o.merge (bound_in o c) o.choice c names o.max_frames o.certify r in
     record {
       can = record { latches = subst (AreLatches (length spelt.circuit.aig.latches)) s (λ k d less. absurd (omega (arith, less))); names = answer.names };
       retimed = subst (λ (ps : List ℕ). R (circuit_held (names_in o) ps spelt.circuit) (names_held (names_in o) ps (circuit_held (names_in o) ps spelt.circuit))) s answer.retimed;
       streams = subst (λ (ps : List ℕ). SameStreams spelt.circuit (circuit_freed ps r.circuit) r.kept_free) s
-          (streams-of o.merge o.choice spelt.circuit (names_in o) o.max_frames o.certify r answer.retimed);
+          (streams-of o.merge (bound_in o spelt.circuit) o.choice spelt.circuit (names_in o) o.max_frames o.certify r answer.retimed);
     }
 
 by_names : (h : HeldOptions) (spelt : SpeltCircuit) (old new : Output) (r : Retimed) → h.places.items ≡ [] → IsWritten h.options spelt old new r → IsHeldWritten h spelt old new r

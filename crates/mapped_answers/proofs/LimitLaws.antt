@@ -1,5 +1,5 @@
 -- What is written of a circuit that was read is within the limits of a header where that is.
-use Rattle.std.proofs.Common.{ℕ, Bool, true, false, ◌+◌, ◌≡◌, List, length, map, ap, sym, subst, arith}
+use Rattle.std.proofs.Common.{ℕ, Bool, true, false, ◌+◌, ◌≡◌, List, Option, length, map, ap, sym, subst, arith}
 use Rattle.std.proofs.lemmas.List.Elements.{recursion_from_All}
 use Rattle.aig_graph.specs.declared.properties.Symbol.{Symbol}
 use Rattle.aig_graph.specs.Graph.{first_latch}
@@ -44,28 +44,28 @@ moved-own names c set own =
     let m = move_in names c set in
     own-latches c.symbols _ own (own-picked (λ x. count_below (is_latched m) (first_latch c.aig + x.position)) (stays m) c.symbols.latches)
 
-after-own : (choice : Choice) (names : List (List ℕ)) (c : Netlist) (n : ℕ) (d : Netlist) (kept : List ℕ) (reports : List FrameReport) → AfterFrames choice names c n d kept reports → HasOwn c → HasOwn d
-after-own choice names c _ _ _ _ (cleaned d kept cleans) own = cleans-own d (held_in names c) c kept cleans own
-after-own choice names c _ _ _ _ (frame n d e kept left reports report run last) own =
+after-own : (bound : Option ℕ) (choice : Choice) (names : List (List ℕ)) (c : Netlist) (n : ℕ) (d : Netlist) (kept : List ℕ) (reports : List FrameReport) → AfterFrames bound choice names c n d kept reports → HasOwn c → HasOwn d
+after-own bound choice names c _ _ _ _ (cleaned d kept cleans) own = cleans-own d (held_in names c) c kept cleans own
+after-own bound choice names c _ _ _ _ (frame n d e kept left reports report run last) own =
     let moved : Netlist = moved_in names d last.set in
-    cleans-own e (held_in names moved) moved left last.cleaned (moved-own names d last.set (after-own choice names c n d kept reports run own))
+    cleans-own e (held_in names moved) moved left last.cleaned (moved-own names d last.set (after-own bound choice names c n d kept reports run own))
 
 merged-own : (names : List (List ℕ)) (c d : Netlist) (kept : List ℕ) (counts : MergeCounts) → MergesIn names c d kept counts → HasOwn c → HasOwn d
 merged-own names c d kept counts merges own =
     subst HasOwn (sym merges.merged.circuit) (cleans-own merges.clean (held_in names c) c kept merges.cleaned own)
 
 -- what a circuit is retimed to has no other names
-retimed-own : (merge : Bool) (choice : Choice) (c : Netlist) (names : List (List ℕ)) (max_frames : ℕ) (certify : Bool) (r : Retimed)
-    → IsRetimedWith merge choice c names max_frames certify r → HasOwn c → HasOwn r.circuit
-retimed-own false choice c names max_frames certify r retimed own = after-own choice names c (length r.frames) r.circuit r.kept_free r.frames retimed.frames own
-retimed-own true choice c names max_frames certify r retimed own =
+retimed-own : (merge : Bool) (bound : Option ℕ) (choice : Choice) (c : Netlist) (names : List (List ℕ)) (max_frames : ℕ) (certify : Bool) (r : Retimed)
+    → IsRetimedWith merge bound choice c names max_frames certify r → HasOwn c → HasOwn r.circuit
+retimed-own false bound choice c names max_frames certify r retimed own = after-own bound choice names c (length r.frames) r.circuit r.kept_free r.frames retimed.frames own
+retimed-own true bound choice c names max_frames certify r retimed own =
     let s = retimed.from_start in
-    let ended = after-own choice names retimed.start (length s.frames) s.circuit s.kept_free s.frames retimed.retimed.frames (merged-own names c retimed.start retimed.kept retimed.counts retimed.merges own) in
+    let ended = after-own bound choice names retimed.start (length s.frames) s.circuit s.kept_free s.frames retimed.retimed.frames (merged-own names c retimed.start retimed.kept retimed.counts retimed.merges own) in
     subst HasOwn (sym (ap (λ (x : Retimed). x.circuit) retimed.whole)) ended
 
 -- c's latches marked, that retimed, and its marks taken away
-pub unmarked-within : (merge : Bool) (choice : Choice) (held : List ℕ) (c : Netlist) (names : List (List ℕ)) (max_frames : ℕ) (certify : Bool) (r : Retimed)
-    → IsRetimedWith merge choice (marked held c) names max_frames certify r → SameShape c (unmarked r.circuit) → IsWithinLimits c → IsWithinLimits (unmarked r.circuit)
-unmarked-within merge choice held c names max_frames certify r retimed shape within =
+pub unmarked-within : (merge : Bool) (bound : Option ℕ) (choice : Choice) (held : List ℕ) (c : Netlist) (names : List (List ℕ)) (max_frames : ℕ) (certify : Bool) (r : Retimed)
+    → IsRetimedWith merge bound choice (marked held c) names max_frames certify r → SameShape c (unmarked r.circuit) → IsWithinLimits c → IsWithinLimits (unmarked r.circuit)
+unmarked-within merge bound choice held c names max_frames certify r retimed shape within =
     let own = own-marked held c (recursion_from_All IsOneLine (all_names c.symbols) within.names) in
-    within-by c (unmarked r.circuit) shape (own-names r.circuit (retimed-own merge choice (marked held c) names max_frames certify r retimed own)) within
+    within-by c (unmarked r.circuit) shape (own-names r.circuit (retimed-own merge bound choice (marked held c) names max_frames certify r retimed own)) within

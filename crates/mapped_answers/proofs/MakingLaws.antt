@@ -12,6 +12,7 @@ use Rattle.frames.specs.declared.errors.BytesError.TheVariants.{Read, Retime, Wr
 use Rattle.frames.specs.declared.errors.RetimeError.TheVariants.{NoMemory, NoSuchName}
 use Rattle.frames.specs.declared.options.Options.{Options}
 use Rattle.frames.specs.Answering.{IsWritten}
+use Rattle.frames.specs.Bounds.{bound_in}
 use Rattle.frames.specs.Codes.{of_keep_error}
 use Rattle.frames.specs.Named.{IsFirstMissingBy, NoneMissingBy, names_in}
 use Rattle.frames.specs.Stages.{Tells, Told, Writing, looks_of, stages_of}
@@ -77,7 +78,7 @@ written-answer options spelt made spelling old new m same is written =
       answer = record { names = is.names; retimed = is.retimed };
       writes = subst (λ (s : Spelling). WritesAll old new (text_in s made.retimed.circuit)) same written.writes;
       reads_back = λ within. (the_spelling_law text made.retimed.circuit).read written.graph written.netlist
-          (stays-within options.merge options.choice spelt.circuit (names_in options) options.max_frames options.certify made.retimed is.retimed within);
+          (stays-within options.merge (bound_in options spelt.circuit) options.choice spelt.circuit (names_in options) options.max_frames options.certify made.retimed is.retimed within);
     } in
     record {
       written = subst P (sym written.same) whole;

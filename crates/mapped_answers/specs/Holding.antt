@@ -8,6 +8,7 @@ use Rattle.aig_graph.specs.Graph.{IsGraph}
 use Rattle.aig_binary.specs.Spellings.{text_in}
 use Rattle.retimed_circuits.specs.Retiming.{IsRetimedWith}
 use Rattle.retimed_circuits.specs.declared.report.Retimed.{Retimed}
+use Rattle.frames.specs.Bounds.{bound_in}
 use Rattle.frames.specs.Named.{IsFirstMissingBy, NoneMissingBy, names_in}
 use Rattle.frames.specs.declared.errors.BytesError.{BytesError}
 use Rattle.frames.specs.declared.errors.BytesError.TheVariants.{Read, Retime, Write}
@@ -32,7 +33,7 @@ names_for h c = names_held (names_in h.options) h.places.items (circuit_for h c)
 
 -- r is c retimed by the options while its latches are held
 abbrev pub IsRetimedHeld : HeldOptions → Netlist → Retimed → Type 0
-IsRetimedHeld h c r = IsRetimedWith h.options.merge h.options.choice (circuit_for h c) (names_for h c) h.options.max_frames h.options.certify r
+IsRetimedHeld h c r = IsRetimedWith h.options.merge (bound_in h.options (circuit_for h c)) h.options.choice (circuit_for h c) (names_for h c) h.options.max_frames h.options.certify r
 
 -- why they can't be held
 abbrev pub IsHoldingError : HeldOptions → Netlist → HeldError → Type 0
@@ -49,7 +50,7 @@ pub record IsMarked (h : HeldOptions) (c m : Netlist) : Type 0 where
 
 -- the options with other names
 abbrev pub keeping : Options → Vec (Vec ℕ) → Options
-keeping options names = record { spelling = options.spelling; max_frames = options.max_frames; choice = options.choice; certify = options.certify; keep = names; merge = options.merge }
+keeping options names = record { spelling = options.spelling; max_frames = options.max_frames; choice = options.choice; certify = options.certify; keep = names; merge = options.merge; bound = options.bound }
 
 -- the options by which the marks of m hold
 pub record IsHolding (options : Options) (m : Netlist) (held : Options) : Type 0 where
@@ -58,7 +59,7 @@ pub record IsHolding (options : Options) (m : Netlist) (held : Options) : Type 0
 
 -- r is m retimed by the options, where its marks hold in the place of their names
 abbrev pub IsRetimedMarked : Options → Netlist → Retimed → Type 0
-IsRetimedMarked options m r = IsRetimedWith options.merge options.choice m (marks_of m) options.max_frames options.certify r
+IsRetimedMarked options m r = IsRetimedWith options.merge (bound_in options m) options.choice m (marks_of m) options.max_frames options.certify r
 
 -- c was written in this spelling
 pub record WritesCircuit (c : Netlist) (spelling : Spelling) (old new : Output) : Type 0 where

@@ -62,6 +62,7 @@ fn keeping(options: &Options, names: Vec<Vec<u8>>) -> Options
         certify: options.certify,
         keep: names,
         merge: options.merge,
+        bound: options.bound,
     }
 }
 

@@ -39,7 +39,9 @@ fn with_map(
     ensures same { IfOk result (λ made. made.retimed ≡ end.retimed) }
 {
     let _options = options;
-    let Run { retimed, follower } = end;
+    let Run {
+        retimed, follower, ..
+    } = end;
     match state_map(alloc, follower.parts, circuit, &retimed.circuit) {
         Ok(map) => Ok(Made { retimed, map }),
         Err(NoMemory) => {

@@ -1,5 +1,5 @@
 -- Every retiming has a state map.
-use Rattle.std.proofs.Common.{ℕ, ◌+◌, ◌<◌, ◌≤◌, ◌≡◌, suc, zero, map, Bool, true, false, ◌&&◌, Some, slice_get, get_or, List, [], ◌∷◌, refl, arith, ap, sym, ◌∙◌, subst, zero-add}
+use Rattle.std.proofs.Common.{ℕ, ◌+◌, ◌<◌, ◌≤◌, ◌≡◌, suc, zero, map, Bool, true, false, ◌&&◌, Option, Some, slice_get, get_or, List, [], ◌∷◌, refl, arith, ap, sym, ◌∙◌, subst, zero-add}
 use Rattle.std.specs.List.{All, range_with_len}
 use Rattle.std.specs.Bool.{IsTrue}
 use Rattle.std.proofs.lemmas.Bool.{and_from, and_parts}
@@ -16,8 +16,6 @@ use Rattle.aig_graph.specs.Streams.{AreKept, SameStreams}
 use Rattle.aig_graph.specs.Value.{value_within}
 use Rattle.aig_graph.proofs.GraphLaws.{room}
 use Rattle.aig_graph.specs.declared.choice.Choice.{Choice}
-use Rattle.aig_graph.specs.declared.choice.Choice.TheVariants.{Greatest, Smallest}
-use Rattle.aig_graph.specs.Chosen.{IsChosen}
 use Rattle.cleaned_circuits.specs.Cleaned.{IsPass, Cleans, unchanged, after_pass}
 use Rattle.cleaned_circuits.specs.Latches.{latch_substitute}
 use Rattle.cleaned_circuits.specs.Merged.{merged_of}
@@ -28,6 +26,7 @@ use Rattle.rebuild.proofs.FreeLaws.{moved-free, moved-room}
 use Rattle.rebuild.proofs.MovedLaws.{IsGraph-moved}
 use Rattle.rebuild.proofs.NameLaws.{IsNetlist-moved}
 use Rattle.retimed_circuits.specs.declared.report.FrameReport.{FrameReport}
+use Rattle.retimed_circuits.proofs.FoundLaws.{found-closed}
 use Rattle.retimed_circuits.specs.Frames.{AfterFrames, IsFrame, IsHelpingSet, cleaned, count_in, frame, move_in}
 use Rattle.aig_graph.specs.Keep.{held_in}
 use Rattle.variable_tables.proofs.ListLaws.{map-same}
@@ -146,21 +145,17 @@ composed-same n left below =
     map-own [] = refl
     map-own (x ∷ xs) = ap (λ (ys : List ℕ). x ∷ ys) (map-own xs)
 
-module _ (choice : Choice) (names : List (List ℕ)) where
+module _ (bound : Option ℕ) (choice : Choice) (names : List (List ℕ)) where
   -- a set that helps is closed
-  pub closed-in : (c : Netlist) (s : List ℕ) → IsHelpingSet choice names c s → IsClosedSet c.aig (held_in names c) s
-  closed-in c s helps = go choice helps.chosen
-    where
-      go : (choice : Choice) → IsChosen choice c (held_in names c) s → IsClosedSet c.aig (held_in names c) s
-      go Greatest chosen = chosen.least.closed
-      go Smallest chosen = chosen.least.closed
+  pub closed-in : (c : Netlist) (s : List ℕ) → IsHelpingSet bound choice names c s → IsClosedSet c.aig (held_in names c) s
+  closed-in c s helps = found-closed bound choice names c s helps.found
 
   record Framed (d e : Netlist) (left : List ℕ) : Type 0 where
     circuit : IsCircuit e
     places : AreKept d e left
     has : HasStateMap d e left
 
-  frame-has : (d e : Netlist) (left : List ℕ) (report : FrameReport) → IsCircuit d → IsFrame choice names d e left report → Framed d e left
+  frame-has : (d e : Netlist) (left : List ℕ) (report : FrameReport) → IsCircuit d → IsFrame bound choice names d e left report → Framed d e left
   frame-has d e left report valid f =
       let m : Move = move_in names d f.set in
       let set : IsClosedSet d.aig (held_in names d) f.set = closed-in d f.set f.helps in
@@ -185,7 +180,7 @@ module _ (choice : Choice) (names : List (List ℕ)) where
     circuit : IsCircuit d
     has : HasStateMap c d kept
 
-  frames-have : (c : Netlist) → IsCircuit c → (n : ℕ) (d : Netlist) (kept : List ℕ) (reports : List FrameReport) → AfterFrames choice names c n d kept reports → Retimed c d kept
+  frames-have : (c : Netlist) → IsCircuit c → (n : ℕ) (d : Netlist) (kept : List ℕ) (reports : List FrameReport) → AfterFrames bound choice names c n d kept reports → Retimed c d kept
   frames-have c valid _ _ _ _ (cleaned d kept cleans) = record { circuit = IsCircuit-cleans d (held_in names c) c kept cleans valid; has = cleans-has d (held_in names c) c kept cleans valid }
   frames-have c valid _ _ _ _ (frame n d e kept left reports report before f) =
       let so_far : Retimed c d kept = frames-have c valid n d kept reports before in
@@ -193,5 +188,5 @@ module _ (choice : Choice) (names : List (List ℕ)) where
       record { circuit = one.circuit; has = compose-has c d e kept left one.circuit.graph one.places so_far.has one.has }
 
 -- so has what a circuit is retimed to
-pub retiming-maps : (choice : Choice) (names : List (List ℕ)) (c : Netlist) (n : ℕ) (d : Netlist) (kept : List ℕ) (reports : List FrameReport) → RetimingMaps choice names c n d kept reports
-retiming-maps choice names c n d kept reports valid netlist frames = (frames-have choice names c (record { graph = valid; netlist = netlist }) n d kept reports frames).has
+pub retiming-maps : (bound : Option ℕ) (choice : Choice) (names : List (List ℕ)) (c : Netlist) (n : ℕ) (d : Netlist) (kept : List ℕ) (reports : List FrameReport) → RetimingMaps bound choice names c n d kept reports
+retiming-maps bound choice names c n d kept reports valid netlist frames = (frames-have bound choice names c (record { graph = valid; netlist = netlist }) n d kept reports frames).has

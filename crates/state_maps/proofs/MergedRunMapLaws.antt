@@ -1,5 +1,5 @@
 -- What a circuit is retimed to after its latches were merged has a map of the circuit's states.
-use Rattle.std.proofs.Common.{zero-add, ℕ, Bool, ◌<◌, ◌≤◌, ◌≡◌, ◌&&◌, length, List, get_or, arith, ap, sym, ◌∙◌, subst}
+use Rattle.std.proofs.Common.{zero-add, ℕ, Bool, ◌<◌, ◌≤◌, ◌≡◌, ◌&&◌, length, List, Option, get_or, arith, ap, sym, ◌∙◌, subst}
 use Rattle.std.specs.Bool.{IsTrue}
 use Rattle.std.specs.List.{range_with_len}
 use Rattle.std.proofs.lemmas.Bool.{and_from, and_parts}
@@ -51,20 +51,20 @@ composed-every kept n long =
     get_or-map f places j 0 0 there ∙ ap f (get_or-range_with_len 0 n j 0 within ∙ zero-add j))
 
 -- what frames make of a circuit is in order
-module _ (choice : Choice) (names : List (List ℕ)) (c : Netlist) (valid : IsCircuit c) where
-  frames-circuit : (n : ℕ) (d : Netlist) (kept : List ℕ) (reports : List FrameReport) → AfterFrames choice names c n d kept reports → IsCircuit d
+module _ (bound : Option ℕ) (choice : Choice) (names : List (List ℕ)) (c : Netlist) (valid : IsCircuit c) where
+  frames-circuit : (n : ℕ) (d : Netlist) (kept : List ℕ) (reports : List FrameReport) → AfterFrames bound choice names c n d kept reports → IsCircuit d
   frames-circuit _ _ _ _ (cleaned d kept cleans) = IsCircuit-cleans d (held_in names c) c kept cleans valid
   frames-circuit _ _ _ _ (frame n d e kept left reports report before f) =
       let whole : IsCircuit d = frames-circuit n d kept reports before in
       let m : Move = move_in names d f.set in
-      let set : IsClosedSet d.aig (held_in names d) f.set = closed-in choice names d f.set f.helps in
+      let set : IsClosedSet d.aig (held_in names d) f.set = closed-in bound choice names d f.set f.helps in
       let small : variables_end (moved_graph m) ≤ MAX_VARIABLES = moved-room m set (room d.aig (count_in names d f.set) whole.graph (omega (arith, f.helps.fewer))) in
       let moved : IsCircuit (moved_of m) = record { graph = IsGraph-moved m whole.graph set small; netlist = IsNetlist-moved m whole.graph set whole.netlist } in
       IsCircuit-cleans e (held_in names (moved_of m)) (moved_of m) left f.cleaned moved
 
 -- a retiming of a circuit that was merged first has a state map
-pub merged-retiming_maps : (choice : Choice) (names : List (List ℕ)) (c : Netlist) (max_frames : ℕ) (certify : Bool) (r : Retimed) → MergedRetimingMaps choice names c max_frames certify r
-merged-retiming_maps choice names c max_frames certify r valid netlist run =
+pub merged-retiming_maps : (bound : Option ℕ) (choice : Choice) (names : List (List ℕ)) (c : Netlist) (max_frames : ℕ) (certify : Bool) (r : Retimed) → MergedRetimingMaps bound choice names c max_frames certify r
+merged-retiming_maps bound choice names c max_frames certify r valid netlist run =
     let whole : IsCircuit c = record { graph = valid; netlist = netlist } in
     let clean : Netlist = run.merges.clean in
     let held : List ℕ = held_in names clean in
@@ -81,9 +81,9 @@ merged-retiming_maps choice names c max_frames certify r valid netlist run =
     (has-merging_map held clean run.start clean_whole.graph clean_whole.netlist run.merges.merged) in
     let same : composed run.kept (all_free clean.aig) ≡ run.kept = composed-every run.kept (free_latches clean.aig) cleans_streams.places.each in
     let from_start : HasStateMap run.start run.from_start.circuit run.from_start.kept_free =
-    retiming-maps choice names run.start (length run.from_start.frames) run.from_start.circuit run.from_start.kept_free run.from_start.frames start_whole.graph start_whole.netlist run.retimed.frames in
+    retiming-maps bound choice names run.start (length run.from_start.frames) run.from_start.circuit run.from_start.kept_free run.from_start.frames start_whole.graph start_whole.netlist run.retimed.frames in
     let last : IsCircuit run.from_start.circuit =
-    frames-circuit choice names run.start start_whole (length run.from_start.frames) run.from_start.circuit run.from_start.kept_free run.from_start.frames run.retimed.frames in
+    frames-circuit bound choice names run.start start_whole (length run.from_start.frames) run.from_start.circuit run.from_start.kept_free run.from_start.frames run.retimed.frames in
     let P : List ℕ → Type 0 = λ places. HasStateMap c run.start places in
     let all : HasStateMap c run.from_start.circuit (composed run.kept run.from_start.kept_free) =
     compose-has c run.start run.from_start.circuit run.kept run.from_start.kept_free last.graph run.retimed.streams.places (subst P same to_start) from_start in

@@ -8,20 +8,20 @@ use Rattle.certificate_audits.proofs.judging.end_at.Goals as goal
 
 pub returns-in-Objected : goal.returns-in-Objected
 returns-in-Objected c =
-    let P : Finding → Type 0 = IsFinding (names_of c.args.names.now) c.args.circuit.now c.args.block.now in
+    let P : Finding → Type 0 = IsFinding c.args.bound (names_of c.args.names.now) c.args.circuit.now c.args.block.now in
     (refl, subst P c.in-Objected.is c.in_ok-objection.ensures)
 
 pub returns-in-Fewer : goal.returns-in-Fewer
 returns-in-Fewer c =
-    let P : Finding → Type 0 = IsFinding (names_of c.args.names.now) c.args.circuit.now c.args.block.now in
+    let P : Finding → Type 0 = IsFinding c.args.bound (names_of c.args.names.now) c.args.circuit.now c.args.block.now in
     (refl, subst P c.in-Fewer.is c.in_ok-objection.ensures, empty-none c.args.rest.now (sym c.is_empty.ensures ∙ c.if-is_empty.true))
 
 pub returns-in-NotFewer : goal.returns-in-NotFewer
 returns-in-NotFewer c =
-    let P : Finding → Type 0 = IsFinding (names_of c.args.names.now) c.args.circuit.now c.args.block.now in
+    let P : Finding → Type 0 = IsFinding c.args.bound (names_of c.args.names.now) c.args.circuit.now c.args.block.now in
     (refl, subst P c.in-NotFewer.is c.in_ok-objection.ensures, empty-none c.args.rest.now (sym c.if-is_empty-2.ensures))
 
 pub returns-in-NotFewer-2 : goal.returns-in-NotFewer-2
 returns-in-NotFewer-2 c =
-    let P : Finding → Type 0 = IsFinding (names_of c.args.names.now) c.args.circuit.now c.args.block.now in
+    let P : Finding → Type 0 = IsFinding c.args.bound (names_of c.args.names.now) c.args.circuit.now c.args.block.now in
     (refl, subst P c.in-NotFewer-2.is c.in_ok-objection.ensures, not-empty c.args.rest.now (sym c.if-is_empty-2.ensures))

@@ -15,5 +15,5 @@ pub returns : goal.returns
 returns c =
     let names = names_of c.args.names.now in
     let start = c.in_ok-start.start in
-    IfOk-weaker c.replay_of.result (IsReplay names start.circuit c.args.blocks.now) (IsMergedReplay names c.args.circuit.now c.args.blocks.now)
+    IfOk-weaker c.replay_of.result (IsReplay c.args.bound names start.circuit c.args.blocks.now) (IsMergedReplay c.args.bound names c.args.circuit.now c.args.blocks.now)
     (λ replay is. record { start = start.circuit; kept = start.kept_free; counts = start.counts; merges = c.in_ok-start.ensures.merges; of_start = is }) c.replay_of.ensures

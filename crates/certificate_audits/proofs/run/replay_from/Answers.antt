@@ -25,11 +25,11 @@ overflow_add-audit c =
     let k = c.loop-place.place in
     let block = c.index-blocks-place.result in
     let last = c.in-Ok-Some.last in
-    let Q : List Certificate → Option Audit → Type 0 = λ rest found. MatchOption found (GoesOn names c.loop-place.circuit block rest) (λ audit. EndsWith names c.loop-place.circuit block rest audit.confirmed audit.end) in
-    let ends : EndsWith names c.loop-place.circuit block (drop (k + 1) blocks) last.confirmed last.end =
+    let Q : List Certificate → Option Audit → Type 0 = λ rest found. MatchOption found (GoesOn c.args.bound names c.loop-place.circuit block rest) (λ audit. EndsWith c.args.bound names c.loop-place.circuit block rest audit.confirmed audit.end) in
+    let ends : EndsWith c.args.bound names c.loop-place.circuit block (drop (k + 1) blocks) last.confirmed last.end =
     subst (Q (drop (k + 1) blocks)) c.in-Ok-Some.field-0-is (subst (λ (rest : List Certificate). Q rest c.in-Ok-Some.field-0) (take_rest blocks (k + 1)) c.in-Ok-Some.ensures) in
-    let audits = ends-audits names c.loop-place.circuit block (drop (k + 1) blocks) last.confirmed last.end ends in
-    let within = audits-within names c.loop-place.circuit (block ∷ drop (k + 1) blocks) last.confirmed last.end audits in
+    let audits = ends-audits c.args.bound names c.loop-place.circuit block (drop (k + 1) blocks) last.confirmed last.end ends in
+    let within = audits-within c.args.bound names c.loop-place.circuit (block ∷ drop (k + 1) blocks) last.confirmed last.end audits in
     omega (arith, within, length-drop (k + 1) blocks, c.loop-place-test.true)
 
 pub ended_with-requires-clause-saves : goal.ended_with-requires-clause-saves
@@ -39,10 +39,10 @@ ended_with-requires-clause-saves c =
     let k = c.loop-place.place in
     let block = c.index-blocks-place.result in
     let last = c.in-Ok-Some.last in
-    let Q : List Certificate → Option Audit → Type 0 = λ rest found. MatchOption found (GoesOn names c.loop-place.circuit block rest) (λ audit. EndsWith names c.loop-place.circuit block rest audit.confirmed audit.end) in
-    let ends : EndsWith names c.loop-place.circuit block (drop (k + 1) blocks) last.confirmed last.end =
+    let Q : List Certificate → Option Audit → Type 0 = λ rest found. MatchOption found (GoesOn c.args.bound names c.loop-place.circuit block rest) (λ audit. EndsWith c.args.bound names c.loop-place.circuit block rest audit.confirmed audit.end) in
+    let ends : EndsWith c.args.bound names c.loop-place.circuit block (drop (k + 1) blocks) last.confirmed last.end =
     subst (Q (drop (k + 1) blocks)) c.in-Ok-Some.field-0-is (subst (λ (rest : List Certificate). Q rest c.in-Ok-Some.field-0) (take_rest blocks (k + 1)) c.in-Ok-Some.ensures) in
-    still-saves names c.loop-place.circuit block (drop (k + 1) blocks) last.confirmed last.end ends
+    λ open_end. (c.args.bound, still-saves c.args.bound names c.loop-place.circuit block (drop (k + 1) blocks) last.confirmed last.end ends open_end)
 
 pub returns-in-Ok-Some : goal.returns-in-Ok-Some
 returns-in-Ok-Some c =
@@ -51,10 +51,10 @@ returns-in-Ok-Some c =
     let k = c.loop-place.place in
     let block = c.index-blocks-place.result in
     let last = c.in-Ok-Some.last in
-    let Q : List Certificate → Option Audit → Type 0 = λ rest found. MatchOption found (GoesOn names c.loop-place.circuit block rest) (λ audit. EndsWith names c.loop-place.circuit block rest audit.confirmed audit.end) in
-    let ends : EndsWith names c.loop-place.circuit block (drop (k + 1) blocks) last.confirmed last.end =
+    let Q : List Certificate → Option Audit → Type 0 = λ rest found. MatchOption found (GoesOn c.args.bound names c.loop-place.circuit block rest) (λ audit. EndsWith c.args.bound names c.loop-place.circuit block rest audit.confirmed audit.end) in
+    let ends : EndsWith c.args.bound names c.loop-place.circuit block (drop (k + 1) blocks) last.confirmed last.end =
     subst (Q (drop (k + 1) blocks)) c.in-Ok-Some.field-0-is (subst (λ (rest : List Certificate). Q rest c.in-Ok-Some.field-0) (take_rest blocks (k + 1)) c.in-Ok-Some.ensures) in
-    replayed-at names c.args.first c.loop-place.circuit blocks k block last.confirmed last.end c.ended_with.result c.loop-place-test.true c.index-blocks-place.is
+    replayed-at c.args.bound names c.args.first c.loop-place.circuit blocks k block last.confirmed last.end c.ended_with.result c.loop-place-test.true c.index-blocks-place.is
     ends c.loop-place.invariant c.ended_with.ensures.audit c.ended_with.ensures.last
 
 pub loop-place-preserved : goal.loop-place-preserved
@@ -63,13 +63,13 @@ loop-place-preserved c =
     let blocks = c.args.blocks.now in
     let k = c.loop-place.place in
     let block = c.index-blocks-place.result in
-    let Q : List Certificate → Option Audit → Type 0 = λ rest found. MatchOption found (GoesOn names c.loop-place.circuit block rest) (λ audit. EndsWith names c.loop-place.circuit block rest audit.confirmed audit.end) in
-    let goes : GoesOn names c.loop-place.circuit block (drop (k + 1) blocks) =
+    let Q : List Certificate → Option Audit → Type 0 = λ rest found. MatchOption found (GoesOn c.args.bound names c.loop-place.circuit block rest) (λ audit. EndsWith c.args.bound names c.loop-place.circuit block rest audit.confirmed audit.end) in
+    let goes : GoesOn c.args.bound names c.loop-place.circuit block (drop (k + 1) blocks) =
     subst (Q (drop (k + 1) blocks)) c.in-Ok-None.field-0-is (subst (λ (rest : List Certificate). Q rest c.in-Ok-None.field-0) (take_rest blocks (k + 1)) c.in-Ok-None.ensures) in
     let after = c.in_ok-circuit-in-Ok-None.ensures in
     let within = c.loop-place-test.true in
-    leads-next names c.args.first c.loop-place.circuit c.in_ok-circuit-in-Ok-None.circuit blocks k block within c.index-blocks-place.is
+    leads-next c.args.bound names c.args.first c.loop-place.circuit c.in_ok-circuit-in-Ok-None.circuit blocks k block within c.index-blocks-place.is
     goes after.next after.held c.loop-place.invariant
 
 pub returns : goal.returns
-returns c = replays-none (names_of c.args.names.now) c.args.first c.loop-place.circuit c.args.blocks.now c.loop-place.place (omega (arith, c.loop-place-test.false)) c.loop-place.invariant
+returns c = replays-none c.args.bound (names_of c.args.names.now) c.args.first c.loop-place.circuit c.args.blocks.now c.loop-place.place (omega (arith, c.loop-place-test.false)) c.loop-place.invariant

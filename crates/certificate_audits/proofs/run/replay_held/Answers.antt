@@ -33,7 +33,7 @@ returns c =
     let first = c.in_ok-first.first in
     let P : List ℕ → Type 0 = λ held. Cleans first.circuit held before first.kept_free in
     let Q : Netlist → Type 0 = λ d. Cleans d (held_in names before) before first.kept_free in
-    IfOk-weaker c.replay_from.result (Replays names c.circuit_of.result blocks) (IsReplay names before blocks)
+    IfOk-weaker c.replay_from.result (Replays c.args.bound names c.circuit_of.result blocks) (IsReplay c.args.bound names before blocks)
     (λ replay replays. record {
       first = c.circuit_of.result;
       kept = first.kept_free;

@@ -11,5 +11,5 @@ cleaned_run-requires-clause-keep g c = c.requires.keep
 
 pub returns : goal.returns
 returns g c =
-    plain-begun g.F.RunFollower.has_come c.args.options.now c.args.circuit.now c.args.follower c.in_ok-run.run'.follower c.in_ok-run.run'.retimed c.requires.merge c.requires.names c.requires.there
-    c.in_ok-run.ensures
+    plain-begun g.F.RunFollower.has_come c.args.options.now c.args.bound c.in_ok-run.run'.bound c.args.circuit.now c.args.follower c.in_ok-run.run'.follower c.in_ok-run.run'.retimed c.requires.merge
+    c.requires.names c.requires.bound c.in_ok-run.ensures.1 c.requires.there c.in_ok-run.ensures.0

@@ -44,6 +44,6 @@ returns-in-Ok g c =
     let M : List (Vec ℕ) → Type 0 = λ names. MergesIn (names_of names) before start.circuit start.kept_free start.counts in
     let H : List (Vec ℕ) → Type 0 = λ names. held_latches (names_of names) start.circuit ≡ held_latches (names_of names) before in
     IfOk-weaker c.merged_run.result _ _
-    (λ b from. merged-begun has_come options before c.args.follower c.clean_and_merge.new.self start b.run.follower b.run.retimed b.read c.requires.merge c.requires.names c.requires.there
+    (λ b from. merged-begun has_come options c.args.bound b.run.bound before c.args.follower c.clean_and_merge.new.self start b.run.follower b.run.retimed b.read c.requires.merge c.requires.names c.requires.bound from.1 c.requires.there
     (subst M c.as_slice.ensures.value c.in-Ok.ensures.merges) c.in-Ok.ensures.streams (subst H c.as_slice.ensures.value c.in-Ok.ensures.held) c.in-Ok.ensures.comes
-    (subst (λ (n : ℕ). IsMergedFrom has_come options start n c.clean_and_merge.new.self b.run.follower b.run.retimed b.read) latches from)) c.merged_run.ensures
+    (subst (λ (n : ℕ). IsMergedFrom has_come options c.args.bound start n c.clean_and_merge.new.self b.run.follower b.run.retimed b.read) latches from.0)) c.merged_run.ensures

@@ -1,10 +1,11 @@
-use Rattle.std.proofs.Common.{ℕ, List, ◌<◌, ◌∙◌, ap, length, sym, subst}
+use Rattle.std.proofs.Common.{ℕ, List, ◌<◌, ◌∙◌, ap, length, refl, sym, subst}
 use Rattle.std.specs.List.{All}
 use Rattle.aig_graph.specs.Circuits.{Netlist}
 use Rattle.aig_graph.specs.Graph.{Graph}
 use Rattle.aig_graph.proofs.HoldingLaws.{held-below}
 use Rattle.cleaned_circuits.specs.Cleaned.{Cleans}
 use Rattle.cleaned_circuits.proofs.PassLaws.{IsCircuit, cleans-streams}
+use Rattle.frames.specs.Beginning.{IsCleanedRun}
 use Rattle.frames.specs.Following.{ComesOn}
 use Rattle.frames.specs.Named.{kept_by, names_in}
 use Rattle.frames.proofs.FrameLaws.{underway-first}
@@ -30,7 +31,8 @@ returns-in-Ok g c =
     let streams = cleans-streams cleaned.circuit (kept_by options before) before cleaned.kept_free cleans valid in
     let latches = c.begun.ensures.read_latches ∙ ap length (c.latches.ensures.value ∙ ap (λ (g : Graph). g.latches) c.aig.ensures.value) in
     let P : Netlist → List ℕ → Type 0 = λ d js. ComesOn g.F.RunFollower.has_come c.args.follower c.clean.new.self before d js in
-    record {
-      underway = underway-first options before cleaned begun valid cleans streams c.begun.ensures.circuit c.begun.ensures.kept_free latches c.begun.ensures.merged c.begun.ensures.frames;
+    let run : IsCleanedRun g.F.RunFollower.has_come options c.args.bound before c.args.follower c.clean.new.self begun = record {
+      underway = underway-first options c.args.bound before cleaned begun valid cleans streams c.begun.ensures.circuit c.begun.ensures.kept_free latches c.begun.ensures.merged c.begun.ensures.frames;
       comes = subst (λ (d : Netlist). P d begun.kept_free) (sym c.begun.ensures.circuit) (subst (P cleaned.circuit) (sym c.begun.ensures.kept_free) c.in-Ok.ensures.comes);
-    }
+    } in
+    (run, refl)

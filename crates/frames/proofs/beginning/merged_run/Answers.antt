@@ -6,3 +6,6 @@ cleaned_by_names-requires-clause-there g c = c.requires.there
 
 pub cleaned_by_names-requires-clause-names : goal.cleaned_by_names-requires-clause-names
 cleaned_by_names-requires-clause-names g c = c.requires.names
+
+pub returns : goal.returns
+returns g c = (record { cleaned = c.in_ok-run.ensures.0; told = refl }, c.in_ok-run.ensures.1)

@@ -5,6 +5,7 @@ use Rattle.retimed_circuits.proofs.LimitLaws.{stays-within}
 use Rattle.frames.specs.declared.errors.BytesError.TheVariants.{Retime}
 use Rattle.frames.specs.declared.errors.RetimeError.{RetimeError}
 use Rattle.frames.specs.Answering.{IsStop}
+use Rattle.frames.specs.Bounds.{bound_in}
 use Rattle.frames.specs.Named.{names_in}
 use Rattle.frames.specs.Stages.{Writing, stages_of}
 use Rattle.std.proofs.lemmas.Result.{IfOk-from_err}
@@ -23,7 +24,7 @@ returns-in-Ok-clause-ok g c =
       writes = c.in-Ok.ensures.ok;
       reads_back = λ within.
           (the_spelling_law (unwrap_or options.spelling spelt.spelling) r.circuit).read c.in_range.ensures.graph c.in_range.ensures.netlist
-          (stays-within options.merge options.choice spelt.circuit (names_in options) options.max_frames options.certify r retimed within);
+          (stays-within options.merge (bound_in options spelt.circuit) options.choice spelt.circuit (names_in options) options.max_frames options.certify r retimed within);
     }
 
 pub returns-in_err-retimed-clause-ok : goal.returns-in_err-retimed-clause-ok

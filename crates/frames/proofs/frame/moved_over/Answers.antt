@@ -1,12 +1,12 @@
-use Rattle.std.proofs.Common.{ℕ, List, ◌+◌, ◌-◌, ◌≤◌, ◌≡◌, ◌∙◌, arith, ap, length, sym, subst}
+use Rattle.std.proofs.Common.{ℕ, List, ◌+◌, ◌-◌, ◌≡◌, ◌∙◌, arith, ap, length, sym, subst}
 use Rattle.std.proofs.lemmas.Result.{IfOk-from_err}
-use Rattle.aig_graph.specs.declared.literal.TheConstants.{MAX_VARIABLES}
+use Rattle.aig_graph.specs.Border.{border_size}
 use Rattle.aig_graph.specs.Circuits.{Netlist}
 use Rattle.aig_graph.specs.Closed.{IsClosedSet}
 use Rattle.aig_graph.specs.Move.{move_of}
 use Rattle.aig_graph.proofs.GraphLaws.{room}
-use Rattle.rebuild.specs.Moved.{moved_of, moved_size}
-use Rattle.retimed_circuits.specs.Frames.{count_in, move_in, moved_in}
+use Rattle.rebuild.specs.Moved.{moved_of}
+use Rattle.retimed_circuits.specs.Frames.{move_in, moved_in}
 use Rattle.retimed_circuits.proofs.HeldLaws.{moving-keeps}
 use Rattle.retimed_circuits.proofs.NameLaws.{names-stay}
 use Rattle.tidy.specs.Tidy.{AreLowTidy}
@@ -14,7 +14,6 @@ use Rattle.tidy.proofs.FrameLaws.{copies-within, tidy-moved}
 use Rattle.frames.specs.Following.{ComesWhole}
 use Rattle.frames.specs.Named.{NoneMissingBy, names_in}
 use Rattle.frames.specs.Retiming.{IsTidyBy}
-use Rattle.frames.proofs.FrameLaws.{helping-closed}
 use Rattle.frames.proofs.FollowingLaws.{moved-followed}
 use Rattle.frames.proofs.frame.moved_over.Goals as goal
 
@@ -22,8 +21,7 @@ pub moved_by-requires-clause-room : goal.moved_by-requires-clause-room
 moved_by-requires-clause-room g c =
     let before = c.args.circuit.now in
     let set = c.args.set.now in
-    let P : List ℕ → Type 0 = λ held. moved_size (move_of before held set) ≤ MAX_VARIABLES in
-    subst P (sym c.requires.keep) (room before.aig (count_in (names_in c.args.options.now) before set) c.known.ensures.graph (omega (arith, c.requires.helps.fewer)))
+    room before.aig (border_size (move_of before c.args.keep.now set)) c.known.ensures.graph (omega (arith, c.requires.saves.fewer))
 
 pub settled-requires-clause-names : goal.settled-requires-clause-names
 settled-requires-clause-names g c =
@@ -53,19 +51,17 @@ settled-requires-clause-tidy g c =
     let ends : first + length set ≡ length (moved_of m).aig.gates = omega (arith, copies-within m, long) in
     let P : Netlist → Type 0 = λ d. AreLowTidy d.aig (length d.aig.gates - length c.vars-copies.result.now) → IsTidyBy options d in
     subst P (sym same) (λ lows. tidy-moved names before set first (record { graph = c.known.ensures.graph; netlist = c.known.ensures.netlist })
-    c.requires.tidy (helping-closed options before set c.requires.helps) ends lows)
+    c.requires.tidy (subst (λ (held : List ℕ). IsClosedSet before.aig held set) c.requires.keep c.requires.saves.closed) ends lows)
 
 pub see_move-requires-clause-room : goal.see_move-requires-clause-room
 see_move-requires-clause-room g c =
     let before = c.args.circuit.now in
     let set = c.args.set.now in
-    let P : List ℕ → Type 0 = λ held. moved_size (move_of before held set) ≤ MAX_VARIABLES in
-    subst P (sym c.requires.keep) (room before.aig (count_in (names_in c.args.options.now) before set) c.known.ensures.graph (omega (arith, c.requires.helps.fewer)))
+    room before.aig (border_size (move_of before c.args.keep.now set)) c.known.ensures.graph (omega (arith, c.requires.saves.fewer))
 
 pub see_move-requires-clause-closed : goal.see_move-requires-clause-closed
 see_move-requires-clause-closed g c =
-    subst (λ (held : List ℕ). IsClosedSet c.args.circuit.now.aig held c.args.set.now) (sym c.requires.keep)
-    (helping-closed c.args.options.now c.args.circuit.now c.args.set.now c.requires.helps)
+    c.requires.saves.closed
 
 pub see_move-requires-clause-marked : goal.see_move-requires-clause-marked
 see_move-requires-clause-marked g c = c.requires.marked
@@ -79,8 +75,7 @@ settled-requires-clause-there g c =
 
 pub moved_by-requires-clause-closed : goal.moved_by-requires-clause-closed
 moved_by-requires-clause-closed g c =
-    subst (λ (held : List ℕ). IsClosedSet c.args.circuit.now.aig held c.args.set.now) (sym c.requires.keep)
-    (helping-closed c.args.options.now c.args.circuit.now c.args.set.now c.requires.helps)
+    c.requires.saves.closed
 
 pub moved_by-requires-clause-marked : goal.moved_by-requires-clause-marked
 moved_by-requires-clause-marked g c = c.requires.marked

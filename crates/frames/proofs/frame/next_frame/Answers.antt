@@ -5,8 +5,9 @@ use Rattle.aig_graph.specs.Keep.{NoneMissing, held_in, names_of}
 use Rattle.aig_graph.specs.Move.{move_of}
 use Rattle.rebuild.specs.Marked.{AreMarksOf}
 use Rattle.frames.specs.declared.helping.Helping.{Helping}
-use Rattle.frames.specs.Found.{Helps}
-use Rattle.frames.specs.Retiming.{NoneSmallerBy}
+use Rattle.frames.specs.Found.{Helps, Saves}
+use Rattle.frames.specs.Retiming.{NoneHelpsBy}
+use Rattle.frames.proofs.LookLaws.{helps-saves}
 use Rattle.frames.proofs.StageLaws.{tells-nothing}
 use Rattle.frames.proofs.frame.next_frame.Goals as goal
 
@@ -28,20 +29,21 @@ moved_over-requires-clause-tidy g c = c.requires.tidy
 pub moved_over-requires-clause-there : goal.moved_over-requires-clause-there
 moved_over-requires-clause-there g c = c.requires.there
 
-pub moved_over-requires-clause-helps : goal.moved_over-requires-clause-helps
-moved_over-requires-clause-helps g c =
+pub moved_over-requires-clause-saves : goal.moved_over-requires-clause-saves
+moved_over-requires-clause-saves g c =
     let options = c.args.options.now in
     let before = c.args.run.now.retimed.circuit in
-    let P : Option Helping → Type 0 = λ found. MatchOption found (NoneSmallerBy options before) (Helps options before) in
-    let helps : Helps options before c.in-Some.found = subst P c.in-Some.is c.in_ok-found.ensures.found in
-    helps.set
+    let P : Option Helping → Type 0 = λ found. MatchOption found (NoneHelpsBy options c.args.run.now.bound before) (Helps options c.args.run.now.bound before) in
+    let helps : Helps options c.args.run.now.bound before c.in-Some.found = subst P c.in-Some.is c.in_ok-found.ensures.found in
+    let kept = c.in_ok-keep.ensures ∙ ap (λ names. held_in (names_of names) before) c.as_slice.ensures.value in
+    subst (λ (held : List ℕ). Saves before held c.in-Some.found.set) (sym kept) (helps-saves options before c.args.run.now.bound c.in-Some.found.set helps.set)
 
 pub returns-in-Some-clause-found : goal.returns-in-Some-clause-found
 returns-in-Some-clause-found g c =
     let options = c.args.options.now in
     let before = c.args.run.now.retimed.circuit in
-    let P : Option Helping → Type 0 = λ found. MatchOption found (NoneSmallerBy options before) (Helps options before) in
-    let helps : Helps options before c.in-Some.found = subst P c.in-Some.is c.in_ok-found.ensures.found in
+    let P : Option Helping → Type 0 = λ found. MatchOption found (NoneHelpsBy options c.args.run.now.bound before) (Helps options c.args.run.now.bound before) in
+    let helps : Helps options c.args.run.now.bound before c.in-Some.found = subst P c.in-Some.is c.in_ok-found.ensures.found in
     let d = c.in_ok-cleaned-in-Some.ensures in
     record {
       moves = record {
@@ -57,7 +59,7 @@ pub returns-clause-found : goal.returns-clause-found
 returns-clause-found g c =
     let options = c.args.options.now in
     let before = c.args.run.now.retimed.circuit in
-    let P : Option Helping → Type 0 = λ found. MatchOption found (NoneSmallerBy options before) (Helps options before) in
+    let P : Option Helping → Type 0 = λ found. MatchOption found (NoneHelpsBy options c.args.run.now.bound before) (Helps options c.args.run.now.bound before) in
     (subst P c.in-None.is c.in_ok-found.ensures.found, refl)
 
 pub returns-in_err-keep-clause-found : goal.returns-in_err-keep-clause-found
@@ -88,24 +90,20 @@ pub returns-in_err-cleaned-in-Some-clause-told : goal.returns-in_err-cleaned-in-
 returns-in_err-cleaned-in-Some-clause-told g c = IfOk-from_err c.from_residual-in_err-cleaned-in-Some.result _ c.from_residual-in_err-cleaned-in-Some.ensures.0
 
 pub returns-clause-certificate : goal.returns-clause-certificate
-returns-clause-certificate g c = c.in_ok-found.ensures.certificate
+returns-clause-certificate g c = c.in_ok-found.ensures.adds
 
 -- the flows that are carried on are none of the certificates' business
 pub returns-in-Some-clause-certificate : goal.returns-in-Some-clause-certificate
 returns-in-Some-clause-certificate g c =
-    let found = c.in_ok-found.ensures.certificate in
-    record {
-      set = found.set;
-      chosen = found.chosen;
-      adds = record { certify = found.adds.certify; added = found.adds.added; none = found.adds.none };
-    }
+    let found = c.in_ok-found.ensures.adds in
+    record { certify = found.certify; added = found.added; none = found.none }
 
 pub moved_over-requires-clause-marked : goal.moved_over-requires-clause-marked
 moved_over-requires-clause-marked g c =
     let options = c.args.options.now in
     let before = c.args.run.now.retimed.circuit in
-    let P : Option Helping → Type 0 = λ found. MatchOption found (NoneSmallerBy options before) (Helps options before) in
-    let helps : Helps options before c.in-Some.found = subst P c.in-Some.is c.in_ok-found.ensures.found in
+    let P : Option Helping → Type 0 = λ found. MatchOption found (NoneHelpsBy options c.args.run.now.bound before) (Helps options c.args.run.now.bound before) in
+    let helps : Helps options c.args.run.now.bound before c.in-Some.found = subst P c.in-Some.is c.in_ok-found.ensures.found in
     let kept = c.in_ok-keep.ensures ∙ ap (λ names. held_in (names_of names) before) c.as_slice.ensures.value in
     subst (λ (held : List ℕ). AreMarksOf (move_of before held c.in-Some.found.set) c.in-Some.found.marks) (sym kept) helps.marks
 
@@ -123,3 +121,12 @@ returns-in_err-found-clause-same g c = IfOk-from_err c.from_residual-in_err-foun
 
 pub returns-in_err-cleaned-in-Some-clause-same : goal.returns-in_err-cleaned-in-Some-clause-same
 returns-in_err-cleaned-in-Some-clause-same g c = IfOk-from_err c.from_residual-in_err-cleaned-in-Some.result _ c.from_residual-in_err-cleaned-in-Some.ensures.0
+
+pub returns-in_err-keep-clause-bound : goal.returns-in_err-keep-clause-bound
+returns-in_err-keep-clause-bound g c = IfOk-from_err c.from_residual.result _ c.from_residual.ensures.0
+
+pub returns-in_err-found-clause-bound : goal.returns-in_err-found-clause-bound
+returns-in_err-found-clause-bound g c = IfOk-from_err c.from_residual-in_err-found.result _ c.from_residual-in_err-found.ensures.0
+
+pub returns-in_err-cleaned-in-Some-clause-bound : goal.returns-in_err-cleaned-in-Some-clause-bound
+returns-in_err-cleaned-in-Some-clause-bound g c = IfOk-from_err c.from_residual-in_err-cleaned-in-Some.result _ c.from_residual-in_err-cleaned-in-Some.ensures.0

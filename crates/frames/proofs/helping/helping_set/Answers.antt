@@ -1,83 +1,67 @@
-use Rattle.std.proofs.Common.{ℕ, List, ◌≡◌, ◌∙◌, arith, ap, length, subst}
-use Rattle.aig_graph.specs.Border.{border_size}
-use Rattle.aig_graph.specs.Graph.{known_latches}
-use Rattle.aig_graph.specs.Move.{move_of}
-use Rattle.rebuild.specs.Marked.{AreMarksOf}
-use Rattle.retimed_circuits.specs.Frames.{count_in}
+use Rattle.std.proofs.Common.{List, ℕ, Option, ◌≡◌, Some, subst, sym}
+use Rattle.std.specs.Result.{IfOk}
+use Rattle.std.proofs.lemmas.Result.{IfOk-weaker}
 use Rattle.aig_graph.specs.Chosen.{IsChosen}
-use Rattle.aig_graph.proofs.ChosenLaws.{chosen-least}
+use Rattle.aig_graph.specs.Circuits.{Netlist}
+use Rattle.aig_graph.specs.Closed.{IsClosedSet}
 use Rattle.chosen_cuts.specs.Certified.{AddsOne}
-use Rattle.frames.specs.Named.{kept_by, names_in}
-use Rattle.frames.proofs.FrameLaws.{closed-length, none-smaller}
-use Rattle.std.proofs.lemmas.Result.{IfOk-from_err}
+use Rattle.path_levels.specs.Bounded.{BoundedLaw, bounded}
+use Rattle.path_levels.proofs.BoundedLaws.{bounded-law}
+use Rattle.frames.specs.declared.bounding.Judged.{Judged}
+use Rattle.frames.specs.declared.helping.Helping.{Helping}
+use Rattle.frames.specs.Found.{BreaksBound, Finds, IsFoundOver, IsJudged, IsLook, KeepsBound}
+use Rattle.frames.proofs.LookLaws.{bounded-closed, finds-first, finds-within, over-saves}
 use Rattle.frames.proofs.helping.helping_set.Goals as goal
 
-pub overflow_cast-report : goal.overflow_cast-report
-overflow_cast-report g c =
-    let short = closed-length c.args.circuit.now.aig c.args.keep.now c.in_ok-set.set c.known.ensures.graph
-    (chosen-least c.args.options.now.choice c.args.circuit.now c.args.keep.now c.in_ok-set.set c.in_ok-set.ensures.set).closed in
-    omega (arith, short, ap (λ (xs : List ℕ). length xs) c.vars.ensures.value)
+pub judged-requires : goal.judged-requires
+judged-requires g c = over-saves c.args.run.now.retimed.circuit c.args.keep.now c.in_ok-first.ensures.set c.in_ok-first.first c.in_ok-first.ensures.over
 
-pub returns-in_err-set-clause-found : goal.returns-in_err-set-clause-found
-returns-in_err-set-clause-found g c = IfOk-from_err c.from_residual.result _ c.from_residual.ensures.0
-
-pub returns-in_err-set-clause-certificate : goal.returns-in_err-set-clause-certificate
-returns-in_err-set-clause-certificate g c = IfOk-from_err c.from_residual.result _ c.from_residual.ensures.0
-
-pub returns-in_err-marks-clause-found : goal.returns-in_err-marks-clause-found
-returns-in_err-marks-clause-found g c = IfOk-from_err c.from_residual-in_err-marks.result _ c.from_residual-in_err-marks.ensures.0
-
-pub returns-in_err-marks-clause-certificate : goal.returns-in_err-marks-clause-certificate
-returns-in_err-marks-clause-certificate g c = IfOk-from_err c.from_residual-in_err-marks.result _ c.from_residual-in_err-marks.ensures.0
-
-pub returns-then-report-clause-found : goal.returns-then-report-clause-found
-returns-then-report-clause-found g c =
-    let before = c.args.circuit.now in
+pub helping_over-requires : goal.helping_over-requires
+helping_over-requires g c =
     let options = c.args.options.now in
-    let names = names_in options in
-    let set = c.in_ok-set.set in
-    let known : c.known_latches.result ≡ known_latches before.aig = c.known_latches.ensures ∙ ap known_latches c.aig.ensures.value in
-    let counted : c.border_size.result ≡ count_in names before set = c.border_size.ensures (move_of before c.args.keep.now set) c.in_ok-marks.ensures ∙ ap (λ (held : List ℕ). border_size (move_of before held set)) c.requires in
-    let long : length c.vars.result.now ≡ length set = ap (λ (xs : List ℕ). length xs) c.vars.ensures.value in
-    record {
-      set = record { chosen = subst (λ (held : List ℕ). IsChosen c.args.options.now.choice before held set) c.requires c.in_ok-set.ensures.set; fewer = omega (arith, known, counted, c.if-report.true) };
-      marks = subst (λ (held : List ℕ). AreMarksOf (move_of before held set) c.in_ok-marks.marks) c.requires c.in_ok-marks.ensures;
-      report = λ i. record { before = known i; after = counted i; moved = long i };
-    }
+    let before = c.args.run.now.retimed.circuit in
+    let most = c.in-TooLong.most in
+    let law : BoundedLaw most c.args.keep.now before = bounded-law most c.args.keep.now before c.known.ensures.graph c.known.ensures.netlist in
+    let C : Netlist → Type 0 = λ d. IsChosen options.choice d c.args.keep.now c.in_ok-set.set in
+    let H : List ℕ → Type 0 = λ held. BoundedLaw most held before × IsChosen options.choice (bounded most held before) held c.in_ok-set.set in
+    let both = subst H c.requires (law, subst C c.in_ok-narrowed.ensures c.in_ok-set.ensures.set) in
+    subst (λ (held : List ℕ). IsClosedSet before.aig held c.in_ok-set.set) (sym c.requires) (bounded-closed options before most c.in_ok-set.set both.0 both.1).closed
 
-pub returns-else-report-clause-found : goal.returns-else-report-clause-found
-returns-else-report-clause-found g c =
-    let before = c.args.circuit.now in
+pub returns-in-Decided : goal.returns-in-Decided
+returns-in-Decided g c =
     let options = c.args.options.now in
-    let names = names_in options in
-    let set = c.in_ok-set.set in
-    let known : c.known_latches.result ≡ known_latches before.aig = c.known_latches.ensures ∙ ap known_latches c.aig.ensures.value in
-    let counted : c.border_size.result ≡ count_in names before set = c.border_size.ensures (move_of before c.args.keep.now set) c.in_ok-marks.ensures ∙ ap (λ (held : List ℕ). border_size (move_of before held set)) c.requires in
-    let choice = c.args.options.now.choice in
-    let chosen : IsChosen choice before (kept_by options before) set = subst (λ (held : List ℕ). IsChosen choice before held set) c.requires c.in_ok-set.ensures.set in
-    none-smaller options before set (chosen-least choice before (kept_by options before) set chosen) (omega (arith, known, counted, c.if-report.false))
+    let before = c.args.run.now.retimed.circuit in
+    let bound = c.args.run.now.bound in
+    let first = c.in_ok-first.first in
+    let held = c.args.keep.now in
+    let J : Judged → Type 0 = λ it. IsJudged bound before held first it in
+    let stays = subst J c.in-Decided.is c.in_ok-judged.ensures in
+    let L : List ℕ → Type 0 = λ js. IsLook options.choice before before js c.args.records.now c.least_helping.new.records first × KeepsBound bound before js first in
+    let both = subst L c.requires (c.in_ok-first.ensures, stays.1) in
+    subst (Finds options bound before c.args.records.now c.least_helping.new.records) (sym stays.0) (finds-first options before bound c.args.records.now c.least_helping.new.records first both.0 both.1)
 
-pub returns-then-report-clause-certificate : goal.returns-then-report-clause-certificate
-returns-then-report-clause-certificate g c =
-    let choice = c.args.options.now.choice in
-    let before = c.args.circuit.now in
+pub returns : goal.returns
+returns g c =
+    let options = c.args.options.now in
+    let before = c.args.run.now.retimed.circuit in
+    let bound = c.args.run.now.bound in
+    let first = c.in_ok-first.first in
+    let held = c.args.keep.now in
+    let most = c.in-TooLong.most in
     let set = c.in_ok-set.set in
-    record {
-      set = set;
-      chosen = subst (λ (held : List ℕ). IsChosen choice before held set) c.requires c.in_ok-set.ensures.set;
-      adds = subst (λ (held : List ℕ). AddsOne before held c.args.records.now c.chosen_least_along.new.records set) c.requires c.in_ok-set.ensures.certificate;
-    }
-
-pub returns-else-report-clause-certificate : goal.returns-else-report-clause-certificate
-returns-else-report-clause-certificate g c =
-    let choice = c.args.options.now.choice in
-    let before = c.args.circuit.now in
-    let set = c.in_ok-set.set in
-    record {
-      set = set;
-      chosen = subst (λ (held : List ℕ). IsChosen choice before held set) c.requires c.in_ok-set.ensures.set;
-      adds = subst (λ (held : List ℕ). AddsOne before held c.args.records.now c.chosen_least_along.new.records set) c.requires c.in_ok-set.ensures.certificate;
-    }
-
-pub new-requires : goal.new-requires
-new-requires g c = (chosen-least c.args.options.now.choice c.args.circuit.now c.args.keep.now c.in_ok-set.set c.in_ok-set.ensures.set).closed
+    let old = c.args.records.now in
+    let mid = c.least_helping.new.records in
+    let less = c.forget_last.new.self in
+    let new = c.chosen_over.new.records in
+    let J : Judged → Type 0 = λ it. IsJudged bound before held first it in
+    let breaks = subst J c.in-TooLong.is c.in_ok-judged.ensures in
+    let law : BoundedLaw most held before = bounded-law most held before c.known.ensures.graph c.known.ensures.netlist in
+    let D : Netlist → Type 0 = λ d. IsChosen options.choice d held set × AddsOne d held less new set in
+    let narrowed = subst D c.in_ok-narrowed.ensures (c.in_ok-set.ensures.set, c.in_ok-set.ensures.certificate) in
+    let H : List ℕ → Type 0 = λ js. BoundedLaw most js before × IsLook options.choice before before js old mid first × BreaksBound most before js first
+        × IsChosen options.choice (bounded most js before) js set × AddsOne (bounded most js before) js less new set in
+    let all = subst H c.requires (law, c.in_ok-first.ensures, breaks.1, narrowed.0, narrowed.1) in
+    let O : List ℕ → Type 0 = λ js. (found : Option Helping) → IsFoundOver before js set found → Finds options (Some most) before old new found in
+    let finds : O held = subst O (sym c.requires) (λ found over. finds-within options before most set old mid less new first found all.0 all.1 all.2 c.forget_last.ensures all.3 all.4 over) in
+    subst (λ (b : Option ℕ). IfOk c.helping_over.result (Finds options b before old new)) (sym breaks.0)
+    (IfOk-weaker c.helping_over.result (IsFoundOver before held set) (Finds options (Some most) before old new) finds c.helping_over.ensures)

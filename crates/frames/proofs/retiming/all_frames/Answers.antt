@@ -7,10 +7,10 @@ use Rattle.retimed_circuits.specs.declared.report.FrameReport.{FrameReport}
 use Rattle.retimed_circuits.specs.declared.report.Retimed.{Retimed}
 use Rattle.retimed_circuits.proofs.NameLaws.{names-stay}
 use Rattle.frames.specs.declared.frame.Frame.{Frame}
-use Rattle.frames.specs.Certified.{AreCollected}
+use Rattle.frames.specs.Certified.{AddsFound, AreCollected}
 use Rattle.frames.specs.Found.{Moves}
 use Rattle.frames.specs.Named.{names_in}
-use Rattle.frames.specs.Retiming.{NoneSmallerBy}
+use Rattle.frames.specs.Retiming.{NoneHelpsBy}
 use Rattle.frames.specs.Stages.{Moving, Tells, looks_of}
 use Rattle.frames.specs.Underway.{IsRun, IsUnderway}
 use Rattle.frames.specs.Following.{IsFollowed, MovesFollowed}
@@ -24,8 +24,9 @@ pub loop-init : goal.loop-init
 loop-init g c =
     let begun = c.requires.begun.1 in
     let start = c.args.start in (
-      λ read d kept followed. (followed, none-collected c.args.options.now d c.args.records.now c.requires.wanted c.requires.none_yet),
-      tells-start g.V.FrameWatcher.was_told c.args.watcher.now start.retimed.frames (none-taken c.args.options.now begun.start start.retimed begun.followed.underway),
+      λ read d kept followed. (followed, none-collected c.args.options.now start.bound d c.args.records.now c.requires.wanted c.requires.none_yet),
+      tells-start g.V.FrameWatcher.was_told c.args.watcher.now start.retimed.frames (none-taken c.args.options.now start.bound begun.start start.retimed begun.followed.underway),
+      refl,
     )
 
 pub next_frame-requires-clause-tidy : goal.next_frame-requires-clause-tidy
@@ -42,8 +43,9 @@ next_frame-requires-clause-names g c κs within =
 pub taken-requires-clause-underway : goal.taken-requires-clause-underway
 taken-requires-clause-underway g c =
     let begun = c.requires.begun.1 in
-    let P : Retimed → Type 0 = λ r. IsUnderway c.args.options.now begun.start c.loop.counter r in
-    (begun.start, c.loop.counter, subst P (sym c.in-Ok-Some.ensures.same) (c.loop.invariant.0 c.requires.begun.0 begun.start begun.kept begun.followed).0.underway)
+    let P : Option ℕ → Retimed → Type 0 = λ b r. IsUnderway c.args.options.now b begun.start c.loop.counter r in
+    let same : c.next_frame.new.run.bound ≡ c.args.start.bound = c.in-Ok-Some.ensures.bound ∙ c.loop.invariant.2 in
+    (begun.start, c.loop.counter, subst (λ (b : Option ℕ). P b c.next_frame.new.run.retimed) (sym same) (subst (P c.args.start.bound) (sym c.in-Ok-Some.ensures.same) (c.loop.invariant.0 c.requires.begun.0 begun.start begun.kept begun.followed).0.underway))
 
 pub taken-requires-clause-moves : goal.taken-requires-clause-moves
 taken-requires-clause-moves g c =
@@ -51,9 +53,10 @@ taken-requires-clause-moves g c =
     let options = c.args.options.now in
     let before = c.loop.run in
     let after = c.next_frame.new.run in
-    let P : Option Frame → Type 0 = λ found. MatchOption found (NoneSmallerBy options before.retimed.circuit × (after.follower ≡ before.follower)) (MovesFollowed has_come options before.retimed.circuit before.follower after.follower) in
-    let followed : MovesFollowed has_come options before.retimed.circuit before.follower after.follower c.in-Ok-Some.frame = subst P c.in-Ok-Some.field-0-is c.in-Ok-Some.ensures.found in
-    subst (λ (r : Retimed). Moves options r.circuit c.in-Ok-Some.frame) (sym c.in-Ok-Some.ensures.same) followed.moves
+    let P : Option Frame → Type 0 = λ found. MatchOption found (NoneHelpsBy options before.bound before.retimed.circuit × (after.follower ≡ before.follower)) (MovesFollowed has_come options before.bound before.retimed.circuit before.follower after.follower) in
+    let followed : MovesFollowed has_come options before.bound before.retimed.circuit before.follower after.follower c.in-Ok-Some.frame = subst P c.in-Ok-Some.field-0-is c.in-Ok-Some.ensures.found in
+    let M : Option ℕ → Retimed → Type 0 = λ b r. Moves options b r.circuit c.in-Ok-Some.frame in
+    subst (λ (b : Option ℕ). M b after.retimed) (sym c.in-Ok-Some.ensures.bound) (subst (M before.bound) (sym c.in-Ok-Some.ensures.same) followed.moves)
 
 -- the last circuit was looked at, and none counts less
 pub returns-in-Ok-None-clause-run : goal.returns-in-Ok-None-clause-run
@@ -63,20 +66,23 @@ returns-in-Ok-None-clause-run g c = λ read d kept start.
     let before = c.loop.run in
     let after = c.next_frame.new.run in
     let so_far = c.loop.invariant.0 read d kept start in
-    let P : Option Frame → Type 0 = λ found. MatchOption found (NoneSmallerBy options before.retimed.circuit × (after.follower ≡ before.follower)) (MovesFollowed has_come options before.retimed.circuit before.follower after.follower) in
-    let none : NoneSmallerBy options before.retimed.circuit × (after.follower ≡ before.follower) = subst P c.in-Ok-None.field-0-is c.in-Ok-None.ensures.found in
-    let run : IsRun options d c.next_frame.new.records before.retimed = record {
+    let P : Option Frame → Type 0 = λ found. MatchOption found (NoneHelpsBy options before.bound before.retimed.circuit × (after.follower ≡ before.follower)) (MovesFollowed has_come options before.bound before.retimed.circuit before.follower after.follower) in
+    let none : NoneHelpsBy options before.bound before.retimed.circuit × (after.follower ≡ before.follower) = subst P c.in-Ok-None.field-0-is c.in-Ok-None.ensures.found in
+    let bound : before.bound ≡ c.args.start.bound = c.loop.invariant.2 in
+    let adds : AddsFound options c.args.start.bound before.retimed.circuit c.loop.records c.next_frame.new.records =
+    subst (λ (b : Option ℕ). AddsFound options b before.retimed.circuit c.loop.records c.next_frame.new.records) bound c.in-Ok-None.ensures.certificate in
+    let run : IsRun options c.args.start.bound d c.next_frame.new.records before.retimed = record {
       taken = c.loop.counter;
       underway = so_far.0.underway;
       within = c.loop.auto.counter-end;
-      last = λ less. none.0;
+      last = λ less. subst (λ (b : Option ℕ). NoneHelpsBy options b before.retimed.circuit) bound none.0;
       looked = suc c.loop.counter;
-      collected = one-collected options d c.loop.counter c.loop.records c.next_frame.new.records before.retimed.circuit before.retimed.kept_free before.retimed.frames so_far.1 so_far.0.underway.frames
-          c.in-Ok-None.ensures.certificate;
+      collected = one-collected options c.args.start.bound d c.loop.counter c.loop.records c.next_frame.new.records before.retimed.circuit before.retimed.kept_free before.retimed.frames so_far.1
+          so_far.0.underway.frames adds;
       limited = λ at. absurd (omega (arith, at, c.loop-test.true));
       ended = λ less. refl;
     } in
-    let Q : Retimed → Type 0 = λ r. IsRun options d c.next_frame.new.records r in
+    let Q : Retimed → Type 0 = λ r. IsRun options c.args.start.bound d c.next_frame.new.records r in
     record {
       run = subst Q (sym c.in-Ok-None.ensures.same) run;
       come = subst (λ (r : Retimed). has_come after.follower read r.circuit (composed kept r.kept_free)) (sym c.in-Ok-None.ensures.same)
@@ -90,32 +96,39 @@ loop-preserved g c =
     let before = c.loop.run in
     let after = c.next_frame.new.run in
     let run = c.in_ok-run-in-Ok-Some.run' in
-    let Q : ℕ → Netlist → Type 0 = λ n d. AreCollected options d n c.next_frame.new.records in
+    let Q : ℕ → Netlist → Type 0 = λ n d. AreCollected options c.args.start.bound d n c.next_frame.new.records in
     let next : suc c.loop.counter ≡ c.loop.counter + 1 = omega arith in
     let was_told = g.V.FrameWatcher.was_told in
     let looking = c.enter_looking.new.watcher in
     let moving = c.next_frame.new.watcher in
     let frame = c.in-Ok-Some.frame in
     let same : after.retimed ≡ before.retimed = c.in-Ok-Some.ensures.same in
-    let F : Option Frame → Type 0 = λ found. MatchOption found (NoneSmallerBy options before.retimed.circuit × (after.follower ≡ before.follower)) (MovesFollowed has_come options before.retimed.circuit before.follower after.follower) in
+    let W : Option Frame → Type 0 = λ found. MatchOption found (NoneHelpsBy options before.bound before.retimed.circuit × (after.follower ≡ before.follower)) (MovesFollowed has_come options before.bound before.retimed.circuit before.follower after.follower) in
     let T : Option Frame → Type 0 = λ found. MatchOption found (Tells was_told looking moving []) (λ _. Tells was_told looking moving (Moving ∷ [])) in
-    let followed : MovesFollowed has_come options before.retimed.circuit before.follower after.follower frame = subst F c.in-Ok-Some.field-0-is c.in-Ok-Some.ensures.found in
+    let followed : MovesFollowed has_come options before.bound before.retimed.circuit before.follower after.follower frame = subst W c.in-Ok-Some.field-0-is c.in-Ok-Some.ensures.found in
     let told : Tells was_told looking moving (Moving ∷ []) = subst T c.in-Ok-Some.field-0-is c.in-Ok-Some.ensures.told in
+    let start = c.args.start in
+    let new_bound : after.bound ≡ start.bound = c.in-Ok-Some.ensures.bound ∙ c.loop.invariant.2 in
+    let adds : AddsFound options start.bound before.retimed.circuit c.loop.records c.next_frame.new.records =
+    subst (λ (b : Option ℕ). AddsFound options b before.retimed.circuit c.loop.records c.next_frame.new.records) c.loop.invariant.2 c.in-Ok-Some.ensures.certificate in
     let taken : run.retimed.frames ≡ before.retimed.frames ++ frame.report ∷ [] =
     c.in_ok-run-in-Ok-Some.ensures.frames ∙ ap (λ (r : Retimed). r.frames ++ frame.report ∷ []) same in (
-      λ read d kept start.
-          let so_far = c.loop.invariant.0 read d kept start in
-          let underway : IsUnderway options d c.loop.counter after.retimed = subst (λ (r : Retimed). IsUnderway options d c.loop.counter r) (sym same) so_far.0.underway in
+      λ read d kept ready.
+          let so_far = c.loop.invariant.0 read d kept ready in
+          let U : Option ℕ → Retimed → Type 0 = λ b r. IsUnderway options b d c.loop.counter r in
+          let underway : U after.bound after.retimed = subst (λ (b : Option ℕ). U b after.retimed) (sym new_bound) (subst (U start.bound) (sym same) so_far.0.underway) in
+          let F : Option ℕ → ℕ → Type 0 = λ b n. IsFollowed has_come options b read d kept n run.retimed run.follower in
           let come : has_come after.follower read frame.cleaned.circuit (composed (composed kept after.retimed.kept_free) frame.cleaned.kept_free) =
           subst (λ (r : Retimed). has_come after.follower read frame.cleaned.circuit (composed (composed kept r.kept_free) frame.cleaned.kept_free)) (sym same)
-          (followed.comes read (composed kept before.retimed.kept_free) (many-kept options d kept c.loop.counter before.retimed so_far.0.underway) so_far.0.come) in (
-            subst (λ n. IsFollowed has_come options read d kept n run.retimed run.follower) next (c.in_ok-run-in-Ok-Some.ensures.followed read d kept c.loop.counter underway come),
+          (followed.comes read (composed kept before.retimed.kept_free) (many-kept options start.bound d kept c.loop.counter before.retimed so_far.0.underway) so_far.0.come) in (
+            subst (F start.bound) next (subst (λ (b : Option ℕ). F b (suc c.loop.counter)) new_bound (c.in_ok-run-in-Ok-Some.ensures.followed read d kept c.loop.counter underway come)),
             subst (λ n. Q n d) next
-                (one-collected options d c.loop.counter c.loop.records c.next_frame.new.records before.retimed.circuit before.retimed.kept_free before.retimed.frames so_far.1 so_far.0.underway.frames
-                c.in-Ok-Some.ensures.certificate),
+                (one-collected options start.bound d c.loop.counter c.loop.records c.next_frame.new.records before.retimed.circuit before.retimed.kept_free before.retimed.frames so_far.1
+                so_far.0.underway.frames adds),
           ),
       tells-frame was_told c.args.watcher.now c.loop.watcher looking moving before.retimed.frames run.retimed.frames frame.report (known_latches before.retimed.circuit.aig) taken
           (ap (λ (r : FrameReport). r.before) followed.moves.moves.reported) c.loop.invariant.1 c.enter_looking.ensures told,
+      c.in_ok-run-in-Ok-Some.ensures.bound ∙ new_bound,
     )
 
 -- at the limit the last circuit isn't looked at
@@ -151,7 +164,7 @@ returns-in-Ok-None-clause-told g c =
     let was_told = g.V.FrameWatcher.was_told in
     let looking = c.enter_looking.new.watcher in
     let after = c.next_frame.new.watcher in
-    let many : length before.frames ≡ c.loop.counter = many-taken options begun.start c.loop.counter before (c.loop.invariant.0 c.requires.begun.0 begun.start begun.kept begun.followed).0.underway in
+    let many : length before.frames ≡ c.loop.counter = many-taken options c.args.start.bound begun.start c.loop.counter before (c.loop.invariant.0 c.requires.begun.0 begun.start begun.kept begun.followed).0.underway in
     let T : Option Frame → Type 0 = λ found. MatchOption found (Tells was_told looking after []) (λ _. Tells was_told looking after (Moving ∷ [])) in
     let told : Tells was_told looking after [] = subst T c.in-Ok-None.field-0-is c.in-Ok-None.ensures.told in
     subst (λ (r : Retimed). Tells was_told c.args.watcher.now after (looks_of options.max_frames r)) (sym c.in-Ok-None.ensures.same)
@@ -162,5 +175,5 @@ returns-clause-told g c =
     let options = c.args.options.now in
     let begun = c.requires.begun.1 in
     let last = c.loop.run.retimed in
-    let many : length last.frames ≡ c.loop.counter = many-taken options begun.start c.loop.counter last (c.loop.invariant.0 c.requires.begun.0 begun.start begun.kept begun.followed).0.underway in
+    let many : length last.frames ≡ c.loop.counter = many-taken options c.args.start.bound begun.start c.loop.counter last (c.loop.invariant.0 c.requires.begun.0 begun.start begun.kept begun.followed).0.underway in
     tells-limit g.V.FrameWatcher.was_told c.args.watcher.now c.loop.watcher options.max_frames last (omega (arith, many, c.loop-test.false, c.loop.auto.counter-end)) c.loop.invariant.1

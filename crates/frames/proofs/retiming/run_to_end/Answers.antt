@@ -33,9 +33,9 @@ returns-in-Ok-clause-retimed g c = λ read d kept start.
       certificates = whole.certificates i;
     } in
     let ends = c.in-Ok.ensures.run read d kept start in
-    let is : IsRetimedFrom has_come options read d kept s run.follower = record { retimed = ended options d records r ends.run; come = ends.come } in
-    subst (λ (x : Retimed). IsRetimedFrom has_come options read d kept x c.certified.result.follower) (sym same)
-    (subst (λ f. IsRetimedFrom has_come options read d kept s f) (sym whole.follower) is)
+    let is : IsRetimedFrom has_come options c.args.start.bound read d kept s run.follower = record { retimed = ended options c.args.start.bound d records r ends.run; come = ends.come } in
+    subst (λ (x : Retimed). IsRetimedFrom has_come options c.args.start.bound read d kept x c.certified.result.follower) (sym same)
+    (subst (λ f. IsRetimedFrom has_come options c.args.start.bound read d kept s f) (sym whole.follower) is)
 
 pub returns-in-Ok-clause-told : goal.returns-in-Ok-clause-told
 returns-in-Ok-clause-told g c =
