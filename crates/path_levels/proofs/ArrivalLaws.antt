@@ -7,7 +7,6 @@ use Rattle.variable_tables.proofs.TableLaws.{entry}
 use Rattle.aig_graph.specs.declared.literal.TheConstants.{MAX_VARIABLES}
 use Rattle.aig_graph.specs.declared.graph.Latch.{Latch}
 use Rattle.aig_graph.specs.Graph.{Graph, IsGraph, variable, first_latch, first_gate, variables_end, latch_at, gate_at}
-use Rattle.aig_graph.specs.Folding.{fold_gates}
 use Rattle.aig_graph.proofs.FoldingLaws.{gate_at-before, fold_gates-leaf, fold_gates-gate}
 use Rattle.aig_graph.proofs.KindLaws.{gate_place, latch_at-before, latch_at-first_latch, latch_at-gates}
 use Rattle.path_levels.specs.Levels.{one_above, level, entry_at}

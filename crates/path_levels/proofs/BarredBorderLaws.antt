@@ -1,7 +1,7 @@
 -- Where no member of a set is barred, the border of the set is the same in the circuit in which gates are barred.
-use Rattle.std.proofs.Common.{ℕ, ◌+◌, ◌<◌, ◌≡◌, ◌∙◌, ◌++◌, inl, inr, Bool, true, false, not, ◌&&◌, ◌||◌, ◌==◌, List, [], ◌∷◌, map, Option, is_some, refl, sym, ap, ap₂, arith}
+use Rattle.std.proofs.Common.{ℕ, ◌+◌, ◌≡◌, ◌∙◌, ◌++◌, inl, inr, Bool, true, false, not, ◌&&◌, ◌||◌, List, [], ◌∷◌, map, Option, is_some, refl, sym, ap, ap₂, arith}
 use Rattle.std.specs.List.{list_any, enumerate_from, flat_map}
-use Rattle.std.proofs.Math.Bool.{or-false, or-true}
+use Rattle.std.proofs.Math.Bool.{or-false}
 use Rattle.std.proofs.Common.{append-nil}
 use Rattle.std.proofs.lemmas.Bool.{cases_eq, ne_eqb}
 use Rattle.std.proofs.lemmas.List.Folds.{list_any-append}
@@ -10,7 +10,7 @@ use Rattle.variable_tables.specs.Marking.{has}
 use Rattle.variable_tables.proofs.CountingLaws.{count_below-same}
 use Rattle.aig_graph.specs.declared.graph.Gate.{Gate}
 use Rattle.aig_graph.specs.declared.graph.Latch.{Latch}
-use Rattle.aig_graph.specs.Graph.{Graph, first_latch, first_gate, variables_end, latch_at, gate_at, is_known}
+use Rattle.aig_graph.specs.Graph.{first_gate, variables_end, latch_at, is_known}
 use Rattle.aig_graph.specs.Circuits.{Netlist, outputs_alone}
 use Rattle.aig_graph.specs.Streams.{property_literals}
 use Rattle.aig_graph.specs.Closed.{is_held}

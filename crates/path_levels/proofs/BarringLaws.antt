@@ -1,7 +1,6 @@
 -- Circuits in which gates are barred: what their gates are, and that they are circuits.
-use Rattle.std.proofs.Common.{ℕ, ◌+◌, ◌-◌, ◌<◌, ◌≤◌, ◌≡◌, ◌∙◌, ◌++◌, ◌⊎◌, inl, inr, suc, zero, Bool, true, false, List, [], ◌∷◌, length, map, Option, Some, None, is_some, slice_get, refl, sym, ap, ap₂, subst, arith}
+use Rattle.std.proofs.Common.{ℕ, ◌+◌, ◌-◌, ◌<◌, ◌≤◌, ◌≡◌, ◌∙◌, inl, inr, suc, zero, Bool, true, false, List, [], ◌∷◌, length, map, Some, is_some, slice_get, refl, sym, ap, ap₂, subst, arith}
 use Rattle.std.specs.List.{All, enumerate_from, flat_map}
-use Rattle.std.proofs.lemmas.Bool.{cases_Bool}
 use Rattle.std.proofs.lemmas.Option.{none-some, same_Some, slice_get_within}
 use Rattle.std.proofs.lemmas.List.{length-map}
 use Rattle.std.proofs.lemmas.List.FromFn.{length-enumerate_from}
@@ -10,7 +9,6 @@ use Rattle.aig_graph.specs.declared.graph.Gate.{Gate}
 use Rattle.aig_graph.specs.Graph.{Graph, IsGraph, IsGateAt, IsLiteralOf, variable, first_gate, variables_end, gate_at}
 use Rattle.aig_graph.specs.Circuits.{Netlist, IsNetlist, AreNamesBelow}
 use Rattle.aig_graph.specs.Streams.{property_literals}
-use Rattle.aig_graph.specs.Building.{gate_of}
 use Rattle.aig_graph.proofs.FoldingLaws.{gate_at-first_gate}
 use Rattle.aig_graph.proofs.KindLaws.{element, gate_place}
 use Rattle.aig_graph.proofs.PropsLaws.{literals_within}

@@ -1,26 +1,25 @@
 -- What is closed and chosen in a bounded circuit is what is closed and chosen within the bound.
-use Rattle.std.proofs.Common.{ℕ, ◌<◌, ◌≤◌, ◌≡◌, ◌∙◌, ◌⊎◌, inl, inr, Bool, true, false, List, Option, Some, None, refl, sym, ap, ap₂, subst, arith, IsTrue}
+use Rattle.std.proofs.Common.{ℕ, ◌≤◌, ◌≡◌, ◌∙◌, inl, inr, Bool, true, false, List, Some, refl, sym, ap, subst, arith}
 use Rattle.std.specs.Prelude.{◌↔◌}
 use Rattle.std.specs.List.{Contains}
 use Rattle.std.proofs.lemmas.Bool.{cases_Bool}
 use Rattle.std.proofs.lemmas.Option.{none-some}
-use Rattle.variable_tables.specs.Marking.{has}
 use Rattle.aig_graph.specs.declared.graph.Gate.{Gate}
 use Rattle.aig_graph.specs.declared.choice.Choice.{Choice}
 use Rattle.aig_graph.specs.declared.choice.Choice.TheVariants.{Greatest, Smallest}
-use Rattle.aig_graph.specs.Graph.{Graph, IsGraph, variable, latch_at, gate_at}
-use Rattle.aig_graph.specs.Circuits.{Netlist, IsNetlist}
-use Rattle.aig_graph.specs.Closed.{may_move, IsPassable, IsClosed, IsClosedSet, MayMoveOrIn, RestsOn}
+use Rattle.aig_graph.specs.Graph.{Graph, IsGraph, variable}
+use Rattle.aig_graph.specs.Circuits.{Netlist}
+use Rattle.aig_graph.specs.Closed.{IsClosed, IsClosedSet, MayMoveOrIn, RestsOn}
 use Rattle.aig_graph.specs.Move.{move_of}
-use Rattle.aig_graph.specs.Border.{border_size, IsLeast, IsGreatestLeast, IsSmallestLeast}
+use Rattle.aig_graph.specs.Border.{border_size, IsLeast}
 use Rattle.aig_graph.specs.Chosen.{IsChosen}
 use Rattle.aig_graph.proofs.FoldingLaws.{gate_at-before}
 use Rattle.aig_graph.proofs.KindLaws.{latch_at-before}
 use Rattle.aig_graph.proofs.ClosedLaws.{closed-from_rests, rests-from_closed, movable-latch}
 use Rattle.aig_graph.proofs.SearchLaws.{has_iff_contains}
 use Rattle.frame_net.proofs.PassableLaws.{passable-means}
-use Rattle.path_levels.specs.Arrivals.{arrival, IsClosedWithin, IsLeastWithin, IsGreatestWithin, IsSmallestWithin, IsChosenWithin}
-use Rattle.path_levels.specs.Bounded.{is_barred, gate_left, with_barred, bounded, NoneBarred, BoundedLaw, BoundedLaws}
+use Rattle.path_levels.specs.Arrivals.{IsClosedWithin, IsLeastWithin, IsChosenWithin}
+use Rattle.path_levels.specs.Bounded.{is_barred, gate_left, with_barred, bounded, NoneBarred, BoundedLaws}
 use Rattle.path_levels.proofs.BarringLaws.{variables-left, gate_at-left, gate_at-before_barring, graph-left, netlist-left}
 use Rattle.path_levels.proofs.BarredBorderLaws.{border-left}
 use Rattle.path_levels.proofs.UnbarredLaws.{early-unbarred, unbarred-early, passable-left}

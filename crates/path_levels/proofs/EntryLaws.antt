@@ -7,7 +7,7 @@ use Rattle.std.proofs.lemmas.Option.{slice_get-get_or}
 use Rattle.variable_tables.specs.Tables.{table}
 use Rattle.variable_tables.proofs.TableLaws.{length-table, table-at, entry}
 use Rattle.aig_graph.specs.declared.graph.Gate.{Gate}
-use Rattle.aig_graph.specs.Graph.{Graph, IsGraph, IsGateAt, variable, first_gate, variables_end, gate_at}
+use Rattle.aig_graph.specs.Graph.{Graph, IsGraph, IsGateAt, variable, first_gate, gate_at}
 use Rattle.aig_graph.proofs.FoldingLaws.{gate_at-first_gate, gate_at-is}
 use Rattle.path_levels.specs.Levels.{entry_at}
 

@@ -1,5 +1,5 @@
 -- The marks of barred gates, and what passes over gates and marks make.
-use Rattle.std.proofs.Common.{ℕ, ◌+◌, ◌-◌, ◌<◌, ◌≤◌, ◌≡◌, ◌∙◌, ◌++◌, inl, inr, Bool, true, false, ◌&&◌, nat_lt, nat_le, List, [], ◌∷◌, length, map, take, get_or, refl, sym, ap, ap₂, arith, append_assoc, append-nil}
+use Rattle.std.proofs.Common.{ℕ, ◌+◌, ◌-◌, ◌<◌, ◌≤◌, ◌≡◌, ◌∙◌, ◌++◌, inl, inr, Bool, false, ◌&&◌, nat_lt, nat_le, List, [], ◌∷◌, length, map, take, get_or, refl, sym, ap, ap₂, arith, append_assoc, append-nil}
 use Rattle.std.specs.List.{All, enumerate_from, flat_map}
 use Rattle.std.proofs.lemmas.Bool.{cases_lt, and_right}
 use Rattle.std.proofs.lemmas.List.{get_or_past, map-append, take_more}
@@ -7,7 +7,7 @@ use Rattle.std.proofs.lemmas.List.Concat.{flat_map-append}
 use Rattle.std.proofs.lemmas.List.FromFn.{length-enumerate_from, get_or-enumerate_from}
 use Rattle.variable_tables.specs.Tables.{table}
 use Rattle.variable_tables.specs.Marking.{mark_at}
-use Rattle.variable_tables.proofs.TableLaws.{entry, length-table, table-at}
+use Rattle.variable_tables.proofs.TableLaws.{entry, length-table}
 use Rattle.variable_tables.proofs.MarkingLaws.{AreAllMarks-table, mark_at-all}
 use Rattle.aig_graph.specs.declared.graph.Gate.{Gate}
 use Rattle.aig_graph.specs.declared.properties.Props.{Props}

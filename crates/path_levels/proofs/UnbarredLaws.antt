@@ -1,13 +1,12 @@
 -- The passable gates of a bounded circuit are those that aren't barred: arrivals rise along fan-outs, so what a gate that isn't barred rests on
 -- isn't barred either.
-use Rattle.std.proofs.Common.{ℕ, ◌+◌, ◌<◌, ◌≤◌, ◌≡◌, ◌∙◌, inl, inr, suc, zero, Bool, true, false, not, ◌&&◌, nat_lt, List, Option, Some, None, is_some, refl, sym, ap, ap₂, arith}
+use Rattle.std.proofs.Common.{ℕ, ◌<◌, ◌≤◌, ◌≡◌, ◌∙◌, inl, inr, suc, zero, Bool, true, false, not, ◌&&◌, nat_lt, List, Option, Some, None, is_some, refl, sym, ap, ap₂, arith}
 use Rattle.std.specs.Prelude.{max}
 use Rattle.std.proofs.Math.Bool.{and_assoc, and-true}
 use Rattle.std.proofs.lemmas.Bool.{cases_Bool, cases_lt, and_from, and_left, and_right, lt-ltb, le-ltb}
-use Rattle.std.proofs.lemmas.Option.{none-some}
 use Rattle.aig_graph.specs.declared.graph.Gate.{Gate}
 use Rattle.aig_graph.specs.declared.graph.Latch.{Latch}
-use Rattle.aig_graph.specs.Graph.{Graph, IsGraph, IsGateAt, variable, latch_at, gate_at, is_known}
+use Rattle.aig_graph.specs.Graph.{Graph, IsGraph, IsGateAt, variable, gate_at, is_known}
 use Rattle.aig_graph.specs.Closed.{is_held, may_move, both, is_settled}
 use Rattle.aig_graph.proofs.FoldingLaws.{gate_at-before, gate_at-is, fold_gates-leaf}
 use Rattle.aig_graph.proofs.KindLaws.{latch_at-before}
