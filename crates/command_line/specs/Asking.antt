@@ -12,6 +12,8 @@ use Rattle.stream_paths.specs.declared.source.Source.{Source}
 use Rattle.stream_paths.specs.declared.target.Target.{Target}
 use Rattle.aig_graph.specs.declared.choice.Choice.{Choice}
 use Rattle.aig_graph.specs.declared.choice.Choice.TheVariants.{Greatest, Smallest}
+use Rattle.frames.specs.declared.bound.PathBound.{PathBound}
+use Rattle.frames.specs.declared.bound.PathBound.TheVariants as bounds
 use Rattle.command_line.specs.declared.task.Shown.{Shown}
 use Rattle.command_line.specs.declared.task.Shown.TheVariants.{OnTerminal, EachFrame, Nothing}
 use Rattle.command_line.specs.declared.task.Retiming.{Retiming}
@@ -74,6 +76,13 @@ abbrev pub IsChoice : ArgMatches → Choice → Type 0
 IsChoice matches Greatest = IsFlag matches (codes "near") false
 IsChoice matches Smallest = IsFlag matches (codes "near") true
 
+-- the bound on levels: that of the circuit where its flag is given, else the number where one is given, else none
+abbrev pub IsBound : ArgMatches → PathBound → Type 0
+IsBound matches bounds.NoLonger = IsFlag matches (codes "no-longer") true
+IsBound matches (bounds.Levels most) =
+    IsFlag matches (codes "no-longer") false × ((text : Bor (List ℕ)) × IsGiven matches (codes "levels") text) × IsNumber matches (codes "levels") 0 most
+IsBound matches bounds.None = IsFlag matches (codes "no-longer") false × (first_value (found_of matches) (codes "levels") ≡ None)
+
 -- a line for each frame, or nothing, where its flag is given, else what a terminal is shown
 abbrev pub IsShown : ArgMatches → Shown → Type 0
 IsShown matches EachFrame = IsFlag matches (codes "progress") true
@@ -111,6 +120,7 @@ pub record IsRetiming (matches : ArgMatches) (retiming : Retiming) : Type 0 wher
   pub workers : IsNumber matches (codes "workers") 1 retiming.workers
   pub frames : IsNumber matches (codes "frames") (2 ^ 28) retiming.frames
   pub choice : IsChoice matches retiming.choice
+  pub bound : IsBound matches retiming.bound
   pub certificates : IsSomeTarget matches (codes "cert") retiming.certificates
   pub mapping : IsSomeTarget matches (codes "map") retiming.map
   pub shown : IsShown matches retiming.shown
@@ -126,6 +136,7 @@ pub record IsBatch (matches : ArgMatches) (batch : Batching) : Type 0 where
   pub workers : IsNumber matches (codes "workers") 1 batch.workers
   pub frames : IsNumber matches (codes "frames") (2 ^ 28) batch.frames
   pub choice : IsChoice matches batch.choice
+  pub bound : IsBound matches batch.bound
   pub merge : IsFlag matches (codes "merge") batch.merge
   pub json : IsFlag matches (codes "json") batch.json
 
@@ -137,6 +148,7 @@ pub record IsVerification (matches : ArgMatches) (verification : Verification) :
   pub names : map (λ name. name.now) verification.keep.items ≡ values_of matches (codes "keep")
   pub places : verification.keep_latches.items ≡ map number_of (values_of matches (codes "keep-latch"))
   pub merge : IsFlag matches (codes "merge") verification.merge
+  pub bound : IsBound matches verification.bound
   pub json : IsFlag matches (codes "json") verification.json
 
 -- the numbers of random sequences are the values of their own arguments

@@ -29,6 +29,20 @@ const MERGE_FIRST: Argument = Argument(
     "Merge latches that always agree, before any frame",
 );
 
+const LEVELS: Argument = Argument(
+    "levels",
+    Number(0, (1 << 32) - 1),
+    Apart("no-longer"),
+    "Let no move make a path of more than n gates",
+);
+
+const NO_LONGER: Argument = Argument(
+    "no-longer",
+    Flag,
+    Free,
+    "Let no path get longer than the longest of IN",
+);
+
 const JSON: Argument = Argument(
     "json",
     Flag,
@@ -104,6 +118,8 @@ pub(crate) const RETIME: &[Argument] = &[
     FRAMES,
     NEAR,
     MERGE_FIRST,
+    LEVELS,
+    NO_LONGER,
     Argument(
         "cert",
         Text("FILE"),
@@ -147,6 +163,8 @@ pub(crate) const BATCH: &[Argument] = &[
     FRAMES,
     NEAR,
     MERGE_FIRST,
+    LEVELS,
+    NO_LONGER,
     JSON,
 ];
 
@@ -206,6 +224,8 @@ pub(crate) const VERIFY: &[Argument] = &[
         "Check that the blocks end in OUT, too",
     ),
     Argument("merge", Flag, Free, "IN was retimed with --merge"),
+    LEVELS,
+    NO_LONGER,
     JSON,
 ];
 

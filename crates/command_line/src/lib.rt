@@ -9,7 +9,6 @@ mod refusing;
 mod stream_uses;
 mod subcommands;
 mod task;
-mod texts;
 
 pub use parse::parse_arguments;
 pub use refusing::command_error;

@@ -2,7 +2,7 @@
 //! which argument it comes from; that the library matched the words as it should is only tested.
 ghost use Rattle.std.specs.Prelude.{◌≡◌, ◌^◌, IfOk, IfSome, MatchOption, None, codes, map};
 ghost use Rattle.clap.specs.Words.{first_value, found_of};
-ghost use Rattle.command_line.specs.Asking.{AreSequences, AreStimuli, Asks, IsChecking, IsChoice, IsFlag, IsNumber, IsShown, IsSomeSource, IsSomeTarget, IsSource, IsSpelling, number_of, values_of};
+ghost use Rattle.command_line.specs.Asking.{AreSequences, AreStimuli, Asks, IsBound, IsChecking, IsChoice, IsFlag, IsNumber, IsShown, IsSomeSource, IsSomeTarget, IsSource, IsSpelling, number_of, values_of};
 ghost use Rattle.command_line.specs.StreamUses.{UsesStreamsOnce};
 
 use crate::program::program;
@@ -16,6 +16,7 @@ use aig_graph::Choice;
 use clap::error::ErrorKind;
 use clap::{ArgMatches, Command, Error};
 use file_words::Spelling;
+use frames::PathBound;
 use std::alloc::{AllocError, Global};
 use stream_paths::{Source, Target};
 
@@ -96,6 +97,19 @@ fn frames(matches: &ArgMatches<'_>) -> u32
     number(matches, "frames", 1 << 28)
 }
 
+/// How long moves may make paths: as the longest path that is read, or as long as a number says.
+fn bound(matches: &ArgMatches<'_>) -> PathBound
+    ensures { IsBound matches.now result }
+{
+    if matches.get_flag("no-longer") {
+        return PathBound::NoLonger;
+    }
+    match matches.get_str("levels") {
+        Some(_given) => PathBound::Levels(number(matches, "levels", 0)),
+        None => PathBound::None,
+    }
+}
+
 /// The names of the latches that are held.
 fn keep<'a>(alloc: Global, matches: &ArgMatches<'a>) -> Result<Vec<&'a str>, AllocError>
     ensures { IfOk result (λ names. map (λ name. name.now) names.items
@@ -158,6 +172,7 @@ fn retiming<'a>(alloc: Global, matches: &ArgMatches<'a>) -> Result<Option<Task<'
         workers: workers(matches),
         frames: frames(matches),
         choice: choice(matches),
+        bound: bound(matches),
         certificates: target(matches, "cert"),
         merge: merge(matches),
         map: target(matches, "map"),
@@ -179,6 +194,7 @@ fn verification<'a>(alloc: Global, matches: &ArgMatches<'a>) -> Result<Option<Ta
         certificates,
         retimed: source_if_given(matches, "out"),
         merge: merge(matches),
+        bound: bound(matches),
         json: json(matches),
         keep: keep(alloc, matches)?,
         keep_latches: keep_latches(alloc, matches)?,
@@ -218,6 +234,7 @@ fn batch<'a>(matches: &ArgMatches<'a>) -> Option<Task<'a>>
         workers: workers(matches),
         frames: frames(matches),
         choice: choice(matches),
+        bound: bound(matches),
         merge: merge(matches),
         json: json(matches),
     }))

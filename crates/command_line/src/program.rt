@@ -2,8 +2,8 @@
 //! memory.
 use crate::argument::{Argument, arg_of};
 use crate::subcommands::{COUNT, Subcommand, subcommand_at};
-use crate::texts;
 use clap::{ArgGroup, Command};
+use command_texts as texts;
 use std::alloc::{AllocError, Global};
 
 /// A command with one more argument.

@@ -1,6 +1,7 @@
 //! The program's commands, in the order of its help.
 use crate::argument::Argument;
-use crate::{arguments, texts};
+use crate::arguments;
+use command_texts as texts;
 
 /// A command.
 #[derive(Clone, Copy)]

@@ -5,6 +5,7 @@ ghost use Rattle.command_line.specs.Asking.{command_of};
 
 use aig_graph::Choice;
 use file_words::Spelling;
+use frames::PathBound;
 use stream_paths::{Source, Target};
 
 /// What is shown of a run on standard error while it goes on.
@@ -33,6 +34,8 @@ pub struct Retiming<'a> {
     pub frames: u32,
     /// Which of the least sets a frame takes.
     pub choice: Choice,
+    /// How long moves may make paths.
+    pub bound: PathBound,
     /// What the certificates are written to; `None` asks for none.
     pub certificates: Option<Target<'a>>,
     /// What the map of states is written to; `None` asks for none.
@@ -64,6 +67,8 @@ pub struct Verification<'a> {
     pub keep_latches: Vec<u32>,
     /// Whether latches that always agree were merged before the first frame.
     pub merge: bool,
+    /// How long moves might make paths.
+    pub bound: PathBound,
     /// Whether an object of JSON is printed in place of the lines.
     pub json: bool,
 }
@@ -127,6 +132,8 @@ pub struct Batch<'a> {
     pub frames: u32,
     /// Which of the least sets a frame takes.
     pub choice: Choice,
+    /// How long moves may make paths.
+    pub bound: PathBound,
     /// Whether latches that always agree are merged before the first frame of a circuit.
     pub merge: bool,
     /// Whether an object of JSON is printed in place of the lines.

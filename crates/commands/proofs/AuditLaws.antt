@@ -15,6 +15,8 @@ use Rattle.circuit_files.specs.Codes.{status_of}
 use Rattle.circuit_files.specs.declared.outcome.Outcome.{Outcome}
 use Rattle.circuit_files.specs.declared.outcome.Failure.{Failure}
 use Rattle.command_endings.specs.Printing.{EndsPrinting, Prints, ending}
+use Rattle.frames.specs.Bounds.{bound_for}
+use Rattle.frames.specs.declared.bound.PathBound.{PathBound}
 use Rattle.latch_marks.specs.Marks.{circuit_held, marks_of, names_held}
 use Rattle.latch_marks.proofs.HeldLaws.{circuit-held, names-held}
 use Rattle.mapped_answers.proofs.AnswerLaws.{no-places}
@@ -25,30 +27,30 @@ use Rattle.commands.specs.declared.replaying.Judgement.{Judgement}
 use Rattle.command_endings.proofs.PrintingLaws.{lines_print, object_prints}
 
 -- what the blocks end in, as the task says
-pub merged_replay : {E : Type 0} (merge : Bool) (names : List (List ℕ)) (c : Netlist) (blocks : List Certificate) (r : Result Replay E)
-    → merge ≡ true → IfOk r (IsMergedReplay None names c blocks) → IfOk r (IsReplayFor merge names c blocks)
-merged_replay merge names c blocks r asked is = let P : Bool → Type 0 = λ m. IfOk r (IsReplayFor m names c blocks) in subst P (sym asked) is
+pub merged_replay : {E : Type 0} (bound : PathBound) (merge : Bool) (names : List (List ℕ)) (c : Netlist) (blocks : List Certificate) (r : Result Replay E)
+    → merge ≡ true → IfOk r (IsMergedReplay (bound_for bound c) names c blocks) → IfOk r (IsReplayFor bound merge names c blocks)
+merged_replay bound merge names c blocks r asked is = let P : Bool → Type 0 = λ m. IfOk r (IsReplayFor bound m names c blocks) in subst P (sym asked) is
 
 -- the same where no latches were merged
-pub plain_replay : {E : Type 0} (merge : Bool) (names : List (List ℕ)) (c : Netlist) (blocks : List Certificate) (r : Result Replay E)
-    → merge ≡ false → IfOk r (IsReplay None names c blocks) → IfOk r (IsReplayFor merge names c blocks)
-plain_replay merge names c blocks r unasked is = let P : Bool → Type 0 = λ m. IfOk r (IsReplayFor m names c blocks) in subst P (sym unasked) is
+pub plain_replay : {E : Type 0} (bound : PathBound) (merge : Bool) (names : List (List ℕ)) (c : Netlist) (blocks : List Certificate) (r : Result Replay E)
+    → merge ≡ false → IfOk r (IsReplay (bound_for bound c) names c blocks) → IfOk r (IsReplayFor bound merge names c blocks)
+plain_replay bound merge names c blocks r unasked is = let P : Bool → Type 0 = λ m. IfOk r (IsReplayFor bound m names c blocks) in subst P (sym unasked) is
 
 -- where latches are held by their names alone
 pub named_replay : {E : Type 0} (task : Verification) (c : Netlist) (blocks : List Certificate) (r : Result Replay E)
-    → nat_eq (length task.keep_latches.items) 0 ≡ true → IfOk r (IsReplayFor task.merge (held_names task) c blocks) → IfOk r (IsReplayHeld task c blocks)
+    → nat_eq (length task.keep_latches.items) 0 ≡ true → IfOk r (IsReplayFor task.bound task.merge (held_names task) c blocks) → IfOk r (IsReplayHeld task c blocks)
 named_replay task c blocks r none is =
     let C : List ℕ → Netlist = λ places. circuit_held (held_names task) places c in
-    subst (λ (places : List ℕ). IfOk r (IsReplayFor task.merge (names_held (held_names task) places (C places)) (C places) blocks)) (sym (no-places task.keep_latches.items none)) is
+    subst (λ (places : List ℕ). IfOk r (IsReplayFor task.bound task.merge (names_held (held_names task) places (C places)) (C places) blocks)) (sym (no-places task.keep_latches.items none)) is
 
 -- where they are held by their places
 pub marked_replay : {E : Type 0} (task : Verification) (c m : Netlist) (blocks : List Certificate) (r : Result Replay E)
-    → 0 < length task.keep_latches.items → IsMarkedFor task c m → IfOk r (IsReplayFor task.merge (marks_of m) m blocks) → IfOk r (IsReplayHeld task c blocks)
+    → 0 < length task.keep_latches.items → IsMarkedFor task c m → IfOk r (IsReplayFor task.bound task.merge (marks_of m) m blocks) → IfOk r (IsReplayHeld task c blocks)
 marked_replay task c m blocks r some is replays =
     let names = held_names task in
     let places = task.keep_latches.items in
     let held : circuit_held names places c ≡ m = circuit-held names places c some ∙ sym is in
-    let A : List (List ℕ) → Netlist → Type 0 = λ ns d. IfOk r (IsReplayFor task.merge ns d blocks) in
+    let A : List (List ℕ) → Netlist → Type 0 = λ ns d. IfOk r (IsReplayFor task.bound task.merge ns d blocks) in
     subst (λ (d : Netlist). A (names_held names places d) d) (sym held) (subst (λ (ns : List (List ℕ)). A ns m) (sym (names-held names places m some)) replays)
 
 -- what is judged of a replay is judged of the task

@@ -8,6 +8,8 @@ use Rattle.counted_io.specs.Input.{Input, ReadsAll}
 use Rattle.certificates.specs.declared.certificate.Certificate.{Certificate}
 use Rattle.certificate_audits.specs.Replays.{IsMergedReplay, IsReplay}
 use Rattle.certificate_audits.specs.declared.outcome.Replay.{Replay}
+use Rattle.frames.specs.Bounds.{bound_for}
+use Rattle.frames.specs.declared.bound.PathBound.{PathBound}
 use Rattle.latch_marks.specs.Marks.{circuit_freed}
 use Rattle.reports.specs.Agreements.{IsAgreement}
 use Rattle.reports.specs.declared.agreement.Agreement.{Agreement}
@@ -18,10 +20,10 @@ use Rattle.circuit_files.specs.declared.outcome.Failure.{Failure}
 use Rattle.command_endings.specs.Sources.{IsReadAt}
 use Rattle.commands.specs.declared.replaying.Judgement.{Judgement}
 
--- what the blocks end in for c, or, where latches were merged before the first frame, for what c is merged to
-abbrev pub IsReplayFor : Bool → List (List ℕ) → Netlist → List Certificate → Replay → Type 0
-IsReplayFor false names c blocks replay = IsReplay None names c blocks replay
-IsReplayFor true names c blocks replay = IsMergedReplay None names c blocks replay
+-- what the blocks end in for c under the bound, or, where latches were merged before the first frame, for what c is merged to
+abbrev pub IsReplayFor : PathBound → Bool → List (List ℕ) → Netlist → List Certificate → Replay → Type 0
+IsReplayFor bound false names c blocks replay = IsReplay (bound_for bound c) names c blocks replay
+IsReplayFor bound true names c blocks replay = IsMergedReplay (bound_for bound c) names c blocks replay
 
 -- the same replay, whose circuit no longer has the marks of latches that are held at these places
 pub record IsFreed (places : List ℕ) (held replay : Replay) : Type 0 where

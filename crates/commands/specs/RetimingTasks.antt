@@ -41,6 +41,7 @@ pub record AreOptionsOf (task : Retiming) (held : HeldOptions) : Type 0 where
   pub choice : held.options.choice ≡ task.choice
   pub certify : held.options.certify ≡ is_some task.certificates
   pub merge : held.options.merge ≡ task.merge
+  pub bound : held.options.bound ≡ task.bound
   pub names : names_in held.options ≡ texts_of task.keep.items
   pub places : held.places.items ≡ task.keep_latches.items
 

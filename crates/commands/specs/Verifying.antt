@@ -71,7 +71,7 @@ circuit_for task c = circuit_held (held_names task) task.keep_latches.items c
 -- what the blocks end in for c while the task holds its latches
 abbrev pub IsReplayHeld : Verification → Netlist → List Certificate → Replay → Type 0
 IsReplayHeld task c blocks replay =
-    IsReplayFor task.merge (names_held (held_names task) task.keep_latches.items (circuit_for task c)) (circuit_for task c) blocks replay
+    IsReplayFor task.bound task.merge (names_held (held_names task) task.keep_latches.items (circuit_for task c)) (circuit_for task c) blocks replay
 
 -- the same once they are let go
 pub record IsReplayOf (task : Verification) (c : Netlist) (blocks : List Certificate) (replay : Replay) : Type 0 where

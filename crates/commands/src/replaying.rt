@@ -13,6 +13,7 @@ use certificates::Certificate;
 use circuit_files::{Failure, bytes_at};
 use command_line::Verification;
 use counted_io::{Counted, CountedRead};
+use frames::PathBound;
 use reports::{Agreement, compare};
 use std::alloc::Global;
 use std::rt::Files;
@@ -24,21 +25,25 @@ pub(crate) struct Judgement {
     pub(crate) agreement: Option<Agreement>,
 }
 
-/// The audit of certificates of a run that held the latches with these names, and merged others first where that is said, and the
-/// circuit that they end in.
+/// The audit of certificates of a run that held the latches with these names, merged others first where that is said, and had this bound
+/// on levels; and the circuit that they end in.
 pub(crate) fn replay_of(
     alloc: Global,
     circuit: &Circuit,
     blocks: &[Certificate],
     names: &[Vec<u8>],
     merge: bool,
+    bound: PathBound,
 ) -> Result<Replay, KeepError>
-    ensures { IfOk result (IsReplayFor merge (names_of names.now) circuit.now blocks.now) }
+    ensures { IfOk result (IsReplayFor bound merge (names_of names.now) circuit.now blocks.now) }
 {
+    let Ok(most) = bound.for_circuit(alloc, circuit) else {
+        return Err(KeepError::NoMemory);
+    };
     if merge {
-        replay_merged(alloc, circuit, blocks, names, None)
+        replay_merged(alloc, circuit, blocks, names, most)
     } else {
-        replay_blocks(alloc, circuit, blocks, names, None)
+        replay_blocks(alloc, circuit, blocks, names, most)
     }
 }
 

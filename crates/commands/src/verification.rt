@@ -32,10 +32,10 @@ fn replayed_by<'a>(
     names: &[Vec<u8>],
     task: &Verification<'a>,
 ) -> Result<Replay, Failure<'a>>
-    ensures { IfOk result (IsReplayFor task.now.merge (names_of names.now) circuit.now
-        blocks.now) }
+    ensures { IfOk result (IsReplayFor task.now.bound task.now.merge (names_of names.now)
+        circuit.now blocks.now) }
 {
-    match replay_of(alloc, circuit, blocks, names, task.merge) {
+    match replay_of(alloc, circuit, blocks, names, task.merge, task.bound) {
         Ok(replay) => Ok(replay),
         Err(error) => Err(failure_of_names(error, task.input, task.keep.as_slice())),
     }
@@ -48,8 +48,8 @@ fn replayed_named<'a>(
     blocks: &[Certificate],
     task: &Verification<'a>,
 ) -> Result<Replay, Failure<'a>>
-    ensures { IfOk result (IsReplayFor task.now.merge (held_names task.now) circuit.now
-        blocks.now) }
+    ensures { IfOk result (IsReplayFor task.now.bound task.now.merge (held_names task.now)
+        circuit.now blocks.now) }
 {
     match bytes_of_names(alloc, task.keep.as_slice()) {
         Ok(names) => replayed_by(alloc, circuit, blocks, names.as_slice(), task),
@@ -64,8 +64,8 @@ fn replayed_marked<'a>(
     blocks: &[Certificate],
     task: &Verification<'a>,
 ) -> Result<Replay, Failure<'a>>
-    ensures { IfOk result (IsReplayFor task.now.merge (marks_of circuit.now) circuit.now
-        blocks.now) }
+    ensures { IfOk result (IsReplayFor task.now.bound task.now.merge (marks_of circuit.now)
+        circuit.now blocks.now) }
 {
     match marks_of(alloc, circuit) {
         Ok(marks) => replayed_by(alloc, circuit, blocks, marks.as_slice(), task),

@@ -24,6 +24,7 @@ pub record AreBatchOptions (task : Batch) (options : Options) : Type 0 where
   pub choice : options.choice ≡ task.choice
   pub certify : options.certify ≡ false
   pub merge : options.merge ≡ task.merge
+  pub bound : options.bound ≡ task.bound
   pub keep : options.keep.items ≡ []
 
 -- each outcome is that of its job, by the options of the task

@@ -72,6 +72,7 @@ fn options_of(alloc: Global, task: &Batch<'_>) -> Options
     options.max_frames = task.frames;
     options.choice = task.choice;
     options.merge = task.merge;
+    options.bound = task.bound;
     options
 }
 

@@ -1,9 +1,11 @@
 //! What the help says of the program and of each command; what it says of an argument stands with the argument. Nothing is proved
 //! of texts: tests compare what is printed.
-pub(crate) const ABOUT: &str =
+#![tactic(auto)]
+
+pub const ABOUT: &str =
     "Moves the latches of a sequential circuit forward so that fewer are left";
 
-pub(crate) const LONG_ABOUT: &str =
+pub const LONG_ABOUT: &str =
     "Moves the latches of a sequential circuit forward so that fewer are left.
 
 Circuits are files in the formats of AIGER 1.9, ASCII (aag) or binary (aig).
@@ -14,15 +16,15 @@ written. A file of that name is './-'.
 What is written has a file of its own, by whatever paths files are named. A
 circuit may take the place of the one that it is made of, and of no other.";
 
-pub(crate) const EXAMPLE: &str = "Example:
+pub const EXAMPLE: &str = "Example:
   fretime retime counter.aag smaller.aag
 
 'fretime help COMMAND' says more.";
 
-pub(crate) const RETIME_ABOUT: &str =
+pub const RETIME_ABOUT: &str =
     "Moves latches forward over gates, frame by frame, until none helps";
 
-pub(crate) const RETIME_LONG_ABOUT: &str =
+pub const RETIME_LONG_ABOUT: &str =
     "Reads a circuit, cleans it, moves latches forward over gates, frame by frame, as
 long as that leaves fewer, and writes it.
 
@@ -35,6 +37,12 @@ With --merge, latches that always agree, or that never change, are merged once
 before the first frame: it finds logic that is there twice, and features that
 are tied off. It is found without search; copies that were built differently are
 not. A merged latch has more readers, so here and there fewer can move.
+
+A move makes paths longer: gates from behind a row of latches then stand in
+front of it. With --no-longer no path of OUT has more gates than the longest one
+of IN; with --levels no move makes a path of more than n gates. Each frame takes
+the least set of all gates if it keeps the bound, else the least of those within
+it.
 
 OUT is created once IN has been read and retimed: a circuit that is refused
 leaves OUT as it was.
@@ -55,7 +63,7 @@ standard error.
 Where standard error is a terminal, one line of it shows how far a run of over a
 second is, and is gone at the end.";
 
-pub(crate) const RETIME_EXAMPLE: &str = "Example:
+pub const RETIME_EXAMPLE: &str = "Example:
   fretime retime counter.aag smaller.aag
 
 It prints a line for each frame that was taken, and then the numbers of all
@@ -69,9 +77,9 @@ In a pipe:
 Exit status: 0 done, 1 IN is no circuit or has no such latch, 2 command line,
 3 device, 4 out of memory.";
 
-pub(crate) const BATCH_ABOUT: &str = "Retimes the circuits of a list, many at once";
+pub const BATCH_ABOUT: &str = "Retimes the circuits of a list, many at once";
 
-pub(crate) const BATCH_LONG_ABOUT: &str =
+pub const BATCH_LONG_ABOUT: &str =
     "Reads a list of circuits, retimes each as 'retime' does, and writes each to its
 file.
 
@@ -81,7 +89,7 @@ one at a time; what is written is the same for every number of workers. In a
 line '-' is a file of that name. Of two circuits that are written to one file
 the later one stands.";
 
-pub(crate) const BATCH_EXAMPLE: &str =
+pub const BATCH_EXAMPLE: &str =
     "It prints a line for each circuit, in the order of the list, once its file is
 written:
   1 done 2 to 1
@@ -91,20 +99,21 @@ written:
 Exit status: 0 all are done, else 1 or 4 by the first that is refused or lacked
 memory; 1 LIST is no list, 2 command line, 3 device, 4 out of memory.";
 
-pub(crate) const VERIFY_ABOUT: &str = "Checks the certificates that 'retime --cert' wrote";
+pub const VERIFY_ABOUT: &str = "Checks the certificates that 'retime --cert' wrote";
 
-pub(crate) const VERIFY_LONG_ABOUT: &str =
+pub const VERIFY_LONG_ABOUT: &str =
     "Reads a circuit, and the certificates of its frames, and checks each against the
 circuit of its frame, without any flow.
 
 'yes' says that no set of gates leaves fewer latches than the certificate's. The
 circuit of the next frame is made from IN by the certificate's set. Say which
-latches were held, and give --merge, as for 'retime'.
+latches were held, and give --merge, --levels and --no-longer, as for 'retime'.
+Under a bound on levels 'yes' says that no set of gates within it leaves fewer.
 
 With --out it compares OUT with what 'retime' writes of the circuit that all of
 them make of IN, byte for byte.";
 
-pub(crate) const VERIFY_EXAMPLE: &str = "Example:
+pub const VERIFY_EXAMPLE: &str = "Example:
   fretime retime counter.aag smaller.aag --cert counter.cert
   fretime verify counter.aag counter.cert
 
@@ -119,10 +128,10 @@ Exit status: 0 all are confirmed, 1 a file is refused or IN has no such latch,
 2 command line, 3 device, 4 out of memory, 5 a certificate is rejected or OUT
 differs.";
 
-pub(crate) const CHECK_ABOUT: &str =
+pub const CHECK_ABOUT: &str =
     "Checks by a map of states that a circuit is a retiming of another";
 
-pub(crate) const CHECK_LONG_ABOUT: &str =
+pub const CHECK_LONG_ABOUT: &str =
     "Reads a circuit, the circuit that was made of it, and a map of the states of the
 one to those of the other, as 'retime --map' writes it, and checks that by this
 map all properties of both are the same at each step, whoever made the files.
@@ -132,7 +141,7 @@ are two literals that a constraint of MAP says to be equal. What has to be equal
 and isn't one literal then is not shown; a SAT solver may still show it, as
 docs/STATE_MAPS.md says.";
 
-pub(crate) const CHECK_EXAMPLE: &str = "Example:
+pub const CHECK_EXAMPLE: &str = "Example:
   fretime retime counter.aag smaller.aag --map counter.map
   fretime check counter.aag smaller.aag counter.map
 
@@ -146,9 +155,9 @@ bad, constraint, justice or fairness of OUT ('read').
 Exit status: 0 a retiming, 1 a file is refused, MAP is no map, or shapes differ,
 2 command line, 3 device, 4 out of memory, 5 not shown.";
 
-pub(crate) const MITER_ABOUT: &str = "Writes what a map of states has to meet as a circuit";
+pub const MITER_ABOUT: &str = "Writes what a map of states has to meet as a circuit";
 
-pub(crate) const MITER_LONG_ABOUT: &str =
+pub const MITER_LONG_ABOUT: &str =
     "Reads a circuit, the circuit that was made of it, and a map of the states of the
 one to those of the other, as 'retime --map' writes it, and writes a circuit
 without latches that is 1 where the map fails, in the spelling of MAP where none
@@ -165,7 +174,7 @@ With --certificate, MITER is IN and OUT side by side, under the same inputs: a
 model that is bad where a property of theirs differs. CERT is the same with an
 inductive invariant by MAP: a witness circuit for that model, as of 'lift'.";
 
-pub(crate) const MITER_EXAMPLE: &str = "Example:
+pub const MITER_EXAMPLE: &str = "Example:
   fretime retime counter.aag smaller.aag --map counter.map
   fretime miter counter.aag smaller.aag counter.map counter.aig --binary
 
@@ -175,10 +184,10 @@ MITER is made at its first byte: where something is refused, it stays as it was.
 Exit status: 0 done, 1 a file is refused, MAP is no map, or shapes differ,
 2 command line, 3 device, 4 out of memory.";
 
-pub(crate) const LIFT_ABOUT: &str =
+pub const LIFT_ABOUT: &str =
     "Carries a proof of a retimed circuit back to what it was made of";
 
-pub(crate) const LIFT_LONG_ABOUT: &str =
+pub const LIFT_LONG_ABOUT: &str =
     "Reads a circuit, the circuit that was made of it, a map of the states of the one
 to those of the other, as 'retime --map' writes it, and a witness circuit for
 the second: what a model checker hands in to show that no bad state is reached.
@@ -195,7 +204,7 @@ Where MAP is a map and CERT passes the five checks for OUT, RESULT passes them
 for IN, as any SAT solver can find; neither is checked here. 'check' checks the
 map.";
 
-pub(crate) const LIFT_EXAMPLE: &str = "Example:
+pub const LIFT_EXAMPLE: &str = "Example:
   fretime retime ring.aag less.aag --map ring.map
   fretime lift ring.aag less.aag ring.map less.cert ring.cert
 
@@ -205,9 +214,9 @@ was. 'shapes differ' is printed where IN, OUT and MAP don't fit together.
 Exit status: 0 done, 1 a file is refused, MAP is no map, CERT names what OUT
 hasn't, or shapes differ, 2 command line, 3 device, 4 out of memory.";
 
-pub(crate) const STAT_ABOUT: &str = "Counts what a circuit has, as it was read";
+pub const STAT_ABOUT: &str = "Counts what a circuit has, as it was read";
 
-pub(crate) const STAT_EXAMPLE: &str =
+pub const STAT_EXAMPLE: &str =
     "Latches are free where they have no known reset; free latches never move.
 
 With --merge two last lines say how many latches 'retime --merge' would merge,
@@ -218,12 +227,12 @@ and how many of these never change:
 Exit status: 0 done, 1 IN is no circuit, 2 command line, 3 device, 4 out of
 memory.";
 
-pub(crate) const CONVERT_ABOUT: &str =
+pub const CONVERT_ABOUT: &str =
     "Writes a circuit as it was read; without a flag in the other spelling";
 
-pub(crate) const SIM_ABOUT: &str = "Prints the values of all properties under a stimulus";
+pub const SIM_ABOUT: &str = "Prints the values of all properties under a stimulus";
 
-pub(crate) const SIM_EXAMPLE: &str =
+pub const SIM_EXAMPLE: &str =
     "A stimulus is lines: '=' with a digit for each free latch begins a sequence, ':'
 with a digit for each input is its next step.
 
@@ -237,9 +246,9 @@ waves: a scope for each sequence.
 Exit status: 0 done, 1 a file is refused or so many steps take too much memory,
 2 command line, 3 device, 4 out of memory.";
 
-pub(crate) const SAME_ABOUT: &str = "Finds the first difference of two circuits under a stimulus";
+pub const SAME_ABOUT: &str = "Finds the first difference of two circuits under a stimulus";
 
-pub(crate) const SAME_EXAMPLE: &str =
+pub const SAME_EXAMPLE: &str =
     "It prints 'same', or the first sequence, step and place, from 0, at which the
 circuits differ.
 
@@ -254,9 +263,9 @@ B's among those of A, from 0, a line each, in order:
 Exit status: 0 same, 1 a file is refused, shapes differ or so many steps take
 too much memory, 2 command line, 3 device, 4 out of memory, 5 they differ.";
 
-pub(crate) const DOT_ABOUT: &str = "Writes a picture of a circuit, for Graphviz";
+pub const DOT_ABOUT: &str = "Writes a picture of a circuit, for Graphviz";
 
-pub(crate) const DOT_LONG_ABOUT: &str =
+pub const DOT_LONG_ABOUT: &str =
     "Reads a circuit, and writes it as text in DOT, the language of Graphviz: `dot
 -Tsvg OUT` draws it.
 
@@ -273,17 +282,17 @@ A circuit of over 2,000 nodes is refused, but for a neighbourhood: --around NAME
 draws what is at most so many edges away from the input, latch or property with
 the name. `dot` may take long from some 300 nodes on; `sfdp` draws those too.";
 
-pub(crate) const DOT_EXAMPLE: &str = "Example:
+pub const DOT_EXAMPLE: &str = "Example:
   fretime dot counter.aag counter.dot --frame
   dot -Tsvg counter.dot > counter.svg
 
 Exit status: 0 done, 1 IN is no circuit, has no such latch, nothing called NAME
 or too many nodes, 2 command line, 3 device, 4 out of memory.";
 
-pub(crate) const WITNESS_ABOUT: &str =
+pub const WITNESS_ABOUT: &str =
     "Carries a witness of a retimed circuit back to what it was made of";
 
-pub(crate) const WITNESS_LONG_ABOUT: &str =
+pub const WITNESS_LONG_ABOUT: &str =
     "Reads a circuit, the circuit that 'retime' wrote of it, and a witness that a
 model checker found for that one, and prints the witness for the first.
 
@@ -293,7 +302,7 @@ latches that OUT has hold what they did there, and the others 0. The inputs are
 the same. What is printed are the values that were simulated, without an x. Give
 --merge as for 'retime': which free latches OUT has may rest on it.";
 
-pub(crate) const WITNESS_EXAMPLE: &str = "Example:
+pub const WITNESS_EXAMPLE: &str = "Example:
   fretime retime counter.aag smaller.aag
   fretime witness counter.aag smaller.aag smaller.cex
 
@@ -305,13 +314,13 @@ comment says at which step each property fails:
 Exit status: 0 done, 1 a file is refused or shapes differ, 2 command line,
 3 device, 4 out of memory, 5 a property doesn't fail.";
 
-pub(crate) const EXPLAIN_ABOUT: &str = "Says what a fault is, and what to do";
+pub const EXPLAIN_ABOUT: &str = "Says what a fault is, and what to do";
 
-pub(crate) const EXPLAIN_LONG_ABOUT: &str =
+pub const EXPLAIN_LONG_ABOUT: &str =
     "Prints the page of a fault that a message names: what it is, the rule that is
 broken, a smallest file that has it, and what to do.";
 
-pub(crate) const EXPLAIN_EXAMPLE: &str = "Example:
+pub const EXPLAIN_EXAMPLE: &str = "Example:
   fretime explain MaxIndex
 
 Faults of circuits, and some of them of other files too: BadHeader, TooLarge,
