@@ -13,7 +13,7 @@ use crate::claiming::certify_by_units;
 use crate::records::Records;
 use aig_graph::{Choice, Circuit, ClosedSet, Keep, NoMemory};
 use certificates::Routes;
-use cut_cert::{greatest_cut, near_cut, network_in, preflow_along, routes, start_if_unknown};
+use cut_cert::{greatest_cut, near_cut, network_in, preflow_along, routes};
 use frame_net::{Net, Tables};
 use pulse::{Crew, MOST_ARCS_KEPT, MaxPreflow, PhaseGate};
 use std::alloc::Global;
@@ -200,7 +200,6 @@ fn chosen_by_flow<G: PhaseGate>(
         flow_tables,
         ..
     } = &mut *records;
-    start_if_unknown(alloc, circuit, keep, &net, crew, flows)?;
     let preflow = preflow_along(rt, alloc, circuit, &net, crew, flows, flow_tables)?;
     let set = chosen_set(alloc, circuit, keep, &net, &preflow, choice, records);
     let residuals = residuals_of(alloc, &net, preflow);
