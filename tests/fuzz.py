@@ -23,8 +23,8 @@ from reference.retiming import greatest_least_by_flow, held_latches, least_of_al
 TESTS = pathlib.Path(__file__).resolve().parent
 BENCH = TESTS.parent / 'bench'
 WORKERS = [1, 2, 7, 64]
-# With more than 4096 nodes of the flow active in some pulses, so that crews share these.
-LARGE = ['products 70', 'gates 20000 9000', 'delay_lines 4200 8']
+# Crews share pulses of the first, in which more than 4096 nodes are active.
+LARGE = ['copies 1200 cordic 4', 'products 70', 'gates 20000 9000', 'delay_lines 4200 8']
 FAMILIES = ['products 6', 'multiplier 5', 'divider 5', 'cordic 6', 'fir 4 4', 'two_stages 4 4', 'adder_tree 8 4',
             'delay_lines 16 4', 'rounds 8 4', 'gates 300 40']
 

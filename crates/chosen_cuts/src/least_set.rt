@@ -13,16 +13,13 @@ use crate::claiming::certify_by_units;
 use crate::records::Records;
 use aig_graph::{Choice, Circuit, ClosedSet, Keep, NoMemory};
 use certificates::Routes;
-use cut_cert::{greatest_cut, near_cut, network_in, preflow_along, routes, start_if_unknown};
+use cut_cert::{greatest_cut, near_cut, network_in, preflow_along, routes};
 use frame_net::{Net, Tables};
 use pulse::{Crew, MOST_ARCS_KEPT, MaxPreflow, PhaseGate};
 use std::alloc::Global;
 use std::mem;
 use std::thread::Threads;
 use unit_pulses::chosen_least_brought;
-
-/// From so many latches and gates on a crew of two or more looks at flows of units first.
-const MANY_PLACES: usize = 4096;
 
 /// The set; its certificate is added, where certificates are wanted.
 fn recorded(
@@ -137,12 +134,6 @@ fn residuals_of(alloc: Global, net: &Net, preflow: MaxPreflow) -> Vec<u32> {
     preflow.into_residuals(alloc)
 }
 
-/// Whether flows of units are judged before a network is made: not for a crew of two or more on a small circuit, whose first pulses are large
-/// for it and are shared out.
-fn looks_at_units<G: PhaseGate>(circuit: &Circuit, crew: &Crew<G>) -> bool {
-    crew.workers() < 2 || circuit.aig().latches_and_gates() >= MANY_PLACES
-}
-
 /// The set, where its certificate is added by the routes of the units of the records' flows, or none is wanted.
 fn certified(
     alloc: Global,
@@ -169,9 +160,9 @@ fn certified(
     }
 }
 
-/// The chosen least set, where a flow of units is looked at and shows it, with its certificate. Where there is none, nothing of the records
-/// changes but the flows.
+/// The chosen least set, where a flow of units shows it, with its certificate. Where there is none, nothing of the records changes but the flows.
 fn shown_by_units<G: PhaseGate>(
+    rt: &(impl Threads + Sync),
     alloc: Global,
     circuit: &Circuit,
     keep: &Keep,
@@ -183,10 +174,7 @@ fn shown_by_units<G: PhaseGate>(
     ensures certificate { IfOk result (λ shown. MatchOption shown (AddsNone records.old records.new)
         (AddsOne circuit.now keep.now records.old records.new)) }
 {
-    if !looks_at_units(circuit, crew) {
-        return Ok(None);
-    }
-    match chosen_least_brought(alloc, circuit, keep, choice, &mut records.flows)? {
+    match chosen_least_brought(rt, alloc, circuit, keep, choice, crew, &mut records.flows)? {
         Some(set) => certified(alloc, circuit, keep, set, records),
         None => Ok(None),
     }
@@ -212,7 +200,6 @@ fn chosen_by_flow<G: PhaseGate>(
         flow_tables,
         ..
     } = &mut *records;
-    start_if_unknown(alloc, circuit, keep, &net, crew, flows)?;
     let preflow = preflow_along(rt, alloc, circuit, &net, crew, flows, flow_tables)?;
     let set = chosen_set(alloc, circuit, keep, &net, &preflow, choice, records);
     let residuals = residuals_of(alloc, &net, preflow);
@@ -244,7 +231,7 @@ pub fn chosen_least_along<G: PhaseGate>(
     ensures set { IfOk result (IsChosen choice circuit.now keep.now) }
     ensures certificate { IfOk result (AddsOne circuit.now keep.now records.old records.new) }
 {
-    match shown_by_units(alloc, circuit, keep, choice, crew, records)? {
+    match shown_by_units(rt, alloc, circuit, keep, choice, crew, records)? {
         Some(set) => Ok(set),
         None => chosen_by_flow(rt, alloc, circuit, keep, choice, crew, records),
     }

@@ -4,8 +4,11 @@ ghost use Rattle.aig_graph.specs.Chosen.{IsChosen};
 
 use crate::bringing::bring;
 use crate::extending::extend;
+use crate::sharing::Sharing;
 use aig_graph::{Choice, Circuit, ClosedSet, Keep, NoMemory};
+use pulse::{Crew, PhaseGate};
 use std::alloc::Global;
+use std::thread::Threads;
 use unit_flows::{Frame, GateFlow, NodeMarks, Started, shown_chosen, start_along};
 
 /// Fewer units cost less by pulses than a judge that may say no.
@@ -28,63 +31,71 @@ fn shown_by_more(
     shown_chosen(alloc, frame, choice, flows.as_slice())
 }
 
-/// By pulses.
-fn shown_by_pulses(
-    alloc: Global,
-    frame: &Frame,
-    choice: Choice,
-    marks: Option<NodeMarks>,
-    flows: &mut Vec<GateFlow>,
-) -> Result<Option<ClosedSet>, NoMemory>
-    ensures { IfOk result (λ shown. IfSome shown (IsChosen choice frame.now.circuit.now
-        frame.now.keep.now)) }
-{
-    bring(alloc, frame, marks, flows)?;
-    shown_chosen(alloc, frame, choice, flows.as_slice())
-}
-
-/// By what follows a start that shows none: more of it, where it was one along the last flow, or pulses.
-fn shown_after_start(
-    alloc: Global,
-    frame: &Frame,
-    choice: Choice,
-    is_first: bool,
-    marks: Option<NodeMarks>,
-    flows: &mut Vec<GateFlow>,
-) -> Result<Option<ClosedSet>, NoMemory>
-    ensures { IfOk result (λ shown. IfSome shown (IsChosen choice frame.now.circuit.now
-        frame.now.keep.now)) }
-{
-    if is_first {
-        return shown_by_pulses(alloc, frame, choice, marks, flows);
-    }
-    match shown_by_more(alloc, frame, choice, flows)? {
-        Some(set) => {
-            drop(marks);
-            Ok(Some(set))
-        }
-        None => shown_by_pulses(alloc, frame, choice, marks, flows),
-    }
-}
-
-/// By a start, or by what follows it.
-fn shown_in(
+/// By a start, or by more of it, where it was one along the last flow.
+fn started(
     alloc: Global,
     frame: &Frame,
     choice: Choice,
     flows: &mut Vec<GateFlow>,
-) -> Result<Option<ClosedSet>, NoMemory>
-    ensures { IfOk result (λ shown. IfSome shown (IsChosen choice frame.now.circuit.now
+) -> Result<Started, NoMemory>
+    ensures { IfOk result (λ started. IfSome started.set (IsChosen choice frame.now.circuit.now
         frame.now.keep.now)) }
 {
     let is_first = flows.is_empty();
-    let Started { set, marks } = start_along(alloc, frame, choice, flows)?;
+    let started = start_along(alloc, frame, choice, flows)?;
+    if is_first || started.set.is_some() {
+        return Ok(started);
+    }
+    let set = shown_by_more(alloc, frame, choice, flows)?;
+    Ok(Started {
+        set,
+        marks: started.marks,
+    })
+}
+
+/// By pulses of a crew from what a flow leaves, where the marks, if there are any, have each node from which units can come to the sink.
+fn shown_by_pulses<R: Threads + Sync, G: PhaseGate>(
+    rt: &R,
+    alloc: Global,
+    frame: &Frame,
+    choice: Choice,
+    marks: Option<NodeMarks>,
+    sharing: Sharing<G>,
+    flows: &mut Vec<GateFlow>,
+) -> Result<Option<ClosedSet>, NoMemory>
+    ensures { IfOk result (λ shown. IfSome shown (IsChosen choice frame.now.circuit.now
+        frame.now.keep.now)) }
+{
+    bring(rt, alloc, frame, marks, sharing, flows)?;
+    shown_chosen(alloc, frame, choice, flows.as_slice())
+}
+
+/// By a start, or by the pulses of a crew from there; of the first flow of a small circuit that has a crew of two or more, by pulses from the
+/// sources, since a start would leave few units to share.
+fn shown_in<R: Threads + Sync, G: PhaseGate>(
+    rt: &R,
+    alloc: Global,
+    frame: &Frame,
+    choice: Choice,
+    crew: &Crew<G>,
+    flows: &mut Vec<GateFlow>,
+) -> Result<Option<ClosedSet>, NoMemory>
+    ensures { IfOk result (λ shown. IfSome shown (IsChosen choice frame.now.circuit.now
+        frame.now.keep.now)) }
+{
+    let aig = frame.circuit.aig();
+    let sharing = Sharing::of(crew, aig.latches_and_gates(), flows.is_empty());
+    if sharing.from_sources {
+        *flows = vec![in alloc; GateFlow::none(); aig.gates().len()]?;
+        return shown_by_pulses(rt, alloc, frame, choice, None, sharing, flows);
+    }
+    let Started { set, marks } = started(alloc, frame, choice, flows)?;
     match set {
         Some(set) => {
             drop(marks);
             Ok(Some(set))
         }
-        None => shown_after_start(alloc, frame, choice, is_first, marks, flows),
+        None => shown_by_pulses(rt, alloc, frame, choice, marks, sharing, flows),
     }
 }
 
@@ -92,20 +103,26 @@ fn shown_in(
 /// what the last flow did at the circuit's gates, or along nothing where there are none; or the flow that pulses make of it. Then `flows` is
 /// what it does there. They are hints: the set is the same whatever they say, or there is none.
 ///
+/// A pulse in which 4096 nodes or more are active goes to the crew: each worker reads and delivers at its own range of places. The calling thread
+/// makes all others, as worker 0. Of a circuit of at most 1024 latches and gates the first flow begins at the sources, for a crew of two or more, and
+/// the crew makes its first pulse.
+///
 /// # Errors
 ///
 /// `NoMemory` where a table is refused; then `flows` may be those of before, of a start, or none.
-pub fn chosen_least_brought(
+pub fn chosen_least_brought<G: PhaseGate>(
+    rt: &(impl Threads + Sync),
     alloc: Global,
     circuit: &Circuit,
     keep: &Keep,
     choice: Choice,
+    crew: &Crew<G>,
     flows: &mut Vec<GateFlow>,
 ) -> Result<Option<ClosedSet>, NoMemory>
     ensures { IfOk result (λ shown. IfSome shown (IsChosen choice circuit.now keep.now)) }
 {
     let frame = Frame::new(alloc, circuit, keep)?;
-    let shown = shown_in(alloc, &frame, choice, flows);
+    let shown = shown_in(rt, alloc, &frame, choice, crew, flows);
     drop(frame);
     shown
 }

@@ -6,15 +6,18 @@
 
 mod active;
 mod bringing;
+mod delivering;
 mod extending;
 mod labels;
 mod least_set;
 mod nodes;
-mod pulse;
+mod parts;
+mod pulses;
 mod pushes;
 mod raising;
 mod readers;
 mod search;
+mod sharing;
 mod spots;
 
 pub use least_set::chosen_least_brought;

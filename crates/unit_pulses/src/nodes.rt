@@ -19,6 +19,11 @@ impl Nodes {
         }
     }
 
+    /// How many they are.
+    pub fn count(&self) -> usize {
+        self.before.len().saturating_add(self.after.len())
+    }
+
     pub fn is_empty(&self) -> bool {
         self.before.is_empty() && self.after.is_empty()
     }
@@ -27,11 +32,11 @@ impl Nodes {
         self.before.clear();
         self.after.clear();
     }
-}
 
-/// Units that come to the node before a gate in a pulse.
-#[derive(Clone, Copy)]
-pub(crate) struct Arrival {
-    pub place: u32,
-    pub units: u32,
+    /// Appends other nodes.
+    pub fn append(&mut self, nodes: &Nodes) -> Result<(), NoMemory> {
+        self.before.extend_from_slice(nodes.before.as_slice())?;
+        self.after.extend_from_slice(nodes.after.as_slice())?;
+        Ok(())
+    }
 }

@@ -1,18 +1,13 @@
 //! What a node pushes in a pulse: to nodes whose label is one less, in the order of rows by rising heads.
 //!
-//! Labels don't change while nodes push, and no arc is pushed from both ends, so what goes on from a node is noted at once. What comes to the
-//! node before a gate is listed, and counts there once all nodes have pushed.
+//! It reads the flow that the last pulse left. No arc is pushed from both ends, and labels don't change before the pulse ends, so what other
+//! nodes push meanwhile makes no difference.
 
-use crate::nodes::Arrival;
-use crate::pulse::Pulse;
-use crate::search::Search;
+use crate::nodes::Nodes;
+use crate::parts::{Arc, Kept, Part, Push};
+use crate::search::{Before, Search};
 use crate::spots::{label_after, label_before};
 use aig_graph::NoMemory;
-
-/// The label that a node pushes to from this one.
-fn below(label: u32) -> u32 {
-    label.saturating_sub(1)
-}
 
 /// What becomes of a unit after a place: it goes on to before a gate, or it stays, and the node gets a new label.
 enum Way {
@@ -23,16 +18,16 @@ enum Way {
 impl<'a> Search<'a> {
     /// The way of the unit after a place: back to before its own gate, or up to before the first reader there with this label. No other node
     /// changes what it may do in a pulse, so the label that it else gets is known at once.
-    fn way(&self, place: u32, label: u32, work: &mut usize) -> Way {
+    fn way(&self, place: u32, below: u32, part: &mut Part) -> Way {
         let labels = self.labels.as_slice();
         let mut least = label_before(labels, place);
-        if least == label {
+        if least == below {
             return Way::To(place);
         }
         for reader in self.readers.at(place) {
-            *work = work.wrapping_add(1);
+            part.count(1);
             let at = label_before(labels, *reader);
-            if at == label {
+            if at == below {
                 return Way::To(*reader);
             }
             least = least.min(at);
@@ -40,183 +35,172 @@ impl<'a> Search<'a> {
         Way::Stays(least.saturating_add(1))
     }
 
-    /// Notes that the unit after a place went to before a gate: its own, or one that reads it.
-    fn note_way(&mut self, place: u32, to: u32) {
-        self.set_waits(place, false);
-        let second = self.fan_ins(to).is_some_and(|it| it.is_second(place));
-        if let Some(flow) = self.flow_mut(to) {
-            if place == to {
-                flow.through = false;
-            } else {
-                flow.note_up(second);
-            }
+    /// The push of the unit after a place to before a gate: its own, or one that reads it.
+    fn push_to(&self, place: u32, to: u32) -> Push {
+        Push {
+            arc: if place == to { Arc::Back } else { Arc::Up },
+            second: self.fan_ins(to).is_some_and(|it| it.is_second(place)),
+            tail: place,
+            head: to,
+            units: 1,
         }
     }
 
-    /// The node after a place pushes its unit, or it keeps it and is listed with its new label.
-    pub fn push_after(&mut self, place: u32, pulse: &mut Pulse) -> Result<(), NoMemory> {
-        if self
-            .spots
-            .get(place as usize)
-            .is_some_and(|it| it.is_observed)
-        {
-            self.set_waits(place, false);
+    /// Reads what the node after a place does with its unit.
+    fn read_after(&self, place: u32, part: &mut Part) -> Result<(), NoMemory> {
+        let spot = self.spots.get(place as usize);
+        if spot.is_some_and(|spot| spot.is_observed) {
+            let push = Push {
+                arc: Arc::Out,
+                second: false,
+                tail: place,
+                head: place,
+                units: 1,
+            };
+            part.pushes.push(push)?;
             return Ok(());
         }
-        let label = below(label_after(self.labels.as_slice(), place));
-        match self.way(place, label, &mut pulse.work) {
-            Way::To(to) => {
-                self.note_way(place, to);
-                pulse.arrivals.push(Arrival {
-                    place: to,
-                    units: 1,
-                })?;
-            }
-            Way::Stays(label) => {
-                pulse.kept.after.push(place)?;
-                pulse.labels.push(label)?;
-            }
+        let below = label_after(self.labels.as_slice(), place).saturating_sub(1);
+        match self.way(place, below, part) {
+            Way::To(to) => part.pushes.push(self.push_to(place, to))?,
+            Way::Stays(label) => part.kept_after.push(Kept {
+                place,
+                units: 1,
+                label,
+            })?,
         }
         Ok(())
     }
 
-    /// As many of these units as there is room for go on to before a fan-in with this label. How many stay.
+    /// As many of these units as there is room for go on to before a fan-in. How many stay.
     fn push_down(
-        &mut self,
-        place: u32,
+        &self,
+        node: &Before,
         second: bool,
-        label: u32,
         units: u32,
-        pulse: &mut Pulse,
+        part: &mut Part,
     ) -> Result<u32, NoMemory> {
-        let Some(fan_ins) = self.fan_ins(place) else {
+        let head = node.fan_ins.at(second);
+        if units == 0 || label_before(self.labels.as_slice(), head) != node.below {
             return Ok(units);
+        }
+        let room = self.most.saturating_sub(node.flow.down(second));
+        let push = Push {
+            arc: Arc::Down,
+            second,
+            tail: node.place,
+            head,
+            units: units.min(room),
         };
-        let to = fan_ins.at(second);
-        if units == 0 || label_before(self.labels.as_slice(), to) != label {
-            return Ok(units);
-        }
-        let had = self.flow(place).down(second);
-        let pushed = units.min(self.most.saturating_sub(had));
-        if pushed == 0 {
-            return Ok(units);
-        }
-        if let Some(flow) = self.flow_mut(place) {
-            flow.note_down(second, had.saturating_add(pushed));
-        }
-        pulse.arrivals.push(Arrival {
-            place: to,
-            units: pushed,
-        })?;
-        Ok(units.saturating_sub(pushed))
+        part.list(push, units)
     }
 
-    /// One of these units goes home to after a fan-in with this label, if it came from there. How many stay.
+    /// One of these units goes home to after a fan-in, if it came from there. How many stay.
     fn push_home(
-        &mut self,
-        place: u32,
+        &self,
+        node: &Before,
         second: bool,
-        label: u32,
         units: u32,
-        pulse: &mut Pulse,
+        part: &mut Part,
     ) -> Result<u32, NoMemory> {
-        let Some(fan_ins) = self.fan_ins(place) else {
-            return Ok(units);
-        };
-        let to = fan_ins.at(second);
-        let came = self.flow(place).up(second);
-        if units == 0 || !came || label_after(self.labels.as_slice(), to) != label {
+        let head = node.fan_ins.at(second);
+        let came = node.flow.up(second);
+        if units == 0 || !came || label_after(self.labels.as_slice(), head) != node.below {
             return Ok(units);
         }
-        if let Some(flow) = self.flow_mut(place) {
-            flow.clear_up(second);
-        }
-        self.set_waits(to, true);
-        pulse.next.after.push(to)?;
-        Ok(units.saturating_sub(1))
+        let push = Push {
+            arc: Arc::Home,
+            second,
+            tail: node.place,
+            head,
+            units: 1,
+        };
+        part.list(push, units)
     }
 
-    /// One of these units goes through the gate, if none does and the node after it has this label. How many stay.
-    fn push_through(
-        &mut self,
-        place: u32,
-        label: u32,
-        units: u32,
-        pulse: &mut Pulse,
-    ) -> Result<u32, NoMemory> {
-        let is_full = self.flow(place).through;
-        if units == 0 || is_full || label_after(self.labels.as_slice(), place) != label {
+    /// One of these units goes through the gate, if none does. How many stay.
+    fn push_through(&self, node: &Before, units: u32, part: &mut Part) -> Result<u32, NoMemory> {
+        let labels = self.labels.as_slice();
+        if units == 0 || node.flow.through || label_after(labels, node.place) != node.below {
             return Ok(units);
         }
-        if let Some(flow) = self.flow_mut(place) {
-            flow.through = true;
-        }
-        self.set_waits(place, true);
-        pulse.next.after.push(place)?;
-        Ok(units.saturating_sub(1))
+        let push = Push {
+            arc: Arc::Through,
+            second: false,
+            tail: node.place,
+            head: node.place,
+            units: 1,
+        };
+        part.list(push, units)
     }
 
-    /// So many units of those that came down from a reader go back up to before it. How many it takes.
-    fn lift(&mut self, place: u32, reader: u32, units: u32) -> u32 {
-        let Some(fan_ins) = self.fan_ins(reader) else {
-            return 0;
-        };
-        let second = fan_ins.is_second(place);
-        let Some(flow) = self.flow_mut(reader) else {
-            return 0;
-        };
-        let lifted = units.min(flow.down(second));
-        flow.note_down(second, flow.down(second).saturating_sub(lifted));
-        lifted
-    }
-
-    /// These units go back to before readers with this label, as many as came down from each. How many stay.
-    fn push_up(
-        &mut self,
-        place: u32,
-        label: u32,
-        units: u32,
-        pulse: &mut Pulse,
-    ) -> Result<u32, NoMemory> {
+    /// These units go back to before readers, as many as came down from each. How many stay.
+    fn push_up(&self, node: &Before, units: u32, part: &mut Part) -> Result<u32, NoMemory> {
+        let labels = self.labels.as_slice();
         let mut left = units;
-        for k in 0..self.readers.at(place).len() {
-            let Some(reader) = self.readers.at(place).get(k).copied() else {
-                return Ok(left);
-            };
+        for reader in self.readers.at(node.place) {
             if left == 0 {
                 return Ok(0);
             }
-            pulse.work = pulse.work.wrapping_add(1);
-            if label_before(self.labels.as_slice(), reader) == label {
-                let lifted = self.lift(place, reader, left);
-                if lifted > 0 {
-                    pulse.arrivals.push(Arrival {
-                        place: reader,
-                        units: lifted,
-                    })?;
-                    left = left.saturating_sub(lifted);
-                }
+            part.count(1);
+            if label_before(labels, *reader) == node.below {
+                let (second, came) = self.came_from(*reader, node.place);
+                let push = Push {
+                    arc: Arc::Lift,
+                    second,
+                    tail: node.place,
+                    head: *reader,
+                    units: left.min(came),
+                };
+                left = part.list(push, left)?;
             }
         }
         Ok(left)
     }
 
-    /// The node before a gate pushes its units. Whether it kept some.
-    pub fn push_before(&mut self, place: u32, pulse: &mut Pulse) -> Result<bool, NoMemory> {
-        let Some(spot) = self.spots.get(place as usize).copied() else {
-            return Ok(false);
+    /// Reads what the node before a gate pushes, and what it keeps.
+    fn read_before(&self, place: u32, part: &mut Part) -> Result<(), NoMemory> {
+        let (Some(spot), Some(node)) = (self.spots.get(place as usize), self.before(place)) else {
+            return Ok(());
         };
-        let label = below(label_before(self.labels.as_slice(), place));
         let mut left = spot.excess;
         for second in [false, true] {
-            left = self.push_down(place, second, label, left, pulse)?;
-            left = self.push_home(place, second, label, left, pulse)?;
+            left = self.push_down(&node, second, left, part)?;
+            left = self.push_home(&node, second, left, part)?;
         }
-        left = self.push_through(place, label, left, pulse)?;
-        left = self.push_up(place, label, left, pulse)?;
-        if let Some(spot) = self.spots.get_mut(place as usize) {
-            spot.excess = left;
+        left = self.push_through(&node, left, part)?;
+        left = self.push_up(&node, left, part)?;
+        if left > 0 {
+            let label = self.raised_before(&node, part);
+            part.kept_before.push(Kept {
+                place,
+                units: left,
+                label,
+            })?;
         }
-        Ok(left > 0)
+        Ok(())
+    }
+
+    /// Reads what those of these nodes do that are a worker's own.
+    ///
+    /// # Errors
+    ///
+    /// `NoMemory` where a list is refused.
+    pub fn read(&self, actives: &Nodes, part: &mut Part) -> Result<(), NoMemory> {
+        part.clear();
+        let range = part.range;
+        for place in &actives.after {
+            if range.has(*place) {
+                part.count(4);
+                self.read_after(*place, part)?;
+            }
+        }
+        for place in &actives.before {
+            if range.has(*place) {
+                part.count(4);
+                self.read_before(*place, part)?;
+            }
+        }
+        Ok(())
     }
 }

@@ -1,47 +1,55 @@
-//! New labels of nodes before gates that kept units: one more than the least label that an arc leads to.
+//! New labels of nodes before gates that keep units: one more than the least label that an arc leads to after the pulse.
+//!
+//! Such a node has filled each arc to a label that is one less than its own. What else comes to it makes arcs back to labels that are one more.
 
-use crate::search::Search;
-use crate::spots::{label_after, label_before};
+use crate::parts::Part;
+use crate::search::{Before, Search};
+use crate::spots::{FAR, label_after, label_before};
+
+/// A label that an arc leads to which isn't filled in this pulse, or none.
+fn near(label: u32, below: u32) -> u32 {
+    if label == below { FAR } else { label }
+}
 
 impl<'a> Search<'a> {
     /// The least label of the fan-ins' nodes and of that after a gate to which an arc leads from before it.
-    fn least_near(&self, place: u32, work: &mut usize) -> u32 {
+    fn least_near(&self, node: &Before) -> u32 {
         let labels = self.labels.as_slice();
-        let flow = self.flow(place);
-        *work = work.wrapping_add(4);
+        let (flow, below) = (node.flow, node.below);
         let mut least = if flow.through {
-            u32::MAX
+            FAR
         } else {
-            label_after(labels, place)
+            near(label_after(labels, node.place), below)
         };
-        if let Some(fan_ins) = self.fan_ins(place) {
-            for second in [false, true] {
-                let fan_in = fan_ins.at(second);
-                if flow.down(second) < self.most {
-                    least = least.min(label_before(labels, fan_in));
-                }
-                if flow.up(second) {
-                    least = least.min(label_after(labels, fan_in));
-                }
+        for second in [false, true] {
+            let fan_in = node.fan_ins.at(second);
+            if flow.down(second) < self.most {
+                least = least.min(near(label_before(labels, fan_in), below));
+            }
+            if flow.up(second) {
+                least = least.min(near(label_after(labels, fan_in), below));
             }
         }
         least
     }
 
-    /// The new label of the node before a gate.
-    pub fn raised_before(&self, place: u32, work: &mut usize) -> u32 {
+    /// The new label of the node before a gate, where nothing comes to it in this pulse.
+    pub fn raised_before(&self, node: &Before, part: &mut Part) -> u32 {
         let labels = self.labels.as_slice();
-        let mut least = self.least_near(place, work);
-        for reader in self.readers.at(place) {
-            *work = work.wrapping_add(1);
-            let came = match self.fan_ins(*reader) {
-                Some(fan_ins) => self.flow(*reader).down(fan_ins.is_second(place)),
-                None => 0,
-            };
+        part.count(4);
+        let mut least = self.least_near(node);
+        for reader in self.readers.at(node.place) {
+            part.count(1);
+            let (_, came) = self.came_from(*reader, node.place);
             if came > 0 {
-                least = least.min(label_before(labels, *reader));
+                least = least.min(near(label_before(labels, *reader), node.below));
             }
         }
         least.saturating_add(1)
     }
+}
+
+/// The new label of a node before a gate whose label was this, once units have come to it.
+pub(crate) fn raised_with_arrivals(label: u32, raised: u32) -> u32 {
+    raised.min(label.saturating_add(2))
 }

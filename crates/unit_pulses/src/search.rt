@@ -1,7 +1,7 @@
 //! The tables of a flow of units by place: what the flow does at each gate, what stands at each place, and which gates read it.
 
 use crate::readers::Readers;
-use crate::spots::{Labels, Spot};
+use crate::spots::{Labels, Spot, label_before};
 use aig_graph::{Gate, NoMemory};
 use std::alloc::Global;
 use unit_flows::{Frame, GateFlow};
@@ -31,6 +31,15 @@ impl FanIns {
     pub fn is_second(&self, place: u32) -> bool {
         self.smaller != place
     }
+}
+
+/// The node before a gate, as a pulse finds it: what the flow does at the gate, and the label that the node pushes to.
+#[derive(Clone, Copy)]
+pub(crate) struct Before {
+    pub place: u32,
+    pub fan_ins: FanIns,
+    pub flow: GateFlow,
+    pub below: u32,
 }
 
 /// A flow of units over the gates of a frame, and what its pulses need to know.
@@ -72,11 +81,8 @@ impl<'a> Search<'a> {
             spots,
             flows,
         };
-        for place in 0..aig.latches_and_gates() {
-            search.note_coming(place as u32);
-        }
-        for place in 0..aig.latches_and_gates() {
-            search.note_going(place as u32);
+        for place in (0..aig.latches_and_gates()).rev() {
+            search.note(place as u32);
         }
         Ok(search)
     }
@@ -124,32 +130,57 @@ impl<'a> Search<'a> {
         }
     }
 
-    /// The same, to be changed.
-    pub fn flow_mut(&mut self, place: u32) -> Option<&mut GateFlow> {
-        let number = self.number(place);
-        self.flows.get_mut(number)
+    /// The node before a gate at a place, as a pulse finds it.
+    pub fn before(&self, place: u32) -> Option<Before> {
+        Some(Before {
+            place,
+            fan_ins: self.fan_ins(place)?,
+            flow: self.flow(place),
+            below: label_before(self.labels.as_slice(), place).saturating_sub(1),
+        })
+    }
+
+    /// Whether a reader reads a place by its second fan-in, and how many units came from before it down to before that place.
+    pub fn came_from(&self, reader: u32, place: u32) -> (bool, u32) {
+        match self.fan_ins(reader) {
+            Some(fan_ins) => {
+                let second = fan_ins.is_second(place);
+                (second, self.flow(reader).down(second))
+            }
+            None => (false, 0),
+        }
     }
 
     /// Units come to the node before a place.
-    pub fn add_before(&mut self, place: u32, units: u32) {
+    fn add_before(&mut self, place: u32, units: u32) {
         if let Some(spot) = self.spots.get_mut(place as usize) {
             spot.excess = spot.excess.saturating_add(units);
         }
     }
 
     /// A unit waits after a place, or none does any more.
-    pub fn set_waits(&mut self, place: u32, waits: bool) {
+    fn set_waits(&mut self, place: u32, waits: bool) {
         if let Some(spot) = self.spots.get_mut(place as usize) {
             spot.waits = waits;
         }
     }
 
-    /// Notes what came to before a gate from after its fan-ins, and what it sent on to before these.
-    fn note_coming(&mut self, place: u32) {
+    /// Notes what the flow does at the gate at a place, if there is one, and all gates above it are noted.
+    fn note(&mut self, place: u32) {
         let Some(fan_ins) = self.fan_ins(place) else {
             return;
         };
         let flow = self.flow(place);
+        if flow.is_none() {
+            self.set_waits(place, false);
+        } else {
+            self.note_coming(place, &fan_ins, &flow);
+            self.note_going(place, &flow);
+        }
+    }
+
+    /// Notes what came to before a gate from after its fan-ins, and what it sent on to before these.
+    fn note_coming(&mut self, place: u32, fan_ins: &FanIns, flow: &GateFlow) {
         for second in [false, true] {
             if flow.up(second) {
                 self.set_waits(fan_ins.at(second), false);
@@ -161,15 +192,14 @@ impl<'a> Search<'a> {
         }
     }
 
-    /// Notes what goes on from before a gate.
-    fn note_going(&mut self, place: u32) {
-        let flow = self.flow(place);
+    /// Notes what goes on from before a gate, once all is noted that came there.
+    fn note_going(&mut self, place: u32, flow: &GateFlow) {
         let goes = u32::from(flow.through)
             .saturating_add(flow.first_down)
             .saturating_add(flow.second_down);
         if let Some(spot) = self.spots.get_mut(place as usize) {
             spot.excess = spot.excess.saturating_sub(goes);
-            spot.waits = spot.waits && (flow.through || place < self.latches);
+            spot.waits = spot.waits && flow.through;
         }
     }
 }

@@ -1,0 +1,61 @@
+//! Which pulses go to the crew: those in which so many nodes are active that a fork costs less than it gains, and the first of a flow that begins at
+//! the sources of a small circuit.
+
+use crate::nodes::Nodes;
+use crate::parts::{Delivery, Part};
+use aig_graph::NoMemory;
+use pulse::{Crew, PhaseGate};
+use std::alloc::Global;
+
+/// So many active nodes make a pulse worth its two forks.
+const MANY_ACTIVE: usize = 4096;
+
+/// A circuit of at most so many latches and gates is small.
+const FEW_PLACES: usize = 1024;
+
+/// How the pulses of a flow are shared out among the workers of a crew, each of which passes its gate.
+#[derive_where(Clone, Copy)]
+pub(crate) struct Sharing<'a, G> {
+    pub gate: &'a G,
+    pub workers: u32,
+    /// Whether the flow begins at the sources, and the crew makes the first pulse, however few nodes are active.
+    pub from_sources: bool,
+}
+
+impl<'a, G: PhaseGate> Sharing<'a, G> {
+    /// How a crew shares the flow of a circuit of so many latches and gates, where it is the first of a run or not.
+    pub fn of(crew: &'a Crew<G>, places: usize, is_first: bool) -> Sharing<'a, G> {
+        let workers = crew.workers();
+        Sharing {
+            gate: crew.gate(),
+            workers,
+            from_sources: is_first && workers > 1 && places <= FEW_PLACES,
+        }
+    }
+
+    /// Whether the pulse with this number goes to the crew.
+    pub fn is_handed(self, number: u64, actives: &Nodes) -> bool {
+        let is_first = self.from_sources && number == 0;
+        self.workers > 1 && (is_first || actives.count() >= MANY_ACTIVE)
+    }
+}
+
+/// The parts of a pulse, and what is delivered of each.
+#[derive(Drop)]
+pub(crate) struct Parts {
+    pub parts: Vec<Part>,
+    pub deliveries: Vec<Delivery>,
+}
+
+impl Parts {
+    /// A part for each of so many workers that share so many places.
+    pub fn among(alloc: Global, workers: u32, places: usize) -> Result<Parts, NoMemory> {
+        let mut parts = Vec::with_capacity(alloc, workers as usize)?;
+        let mut deliveries = Vec::with_capacity(alloc, workers as usize)?;
+        for worker in 0..workers {
+            parts.push(Part::of(alloc, worker, workers, places))?;
+            deliveries.push(Delivery::none(alloc))?;
+        }
+        Ok(Parts { parts, deliveries })
+    }
+}
