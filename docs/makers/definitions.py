@@ -4,10 +4,11 @@ import dataclasses
 import re
 
 import tree
-from marks import TOP, NotMade, text_of
+from marks import NotMade, text_of
 
 SOURCE = 'docs/words.txt'
-HEAD = re.compile(r'( *)(?=(?:abbrev |unfoldable )?pub )((?:(?:abbrev|unfoldable|pub) )+)(?:(record|data) )?(?!mod |module |use )(\S+)')
+# The head of a definition: its indent, how it is declared, whether it is a record or data, and its name.
+HEAD = re.compile(r'( *)((?:abbrev |unfoldable )?pub (?:abbrev |unfoldable )?)(?:(record|data) )?(?!mod |module |use )(\S+)')
 # The most characters of a definition that is shown, and of a word with its parameters.
 LONGEST_DEFINITION = 160
 LONGEST_HEAD = 60
@@ -60,11 +61,11 @@ class Word:
 
 
 def comment_above(lines, number):
-    """The comment that ends just before a line, in one line, and where it begins."""
+    """The comment that ends just before a line, in one line."""
     begin = number
     while begin and re.match(r' *--', lines[begin - 1]):
         begin -= 1
-    return ' '.join(re.sub(r'^ *--+ ?', '', line).strip() for line in lines[begin:number]).strip(), begin
+    return ' '.join(re.sub(r'^ *--+ ?', '', line).strip() for line in lines[begin:number]).strip()
 
 
 def head_at(line):
@@ -85,7 +86,7 @@ def members_of(lines):
     """The members of a record or of data that have a comment, each with it."""
     for number, line in enumerate(lines):
         member = re.match(r' +(?:pub )?(\S+) :', line)
-        comment = comment_above(lines, number)[0]
+        comment = comment_above(lines, number)
         if member and comment:
             yield member[1], comment
 
@@ -101,10 +102,11 @@ class File:
 def file_of(crate, path):
     """What a file has."""
     lines = path.read_text(encoding='utf-8').splitlines()
-    first = next((number for number, line in enumerate(lines) if not line.startswith('--')), 0)
-    file = File(path.stem, '' if head_at(lines[first]) else comment_above(lines, first)[0], [])
+    first = next((number for number, line in enumerate(lines) if not line.startswith('--')), len(lines))
+    is_of_word = first < len(lines) and head_at(lines[first])
+    file = File(path.stem, '' if is_of_word else comment_above(lines, first), [])
     for number, line in enumerate(lines):
-        found, comment = head_at(line), comment_above(lines, number)[0]
+        found, comment = head_at(line), comment_above(lines, number)
         if found:
             body = lines_of(lines, number, found[1])
             file.parts.append(Word(crate, path.stem, found[4], found[3] or '', comment, body, list(members_of(body)) if found[3] else []))
@@ -126,8 +128,6 @@ def by_hand():
     abouts, texts = {}, {}
     for part in re.split(r'(?m)^== ', text_of(SOURCE))[1:]:
         crate, _, rest = part.partition('\n')
-        if crate not in tree.crates():
-            raise NotMade(f'{SOURCE}: there is no crate {crate}')
         for line in re.sub(r'\n  +', ' ', rest).splitlines():
             name, colon, text = line.partition(': ')
             if name == 'about':
@@ -153,11 +153,12 @@ def key_of(word, texts):
 
 def faults():
     """Words that have neither a comment nor a text by hand; and texts by hand of words with a comment, or of none."""
-    _, texts = by_hand()
+    abouts, texts = by_hand()
     bare = [word for word in words() if not word.comment]
     taken = {key_of(word, texts) for word in bare}
     yield 'words of specs/ have a comment', [f'{it.crate}.{it.file}.{it.name}' for it in bare if not key_of(it, texts)]
     yield f'{SOURCE} has words without a comment alone', ['.'.join(key) for key in texts if key not in taken]
+    yield f'{SOURCE} has crates of crates.txt', sorted(set(abouts) - set(tree.crates()))
 
 
 def line_of(word, texts):

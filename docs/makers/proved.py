@@ -1,0 +1,57 @@
+"""The crates of docs/PROVED.md: of each public call the first sentence of its doc comment and its clauses, with the words that they cite;
+and what docs/claims.txt says of a crate beside them."""
+import re
+
+import tree
+from marks import text_of
+
+SOURCE = 'docs/claims.txt'
+# The most characters of a clause that cites no word and is shown as it is.
+LONGEST_CLAUSE = 60
+
+
+def beside():
+    """By crate what is said of it by hand."""
+    return dict(part.split('\n', 1) for part in re.split(r'(?m)^== ', text_of(SOURCE))[1:])
+
+
+def sentence(doc):
+    """The first sentence of a doc comment, with names in place of links."""
+    doc = re.sub(r'\[(`[^`]*`)\](?:\([^)]*\))?', r'\1', ' '.join(doc.split(' # ')[0].split()))
+    return re.match(r'(?:.*?(?<! al)\.(?= [A-Z`]|$)|.*)', doc)[0]
+
+
+def shown(clause):
+    """A clause: its name, and the words that it cites or, if it cites none and is short, its text."""
+    said = ', '.join(f'`{word}`' for word in clause.cites)
+    if not said and len(clause.text) <= LONGEST_CLAUSE:
+        said = f'`{clause.text}`'
+    return f'`{clause.name}` ({said})' if clause.name and said else f'`{clause.name}`' if clause.name else said
+
+
+def line_of(function):
+    """What is said of a call."""
+    name = '::'.join(part for part in (function.owner, function.name) if part)
+    parts = [f'- `{name}`: {sentence(function.doc)}' if function.doc else f'- `{name}`.']
+    for kind in ('requires', 'ensures'):
+        clauses = dict.fromkeys(text for text in map(shown, (it for it in function.clauses if it.kind == kind)) if text)
+        parts += [f'{kind.capitalize()} {", ".join(clauses)}.'] if clauses else []
+    return ' '.join(parts)
+
+
+def calls():
+    """The sections of all crates but those of tests, under the headings of crates.txt."""
+    notes, lines = beside(), []
+    for heading, crates in tree.map_of_crates()[0]:
+        crates = [crate for crate in crates if not crate.endswith('_tests')]
+        lines += [f'# {heading}', ''] if crates else []
+        for crate in crates:
+            functions = [line_of(function) for function in tree.exported_functions(crate)]
+            lines += [f'## `{crate}`', '', *functions, *([''] if functions else [])]
+            lines += [notes[crate].strip(), ''] if crate in notes else []
+    return '\n'.join(lines) + '\n'
+
+
+def faults():
+    """Crates of docs/claims.txt that aren't there."""
+    yield f'{SOURCE} has crates of crates.txt', sorted(set(beside()) - set(tree.crates()))
