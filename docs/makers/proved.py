@@ -1,8 +1,9 @@
-"""The crates of docs/PROVED.md: of each public call the first sentence of its doc comment and its clauses, with the words that they cite;
-and what docs/claims.txt says of a crate beside them."""
+"""The crates of docs/PROVED.md: what each is, by the head of its lib; of each public call the first sentence of its doc comment and its
+clauses, with the words that they cite; and what docs/claims.txt says of a crate beside them."""
 import re
 
 import tree
+from crates import head, sentences
 from marks import text_of
 
 SOURCE = 'docs/claims.txt'
@@ -13,12 +14,6 @@ LONGEST_CLAUSE = 60
 def beside():
     """By crate what is said of it by hand."""
     return dict(part.split('\n', 1) for part in re.split(r'(?m)^== ', text_of(SOURCE))[1:])
-
-
-def sentence(doc):
-    """The first sentence of a doc comment, with names in place of links."""
-    doc = re.sub(r'\[(`[^`]*`)\](?:\([^)]*\))?', r'\1', ' '.join(doc.split(' # ')[0].split()))
-    return re.match(r'(?:.*?(?<! al)\.(?= [A-Z`]|$)|.*)', doc)[0]
 
 
 def shown(clause):
@@ -32,24 +27,27 @@ def shown(clause):
 def line_of(function):
     """What is said of a call."""
     name = '::'.join(part for part in (function.owner, function.name) if part)
-    parts = [f'- `{name}`: {sentence(function.doc)}' if function.doc else f'- `{name}`.']
+    parts = [f'- `{name}`: {sentences(function.doc)[0]}' if function.doc else f'- `{name}`.']
     for kind in ('requires', 'ensures'):
         clauses = dict.fromkeys(text for text in map(shown, (it for it in function.clauses if it.kind == kind)) if text)
         parts += [f'{kind.capitalize()} {", ".join(clauses)}.'] if clauses else []
     return ' '.join(parts)
 
 
+def section(crate, notes):
+    """The paragraphs of a crate: what it is, its calls, and what is said beside them."""
+    calls = '\n'.join(line_of(function) for function in tree.exported_functions(crate))
+    return [part for part in (f'## `{crate}`', *head(crate), calls, notes.strip()) if part]
+
+
 def calls():
     """The sections of all crates but those of tests, under the headings of crates.txt."""
-    notes, lines = beside(), []
+    notes, parts = beside(), []
     for heading, crates in tree.map_of_crates()[0]:
         crates = [crate for crate in crates if not crate.endswith('_tests')]
-        lines += [f'# {heading}', ''] if crates else []
-        for crate in crates:
-            functions = [line_of(function) for function in tree.exported_functions(crate)]
-            lines += [f'## `{crate}`', '', *functions, *([''] if functions else [])]
-            lines += [notes[crate].strip(), ''] if crate in notes else []
-    return '\n'.join(lines) + '\n'
+        parts += [f'# {heading}'] if crates else []
+        parts += [part for crate in crates for part in section(crate, notes.get(crate, ''))]
+    return '\n\n'.join(parts) + '\n'
 
 
 def faults():
