@@ -7,8 +7,6 @@ from crates import head, sentences
 from marks import text_of
 
 SOURCE = 'docs/claims.txt'
-# The most characters of a clause that cites no word and is shown as it is.
-LONGEST_CLAUSE = 60
 
 
 def beside():
@@ -17,11 +15,9 @@ def beside():
 
 
 def shown(clause):
-    """A clause: its name, and the words that it cites or, if it cites none and is short, its text."""
-    said = ', '.join(f'`{word}`' for word in clause.cites)
-    if not said and len(clause.text) <= LONGEST_CLAUSE:
-        said = f'`{clause.text}`'
-    return f'`{clause.name}` ({said})' if clause.name and said else f'`{clause.name}`' if clause.name else said
+    """A clause: its name, and the words that it cites or, if it cites none, its text."""
+    said = ', '.join(f'`{word}`' for word in clause.cites or [clause.text])
+    return f'`{clause.name}` ({said})' if clause.name else said
 
 
 def line_of(function):
@@ -29,7 +25,7 @@ def line_of(function):
     name = '::'.join(part for part in (function.owner, function.name) if part)
     parts = [f'- `{name}`: {sentences(function.doc)[0]}' if function.doc else f'- `{name}`.']
     for kind in ('requires', 'ensures'):
-        clauses = dict.fromkeys(text for text in map(shown, (it for it in function.clauses if it.kind == kind)) if text)
+        clauses = dict.fromkeys(shown(it) for it in function.clauses if it.kind == kind)
         parts += [f'{kind.capitalize()} {", ".join(clauses)}.'] if clauses else []
     return ' '.join(parts)
 
