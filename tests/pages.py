@@ -1,4 +1,4 @@
-"""The documents as text: their tables, the names that they give in backquotes, and the blocks of code that they show."""
+"""The documents as text: the names that they give in backquotes, and the blocks of code that they show."""
 import dataclasses
 import itertools
 import re
@@ -9,23 +9,6 @@ class Block:
     """A block of code: its lines, and the paragraph before it."""
     lines: list
     paragraph: str
-
-
-def tables(path):
-    """Each heading of a document that has a table, with the table's rows."""
-    heading, found = '', {}
-    for line in path.read_text().splitlines():
-        if line.startswith('## '):
-            heading = line[3:]
-        elif line.startswith('| `'):
-            found.setdefault(heading, []).append([cell.strip() for cell in line.strip('|').split(' | ')])
-    return found
-
-
-def sections(path):
-    """The headings of the second rank, each with the text up to the next one."""
-    parts = re.split(r'(?m)^## ', path.read_text())[1:]
-    return [part.split('\n', 1) for part in parts]
 
 
 def in_backquotes(text):

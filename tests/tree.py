@@ -1,7 +1,6 @@
-"""What the repository has, as text: the map of crates.txt, the functions that a crate exports with the words that their clauses
+"""What the repository has, as text: the map of crates.txt, the functions that a crate exports with their clauses and the words that these
 cite, its words, and its tests."""
 import dataclasses
-import functools
 import pathlib
 import re
 
@@ -10,13 +9,21 @@ CRATES = TOP / 'crates'
 
 
 @dataclasses.dataclass(frozen=True)
-class Function:
-    """An exported function: its crate, its file, its name, and the words of definitions that its clauses cite,
-    each with its crate."""
-    crate: str
-    path: pathlib.Path
+class Clause:
+    """A clause: `requires` or `ensures`, its name if it has one, its text, and the words of definitions that it cites, as they come."""
+    kind: str
     name: str
-    cites: frozenset
+    text: str
+    cites: tuple
+
+
+@dataclasses.dataclass(frozen=True)
+class Function:
+    """An exported function: its type or trait if it has one, its name, its doc comment in one line, and its clauses."""
+    owner: str
+    name: str
+    doc: str
+    clauses: tuple
 
 
 def map_of_crates():
@@ -82,46 +89,58 @@ def imported_words(text):
     return words
 
 
-def cited(clauses, words):
-    """Those of the words that stand in the clauses, each with its crate."""
-    return frozenset((words[word], word) for word in set(re.findall(r"(?<![\w'.])[A-Za-z_][\w'-]*", clauses)) & set(words))
+def cited(text, words):
+    """Those of the words that stand in a clause, but for the types of what it binds, in their order."""
+    text = re.sub(r'(?<= : )[^()]*\)', ')', text)
+    return tuple(dict.fromkeys(word for word in re.findall(r"(?<![\w'.])[A-Za-z_][\w'-]*", text) if word in words))
 
 
 def functions_of(crate, path):
     """The exported functions of a source: those at its top that the lib hands on or has, and the methods of types and traits that
-    it hands on."""
+    it hands on; of a program, which has no lib, its public functions."""
     exported, text = exported_names(crate), path.read_text()
-    words, owner, of_trait = imported_words(text), None, False
+    is_open = path.stem == 'lib' or not (CRATES / crate / 'src' / 'lib.rt').exists()
+    words, owner, of_trait = imported_words(text), '', False
     lines = text.splitlines()
     for number, line in enumerate(lines):
         block = re.match(r'(?:pub )?(impl|trait)\b(?:<[^{]*?>)? ?(?:(\w+)(?:<.*?>)? for )?(\w+)', line)
         if block:
             owner, of_trait = block[2] or block[3], block[1] == 'trait'
         elif line == '}':
-            owner, of_trait = None, False
+            owner, of_trait = '', False
         head = re.match(r'( *)(pub )?(?:const )?fn (\w+)', line)
-        if head and (head[2] or of_trait) and (path.stem == 'lib' or (owner or head[3]) in exported):
-            yield Function(crate, path, head[3], cited(clauses_after(lines, number, head[1]), words))
+        if head and (head[2] or of_trait) and (is_open or (owner or head[3]) in exported):
+            yield Function(owner, head[3], doc_above(lines, number), tuple(clauses_after(lines, number, head[1], words)))
 
 
-def clauses_after(lines, number, indent):
+def doc_above(lines, number):
+    """The doc comment above a line, in one line."""
+    begin = number
+    while begin and re.match(r' *(///|#\[)', lines[begin - 1]):
+        begin -= 1
+    return ' '.join(line.strip()[3:].strip() for line in lines[begin:number] if line.lstrip().startswith('///'))
+
+
+def clauses_after(lines, number, indent, words):
     """The clauses of the function whose head begins at this line."""
     found = []
-    for line in lines[number + 1:]:
-        if line in (f'{indent}{{', f'{indent}}}', f'{indent}{{}}') or line.strip().startswith('///'):
+    for line in lines[number:]:
+        is_over = re.match(r' *(///|fn |$)', line) if found else re.search(r'[{;]$', line)
+        if is_over or line in (f'{indent}{{', f'{indent}}}', f'{indent}{{}}'):
             break
-        if re.match(r' *(requires|ensures)\b', line):
-            found.append(re.sub(r'^ *(requires|ensures) *\w*', '', line))
-        elif found:
-            found.append(line)
-    return '\n'.join(found)
+        clause = re.match(r' *(requires|ensures) *(\w*) *(\{.*)', line)
+        if clause:
+            found.append([clause[1], clause[2], clause[3]])
+        elif found and not re.match(r' *//', line):
+            found[-1][2] += ' ' + line.strip()
+    for kind, name, text in found:
+        text = text.strip().removesuffix(';').removeprefix('{').removesuffix('}').strip()
+        yield Clause(kind, name, text, cited(text, words))
 
 
-@functools.cache
-def exported_functions():
-    """All functions that crates export, but for code of tests."""
-    return [function for crate in crates() for path in sources(crate) if not is_of_tests(path)
-            for function in functions_of(crate, path)]
+def exported_functions(crate):
+    """The functions that a crate exports, but for code of tests."""
+    return [function for path in sources(crate) if not is_of_tests(path) for function in functions_of(crate, path)]
 
 
 def crates_with_a_test():
@@ -130,13 +149,13 @@ def crates_with_a_test():
 
 
 def words_of_files():
-    """Every word of the tree's files but the documents, and of the paths of all files."""
+    """Every word of the tree's files but the documents and the texts that docs/make puts into them, and of the paths of all files."""
     words = set()
     for path in TOP.rglob('*'):
         place = path.relative_to(TOP)
         if path.is_file() and not {'.git', 'out', 'release'} & set(place.parts):
             words.update(re.findall(r'\w+', str(place)))
-            if path.suffix not in ('.md', '.aig', '.pyc'):
+            if path.suffix not in ('.md', '.aig', '.pyc') and not place.match('docs/*.txt'):
                 text = path.read_bytes().decode(errors='ignore')
                 words.update(re.findall(r"[A-Za-z_][\w'-]*", text))
                 words.update(re.findall(r'[A-Za-z_]\w*', text))
