@@ -59,7 +59,7 @@ returns g c =
     let D : Netlist → Type 0 = λ d. IsChosen options.choice d held set × AddsOne d held less new set in
     let narrowed = subst D c.in_ok-narrowed.ensures (c.in_ok-set.ensures.set, c.in_ok-set.ensures.certificate) in
     let H : List ℕ → Type 0 = λ js. BoundedLaw most js before × IsLook options.choice before before js old mid first × BreaksBound most before js first
-        × IsChosen options.choice (bounded most js before) js set × AddsOne (bounded most js before) js less new set in
+    × IsChosen options.choice (bounded most js before) js set × AddsOne (bounded most js before) js less new set in
     let all = subst H c.requires (law, c.in_ok-first.ensures, breaks.1, narrowed.0, narrowed.1) in
     let O : List ℕ → Type 0 = λ js. (found : Option Helping) → IsFoundOver before js set found → Finds options (Some most) before old new found in
     let finds : O held = subst O (sym c.requires) (λ found over. finds-within options before most set old mid less new first found all.0 all.1 all.2 c.forget_last.ensures all.3 all.4 over) in
