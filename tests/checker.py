@@ -224,9 +224,7 @@ def verify(c, blocks, bound):
     lines, c = [], cleaned(c)
     for k, block in enumerate(blocks):
         wrong = objection(c, block)
-        if wrong and bound is not None:
-            wrong = objection(c, block, bound)
-        if wrong:
+        if wrong and (bound is None or objection(c, block, bound)):
             return [*lines, f'block {k}: no, {wrong}'], 5
         lines.append(f'block {k}: yes, count {block.count}')
         saves = block.count < len(c.known())

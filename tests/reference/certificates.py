@@ -132,8 +132,8 @@ def audit(c, names, blocks, merge, bound):
         if k:
             c, held = cleaned(*moved(c, set(blocks[k - 1].gates), held))
         known, said = c.known_latches(), verdict(c, held, block, None)
-        if said != 'Yes' and bound is not None:
-            said = verdict(c, held, block, bound)
+        if bound is not None and verdict(c, held, block, bound) == 'Yes':
+            said = 'Yes'
         if said != 'Yes':
             return [*lines, f'block {k}: no, {said}'], 5, None
         lines.append(f'block {k}: yes, count {block.count}')

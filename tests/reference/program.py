@@ -22,7 +22,7 @@ PATHS = {'retime': 2, 'batch': 1, 'stat': 1, 'convert': 2, 'sim': 2, 'same': 3, 
 OPTIONS = {'retime': {'--ascii', '--binary', '--workers', '--frames', '--near', '--merge', '--levels', '--no-longer', '--keep', '--keep-latch', '--cert', '--map',
                       '--progress', '--quiet'},
            'verify': {'--keep', '--keep-latch', '--merge', '--levels', '--no-longer', '--out'},
-           'dot': {'--frame', '--merge', '--levels', '--no-longer', '--keep', '--keep-latch', '--around', '--depth'},
+           'dot': {'--frame', '--merge', '--keep', '--keep-latch', '--around', '--depth'},
            'batch': {'--ascii', '--binary', '--workers', '--frames', '--near', '--merge', '--levels', '--no-longer'}, 'convert': {'--ascii', '--binary'},
            'miter': {'--ascii', '--binary', '--certificate'}, 'lift': {'--ascii', '--binary'}, 'stat': {'--merge'}, 'witness': {'--merge'}, 'sim': {'--random', '--steps', '--seed', '--vcd'},
            'same': {'--random', '--steps', '--seed', '--kept'}}
@@ -107,8 +107,8 @@ def arguments(words):
         raise Ends(2, 'error: steps or a seed of no random sequences')
     if '--depth' in options and '--around' not in options:
         raise Ends(2, 'error: a depth of no neighbourhood')
-    if command == 'dot' and {'--merge', '--levels', '--no-longer'} & set(options) and '--frame' not in options:
-        raise Ends(2, 'error: an option of a frame without --frame')
+    if command == 'dot' and '--merge' in options and '--frame' not in options:
+        raise Ends(2, 'error: --merge without --frame')
     outputs = paths[-1:] if command in WRITING else []
     if (paths[:len(paths) - len(outputs)] + options.get('--kept', []) + options.get('--out', [])).count('-') > 1:
         raise Ends(2, 'error: standard input is read once')
@@ -382,7 +382,7 @@ def drawn_circuit(c, path, options):
         held = held_latches(c, names)
         if '--frame' not in options:
             return c, held, None
-        frame = frames_of(c, 1, names, merge='--merge' in options, bound=bound_of(options, c))[0]
+        frame = frames_of(c, 1, names, merge='--merge' in options)[0]
     except NoSuchName as missing:
         raise no_such_name(path, c, missing.args[0]) from missing
     except NoSuchLatch as missing:
