@@ -4,7 +4,7 @@ _fretime_verilog() {
     local word=${COMP_WORDS[COMP_CWORD]}
     COMPREPLY=()
     case ${COMP_WORDS[COMP_CWORD - 1]} in
-        -D | -P | --clock | --keep | --frames | --seconds) return ;;
+        -D | -P | --clock | --keep | --frames | --levels | --seconds) return ;;
         -I)
             compopt -o filenames 2> /dev/null
             mapfile -t COMPREPLY < <(compgen -d -- "$word")
@@ -13,7 +13,7 @@ _fretime_verilog() {
     esac
     case $word in
         -*)
-            mapfile -t COMPREPLY < <(compgen -W "-o -I -D -P --zero --clock --keep --near --merge --frames --seconds --program --help" -- "$word")
+            mapfile -t COMPREPLY < <(compgen -W "-o -I -D -P --zero --clock --keep --near --merge --frames --no-longer --levels --seconds --program --help" -- "$word")
             ;;
         *)
             compopt -o filenames 2> /dev/null

@@ -10,6 +10,8 @@ complete -c fretime_verilog -x -l keep -d 'a register or a bit of one that stays
 complete -c fretime_verilog -l near -d 'each frame takes the smallest of its least sets'
 complete -c fretime_verilog -l merge -d 'merges registers that always agree, before anything moves'
 complete -c fretime_verilog -x -l frames -d 'the most frames that are taken'
+complete -c fretime_verilog -l no-longer -d 'no path between registers gets more gates than the longest one has'
+complete -c fretime_verilog -x -l levels -d 'no move makes a path of more than N gates'
 complete -c fretime_verilog -x -l seconds -d 'how long the check may take, 60 by default'
 complete -c fretime_verilog -r -l program -d 'fretime, else that of this repository, else that of PATH'
 complete -c fretime_verilog -s h -l help -d 'show this help message and exit'

@@ -2,11 +2,11 @@
 """Checks a file of certificates for a circuit, by docs/CERTIFICATES.md alone: it shares no code with the program, nor with the
 reference model.
 
-usage: tests/checker.py IN CERT [--keep NAME]... [--keep-latch PLACE]... [--merge]
+usage: tests/checker.py IN CERT [--keep NAME]... [--keep-latch PLACE]... [--merge] [--levels N | --no-longer]
 
 Prints a line for each block, then how the blocks end. The status is 0 where each block shows that its set is least, 5 where one
-doesn't or blocks follow the end, 1 where a file is refused, 3 where one can't be read. The word `verify` may stand before IN, as
-in the cases.
+doesn't or blocks follow the end, 1 where a file is refused, 3 where one can't be read. Under a bound on levels a set may be least among
+those whose gates arrive within it. The word `verify` may stand before IN, as in the cases.
 """
 import argparse
 import heapq
@@ -46,13 +46,32 @@ class Circuit:
     def held(self):
         return {v for v, latch in self.latches.items() if latch.held}
 
-    def passable(self):
-        """The gates that rest on known latches alone, of which none is held."""
+    def passable(self, bound=None):
+        """The gates that rest on known latches alone, of which none is held; under a bound, those that arrive within it."""
         passed = self.known() - self.held()
+        arrivals = None if bound is None else self.arrivals()
         for v, fan_ins in self.gates.items():
-            if all(lit // 2 in passed for lit in fan_ins):
+            if all(lit // 2 in passed for lit in fan_ins) and (bound is None or arrivals[v] <= bound):
                 passed.add(v)
         return passed & self.gates.keys()
+
+    def heights(self, start):
+        """How many gates stand one above the other up to each variable; what is no gate is as high as it starts."""
+        found = dict(start)
+        for v, (a, b) in self.gates.items():
+            found[v] = 1 + max(found.get(a // 2, 0), found.get(b // 2, 0))
+        return found
+
+    def levels(self):
+        """The number of gates on the longest path to a latch or a property."""
+        heights = self.heights({})
+        read = [latch.next_lit for latch in self.latches.values()] + self.properties
+        return max((heights.get(lit // 2, 0) for lit in read), default=0)
+
+    def arrivals(self):
+        """How high the paths to each variable are, counted from behind the latches' next literals."""
+        heights = self.heights({})
+        return self.heights({v: heights.get(latch.next_lit // 2, 0) for v, latch in self.latches.items()})
 
     def read_outside(self, members):
         """The variables that a gate outside a set reads, a next literal, or a property; and what is held."""
@@ -171,9 +190,9 @@ def moved(c, members):
 
 # What a block shows.
 
-def objection(c, block):
-    """Why a block doesn't show that its gates are a least set with its count, or None."""
-    members, known, passable = set(block.gates), c.known(), c.passable()
+def objection(c, block, bound=None):
+    """Why a block doesn't show that its gates are a least set with its count, or None; under a bound, least among sets within it."""
+    members, known, passable = set(block.gates), c.known(), c.passable(bound)
     within = members | c.latches.keys()
     fan_ins = {v: {lit // 2 for lit in lits} for v, lits in c.gates.items()}
     outside = c.read_outside(passable)
@@ -200,12 +219,12 @@ def objection(c, block):
     return None if block.count == len(c.border(members)) == len(block.routes) else 'CountDiffers'
 
 
-def verify(c, blocks):
+def verify(c, blocks, bound):
     """What there is to print, and the status."""
     lines, c = [], cleaned(c)
     for k, block in enumerate(blocks):
         wrong = objection(c, block)
-        if wrong:
+        if wrong and (bound is None or objection(c, block, bound)):
             return [*lines, f'block {k}: no, {wrong}'], 5
         lines.append(f'block {k}: yes, count {block.count}')
         saves = block.count < len(c.known())
@@ -396,14 +415,18 @@ def main(words):
     parser.add_argument('--keep', metavar='NAME', action='append', default=[], help='a latch with this name is held')
     parser.add_argument('--keep-latch', metavar='PLACE', action='append', default=[], type=int, help='the latch at this place, from 0, is held')
     parser.add_argument('--merge', action='store_true', help='latches that always agree were merged before the first frame')
+    bounds = parser.add_mutually_exclusive_group()
+    bounds.add_argument('--levels', metavar='N', type=int, help='moves made no path longer than N gates')
+    bounds.add_argument('--no-longer', action='store_true', help='moves made no path longer than the longest of IN')
     given = parser.parse_args(words[1:] if words[:1] == ['verify'] else words)
     names = [os.fsencode(name) for name in given.keep]
     try:
         c, name_of = read(given.circuit, read_circuit)
         blocks = read(given.certificates, read_blocks)
         hold(given.circuit, c, name_of, names, given.keep_latch)
+        bound = c.levels() if given.no_longer else given.levels
         c = merged(cleaned(c)) if given.merge else c
-        lines, status = verify(c, blocks)
+        lines, status = verify(c, blocks, bound)
         if not blocks:
             print(f'{given.certificates}: no certificate: nothing was checked', file=sys.stderr)
     except Refused as fault:

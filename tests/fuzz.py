@@ -83,10 +83,11 @@ def content(name):
 
 
 def options(rng, c):
-    """A number of workers, and at random a spelling, a limit of frames, and names and places of latches, one of which may be missing."""
+    """A number of workers, and at random a spelling, a limit of frames, a bound on levels, and names and places of latches, one of which may
+    be missing."""
     words = ['--workers', str(rng.choice(WORKERS))] + rng.choice([[], [], ['--ascii'], ['--binary']])
     words += rng.choice([[], [], ['--frames', str(rng.randint(1, 3))]]) + rng.choice([[], ['--near']])
-    words += rng.choice([[], ['--merge']])
+    words += rng.choice([[], ['--merge']]) + rng.choice([[], [], [], ['--no-longer'], [f'--levels={rng.randint(0, 6)}']])
     names = sorted({name for name in c.symbols['l'].values() if name.isascii()})
     if rng.random() < 0.4:
         names = rng.sample(names, rng.randint(0, len(names))) + ([b'no latch'] if rng.random() < 0.1 else [])
@@ -133,8 +134,15 @@ def both_least_sets_agree(c):
     held = set() if len(c.latches) % 2 else held_latches(c, list(c.symbols['l'].values())[:1])
     if len(passable(c)) > 8:
         return True
-    by_flow = greatest_least_by_flow(c, held), smallest_least_by_flow(c, held)
-    return by_flow == (least_of_all(c, held, smallest=False), least_of_all(c, held, smallest=True))
+    return all((greatest_least_by_flow(c, held, bound), smallest_least_by_flow(c, held, bound))
+               == (least_of_all(c, held, False, bound), least_of_all(c, held, True, bound)) for bound in (None, c.levels(), 1))
+
+
+def keeps_bound(c, words, retimed):
+    """Whether no path of the written circuit is longer than the bound, or the longest that was read."""
+    bounds = [c.levels()] + [int(word.removeprefix('--levels=')) for word in words if word.startswith('--levels=')]
+    has_bound = len(bounds) > 1 or '--no-longer' in words
+    return not has_bound or read(retimed)[0].levels() <= max(bounds)
 
 
 def compare_small(rng, comparison):
@@ -153,6 +161,7 @@ def compare_small(rng, comparison):
     comparison.run(['sim', 'in', 'stim', '--vcd', 'OUT'], {'in': data, 'stim': stim})
     comparison.run(['sim', 'in', *random_sequences(rng), *rng.choice([[], ['--vcd', 'OUT']])], {'in': data})
     if retimed:
+        comparison.count(keeps_bound(c, words, retimed), f'levels by {words} of {data}: {retimed}')
         comparison.run(['same', 'in', 'other', 'stim'], {'in': data, 'other': retimed, 'stim': stim})
         comparison.run(['same', 'in', 'other', *random_sequences(rng)], {'in': data, 'other': retimed})
         kept = {'in': data, 'other': retimed, 'kept': kept_latches(rng, c, read(retimed)[0])}
@@ -170,7 +179,7 @@ def compare_certificates(rng, comparison):
     retimed = comparison.run(['retime', 'in', 'OUT', *words, '--cert', 'CERT'], {'in': data})
     if not retimed:
         return
-    held = [word for word in words if word.startswith('--keep') or word == '--merge']
+    held = [word for word in words if word.startswith(('--keep', '--levels')) or word in ('--merge', '--no-longer')]
     texts = [content(OWN[who]['CERT']) for who in OWN]
     both = [[line for line in (text or b'').split(b'\n') if line[:2] != b'r '] for text in texts]
     comparison.count(both[0] == both[1], f'certificates {words} on {data}\n{both}')

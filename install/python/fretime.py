@@ -101,19 +101,21 @@ def run(words: Iterable[str | os.PathLike[str]], input: bytes = b'', *, seconds:
 
 
 def retime(circuit: bytes, *, near: bool = False, merge: bool = False, keep: Iterable[str] = (), keep_latch: Iterable[int] = (),
-           frames: int | None = None, workers: int = 1, ascii: bool | None = None, certificates: bool = False, map: bool = False,
-           seconds: float | None = None) -> Retimed:
+           frames: int | None = None, levels: int | None = None, no_longer: bool = False, workers: int = 1, ascii: bool | None = None,
+           certificates: bool = False, map: bool = False, seconds: float | None = None) -> Retimed:
     """The circuit with its latches moved forward, frame by frame, until no move leaves fewer.
 
     `near` takes the smallest of a frame's least sets, `merge` merges latches that always agree before the first frame, `keep` holds
-    the latches with these names, `keep_latch` those at these places, from 0; `frames` is the most that are taken, `ascii` chooses the
-    spelling (that of the circuit where it is None), `certificates` and `map` ask for these. A run of over `seconds` raises
+    the latches with these names, `keep_latch` those at these places, from 0. `frames` is the most that are taken, `levels` the most
+    gates on a path that a move makes; `no_longer` takes those of the circuit's longest path for it. `ascii` chooses the spelling (that
+    of the circuit where it is None), `certificates` and `map` ask for these. A run of over `seconds` raises
     subprocess.TimeoutExpired. A circuit that is refused, a name or place of no latch, or want of memory raises RetimeError.
     """
     words = ['retime', '-', '-', '--json', '--quiet', '--workers', str(workers)]
     words += ['--near'] * near + ['--merge'] * merge
     words += [f'--keep={name}' for name in keep] + [f'--keep-latch={place}' for place in keep_latch]
     words += [] if frames is None else ['--frames', str(frames)]
+    words += ['--no-longer'] * no_longer + ([] if levels is None else ['--levels', str(levels)])
     words += [] if ascii is None else ['--ascii' if ascii else '--binary']
     with tempfile.TemporaryDirectory(prefix='fretime-') as folder:
         text, states = pathlib.Path(folder, 'certificates'), pathlib.Path(folder, 'map')

@@ -20,10 +20,10 @@ class Block:
     routes: list
 
 
-def routes_of(c, held):
+def routes_of(c, held, bound):
     """The units of a maximum flow, each followed from the source to the sink along arcs that it uses up."""
-    residual = maximum_flow(c, held)[1]
-    units = {tail: {head: room - residual[tail][head] for head, room in heads.items()} for tail, heads in arcs_of(c, held).items()}
+    residual = maximum_flow(c, held, bound)[1]
+    units = {tail: {head: room - residual[tail][head] for head, room in heads.items()} for tail, heads in arcs_of(c, held, bound).items()}
     routes = []
     for first in [head for head, unit in units['source'].items() if unit]:
         points = [first]
@@ -35,9 +35,10 @@ def routes_of(c, held):
     return routes
 
 
-def certificates(c, most, names, smallest, merge):
+def certificates(c, most, names, smallest, merge, bound):
     """A block for each frame, and one for the last circuit where the limit of frames didn't end the run."""
-    return [Block(count, sorted(members), routes_of(d, held)) for d, held, count, members in frames_of(c, most, names, smallest, merge)]
+    return [Block(frame.count, sorted(frame.members), routes_of(frame.circuit, frame.held, frame.bound))
+            for frame in frames_of(c, most, names, smallest, merge, bound)]
 
 
 def written(choice, blocks):
@@ -95,8 +96,7 @@ def read_blocks(data):
     return blocks
 
 
-def is_route(c, held, points):
-    inside = set(passable(c, held))
+def is_route(c, held, inside, points):
     if points[0][1] != '+' or not c.is_known(points[0][0]):
         return False
     for (v, side), (w, next_side) in zip(points, points[1:]):
@@ -108,13 +108,13 @@ def is_route(c, held, points):
     return points[-1][1] == '+' and points[-1][0] in read_outside(c, inside, held)
 
 
-def verdict(c, held, block):
+def verdict(c, held, block, bound):
     """The first objection to a block, or Yes."""
-    gates, inside = block.gates, set(passable(c, held))
+    gates, inside = block.gates, set(passable(c, held, bound))
     rises = all(v < w for v, w in zip(gates, gates[1:])) and inside.issuperset(gates)
     if not rises or not all(c.latch(lit // 2) or lit // 2 in gates for v in gates for lit in c.gate(v)):
         return 'NotClosed'
-    if not all(is_route(c, held, points) for points in block.routes):
+    if not all(is_route(c, held, inside, points) for points in block.routes):
         return 'BadRoute'
     after = [v for points in block.routes for v, side in points if side == '+']
     if len(set(after)) < len(after):
@@ -122,7 +122,7 @@ def verdict(c, held, block):
     return 'Yes' if {block.count} == {len(border(c, set(gates), held)), len(block.routes)} else 'CountDiffers'
 
 
-def audit(c, names, blocks, merge):
+def audit(c, names, blocks, merge, bound):
     """The printed lines, the status, and the circuit that the blocks end in, None where something speaks against one."""
     c, held = start_of(c, held_latches(c, names), merge)
     lines, known = [], None
@@ -131,7 +131,9 @@ def audit(c, names, blocks, merge):
             return [*lines, 'blocks follow the end'], 5, None
         if k:
             c, held = cleaned(*moved(c, set(blocks[k - 1].gates), held))
-        known, said = c.known_latches(), verdict(c, held, block)
+        known, said = c.known_latches(), verdict(c, held, block, None)
+        if bound is not None and verdict(c, held, block, bound) == 'Yes':
+            said = 'Yes'
         if said != 'Yes':
             return [*lines, f'block {k}: no, {said}'], 5, None
         lines.append(f'block {k}: yes, count {block.count}')

@@ -55,6 +55,27 @@ class Circuit:
         justice = [lit for lits in self.justice for lit in lits]
         return self.outputs + self.bad + self.constraints + justice + self.fairness
 
+    def levels_over(self, levels):
+        """The level of each variable, where those of inputs, latches and the constant are given: a gate is one above its fan-ins."""
+        levels = list(levels)
+        for a, b in self.gates:
+            levels.append(1 + max(levels[a // 2], levels[b // 2]))
+        return levels
+
+    def variable_levels(self):
+        return self.levels_over([0] * self.first_gate())
+
+    def levels(self):
+        """How many gates are on the longest path to a latch or a property."""
+        levels = self.variable_levels()
+        return max((levels[lit // 2] for lit in [next_lit for next_lit, _ in self.latches] + self.properties()), default=0)
+
+    def arrivals(self):
+        """The level of what a latch behind each variable would be fed by, if latches moved over it and all gates below it."""
+        levels = self.variable_levels()
+        nexts = [levels[next_lit // 2] for next_lit, _ in self.latches]
+        return self.levels_over([0] * self.first_latch() + nexts)
+
     def shape(self, kept=None):
         """What circuits that are compared have in common; of free latches those at these places alone, where there is a list."""
         sizes = [len(lits) for lits in self.justice]

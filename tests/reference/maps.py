@@ -71,13 +71,13 @@ class StateMap:
         return m
 
 
-def state_map(c, most=None, names=(), smallest=False, merge=False):
+def state_map(c, most=None, names=(), smallest=False, merge=False, bound=None):
     """The map of the retiming of c, and what it is retimed to."""
     m = StateMap(c)
     d, held = m.clean(c, held_latches(c, names))
     if merge:
         d, held = m.clean(m.merge(d, held), held)
-    for _, _, count, members in frames_of(c, most, names, smallest, merge):
-        if count < d.known_latches():
-            d, held = m.clean(*m.move(d, members, held))
+    for frame in frames_of(c, most, names, smallest, merge, bound):
+        if frame.saves():
+            d, held = m.clean(*m.move(d, frame.members, held))
     return m.circuit(c.symbols['l'], d.symbols['l']), d

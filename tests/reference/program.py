@@ -19,18 +19,19 @@ from reference.witnesses import carried_text
 
 PATHS = {'retime': 2, 'batch': 1, 'stat': 1, 'convert': 2, 'sim': 2, 'same': 3, 'verify': 2, 'check': 3, 'miter': 4, 'lift': 5, 'dot': 2,
          'witness': 3}
-OPTIONS = {'retime': {'--ascii', '--binary', '--workers', '--frames', '--near', '--merge', '--keep', '--keep-latch', '--cert', '--map',
+OPTIONS = {'retime': {'--ascii', '--binary', '--workers', '--frames', '--near', '--merge', '--levels', '--no-longer', '--keep', '--keep-latch', '--cert', '--map',
                       '--progress', '--quiet'},
-           'verify': {'--keep', '--keep-latch', '--merge', '--out'},
+           'verify': {'--keep', '--keep-latch', '--merge', '--levels', '--no-longer', '--out'},
            'dot': {'--frame', '--merge', '--keep', '--keep-latch', '--around', '--depth'},
-           'batch': {'--ascii', '--binary', '--workers', '--frames', '--near', '--merge'}, 'convert': {'--ascii', '--binary'},
+           'batch': {'--ascii', '--binary', '--workers', '--frames', '--near', '--merge', '--levels', '--no-longer'}, 'convert': {'--ascii', '--binary'},
            'miter': {'--ascii', '--binary', '--certificate'}, 'lift': {'--ascii', '--binary'}, 'stat': {'--merge'}, 'witness': {'--merge'}, 'sim': {'--random', '--steps', '--seed', '--vcd'},
            'same': {'--random', '--steps', '--seed', '--kept'}}
 WRITING = {'retime', 'convert', 'dot', 'miter', 'lift'}
-GREATEST = {'--workers': 64, '--frames': 2**28, '--keep-latch': 2**28 - 1, '--depth': 100, '--random': 2**20, '--steps': 2**22, '--seed': 2**32 - 1}
-LEAST = {'--seed': 0, '--keep-latch': 0}
-VALUED = {'--workers', '--frames', '--keep', '--keep-latch', '--cert', '--map', '--out', '--certificate', '--around', '--depth', '--random',
+GREATEST = {'--workers': 64, '--frames': 2**28, '--keep-latch': 2**28 - 1, '--depth': 100, '--random': 2**20, '--steps': 2**22, '--seed': 2**32 - 1, '--levels': 2**32 - 1}
+LEAST = {'--seed': 0, '--keep-latch': 0, '--levels': 0}
+VALUED = {'--workers', '--frames', '--levels', '--keep', '--keep-latch', '--cert', '--map', '--out', '--certificate', '--around', '--depth', '--random',
           '--steps', '--seed', '--kept', '--vcd'}
+EXCLUSIVE = (('--ascii', '--binary'), ('--progress', '--quiet'), ('--levels', '--no-longer'))
 BESIDE = ('--map', '--cert', '--certificate', '--vcd')
 LINES = 2**20
 
@@ -100,7 +101,7 @@ def arguments(words):
             raise Ends(2, f'error: {name} {value}')
         options.setdefault(name, []).append(value)
     wanted = PATHS[command] - ('--random' in options)
-    if len(paths) != wanted or {'--ascii', '--binary'} <= set(options) or {'--progress', '--quiet'} <= set(options):
+    if len(paths) != wanted or any(set(both) <= set(options) for both in EXCLUSIVE):
         raise Ends(2, 'error: wrong arguments')
     if {'--steps', '--seed'} & set(options) and '--random' not in options:
         raise Ends(2, 'error: steps or a seed of no random sequences')
@@ -210,6 +211,11 @@ def held_by(options):
     return [os.fsencode(name) for name in options.get('--keep', [])] + [int(place) for place in options.get('--keep-latch', [])]
 
 
+def bound_of(options, c):
+    """The greatest number of gates on a path that a move may make; None where there is no bound."""
+    return c.levels() if '--no-longer' in options else int(options['--levels'][0]) if '--levels' in options else None
+
+
 def no_such_latch(path, place):
     return Ends(1, f'{source_name(path)}: NoSuchLatch {place}')
 
@@ -217,18 +223,18 @@ def no_such_latch(path, place):
 def retime(paths, options):
     c, letters = circuit_of(paths[0])
     most = int(options['--frames'][0]) if '--frames' in options else None
-    names, smallest, merge = held_by(options), '--near' in options, '--merge' in options
+    run = most, held_by(options), '--near' in options, '--merge' in options, bound_of(options, c)
     try:
-        d, frames = retimed(c, most, names, smallest, merge)
+        d, frames = retimed(c, *run)
     except NoSuchName as missing:
         raise no_such_name(paths[0], c, missing.args[0]) from missing
     except NoSuchLatch as missing:
         raise no_such_latch(paths[0], missing.args[0]) from missing
     write(paths[1], text(d, letters_of(options, letters)))
     for path in options.get('--map', []):
-        write(path, text(state_map(c, most, names, smallest, merge)[0], letters_of(options, letters)))
+        write(path, text(state_map(c, *run)[0], letters_of(options, letters)))
     for path in options.get('--cert', []):
-        write(path, written('smallest' if smallest else 'greatest', certificates(c, most, names, smallest, merge)))
+        write(path, written('smallest' if '--near' in options else 'greatest', certificates(c, *run)))
     lines = [f'frame {k + 1}: {before} to {after}\n' for k, (before, after) in enumerate(frames)]
     return 0, ''.join(lines) + f'latches {len(c.latches)} to {len(d.latches)}\n'
 
@@ -269,7 +275,7 @@ def batch(paths, options):
             ended = ended or 1
             say(f'{k + 1} refused {fault}\n')
             continue
-        d, _ = retimed(c, most, [], '--near' in options, '--merge' in options)
+        d, _ = retimed(c, most, [], '--near' in options, '--merge' in options, bound_of(options, c))
         write_file(output_path, text(d, letters_of(options, letters)))
         say(f'{k + 1} done {len(c.latches)} to {len(d.latches)}\n')
     return ended, ''
@@ -316,7 +322,7 @@ def verify(paths, options):
         raise Ends(1, f'{source_name(paths[1])}: {fault}') from fault
     outs = [bytes_of(path) for path in options.get('--out', [])]
     try:
-        lines, status, last = audit(c, held_by(options), blocks, '--merge' in options)
+        lines, status, last = audit(c, held_by(options), blocks, '--merge' in options, bound_of(options, c))
     except NoSuchName as missing:
         raise no_such_name(paths[0], c, missing.args[0]) from missing
     except NoSuchLatch as missing:
@@ -376,12 +382,12 @@ def drawn_circuit(c, path, options):
         held = held_latches(c, names)
         if '--frame' not in options:
             return c, held, None
-        d, held, count, members = frames_of(c, 1, names, merge='--merge' in options)[0]
+        frame = frames_of(c, 1, names, merge='--merge' in options)[0]
     except NoSuchName as missing:
         raise no_such_name(path, c, missing.args[0]) from missing
     except NoSuchLatch as missing:
         raise no_such_latch(path, missing.args[0]) from missing
-    return d, held, members if count < d.known_latches() else None
+    return frame.circuit, frame.held, frame.members if frame.saves() else None
 
 
 def dot(paths, options):

@@ -1,7 +1,8 @@
 """Retiming by definition: closed sets of gates, least ones found in two ways, latches moved over them, frame by frame."""
+import dataclasses
 import itertools
 
-from reference.circuit import FREE, ordered
+from reference.circuit import FREE, Circuit, ordered
 from reference.cleaning import cleaned
 from reference.merging import start_of
 
@@ -28,18 +29,19 @@ def held_latches(c, wanted):
     return {k for k, name in c.symbols['l'].items() if name in names} | set(places)
 
 
-def passable(c, held=frozenset()):
-    """Gates whose fan-ins all are known latches that aren't held, or such gates, in order."""
+def passable(c, held=frozenset(), bound=None):
+    """Gates whose fan-ins all are known latches that aren't held, or such gates, in order; under a bound those alone that arrive within it."""
     passed = {c.first_latch() + k for k in range(len(c.latches)) if c.is_known(c.first_latch() + k) and k not in held}
     for k, fan_ins in enumerate(c.gates):
         if all(lit // 2 in passed for lit in fan_ins):
             passed.add(c.first_gate() + k)
-    return sorted(var for var in passed if var >= c.first_gate())
+    arrivals = [] if bound is None else c.arrivals()
+    return sorted(var for var in passed if var >= c.first_gate() and (bound is None or arrivals[var] <= bound))
 
 
-def closed_sets(c, held):
+def closed_sets(c, held, bound):
     """All sets of passable gates that have each gate that a member reads."""
-    gates = passable(c, held)
+    gates = passable(c, held, bound)
     for size in range(len(gates) + 1):
         for chosen in itertools.combinations(gates, size):
             members = set(chosen)
@@ -60,18 +62,18 @@ def border(c, members, held):
     return [v for v in range(c.first_latch(), c.end()) if v in read and (c.is_known(v) or v in members)]
 
 
-def least_of_all(c, held, smallest):
+def least_of_all(c, held, smallest, bound):
     """By trying every closed set."""
-    sets = [(len(border(c, members, held)), members) for members in closed_sets(c, held)]
+    sets = [(len(border(c, members, held)), members) for members in closed_sets(c, held, bound)]
     least = min(count for count, _ in sets)
     sets = [members for count, members in sets if count == least]
     return least, set.intersection(*sets) if smallest else set.union(*sets)
 
 
-def arcs_of(c, held):
+def arcs_of(c, held, bound):
     """The flow network, node by node: heads with their capacities. A gate has a node for its fan-in side, '-', and one for its
     fan-out side, '+'; a latch has the latter alone."""
-    gates, unlimited = passable(c, held), len(c.latches) + 1
+    gates, unlimited = passable(c, held, bound), len(c.latches) + 1
     inside = set(gates)
     arcs = {'source': {}, 'sink': {}}
     for v in range(c.first_latch(), c.first_gate()):
@@ -113,10 +115,10 @@ def arcs_to(node, parent):
     return arcs
 
 
-def maximum_flow(c, held):
+def maximum_flow(c, held, bound):
     """By augmenting paths of one unit each: the units, and what room is left on each arc."""
-    residual = {tail: dict(heads) for tail, heads in arcs_of(c, held).items()}
-    for tail, heads in arcs_of(c, held).items():
+    residual = {tail: dict(heads) for tail, heads in arcs_of(c, held, bound).items()}
+    for tail, heads in arcs_of(c, held, bound).items():
         for head in heads:
             residual[head].setdefault(tail, 0)
     count, path = 0, path_to_sink(residual)
@@ -129,38 +131,38 @@ def maximum_flow(c, held):
     return count, residual
 
 
-def greatest_least_by_flow(c, held):
+def greatest_least_by_flow(c, held, bound):
     """The gates before which the sink can't be reached any more."""
-    count, residual = maximum_flow(c, held)
+    count, residual = maximum_flow(c, held, bound)
     reaching, queue = {'sink'}, ['sink']
     for node in queue:
         for tail in residual[node]:
             if residual[tail][node] and tail not in reaching:
                 reaching.add(tail)
                 queue.append(tail)
-    return count, {v for v in passable(c, held) if (v, '-') not in reaching}
+    return count, {v for v in passable(c, held, bound) if (v, '-') not in reaching}
 
 
-def smallest_least_by_flow(c, held):
+def smallest_least_by_flow(c, held, bound):
     """The gates whose fan-in side can be reached from the source still."""
-    count, residual = maximum_flow(c, held)
+    count, residual = maximum_flow(c, held, bound)
     reached, queue = {'source'}, ['source']
     for node in queue:
         for head, room in residual[node].items():
             if room and head not in reached:
                 reached.add(head)
                 queue.append(head)
-    return count, {v for v in passable(c, held) if (v, '-') in reached}
+    return count, {v for v in passable(c, held, bound) if (v, '-') in reached}
 
 
-def greatest_least(c, held=frozenset()):
-    few = len(passable(c, held)) <= MOST_ENUMERATED
-    return least_of_all(c, held, False) if few else greatest_least_by_flow(c, held)
+def greatest_least(c, held=frozenset(), bound=None):
+    few = len(passable(c, held, bound)) <= MOST_ENUMERATED
+    return least_of_all(c, held, False, bound) if few else greatest_least_by_flow(c, held, bound)
 
 
-def smallest_least(c, held=frozenset()):
-    few = len(passable(c, held)) <= MOST_ENUMERATED
-    return least_of_all(c, held, True) if few else smallest_least_by_flow(c, held)
+def smallest_least(c, held=frozenset(), bound=None):
+    few = len(passable(c, held, bound)) <= MOST_ENUMERATED
+    return least_of_all(c, held, True, bound) if few else smallest_least_by_flow(c, held, bound)
 
 
 def values_at_start(c):
@@ -206,26 +208,48 @@ def moved(c, members, held=frozenset()):
     return d, {staying.index(start + k) for k in held}
 
 
-def frames_of(c, most=None, names=(), smallest=False, merge=False):
-    """The circuit of each frame, its held latches, its least count and the set that is taken; and the same of the last circuit,
-    where the limit of frames didn't end the run."""
+@dataclasses.dataclass
+class Frame:
+    """A circuit, its held latches, its least count and the set that is taken; the bound is that within which the set is least, None where
+    it is least of all."""
+    circuit: Circuit
+    held: set
+    count: int
+    members: set
+    bound: int
+
+    def saves(self):
+        return self.count < self.circuit.known_latches()
+
+    def taken(self):
+        return cleaned(*moved(self.circuit, self.members, self.held))
+
+
+def frame_of(c, held, smallest, bound):
+    """The least set of all; where latches moved over it make a path longer than the bound, that of the gates that arrive within the bound."""
     least_set = smallest_least if smallest else greatest_least
+    frame = Frame(c, held, *least_set(c, held), None)
+    if bound is None or not frame.saves() or moved(c, frame.members, held)[0].levels() <= bound:
+        return frame
+    return Frame(c, held, *least_set(c, held, bound), bound)
+
+
+def frames_of(c, most=None, names=(), smallest=False, merge=False, bound=None):
+    """The frames, and the look at the last circuit, where the limit of frames didn't end the run."""
     found = []
     c, held = start_of(c, held_latches(c, names), merge)
     while most is None or len(found) < most:
-        count, members = least_set(c, held)
-        found.append((c, held, count, members))
-        if count >= c.known_latches():
+        found.append(frame_of(c, held, smallest, bound))
+        if not found[-1].saves():
             break
-        c, held = cleaned(*moved(c, members, held))
+        c, held = found[-1].taken()
     return found
 
 
-def retimed(c, most=None, names=(), smallest=False, merge=False):
+def retimed(c, most=None, names=(), smallest=False, merge=False, bound=None):
     """The retimed circuit, and for each frame its known latches before and the count of its set."""
-    found = frames_of(c, most, names, smallest, merge)
-    frames = [(d.known_latches(), count) for d, _, count, _ in found if count < d.known_latches()]
+    found = frames_of(c, most, names, smallest, merge, bound)
+    frames = [(frame.circuit.known_latches(), frame.count) for frame in found if frame.saves()]
     if not found:
         return start_of(c, held_latches(c, names), merge)[0], frames
-    d, held, count, members = found[-1]
-    return (cleaned(*moved(d, members, held))[0] if count < d.known_latches() else d), frames
+    return (found[-1].taken()[0] if found[-1].saves() else found[-1].circuit), frames
