@@ -2,8 +2,7 @@
 //! of texts: tests compare what is printed.
 #![tactic(auto)]
 
-pub const ABOUT: &str =
-    "Moves the latches of a sequential circuit forward so that fewer are left";
+pub const ABOUT: &str = "Moves the latches of a sequential circuit forward so that fewer are left";
 
 pub const LONG_ABOUT: &str =
     "Moves the latches of a sequential circuit forward so that fewer are left.
@@ -21,8 +20,7 @@ pub const EXAMPLE: &str = "Example:
 
 'fretime help COMMAND' says more.";
 
-pub const RETIME_ABOUT: &str =
-    "Moves latches forward over gates, frame by frame, until none helps";
+pub const RETIME_ABOUT: &str = "Moves latches forward over gates, frame by frame, until none helps";
 
 pub const RETIME_LONG_ABOUT: &str =
     "Reads a circuit, cleans it, moves latches forward over gates, frame by frame, as
@@ -128,8 +126,7 @@ Exit status: 0 all are confirmed, 1 a file is refused or IN has no such latch,
 2 command line, 3 device, 4 out of memory, 5 a certificate is rejected or OUT
 differs.";
 
-pub const CHECK_ABOUT: &str =
-    "Checks by a map of states that a circuit is a retiming of another";
+pub const CHECK_ABOUT: &str = "Checks by a map of states that a circuit is a retiming of another";
 
 pub const CHECK_LONG_ABOUT: &str =
     "Reads a circuit, the circuit that was made of it, and a map of the states of the
@@ -184,8 +181,7 @@ MITER is made at its first byte: where something is refused, it stays as it was.
 Exit status: 0 done, 1 a file is refused, MAP is no map, or shapes differ,
 2 command line, 3 device, 4 out of memory.";
 
-pub const LIFT_ABOUT: &str =
-    "Carries a proof of a retimed circuit back to what it was made of";
+pub const LIFT_ABOUT: &str = "Carries a proof of a retimed circuit back to what it was made of";
 
 pub const LIFT_LONG_ABOUT: &str =
     "Reads a circuit, the circuit that was made of it, a map of the states of the one

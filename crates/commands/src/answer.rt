@@ -13,7 +13,6 @@ ghost use Rattle.commands.specs.RetimingTasks.{AreOptionsOf, HasFailed, IsFailur
 use crate::holding::missing_latch;
 use aig_binary::SpeltCircuit;
 use aig_graph::{Circuit, NoMemory};
-use path_levels::levels;
 use circuit_files::{Failure, LazyFile};
 use command_endings::missing_name;
 use command_line::Retiming;
@@ -25,6 +24,7 @@ use mapped_answers::{
     HeldError, HeldMapError, HeldOptions, Mapped, SpeltMap, retime_held, retime_held_mapped,
     write_state_map,
 };
+use path_levels::levels;
 use pulse::{Crew, OpenGate};
 use std::alloc::Global;
 use std::rt::Files;
