@@ -14,12 +14,13 @@ use Rattle.aig_graph.specs.Folding.{fold_step, fold_to_depth, fold_gates}
 use Rattle.aig_graph.specs.Graph.{Graph, IsGateAt, IsGraph, variable, first_gate, first_latch, gate_at, latch_at, variables_end}
 use Rattle.aig_graph.specs.Move.{Move}
 use Rattle.aig_graph.specs.Streams.{property_literals}
-use Rattle.aig_graph.proofs.FoldingLaws.{fold_gates-gate, fold_gates-leaf, gate_at-before, gate_at-first_gate, gate_at-is}
+use Rattle.aig_graph.proofs.FoldingLaws.{fold_gates-leaf, gate_at-before, gate_at-first_gate, gate_at-is}
 use Rattle.aig_graph.proofs.KindLaws.{LatchPlace, GatePlace, gate_place, is_constant, is_gate, is_input, is_latch, kind_of, latch_at-first_latch, latch_place}
 use Rattle.aig_graph.proofs.SearchLaws.{has_iff_contains}
 use Rattle.aig_graph.proofs.SignLaws.{variable-signed_as, variable-signed_as_twice}
 use Rattle.path_levels.specs.Arrivals.{ArriveWithin, IsClosedWithin, arrival, level_of_next, next_level}
 use Rattle.path_levels.specs.Levels.{ground_level, level, levels, one_above}
+use Rattle.path_levels.proofs.ArrivalLaws.{arrival-gate}
 use Rattle.path_levels.proofs.LevelLaws.{level-gate}
 use Rattle.rebuild.proofs.BorderLaws.{closed-passable, latched-cases, latched-latch, latched-member, member-gate, new_variable-latched, new_variable-leaf, new_variable-outside, outside_where, read-first, read-next, read-second}
 use Rattle.rebuild.proofs.MovedLaws.{copies_start-is, copy_in, copy_variable-is, gate_in, gates_start-is, latch_source, moved-first_gate}
@@ -65,12 +66,6 @@ unfolding arrival
 arrival-latch g v latch there =
     let place : LatchPlace g v latch = latch_place g v latch there in
     fold_gates-leaf g (next_level g) one_above v (gate_at-before g v place.below) ∙ ap (level_of_next g) there
-
--- a gate arrives one after the later of its fan-ins
-arrival-gate : (g : Graph) → IsGraph g → (v : ℕ) (gate : Gate) → gate_at g v ≡ Some gate
-    → arrival g v ≡ suc (max (arrival g (variable gate.rhs0)) (arrival g (variable gate.rhs1)))
-unfolding arrival
-arrival-gate g valid v gate there = fold_gates-gate g valid (next_level g) one_above v gate there
 
 module _ (m : Move) (valid : IsGraph m.circuit.aig) (set : IsClosedSet m.circuit.aig m.held m.set) where
   -- what is read before the gates is on the ground
