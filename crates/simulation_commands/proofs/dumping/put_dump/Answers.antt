@@ -1,6 +1,5 @@
 use Rattle.std.proofs.Common.{◌∙◌, ap, ap₂, subst, sym}
 use Rattle.aig_graph.specs.Circuits.{Netlist}
-use Rattle.counted_io.specs.Output.{Writes}
 use Rattle.lane_sim.specs.Traces.{trace}
 use Rattle.waves.specs.Dumps.{waves_text}
 use Rattle.waves.specs.Moments.{IsRoomFor}
