@@ -98,6 +98,25 @@ def outputs(count):
     return header(1, 0, count, 0) + '2\n' + '2\n' * count
 
 
+def ones(steps):
+    """A sequence of so many steps of one input, which is 1 at each."""
+    return '=\n' + ':1\n' * steps
+
+
+def printed_ones(count, steps):
+    """What `sim` prints of so many outputs that have that input."""
+    return '=\n' + (':' + '1' * count + '\n') * steps
+
+
+def waves_of_ones(count, steps):
+    """Their waves, and that of the input: nothing changes before the end."""
+    names = ['i0', *(f'o{k}' for k in range(count))]
+    declared = ''.join(f'$var wire 1 v0.{k} {name} $end\n' for k, name in enumerate(names))
+    head = f'$timescale 1 ns $end\n$scope module sequence0 $end\n{declared}$upscope $end\n$enddefinitions $end\n'
+    first, last = (''.join(f'{value}v0.{k}\n' for k in range(count + 1)) for value in '1x')
+    return f'{head}#0\n$dumpvars\n{first}$end\n' + ''.join(f'#{time}\n' for time in range(1, steps + 1)) + last
+
+
 def properties(outputs, bad):
     """Outputs and bad states that read the constant, but for the first output, which reads the one input."""
     return f'aag 1 1 0 {outputs} 0 {bad}\n2\n2\n' + '0\n' * (outputs - 1 + bad)
@@ -201,6 +220,6 @@ def bare_sequences(count):
 
 GENERATORS = {it.__name__: it for it in (
     chain, chain_in_binary, pair_then_chain, pair_then_chain_moved, backward, refused_early, outputs, properties, drawn_properties,
-    zeros, empty, long_literal, alternating_stimulus, alternating_trace, sequences, bare_sequences, entries, entries_and_a_bad_one,
+    ones, printed_ones, waves_of_ones,    zeros, empty, long_literal, alternating_stimulus, alternating_trace, sequences, bare_sequences, entries, entries_and_a_bad_one,
     shift_registers, shift_register,
 )}

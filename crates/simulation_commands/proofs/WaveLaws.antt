@@ -1,10 +1,9 @@
 -- What is printed of a trace and of waves, by how the run ends.
-use Rattle.std.proofs.Common.{ℕ, ◌≡◌, true, false, List, Some, IfOk, Result, Ok, Err, refl, sym, subst, ap₂}
+use Rattle.std.proofs.Common.{ℕ, ◌≡◌, true, false, List, Some, IfOk, Result, Ok, Err, refl, sym, subst}
 use Rattle.std.proofs.lemmas.Result.{IfOk-weaker}
 use Rattle.counted_io.specs.Input.{Input}
 use Rattle.counted_io.specs.Output.{Output, WritesAll}
 use Rattle.counted_io.proofs.OutputLaws.{all-then}
-use Rattle.waves.specs.Dumps.{waves_text}
 use Rattle.stream_paths.specs.Streams.{is_stdout}
 use Rattle.stream_paths.specs.declared.target.Target.{Target}
 use Rattle.stream_paths.specs.declared.target.Target.TheVariants as targets
@@ -14,9 +13,8 @@ use Rattle.circuit_files.specs.declared.outcome.Outcome.TheVariants.{Done}
 use Rattle.circuit_files.specs.declared.outcome.Failure.{Failure}
 use Rattle.command_endings.specs.Printing.{EndsPrinting, EndsWith, Prints, ending}
 use Rattle.command_endings.proofs.PrintingLaws.{of_device}
-use Rattle.simulation_commands.specs.Dumping.{AreWavesOf, dump_of, dump_text}
+use Rattle.simulation_commands.specs.Dumping.{dump_of}
 use Rattle.simulation_commands.specs.Simulating.{IsCaseOf, PrintsTrace, lines_of, printed}
-use Rattle.simulation_commands.specs.declared.dumping.Waves.{Waves}
 use Rattle.simulation_commands.specs.declared.simulation.Case.{Case}
 
 -- the lines come after the dump, where that went to standard output, and else alone
@@ -33,17 +31,6 @@ lines_after_dump (targets.File path) dump lines old mid new (Err failure) goes s
 pub lines_print_after : (lines : List ℕ) (old mid new : Output) (result : Result Outcome Failure) → EndsPrinting Done lines mid new result → Prints (ending result) old new
 lines_print_after lines old mid new (Ok ended) p = subst (λ (e : Outcome). Prints e old new) (sym p.0) tt
 lines_print_after lines old mid new (Err failure) p = of_device failure old new p.0
-
--- the dump of the waves of what is simulated
-dump_is : (given : Case) (waves : Waves) → AreWavesOf given waves → dump_text waves ≡ dump_of given
-dump_is given waves are = ap₂ waves_text are.names are.values
-
--- what is printed beside the dump of the waves
-pub printed_of_waves : (target : Target) (given : Case) (waves : Waves) (old new : Output) (result : Result Outcome Failure)
-    → AreWavesOf given waves → IfOk result (EndsWith Done (printed (Some target) (dump_text waves) (lines_of given)) old new)
-    → IfOk result (EndsWith Done (printed (Some target) (dump_of given) (lines_of given)) old new)
-printed_of_waves target given waves old new result are p =
-    subst (λ (dump : List ℕ). IfOk result (EndsWith Done (printed (Some target) dump (lines_of given)) old new)) (dump_is given waves are) p
 
 -- of what is read, that is what was printed
 pub prints_trace : (task : Simulation) (given : Case) (before after : Input) (old new : Output) (result : Result Outcome Failure)

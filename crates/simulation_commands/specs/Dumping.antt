@@ -4,6 +4,7 @@ use Rattle.aig_graph.specs.Circuits.{Netlist}
 use Rattle.lane_sim.specs.Traces.{trace}
 use Rattle.simulation_commands.specs.Room.{is_too_long}
 use Rattle.waves.specs.Dumps.{waves_text}
+use Rattle.waves.specs.Moments.{IsRoomFor}
 use Rattle.waves.specs.Names.{wave_names}
 use Rattle.waves.specs.Probes.{probed}
 use Rattle.command_line.specs.declared.task.Simulation.{Simulation}
@@ -12,18 +13,21 @@ use Rattle.command_line.specs.declared.task.Stimuli.TheVariants.{Read, Random}
 use Rattle.circuit_files.specs.declared.outcome.Failure.{Failure}
 use Rattle.circuit_files.specs.declared.outcome.Failure.TheVariants as fails
 use Rattle.command_endings.specs.HeldNames.{OfSource}
+use Rattle.simulation_commands.specs.declared.dumping.Shown.{Shown}
 use Rattle.simulation_commands.specs.declared.dumping.Waves.{Waves}
 use Rattle.simulation_commands.specs.declared.simulation.Case.{Case}
 
--- the waves of a circuit under a stimulus: their names, and the trace of the circuit that has them as its outputs
+-- the circuit that has the waves of a circuit as its outputs, with room for simulating it under the stimulus
+pub record IsShownOf (given : Case) (shown : Shown) : Type 0 where
+  pub circuit : shown.circuit ≡ probed given.circuit
+  pub room : IsRoomFor (probed given.circuit) given.stimulus shown.room
+
+-- the waves of a circuit under a stimulus: their names, and the circuit that has them as its outputs
 pub record AreWavesOf (given : Case) (waves : Waves) : Type 0 where
   pub names : waves.names ≡ wave_names given.circuit
-  pub values : waves.trace ≡ trace (probed given.circuit) given.stimulus
+  pub shown : IsShownOf given waves.shown
 
--- the dump of waves, and that of the waves of a circuit under a stimulus
-abbrev pub dump_text : Waves → List ℕ
-dump_text waves = waves_text waves.names waves.trace
-
+-- the dump of the waves of a circuit under a stimulus
 abbrev pub dump_of : Case → List ℕ
 dump_of given = waves_text (wave_names given.circuit) (trace (probed given.circuit) given.stimulus)
 

@@ -1,14 +1,14 @@
-//! The waves of what is simulated: their names and values, and how a dump of them is written.
+//! The waves of what is simulated: their names, room for their values, and how a dump of them is written.
 ghost use Rattle.std.specs.Prelude.{◌≡◌, true, false, IfErr, IfOk, MatchResult};
 ghost use Rattle.counted_io.specs.Output.{Writes};
-ghost use Rattle.lane_sim.specs.Traces as traces;
+ghost use Rattle.waves.specs.Moments.{IsRoomFor};
 ghost use Rattle.waves.specs.Names as named;
 ghost use Rattle.waves.specs.Probes as probes;
 ghost use Rattle.stream_paths.specs.Streams.{is_stdout, target_name};
 ghost use Rattle.circuit_files.specs.Outcomes.{IsAbout, outcome_of};
 ghost use Rattle.circuit_files.specs.declared.outcome.Outcome.TheVariants.{Device};
 ghost use Rattle.circuit_files.specs.declared.outcome.Failure.TheVariants.{Memory};
-ghost use Rattle.simulation_commands.specs.Dumping.{AreWavesOf, IsFailureToShow, dump_text};
+ghost use Rattle.simulation_commands.specs.Dumping.{AreWavesOf, IsFailureToShow, IsShownOf, dump_of};
 ghost use Rattle.simulation_commands.specs.Dumping as wanted;
 
 use crate::room::is_too_long;
@@ -17,19 +17,23 @@ use aig_graph::{Circuit, Sequence};
 use circuit_files::{Failure, LazyFile};
 use command_line::{Simulation, Stimuli};
 use counted_io::{Counted, CountedWrite, WriteError};
-use lane_sim::{Stimulus, Trace, simulate};
 use std::alloc::Global;
 use std::rt::Files;
-use std::thread::Threads;
 use stream_paths::Target;
-use waves::{probed, wave_names, write_waves};
+use waves::{Room, probed, wave_names, write_waves};
+
+/// A circuit that has waves as its outputs, and room for simulating it.
+#[derive(Drop)]
+struct Shown {
+    circuit: Circuit,
+    room: Room,
+}
 
 /// The waves of a circuit under a stimulus.
 #[derive(Drop)]
 pub(crate) struct Waves {
     names: Sequence<Sequence<u8>>,
-    /// The trace of the circuit that has the waves as its outputs.
-    trace: Trace,
+    shown: Shown,
 }
 
 /// Whether the trace of a circuit under random sequences takes too much memory. Of a stimulus that is read its length says what a run
@@ -43,43 +47,52 @@ fn are_too_long(stimuli: Stimuli<'_>, circuit: &Circuit) -> bool
     }
 }
 
-/// The trace of the circuit that has the waves as its outputs.
-fn trace_shown<'a, R: Threads + Sync>(
-    rt: &R,
+/// Room for the waves that a circuit has as its outputs.
+fn room_for<'a>(
     alloc: Global,
-    shown: &Circuit,
-    stimulus: &Stimulus,
+    circuit: &Circuit,
+    given: &Case,
     task: &Simulation<'a>,
-) -> Result<Trace, Failure<'a>>
-    ensures trace { IfOk result (λ found. found ≡ traces.trace shown.now stimulus.now) }
-    ensures failed { IfErr result (IsFailureToShow task.now shown.now) }
+) -> Result<Room, Failure<'a>>
+    ensures room { IfOk result (IsRoomFor circuit.now given.now.stimulus) }
+    ensures failed { IfErr result (IsFailureToShow task.now circuit.now) }
 {
-    if are_too_long(task.stimuli, shown) {
+    if are_too_long(task.stimuli, circuit) {
         return Err(Failure::TooManySteps(task.input.name()));
     }
-    match simulate(rt, alloc, shown, stimulus) {
-        Ok(trace) => Ok(trace),
+    match Room::new(alloc, circuit, &given.stimulus) {
+        Ok(room) => Ok(room),
         Err(_) => Err(Failure::Memory),
     }
 }
 
-/// The values of the waves of a circuit.
-fn values<'a, R: Threads + Sync>(
-    rt: &R,
+/// A circuit that has the waves of another one as its outputs, with room for simulating it.
+fn with_room<'a>(
     alloc: Global,
+    circuit: Circuit,
     given: &Case,
     task: &Simulation<'a>,
-) -> Result<Trace, Failure<'a>>
-    ensures trace { IfOk result (λ found. found
-        ≡ traces.trace (probes.probed given.now.circuit) given.now.stimulus) }
+) -> Result<Shown, Failure<'a>>
+    requires { circuit ≡ probes.probed given.now.circuit }
+    ensures shown { IfOk result (IsShownOf given.now) }
+    ensures failed { IfErr result (IsFailureToShow task.now (probes.probed given.now.circuit)) }
+{
+    match room_for(alloc, &circuit, given, task) {
+        Ok(room) => Ok(Shown { circuit, room }),
+        Err(failure) => {
+            drop(circuit);
+            Err(failure)
+        }
+    }
+}
+
+/// The circuit that has the waves as its outputs.
+fn shown_of<'a>(alloc: Global, given: &Case, task: &Simulation<'a>) -> Result<Shown, Failure<'a>>
+    ensures shown { IfOk result (IsShownOf given.now) }
     ensures failed { IfErr result (IsFailureToShow task.now (probes.probed given.now.circuit)) }
 {
     match probed(alloc, &given.circuit) {
-        Ok(shown) => {
-            let trace = trace_shown(rt, alloc, &shown, &given.stimulus, task);
-            drop(shown);
-            trace
-        }
+        Ok(circuit) => with_room(alloc, circuit, given, task),
         Err(_) => Err(Failure::Memory),
     }
 }
@@ -96,8 +109,7 @@ fn names<'a>(alloc: Global, circuit: &Circuit) -> Result<Sequence<Sequence<u8>>,
 }
 
 /// The waves of what is simulated.
-pub(crate) fn waves_of<'a, R: Threads + Sync>(
-    rt: &R,
+pub(crate) fn waves_of<'a>(
     alloc: Global,
     given: &Case,
     task: &Simulation<'a>,
@@ -106,37 +118,51 @@ pub(crate) fn waves_of<'a, R: Threads + Sync>(
     ensures failed { IfErr result (IsFailureToShow task.now (probes.probed given.now.circuit)) }
 {
     let names = names(alloc, &given.circuit)?;
-    match values(rt, alloc, given, task) {
-        Ok(trace) => Ok(Waves { names, trace }),
+    match shown_of(alloc, given, task) {
+        Ok(shown) => Ok(Waves { names, shown }),
         Err(failure) => Err(failure),
     }
 }
 
 /// Writes a dump of waves.
-fn put_dump<W: CountedWrite>(waves: &Waves, writer: &mut W) -> Result<(), WriteError>
-    ensures { Writes (W.output writer.old) (W.output writer.new) result (dump_text waves.now) }
+fn put_dump<W: CountedWrite>(
+    given: &Case,
+    waves: &mut Waves,
+    writer: &mut W,
+) -> Result<(), WriteError>
+    requires { AreWavesOf given.now waves.old }
+    ensures { Writes (W.output writer.old) (W.output writer.new) result (dump_of given.now) }
 {
-    write_waves(waves.names.as_slice(), &waves.trace, writer)
+    let shown = &mut waves.shown;
+    write_waves(
+        waves.names.as_slice(),
+        &shown.circuit,
+        &given.stimulus,
+        &mut shown.room,
+        writer,
+    )
 }
 
 /// Writes a dump of waves to a file or to standard output, of which one is named where that failed. A file is made at its first byte.
 pub(crate) fn write_dump<'a, R: Files, O: CountedWrite>(
     rt: &R,
-    waves: &Waves,
+    given: &Case,
+    waves: &mut Waves,
     target: Target<'a>,
     out: &mut O,
 ) -> Result<(), Failure<'a>>
+    requires { AreWavesOf given.now waves.old }
     ensures stdout { is_stdout target.entry ≡ true → Writes (O.output out.old)
-        (O.output out.new) result (dump_text waves.now) }
+        (O.output out.new) result (dump_of given.now) }
     ensures file { is_stdout target.entry ≡ false → O.output out.new ≡ O.output out.old }
     ensures err { IfErr result (λ failure. (outcome_of failure ≡ Device)
         × IsAbout (target_name target.entry) failure) }
 {
     let written = match target {
-        Target::Stdout => put_dump(waves, out),
+        Target::Stdout => put_dump(given, waves, out),
         Target::File(path) => {
             let mut writer = Counted::new(LazyFile::new(rt, path));
-            put_dump(waves, &mut writer)
+            put_dump(given, waves, &mut writer)
         }
     };
     match written {

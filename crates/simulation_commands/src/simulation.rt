@@ -5,7 +5,7 @@ ghost use Rattle.reports.specs.Traces.{trace_text};
 ghost use Rattle.circuit_files.specs.declared.outcome.Outcome.TheVariants.{Done};
 ghost use Rattle.circuit_files.specs.declared.outcome.Failure.TheVariants.{Memory};
 ghost use Rattle.command_endings.specs.Printing.{EndsPrinting, EndsWith, Prints, ending};
-ghost use Rattle.simulation_commands.specs.Dumping.{dump_of, dump_text};
+ghost use Rattle.simulation_commands.specs.Dumping.{AreWavesOf, dump_of};
 ghost use Rattle.simulation_commands.specs.Simulating.{AreLinesFor, IsCaseOf, IsCaseWith, PrintsTrace, lines_of, printed};
 
 use crate::dumping::{Waves, waves_of, write_dump};
@@ -154,17 +154,18 @@ fn print_trace_of<'a, R: Threads + Sync, O: CountedWrite>(
 fn print_both<'a, R: Files, O: CountedWrite>(
     rt: &R,
     target: Target<'a>,
-    waves: &Waves,
+    waves: &mut Waves,
     given: &Case,
     lines: Lines,
     out: &mut O,
 ) -> Result<Outcome, Failure<'a>>
-    requires { AreLinesFor given.now lines }
-    ensures printed { IfOk result (EndsWith Done (printed (Some target.entry) (dump_text waves.now)
+    requires lines { AreLinesFor given.now lines }
+    requires waves { AreWavesOf given.now waves.old }
+    ensures printed { IfOk result (EndsWith Done (printed (Some target.entry) (dump_of given.now)
         (lines_of given.now)) (O.output out.old) (O.output out.new)) }
     ensures prints { Prints (ending result) (O.output out.old) (O.output out.new) }
 {
-    match write_dump(rt, waves, target, out) {
+    match write_dump(rt, given, waves, target, out) {
         Ok(()) => print_lines(given, lines, out),
         Err(failure) => {
             drop(lines);
@@ -179,10 +180,11 @@ fn print_with_waves<'a, R: Files + Threads + Sync, O: CountedWrite>(
     alloc: Global,
     given: &Case,
     target: Target<'a>,
-    waves: &Waves,
+    waves: &mut Waves,
     out: &mut O,
 ) -> Result<Outcome, Failure<'a>>
-    ensures printed { IfOk result (EndsWith Done (printed (Some target.entry) (dump_text waves.now)
+    requires { AreWavesOf given.now waves.old }
+    ensures printed { IfOk result (EndsWith Done (printed (Some target.entry) (dump_of given.now)
         (lines_of given.now)) (O.output out.old) (O.output out.new)) }
     ensures prints { Prints (ending result) (O.output out.old) (O.output out.new) }
 {
@@ -205,9 +207,10 @@ fn print_with<'a, R: Files + Threads + Sync, O: CountedWrite>(
         (lines_of given.now)) (O.output out.old) (O.output out.new)) }
     ensures prints { Prints (ending result) (O.output out.old) (O.output out.new) }
 {
-    match waves_of(rt, alloc, given, task) {
+    match waves_of(alloc, given, task) {
         Ok(waves) => {
-            let ended = print_with_waves(rt, alloc, given, target, &waves, out);
+            let mut waves = waves;
+            let ended = print_with_waves(rt, alloc, given, target, &mut waves, out);
             drop(waves);
             ended
         }

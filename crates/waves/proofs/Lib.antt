@@ -1,3 +1,4 @@
 mod DumpLaws
 mod NameLaws
 mod ProbeLaws
+mod MomentLaws

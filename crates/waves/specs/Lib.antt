@@ -1,3 +1,4 @@
 pub mod Probes
 pub mod Names
 pub mod Dumps
+pub mod Moments

@@ -4,12 +4,16 @@ ghost use Rattle.std.specs.List.{flat_map, range_with_len};
 ghost use Rattle.counted_io.specs.Buffered.{Puts};
 ghost use Rattle.counted_io.specs.Line.{numbered_lines};
 ghost use Rattle.counted_io.specs.Output.{Writes};
-ghost use Rattle.waves.specs.Dumps.{head, scope_text, start, wave_line, waves_text};
+ghost use Rattle.lane_sim.specs.Traces.{trace};
+ghost use Rattle.waves.specs.Dumps.{head, scope_text, wave_line, waves_text};
+ghost use Rattle.waves.specs.Moments.{IsRoomFor};
 
-use crate::values::{put_code, put_times, put_values};
-use aig_graph::Sequence;
+use crate::room::Room;
+use crate::times::{Shown, put_start, put_times};
+use crate::values::put_code;
+use aig_graph::{Circuit, Sequence};
 use counted_io::{Buffered, CountedWrite, WriteError};
-use lane_sim::Trace;
+use lane_sim::Stimulus;
 
 /// Puts the declaration of a wave.
 fn put_wave<W: CountedWrite>(out: &mut Buffered<'_, W>, sequence: usize, place: usize, name: &[u8])
@@ -60,41 +64,48 @@ fn put_head<W: CountedWrite>(out: &mut Buffered<'_, W>, names: &[Sequence<u8>], 
     out.put(b"$enddefinitions $end\n");
 }
 
-/// Puts the values at the start.
-fn put_start<W: CountedWrite>(out: &mut Buffered<'_, W>, trace: &Trace, places: usize)
-    ensures { Puts W.output out.old out.new (start trace.now places) }
+fn put_dump<W: CountedWrite>(
+    out: &mut Buffered<'_, W>,
+    names: &[Sequence<u8>],
+    circuit: &Circuit,
+    stimulus: &Stimulus,
+    room: &mut Room,
+)
+    requires { IsRoomFor circuit.now stimulus.now room.old }
+    ensures { Puts W.output out.old out.new (waves_text names.now (trace circuit.now stimulus.now)) }
 {
-    out.put(b"#0\n$dumpvars\n");
-    put_values(out, trace, places, 0);
-    out.put(b"$end\n");
+    let shown = Shown {
+        circuit,
+        sequences: stimulus.as_slice(),
+        places: names.len(),
+    };
+    put_head(out, names, shown.sequences.len());
+    put_start(out, &shown, room);
+    put_times(out, &shown, room);
 }
 
-fn put_dump<W: CountedWrite>(out: &mut Buffered<'_, W>, names: &[Sequence<u8>], trace: &Trace)
-    ensures { Puts W.output out.old out.new (waves_text names.now trace.now) }
-{
-    put_head(out, names, trace.sequences());
-    put_start(out, trace, names.len());
-    put_times(out, trace, names.len());
-}
-
-/// Writes the waves with these names, whose values are those of a trace, as a value change dump: a scope for each sequence, and a time for
-/// each step and one more, at which each wave of the longest sequences ends.
+/// Writes the waves with these names, whose values are those of a circuit's property literals under a stimulus, as a value change dump: a
+/// scope for each sequence, and a time for each step and one more, at which each wave of the longest sequences ends. The circuit is
+/// simulated while they are written, in this room.
 ///
 /// Takes no memory, and calls the writer about once for each 8 KiB of text. The time is linear in the number of sequences times the steps
-/// of the longest one times the waves.
+/// of the longest one times the waves, and each block of 256 sequences is simulated twice at each of these steps.
 ///
 /// # Errors
 ///
 /// `Device` where a write failed: a beginning of the text was written then, and the writer isn't called again.
 pub fn write_waves<W: CountedWrite>(
     names: &[Sequence<u8>],
-    trace: &Trace,
+    circuit: &Circuit,
+    stimulus: &Stimulus,
+    room: &mut Room,
     writer: &mut W,
 ) -> Result<(), WriteError>
+    requires { IsRoomFor circuit.now stimulus.now room.old }
     ensures { Writes (W.output writer.old) (W.output writer.new) result
-        (waves_text names.now trace.now) }
+        (waves_text names.now (trace circuit.now stimulus.now)) }
 {
     let mut out = Buffered::new(writer);
-    put_dump(&mut out, names, trace);
+    put_dump(&mut out, names, circuit, stimulus, room);
     out.flush()
 }

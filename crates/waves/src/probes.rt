@@ -1,9 +1,9 @@
 //! A circuit whose outputs are all that is shown of another one: so the simulator, as it stands, gives the values of all waves.
 ghost use Rattle.std.specs.Prelude.{◌≡◌, ◌++◌, ◌*◌, IfOk, OnOk};
-ghost use Rattle.aig_graph.specs.Streams.{property_literals};
 ghost use Rattle.waves.specs.Probes.{leaf_literals, probed, shown_literals};
 
 use aig_graph::{Aig, Circuit, Lit, NoMemory, Props, Symbols};
+use lane_sim::property_literals;
 use std::alloc::Global;
 
 /// Puts literals at the end.
@@ -14,21 +14,6 @@ fn append(literals: &mut Vec<Lit>, more: &[Lit]) -> Result<(), NoMemory>
         literals.push(*lit)?;
     }
     Ok(())
-}
-
-/// The property literals, kind after kind.
-fn property_literals(alloc: Global, props: &Props) -> Result<Vec<Lit>, NoMemory>
-    ensures { IfOk result (λ literals. literals.items ≡ property_literals props.now) }
-{
-    let mut literals = Vec::new(alloc);
-    append(&mut literals, props.outputs.as_slice())?;
-    append(&mut literals, props.bad.as_slice())?;
-    append(&mut literals, props.constraints.as_slice())?;
-    for property in props.justice.as_slice() {
-        append(&mut literals, property.as_slice())?;
-    }
-    append(&mut literals, props.fairness.as_slice())?;
-    Ok(literals)
 }
 
 /// The literals of the inputs and the latches.

@@ -1,10 +1,13 @@
 use Rattle.std.proofs.Common.{◌≡◌, arith}
 use Rattle.waves.specs.Dumps.{value_at, values_of}
+use Rattle.waves.specs.Moments.{trace_of}
 use Rattle.waves.proofs.DumpLaws.{puts-up}
 use Rattle.waves.proofs.values.put_sequence.Goals as goal
 
 pub loop-place-preserved : goal.loop-place-preserved
-loop-place-preserved g c = puts-up (value_at c.args.trace.now c.args.time c.args.sequence) c.loop-place.place c.loop-place.invariant c.put_value.ensures
+loop-place-preserved g c =
+    let m = c.args.moment.now in
+    puts-up (value_at (trace_of m) m.time c.args.sequence) c.loop-place.place c.loop-place.invariant c.put_value.ensures
 
 pub returns : goal.returns
 unfolding values_of

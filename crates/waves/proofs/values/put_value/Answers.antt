@@ -4,7 +4,7 @@ use Rattle.waves.proofs.values.put_value.Goals as goal
 
 pub returns-then-is_written : goal.returns-then-is_written
 unfolding value_at
-returns-then-is_written g c = puts-where c.is_written.ensures c.if-is_written.true (rw c.mark_at-mark.ensures at c.put_value_line.ensures)
+returns-then-is_written g c = puts-where c.is_written.ensures c.if-is_written.true (rw c.mark-mark.ensures at c.put_value_line.ensures)
 
 pub returns-else-is_written : goal.returns-else-is_written
 unfolding value_at
