@@ -3,7 +3,6 @@
 use crate::argument::{Argument, arg_of};
 use crate::subcommands::{COUNT, Subcommand, subcommand_at};
 use clap::{ArgGroup, Command};
-use command_texts as texts;
 use std::alloc::{AllocError, Global};
 
 /// A command with one more argument.
@@ -117,9 +116,9 @@ fn with_number<'a>(
 fn bare_program<'a>(alloc: Global) -> Command<'a> {
     Command::new(alloc, "fretime")
         .version("0.3.0")
-        .about(texts::ABOUT)
-        .long_about(texts::LONG_ABOUT)
-        .after_help(texts::EXAMPLE)
+        .about(command_texts::ABOUT)
+        .long_about(command_texts::LONG_ABOUT)
+        .after_help(command_texts::EXAMPLE)
         .subcommand_required(true)
         .arg_required_else_help(true)
 }
