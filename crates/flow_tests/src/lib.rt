@@ -25,6 +25,8 @@ mod runs;
 #[cfg(test)]
 mod starts;
 #[cfg(test)]
+mod unit_crews;
+#[cfg(test)]
 mod wished_runs;
 #[cfg(test)]
 mod worked_networks;
