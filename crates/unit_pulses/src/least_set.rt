@@ -104,7 +104,7 @@ fn shown_in<R: Threads + Sync, G: PhaseGate>(
 /// what it does there. They are hints: the set is the same whatever they say, or there is none.
 ///
 /// A pulse in which 4096 nodes or more are active goes to the crew: each worker reads and delivers at its own range of places. The calling thread
-/// makes all others, as worker 0. Of a circuit of at most 1024 latches and gates the first flow begins at the sources, for a crew of two or more, and
+/// makes all others, as worker 0. Of a circuit of at most 256 latches and gates the first flow begins at the sources, for a crew of two or more, and
 /// the crew makes its first pulse.
 ///
 /// # Errors

@@ -11,7 +11,7 @@ use std::alloc::Global;
 const MANY_ACTIVE: usize = 4096;
 
 /// A circuit of at most so many latches and gates is small.
-const FEW_PLACES: usize = 1024;
+const FEW_PLACES: usize = 256;
 
 /// How the pulses of a flow are shared out among the workers of a crew, each of which passes its gate.
 #[derive_where(Clone, Copy)]
