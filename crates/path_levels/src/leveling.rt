@@ -1,49 +1,25 @@
 //! How deep a circuit is, in one pass: fan-ins come before their gates, so their levels are there when a gate is met. The table begins
 //! at the first gate, since all before it are on the ground.
-ghost use Rattle.std.specs.Prelude.{◌≡◌, ◌+◌, suc, max, IfOk, map, length};
+ghost use Rattle.std.specs.Prelude.{◌≡◌, IfOk, map, length};
 ghost use Rattle.std.specs.List.{flat_map};
 ghost use Rattle.variable_tables.specs.Tables.{table};
-ghost use Rattle.aig_graph.specs.Graph.{variable, first_gate, IsGateAt};
+ghost use Rattle.aig_graph.specs.Graph.{first_gate};
 ghost use Rattle.aig_graph.specs.Streams.{property_literals};
 ghost use Rattle.path_levels.specs.Levels.{entry_at, highest, level, levels};
 
-use aig_graph::{Aig, Circuit, Gate, Latch, Lit, NoMemory, Props, Sequence};
+use crate::entries::{entry_above, entry_at};
+use aig_graph::{Aig, Circuit, Latch, Lit, NoMemory, Props, Sequence};
 use std::alloc::Global;
 
-/// The entry of a variable, and 0 where it has none.
-#[tactic(auto, unfolding(crate::specs::Levels::entry_at))]
-fn entry_at(first: u32, entries: &[u32], var: u32) -> u32
-    ensures { result ≡ entry_at first entries.now var }
-{
-    if first <= var {
-        entries.get((var - first) as usize).copied().unwrap_or(0)
-    } else {
-        0
-    }
-}
-
-/// The level of the next gate, by those of the gates before it.
-fn gate_level(aig: &Aig, entries: &[u32], gate: Gate) -> u32
-    requires filled { entries.now
-        ≡ table (first_gate aig.now) (length entries.now) (level aig.now) }
-    requires next { IsGateAt (first_gate aig.now + length entries.now) gate }
-    ensures { result ≡ suc (max (level aig.now (variable gate.rhs0))
-        (level aig.now (variable gate.rhs1))) }
-{
-    let first = aig.first_gate();
-    let upper = entry_at(first, entries, gate.rhs0.var());
-    let lower = entry_at(first, entries, gate.rhs1.var());
-    1 + upper.max(lower)
-}
-
 /// The level of each gate.
-fn gate_levels(alloc: Global, aig: &Aig) -> Result<Vec<u32>, NoMemory>
+pub(crate) fn gate_levels(alloc: Global, aig: &Aig) -> Result<Vec<u32>, NoMemory>
     ensures { IfOk result (λ entries. entries.items
         ≡ table (first_gate aig.now) (length aig.now.gates) (level aig.now)) }
 {
+    let first = aig.first_gate();
     let mut entries = Vec::with_capacity(alloc, aig.gates().len())?;
     for gate in aig.gates() {
-        let level = gate_level(aig, entries.as_slice(), *gate);
+        let level = entry_above(first, entries.as_slice(), *gate);
         entries.push(level)?;
     }
     Ok(entries)

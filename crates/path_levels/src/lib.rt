@@ -2,6 +2,13 @@
 //! longer passable.
 #![tactic(auto)]
 
+mod arriving;
+mod barring;
+mod bounding;
+mod entries;
+mod laws;
 mod leveling;
 
+pub use bounding::{bounded, bounded_if_barred};
+pub use laws::bounded_law;
 pub use leveling::levels;
