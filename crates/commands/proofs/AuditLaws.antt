@@ -26,12 +26,12 @@ use Rattle.command_endings.proofs.PrintingLaws.{lines_print, object_prints}
 
 -- what the blocks end in, as the task says
 pub merged_replay : {E : Type 0} (merge : Bool) (names : List (List ℕ)) (c : Netlist) (blocks : List Certificate) (r : Result Replay E)
-    → merge ≡ true → IfOk r (IsMergedReplay names c blocks) → IfOk r (IsReplayFor merge names c blocks)
+    → merge ≡ true → IfOk r (IsMergedReplay None names c blocks) → IfOk r (IsReplayFor merge names c blocks)
 merged_replay merge names c blocks r asked is = let P : Bool → Type 0 = λ m. IfOk r (IsReplayFor m names c blocks) in subst P (sym asked) is
 
 -- the same where no latches were merged
 pub plain_replay : {E : Type 0} (merge : Bool) (names : List (List ℕ)) (c : Netlist) (blocks : List Certificate) (r : Result Replay E)
-    → merge ≡ false → IfOk r (IsReplay names c blocks) → IfOk r (IsReplayFor merge names c blocks)
+    → merge ≡ false → IfOk r (IsReplay None names c blocks) → IfOk r (IsReplayFor merge names c blocks)
 plain_replay merge names c blocks r unasked is = let P : Bool → Type 0 = λ m. IfOk r (IsReplayFor m names c blocks) in subst P (sym unasked) is
 
 -- where latches are held by their names alone

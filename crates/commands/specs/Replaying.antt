@@ -20,8 +20,8 @@ use Rattle.commands.specs.declared.replaying.Judgement.{Judgement}
 
 -- what the blocks end in for c, or, where latches were merged before the first frame, for what c is merged to
 abbrev pub IsReplayFor : Bool → List (List ℕ) → Netlist → List Certificate → Replay → Type 0
-IsReplayFor false names c blocks replay = IsReplay names c blocks replay
-IsReplayFor true names c blocks replay = IsMergedReplay names c blocks replay
+IsReplayFor false names c blocks replay = IsReplay None names c blocks replay
+IsReplayFor true names c blocks replay = IsMergedReplay None names c blocks replay
 
 -- the same replay, whose circuit no longer has the marks of latches that are held at these places
 pub record IsFreed (places : List ℕ) (held replay : Replay) : Type 0 where

@@ -36,9 +36,9 @@ pub(crate) fn replay_of(
     ensures { IfOk result (IsReplayFor merge (names_of names.now) circuit.now blocks.now) }
 {
     if merge {
-        replay_merged(alloc, circuit, blocks, names)
+        replay_merged(alloc, circuit, blocks, names, None)
     } else {
-        replay_blocks(alloc, circuit, blocks, names)
+        replay_blocks(alloc, circuit, blocks, names, None)
     }
 }
 

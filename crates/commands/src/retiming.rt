@@ -22,7 +22,7 @@ use circuit_files::{Failure, LazyFile, Outcome, circuit_at};
 use command_endings::{bytes_of_names, ended};
 use command_line::{Retiming, Shown};
 use counted_io::{Counted, CountedRead, CountedWrite, WriteError};
-use frames::{FrameWatcher, Options, Retimed};
+use frames::{FrameWatcher, Options, PathBound, Retimed};
 use json_reports::{MapCounts, Times};
 use mapped_answers::HeldOptions;
 use progress::Progress;
@@ -47,6 +47,7 @@ fn options(alloc: Global, task: &Retiming<'_>) -> Result<HeldOptions, AllocError
             certify: task.certificates.is_some(),
             keep,
             merge: task.merge,
+            bound: PathBound::None,
         },
         places,
     })
