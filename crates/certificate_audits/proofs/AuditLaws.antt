@@ -194,8 +194,8 @@ certified bound names _ _ _ _ (no_blocks c) e = absurd (cc)
 certified bound names _ _ _ _ (objected c block rest objection verdict) e = absurd (cc)
 certified bound names _ _ _ _ (open_end c block saves) e = absurd (cc)
 certified bound names _ _ _ _ (certified_end c block none) e = (
-  let shown = least-in bound names c block none.confirmed.passes in
-  (refl, last c shown.0 block shown.1 (none-smaller bound names c shown.0 block shown.1 none.no_fewer)))
+    let shown = least-in bound names c block none.confirmed.passes in
+    (refl, last c shown.0 block shown.1 (none-smaller bound names c shown.0 block shown.1 none.no_fewer)))
 certified bound names _ _ _ _ (past_end c block rest none follows) e = absurd (cc)
 certified bound names _ _ _ _ (goes_on c d block rest n end saves follows next more) e =
     let after = certified bound names d rest n end more e in

@@ -19,8 +19,7 @@ const FOUR_AS_TWO: &[u8] =
     b"aag 9 4 2 1 3\n2\n4\n6\n8\n10 16\n12 18\n14\n14 12 10\n16 4 2\n18 8 6\n";
 
 /// The same with one latch, behind all three gates.
-const FOUR_AS_ONE: &[u8] =
-    b"aag 8 4 1 1 3\n2\n4\n6\n8\n10 16\n10\n12 4 2\n14 8 6\n16 14 12\n";
+const FOUR_AS_ONE: &[u8] = b"aag 8 4 1 1 3\n2\n4\n6\n8\n10 16\n10\n12 4 2\n14 8 6\n16 14 12\n";
 
 /// A latch behind three gates in a row, one at an input, and the gate of both, which is the output.
 const LATE_LATCH: &[u8] =
@@ -70,7 +69,14 @@ fn gives<R: Threads + Sync>(
 #[test]
 fn a_bound_keeps_latches_where_they_are(rt: HostRuntime) {
     let alloc = rt.alloc();
-    let none = gives(&rt, alloc, TWO_LATCHES, PathBound::Levels(0), TWO_LATCHES, 0);
+    let none = gives(
+        &rt,
+        alloc,
+        TWO_LATCHES,
+        PathBound::Levels(0),
+        TWO_LATCHES,
+        0,
+    );
     let one = gives(&rt, alloc, TWO_LATCHES, PathBound::Levels(1), ONE_LATCH, 1);
     let own = gives(&rt, alloc, TWO_LATCHES, PathBound::NoLonger, ONE_LATCH, 1);
     assert!(rt; none & one & own);
@@ -80,9 +86,30 @@ fn a_bound_keeps_latches_where_they_are(rt: HostRuntime) {
 #[test]
 fn latches_move_as_far_as_the_bound_lets_them(rt: HostRuntime) {
     let alloc = rt.alloc();
-    let two = gives(&rt, alloc, FOUR_LATCHES, PathBound::Levels(1), FOUR_AS_TWO, 1);
-    let one = gives(&rt, alloc, FOUR_LATCHES, PathBound::Levels(2), FOUR_AS_ONE, 1);
-    let own = gives(&rt, alloc, FOUR_LATCHES, PathBound::NoLonger, FOUR_AS_ONE, 1);
+    let two = gives(
+        &rt,
+        alloc,
+        FOUR_LATCHES,
+        PathBound::Levels(1),
+        FOUR_AS_TWO,
+        1,
+    );
+    let one = gives(
+        &rt,
+        alloc,
+        FOUR_LATCHES,
+        PathBound::Levels(2),
+        FOUR_AS_ONE,
+        1,
+    );
+    let own = gives(
+        &rt,
+        alloc,
+        FOUR_LATCHES,
+        PathBound::NoLonger,
+        FOUR_AS_ONE,
+        1,
+    );
     assert!(rt; two & one & own);
 }
 
@@ -99,6 +126,13 @@ fn what_latches_read_counts(rt: HostRuntime) {
 #[test]
 fn the_least_set_goes_first(rt: HostRuntime) {
     let alloc = rt.alloc();
-    let own = gives(&rt, alloc, SHORTENED, PathBound::NoLonger, SHORTENED_AS_TWO, 1);
+    let own = gives(
+        &rt,
+        alloc,
+        SHORTENED,
+        PathBound::NoLonger,
+        SHORTENED_AS_TWO,
+        1,
+    );
     assert!(rt; own);
 }

@@ -40,7 +40,9 @@ fn with_map(
 {
     let _options = options;
     let Run {
-        retimed, follower, ..
+        retimed,
+        follower,
+        ..
     } = end;
     match state_map(alloc, follower.parts, circuit, &retimed.circuit) {
         Ok(map) => Ok(Made { retimed, map }),
