@@ -40,8 +40,8 @@ returns-in-Decided g c =
     let both = subst L c.requires (c.in_ok-first.ensures, stays.1) in
     subst (Finds options bound before c.args.records.now c.least_helping.new.records) (sym stays.0) (finds-first options before bound c.args.records.now c.least_helping.new.records first both.0 both.1)
 
-pub returns-in-TooLong : goal.returns-in-TooLong
-returns-in-TooLong g c =
+pub returns-in_ok-set-in-TooLong : goal.returns-in_ok-set-in-TooLong
+returns-in_ok-set-in-TooLong g c =
     let options = c.args.options.now in
     let before = c.args.run.now.retimed.circuit in
     let bound = c.args.run.now.bound in
