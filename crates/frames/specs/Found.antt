@@ -77,8 +77,8 @@ pub record Helps (options : Options) (bound : Option ℕ) (c : Netlist) (found :
   pub report : found.report ≡ report_in (names_in options) c found.set
 
 -- what is found in c, if anything helps; a certificate of the set is added where certificates are wanted
-pub record Finds (options : Options) (bound : Option ℕ) (c : Netlist) (old new : Records) (found : Option Helping) : Type 0 where
-  pub found : MatchOption found (NoneHelpsBy options bound c) (Helps options bound c)
+pub record Finds (options : Options) (bound : Option ℕ) (c : Netlist) (old new : Records) (result : Option Helping) : Type 0 where
+  pub found : MatchOption result (NoneHelpsBy options bound c) (Helps options bound c)
   pub adds : AddsFound options bound c old new
 
 -- a frame over its set, which keeps the streams, and the latches that the names hold, and leaves nothing to clean

@@ -65,7 +65,7 @@ fn fitted(
 }
 
 /// Judges what is found over the chosen least set. Without a bound it stays as it is, at no cost.
-pub(crate) fn judged(
+pub(crate) fn judge(
     alloc: Global,
     circuit: &Circuit,
     keep: &Keep,

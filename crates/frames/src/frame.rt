@@ -120,12 +120,12 @@ pub(crate) fn next_frame<F: RunFollower, G: PhaseGate, V: FrameWatcher>(
         (Tells V.was_told watcher.old watcher.new [])
         (λ _. Tells V.was_told watcher.old watcher.new (Moving ∷ []))) }
 {
-    let circuit = &run.retimed.circuit;
-    circuit.known();
-    let keep = keep_by_names(alloc, circuit, options.keep.as_slice())?;
+    run.retimed.circuit.known();
+    let keep = keep_by_names(alloc, &run.retimed.circuit, options.keep.as_slice())?;
     match helping_set(rt, alloc, &*run, &keep, options, crew, records)? {
         Some(found) => {
             watcher.enter(Stage::Moving);
+            let circuit = &run.retimed.circuit;
             let marks = found.marks;
             let set = &found.set;
             let follower = &mut run.follower;

@@ -4,7 +4,7 @@ ghost use Rattle.aig_graph.specs.Closed.{IsClosedSet};
 ghost use Rattle.frames.specs.Found.{Finds, IsFoundOver, IsLook};
 ghost use Rattle.frames.specs.Named.{kept_by};
 
-use crate::bounding::{Judged, chosen_over, judged};
+use crate::bounding::{Judged, chosen_over, judge};
 use crate::options::Options;
 use crate::run::Run;
 use aig_graph::{Choice, Circuit, ClosedSet, Keep, NoMemory};
@@ -88,7 +88,7 @@ pub(crate) fn helping_set<F, G: PhaseGate>(
     // That it is a circuit is what its readers ensure.
     circuit.known();
     let first = least_helping(rt, alloc, circuit, keep, options.choice, crew, records)?;
-    match judged(alloc, circuit, keep, first, run.bound)? {
+    match judge(alloc, circuit, keep, first, run.bound)? {
         Judged::Decided(found) => Ok(found),
         Judged::TooLong(most) => {
             records.forget_last();

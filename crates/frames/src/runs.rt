@@ -2,9 +2,11 @@
 ghost use Rattle.std.specs.Prelude.{ℕ, IfOk, OnOk, IsErrOf};
 ghost use Rattle.aig_graph.specs.Circuits.{Netlist};
 ghost use Rattle.frames.specs.Beginning.{IsBegun};
+ghost use Rattle.frames.specs.Bounds.{bound_in};
 ghost use Rattle.frames.specs.Named.{IsFirstMissingBy, NoneMissingBy};
 ghost use Rattle.frames.specs.Retiming.{IsRetimedBy};
 ghost use Rattle.frames.specs.Stages.{Tells, looks_of, stages_of};
+ghost use Rattle.level_laws.specs.Retiming.{KeepsLevels};
 ghost use Rattle.frames.specs.declared.errors.RetimeError.TheVariants.{NoSuchName};
 
 use crate::beginning::begin;
@@ -79,6 +81,8 @@ pub fn retime<G: PhaseGate>(
     crew: &Crew<G>,
 ) -> Result<Retimed, RetimeError>
     ensures retimed { IfOk result (IsRetimedBy options.now circuit.now) }
+    ensures levels { IfOk result (λ r. KeepsLevels (bound_in options.now circuit.now) circuit.now
+        r.circuit) }
     ensures none_missing { OnOk result (NoneMissingBy options.now circuit.now) }
     ensures missing { (place : ℕ) → IsErrOf result (NoSuchName place)
         → IsFirstMissingBy options.now circuit.now place }
@@ -101,12 +105,16 @@ pub fn retime_watched<G: PhaseGate, V: FrameWatcher>(
     watcher: &mut V,
 ) -> Result<Retimed, RetimeError>
     ensures retimed { IfOk result (IsRetimedBy options.now circuit.now) }
+    ensures levels { IfOk result (λ r. KeepsLevels (bound_in options.now circuit.now) circuit.now
+        r.circuit) }
     ensures none_missing { OnOk result (NoneMissingBy options.now circuit.now) }
     ensures missing { (place : ℕ) → IsErrOf result (NoSuchName place)
         → IsFirstMissingBy options.now circuit.now place }
     ensures told { IfOk result (λ r. Tells V.was_told watcher.old watcher.new
         (stages_of options.now.max_frames r)) }
 {
+    // That it is a circuit is what its readers ensure.
+    circuit.known();
     watcher.enter(Stage::Cleaning);
     let begun = begin_plain(alloc, circuit, options)?;
     let retimed = finish_plain(rt, alloc, begun, options, crew, watcher)?;
@@ -127,12 +135,16 @@ pub(crate) fn retime_over<G: PhaseGate, V: FrameWatcher>(
     watcher: &mut V,
 ) -> Result<Retimed, RetimeError>
     ensures retimed { IfOk result (IsRetimedBy options.now circuit) }
+    ensures levels { IfOk result (λ r. KeepsLevels (bound_in options.now circuit) circuit
+        r.circuit) }
     ensures none_missing { OnOk result (NoneMissingBy options.now circuit) }
     ensures missing { (place : ℕ) → IsErrOf result (NoSuchName place)
         → IsFirstMissingBy options.now circuit place }
     ensures told { IfOk result (λ r. Tells V.was_told watcher.old watcher.new
         (stages_of options.now.max_frames r)) }
 {
+    // That it is a circuit is what its readers ensure.
+    circuit.known();
     watcher.enter(Stage::Cleaning);
     let begun = begin_plain(alloc, &circuit, options);
     drop(circuit);

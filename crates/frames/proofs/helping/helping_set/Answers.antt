@@ -13,8 +13,8 @@ use Rattle.frames.specs.Found.{BreaksBound, Finds, IsFoundOver, IsJudged, IsLook
 use Rattle.frames.proofs.LookLaws.{bounded-closed, finds-first, finds-within, over-saves}
 use Rattle.frames.proofs.helping.helping_set.Goals as goal
 
-pub judged-requires : goal.judged-requires
-judged-requires g c = over-saves c.args.run.now.retimed.circuit c.args.keep.now c.in_ok-first.ensures.set c.in_ok-first.first c.in_ok-first.ensures.over
+pub judge-requires : goal.judge-requires
+judge-requires g c = over-saves c.args.run.now.retimed.circuit c.args.keep.now c.in_ok-first.ensures.set c.in_ok-first.first c.in_ok-first.ensures.over
 
 pub helping_over-requires : goal.helping_over-requires
 helping_over-requires g c =
@@ -22,10 +22,10 @@ helping_over-requires g c =
     let before = c.args.run.now.retimed.circuit in
     let most = c.in-TooLong.most in
     let law : BoundedLaw most c.args.keep.now before = bounded-law most c.args.keep.now before c.known.ensures.graph c.known.ensures.netlist in
-    let C : Netlist → Type 0 = λ d. IsChosen options.choice d c.args.keep.now c.in_ok-set.set in
-    let H : List ℕ → Type 0 = λ held. BoundedLaw most held before × IsChosen options.choice (bounded most held before) held c.in_ok-set.set in
-    let both = subst H c.requires (law, subst C c.in_ok-narrowed.ensures c.in_ok-set.ensures.set) in
-    subst (λ (held : List ℕ). IsClosedSet before.aig held c.in_ok-set.set) (sym c.requires) (bounded-closed options before most c.in_ok-set.set both.0 both.1).closed
+    let C : Netlist → Type 0 = λ d. IsChosen options.choice d c.args.keep.now c.in_ok-set-in-TooLong.set in
+    let H : List ℕ → Type 0 = λ held. BoundedLaw most held before × IsChosen options.choice (bounded most held before) held c.in_ok-set-in-TooLong.set in
+    let both = subst H c.requires (law, subst C c.in_ok-narrowed-in-TooLong.ensures c.in_ok-set-in-TooLong.ensures.set) in
+    subst (λ (held : List ℕ). IsClosedSet before.aig held c.in_ok-set-in-TooLong.set) (sym c.requires) (bounded-closed options before most c.in_ok-set-in-TooLong.set both.0 both.1).closed
 
 pub returns-in-Decided : goal.returns-in-Decided
 returns-in-Decided g c =
@@ -35,29 +35,29 @@ returns-in-Decided g c =
     let first = c.in_ok-first.first in
     let held = c.args.keep.now in
     let J : Judged → Type 0 = λ it. IsJudged bound before held first it in
-    let stays = subst J c.in-Decided.is c.in_ok-judged.ensures in
+    let stays = subst J c.in-Decided.is c.in_ok-found.ensures in
     let L : List ℕ → Type 0 = λ js. IsLook options.choice before before js c.args.records.now c.least_helping.new.records first × KeepsBound bound before js first in
     let both = subst L c.requires (c.in_ok-first.ensures, stays.1) in
     subst (Finds options bound before c.args.records.now c.least_helping.new.records) (sym stays.0) (finds-first options before bound c.args.records.now c.least_helping.new.records first both.0 both.1)
 
-pub returns : goal.returns
-returns g c =
+pub returns-in_ok-set-in-TooLong : goal.returns-in_ok-set-in-TooLong
+returns-in_ok-set-in-TooLong g c =
     let options = c.args.options.now in
     let before = c.args.run.now.retimed.circuit in
     let bound = c.args.run.now.bound in
     let first = c.in_ok-first.first in
     let held = c.args.keep.now in
     let most = c.in-TooLong.most in
-    let set = c.in_ok-set.set in
+    let set = c.in_ok-set-in-TooLong.set in
     let old = c.args.records.now in
     let mid = c.least_helping.new.records in
     let less = c.forget_last.new.self in
     let new = c.chosen_over.new.records in
     let J : Judged → Type 0 = λ it. IsJudged bound before held first it in
-    let breaks = subst J c.in-TooLong.is c.in_ok-judged.ensures in
+    let breaks = subst J c.in-TooLong.is c.in_ok-found.ensures in
     let law : BoundedLaw most held before = bounded-law most held before c.known.ensures.graph c.known.ensures.netlist in
     let D : Netlist → Type 0 = λ d. IsChosen options.choice d held set × AddsOne d held less new set in
-    let narrowed = subst D c.in_ok-narrowed.ensures (c.in_ok-set.ensures.set, c.in_ok-set.ensures.certificate) in
+    let narrowed = subst D c.in_ok-narrowed-in-TooLong.ensures (c.in_ok-set-in-TooLong.ensures.set, c.in_ok-set-in-TooLong.ensures.certificate) in
     let H : List ℕ → Type 0 = λ js. BoundedLaw most js before × IsLook options.choice before before js old mid first × BreaksBound most before js first
     × IsChosen options.choice (bounded most js before) js set × AddsOne (bounded most js before) js less new set in
     let all = subst H c.requires (law, c.in_ok-first.ensures, breaks.1, narrowed.0, narrowed.1) in

@@ -8,3 +8,6 @@ returns-clause-none_missing g c = c.retime_watched.ensures.none_missing
 
 pub returns-clause-missing : goal.returns-clause-missing
 returns-clause-missing g c = c.retime_watched.ensures.missing
+
+pub returns-clause-levels : goal.returns-clause-levels
+returns-clause-levels g c = c.retime_watched.ensures.levels
