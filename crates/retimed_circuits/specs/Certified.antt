@@ -12,20 +12,20 @@ use Rattle.aig_graph.specs.Keep.{held_in}
 use Rattle.retimed_circuits.specs.Frames.{AfterFrames, IsFound, count_in}
 
 -- the certificate passes all tests for c, or for c bounded
-pub data PassesWithin (bound : ℕ) (c : Netlist) (held : List ℕ) (cert : Certificate) : Type 0 where
-  passes_whole : IsVerdict c held cert Yes → PassesWithin bound c held cert
-  passes_bounded : IsVerdict (bounded bound held c) held cert Yes → PassesWithin bound c held cert
+pub data PassesWithin (bound : ℕ) (names : List (List ℕ)) (c : Netlist) (cert : Certificate) : Type 0 where
+  passes_whole : IsVerdict c (held_in names c) cert Yes → PassesWithin bound names c cert
+  passes_bounded : IsVerdict (bounded bound (held_in names c) c) (held_in names c) cert Yes → PassesWithin bound names c cert
 
 -- the certificate passes all tests for c; under a bound it may be for c bounded
-abbrev pub Passes : Option ℕ → Netlist → List ℕ → Certificate → Type 0
-Passes None c held cert = IsVerdict c held cert Yes
-Passes (Some bound) c held cert = PassesWithin bound c held cert
+abbrev pub Passes : Option ℕ → List (List ℕ) → Netlist → Certificate → Type 0
+Passes None names c cert = IsVerdict c (held_in names c) cert Yes
+Passes (Some bound) names c cert = PassesWithin bound names c cert
 
 -- the gates are the set that is found in c, the certificate has its count, and passes all tests
 pub record IsCertificate (bound : Option ℕ) (choice : Choice) (names : List (List ℕ)) (c : Netlist) (cert : Certificate) : Type 0 where
   pub found : IsFound bound choice names c cert.gates
   pub counted : cert.count ≡ count_in names c cert.gates
-  pub passes : Passes bound c (held_in names c) cert
+  pub passes : Passes bound names c cert
 
 -- certificate i, from 0, is one of the circuit that i frames make of c
 abbrev pub AreOfFrames : Option ℕ → Choice → List (List ℕ) → Netlist → List Certificate → Type 0
