@@ -125,7 +125,7 @@ fn bare_program<'a>(alloc: Global) -> Command<'a> {
 }
 
 /// The program's commands, in the order of the help text.
-pub(crate) fn program<'a>(alloc: Global) -> Result<Command<'a>, AllocError> {
+pub fn program_command<'a>(alloc: Global) -> Result<Command<'a>, AllocError> {
     let mut program = bare_program(alloc);
     for number in 0..COUNT {
         program = with_number(alloc, program, number)?;
