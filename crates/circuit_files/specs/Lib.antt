@@ -2,3 +2,4 @@ pub mod Codes
 pub mod Outcomes
 pub mod Reading
 pub mod LazyFiles
+pub mod WrittenFiles

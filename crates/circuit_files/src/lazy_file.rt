@@ -1,9 +1,12 @@
+//! Files that are written. Each of a command's files is opened here, so that one clause says which path it has.
 ghost use Rattle.std.specs.Prelude.{◌≡◌, None};
 ghost use Rattle.std.specs.Option.{option_and_then};
 ghost use Rattle.std.specs.Io.{WritesAtMost};
 ghost use Rattle.std.specs.Io.KnownBytes.{WriteAppends};
 ghost use Rattle.circuit_files.specs.LazyFiles.{WritesFirst};
+ghost use Rattle.circuit_files.specs.WrittenFiles.{HasPath};
 
+use counted_io::Counted;
 use std::fs::File;
 use std::io;
 use std::io::Write;
@@ -21,7 +24,8 @@ pub struct LazyFile<'a, R: Files> {
 impl<'a, R: Files> LazyFile<'a, R> {
     /// Makes no file yet.
     pub fn new(files: &'a R, path: &'a str) -> LazyFile<'a, R>
-        ensures { result.file ≡ None }
+        ensures file { result.file ≡ None }
+        ensures path { result.path ≡ path.entry }
     {
         LazyFile {
             files,
@@ -29,6 +33,13 @@ impl<'a, R: Files> LazyFile<'a, R> {
             file: None,
         }
     }
+}
+
+/// The file with this path, to be written.
+pub fn file_at<'a, R: Files>(rt: &'a R, path: &'a str) -> Counted<LazyFile<'a, R>>
+    ensures { HasPath result path.now }
+{
+    Counted::new(LazyFile::new(rt, path))
 }
 
 impl<R: Files> Write for LazyFile<'_, R> {

@@ -8,5 +8,5 @@ mod outcome;
 pub use files::{
     bytes_at, bytes_of_file, certificates_at, circuit_at, opened, stimulus_at, witness_at,
 };
-pub use lazy_file::LazyFile;
+pub use lazy_file::{LazyFile, file_at};
 pub use outcome::{Failure, Outcome};

@@ -1,17 +1,41 @@
 //! A circuit that is written.
-ghost use Rattle.std.specs.Prelude.{◌≡◌, true, false, IfErr};
+ghost use Rattle.std.specs.Prelude.{◌≡◌, true, false, IfErr, OnOk};
 ghost use Rattle.counted_io.specs.Output.{Writes};
 ghost use Rattle.aig_binary.specs.Spellings.{text_in};
 ghost use Rattle.stream_paths.specs.Streams.{is_stdout, target_name};
 ghost use Rattle.circuit_files.specs.Outcomes.{IsAbout, outcome_of};
+ghost use Rattle.circuit_files.specs.WrittenFiles.{IsFileGiven, IsTargetGiven};
 ghost use Rattle.circuit_files.specs.declared.outcome.Outcome.TheVariants.{Device};
 
 use aig_binary::{Spelling, write};
 use aig_graph::Circuit;
-use circuit_files::{Failure, LazyFile};
-use counted_io::{Counted, CountedWrite};
+use circuit_files::{Failure, file_at};
+use counted_io::{CountedWrite, WriteError};
 use std::rt::Files;
 use stream_paths::Target;
+
+/// Writes the circuit to a file or to standard output.
+fn put_circuit<R: Files, O: CountedWrite>(
+    rt: &R,
+    circuit: &Circuit,
+    spelling: Spelling,
+    output: Target<'_>,
+    out: &mut O,
+) -> Result<(), WriteError>
+    ensures given { OnOk result (IsTargetGiven (IsFileGiven R R.Dir R.File.contents) output.entry
+        (O.output out.old) (O.output out.new) (text_in spelling circuit.now)) }
+    ensures stdout { is_stdout output.entry ≡ true → Writes (O.output out.old)
+        (O.output out.new) result (text_in spelling circuit.now) }
+    ensures file { is_stdout output.entry ≡ false → O.output out.new ≡ O.output out.old }
+{
+    match output {
+        Target::Stdout => write(circuit, spelling, out),
+        Target::File(path) => {
+            let mut writer = file_at(rt, path);
+            write(circuit, spelling, &mut writer)
+        }
+    }
+}
 
 /// Writes the circuit to a file or to standard output, of which one is named where that failed. A file is made at its first byte.
 pub fn write_circuit<'a, R: Files, O: CountedWrite>(
@@ -21,20 +45,15 @@ pub fn write_circuit<'a, R: Files, O: CountedWrite>(
     output: Target<'a>,
     out: &mut O,
 ) -> Result<(), Failure<'a>>
+    ensures given { OnOk result (IsTargetGiven (IsFileGiven R R.Dir R.File.contents) output.entry
+        (O.output out.old) (O.output out.new) (text_in spelling circuit.now)) }
     ensures stdout { is_stdout output.entry ≡ true → Writes (O.output out.old)
         (O.output out.new) result (text_in spelling circuit.now) }
     ensures file { is_stdout output.entry ≡ false → O.output out.new ≡ O.output out.old }
     ensures err { IfErr result (λ failure. (outcome_of failure ≡ Device)
         × IsAbout (target_name output.entry) failure) }
 {
-    let written = match output {
-        Target::Stdout => write(circuit, spelling, out),
-        Target::File(path) => {
-            let mut writer = Counted::new(LazyFile::new(rt, path));
-            write(circuit, spelling, &mut writer)
-        }
-    };
-    match written {
+    match put_circuit(rt, circuit, spelling, output, out) {
         Ok(()) => Ok(()),
         Err(_) => Err(Failure::Device(output.name())),
     }

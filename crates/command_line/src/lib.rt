@@ -1,14 +1,11 @@
 //! What the words of a command line ask for, read by `clap`.
 #![tactic(auto)]
 
-mod argument;
-mod arguments;
 mod parse;
-mod program;
 mod refusing;
 mod stream_uses;
-mod subcommands;
 mod task;
+mod values;
 
 pub use parse::parse_arguments;
 pub use refusing::command_error;

@@ -1,163 +1,23 @@
-//! From the matches of the command-line library to a task. Each field of a task has a function of its own, whose clause says
-//! which argument it comes from; that the library matched the words as it should is only tested.
-ghost use Rattle.std.specs.Prelude.{◌≡◌, ◌^◌, IfOk, IfSome, MatchOption, None, codes, map};
+//! From the matches of the command-line library to a task, each field of which is the value of an argument.
+ghost use Rattle.std.specs.Prelude.{◌≡◌, IfOk, IfSome, MatchOption, None, codes};
 ghost use Rattle.clap.specs.Words.{first_value, found_of};
-ghost use Rattle.command_line.specs.Asking.{AreSequences, AreStimuli, Asks, IsBound, IsChecking, IsChoice, IsFlag, IsNumber, IsShown, IsSomeSource, IsSomeTarget, IsSource, IsSpelling, number_of, values_of};
+ghost use Rattle.command_line.specs.Asking.{AreSequences, AreStimuli, Asks, IsChecking};
 ghost use Rattle.command_line.specs.StreamUses.{UsesStreamsOnce};
 
-use crate::program::program;
 use crate::refusing::command_error;
 use crate::stream_uses::stream_conflict;
 use crate::task::{
     Asking, Batch, Carrying, Checking, Comparison, Counting, Drawing, Lifting, Retiming, Sequences,
-    Shown, Simulation, Stimuli, Task, Verification,
+    Simulation, Stimuli, Task, Verification,
 };
-use aig_graph::Choice;
+use crate::values::{
+    bound, choice, depth, frames, json, keep, keep_latches, merge, number, shown, source, source_if_given,
+    spelling, target, workers,
+};
 use clap::error::ErrorKind;
 use clap::{ArgMatches, Command, Error};
-use file_words::Spelling;
-use frames::PathBound;
+use command_words::program_command;
 use std::alloc::{AllocError, Global};
-use stream_paths::{Source, Target};
-
-/// What the argument with this id, a path that is read, stands for.
-fn source<'a>(matches: &ArgMatches<'a>, id: &str) -> Option<Source<'a>>
-    ensures { IfSome result (IsSource matches.now id.now) }
-{
-    Some(Source::of(matches.get_str(id)?))
-}
-
-/// The same, where the argument is given.
-fn source_if_given<'a>(matches: &ArgMatches<'a>, id: &str) -> Option<Source<'a>>
-    ensures { IsSomeSource matches.now id.now result }
-{
-    Some(Source::of(matches.get_str(id)?))
-}
-
-/// What the argument with this id, a path that is written, stands for.
-fn target<'a>(matches: &ArgMatches<'a>, id: &str) -> Option<Target<'a>>
-    ensures { IsSomeTarget matches.now id.now result }
-{
-    Some(Target::of(matches.get_str(id)?))
-}
-
-/// The spelling that a flag chooses.
-fn spelling(matches: &ArgMatches<'_>) -> Option<Spelling>
-    ensures { IsSpelling matches.now result }
-{
-    if matches.get_flag("ascii") {
-        Some(Spelling::Ascii)
-    } else if matches.get_flag("binary") {
-        Some(Spelling::Binary)
-    } else {
-        None
-    }
-}
-
-/// The least set that a flag chooses: the smallest, else the greatest.
-fn choice(matches: &ArgMatches<'_>) -> Choice
-    ensures { IsChoice matches.now result }
-{
-    if matches.get_flag("near") {
-        Choice::Smallest
-    } else {
-        Choice::Greatest
-    }
-}
-
-/// What a flag asks to be shown of a run: a line for each frame, nothing, else what a terminal is shown.
-fn shown(matches: &ArgMatches<'_>) -> Shown
-    ensures { IsShown matches.now result }
-{
-    if matches.get_flag("progress") {
-        Shown::EachFrame
-    } else if matches.get_flag("quiet") {
-        Shown::Nothing
-    } else {
-        Shown::OnTerminal
-    }
-}
-
-/// The number that an argument has as its value, else the default.
-fn number(matches: &ArgMatches<'_>, id: &str, default: u32) -> u32
-    ensures { IsNumber matches.now id.now default result }
-{
-    matches.get_one(id).unwrap_or(default)
-}
-
-fn workers(matches: &ArgMatches<'_>) -> u32
-    ensures { IsNumber matches.now (codes "workers") 1 result }
-{
-    number(matches, "workers", 1)
-}
-
-fn frames(matches: &ArgMatches<'_>) -> u32
-    ensures { IsNumber matches.now (codes "frames") (2 ^ 28) result }
-{
-    number(matches, "frames", 1 << 28)
-}
-
-/// How long moves may make paths: as the longest path that is read, or as long as a number says.
-fn bound(matches: &ArgMatches<'_>) -> PathBound
-    ensures { IsBound matches.now result }
-{
-    if matches.get_flag("no-longer") {
-        return PathBound::NoLonger;
-    }
-    match matches.get_str("levels") {
-        Some(_given) => PathBound::Levels(number(matches, "levels", 0)),
-        None => PathBound::None,
-    }
-}
-
-/// The names of the latches that are held.
-fn keep<'a>(alloc: Global, matches: &ArgMatches<'a>) -> Result<Vec<&'a str>, AllocError>
-    ensures { IfOk result (λ names. map (λ name. name.now) names.items
-        ≡ values_of matches.now (codes "keep")) }
-{
-    Vec::from_slice(alloc, matches.get_strs("keep").unwrap_or(&[]))
-}
-
-/// The number that a text is, else 0.
-fn number_of(text: &str) -> u32
-    ensures { result ≡ number_of text.now }
-{
-    text.parse().unwrap_or(0)
-}
-
-/// The numbers that texts are.
-fn numbers_of(alloc: Global, texts: &[&str]) -> Result<Vec<u32>, AllocError>
-    ensures { IfOk result (λ numbers. numbers.items
-        ≡ map number_of (map (λ text. text.now) texts.now)) }
-{
-    let mut numbers = Vec::new(alloc);
-    for text in texts {
-        numbers.push(number_of(text))?;
-    }
-    Ok(numbers)
-}
-
-/// The positions of the latches that are held.
-fn keep_latches(alloc: Global, matches: &ArgMatches<'_>) -> Result<Vec<u32>, AllocError>
-    ensures { IfOk result (λ places. places.items
-        ≡ map number_of (values_of matches.now (codes "keep-latch"))) }
-{
-    numbers_of(alloc, matches.get_strs("keep-latch").unwrap_or(&[]))
-}
-
-/// Whether an object of JSON is printed.
-fn json(matches: &ArgMatches<'_>) -> bool
-    ensures { IsFlag matches.now (codes "json") result }
-{
-    matches.get_flag("json")
-}
-
-/// Whether latches that always agree are merged.
-fn merge(matches: &ArgMatches<'_>) -> bool
-    ensures { IsFlag matches.now (codes "merge") result }
-{
-    matches.get_flag("merge")
-}
 
 fn retiming<'a>(alloc: Global, matches: &ArgMatches<'a>) -> Result<Option<Task<'a>>, AllocError>
     ensures { IfOk result (λ found. IfSome found (Asks (codes "retime") matches.now)) }
@@ -199,12 +59,6 @@ fn verification<'a>(alloc: Global, matches: &ArgMatches<'a>) -> Result<Option<Ta
         keep: keep(alloc, matches)?,
         keep_latches: keep_latches(alloc, matches)?,
     })))
-}
-
-fn depth(matches: &ArgMatches<'_>) -> u32
-    ensures { IsNumber matches.now (codes "depth") 2 result }
-{
-    number(matches, "depth", 2)
 }
 
 fn drawing<'a>(alloc: Global, matches: &ArgMatches<'a>) -> Result<Option<Task<'a>>, AllocError>
@@ -505,7 +359,7 @@ fn task_asked_of<'a>(
 pub fn parse_arguments<'a>(alloc: Global, words: &'a [String]) -> Result<Task<'a>, Error>
     ensures { IfOk result UsesStreamsOnce }
 {
-    let mut program = program(alloc)?;
+    let mut program = program_command(alloc)?;
     let asked = task_asked_of(alloc, &mut program, words);
     drop(program);
     asked

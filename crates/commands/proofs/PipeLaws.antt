@@ -1,29 +1,32 @@
 -- What a retiming gives standard output, where that is what it writes to.
 use Rattle.std.proofs.Common.{ℕ, ◌≡◌, ◌||◌, ◌⊎◌, inl, inr, Bool, List, true, false, Option, Some, None, Result, Ok, Err, refl, sym, ap, ◌∙◌, subst}
+use Rattle.std.specs.Prelude.{is_some, option_map}
 use Rattle.std.specs.Borrow.{Bor}
 use Rattle.std.specs.Result.{IfOk}
 use Rattle.std.proofs.Math.Bool.{true-or}
 use Rattle.std.proofs.lemmas.Bool.{or_parts}
 use Rattle.counted_io.specs.Input.{Input}
-use Rattle.aig_binary.specs.Ending.{Spells}
+use Rattle.aig_binary.specs.Spellings.{text_in}
 use Rattle.aig_binary.specs.declared.reading.SpeltCircuit.{SpeltCircuit}
 use Rattle.aig_binary.proofs.LimitLaws.{reads-within}
-use Rattle.certificate_files.specs.Texts.{file_text}
 use Rattle.counted_io.specs.Output.{Output, WritesAll}
 use Rattle.retimed_circuits.specs.declared.report.Retimed.{Retimed}
 use Rattle.frames.specs.declared.errors.BytesError.TheVariants.{Read, Retime, Write}
 use Rattle.frames.specs.declared.errors.RetimeError.TheVariants.{NoMemory, NoSuchName}
 use Rattle.mapped_answers.specs.declared.options.HeldOptions.{HeldOptions}
-use Rattle.mapped_answers.specs.Answering.{IsHeldMapStop, IsHeldStop}
+use Rattle.mapped_answers.specs.Answering.{IsHeldAnswer, IsHeldMapStop, IsHeldMapped, IsHeldStop, ReadsBack, text_for}
+use Rattle.mapped_answers.specs.declared.mapped.Mapped.{Mapped}
+use Rattle.mapped_answers.specs.declared.mapped.SpeltMap.{SpeltMap}
 use Rattle.mapped_answers.specs.declared.errors.HeldError.{HeldError}
 use Rattle.mapped_answers.specs.declared.errors.HeldError.TheVariants.{Answer, NoSuchLatch}
 use Rattle.mapped_answers.specs.declared.errors.HeldMapError.{HeldMapError}
 use Rattle.mapped_answers.specs.declared.errors.HeldMapError.TheVariants.{Held, MapTooLarge}
-use Rattle.stream_paths.specs.Streams.{is_stdin, is_stdout}
+use Rattle.stream_paths.specs.Streams.{is_stdout}
 use Rattle.stream_paths.specs.declared.target.Target.{Target}
 use Rattle.command_line.specs.StreamUses.{takes_stdout, writes_stdout}
 use Rattle.command_line.specs.declared.task.Retiming.{Retiming}
 use Rattle.circuit_files.specs.Outcomes.{outcome_of}
+use Rattle.circuit_files.proofs.TargetLaws.{of_file, of_stdout}
 use Rattle.circuit_files.specs.declared.outcome.Outcome.{Outcome}
 use Rattle.circuit_files.specs.declared.outcome.Outcome.TheVariants.{Device, Done}
 use Rattle.circuit_files.specs.declared.outcome.Failure.{Failure}
@@ -31,9 +34,9 @@ use Rattle.circuit_files.specs.declared.outcome.Failure.TheVariants as fails
 use Rattle.json_reports.specs.declared.times.Times.{Times}
 use Rattle.json_reports.specs.declared.counts.MapCounts.{MapCounts}
 use Rattle.commands.specs.declared.answer.Answer.{Answer as Answered}
-use Rattle.commands.specs.Pipes.{Answers, AnswersInput, AnswersPipe, IsAnswerTo, IsPipe, IsToldOf, PrintsRetiming, WritesPipe}
+use Rattle.commands.specs.Pipes.{AnswersPipe, IsAnswerTo, IsMapOf, IsPipe, IsToldOf, PrintsRetiming, WritesAnswer, WritesBeside, WritesCertificates, WritesMap, WritesPipe, WritesRetiming, blocks_text}
 use Rattle.command_endings.specs.Printing.{EndsAside, Prints, ending}
-use Rattle.commands.specs.RetimingTasks.{AreOptionsOf, EndsPrintingFrames, HasFailed, IsHeldFailureOf, IsMappedFailureOf, PrintsAlike, SaysFrames}
+use Rattle.commands.specs.RetimingTasks.{EndsPrintingFrames, HasFailed, IsHeldFailureOf, IsMappedFailureOf, PrintsAlike, SaysFrames, counts_of, levels_told}
 use Rattle.command_endings.proofs.PrintingLaws.{failing_after, prints_after}
 use Rattle.commands.proofs.FrameLaws.{frames_alike, says_alike}
 
@@ -52,56 +55,70 @@ pub stopped_mapped : (task : Retiming) (options : HeldOptions) (spelt : SpeltCir
 stopped_mapped task options spelt before after (Held e) f is p = stopped task options spelt before after e f is p
 stopped_mapped task options spelt before after MapTooLarge f is p = failing_after f before after p
 
--- what was read of standard input is answered as its bytes are
-pub answers_pipe : (task : Retiming) (options : HeldOptions) (spelt : SpeltCircuit) (input : Input) (old new : Output) (answer : Answered)
-    → AreOptionsOf task options → Spells input spelt → IsAnswerTo task options spelt old new answer → AnswersPipe task input old new answer.retimed answer.levels
-answers_pipe task options spelt input old new answer are read to = record {
-  options = options;
-  are_options = are;
-  answered = record {
-    spelt = spelt;
-    read = read;
-    written = to.written;
-    reads_back = λ left known. to.written.reads_back (reads-within left spelt.circuit (read.circuit.bytes left known));
-  };
-  levels_are = to.levels_are;
-}
-
--- the same, wherever it was written
-pub answers_input : (task : Retiming) (options : HeldOptions) (spelt : SpeltCircuit) (input : Input) (answer : Answered)
-    → AreOptionsOf task options → Spells input spelt → Answers task options spelt answer → AnswersInput task input answer.retimed answer.levels
-answers_input task options spelt input answer are read answers =
-    let written = answers.to.written in
+-- an answer with its map is the answer of the run
+pub mapped_answer : (task : Retiming) (options : HeldOptions) (spelt : SpeltCircuit) (old new : Output) (mapped : Mapped) (answer : Answered) → answer.retimed ≡ mapped.retimed
+    → answer.levels ≡ levels_told task spelt.circuit → answer.map ≡ Some mapped.map → is_some task.map ≡ true → IsHeldMapped options spelt old new mapped → IsAnswerTo task options spelt old new answer
+mapped_answer task options spelt old new mapped answer retimed levels made asked is =
+    let w = is.written in
     record {
-      options = options;
-      are_options = are;
-      before = answers.before;
-      after = answers.after;
-      answered = record {
-        spelt = spelt;
-        read = read;
-        written = written;
-        reads_back = λ left known. written.reads_back (reads-within left spelt.circuit (read.circuit.bytes left known));
+      of = record {
+        is = subst (λ (r : Retimed). IsHeldAnswer options spelt r) (sym retimed) w.answer;
+        reads_back = λ within. subst (λ (r : Retimed). ReadsBack options spelt r) (sym retimed) (w.reads_back within);
+        levels_are = levels;
+        map_is = subst (λ (m : Option SpeltMap). IsMapOf options spelt answer.retimed m) (sym made)
+            (subst (λ (r : Retimed). IsMapOf options spelt r (Some mapped.map)) (sym retimed) (is.map, is.spelling));
+        has_map = ap is_some made ∙ sym asked;
       };
-      levels_are = answers.to.levels_are;
+      writes = subst (λ (r : Retimed). WritesAll old new (text_for options spelt r)) (sym retimed) w.writes;
     }
 
--- the text of a retiming's certificates
-abbrev pub blocks_text : Retiming → Retimed → List ℕ
-blocks_text task r = file_text (record { choice = task.choice; blocks = r.certificates })
+-- what goes to no standard output leaves it as it was
+map_aside : (FileGiven : List ℕ → List ℕ → Type 0) (target : Option Target) (made : Option SpeltMap) (old new : Output) → writes_stdout target ≡ false → WritesMap FileGiven target made old new → new ≡ old
+map_aside FileGiven None made old new aside same = same
+map_aside FileGiven (Some target) None old new aside same = same
+map_aside FileGiven (Some target) (Some m) old new aside written = of_file FileGiven target old new (text_in m.spelling m.circuit) aside written
+
+certificates_aside : (FileGiven : List ℕ → List ℕ → Type 0) (target : Option Target) (text : List ℕ) (old new : Output) → writes_stdout target ≡ false → WritesCertificates FileGiven target text old new → new ≡ old
+certificates_aside FileGiven None text old new aside same = same
+certificates_aside FileGiven (Some target) text old new aside written = of_file FileGiven target old new text aside written
+
+-- a pipe is given the answer of what it reads, and nothing else
+pub answers_pipe : (FileGiven : List ℕ → List ℕ → Type 0) (task : Retiming) (input : Input) (old new : Output) (answer : Answered)
+    → IsPipe task → WritesRetiming FileGiven task input old new answer → AnswersPipe task input old new answer.retimed answer.levels
+answers_pipe FileGiven task input old new answer pipe all =
+    let made = all.circuit in
+    let at = made.at in
+    let beside = all.beside in
+    let spells = made.read pipe.stdin in
+    let same : new ≡ all.between = certificates_aside FileGiven task.certificates (blocks_text task answer.retimed) beside.between new pipe.alone beside.certificates_go
+    ∙ map_aside FileGiven task.map answer.map all.between beside.between pipe.map_aside beside.map_goes in
+    subst (λ (s : Output). AnswersPipe task input old s answer.retimed answer.levels) (sym same) (record {
+      options = made.options;
+      are_options = made.are_options;
+      answered = record {
+        spelt = made.spelt;
+        read = spells;
+        written = record {
+          answer = at.of.is;
+          writes = of_stdout FileGiven task.output old all.between (text_for made.options made.spelt answer.retimed) pipe.stdout at.writes;
+          reads_back = at.of.reads_back;
+        };
+        reads_back = λ left known. at.of.reads_back (reads-within left made.spelt.circuit (spells.circuit.bytes left known));
+      };
+      levels_are = at.of.levels_are;
+    })
 
 -- what is written beside the answer changes nothing of what is told of it
-pub told_of : (task : Retiming) (input : Input) (old mid new : Output) (before after r : Retimed) (levels told : Option ℕ) → told ≡ levels → r ≡ after → PrintsAlike after before
-    → (is_stdin task.input ≡ true → AnswersInput task input before levels) → (IsPipe task → AnswersPipe task input old mid before levels)
-    → (writes_stdout task.map ≡ false → writes_stdout task.certificates ≡ false → new ≡ mid) → (is_stdout task.output ≡ false → mid ≡ old)
-    → (writes_stdout task.map ≡ false → writes_stdout task.certificates ≡ true → WritesAll mid new (blocks_text task before)) → IsToldOf task input old new r told
-told_of task input old mid new before after r levels told leveled same alike read pipe quiet file certifies = record {
-  answer = before;
-  alike = subst (λ (x : Retimed). PrintsAlike x before) (sym same) alike;
-  read = λ stdin. subst (AnswersInput task input before) (sym leveled) (read stdin);
-  pipe = λ is. subst (AnswersPipe task input old new before) (sym leveled)
-      (subst (λ (s : Output). AnswersPipe task input old s before levels) (sym (quiet is.map_aside is.alone)) (pipe is));
-  certificates = λ elsewhere map_aside asked. subst (λ (s : Output). WritesAll s new (blocks_text task before)) (file elsewhere) (certifies map_aside asked);
+pub told_of : (FileGiven : List ℕ → List ℕ → Type 0) (task : Retiming) (input : Input) (old mid new : Output) (answer after : Answered) (r : Retimed) (levels : Option ℕ) (counts : Option MapCounts)
+    → levels ≡ after.levels → after.levels ≡ answer.levels → r ≡ after.retimed → PrintsAlike after.retimed answer.retimed
+    → counts ≡ option_map (λ (m : SpeltMap). counts_of m.circuit) after.map → after.map ≡ answer.map
+    → WritesAnswer FileGiven task input old mid answer → WritesBeside FileGiven task answer mid new → IsToldOf FileGiven task input old new r levels counts
+told_of FileGiven task input old mid new answer after r levels counts told leveled same alike counted mapped circuit beside = record {
+  answer = answer;
+  alike = subst (λ (x : Retimed). PrintsAlike x answer.retimed) (sym same) alike;
+  levels_are = told ∙ leveled;
+  counts_are = subst (λ (m : Option SpeltMap). counts ≡ option_map (λ (x : SpeltMap). counts_of x.circuit) m) mapped counted;
+  written = record { between = mid; circuit = circuit; beside = beside };
 }
 
 -- neither the circuit nor the map nor the certificates went to standard output
@@ -118,38 +135,37 @@ pipe_takes_stdout task pipe =
     ap (λ (b : Bool). b || writes_stdout task.certificates || writes_stdout task.map) pipe.stdout
     ∙ ap (λ (b : Bool). b || writes_stdout task.map) (true-or (writes_stdout task.certificates)) ∙ true-or (writes_stdout task.map)
 
-or-right : (b : Bool) → (b || true) ≡ true
-or-right true = refl
-or-right false = refl
-
--- so it does where certificates are written to standard output
-pub certificates_take_stdout : (task : Retiming) → writes_stdout task.certificates ≡ true → takes_stdout task ≡ true
-certificates_take_stdout task asked =
-    ap (λ (b : Bool). is_stdout task.output || b || writes_stdout task.map) asked
-    ∙ ap (λ (b : Bool). b || writes_stdout task.map) (or-right (is_stdout task.output)) ∙ true-or (writes_stdout task.map)
-
 stays_quiet : (old mid new : Output) (result : Result Outcome Failure) → EndsAside Done mid new result → new ≡ mid
 stays_quiet old mid new result aside = aside.quiet
 
+-- what holds of a result holds of how it ended
+if_ended : (result : Result Outcome Failure) (P : Result Outcome Failure → Type 0) → P result → IfOk result (λ ended. P (Ok ended))
+if_ended (Ok ended) P p = p
+if_ended (Err failure) P p = tt
+
 -- what is told of it is printed
-pub prints_retiming : (task : Retiming) (is_terminal : Bool) (input : Input) (old mid new shown told said : Output) (r : Retimed) (levels : Option ℕ) (times : Option Times) (mapped : Option MapCounts) (result : Result Outcome Failure)
-    → IsToldOf task input old mid r levels → (takes_stdout task ≡ false → mid ≡ old) → (takes_stdout task ≡ true → EndsAside Done mid new result)
+pub prints_retiming : (FileGiven : List ℕ → List ℕ → Type 0) (task : Retiming) (is_terminal : Bool) (input : Input) (old mid new shown told said : Output) (r : Retimed) (levels : Option ℕ) (times : Option Times) (mapped : Option MapCounts) (result : Result Outcome Failure)
+    → IsToldOf FileGiven task input old mid r levels mapped → (takes_stdout task ≡ true → EndsAside Done mid new result)
     → (takes_stdout task ≡ true → SaysFrames task r levels times mapped shown told) → (takes_stdout task ≡ false → EndsPrintingFrames task.json task r levels times mapped mid new result)
-    → (is_terminal ≡ false → said ≡ told) → PrintsRetiming task is_terminal input old new said result
-prints_retiming task is_terminal input old mid new shown told said r levels times mapped result of before aside says frames still = record {
-  retimed = of.answer;
-  levels = levels;
-  times = times;
-  mapped = mapped;
-  read = of.read;
-  pipe = λ pipe. subst (λ (s : Output). AnswersPipe task input old s of.answer levels) (sym (stays_quiet mid mid new result (aside (pipe_takes_stdout task pipe)))) (of.pipe pipe);
-  certificates = λ elsewhere map_aside asked. subst (λ (s : Output). WritesAll old s (blocks_text task of.answer))
-      (sym (stays_quiet mid mid new result (aside (certificates_take_stdout task asked)))) (of.certificates elsewhere map_aside asked);
-  printed = λ free. subst (λ (s : Output). EndsPrintingFrames task.json task of.answer levels times mapped s new result) (before free)
-      (frames_alike task.json task r of.answer levels times mapped mid new result of.alike (frames free));
-  shown = shown;
-  aside = λ taken quiet. subst (SaysFrames task of.answer levels times mapped shown) (sym (still quiet)) (says_alike task r of.answer levels times mapped shown told of.alike (says taken));
-}
+    → (is_terminal ≡ false → said ≡ told) → IfOk result (λ ended. PrintsRetiming FileGiven task is_terminal input old new said (Ok ended))
+prints_retiming FileGiven task is_terminal input old mid new shown told said r levels times mapped result of aside says frames still =
+    let answer = of.answer in
+    let counts = option_map (λ (m : SpeltMap). counts_of m.circuit) answer.map in
+    if_ended result (λ (r : Result Outcome Failure). PrintsRetiming FileGiven task is_terminal input old new said r) (record {
+      answer = answer;
+      times = times;
+      between = mid;
+      written = of.written;
+      printed = λ free. subst (λ (m : Option MapCounts). EndsPrintingFrames task.json task answer.retimed answer.levels times m mid new result) of.counts_are
+          (subst (λ (l : Option ℕ). EndsPrintingFrames task.json task answer.retimed l times mapped mid new result) of.levels_are
+          (frames_alike task.json task r answer.retimed levels times mapped mid new result of.alike (frames free)));
+      quiet = λ taken. stays_quiet mid mid new result (aside taken);
+      shown = shown;
+      aside = λ taken quiet. subst (SaysFrames task answer.retimed answer.levels times counts shown) (sym (still quiet))
+          (subst (λ (m : Option MapCounts). SaysFrames task answer.retimed answer.levels times m shown told) of.counts_are
+          (subst (λ (l : Option ℕ). SaysFrames task answer.retimed l times mapped shown told) of.levels_are
+          (says_alike task r answer.retimed levels times mapped shown told of.alike (says taken))));
+    })
 
 -- what holds anyway holds where a result is there
 pub if_done : {T E : Type 0} (result : Result T E) (P : Type 0) → P → IfOk result (λ x. P)
@@ -157,12 +173,17 @@ if_done (Ok x) P p = p
 if_done (Err e) P p = tt
 
 -- so a pipe has its answer
-pub writes_pipe : {T E : Type 0} (task : Retiming) (input : Input) (old mid new : Output) (r : Retimed) (levels : Option ℕ) (result : Result Outcome Failure) (ended : Result T E)
-    → IsToldOf task input old mid r levels → (takes_stdout task ≡ true → EndsAside Done mid new result) → IfOk ended (λ x. IsPipe task → WritesPipe task input old new)
-writes_pipe task input old mid new r levels result ended of aside =
+pub writes_pipe : {T E : Type 0} (FileGiven : List ℕ → List ℕ → Type 0) (task : Retiming) (input : Input) (old mid new : Output) (r : Retimed) (levels : Option ℕ) (mapped : Option MapCounts) (result : Result Outcome Failure) (ended : Result T E)
+    → IsToldOf FileGiven task input old mid r levels mapped → (takes_stdout task ≡ true → EndsAside Done mid new result) → IfOk ended (λ x. IsPipe task → WritesPipe task input old new)
+writes_pipe FileGiven task input old mid new r levels mapped result ended of aside =
+    let answer = of.answer in
     let still : IsPipe task → new ≡ mid = λ pipe. stays_quiet mid mid new result (aside (pipe_takes_stdout task pipe)) in
     if_done ended (IsPipe task → WritesPipe task input old new)
-    (λ pipe. record { retimed = of.answer; levels = levels; answers = subst (λ (s : Output). AnswersPipe task input old s of.answer levels) (sym (still pipe)) (of.pipe pipe) })
+    (λ pipe. record {
+      retimed = answer.retimed;
+      levels = answer.levels;
+      answers = subst (λ (s : Output). AnswersPipe task input old s answer.retimed answer.levels) (sym (still pipe)) (answers_pipe FileGiven task input old mid answer pipe of.written);
+    })
 
 ends_aside : (old mid new : Output) (result : Result Outcome Failure) → EndsAside Done mid new result → Prints (ending result) old new
 ends_aside old mid new result aside = subst (λ (e : Outcome). Prints e old new) (sym aside.ends) tt

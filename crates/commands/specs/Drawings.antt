@@ -9,9 +9,9 @@ use Rattle.aig_graph.specs.Border.{IsGreatestLeast, border_size}
 use Rattle.aig_graph.specs.Keep.{held_in}
 use Rattle.aig_binary.specs.declared.reading.SpeltCircuit.{SpeltCircuit}
 use Rattle.counted_io.specs.Input.{Input}
-use Rattle.counted_io.specs.Output.{Output, WritesAll}
-use Rattle.stream_paths.specs.Streams.{is_stdout}
+use Rattle.counted_io.specs.Output.{Output}
 use Rattle.stream_paths.specs.declared.source.Source.{Source}
+use Rattle.circuit_files.specs.WrittenFiles.{IsTargetGiven}
 use Rattle.circuit_files.specs.declared.outcome.Failure.{Failure}
 use Rattle.circuit_files.specs.declared.outcome.Failure.TheVariants as fails
 use Rattle.circuit_files.specs.declared.outcome.Outcome.{Outcome}
@@ -111,14 +111,9 @@ pub record IsSceneOf (task : Drawing) (before after : Input) (scene : Scene) : T
 abbrev pub picture_of : Drawing → Scene → List ℕ
 picture_of task scene = picture scene.circuit scene.keep scene.set (shown scene.circuit task) (middle scene.circuit task)
 
--- the picture of the scene of what is read was written
-pub record WritesScene (task : Drawing) (before after : Input) (old new : Output) : Type 0 where
+-- the picture of the scene of what is read was written to what the task writes
+pub record PrintsPicture (FileGiven : List ℕ → List ℕ → Type 0) (task : Drawing) (before after : Input) (old new : Output) (ended : Outcome) : Type 0 where
+  pub ends : ended ≡ Done
   pub scene : Scene
   pub is : IsSceneOf task before after scene
-  pub writes : WritesAll old new (picture_of task scene)
-
--- so where the task writes to standard output; where it writes to a file, standard output is given nothing
-pub record PrintsPicture (task : Drawing) (before after : Input) (old new : Output) (ended : Outcome) : Type 0 where
-  pub ends : ended ≡ Done
-  pub stdout : is_stdout task.output ≡ true → WritesScene task before after old new
-  pub file : is_stdout task.output ≡ false → new ≡ old
+  pub writes : IsTargetGiven FileGiven task.output old new (picture_of task scene)

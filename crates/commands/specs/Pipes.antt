@@ -1,24 +1,30 @@
--- From standard input to standard output.
-use Rattle.std.specs.Prelude.{ℕ, ◌≡◌, Bool, true, false, Option, Result}
+-- What a retiming and a conversion write, and what is told of it.
+use Rattle.std.specs.Prelude.{ℕ, ◌≡◌, Bool, true, false, List, Option, Some, None, Result, is_some, option_map, unwrap_or}
 use Rattle.counted_io.specs.Input.{Input}
 use Rattle.counted_io.specs.Output.{Output, WritesAll}
 use Rattle.aig_binary.specs.Spellings.{text_in}
+use Rattle.ascii_file.specs.Laws.{IsWithinLimits}
 use Rattle.file_words.specs.declared.spelling.Spelling.{Spelling}
 use Rattle.aig_binary.specs.declared.reading.SpeltCircuit.{SpeltCircuit}
 use Rattle.aig_binary.specs.Ending.{Spells}
+use Rattle.state_maps.specs.MapCircuits.{IsMapCircuit}
 use Rattle.retimed_circuits.specs.declared.report.Retimed.{Retimed}
-use Rattle.mapped_answers.specs.Answering.{IsHeldAnswered, IsHeldWritten}
+use Rattle.mapped_answers.specs.Answering.{IsHeldAnswer, IsHeldAnswered, ReadsBack, freed, text_for}
+use Rattle.mapped_answers.specs.declared.mapped.SpeltMap.{SpeltMap}
 use Rattle.mapped_answers.specs.declared.options.HeldOptions.{HeldOptions}
 use Rattle.stream_paths.specs.Streams.{is_stdin, is_stdout}
+use Rattle.stream_paths.specs.declared.source.Source.{Source}
+use Rattle.stream_paths.specs.declared.target.Target.{Target}
 use Rattle.command_line.specs.StreamUses.{takes_stdout, writes_stdout}
 use Rattle.command_line.specs.declared.task.Retiming.{Retiming}
 use Rattle.commands.specs.OtherSpelling.{spelling_for}
 use Rattle.certificate_files.specs.Texts.{file_text as certificates_text}
 use Rattle.json_reports.specs.declared.times.Times.{Times}
 use Rattle.json_reports.specs.declared.counts.MapCounts.{MapCounts}
+use Rattle.circuit_files.specs.WrittenFiles.{IsTargetGiven}
 use Rattle.circuit_files.specs.declared.outcome.Outcome.{Outcome}
 use Rattle.circuit_files.specs.declared.outcome.Failure.{Failure}
-use Rattle.commands.specs.RetimingTasks.{AreOptionsOf, EndsPrintingFrames, PrintsAlike, SaysFrames, levels_told}
+use Rattle.commands.specs.RetimingTasks.{AreOptionsOf, EndsPrintingFrames, PrintsAlike, SaysFrames, counts_of, levels_told}
 use Rattle.commands.specs.declared.answer.Answer.{Answer}
 
 -- a retiming from standard input to standard output, which gets the circuit alone
@@ -28,16 +34,83 @@ pub record IsPipe (task : Retiming) : Type 0 where
   pub alone : writes_stdout task.certificates ≡ false
   pub map_aside : writes_stdout task.map ≡ false
 
--- of a circuit that was read: its answer by the options was written, and nothing else, and its levels are told where that is asked for
-pub record IsAnswerTo (task : Retiming) (options : HeldOptions) (spelt : SpeltCircuit) (old new : Output) (answer : Answer) : Type 0 where
-  pub written : IsHeldWritten options spelt old new answer.retimed
-  pub levels_are : answer.levels ≡ levels_told task spelt.circuit
+-- a map, where there is one, is that of the run: from the circuit that was read to the one that is written, in its spelling
+abbrev pub IsMapOf : HeldOptions → SpeltCircuit → Retimed → Option SpeltMap → Type 0
+IsMapOf options spelt r None = Unit {0}
+IsMapOf options spelt r (Some m) = IsMapCircuit spelt.circuit (freed options r) r.kept_free m.circuit × (m.spelling ≡ unwrap_or options.options.spelling spelt.spelling)
 
--- the same, wherever it was written
-pub record Answers (task : Retiming) (options : HeldOptions) (spelt : SpeltCircuit) (answer : Answer) : Type 0 where
-  pub before : Output
-  pub after : Output
-  pub to : IsAnswerTo task options spelt before after answer
+-- of a circuit that was read, this is the answer by the options, which is read back; its levels are told, and its map is made, where that is asked for
+pub record IsAnswerOf (task : Retiming) (options : HeldOptions) (spelt : SpeltCircuit) (answer : Answer) : Type 0 where
+  pub is : IsHeldAnswer options spelt answer.retimed
+  pub reads_back : IsWithinLimits spelt.circuit → ReadsBack options spelt answer.retimed
+  pub levels_are : answer.levels ≡ levels_told task spelt.circuit
+  pub map_is : IsMapOf options spelt answer.retimed answer.map
+  pub has_map : is_some answer.map ≡ is_some task.map
+
+-- it was written, and nothing else
+pub record IsAnswerTo (task : Retiming) (options : HeldOptions) (spelt : SpeltCircuit) (old new : Output) (answer : Answer) : Type 0 where
+  pub of : IsAnswerOf task options spelt answer
+  pub writes : WritesAll old new (text_for options spelt answer.retimed)
+
+-- it was written to what the task writes
+pub record IsAnswerAt (FileGiven : List ℕ → List ℕ → Type 0) (task : Retiming) (options : HeldOptions) (spelt : SpeltCircuit) (old new : Output) (answer : Answer) : Type 0 where
+  pub of : IsAnswerOf task options spelt answer
+  pub writes : IsTargetGiven FileGiven task.output old new (text_for options spelt answer.retimed)
+
+-- so was the answer, by the options of the task, of what it reads: of standard input, of the bytes that were left
+pub record WritesAnswer (FileGiven : List ℕ → List ℕ → Type 0) (task : Retiming) (input : Input) (old new : Output) (answer : Answer) : Type 0 where
+  pub options : HeldOptions
+  pub are_options : AreOptionsOf task options
+  pub spelt : SpeltCircuit
+  pub read : is_stdin task.input ≡ true → Spells input spelt
+  pub at : IsAnswerAt FileGiven task options spelt old new answer
+
+-- a map was written to this, where that is asked for
+abbrev pub WritesMap : (List ℕ → List ℕ → Type 0) → Option Target → Option SpeltMap → Output → Output → Type 0
+WritesMap FileGiven (Some target) (Some m) old new = IsTargetGiven FileGiven target old new (text_in m.spelling m.circuit)
+WritesMap FileGiven (Some target) None old new = new ≡ old
+WritesMap FileGiven None made old new = new ≡ old
+
+-- the text of a retiming's certificates
+abbrev pub blocks_text : Retiming → Retimed → List ℕ
+blocks_text task r = certificates_text (record { choice = task.choice; blocks = r.certificates })
+
+-- so were the certificates
+abbrev pub WritesCertificates : (List ℕ → List ℕ → Type 0) → Option Target → List ℕ → Output → Output → Type 0
+WritesCertificates FileGiven (Some target) text old new = IsTargetGiven FileGiven target old new text
+WritesCertificates FileGiven None text old new = new ≡ old
+
+-- the map of an answer was written, and then its certificates
+pub record WritesBeside (FileGiven : List ℕ → List ℕ → Type 0) (task : Retiming) (answer : Answer) (old new : Output) : Type 0 where
+  pub between : Output
+  pub map_goes : WritesMap FileGiven task.map answer.map old between
+  pub certificates_go : WritesCertificates FileGiven task.certificates (blocks_text task answer.retimed) between new
+
+-- all that a retiming writes was written: the answer of what the task reads, its map, and its certificates
+pub record WritesRetiming (FileGiven : List ℕ → List ℕ → Type 0) (task : Retiming) (input : Input) (old new : Output) (answer : Answer) : Type 0 where
+  pub between : Output
+  pub circuit : WritesAnswer FileGiven task input old between answer
+  pub beside : WritesBeside FileGiven task answer between new
+
+-- what is told of r is told of an answer whose parts were all written, and of its map
+pub record IsToldOf (FileGiven : List ℕ → List ℕ → Type 0) (task : Retiming) (input : Input) (old new : Output) (r : Retimed) (levels : Option ℕ) (mapped : Option MapCounts) : Type 0 where
+  pub answer : Answer
+  pub alike : PrintsAlike r answer.retimed
+  pub levels_are : levels ≡ answer.levels
+  pub counts_are : mapped ≡ option_map (λ (m : SpeltMap). counts_of m.circuit) answer.map
+  pub written : WritesRetiming FileGiven task input old new answer
+
+-- the answer of what the task reads was written with all that is asked for, and then it was printed: on standard output, or, where a circuit, a map or
+-- certificates went there, on standard error, of which a terminal is told more
+pub record PrintsRetiming (FileGiven : List ℕ → List ℕ → Type 0) (task : Retiming) (is_terminal : Bool) (input : Input) (old new said : Output) (result : Result Outcome Failure) : Type 0 where
+  pub answer : Answer
+  pub times : Option Times
+  pub between : Output
+  pub written : WritesRetiming FileGiven task input old between answer
+  pub printed : takes_stdout task ≡ false → EndsPrintingFrames task.json task answer.retimed answer.levels times (option_map (λ (m : SpeltMap). counts_of m.circuit) answer.map) between new result
+  pub quiet : takes_stdout task ≡ true → new ≡ between
+  pub shown : Output
+  pub aside : takes_stdout task ≡ true → is_terminal ≡ false → SaysFrames task answer.retimed answer.levels times (option_map (λ (m : SpeltMap). counts_of m.circuit) answer.map) shown said
 
 -- the answer by the options of the task, of the bytes that standard input had left, was written, and nothing else; the levels are those of
 -- the circuit of the bytes
@@ -47,51 +120,14 @@ pub record AnswersPipe (task : Retiming) (input : Input) (old new : Output) (ret
   pub answered : IsHeldAnswered input old new options retimed
   pub levels_are : levels ≡ levels_told task answered.spelt.circuit
 
--- the same, wherever it was written
-pub record AnswersInput (task : Retiming) (input : Input) (retimed : Retimed) (levels : Option ℕ) : Type 0 where
-  pub options : HeldOptions
-  pub are_options : AreOptionsOf task options
-  pub before : Output
-  pub after : Output
-  pub answered : IsHeldAnswered input before after options retimed
-  pub levels_are : levels ≡ levels_told task answered.spelt.circuit
-
--- where nothing but the certificates of r goes to standard output, it was given their text
-abbrev pub Certifies : Retiming → Retimed → Output → Output → Type 0
-Certifies task r old new =
-    is_stdout task.output ≡ false → writes_stdout task.map ≡ false → writes_stdout task.certificates ≡ true
-    → WritesAll old new (certificates_text (record { choice = task.choice; blocks = r.certificates }))
-
--- what is told of r is told of the answer of what the task reads, which standard output was given where it gets the circuit alone
-pub record IsToldOf (task : Retiming) (input : Input) (old new : Output) (r : Retimed) (levels : Option ℕ) : Type 0 where
-  pub answer : Retimed
-  pub alike : PrintsAlike r answer
-  pub read : is_stdin task.input ≡ true → AnswersInput task input answer levels
-  pub pipe : IsPipe task → AnswersPipe task input old new answer levels
-  pub certificates : Certifies task answer old new
-
--- the retiming of what the task reads was printed: on standard output, or, where a circuit, a map or certificates went there, on standard
--- error, of which a terminal is told more
-pub record PrintsRetiming (task : Retiming) (is_terminal : Bool) (input : Input) (old new said : Output) (result : Result Outcome Failure) : Type 0 where
-  pub retimed : Retimed
-  pub levels : Option ℕ
-  pub times : Option Times
-  pub mapped : Option MapCounts
-  pub read : is_stdin task.input ≡ true → AnswersInput task input retimed levels
-  pub pipe : IsPipe task → AnswersPipe task input old new retimed levels
-  pub certificates : Certifies task retimed old new
-  pub printed : takes_stdout task ≡ false → EndsPrintingFrames task.json task retimed levels times mapped old new result
-  pub shown : Output
-  pub aside : takes_stdout task ≡ true → is_terminal ≡ false → SaysFrames task retimed levels times mapped shown said
-
 -- that is so of some retiming
 pub record WritesPipe (task : Retiming) (input : Input) (old new : Output) : Type 0 where
   pub retimed : Retimed
   pub levels : Option ℕ
   pub answers : AnswersPipe task input old new retimed levels
 
--- the circuit of the bytes that standard input had left was written, in the chosen spelling, else in the one that wasn't read
-pub record ConvertsPipe (chosen : Option Spelling) (input : Input) (old new : Output) : Type 0 where
+-- the circuit that is read, of standard input that of the bytes that were left, was written in the chosen spelling, else in the one that wasn't read
+pub record Converts (FileGiven : List ℕ → List ℕ → Type 0) (chosen : Option Spelling) (source : Source) (target : Target) (input : Input) (old new : Output) : Type 0 where
   pub spelt : SpeltCircuit
-  pub read : Spells input spelt
-  pub writes : WritesAll old new (text_in (spelling_for spelt.spelling chosen) spelt.circuit)
+  pub read : is_stdin source ≡ true → Spells input spelt
+  pub writes : IsTargetGiven FileGiven target old new (text_in (spelling_for spelt.spelling chosen) spelt.circuit)

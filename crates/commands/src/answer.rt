@@ -1,22 +1,22 @@
 //! From the circuit that `retime` reads to the one that it writes, with a map of states where one is asked for.
-ghost use Rattle.std.specs.Prelude.{◌≡◌, ◌<◌, ◌≤◌, true, false, IfErr, IfOk, option_map};
+ghost use Rattle.std.specs.Prelude.{◌≡◌, ◌<◌, ◌≤◌, true, false, IfErr, IfOk, OnOk, Some, option_map};
 ghost use Rattle.aig_binary.specs.Spellings.{text_in};
-ghost use Rattle.counted_io.specs.Output.{Writes};
 ghost use Rattle.stream_paths.specs.Streams.{is_stdout};
 ghost use Rattle.mapped_answers.specs.Answering.{IsHeldMapStop, IsHeldMapped, IsHeldWritten};
 ghost use Rattle.circuit_files.specs.Outcomes.{outcome_of};
+ghost use Rattle.circuit_files.specs.WrittenFiles.{IsFileGiven, IsTargetGiven};
 ghost use Rattle.command_line.specs.StreamUses.{writes_stdout};
 ghost use Rattle.command_endings.specs.Printing.{Prints};
-ghost use Rattle.commands.specs.Pipes.{IsAnswerTo};
+ghost use Rattle.commands.specs.Pipes.{IsAnswerTo, WritesMap};
 ghost use Rattle.commands.specs.RetimingTasks.{AreOptionsOf, HasFailed, IsFailureOf, IsHeldFailureOf, IsMappedFailureOf, counts_of, levels_told};
 
 use crate::holding::missing_latch;
 use aig_binary::SpeltCircuit;
 use aig_graph::{Circuit, NoMemory};
-use circuit_files::{Failure, LazyFile};
+use circuit_files::{Failure, file_at};
 use command_endings::missing_name;
 use command_line::Retiming;
-use counted_io::{Counted, CountedWrite, WriteError};
+use counted_io::{CountedWrite, WriteError};
 use file_words::ReadError;
 use frames::{BytesError, FrameWatcher, RetimeError, Retimed};
 use json_reports::MapCounts;
@@ -144,6 +144,7 @@ fn mapped_to<R: Threads + Sync, W: CountedWrite, V: FrameWatcher>(
 fn answer_of(mapped: Mapped, levels: Option<u32>) -> Answer
     ensures retimed { result.retimed ≡ mapped.retimed }
     ensures levels { result.levels ≡ levels }
+    ensures map { result.map ≡ Some mapped.map }
 {
     let Mapped { retimed, map } = mapped;
     Answer {
@@ -211,20 +212,20 @@ pub(crate) fn retime_to<'a, R: Threads + Sync, W: CountedWrite, V: FrameWatcher>
 }
 
 /// Writes a map to what it is written to.
-fn write_map<'a, R: Files, O: CountedWrite>(
+fn write_map<R: Files, O: CountedWrite>(
     rt: &R,
     map: &SpeltMap,
-    target: Target<'a>,
+    target: Target<'_>,
     out: &mut O,
 ) -> Result<(), WriteError>
-    ensures stdout { is_stdout target.entry ≡ true → Writes (O.output out.old)
-        (O.output out.new) result (text_in map.now.spelling map.now.circuit) }
+    ensures given { OnOk result (IsTargetGiven (IsFileGiven R R.Dir R.File.contents) target.entry
+        (O.output out.old) (O.output out.new) (text_in map.now.spelling map.now.circuit)) }
     ensures file { is_stdout target.entry ≡ false → O.output out.new ≡ O.output out.old }
 {
     match target {
         Target::Stdout => write_state_map(&map.circuit, map.spelling, out),
         Target::File(path) => {
-            let mut writer = Counted::new(LazyFile::new(rt, path));
+            let mut writer = file_at(rt, path);
             write_state_map(&map.circuit, map.spelling, &mut writer)
         }
     }
@@ -237,6 +238,8 @@ pub(crate) fn map_written<'a, R: Files, O: CountedWrite>(
     answer: &Answer,
     out: &mut O,
 ) -> Result<(), Failure<'a>>
+    ensures written { OnOk result (WritesMap (IsFileGiven R R.Dir R.File.contents) task.now.map
+        answer.now.map (O.output out.old) (O.output out.new)) }
     ensures file { writes_stdout task.now.map ≡ false → O.output out.new ≡ O.output out.old }
     ensures err { IfErr result (HasFailed task.now.map) }
 {

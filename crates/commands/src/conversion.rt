@@ -1,9 +1,9 @@
 //! The command `convert`.
-ghost use Rattle.std.specs.Prelude.{◌≡◌, true, IfOk};
-ghost use Rattle.stream_paths.specs.Streams.{is_stdin, is_stdout};
+ghost use Rattle.std.specs.Prelude.{◌≡◌, IfOk};
+ghost use Rattle.circuit_files.specs.WrittenFiles.{IsFileGiven};
 ghost use Rattle.commands.specs.OtherSpelling.{other_spelling};
 ghost use Rattle.commands.specs.OtherSpelling as wanted;
-ghost use Rattle.commands.specs.Pipes.{ConvertsPipe};
+ghost use Rattle.commands.specs.Pipes.{Converts};
 ghost use Rattle.command_endings.specs.Printing.{Prints, ending};
 
 use aig_binary::Spelling;
@@ -40,8 +40,8 @@ pub fn convert<'a, R: Files, I: CountedRead, O: CountedWrite>(
     stdin: &mut I,
     out: &mut O,
 ) -> Result<Outcome, Failure<'a>>
-    ensures pipe { IfOk result (λ _. is_stdin input.entry ≡ true → is_stdout output.entry ≡ true
-        → ConvertsPipe spelling (I.input stdin.old) (O.output out.old) (O.output out.new)) }
+    ensures converts { IfOk result (λ _. Converts (IsFileGiven R R.Dir R.File.contents) spelling
+        input.entry output.entry (I.input stdin.old) (O.output out.old) (O.output out.new)) }
     ensures prints { Prints (ending result) (O.output out.old) (O.output out.new) }
 {
     let spelt = circuit_at(rt, alloc, input, stdin)?;

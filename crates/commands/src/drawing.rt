@@ -1,18 +1,19 @@
 //! The command `dot`.
-ghost use Rattle.std.specs.Prelude.{◌≡◌, true, false, IfErr, IfOk, OnOk};
+ghost use Rattle.std.specs.Prelude.{◌≡◌, false, IfErr, IfOk, OnOk};
 ghost use Rattle.counted_io.specs.Output.{WritesAll};
 ghost use Rattle.pictures.specs.Looks.{IsViewOf};
 ghost use Rattle.stream_paths.specs.Streams.{is_stdout};
 ghost use Rattle.circuit_files.specs.Outcomes.{outcome_of};
+ghost use Rattle.circuit_files.specs.WrittenFiles.{IsFileGiven, IsTargetGiven};
 ghost use Rattle.circuit_files.specs.declared.outcome.Outcome.TheVariants.{Device};
 ghost use Rattle.commands.specs.Drawings.{PrintsPicture, middle, picture_of, shown};
 ghost use Rattle.command_endings.specs.Printing.{Prints, ending};
 
 use crate::scene::{Scene, scene_for};
 use aig_graph::NoMemory;
-use circuit_files::{Failure, LazyFile, Outcome};
+use circuit_files::{Failure, Outcome, file_at};
 use command_line::Drawing;
-use counted_io::{Counted, CountedRead, CountedWrite, write_all};
+use counted_io::{CountedRead, CountedWrite, write_all};
 use pictures::{View, write_dot};
 use std::alloc::Global;
 use std::rt::Files;
@@ -87,8 +88,8 @@ fn draw_to<'a, R: Files, O: CountedWrite>(
     task: &Drawing<'a>,
     out: &mut O,
 ) -> Result<(), Failure<'a>>
-    ensures stdout { is_stdout task.now.output ≡ true → OnOk result (WritesAll
-        (O.output out.old) (O.output out.new) (picture_of task.now scene.now)) }
+    ensures given { OnOk result (IsTargetGiven (IsFileGiven R R.Dir R.File.contents)
+        task.now.output (O.output out.old) (O.output out.new) (picture_of task.now scene.now)) }
     ensures file { is_stdout task.now.output ≡ false → O.output out.new ≡ O.output out.old }
     ensures prints { IfErr result (λ failure. Prints (outcome_of failure) (O.output out.old)
         (O.output out.new)) }
@@ -96,7 +97,7 @@ fn draw_to<'a, R: Files, O: CountedWrite>(
     match task.output {
         Target::Stdout => draw(alloc, scene, task, out),
         Target::File(path) => {
-            let mut writer = Counted::new(LazyFile::new(rt, path));
+            let mut writer = file_at(rt, path);
             draw(alloc, scene, task, &mut writer)
         }
     }
@@ -128,8 +129,8 @@ pub fn write_picture<
     out: &mut O,
     err: &mut E,
 ) -> Result<Outcome, Failure<'a>>
-    ensures picture { IfOk result (PrintsPicture task.now (I.input stdin.old) (I.input stdin.new)
-        (O.output out.old) (O.output out.new)) }
+    ensures picture { IfOk result (PrintsPicture (IsFileGiven R R.Dir R.File.contents) task.now
+        (I.input stdin.old) (I.input stdin.new) (O.output out.old) (O.output out.new)) }
     ensures file { is_stdout task.now.output ≡ false → O.output out.new ≡ O.output out.old }
     ensures prints { Prints (ending result) (O.output out.old) (O.output out.new) }
 {

@@ -1,15 +1,17 @@
 //! The command `retime`.
-ghost use Rattle.std.specs.Prelude.{◌≡◌, ◌⊎◌, true, false, IfErr, IfOk, OnOk};
+ghost use Rattle.std.specs.Prelude.{◌≡◌, ◌⊎◌, true, false, IfErr, IfOk, Ok, OnOk, option_map};
 ghost use Rattle.aig_graph.specs.Keep.{names_of};
-ghost use Rattle.counted_io.specs.Output.{Writes, WritesAll};
+ghost use Rattle.counted_io.specs.Output.{Writes};
 ghost use Rattle.certificate_files.specs.Texts.{file_text};
-ghost use Rattle.stream_paths.specs.Streams.{is_stdin, is_stdout};
+ghost use Rattle.stream_paths.specs.Streams.{is_stdout};
 ghost use Rattle.command_line.specs.StreamUses.{takes_stdout, writes_stdout};
 ghost use Rattle.circuit_files.specs.Outcomes.{outcome_of};
+ghost use Rattle.circuit_files.specs.WrittenFiles.{IsFileGiven, IsTargetGiven};
 ghost use Rattle.circuit_files.specs.declared.outcome.Outcome.TheVariants.{Done};
-ghost use Rattle.commands.specs.Pipes.{Answers, AnswersInput, AnswersPipe, IsAnswerTo, IsPipe, IsToldOf, PrintsRetiming, WritesPipe};
+ghost use Rattle.commands.specs.Pipes.{IsAnswerAt, IsPipe, IsToldOf, PrintsRetiming, WritesAnswer, WritesBeside, WritesCertificates, WritesPipe, blocks_text};
 ghost use Rattle.command_endings.specs.Printing.{EndsAside, Prints, ending};
-ghost use Rattle.commands.specs.RetimingTasks.{AreOptionsOf, EndsPrintingFrames, HasFailed, PrintsAlike, SaysFrames, names_for, remaining_of};
+ghost use Rattle.commands.specs.RetimingTasks.{AreOptionsOf, EndsPrintingFrames, HasFailed, PrintsAlike, SaysFrames, counts_of, names_for, remaining_of};
+ghost use Rattle.command_line.specs.declared.task.Shown.TheVariants.{Nothing};
 
 use crate::answer::{Answer, map_counts, map_written, retime_to, retimed_of};
 use crate::holding::names_held;
@@ -18,10 +20,10 @@ use aig_graph::{Circuit, NoMemory, Sequence};
 use certificate_files::{CertFile, Choice, write_cert};
 use certificates::Certificate;
 use circuit_counts::Remaining;
-use circuit_files::{Failure, LazyFile, Outcome, circuit_at};
+use circuit_files::{Failure, Outcome, circuit_at, file_at};
 use command_endings::{bytes_of_names, ended};
 use command_line::{Retiming, Shown};
-use counted_io::{Counted, CountedRead, CountedWrite, WriteError};
+use counted_io::{CountedRead, CountedWrite, WriteError};
 use frames::{FrameWatcher, Options, Retimed};
 use json_reports::{MapCounts, Times};
 use mapped_answers::HeldOptions;
@@ -64,9 +66,8 @@ fn retime_by<'a, R: Files + Threads + Sync, O: CountedWrite, V: FrameWatcher>(
     watcher: &mut V,
 ) -> Result<Answer, Failure<'a>>
     requires { AreOptionsOf task.now options.now }
-    ensures answer { IfOk result (λ answer. IsPipe task.now
-        → IsAnswerTo task.now options.now spelt (O.output out.old) (O.output out.new) answer) }
-    ensures read { IfOk result (Answers task.now options.now spelt) }
+    ensures answer { IfOk result (IsAnswerAt (IsFileGiven R R.Dir R.File.contents) task.now
+        options.now spelt (O.output out.old) (O.output out.new)) }
     ensures file { is_stdout task.now.output ≡ false → O.output out.new ≡ O.output out.old }
     ensures prints { IfErr result (λ failure. Prints (outcome_of failure) (O.output out.old)
         (O.output out.new)) }
@@ -74,7 +75,7 @@ fn retime_by<'a, R: Files + Threads + Sync, O: CountedWrite, V: FrameWatcher>(
     match task.output {
         Target::Stdout => retime_to(rt, alloc, task, options, spelt, out, watcher),
         Target::File(path) => {
-            let mut writer = Counted::new(LazyFile::new(rt, path));
+            let mut writer = file_at(rt, path);
             retime_to(rt, alloc, task, options, spelt, &mut writer, watcher)
         }
     }
@@ -91,10 +92,8 @@ fn retime_read<'a, R: Files + Threads + Sync, I: CountedRead, O: CountedWrite, V
     watcher: &mut V,
 ) -> Result<Answer, Failure<'a>>
     requires { AreOptionsOf task.now options.now }
-    ensures answer { IfOk result (λ answer. IsPipe task.now → AnswersPipe task.now
-        (I.input stdin.old) (O.output out.old) (O.output out.new) answer.retimed answer.levels) }
-    ensures read { IfOk result (λ answer. is_stdin task.now.input ≡ true
-        → AnswersInput task.now (I.input stdin.old) answer.retimed answer.levels) }
+    ensures answer { IfOk result (WritesAnswer (IsFileGiven R R.Dir R.File.contents) task.now
+        (I.input stdin.old) (O.output out.old) (O.output out.new)) }
     ensures file { is_stdout task.now.output ≡ false → O.output out.new ≡ O.output out.old }
     ensures prints { IfErr result (λ failure. Prints (outcome_of failure) (O.output out.old)
         (O.output out.new)) }
@@ -113,10 +112,8 @@ fn retimed<'a, R: Files + Threads + Sync, I: CountedRead, O: CountedWrite, V: Fr
     out: &mut O,
     watcher: &mut V,
 ) -> Result<Answer, Failure<'a>>
-    ensures answer { IfOk result (λ answer. IsPipe task.now → AnswersPipe task.now
-        (I.input stdin.old) (O.output out.old) (O.output out.new) answer.retimed answer.levels) }
-    ensures read { IfOk result (λ answer. is_stdin task.now.input ≡ true
-        → AnswersInput task.now (I.input stdin.old) answer.retimed answer.levels) }
+    ensures answer { IfOk result (WritesAnswer (IsFileGiven R R.Dir R.File.contents) task.now
+        (I.input stdin.old) (O.output out.old) (O.output out.new)) }
     ensures file { is_stdout task.now.output ≡ false → O.output out.new ≡ O.output out.old }
     ensures prints { IfErr result (λ failure. Prints (outcome_of failure) (O.output out.old)
         (O.output out.new)) }
@@ -141,22 +138,23 @@ fn put_certificates<W: CountedWrite>(
 }
 
 /// Writes the certificates of a retiming by this choice to what they are written to.
-fn write_certificates<'a, R: Files, O: CountedWrite>(
+fn write_certificates<R: Files, O: CountedWrite>(
     rt: &R,
     choice: Choice,
     blocks: Sequence<Certificate>,
-    target: Target<'a>,
+    target: Target<'_>,
     out: &mut O,
 ) -> Result<(), WriteError>
-    ensures stdout { is_stdout target.entry ≡ true → Writes (O.output out.old)
-        (O.output out.new) result (file_text (record { choice = choice; blocks = blocks })) }
+    ensures given { OnOk result (IsTargetGiven (IsFileGiven R R.Dir R.File.contents) target.entry
+        (O.output out.old) (O.output out.new)
+        (file_text (record { choice = choice; blocks = blocks }))) }
     ensures file { is_stdout target.entry ≡ false → O.output out.new ≡ O.output out.old }
 {
     match target {
         Target::Stdout => put_certificates(choice, blocks, out),
         Target::File(path) => {
-            let mut writer = Counted::new(LazyFile::new(rt, path));
-            put_certificates(choice, blocks, &mut writer)
+            let mut file = file_at(rt, path);
+            put_certificates(choice, blocks, &mut file)
         }
     }
 }
@@ -169,11 +167,9 @@ fn certify<'a, R: Files, O: CountedWrite>(
     retimed: &mut Retimed,
     out: &mut O,
 ) -> Result<(), Failure<'a>>
-    ensures stdout { writes_stdout task.now.certificates ≡ true → OnOk result (WritesAll
-        (O.output out.old) (O.output out.new) (file_text (record {
-          choice = task.now.choice;
-          blocks = retimed.old.certificates;
-        }))) }
+    ensures written { OnOk result (WritesCertificates (IsFileGiven R R.Dir R.File.contents)
+        task.now.certificates (blocks_text task.now retimed.old) (O.output out.old)
+        (O.output out.new)) }
     ensures file { writes_stdout task.now.certificates ≡ false
         → O.output out.new ≡ O.output out.old }
     ensures frames { PrintsAlike retimed.new retimed.old }
@@ -197,15 +193,13 @@ fn write_beside<'a, R: Files, O: CountedWrite>(
     answer: &mut Answer,
     out: &mut O,
 ) -> Result<(), Failure<'a>>
+    ensures written { OnOk result (WritesBeside (IsFileGiven R R.Dir R.File.contents) task.now
+        answer.old (O.output out.old) (O.output out.new)) }
     ensures file { writes_stdout task.now.map ≡ false → writes_stdout task.now.certificates
         ≡ false → O.output out.new ≡ O.output out.old }
-    ensures certificates { writes_stdout task.now.map ≡ false → writes_stdout task.now.certificates
-        ≡ true → OnOk result (WritesAll (O.output out.old) (O.output out.new) (file_text (record {
-          choice = task.now.choice;
-          blocks = answer.old.retimed.certificates;
-        }))) }
     ensures frames { PrintsAlike answer.new.retimed answer.old.retimed }
     ensures levels { answer.new.levels ≡ answer.old.levels }
+    ensures map { answer.new.map ≡ answer.old.map }
     ensures err { IfErr result (λ failure. HasFailed task.now.map failure ⊎ HasFailed task.now.certificates failure) }
 {
     map_written(rt, task, answer, out)?;
@@ -226,6 +220,7 @@ struct Timed {
 fn with_times(answer: Answer, times: Option<Times>) -> Timed
     ensures retimed { result.retimed ≡ answer.retimed }
     ensures levels { result.levels ≡ answer.levels }
+    ensures map { result.map ≡ option_map (λ map. counts_of map.circuit) answer.map }
 {
     let map = map_counts(&answer);
     let levels = answer.levels;
@@ -253,8 +248,9 @@ fn certified<
     out: &mut O,
     err: &mut E,
 ) -> Result<Timed, Failure<'a>>
-    ensures told { IfOk result (λ timed. IsToldOf task.now (I.input stdin.old)
-        (O.output out.old) (O.output out.new) timed.retimed timed.levels) }
+    ensures told { IfOk result (λ timed. IsToldOf (IsFileGiven R R.Dir R.File.contents) task.now
+        (I.input stdin.old) (O.output out.old) (O.output out.new) timed.retimed timed.levels
+        timed.map) }
     ensures file { takes_stdout task.now ≡ false → O.output out.new ≡ O.output out.old }
     ensures prints { IfErr result (λ failure. Prints (outcome_of failure) (O.output out.old)
         (O.output out.new)) }
@@ -347,7 +343,8 @@ fn tell_remaining<E: CountedWrite>(
     is_terminal: bool,
     err: &mut E,
 )
-    ensures { is_terminal ≡ false → E.output err.new ≡ E.output err.old }
+    ensures aside { is_terminal ≡ false → E.output err.new ≡ E.output err.old }
+    ensures quiet { task.now.shown ≡ Nothing → E.output err.new ≡ E.output err.old }
 {
     if is_terminal && !task.json && task.shown != Shown::Nothing {
         if let Ok(left) = remaining(alloc, task, retimed) {
@@ -403,8 +400,9 @@ pub fn print_retimed<
     out: &mut O,
     err: &mut E,
 ) -> Result<Outcome, Failure<'a>>
-    ensures frames { IfOk result (λ _. PrintsRetiming task.now is_terminal (I.input stdin.old)
-        (O.output out.old) (O.output out.new) (E.output err.new) result) }
+    ensures frames { IfOk result (λ ended. PrintsRetiming (IsFileGiven R R.Dir R.File.contents)
+        task.now is_terminal (I.input stdin.old) (O.output out.old) (O.output out.new)
+        (E.output err.new) (Ok ended)) }
     ensures pipe { IfOk result (λ _. IsPipe task.now
         → WritesPipe task.now (I.input stdin.old) (O.output out.old) (O.output out.new)) }
     ensures prints { Prints (ending result) (O.output out.old) (O.output out.new) }

@@ -1,11 +1,10 @@
 -- What a run may have given standard output, by how it ended.
-use Rattle.std.specs.Prelude.{◌≡◌, ◌⊎◌, true, false, Result, Ok, Err}
+use Rattle.std.specs.Prelude.{ℕ, ◌≡◌, ◌⊎◌, Bool, true, false, List, Result, Ok, Err}
 use Rattle.counted_io.specs.Input.{Input}
 use Rattle.counted_io.specs.Output.{Output, WritesAll}
 use Rattle.reports.specs.Differences.{shapes_text}
 use Rattle.json_reports.specs.Differences.{shapes_data}
 use Rattle.json_reports.specs.Lines.{json_line}
-use Rattle.stream_paths.specs.Streams.{is_stdin, is_stdout}
 use Rattle.command_line.specs.declared.task.Task.{Task}
 use Rattle.command_line.specs.declared.task.Task.TheVariants.{Retime, Batch, Stat, Convert, Sim, Same, Verify, Check, Miter, Lift, Dot, Witness, Explain}
 use Rattle.circuit_files.specs.Codes.{status_of}
@@ -19,7 +18,7 @@ use Rattle.map_commands.specs.Products.{PrintsAsked}
 use Rattle.map_commands.specs.Lifted.{PrintsLift}
 use Rattle.commands.specs.Drawings.{PrintsPicture}
 use Rattle.simulation_commands.specs.Fates.{PrintsFate}
-use Rattle.commands.specs.Pipes.{ConvertsPipe, IsPipe, WritesPipe}
+use Rattle.commands.specs.Pipes.{Converts, IsPipe, PrintsRetiming, WritesPipe}
 use Rattle.command_endings.specs.Printing.{Prints}
 use Rattle.simulation_commands.specs.Simulating.{PrintsTrace}
 use Rattle.commands.specs.Statistics.{PrintsStatistics}
@@ -35,21 +34,23 @@ abbrev pub MayGive : Result Outcome Failure → Output → Output → Type 0
 MayGive (Ok outcome) old new = MayPrint outcome old new
 MayGive (Err failure) old new = Prints (outcome_of failure) old new
 
--- what a task gives standard output where it didn't fail, by what standard input had and has left
-abbrev pub Does : Task → Input → Input → Output → Output → Outcome → Type 0
-Does (Retime retiming) before after old new ended = IsPipe retiming → WritesPipe retiming before old new
-Does (Batch batch) before after old new ended = PrintsList batch.json ended old new
-Does (Stat counting) before after old new ended = PrintsStatistics counting before after old new ended
-Does (Convert input output spelling) before after old new ended = is_stdin input ≡ true → is_stdout output ≡ true → ConvertsPipe spelling before old new
-Does (Sim simulation) before after old new ended = PrintsTrace simulation before after old new ended
-Does (Same comparison) before after old new ended = PrintsFinding comparison before after old new ended
-Does (Verify verification) before after old new ended = PrintsAuditOf verification before after old new ended
-Does (Check checking) before after old new ended = PrintsCheck checking before after old new ended
-Does (Miter asking) before after old new ended = PrintsAsked asking.certificate asking before after old new ended
-Does (Lift lifting) before after old new ended = PrintsLift lifting before after old new ended
-Does (Dot drawing) before after old new ended = PrintsPicture drawing before after old new ended
-Does (Witness carrying) before after old new ended = PrintsFate carrying before after old new ended
-Does (Explain name) before after old new ended = Explains name.now old new ended
+-- what a task gives standard output and its files where it didn't fail, by what it means that a file was given a text, whether standard error is a
+-- terminal, what standard input had and has left, and what standard error was given in the end
+abbrev pub Does : (List ℕ → List ℕ → Type 0) → Task → Bool → Input → Input → Output → Output → Output → Outcome → Type 0
+Does FileGiven (Retime retiming) is_terminal before after old new said ended = PrintsRetiming FileGiven retiming is_terminal before old new said (Ok ended)
+    × (IsPipe retiming → WritesPipe retiming before old new)
+Does FileGiven (Batch batch) is_terminal before after old new said ended = PrintsList batch.json ended old new
+Does FileGiven (Stat counting) is_terminal before after old new said ended = PrintsStatistics counting before after old new ended
+Does FileGiven (Convert input output spelling) is_terminal before after old new said ended = Converts FileGiven spelling input output before old new
+Does FileGiven (Sim simulation) is_terminal before after old new said ended = PrintsTrace simulation before after old new ended
+Does FileGiven (Same comparison) is_terminal before after old new said ended = PrintsFinding comparison before after old new ended
+Does FileGiven (Verify verification) is_terminal before after old new said ended = PrintsAuditOf verification before after old new ended
+Does FileGiven (Check checking) is_terminal before after old new said ended = PrintsCheck checking before after old new ended
+Does FileGiven (Miter asking) is_terminal before after old new said ended = PrintsAsked FileGiven asking.certificate asking before after old new ended
+Does FileGiven (Lift lifting) is_terminal before after old new said ended = PrintsLift FileGiven lifting before after old new ended
+Does FileGiven (Dot drawing) is_terminal before after old new said ended = PrintsPicture FileGiven drawing before after old new ended
+Does FileGiven (Witness carrying) is_terminal before after old new said ended = PrintsFate carrying before after old new ended
+Does FileGiven (Explain name) is_terminal before after old new said ended = Explains name.now old new ended
 
 -- that two circuits can't be compared, in a line or as an object
 abbrev pub PrintsShapes : Output → Output → Type 0

@@ -5,6 +5,7 @@ ghost use Rattle.std.specs.IoError.{error_kind};
 ghost use Rattle.std.specs.declared.io.ErrorKind.TheVariants as kinds;
 ghost use Rattle.clap.specs.Values.{kind_of};
 ghost use Rattle.clap.specs.declared.error.kind.ErrorKind.TheVariants.{DisplayHelp, DisplayVersion, OutOfMemory};
+ghost use Rattle.circuit_files.specs.WrittenFiles.{IsFileGiven};
 ghost use Rattle.circuit_files.specs.declared.outcome.Outcome.TheVariants.{Done, Refused, CommandLine, Memory};
 ghost use Rattle.fretime.specs.Runs.{Does, MayGive, MayPrint, PrintsFilesOrRefusal, PrintsShapes};
 
@@ -45,8 +46,9 @@ fn run_task<
     out: &mut O,
     err: &mut E,
 ) -> Result<Outcome, Failure<'a>>
-    ensures does { IfOk result (Does task.now (I.input stdin.old) (I.input stdin.new)
-        (O.output out.old) (O.output out.new)) }
+    ensures does { IfOk result (Does (IsFileGiven R R.Dir R.File.contents) task.now is_terminal
+        (I.input stdin.old) (I.input stdin.new) (O.output out.old) (O.output out.new)
+        (E.output err.new)) }
     ensures prints { MayGive result (O.output out.old) (O.output out.new) }
 {
     match task {

@@ -47,9 +47,9 @@ pub lifted-of : (c d m w : Netlist) (k : Sharing) (result : Result Netlist Failu
 lifted-of c d m w k result shared by = IfOk-weaker result _ _ (λ r is. record { sharing = k; shared = shared; lifted = is }) by
 
 -- what is made of what was read is written, in the spelling that is chosen
-pub prints-lift : {before after : Input} (old new : Output) (task : Lifting) (given : Given) (lifted : Made) (spelling : Spelling) (result : Result Outcome Failure)
+pub prints-lift : {before after : Input} (FileGiven : List ℕ → List ℕ → Type 0) (old new : Output) (task : Lifting) (given : Given) (lifted : Made) (spelling : Spelling) (result : Result Outcome Failure)
     → AreGiven task before after given → IsLiftedOf given lifted → spelling ≡ unwrap_or task.spelling given.witness.spelling
-    → IfOk result (EndsMaking lifted spelling task.output old new) → IfOk result (PrintsLift task before after old new)
-prints-lift {before} {after} old new task given lifted spelling result read is chosen printed =
-    let P : Spelling → Type 0 = λ s. IfOk result (EndsMaking lifted s task.output old new) in
+    → IfOk result (EndsMaking FileGiven lifted spelling task.output old new) → IfOk result (PrintsLift FileGiven task before after old new)
+prints-lift {before} {after} FileGiven old new task given lifted spelling result read is chosen printed =
+    let P : Spelling → Type 0 = λ s. IfOk result (EndsMaking FileGiven lifted s task.output old new) in
     IfOk-weaker result _ _ (λ ended ends. record { given = given; read = read; lifted = lifted; is = is; printed = ends }) (subst P chosen printed)

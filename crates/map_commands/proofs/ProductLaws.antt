@@ -1,5 +1,5 @@
 -- Both circuits side by side, of circuits and a map that fit together.
-use Rattle.std.proofs.Common.{◌≡◌, IfOk, Result, subst, unwrap_or}
+use Rattle.std.proofs.Common.{ℕ, ◌≡◌, IfOk, List, Result, subst, unwrap_or}
 use Rattle.std.proofs.lemmas.Result.{IfOk-weaker}
 use Rattle.file_words.specs.declared.spelling.Spelling.{Spelling}
 use Rattle.counted_io.specs.Input.{Input}
@@ -14,9 +14,9 @@ use Rattle.map_commands.specs.Asking.{AreMapped}
 use Rattle.map_commands.specs.Products.{EndsShowing, IsShownOf, PrintsProduct}
 
 -- what is made of what was read is written, in the spelling that is chosen
-pub prints-product : {before after : Input} (old new : Output) (certificate : Target) (task : Asking) (mapped : Mapped) (shown : Shown) (spelling : Spelling) (result : Result Outcome Failure)
+pub prints-product : {before after : Input} (FileGiven : List ℕ → List ℕ → Type 0) (old new : Output) (certificate : Target) (task : Asking) (mapped : Mapped) (shown : Shown) (spelling : Spelling) (result : Result Outcome Failure)
     → AreMapped task before after mapped → IsShownOf mapped shown → spelling ≡ unwrap_or task.spelling mapped.map.spelling
-    → IfOk result (EndsShowing shown spelling task.output certificate old new) → IfOk result (PrintsProduct certificate task before after old new)
-prints-product {before} {after} old new certificate task mapped shown spelling result read is chosen printed =
-    let P : Spelling → Type 0 = λ s. IfOk result (EndsShowing shown s task.output certificate old new) in
+    → IfOk result (EndsShowing FileGiven shown spelling task.output certificate old new) → IfOk result (PrintsProduct FileGiven certificate task before after old new)
+prints-product {before} {after} FileGiven old new certificate task mapped shown spelling result read is chosen printed =
+    let P : Spelling → Type 0 = λ s. IfOk result (EndsShowing FileGiven shown s task.output certificate old new) in
     IfOk-weaker result _ _ (λ ended ends. record { mapped = mapped; read = read; shown = shown; is = is; printed = ends }) (subst P chosen printed)

@@ -1,5 +1,5 @@
 -- What `miter` makes of a map, and what is written.
-use Rattle.std.specs.Prelude.{◌≡◌, unwrap_or}
+use Rattle.std.specs.Prelude.{ℕ, ◌≡◌, List, unwrap_or}
 use Rattle.map_checks.specs.Answers.{AreFitting, IsMap}
 use Rattle.map_miters.specs.Miters.{IsMiter}
 use Rattle.file_words.specs.declared.fault.ReadError.TheVariants.{TooLarge}
@@ -37,9 +37,9 @@ pub record AreMapped (task : Asking) (before after : Input) (mapped : Mapped) : 
   pub mapping : IsCircuitAt task.map circuits after mapped.map
 
 -- what is made of the files that are read is written, in the spelling that is chosen, else in that of the map
-pub record PrintsMiter (task : Asking) (before after : Input) (old new : Output) (ended : Outcome) : Type 0 where
+pub record PrintsMiter (FileGiven : List ℕ → List ℕ → Type 0) (task : Asking) (before after : Input) (old new : Output) (ended : Outcome) : Type 0 where
   pub mapped : Mapped
   pub read : AreMapped task before after mapped
   pub made : Made
   pub is : IsMadeOf mapped made
-  pub printed : EndsMaking made (unwrap_or task.spelling mapped.map.spelling) task.output old new ended
+  pub printed : EndsMaking FileGiven made (unwrap_or task.spelling mapped.map.spelling) task.output old new ended

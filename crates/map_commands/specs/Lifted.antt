@@ -59,9 +59,9 @@ pub record AreGiven (task : Lifting) (before after : Input) (given : Given) : Ty
   pub witness : IsCircuitAt task.witness between after given.witness
 
 -- what is made of the files that are read is written, in the spelling that is chosen, else in that of the witness circuit
-pub record PrintsLift (task : Lifting) (before after : Input) (old new : Output) (ended : Outcome) : Type 0 where
+pub record PrintsLift (FileGiven : List ℕ → List ℕ → Type 0) (task : Lifting) (before after : Input) (old new : Output) (ended : Outcome) : Type 0 where
   pub given : Given
   pub read : AreGiven task before after given
   pub lifted : Made
   pub is : IsLiftedOf given lifted
-  pub printed : EndsMaking lifted (unwrap_or task.spelling given.witness.spelling) task.output old new ended
+  pub printed : EndsMaking FileGiven lifted (unwrap_or task.spelling given.witness.spelling) task.output old new ended

@@ -1,5 +1,5 @@
 -- What `miter` makes of a map with a certificate, and what is written.
-use Rattle.std.specs.Prelude.{ℕ, ◌≡◌, List, true, false, unwrap_or, Option, Some, None}
+use Rattle.std.specs.Prelude.{ℕ, ◌≡◌, List, unwrap_or, Option, Some, None}
 use Rattle.map_checks.specs.Answers.{AreFitting, IsMap}
 use Rattle.map_miters.specs.declared.goals.Goal.{Goal}
 use Rattle.map_miters.specs.declared.goals.Goal.TheVariants.{Agree, Mapped as IsMapped}
@@ -9,10 +9,11 @@ use Rattle.file_words.specs.declared.spelling.Spelling.{Spelling}
 use Rattle.aig_binary.specs.Spellings.{text_in}
 use Rattle.reports.specs.Differences.{shapes_text}
 use Rattle.counted_io.specs.Input.{Input}
-use Rattle.counted_io.specs.Output.{Output, WritesAll}
-use Rattle.stream_paths.specs.Streams.{is_stdout, source_name, target_name}
+use Rattle.counted_io.specs.Output.{Output}
+use Rattle.stream_paths.specs.Streams.{source_name, target_name}
 use Rattle.stream_paths.specs.declared.target.Target.{Target}
 use Rattle.command_line.specs.declared.task.Asking.{Asking}
+use Rattle.circuit_files.specs.WrittenFiles.{IsTargetGiven}
 use Rattle.circuit_files.specs.declared.outcome.Outcome.{Outcome}
 use Rattle.circuit_files.specs.declared.outcome.Outcome.TheVariants as ends
 use Rattle.circuit_files.specs.declared.outcome.Failure.{Failure}
@@ -46,30 +47,26 @@ IsFailureToShow task certificate mapped (fails.Refused path fault) = ((goal : Go
 IsFailureToShow task certificate mapped fails.Memory = Unit {0}
 IsFailureToShow task certificate mapped failure = ⊥
 
--- what is written to standard output, which a file leaves as it was
-abbrev pub IsWritten : Target → List ℕ → Output → Output → Type 0
-IsWritten target text old new = (is_stdout target ≡ true → WritesAll old new text) × (is_stdout target ≡ false → new ≡ old)
-
--- the model is written, and then the witness circuit
-pub record EndsWritingBoth (machines : Machines) (spelling : Spelling) (output certificate : Target) (old new : Output) (ended : Outcome) : Type 0 where
+-- the model is written, and then the witness circuit, by what it means that a file was given a text
+pub record EndsWritingBoth (FileGiven : List ℕ → List ℕ → Type 0) (machines : Machines) (spelling : Spelling) (output certificate : Target) (old new : Output) (ended : Outcome) : Type 0 where
   pub ends : ended ≡ ends.Done
   pub between : Output
-  pub model : IsWritten output (text_in spelling machines.model) old between
-  pub witness : IsWritten certificate (text_in spelling machines.witness) between new
+  pub model : IsTargetGiven FileGiven output old between (text_in spelling machines.model)
+  pub witness : IsTargetGiven FileGiven certificate between new (text_in spelling machines.witness)
 
-abbrev pub EndsShowing : Shown → Spelling → Target → Target → Output → Output → Outcome → Type 0
-EndsShowing (shows.Machines machines) spelling output certificate old new ended = EndsWritingBoth machines spelling output certificate old new ended
-EndsShowing shows.ShapesDiffer spelling output certificate old new ended = EndsWith ends.ShapesDiffer shapes_text old new ended
+abbrev pub EndsShowing : (List ℕ → List ℕ → Type 0) → Shown → Spelling → Target → Target → Output → Output → Outcome → Type 0
+EndsShowing FileGiven (shows.Machines machines) spelling output certificate old new ended = EndsWritingBoth FileGiven machines spelling output certificate old new ended
+EndsShowing FileGiven shows.ShapesDiffer spelling output certificate old new ended = EndsWith ends.ShapesDiffer shapes_text old new ended
 
 -- what is made of the files that are read is written, in the spelling that is chosen, else in that of the map
-pub record PrintsProduct (certificate : Target) (task : Asking) (before after : Input) (old new : Output) (ended : Outcome) : Type 0 where
+pub record PrintsProduct (FileGiven : List ℕ → List ℕ → Type 0) (certificate : Target) (task : Asking) (before after : Input) (old new : Output) (ended : Outcome) : Type 0 where
   pub mapped : Mapped
   pub read : AreMapped task before after mapped
   pub shown : Shown
   pub is : IsShownOf mapped shown
-  pub printed : EndsShowing shown (unwrap_or task.spelling mapped.map.spelling) task.output certificate old new ended
+  pub printed : EndsShowing FileGiven shown (unwrap_or task.spelling mapped.map.spelling) task.output certificate old new ended
 
 -- a miter of the map, and where a certificate is asked for, both circuits side by side with that
-abbrev pub PrintsAsked : Option Target → Asking → Input → Input → Output → Output → Outcome → Type 0
-PrintsAsked None task before after old new ended = PrintsMiter task before after old new ended
-PrintsAsked (Some certificate) task before after old new ended = PrintsProduct certificate task before after old new ended
+abbrev pub PrintsAsked : (List ℕ → List ℕ → Type 0) → Option Target → Asking → Input → Input → Output → Output → Outcome → Type 0
+PrintsAsked FileGiven None task before after old new ended = PrintsMiter FileGiven task before after old new ended
+PrintsAsked FileGiven (Some certificate) task before after old new ended = PrintsProduct FileGiven certificate task before after old new ended

@@ -4,6 +4,7 @@ ghost use Rattle.witness_circuits.specs.Parts.{IsLiftable};
 ghost use Rattle.witness_circuits.specs.Witnesses.{IsSharing};
 ghost use Rattle.witness_circuits.specs.Naming.{IsSharedBy};
 ghost use Rattle.map_checks.specs.Answers.{AreFitting, IsMap};
+ghost use Rattle.circuit_files.specs.WrittenFiles.{IsFileGiven};
 ghost use Rattle.circuit_files.specs.declared.outcome.Failure.TheVariants.{NotAMap};
 ghost use Rattle.command_endings.specs.HeldNames.{OfSource};
 ghost use Rattle.command_endings.specs.Printing.{Prints, ending};
@@ -108,8 +109,8 @@ pub fn write_lifted<'a, R: Files, I: CountedRead, O: CountedWrite>(
     stdin: &mut I,
     out: &mut O,
 ) -> Result<Outcome, Failure<'a>>
-    ensures lift { IfOk result (PrintsLift task.now (I.input stdin.old) (I.input stdin.new)
-        (O.output out.old) (O.output out.new)) }
+    ensures lift { IfOk result (PrintsLift (IsFileGiven R R.Dir R.File.contents) task.now
+        (I.input stdin.old) (I.input stdin.new) (O.output out.old) (O.output out.new)) }
     ensures prints { Prints (ending result) (O.output out.old) (O.output out.new) }
 {
     let given = given_for(rt, alloc, task, stdin)?;

@@ -1,5 +1,6 @@
 //! What is made of circuits and a map, and how it is written.
 ghost use Rattle.std.specs.Prelude.{IfOk};
+ghost use Rattle.circuit_files.specs.WrittenFiles.{IsFileGiven};
 ghost use Rattle.command_endings.specs.Printing.{Prints, ending};
 ghost use Rattle.map_commands.specs.Making.{EndsMaking};
 
@@ -29,8 +30,8 @@ pub(crate) fn write_made<'a, R: Files, O: CountedWrite>(
     output: Target<'a>,
     out: &mut O,
 ) -> Result<Outcome, Failure<'a>>
-    ensures written { IfOk result (EndsMaking made.now spelling output.entry
-        (O.output out.old) (O.output out.new)) }
+    ensures written { IfOk result (EndsMaking (IsFileGiven R R.Dir R.File.contents) made.now
+        spelling output.entry (O.output out.old) (O.output out.new)) }
     ensures prints { Prints (ending result) (O.output out.old) (O.output out.new) }
 {
     match made {

@@ -2,6 +2,7 @@
 ghost use Rattle.std.specs.Prelude.{◌≡◌, Err, IfErr, IfOk};
 ghost use Rattle.map_checks.specs.Answers.{AreFitting, IsMap};
 ghost use Rattle.map_miters.specs.Miters.{IsMiter};
+ghost use Rattle.circuit_files.specs.WrittenFiles.{IsFileGiven};
 ghost use Rattle.circuit_files.specs.declared.outcome.Failure.TheVariants.{NotAMap};
 ghost use Rattle.command_endings.specs.HeldNames.{OfSource};
 ghost use Rattle.command_endings.specs.Printing.{Prints, ending};
@@ -74,8 +75,8 @@ fn write_questions<'a, R: Files, I: CountedRead, O: CountedWrite>(
     stdin: &mut I,
     out: &mut O,
 ) -> Result<Outcome, Failure<'a>>
-    ensures miter { IfOk result (PrintsMiter task.now (I.input stdin.old) (I.input stdin.new)
-        (O.output out.old) (O.output out.new)) }
+    ensures miter { IfOk result (PrintsMiter (IsFileGiven R R.Dir R.File.contents) task.now
+        (I.input stdin.old) (I.input stdin.new) (O.output out.old) (O.output out.new)) }
     ensures prints { Prints (ending result) (O.output out.old) (O.output out.new) }
 {
     let mapped = mapped_for(rt, alloc, task, stdin)?;
@@ -100,8 +101,9 @@ pub fn write_miter<'a, R: Files, I: CountedRead, O: CountedWrite>(
     stdin: &mut I,
     out: &mut O,
 ) -> Result<Outcome, Failure<'a>>
-    ensures miter { IfOk result (PrintsAsked task.now.certificate task.now (I.input stdin.old)
-        (I.input stdin.new) (O.output out.old) (O.output out.new)) }
+    ensures miter { IfOk result (PrintsAsked (IsFileGiven R R.Dir R.File.contents)
+        task.now.certificate task.now (I.input stdin.old) (I.input stdin.new) (O.output out.old)
+        (O.output out.new)) }
     ensures prints { Prints (ending result) (O.output out.old) (O.output out.new) }
 {
     match task.certificate {

@@ -2,6 +2,7 @@
 ghost use Rattle.std.specs.Prelude.{◌≡◌, Err, IfErr, IfOk};
 ghost use Rattle.map_checks.specs.Answers.{AreFitting, IsMap};
 ghost use Rattle.map_miters.specs.Products.{IsProduct};
+ghost use Rattle.circuit_files.specs.WrittenFiles.{IsFileGiven};
 ghost use Rattle.circuit_files.specs.declared.outcome.Failure.TheVariants.{NotAMap};
 ghost use Rattle.command_endings.specs.HeldNames.{OfSource};
 ghost use Rattle.command_endings.specs.Printing.{Prints, ending};
@@ -133,8 +134,9 @@ fn write_both<'a, R: Files, O: CountedWrite>(
     certificate: Target<'a>,
     out: &mut O,
 ) -> Result<Outcome, Failure<'a>>
-    ensures written { IfOk result (EndsWritingBoth machines.now spelling output.entry
-        certificate.entry (O.output out.old) (O.output out.new)) }
+    ensures written { IfOk result (EndsWritingBoth (IsFileGiven R R.Dir R.File.contents)
+        machines.now spelling output.entry certificate.entry (O.output out.old)
+        (O.output out.new)) }
     ensures prints { Prints (ending result) (O.output out.old) (O.output out.new) }
 {
     match write_circuit(rt, &machines.model, spelling, output, out) {
@@ -155,8 +157,8 @@ fn write_shown<'a, R: Files, O: CountedWrite>(
     certificate: Target<'a>,
     out: &mut O,
 ) -> Result<Outcome, Failure<'a>>
-    ensures written { IfOk result (EndsShowing shown.now spelling output.entry certificate.entry
-        (O.output out.old) (O.output out.new)) }
+    ensures written { IfOk result (EndsShowing (IsFileGiven R R.Dir R.File.contents) shown.now
+        spelling output.entry certificate.entry (O.output out.old) (O.output out.new)) }
     ensures prints { Prints (ending result) (O.output out.old) (O.output out.new) }
 {
     match shown {
@@ -177,8 +179,9 @@ pub(crate) fn write_product<'a, R: Files, I: CountedRead, O: CountedWrite>(
     stdin: &mut I,
     out: &mut O,
 ) -> Result<Outcome, Failure<'a>>
-    ensures product { IfOk result (PrintsProduct certificate.entry task.now (I.input stdin.old)
-        (I.input stdin.new) (O.output out.old) (O.output out.new)) }
+    ensures product { IfOk result (PrintsProduct (IsFileGiven R R.Dir R.File.contents)
+        certificate.entry task.now (I.input stdin.old) (I.input stdin.new) (O.output out.old)
+        (O.output out.new)) }
     ensures prints { Prints (ending result) (O.output out.old) (O.output out.new) }
 {
     let mapped = mapped_for(rt, alloc, task, stdin)?;

@@ -1,4 +1,3 @@
-use Rattle.std.proofs.Common.{◌∙◌}
 use Rattle.commands.proofs.PipeLaws.{fails_beside, kept, told_of}
 use Rattle.commands.proofs.retiming.certified.Goals as goal
 
@@ -8,11 +7,11 @@ returns-clause-file g c =
 
 pub returns-in-Ok-clause-told : goal.returns-in-Ok-clause-told
 returns-in-Ok-clause-told g c =
-    let written = c.in-Ok.ensures in
-    told_of c.args.task.now (g.I.CountedRead.input c.args.stdin.now) (g.O.CountedWrite.output c.args.out.now) (g.O.CountedWrite.output c.retimed-ended.new.out)
-    (g.O.CountedWrite.output c.write_beside.new.out) c.in_ok-answer.answer.retimed c.write_beside.new.answer.retimed c.with_times.result.retimed
-    c.in_ok-answer.answer.levels c.with_times.result.levels (c.with_times.ensures.levels ∙ written.levels) c.with_times.ensures.retimed
-    written.frames c.in_ok-answer.ensures.read c.in_ok-answer.ensures.answer written.file c.retimed-ended.ensures.file written.certificates
+    let beside = c.in-Ok.ensures in
+    let told = c.with_times in
+    told_of _ c.args.task.now (g.I.CountedRead.input c.args.stdin.now) (g.O.CountedWrite.output c.args.out.now) (g.O.CountedWrite.output c.retimed-ended.new.out)
+    (g.O.CountedWrite.output c.write_beside.new.out) c.in_ok-answer.answer c.write_beside.new.answer told.result.retimed told.result.levels told.result.map
+    told.ensures.levels beside.levels told.ensures.retimed beside.frames told.ensures.map beside.map c.in_ok-answer.ensures.answer beside.written
 
 pub returns-clause-prints : goal.returns-clause-prints
 returns-clause-prints g c =

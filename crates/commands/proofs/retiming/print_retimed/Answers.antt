@@ -1,4 +1,4 @@
-use Rattle.commands.proofs.PipeLaws.{if_done, prints_frames, prints_retiming, writes_pipe}
+use Rattle.commands.proofs.PipeLaws.{prints_frames, prints_retiming, writes_pipe}
 use Rattle.commands.proofs.retiming.print_retimed.Goals as goal
 
 pub returns-clause-frames : goal.returns-clause-frames
@@ -7,17 +7,16 @@ returns-clause-frames g c =
     let err = g.E.CountedWrite.output in
     let printed = c.print_frames-ended in
     let timed = c.in_ok-timed in
-    if_done printed.result _
-    (prints_retiming c.args.task.now c.args.is_terminal (g.I.CountedRead.input c.args.stdin.now) (out c.args.out.now) (out c.certified.new.out) (out printed.new.out)
+    prints_retiming _ c.args.task.now c.args.is_terminal (g.I.CountedRead.input c.args.stdin.now) (out c.args.out.now) (out c.certified.new.out) (out printed.new.out)
     (err c.certified.new.err) (err printed.new.err) (err c.tell_remaining.new.err) timed.timed.retimed timed.timed.levels timed.timed.times timed.timed.map printed.result
-    timed.ensures.told timed.ensures.file printed.ensures.aside printed.ensures.says printed.ensures.frames c.tell_remaining.ensures)
+    timed.ensures.told printed.ensures.aside printed.ensures.says printed.ensures.frames c.tell_remaining.ensures.aside
 
 pub returns-clause-pipe : goal.returns-clause-pipe
 returns-clause-pipe g c =
     let out = g.O.CountedWrite.output in
     let printed = c.print_frames-ended in
-    writes_pipe c.args.task.now (g.I.CountedRead.input c.args.stdin.now) (out c.args.out.now) (out c.certified.new.out) (out printed.new.out)
-    c.in_ok-timed.timed.retimed c.in_ok-timed.timed.levels printed.result printed.result c.in_ok-timed.ensures.told printed.ensures.aside
+    writes_pipe _ c.args.task.now (g.I.CountedRead.input c.args.stdin.now) (out c.args.out.now) (out c.certified.new.out) (out printed.new.out)
+    c.in_ok-timed.timed.retimed c.in_ok-timed.timed.levels c.in_ok-timed.timed.map printed.result printed.result c.in_ok-timed.ensures.told printed.ensures.aside
 
 pub returns-clause-prints : goal.returns-clause-prints
 returns-clause-prints g c =

@@ -1,10 +1,13 @@
 use Rattle.std.proofs.lemmas.Result.{IfOk-weaker}
+use Rattle.circuit_files.proofs.TargetLaws.{to_file, to_stdout}
 use Rattle.commands.proofs.retiming.retime_by.Goals as goal
 
-pub returns-in-Stdout-clause-read : goal.returns-in-Stdout-clause-read
-returns-in-Stdout-clause-read g c =
-    IfOk-weaker c.retime_to.result _ _ (λ answer to. record { before = _; after = _; to = to }) c.retime_to.ensures.answer
+pub returns-in-Stdout-clause-answer : goal.returns-in-Stdout-clause-answer
+returns-in-Stdout-clause-answer g c =
+    IfOk-weaker c.retime_to.result _ _ (λ answer to. record { of = to.of; writes = to_stdout _ _ _ _ _ c.in-Stdout.is to.writes }) c.retime_to.ensures.answer
 
-pub returns-in-File-clause-read : goal.returns-in-File-clause-read
-returns-in-File-clause-read g c =
-    IfOk-weaker c.retime_to-in-File.result _ _ (λ answer to. record { before = _; after = _; to = to }) c.retime_to-in-File.ensures.answer
+pub returns-in-File-clause-answer : goal.returns-in-File-clause-answer
+returns-in-File-clause-answer g c =
+    IfOk-weaker c.retime_to-in-File.result _ _
+    (λ answer to. record { of = to.of; writes = to_file _ _ c.in-File.path _ _ c.in-File.is (record { opened = c.file_at-writer.result; given = c.retime_to-in-File.new.writer; at = c.file_at-writer.ensures; writes = to.writes }) })
+    c.retime_to-in-File.ensures.answer

@@ -2,6 +2,7 @@
 //! memory.
 use crate::argument::{Argument, arg_of};
 use crate::subcommands::{COUNT, Subcommand, subcommand_at};
+use crate::texts;
 use clap::{ArgGroup, Command};
 use std::alloc::{AllocError, Global};
 
@@ -116,15 +117,15 @@ fn with_number<'a>(
 fn bare_program<'a>(alloc: Global) -> Command<'a> {
     Command::new(alloc, "fretime")
         .version("0.3.0")
-        .about(command_texts::ABOUT)
-        .long_about(command_texts::LONG_ABOUT)
-        .after_help(command_texts::EXAMPLE)
+        .about(texts::ABOUT)
+        .long_about(texts::LONG_ABOUT)
+        .after_help(texts::EXAMPLE)
         .subcommand_required(true)
         .arg_required_else_help(true)
 }
 
 /// The program's commands, in the order of the help text.
-pub(crate) fn program<'a>(alloc: Global) -> Result<Command<'a>, AllocError> {
+pub fn program_command<'a>(alloc: Global) -> Result<Command<'a>, AllocError> {
     let mut program = bare_program(alloc);
     for number in 0..COUNT {
         program = with_number(alloc, program, number)?;

@@ -1,10 +1,9 @@
 //! What the help says of the program and of each command; what it says of an argument stands with the argument. Nothing is proved
 //! of texts: tests compare what is printed.
-#![tactic(auto)]
+pub(crate) const ABOUT: &str =
+    "Moves the latches of a sequential circuit forward so that fewer are left";
 
-pub const ABOUT: &str = "Moves the latches of a sequential circuit forward so that fewer are left";
-
-pub const LONG_ABOUT: &str =
+pub(crate) const LONG_ABOUT: &str =
     "Moves the latches of a sequential circuit forward so that fewer are left.
 
 Circuits are files in the formats of AIGER 1.9, ASCII (aag) or binary (aig).
@@ -15,14 +14,15 @@ written. A file of that name is './-'.
 What is written has a file of its own, by whatever paths files are named. A
 circuit may take the place of the one that it is made of, and of no other.";
 
-pub const EXAMPLE: &str = "Example:
+pub(crate) const EXAMPLE: &str = "Example:
   fretime retime counter.aag smaller.aag
 
 'fretime help COMMAND' says more.";
 
-pub const RETIME_ABOUT: &str = "Moves latches forward over gates, frame by frame, until none helps";
+pub(crate) const RETIME_ABOUT: &str =
+    "Moves latches forward over gates, frame by frame, until none helps";
 
-pub const RETIME_LONG_ABOUT: &str =
+pub(crate) const RETIME_LONG_ABOUT: &str =
     "Reads a circuit, cleans it, moves latches forward over gates, frame by frame, as
 long as that leaves fewer, and writes it.
 
@@ -61,7 +61,7 @@ standard error.
 Where standard error is a terminal, one line of it shows how far a run of over a
 second is, and is gone at the end.";
 
-pub const RETIME_EXAMPLE: &str = "Example:
+pub(crate) const RETIME_EXAMPLE: &str = "Example:
   fretime retime counter.aag smaller.aag
 
 It prints a line for each frame that was taken, and then the numbers of all
@@ -75,9 +75,9 @@ In a pipe:
 Exit status: 0 done, 1 IN is no circuit or has no such latch, 2 command line,
 3 device, 4 out of memory.";
 
-pub const BATCH_ABOUT: &str = "Retimes the circuits of a list, many at once";
+pub(crate) const BATCH_ABOUT: &str = "Retimes the circuits of a list, many at once";
 
-pub const BATCH_LONG_ABOUT: &str =
+pub(crate) const BATCH_LONG_ABOUT: &str =
     "Reads a list of circuits, retimes each as 'retime' does, and writes each to its
 file.
 
@@ -87,7 +87,7 @@ one at a time; what is written is the same for every number of workers. In a
 line '-' is a file of that name. Of two circuits that are written to one file
 the later one stands.";
 
-pub const BATCH_EXAMPLE: &str =
+pub(crate) const BATCH_EXAMPLE: &str =
     "It prints a line for each circuit, in the order of the list, once its file is
 written:
   1 done 2 to 1
@@ -97,9 +97,9 @@ written:
 Exit status: 0 all are done, else 1 or 4 by the first that is refused or lacked
 memory; 1 LIST is no list, 2 command line, 3 device, 4 out of memory.";
 
-pub const VERIFY_ABOUT: &str = "Checks the certificates that 'retime --cert' wrote";
+pub(crate) const VERIFY_ABOUT: &str = "Checks the certificates that 'retime --cert' wrote";
 
-pub const VERIFY_LONG_ABOUT: &str =
+pub(crate) const VERIFY_LONG_ABOUT: &str =
     "Reads a circuit, and the certificates of its frames, and checks each against the
 circuit of its frame, without any flow.
 
@@ -111,7 +111,7 @@ Under a bound on levels 'yes' says that no set of gates within it leaves fewer.
 With --out it compares OUT with what 'retime' writes of the circuit that all of
 them make of IN, byte for byte.";
 
-pub const VERIFY_EXAMPLE: &str = "Example:
+pub(crate) const VERIFY_EXAMPLE: &str = "Example:
   fretime retime counter.aag smaller.aag --cert counter.cert
   fretime verify counter.aag counter.cert
 
@@ -126,9 +126,10 @@ Exit status: 0 all are confirmed, 1 a file is refused or IN has no such latch,
 2 command line, 3 device, 4 out of memory, 5 a certificate is rejected or OUT
 differs.";
 
-pub const CHECK_ABOUT: &str = "Checks by a map of states that a circuit is a retiming of another";
+pub(crate) const CHECK_ABOUT: &str =
+    "Checks by a map of states that a circuit is a retiming of another";
 
-pub const CHECK_LONG_ABOUT: &str =
+pub(crate) const CHECK_LONG_ABOUT: &str =
     "Reads a circuit, the circuit that was made of it, and a map of the states of the
 one to those of the other, as 'retime --map' writes it, and checks that by this
 map all properties of both are the same at each step, whoever made the files.
@@ -138,7 +139,7 @@ are two literals that a constraint of MAP says to be equal. What has to be equal
 and isn't one literal then is not shown; a SAT solver may still show it, as
 docs/STATE_MAPS.md says.";
 
-pub const CHECK_EXAMPLE: &str = "Example:
+pub(crate) const CHECK_EXAMPLE: &str = "Example:
   fretime retime counter.aag smaller.aag --map counter.map
   fretime check counter.aag smaller.aag counter.map
 
@@ -152,9 +153,9 @@ bad, constraint, justice or fairness of OUT ('read').
 Exit status: 0 a retiming, 1 a file is refused, MAP is no map, or shapes differ,
 2 command line, 3 device, 4 out of memory, 5 not shown.";
 
-pub const MITER_ABOUT: &str = "Writes what a map of states has to meet as a circuit";
+pub(crate) const MITER_ABOUT: &str = "Writes what a map of states has to meet as a circuit";
 
-pub const MITER_LONG_ABOUT: &str =
+pub(crate) const MITER_LONG_ABOUT: &str =
     "Reads a circuit, the circuit that was made of it, and a map of the states of the
 one to those of the other, as 'retime --map' writes it, and writes a circuit
 without latches that is 1 where the map fails, in the spelling of MAP where none
@@ -171,7 +172,7 @@ With --certificate, MITER is IN and OUT side by side, under the same inputs: a
 model that is bad where a property of theirs differs. CERT is the same with an
 inductive invariant by MAP: a witness circuit for that model, as of 'lift'.";
 
-pub const MITER_EXAMPLE: &str = "Example:
+pub(crate) const MITER_EXAMPLE: &str = "Example:
   fretime retime counter.aag smaller.aag --map counter.map
   fretime miter counter.aag smaller.aag counter.map counter.aig --binary
 
@@ -181,9 +182,10 @@ MITER is made at its first byte: where something is refused, it stays as it was.
 Exit status: 0 done, 1 a file is refused, MAP is no map, or shapes differ,
 2 command line, 3 device, 4 out of memory.";
 
-pub const LIFT_ABOUT: &str = "Carries a proof of a retimed circuit back to what it was made of";
+pub(crate) const LIFT_ABOUT: &str =
+    "Carries a proof of a retimed circuit back to what it was made of";
 
-pub const LIFT_LONG_ABOUT: &str =
+pub(crate) const LIFT_LONG_ABOUT: &str =
     "Reads a circuit, the circuit that was made of it, a map of the states of the one
 to those of the other, as 'retime --map' writes it, and a witness circuit for
 the second: what a model checker hands in to show that no bad state is reached.
@@ -200,7 +202,7 @@ Where MAP is a map and CERT passes the five checks for OUT, RESULT passes them
 for IN, as any SAT solver can find; neither is checked here. 'check' checks the
 map.";
 
-pub const LIFT_EXAMPLE: &str = "Example:
+pub(crate) const LIFT_EXAMPLE: &str = "Example:
   fretime retime ring.aag less.aag --map ring.map
   fretime lift ring.aag less.aag ring.map less.cert ring.cert
 
@@ -210,9 +212,9 @@ was. 'shapes differ' is printed where IN, OUT and MAP don't fit together.
 Exit status: 0 done, 1 a file is refused, MAP is no map, CERT names what OUT
 hasn't, or shapes differ, 2 command line, 3 device, 4 out of memory.";
 
-pub const STAT_ABOUT: &str = "Counts what a circuit has, as it was read";
+pub(crate) const STAT_ABOUT: &str = "Counts what a circuit has, as it was read";
 
-pub const STAT_EXAMPLE: &str =
+pub(crate) const STAT_EXAMPLE: &str =
     "Latches are free where they have no known reset; free latches never move.
 
 With --merge two last lines say how many latches 'retime --merge' would merge,
@@ -223,12 +225,12 @@ and how many of these never change:
 Exit status: 0 done, 1 IN is no circuit, 2 command line, 3 device, 4 out of
 memory.";
 
-pub const CONVERT_ABOUT: &str =
+pub(crate) const CONVERT_ABOUT: &str =
     "Writes a circuit as it was read; without a flag in the other spelling";
 
-pub const SIM_ABOUT: &str = "Prints the values of all properties under a stimulus";
+pub(crate) const SIM_ABOUT: &str = "Prints the values of all properties under a stimulus";
 
-pub const SIM_EXAMPLE: &str =
+pub(crate) const SIM_EXAMPLE: &str =
     "A stimulus is lines: '=' with a digit for each free latch begins a sequence, ':'
 with a digit for each input is its next step.
 
@@ -242,9 +244,9 @@ waves: a scope for each sequence.
 Exit status: 0 done, 1 a file is refused or so many steps take too much memory,
 2 command line, 3 device, 4 out of memory.";
 
-pub const SAME_ABOUT: &str = "Finds the first difference of two circuits under a stimulus";
+pub(crate) const SAME_ABOUT: &str = "Finds the first difference of two circuits under a stimulus";
 
-pub const SAME_EXAMPLE: &str =
+pub(crate) const SAME_EXAMPLE: &str =
     "It prints 'same', or the first sequence, step and place, from 0, at which the
 circuits differ.
 
@@ -259,9 +261,9 @@ B's among those of A, from 0, a line each, in order:
 Exit status: 0 same, 1 a file is refused, shapes differ or so many steps take
 too much memory, 2 command line, 3 device, 4 out of memory, 5 they differ.";
 
-pub const DOT_ABOUT: &str = "Writes a picture of a circuit, for Graphviz";
+pub(crate) const DOT_ABOUT: &str = "Writes a picture of a circuit, for Graphviz";
 
-pub const DOT_LONG_ABOUT: &str =
+pub(crate) const DOT_LONG_ABOUT: &str =
     "Reads a circuit, and writes it as text in DOT, the language of Graphviz: `dot
 -Tsvg OUT` draws it.
 
@@ -278,17 +280,17 @@ A circuit of over 2,000 nodes is refused, but for a neighbourhood: --around NAME
 draws what is at most so many edges away from the input, latch or property with
 the name. `dot` may take long from some 300 nodes on; `sfdp` draws those too.";
 
-pub const DOT_EXAMPLE: &str = "Example:
+pub(crate) const DOT_EXAMPLE: &str = "Example:
   fretime dot counter.aag counter.dot --frame
   dot -Tsvg counter.dot > counter.svg
 
 Exit status: 0 done, 1 IN is no circuit, has no such latch, nothing called NAME
 or too many nodes, 2 command line, 3 device, 4 out of memory.";
 
-pub const WITNESS_ABOUT: &str =
+pub(crate) const WITNESS_ABOUT: &str =
     "Carries a witness of a retimed circuit back to what it was made of";
 
-pub const WITNESS_LONG_ABOUT: &str =
+pub(crate) const WITNESS_LONG_ABOUT: &str =
     "Reads a circuit, the circuit that 'retime' wrote of it, and a witness that a
 model checker found for that one, and prints the witness for the first.
 
@@ -298,7 +300,7 @@ latches that OUT has hold what they did there, and the others 0. The inputs are
 the same. What is printed are the values that were simulated, without an x. Give
 --merge as for 'retime': which free latches OUT has may rest on it.";
 
-pub const WITNESS_EXAMPLE: &str = "Example:
+pub(crate) const WITNESS_EXAMPLE: &str = "Example:
   fretime retime counter.aag smaller.aag
   fretime witness counter.aag smaller.aag smaller.cex
 
@@ -310,13 +312,13 @@ comment says at which step each property fails:
 Exit status: 0 done, 1 a file is refused or shapes differ, 2 command line,
 3 device, 4 out of memory, 5 a property doesn't fail.";
 
-pub const EXPLAIN_ABOUT: &str = "Says what a fault is, and what to do";
+pub(crate) const EXPLAIN_ABOUT: &str = "Says what a fault is, and what to do";
 
-pub const EXPLAIN_LONG_ABOUT: &str =
+pub(crate) const EXPLAIN_LONG_ABOUT: &str =
     "Prints the page of a fault that a message names: what it is, the rule that is
 broken, a smallest file that has it, and what to do.";
 
-pub const EXPLAIN_EXAMPLE: &str = "Example:
+pub(crate) const EXPLAIN_EXAMPLE: &str = "Example:
   fretime explain MaxIndex
 
 Faults of circuits, and some of them of other files too: BadHeader, TooLarge,

@@ -1,0 +1,11 @@
+use Rattle.std.proofs.lemmas.Result.{on_ok_weaker}
+use Rattle.circuit_files.proofs.TargetLaws.{to_file, to_stdout}
+use Rattle.commands.proofs.answer.write_map.Goals as goal
+
+pub returns-in-Stdout-clause-given : goal.returns-in-Stdout-clause-given
+returns-in-Stdout-clause-given g c = on_ok_weaker c.write_state_map.result (λ writes. to_stdout _ _ _ _ _ c.in-Stdout.is writes) c.write_state_map.ensures.ok
+
+pub returns-in-File-clause-given : goal.returns-in-File-clause-given
+returns-in-File-clause-given g c =
+    on_ok_weaker c.write_state_map-in-File.result
+    (λ writes. to_file _ _ c.in-File.path _ _ c.in-File.is (record { opened = c.file_at-writer.result; given = c.write_state_map-in-File.new.writer; at = c.file_at-writer.ensures; writes = writes })) c.write_state_map-in-File.ensures.ok
