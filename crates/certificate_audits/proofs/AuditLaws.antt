@@ -12,7 +12,7 @@ use Rattle.retimed_circuits.specs.Names.{held_latches}
 use Rattle.path_levels.specs.Arrivals.{IsClosedWithin}
 use Rattle.path_levels.specs.Bounded.{bounded}
 use Rattle.path_levels.proofs.BoundedLaws.{bounded-law}
-use Rattle.retimed_circuits.specs.Certified.{passes_bounded, passes_whole}
+use Rattle.certificate_audits.specs.Audits.{passes_bounded, passes_whole}
 use Rattle.certificate_audits.specs.declared.outcome.Audit.{Audit}
 use Rattle.certificate_audits.specs.declared.outcome.End.{End}
 use Rattle.certificate_audits.specs.declared.outcome.End.TheVariants.{NoBlocks, Certified, Open, BlocksFollow, Objected}

@@ -11,7 +11,7 @@ use Rattle.certificates.specs.declared.verdict.Objection.TheVariants.{NotClosed,
 use Rattle.certificates.specs.Verdicts.{IsVerdict}
 use Rattle.aig_graph.specs.Keep.{held_in}
 use Rattle.path_levels.specs.Bounded.{bounded}
-use Rattle.retimed_circuits.specs.Certified.{PassesWithin, passes_bounded, passes_whole}
+use Rattle.certificate_audits.specs.Audits.{PassesEither, passes_bounded, passes_whole}
 use Rattle.retimed_circuits.specs.Frames.{moved_in}
 use Rattle.certificate_audits.specs.declared.judging.Finding.{Finding}
 use Rattle.certificate_audits.specs.declared.judging.Finding.TheVariants.{Objected, Fewer, NotFewer}
@@ -53,7 +53,7 @@ finding_of Yes = Fewer
 finding_of (No objection) = Objected objection
 
 -- what passes doesn't fail
-passes-never-fails : (bound : ℕ) (c : Netlist) (held : List ℕ) (block : Certificate) (o : Objection) → PassesWithin bound c held block → FailsWithin bound c held block o → ⊥
+passes-never-fails : (bound : ℕ) (c : Netlist) (held : List ℕ) (block : Certificate) (o : Objection) → PassesEither bound c held block → FailsWithin bound c held block o → ⊥
 passes-never-fails bound c held block o (passes_whole v) fails = let clash : Yes ≡ No o = verdict-one c held block Yes (No o) v fails.whole in absurd (cc)
 passes-never-fails bound c held block o (passes_bounded v) fails =
     let clash : Yes ≡ No fails.other = verdict-one (bounded bound held c) held block Yes (No fails.other) v fails.bounded_too in absurd (cc)

@@ -11,12 +11,16 @@ use Rattle.certificates.specs.Verdicts.{IsVerdict}
 use Rattle.aig_graph.specs.Keep.{held_in}
 use Rattle.merged_latches.specs.declared.counts.MergeCounts.{MergeCounts}
 use Rattle.path_levels.specs.Bounded.{bounded}
-use Rattle.retimed_circuits.specs.Certified.{Passes}
 use Rattle.retimed_circuits.specs.Frames.{CleansIn, count_in, moved_in}
 use Rattle.retimed_circuits.specs.Merging.{MergesIn}
 use Rattle.certificate_audits.specs.declared.outcome.Audit.{Audit}
 use Rattle.certificate_audits.specs.declared.outcome.End.{End}
 use Rattle.certificate_audits.specs.declared.outcome.End.TheVariants.{NoBlocks, Certified, Open, BlocksFollow, Objected}
+
+-- the block passes all tests for c, or for c bounded
+pub data PassesEither (bound : ℕ) (c : Netlist) (held : List ℕ) (block : Certificate) : Type 0 where
+  passes_whole : IsVerdict c held block Yes → PassesEither bound c held block
+  passes_bounded : IsVerdict (bounded bound held c) held block Yes → PassesEither bound c held block
 
 -- the block fails a test for c, and one for c bounded
 pub record FailsWithin (bound : ℕ) (c : Netlist) (held : List ℕ) (block : Certificate) (objection : Objection) : Type 0 where
@@ -27,7 +31,7 @@ pub record FailsWithin (bound : ℕ) (c : Netlist) (held : List ℕ) (block : Ce
 -- the verdict on a block for c: it passes where it does for c or, under a bound, for c bounded; what speaks against it is what does so for c
 abbrev pub IsVerdictBy : Option ℕ → Netlist → List ℕ → Certificate → Verdict → Type 0
 IsVerdictBy None c held block verdict = IsVerdict c held block verdict
-IsVerdictBy (Some bound) c held block Yes = Passes (Some bound) c held block
+IsVerdictBy (Some bound) c held block Yes = PassesEither bound c held block
 IsVerdictBy (Some bound) c held block (No objection) = FailsWithin bound c held block objection
 
 -- the same where the latches stay that the names hold

@@ -11,8 +11,8 @@ use crate::task::{
     Simulation, Stimuli, Task, Verification,
 };
 use crate::values::{
-    bound, choice, depth, frames, json, keep, keep_latches, merge, number, shown, source, source_if_given,
-    spelling, target, workers,
+    bound, choice, depth, frames, json, keep, keep_latches, merge, number, shown, source,
+    source_if_given, spelling, target, workers,
 };
 use clap::error::ErrorKind;
 use clap::{ArgMatches, Command, Error};

@@ -63,7 +63,7 @@ module _ (options : Options) (c : Netlist) where
   pub helps-saves : (bound : Option ℕ) (set : List ℕ) → IsHelpingSetBy options bound c set → Saves c (kept_by options c) set
   helps-saves bound set helps = record { closed = found-closed bound options.choice (names_in options) c set helps.found; fewer = helps.fewer }
 
-  whole-passes : (bound : Option ℕ) (cert : Certificate) → IsVerdict c (kept_by options c) cert Yes → Passes bound c (kept_by options c) cert
+  whole-passes : (bound : Option ℕ) (cert : Certificate) → IsVerdict c (kept_by options c) cert Yes → Passes bound (names_in options) c cert
   whole-passes None cert verdict = verdict
   whole-passes (Some most) cert verdict = passes_whole verdict
 
