@@ -1,6 +1,5 @@
 -- A circuit that stays what it is.
-use Rattle.std.proofs.Common.{ℕ, ◌+◌, ◌*◌, ◌<◌, ◌≤◌, ◌≡◌, List, length, get_or, slice_get, Option, Some, None, arith, refl, sym, ap, ◌∙◌}
-use Rattle.std.specs.List.{All, Contains}
+use Rattle.std.proofs.Common.{ℕ, ◌+◌, ◌*◌, ◌<◌, ◌≡◌, List, length, get_or, slice_get, Option, Some, None, arith, refl, ap, ◌∙◌}
 use Rattle.std.proofs.lemmas.List.{get_or_default}
 use Rattle.std.proofs.lemmas.Option.{slice_get-get_or}
 use Rattle.aig_graph.specs.declared.graph.Latch.{Latch}
@@ -29,15 +28,17 @@ module _ (c m : Netlist) (netlist : IsNetlist c) (wires : IsWires c m) where
   held-at : (k : ℕ) → IsHeldBackIn c c m k
   held-at k less =
       let none : Latch = record { next = 0; reset = Zero } in
-      let here = slice_get-get_or c.aig.latches k none less in
-      (k, record {
-        before = get_or c.aig.latches k none;
-        after = get_or c.aig.latches k none;
-        here = here;
-        there = here;
-        output = output-at k less;
-        reset = refl;
-      })
+      let here = slice_get-get_or c.aig.latches k none less in (
+        k,
+        record {
+          before = get_or c.aig.latches k none;
+          after = get_or c.aig.latches k none;
+          here = here;
+          there = here;
+          output = output-at k less;
+          reset = refl;
+        },
+      )
 
   named-at : (k : ℕ) (s : Symbol) → k < length c.symbols.latches → get_or c.symbols.latches k s ≡ s → IsNamedBack c m s
   named-at k s less is =

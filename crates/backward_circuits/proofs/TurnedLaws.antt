@@ -1,5 +1,5 @@
 -- Equal streams the other way, where both circuits have as many free latches.
-use Rattle.std.proofs.Common.{ℕ, ◌+◌, ◌-◌, ◌<◌, ◌≤◌, ◌≡◌, Bool, List, length, get_or, map, refl, sym, arith, ap, ◌∙◌, subst, suc, zero, zero-add}
+use Rattle.std.proofs.Common.{ℕ, ◌+◌, ◌-◌, ◌<◌, ◌≤◌, ◌≡◌, Bool, List, length, get_or, map, sym, arith, ap, ◌∙◌, subst, suc, zero, zero-add}
 use Rattle.std.specs.List.Sorted.{IsStrictlyIncreasing}
 use Rattle.std.proofs.lemmas.Grind.{same_number_lists}
 use Rattle.std.proofs.lemmas.List.FromFn.{get_or-range_with_len, length-range_with_len}

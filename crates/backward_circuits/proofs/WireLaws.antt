@@ -1,5 +1,5 @@
 -- The map of a circuit's states to themselves.
-use Rattle.std.proofs.Common.{ℕ, ◌+◌, ◌*◌, ◌<◌, ◌≤◌, ◌≡◌, ◌∙◌, List, [], length, ap, arith, refl, sym, subst}
+use Rattle.std.proofs.Common.{ℕ, ◌+◌, ◌*◌, ◌≤◌, ◌≡◌, ◌∙◌, List, [], length, ap, arith, refl, sym, subst}
 use Rattle.aig_graph.specs.declared.literal.TheConstants.{MAX_VARIABLES}
 use Rattle.aig_graph.specs.declared.graph.Gate.{Gate}
 use Rattle.aig_graph.specs.declared.graph.Latch.{Latch}
@@ -10,10 +10,8 @@ use Rattle.aig_graph.specs.Building.{without_gates}
 use Rattle.aig_graph.specs.Circuits.{AreNamesBelow, IsNetlist, Netlist, outputs_alone}
 use Rattle.aig_graph.specs.Graph.{Graph, IsGraph}
 use Rattle.aig_graph.specs.Laws.{all_free}
-use Rattle.cleaned_circuits.proofs.PassLaws.{IsCircuit}
 use Rattle.retiming_maps.specs.Mapping.{IsMapBy}
 use Rattle.retiming_maps.proofs.StartLaws.{identity-map, inputs-graph}
-use Rattle.state_maps.specs.MapCircuits.{IsMapCircuit}
 use Rattle.variable_tables.specs.Tables.{table}
 use Rattle.backward_circuits.specs.Drawn.{IsWires, map_names}
 
