@@ -1,0 +1,3 @@
+pub mod TurnedLaws
+pub mod WireLaws
+pub mod StayLaws

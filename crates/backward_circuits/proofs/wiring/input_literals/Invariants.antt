@@ -1,0 +1,6 @@
+use Rattle.std.proofs.Common.{◌≡◌, ◌+◌, ◌*◌}
+use Rattle.variable_tables.specs.Tables.{table}
+use Rattle.backward_circuits.proofs.wiring.input_literals.Given as goal
+
+abbrev pub invariant-loop-place : goal.invariant-loop-place
+invariant-loop-place l = l.literals.items ≡ table 0 l.place (λ j. 2 * (1 + j))

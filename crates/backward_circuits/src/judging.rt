@@ -1,0 +1,70 @@
+//! The judge: what is asked of the finished circuit and map, by proved code alone.
+ghost use Rattle.std.specs.Prelude.{◌≡◌, IfOk, IsTrue};
+ghost use Rattle.aig_graph.specs.Graph.{free_latches};
+ghost use Rattle.backward_circuits.specs.MovedBack.{IsFit, IsMovedBack, IsTurned};
+
+use crate::bounds::is_within;
+use crate::held::are_held_back;
+use aig_graph::{Circuit, Keep, NoMemory};
+use map_checks::{Answer, CheckError, check_map};
+use std::alloc::Global;
+
+/// Whether both have as many free latches.
+fn have_same_free(circuit: &Circuit, after: &Circuit) -> bool
+    ensures { IsTrue result → free_latches after.now.aig ≡ free_latches circuit.now.aig }
+{
+    after.aig().free_latches() == circuit.aig().free_latches()
+}
+
+/// Whether the map shows that the circuit of before is a retiming of the new one, with all of its free latches.
+fn is_mapped(
+    alloc: Global,
+    circuit: &Circuit,
+    after: &Circuit,
+    map: &Circuit,
+) -> Result<bool, NoMemory>
+    ensures { IfOk result (λ mapped. IsTrue mapped → IsTurned circuit.now after.now map.now) }
+{
+    match check_map(alloc, after, circuit, map) {
+        Ok(Answer::Retiming(kept)) => {
+            drop(kept);
+            Ok(have_same_free(circuit, after))
+        }
+        Ok(Answer::NotShown(_)) => Ok(false),
+        Err(CheckError::NoMemory) => Err(NoMemory),
+        Err(_) => Ok(false),
+    }
+}
+
+/// Whether the new circuit has no more latches, and held ones are where they were.
+fn is_fit(circuit: &Circuit, after: &Circuit, map: &Circuit, keep: &Keep) -> bool
+    ensures { IsTrue result → IsFit circuit.now keep.now after.now map.now }
+{
+    after.aig().latches().len() <= circuit.aig().latches().len()
+        && are_held_back(circuit, after, map, keep)
+}
+
+/// Whether the new circuit is what the first one may become.
+///
+/// # Errors
+///
+/// `NoMemory` where memory is refused.
+pub fn is_moved_back(
+    alloc: Global,
+    circuit: &Circuit,
+    keep: &Keep,
+    bound: Option<u32>,
+    after: &Circuit,
+    map: &Circuit,
+) -> Result<bool, NoMemory>
+    ensures { IfOk result (λ moved. IsTrue moved
+        → IsMovedBack circuit.now keep.now bound after.now map.now) }
+{
+    if !is_fit(circuit, after, map, keep) {
+        return Ok(false);
+    }
+    if !is_mapped(alloc, circuit, after, map)? {
+        return Ok(false);
+    }
+    is_within(alloc, bound, circuit, after)
+}

@@ -1,0 +1,142 @@
+//! Gates of which no two have the same fan-ins, by the rules by which maps are checked. An open table has the places of the gates.
+
+use aig_graph::NoMemory;
+use backward_sets::{Literal, Pair, number, set_entry};
+use std::alloc::Global;
+use std::mem;
+
+/// The smallest table.
+const SMALLEST: usize = 16;
+
+/// Gates from a first variable on, and by what they read one more than the place of each; 0 where there is none.
+#[derive(Drop)]
+pub(crate) struct Shared {
+    alloc: Global,
+    first: u32,
+    gates: Vec<Pair>,
+    table: Vec<u32>,
+}
+
+/// What a gate comes down to, whatever its fan-ins are.
+fn folded(pair: &Pair) -> Option<Literal> {
+    if pair.smaller == Literal::FALSE || pair.larger == pair.smaller.negated_if(true) {
+        Some(Literal::FALSE)
+    } else if pair.smaller == Literal::FALSE.negated_if(true) || pair.larger == pair.smaller {
+        Some(pair.larger)
+    } else {
+        None
+    }
+}
+
+/// Both literals, the larger first.
+fn ordered(a: Literal, b: Literal) -> Pair {
+    if a.code < b.code {
+        Pair {
+            larger: b,
+            smaller: a,
+        }
+    } else {
+        Pair {
+            larger: a,
+            smaller: b,
+        }
+    }
+}
+
+/// Where a gate's entry is looked for first, in a table whose size is one more than the mask.
+fn slot(pair: &Pair, mask: usize) -> usize {
+    let key = u64::from(pair.larger.code)
+        .wrapping_mul(0x9e37_79b9_7f4a_7c15)
+        .wrapping_add(u64::from(pair.smaller.code))
+        .wrapping_mul(0xd6e8_feb8_6659_fd93);
+    (key >> 32) as usize & mask
+}
+
+impl Shared {
+    /// No gates yet, from a first variable on.
+    ///
+    /// # Errors
+    ///
+    /// `NoMemory` where the table is refused.
+    pub fn after(alloc: Global, first: u32) -> Result<Shared, NoMemory> {
+        Ok(Shared {
+            alloc,
+            first,
+            gates: Vec::new(alloc),
+            table: vec![in alloc; 0; SMALLEST]?,
+        })
+    }
+
+    /// The slot of a gate, or the empty one where it would stand.
+    fn find(&self, pair: &Pair) -> usize {
+        let mask = self.table.len().saturating_sub(1);
+        let mut at = slot(pair, mask);
+        for _ in 0..self.table.len() {
+            let Some(entry) = self.table.get(at).copied() else {
+                return at;
+            };
+            let place = entry.wrapping_sub(1) as usize;
+            if entry == 0 || self.gates.get(place).copied() == Some(*pair) {
+                return at;
+            }
+            at = at.wrapping_add(1) & mask;
+        }
+        at
+    }
+
+    /// Makes a table of twice the size, where half of it is full.
+    fn grow(&mut self) -> Result<(), NoMemory> {
+        let size = self.table.len();
+        if self.gates.len() < size / 2 {
+            return Ok(());
+        }
+        let larger = vec![in self.alloc; 0; size.saturating_mul(2)]?;
+        drop(mem::replace(&mut self.table, larger));
+        let mut entry = 1u32;
+        for place in 0..self.gates.len() {
+            let pair = self.gates[place];
+            let at = self.find(&pair);
+            set_entry(self.table.as_mut_slice(), number(at), entry);
+            entry = entry.wrapping_add(1);
+        }
+        Ok(())
+    }
+
+    /// The literal of the conjunction of two literals.
+    ///
+    /// # Errors
+    ///
+    /// `NoMemory` where a table is refused.
+    pub fn and(&mut self, a: Literal, b: Literal) -> Result<Literal, NoMemory> {
+        let pair = ordered(a, b);
+        if let Some(lit) = folded(&pair) {
+            return Ok(lit);
+        }
+        self.grow()?;
+        let at = self.find(&pair);
+        let known = self.table.get(at).copied().unwrap_or(0);
+        if known > 0 {
+            return Ok(self.literal(known));
+        }
+        self.gates.push(pair)?;
+        let entry = number(self.gates.len());
+        set_entry(self.table.as_mut_slice(), number(at), entry);
+        Ok(self.literal(entry))
+    }
+
+    /// The literal of the gate that has an entry.
+    fn literal(&self, entry: u32) -> Literal {
+        Literal::of(self.first.wrapping_add(entry).wrapping_sub(1))
+    }
+
+    /// The gates alone.
+    pub fn into_gates(self) -> Vec<Pair> {
+        let Shared {
+            alloc: _alloc,
+            first: _first,
+            gates,
+            table: _table,
+        } = self;
+        gates
+    }
+}
