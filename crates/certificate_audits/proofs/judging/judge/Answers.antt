@@ -11,7 +11,7 @@ pub returns-in-Yes : goal.returns-in-Yes
 returns-in-Yes c =
     let V : List ℕ → Verdict → Type 0 = λ held verdict. IsVerdictBy c.args.bound c.args.circuit.now held c.args.block.now verdict in
     let passes : IsVerdictIn c.args.bound (names_of c.args.names.now) c.args.circuit.now c.args.block.now Yes =
-      subst (λ (held : List ℕ). V held Yes) c.in_ok-keep.ensures (subst (V c.in_ok-keep.keep) c.in-Yes.is c.in_ok-objection.ensures) in
+    subst (λ (held : List ℕ). V held Yes) c.in_ok-keep.ensures (subst (V c.in_ok-keep.keep) c.in-Yes.is c.in_ok-objection.ensures) in
     let known : c.known_latches-known.result ≡ known_latches c.args.circuit.now.aig = c.known_latches-known.ensures ∙ ap known_latches c.aig.ensures.value in
     record {
       confirmed = confirmed-by c.args.bound (names_of c.args.names.now) c.args.circuit.now c.args.block.now c.known.ensures.graph c.known.ensures.netlist passes;
@@ -22,7 +22,7 @@ pub returns : goal.returns
 returns c =
     let V : List ℕ → Verdict → Type 0 = λ held verdict. IsVerdictBy c.args.bound c.args.circuit.now held c.args.block.now verdict in
     let passes : IsVerdictIn c.args.bound (names_of c.args.names.now) c.args.circuit.now c.args.block.now Yes =
-      subst (λ (held : List ℕ). V held Yes) c.in_ok-keep.ensures (subst (V c.in_ok-keep.keep) c.in-Yes-2.is c.in_ok-objection.ensures) in
+    subst (λ (held : List ℕ). V held Yes) c.in_ok-keep.ensures (subst (V c.in_ok-keep.keep) c.in-Yes-2.is c.in_ok-objection.ensures) in
     let known : c.known_latches-known.result ≡ known_latches c.args.circuit.now.aig = c.known_latches-known.ensures ∙ ap known_latches c.aig.ensures.value in
     record {
       confirmed = confirmed-by c.args.bound (names_of c.args.names.now) c.args.circuit.now c.args.block.now c.known.ensures.graph c.known.ensures.netlist passes;
