@@ -12,6 +12,7 @@ use Rattle.frames.specs.declared.options.Options.{Options}
 use Rattle.frames.specs.declared.errors.BytesError.{BytesError}
 use Rattle.frames.specs.declared.errors.BytesError.TheVariants.{Read, Retime, Write}
 use Rattle.frames.specs.declared.errors.RetimeError.TheVariants as retiming
+use Rattle.frames.specs.Bounds.{bound_in}
 use Rattle.frames.specs.Named.{names_in}
 use Rattle.frames.specs.Answering.{IsAnswered, IsBytesError, text_for}
 use Rattle.batch_pool.specs.declared.job.Outcome.{Outcome}
@@ -50,7 +51,7 @@ an_answer bytes text options r old before after known empty full answered =
       answer = answered.written.answer;
       text_is = writes;
       reads_back = answered.reads_back bytes known;
-      before_is = read-latches options.merge options.choice answered.spelt.circuit (names_in options) options.max_frames options.certify r answered.written.answer.retimed;
+      before_is = read-latches options.merge (bound_in options answered.spelt.circuit) options.choice answered.spelt.circuit (names_in options) options.max_frames options.certify r answered.written.answer.retimed;
       after_is = refl;
       frames_is = refl;
     }

@@ -76,13 +76,6 @@ abbrev pub IsChoice : ArgMatches → Choice → Type 0
 IsChoice matches Greatest = IsFlag matches (codes "near") false
 IsChoice matches Smallest = IsFlag matches (codes "near") true
 
--- the bound on levels: that of the circuit where its flag is given, else the number where one is given, else none
-abbrev pub IsBound : ArgMatches → PathBound → Type 0
-IsBound matches bounds.NoLonger = IsFlag matches (codes "no-longer") true
-IsBound matches (bounds.Levels most) =
-    IsFlag matches (codes "no-longer") false × ((text : Bor (List ℕ)) × IsGiven matches (codes "levels") text) × IsNumber matches (codes "levels") 0 most
-IsBound matches bounds.None = IsFlag matches (codes "no-longer") false × (first_value (found_of matches) (codes "levels") ≡ None)
-
 -- a line for each frame, or nothing, where its flag is given, else what a terminal is shown
 abbrev pub IsShown : ArgMatches → Shown → Type 0
 IsShown matches EachFrame = IsFlag matches (codes "progress") true
@@ -94,6 +87,13 @@ pub record IsNumber (matches : ArgMatches) (id : List ℕ) (default number : ℕ
   pub none : one_text (found_of matches) id ≡ None → number ≡ default
   pub value : (text : List ℕ) → one_text (found_of matches) id ≡ Some text → IsNumeral 10 (without_leading_plus text) → digits_value 10 (without_leading_plus text) < 2 ^ 32
       → number ≡ digits_value 10 (without_leading_plus text)
+
+-- the bound on levels: that of the circuit where its flag is given, else the number where one is given, else none
+abbrev pub IsBound : ArgMatches → PathBound → Type 0
+IsBound matches bounds.NoLonger = IsFlag matches (codes "no-longer") true
+IsBound matches (bounds.Levels most) =
+    IsFlag matches (codes "no-longer") false × ((text : Bor (List ℕ)) × IsGiven matches (codes "levels") text) × IsNumber matches (codes "levels") 0 most
+IsBound matches bounds.None = IsFlag matches (codes "no-longer") false × (first_value (found_of matches) (codes "levels") ≡ None)
 
 -- whether each byte is a decimal digit
 abbrev pub are_digits : List ℕ → Bool
