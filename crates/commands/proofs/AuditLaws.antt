@@ -27,14 +27,18 @@ use Rattle.commands.specs.declared.replaying.Judgement.{Judgement}
 use Rattle.command_endings.proofs.PrintingLaws.{lines_print, object_prints}
 
 -- what the blocks end in, as the task says
-pub merged_replay : {E : Type 0} (bound : PathBound) (merge : Bool) (names : List (List ℕ)) (c : Netlist) (blocks : List Certificate) (r : Result Replay E)
-    → merge ≡ true → IfOk r (IsMergedReplay (bound_for bound c) names c blocks) → IfOk r (IsReplayFor bound merge names c blocks)
-merged_replay bound merge names c blocks r asked is = let P : Bool → Type 0 = λ m. IfOk r (IsReplayFor bound m names c blocks) in subst P (sym asked) is
+pub merged_replay : {E : Type 0} (bound : PathBound) (most : Option ℕ) (merge : Bool) (names : List (List ℕ)) (c : Netlist) (blocks : List Certificate) (r : Result Replay E)
+    → most ≡ bound_for bound c → merge ≡ true → IfOk r (IsMergedReplay most names c blocks) → IfOk r (IsReplayFor bound merge names c blocks)
+merged_replay bound most merge names c blocks r settled asked is =
+    let P : Bool → Type 0 = λ m. IfOk r (IsReplayFor bound m names c blocks) in
+    subst P (sym asked) (subst (λ (n : Option ℕ). IfOk r (IsMergedReplay n names c blocks)) settled is)
 
 -- the same where no latches were merged
-pub plain_replay : {E : Type 0} (bound : PathBound) (merge : Bool) (names : List (List ℕ)) (c : Netlist) (blocks : List Certificate) (r : Result Replay E)
-    → merge ≡ false → IfOk r (IsReplay (bound_for bound c) names c blocks) → IfOk r (IsReplayFor bound merge names c blocks)
-plain_replay bound merge names c blocks r unasked is = let P : Bool → Type 0 = λ m. IfOk r (IsReplayFor bound m names c blocks) in subst P (sym unasked) is
+pub plain_replay : {E : Type 0} (bound : PathBound) (most : Option ℕ) (merge : Bool) (names : List (List ℕ)) (c : Netlist) (blocks : List Certificate) (r : Result Replay E)
+    → most ≡ bound_for bound c → merge ≡ false → IfOk r (IsReplay most names c blocks) → IfOk r (IsReplayFor bound merge names c blocks)
+plain_replay bound most merge names c blocks r settled unasked is =
+    let P : Bool → Type 0 = λ m. IfOk r (IsReplayFor bound m names c blocks) in
+    subst P (sym unasked) (subst (λ (n : Option ℕ). IfOk r (IsReplay n names c blocks)) settled is)
 
 -- where latches are held by their names alone
 pub named_replay : {E : Type 0} (task : Verification) (c : Netlist) (blocks : List Certificate) (r : Result Replay E)
