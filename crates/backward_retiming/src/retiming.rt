@@ -1,0 +1,165 @@
+//! The one call: a circuit whose latches are moved backward, or the circuit itself.
+ghost use Rattle.std.specs.Prelude.{ℕ, ◌≡◌, List, Option, IfOk, IfSome};
+ghost use Rattle.backward_circuits.specs.MovedBack.{IsMovedBack};
+ghost use Rattle.backward_retiming.specs.Answered.{IsDrawnOf, IsAnswerTo};
+
+use crate::drawing::{drawn_circuit, drawn_map};
+use crate::seals::SealError;
+use aig_graph::{Circuit, Keep, NoMemory};
+use backward_circuits::{is_moved_back, wires};
+use backward_moves::{Drafted, FrameCounts, MoveOptions, draft_moves};
+use std::alloc::Global;
+
+/// What a circuit becomes: the new circuit, the map of its states to those of the first one, and what each frame did.
+#[derive(Drop)]
+pub struct MovedBack {
+    pub circuit: Circuit,
+    pub map: Circuit,
+    pub frames: Vec<FrameCounts>,
+    /// Whether nothing was found that the judge refused.
+    pub is_shown: bool,
+}
+
+/// A circuit and a map that were made of a draft.
+#[derive(Drop)]
+struct Drawing {
+    circuit: Circuit,
+    map: Circuit,
+}
+
+/// The map of a draft, where the judge takes it.
+fn judged_map(
+    alloc: Global,
+    circuit: &Circuit,
+    keep: &Keep,
+    bound: Option<u32>,
+    after: &Circuit,
+    drafted: &Drafted,
+) -> Result<Option<Circuit>, NoMemory>
+    ensures { IfOk result (λ map. IfSome map (IsMovedBack circuit.now keep.now bound after.now)) }
+{
+    let map = match drawn_map(alloc, circuit, after, drafted) {
+        Ok(map) => map,
+        Err(SealError::NoMemory) => return Err(NoMemory),
+        Err(SealError::OutOfRange) => return Ok(None),
+    };
+    if is_moved_back(alloc, circuit, keep, bound, after, &map)? {
+        Ok(Some(map))
+    } else {
+        Ok(None)
+    }
+}
+
+/// The circuit and the map of a draft, where the judge takes them.
+fn judged(
+    alloc: Global,
+    circuit: &Circuit,
+    keep: &Keep,
+    bound: Option<u32>,
+    drafted: &Drafted,
+) -> Result<Option<Drawing>, NoMemory>
+    ensures { IfOk result (λ drawing. IfSome drawing (IsDrawnOf circuit.now keep.now bound)) }
+{
+    let after = match drawn_circuit(alloc, circuit, drafted) {
+        Ok(after) => after,
+        Err(SealError::NoMemory) => return Err(NoMemory),
+        Err(SealError::OutOfRange) => return Ok(None),
+    };
+    match judged_map(alloc, circuit, keep, bound, &after, drafted)? {
+        Some(map) => Ok(Some(Drawing {
+            circuit: after,
+            map,
+        })),
+        None => Ok(None),
+    }
+}
+
+/// The circuit itself.
+fn unmoved(alloc: Global, circuit: Circuit, is_shown: bool) -> Result<MovedBack, NoMemory>
+    ensures { IfOk result (λ moved. (held : List ℕ) (bound : Option ℕ)
+        → IsAnswerTo circuit held bound moved) }
+{
+    circuit.known();
+    match wires(alloc, &circuit) {
+        Ok(map) => Ok(MovedBack {
+            circuit,
+            map,
+            frames: Vec::new(alloc),
+            is_shown,
+        }),
+        Err(error) => {
+            drop(circuit);
+            Err(error)
+        }
+    }
+}
+
+/// A draft as it was drawn, with what its frames did.
+fn moved_by(drawing: Drawing, drafted: Drafted) -> MovedBack
+    ensures circuit { result.circuit ≡ drawing.circuit }
+    ensures map { result.map ≡ drawing.map }
+{
+    let Drawing { circuit, map } = drawing;
+    MovedBack {
+        circuit,
+        map,
+        frames: drafted.into_frames(),
+        is_shown: true,
+    }
+}
+
+/// The circuit of a draft, whoever made it, where the judge takes that, and else the circuit itself.
+///
+/// # Errors
+///
+/// `NoMemory` where memory is refused.
+pub fn move_as_drafted(
+    alloc: Global,
+    circuit: Circuit,
+    keep: &Keep,
+    bound: Option<u32>,
+    drafted: Drafted,
+) -> Result<MovedBack, NoMemory>
+    ensures { IfOk result (IsAnswerTo circuit keep.now bound) }
+{
+    match judged(alloc, &circuit, keep, bound, &drafted) {
+        Ok(Some(drawing)) => {
+            drop(circuit);
+            Ok(moved_by(drawing, drafted))
+        }
+        Ok(None) => {
+            drop(drafted);
+            unmoved(alloc, circuit, false)
+        }
+        Err(error) => {
+            drop(circuit);
+            drop(drafted);
+            Err(error)
+        }
+    }
+}
+
+/// Moves the latches of a circuit backward that aren't held, as far as that saves some and is shown. The streams are those of the circuit, the
+/// map is one of the new circuit's states to those of the circuit, there are no more latches, held latches stay with their resets and names, and
+/// no way is longer than the bound, if there is one, or than the circuit's longest.
+///
+/// # Errors
+///
+/// `NoMemory` where memory is refused.
+pub fn move_back(
+    alloc: Global,
+    circuit: Circuit,
+    keep: &Keep,
+    options: &MoveOptions,
+) -> Result<MovedBack, NoMemory>
+    ensures { IfOk result (IsAnswerTo circuit keep.now options.now.levels) }
+{
+    match draft_moves(alloc, &circuit, keep, options) {
+        Ok(Some(drafted)) => move_as_drafted(alloc, circuit, keep, options.levels, drafted),
+        Ok(None) => unmoved(alloc, circuit, true),
+        Err(error) => {
+            drop(circuit);
+            Err(error)
+        }
+    }
+}
