@@ -1,8 +1,5 @@
-use Rattle.fretime.proofs.RunLaws.{both, by_batch, by_command}
+use Rattle.fretime.proofs.RunLaws.{by_batch, by_command}
 use Rattle.fretime.proofs.run.run_task.Goals as goal
-
-pub returns-in-Retime-clause-does : goal.returns-in-Retime-clause-does
-returns-in-Retime-clause-does g c = both c.print_retimed.result _ _ c.print_retimed.ensures.frames c.print_retimed.ensures.pipe
 
 pub returns-in-Retime-clause-prints : goal.returns-in-Retime-clause-prints
 returns-in-Retime-clause-prints g c = by_command c.print_retimed.result _ _ c.print_retimed.ensures.prints
