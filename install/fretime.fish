@@ -13,7 +13,7 @@ function __fretime_names
         if test $is_value = yes
             set is_value no
         # made by docs/make: options with a value
-        else if string match -qr '^--(workers|frames|cert|map|keep|keep-from|keep-latch|random|steps|seed|vcd|kept|out|certificate|around|depth)$' -- $word
+        else if string match -qr '^--(workers|frames|levels|cert|map|keep|keep-from|keep-latch|random|steps|seed|vcd|kept|out|certificate|around|depth)$' -- $word
         # end of options with a value
             set is_value yes
         else if not string match -q -- '--*' $word
@@ -51,6 +51,8 @@ complete -c fretime -n '__fish_seen_subcommand_from retime' -x -l workers -d 'Th
 complete -c fretime -n '__fish_seen_subcommand_from retime' -x -l frames -d 'The most frames to take'
 complete -c fretime -n '__fish_seen_subcommand_from retime' -l near -d 'Move latches as few gates as a least count allows'
 complete -c fretime -n '__fish_seen_subcommand_from retime' -l merge -d 'Merge latches that always agree, before any frame'
+complete -c fretime -n '__fish_seen_subcommand_from retime' -x -l levels -d 'Let no move make a path of more than n gates'
+complete -c fretime -n '__fish_seen_subcommand_from retime' -l no-longer -d 'Let no path get longer than the longest of IN'
 complete -c fretime -n '__fish_seen_subcommand_from retime' -r -l cert -d 'Write a certificate of each frame to FILE'
 complete -c fretime -n '__fish_seen_subcommand_from retime' -r -l map -d 'Write how OUT\'s latches follow from IN\'s to MAP'
 complete -c fretime -n '__fish_seen_subcommand_from retime' -l progress -d 'Write a line to standard error as each frame begins'
@@ -66,6 +68,8 @@ complete -c fretime -n '__fish_seen_subcommand_from batch' -x -l workers -d 'Thr
 complete -c fretime -n '__fish_seen_subcommand_from batch' -x -l frames -d 'The most frames to take'
 complete -c fretime -n '__fish_seen_subcommand_from batch' -l near -d 'Move latches as few gates as a least count allows'
 complete -c fretime -n '__fish_seen_subcommand_from batch' -l merge -d 'Merge latches that always agree, before any frame'
+complete -c fretime -n '__fish_seen_subcommand_from batch' -x -l levels -d 'Let no move make a path of more than n gates'
+complete -c fretime -n '__fish_seen_subcommand_from batch' -l no-longer -d 'Let no path get longer than the longest of IN'
 complete -c fretime -n '__fish_seen_subcommand_from batch' -l json -d 'Print an object of JSON in place of the lines'
 
 complete -c fretime -n '__fish_seen_subcommand_from stat' -l merge -d 'Count the latches that always agree, too'
@@ -90,6 +94,8 @@ complete -c fretime -n '__fish_seen_subcommand_from verify' -r -l keep-from -d '
 complete -c fretime -n '__fish_seen_subcommand_from verify' -x -l keep-latch -d 'Hold the latch at position n, from 0; may be repeated'
 complete -c fretime -n '__fish_seen_subcommand_from verify' -r -l out -d 'Check that the blocks end in OUT, too'
 complete -c fretime -n '__fish_seen_subcommand_from verify' -l merge -d 'IN was retimed with --merge'
+complete -c fretime -n '__fish_seen_subcommand_from verify' -x -l levels -d 'Let no move make a path of more than n gates'
+complete -c fretime -n '__fish_seen_subcommand_from verify' -l no-longer -d 'Let no path get longer than the longest of IN'
 complete -c fretime -n '__fish_seen_subcommand_from verify' -l json -d 'Print an object of JSON in place of the lines'
 
 complete -c fretime -n '__fish_seen_subcommand_from miter' -l ascii -d 'Write ASCII'
