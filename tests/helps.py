@@ -83,7 +83,7 @@ def faults_of(program):
 def verilog_options():
     """The options of fretime_verilog as its help has them, each with the name of its value, and what it does."""
     said = call(sys.executable, TOP / 'examples/verilog/fretime_verilog', '--help', env={**os.environ, 'COLUMNS': '200'}).stdout
-    found = re.findall(r'^  (--?[A-Za-z]+)(?: ([^a-z\s]+))? +(\S.*)$', said.partition('options:\n')[2], re.M)
+    found = re.findall(r'^  (--?[A-Za-z-]+)(?: ([^a-z\s]+))? +(\S.*)$', said.partition('options:\n')[2], re.M)
     return {name: (value, about) for name, value, about in found}
 
 
