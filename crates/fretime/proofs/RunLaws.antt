@@ -1,5 +1,6 @@
 -- What a run prints, by its status.
 use Rattle.std.proofs.Common.{◌≡◌, ◌⊎◌, Bool, true, false, inl, inr, Result, Ok, Err, refl, sym, ◌∙◌, subst, ⊎_elim, arith}
+use Rattle.std.specs.Result.{IfOk}
 use Rattle.counted_io.specs.Output.{Output}
 use Rattle.circuit_files.specs.Codes.{status_of}
 use Rattle.circuit_files.specs.Outcomes.{outcome_of}
@@ -16,6 +17,11 @@ use Rattle.fretime.specs.Runs.{MayGive, MayPrint, PrintsFilesOrRefusal, PrintsSh
 pub by_command : (r : Result Outcome Failure) (old new : Output) → Prints (ending r) old new → MayGive r old new
 by_command (Ok outcome) old new prints = inl prints
 by_command (Err failure) old new prints = prints
+
+-- what a command ensures where it didn't fail
+pub both : {T E : Type 0} (r : Result T E) (P Q : T → Type 0) → IfOk r P → IfOk r Q → IfOk r (λ x. P x × Q x)
+both (Ok x) P Q p q = (p, q)
+both (Err e) P Q p q = tt
 
 -- a failure of it that gave standard output nothing before
 printed : (json : Bool) (o : Outcome) (old mid new : Output) → mid ≡ old → ((json : Bool) → PrintsFailure json o old new → PrintsList json o old new) → Prints o old old

@@ -18,7 +18,7 @@ use Rattle.map_commands.specs.Products.{PrintsAsked}
 use Rattle.map_commands.specs.Lifted.{PrintsLift}
 use Rattle.commands.specs.Drawings.{PrintsPicture}
 use Rattle.simulation_commands.specs.Fates.{PrintsFate}
-use Rattle.commands.specs.Pipes.{Converts, IsPipe, WritesPipe}
+use Rattle.commands.specs.Pipes.{Converts, IsPipe, PrintsRetiming, WritesPipe}
 use Rattle.command_endings.specs.Printing.{Prints}
 use Rattle.simulation_commands.specs.Simulating.{PrintsTrace}
 use Rattle.commands.specs.Statistics.{PrintsStatistics}
@@ -37,7 +37,8 @@ MayGive (Err failure) old new = Prints (outcome_of failure) old new
 -- what a task gives standard output and its files where it didn't fail, by what it means that a file was given a text, whether standard error is a
 -- terminal, what standard input had and has left, and what standard error was given in the end
 abbrev pub Does : (List ℕ → List ℕ → Type 0) → Task → Bool → Input → Input → Output → Output → Output → Outcome → Type 0
-Does FileGiven (Retime retiming) is_terminal before after old new said ended = IsPipe retiming → WritesPipe retiming before old new
+Does FileGiven (Retime retiming) is_terminal before after old new said ended = PrintsRetiming FileGiven retiming is_terminal before old new said (Ok ended)
+    × (IsPipe retiming → WritesPipe retiming before old new)
 Does FileGiven (Batch batch) is_terminal before after old new said ended = PrintsList batch.json ended old new
 Does FileGiven (Stat counting) is_terminal before after old new said ended = PrintsStatistics counting before after old new ended
 Does FileGiven (Convert input output spelling) is_terminal before after old new said ended = Converts FileGiven spelling input output before old new

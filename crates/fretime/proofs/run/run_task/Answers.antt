@@ -1,5 +1,19 @@
-use Rattle.fretime.proofs.RunLaws.{by_batch, by_command}
+use Rattle.std.proofs.Common.{IfOk, sym, subst}
+use Rattle.circuit_files.specs.WrittenFiles.{IsFileGiven}
+use Rattle.circuit_files.specs.declared.outcome.Outcome.{Outcome}
+use Rattle.command_line.specs.declared.task.Task.{Task}
+use Rattle.fretime.specs.Runs.{Does}
+use Rattle.fretime.proofs.RunLaws.{both, by_batch, by_command}
 use Rattle.fretime.proofs.run.run_task.Goals as goal
+
+pub returns-in-Retime-clause-does : goal.returns-in-Retime-clause-does
+returns-in-Retime-clause-does g c =
+    let D : Task → Outcome → Type 0 = λ task ended.
+    Does (IsFileGiven g.row.R.Denot {F = g.row.R-File.Denot} g.row.R-Dir.Denot g.R.File.Write.contents) task c.args.is_terminal
+    (g.I.CountedRead.input c.args.stdin.now) (g.I.CountedRead.input c.print_retimed.new.stdin)
+    (g.O.CountedWrite.output c.args.out.now) (g.O.CountedWrite.output c.print_retimed.new.out) (g.E.CountedWrite.output c.print_retimed.new.err) ended in
+    subst (λ (task : Task). IfOk c.print_retimed.result (D task)) (sym c.in-Retime.is)
+    (both c.print_retimed.result _ _ c.print_retimed.ensures.frames c.print_retimed.ensures.pipe)
 
 pub returns-in-Retime-clause-prints : goal.returns-in-Retime-clause-prints
 returns-in-Retime-clause-prints g c = by_command c.print_retimed.result _ _ c.print_retimed.ensures.prints
