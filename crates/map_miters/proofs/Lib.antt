@@ -10,3 +10,5 @@ mod GoalLaws
 mod TieLaws
 mod EndLaws
 mod WitnessLaws
+mod AnswerLaws
+mod AskedLaws

@@ -53,7 +53,8 @@ same-truth true b f g = sym (f refl)
 same-truth false true f g = g refl
 same-truth false false f g = refl
 
-free-where : (latch : Latch) → latch.reset ≡ Free → is_free latch ≡ true
+-- a latch whose reset is free is free
+pub free-where : (latch : Latch) → latch.reset ≡ Free → is_free latch ≡ true
 free-where latch e = ap by_reset e
   where
     by_reset : Reset → Bool

@@ -26,6 +26,6 @@ pub use errors::MiterError;
 pub use free::free_stay;
 pub use goals::Goal;
 pub use images::{Image, add_image};
-pub use laws::agreement_law;
+pub use laws::{agreement_law, answers_law};
 pub use products::product_machine;
 pub use steps::{Step, add_step};

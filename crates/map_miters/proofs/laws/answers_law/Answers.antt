@@ -1,0 +1,12 @@
+use Rattle.map_miters.proofs.AnswerLaws.{give-streams, maps-meet}
+use Rattle.map_miters.proofs.AskedLaws.{miters-answer}
+use Rattle.map_miters.proofs.laws.answers_law.Goals as goal
+
+pub returns-clause-asked : goal.returns-clause-asked
+returns-clause-asked c = miters-answer
+
+pub returns-clause-streams : goal.returns-clause-streams
+returns-clause-streams c = give-streams
+
+pub returns-clause-maps : goal.returns-clause-maps
+returns-clause-maps c = λ a d m kept. maps-meet a d m kept
