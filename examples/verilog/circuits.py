@@ -25,7 +25,8 @@ class Circuit:
     output_symbols: dict
 
     def levels(self):
-        """How many gates are on the longest path to a latch or a property. A gate stands after its fan-ins, as Yosys and fretime write it."""
+        """How many gates are on the longest path to a latch or a property. A gate stands after those that it reads, as Yosys and
+        fretime write it."""
         found = {}
         for variable, *fanins in self.gates:
             found[variable] = 1 + max(found.get(literal >> 1, 0) for literal in fanins)
