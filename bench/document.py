@@ -4,6 +4,7 @@ import re
 import textwrap
 
 import measure
+import results
 
 RESULTS, README = (os.path.join(measure.TOP, *words) for words in (('bench', 'RESULTS.md'), ('README.md',)))
 RECORD = os.path.join(measure.TOP, 'release', 'record')
@@ -14,6 +15,7 @@ MOST_A_NODE_FRAME = {'multiplier': 1500, 'divider': 1500, 'delay_lines': 1500, '
 CHARTS = {'time_beside_abc.svg': 'Seconds of the whole process, beside ABC',
           'latches_by_frame.svg': 'Known latches of multiplier 64, frame by frame',
           'cost_by_size.svg': 'Instructions by size', 'cost_by_node_frames.svg': 'Instructions by node-frames'}
+LEVELS_CHART = ('latches_by_levels.svg', 'Latches against levels, under bounds')
 
 
 def row(fields):
@@ -71,6 +73,17 @@ def is_of_release(stored):
     """Whether the program that was measured is the one of release/."""
     with open(RECORD, encoding='utf-8') as file:
         return f'program {stored["program"]}\n' in file.read()
+
+
+def levels(stored):
+    """What bench/levels counted, and of which program."""
+    it = stored.get('levels')
+    if not it:
+        return ['Not counted: `bench/levels --store=bench/results.json` does it.']
+    which = 'the program of `release/`' if is_of_release(it) else f'an earlier program, whose SHA-256 begins with {it["program"][:12]}'
+    rows = [cells for circuit in it['circuits'] for cells in results.rows_of_levels(circuit)]
+    name, title = LEVELS_CHART
+    return [f'On {it["date"]}, by {which}.', '', *table(results.LEVELS_HEAD, rows), '', f'![{title}](../docs/pictures/{name})']
 
 
 def span(values):
@@ -169,7 +182,7 @@ def pictures(drawn):
 def blocks(stored, drawn):
     """The texts between the marks of bench/RESULTS.md, by name."""
     return {'program': [measured(stored)], 'circuits': circuits(stored), 'charts': pictures(drawn), 'aims': aims(stored),
-            'batch': stored_table(stored, 'batch'), 'certificates': stored_table(stored, 'certificates')}
+            'batch': stored_table(stored, 'batch'), 'certificates': stored_table(stored, 'certificates'), 'levels': levels(stored)}
 
 
 def results_text(text, stored, drawn):

@@ -1,5 +1,6 @@
 """The stored results of the scripts: a file of JSON with the machine, the sum of the one program that was measured, an entry a
-circuit, and the tables of bench/batch and bench/certificates."""
+circuit, and the tables of bench/batch and bench/certificates; and what bench/levels counted, which is no time, with the sum of the
+program that it ran."""
 import datetime
 import hashlib
 import json
@@ -64,7 +65,8 @@ def begun(path, program):
     if all(stored.get(name) == value for name, value in head.items()):
         return stored
     others = map(of_others, stored['circuits']) if stored.get('machine') == head['machine'] else []
-    return head | {'circuits': list(others), 'tables': {}}
+    counted = {'levels': stored['levels']} if 'levels' in stored else {}
+    return head | counted | {'circuits': list(others), 'tables': {}}
 
 
 def write(path, stored):
@@ -87,3 +89,20 @@ def put_table(path, program, name, head, rows):
     stored = begun(path, program)
     table = {'date': str(datetime.date.today()), 'load': round(os.getloadavg()[0], 1), 'head': head, 'rows': rows}
     write(path, stored | {'tables': stored['tables'] | {name: table}})
+
+
+LEVELS_HEAD = ['Circuit', 'Bound', 'Latches', 'Levels', 'Equal', 'ABC latches', 'ABC levels', 'ABC equal']
+
+
+def put_levels(path, program, date, circuits):
+    """Stores what bench/levels counted, in place of what it had counted before."""
+    write(path, read(path) | {'levels': {'program': sum_of(program), 'date': date, 'circuits': circuits}})
+
+
+def rows_of_levels(circuit):
+    """The rows of a circuit: as it was read, then a row a bound."""
+    cells = lambda run: [run['latches'], run['levels'], run['equal']] if 'latches' in run else [run['failed'], '', '']
+    yield [circuit['circuit'], 'as read', circuit['latches'], circuit['levels'], '', '', '', '']
+    for run in circuit['runs']:
+        bound = 'none' if run['bound'] is None else f'{run["times"]:g} times: {run["bound"]}'
+        yield ['', bound, *cells(run['ours']), *cells(run['abc'])]

@@ -143,7 +143,7 @@ def folder_of(path):
     """A copy of the files that a document's commands work on."""
     folder = pathlib.Path(tempfile.mkdtemp())
     if path.name == 'TUTORIAL.md':
-        for name in ('match', 'proof'):
+        for name in ('match', 'proof', 'verilog'):
             copy(TOP / 'examples' / name, folder / 'examples' / name)
         (folder / 'tests').symlink_to(TOP / 'tests')
         folder = folder / 'examples' / 'match'

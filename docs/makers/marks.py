@@ -21,3 +21,9 @@ def with_part(path, text, name, part):
     if not re.search(pattern, text):
         raise NotMade(f"{path}: no lines 'made by docs/make: {name}' and 'end of {name}'")
     return re.sub(pattern, lambda it: it[1] + part.rstrip('\n') + '\n' + it[2], text)
+
+
+def by_hand(text):
+    """What a document has beside its made parts, those of bench/remake too."""
+    text = re.sub(r'(?ms)^[^\n]*made by docs/make: ([^\n]*?)(?: -->)?\n.*?^[^\n]*end of \1(?: -->)?\n', '', text)
+    return re.sub(r'(?ms)^<!-- (\w+) -->\n.*?^<!-- end of \1 -->\n', '', text)

@@ -24,6 +24,15 @@ class Circuit:
     symbols: dict
     output_symbols: dict
 
+    def levels(self):
+        """How many gates are on the longest path to a latch or a property. A gate stands after those that it reads, as Yosys and
+        fretime write it."""
+        found = {}
+        for variable, *fanins in self.gates:
+            found[variable] = 1 + max(found.get(literal >> 1, 0) for literal in fanins)
+        read = [latch.following for latch in self.latches] + self.outputs + self.bad + self.constraints
+        return max((found.get(literal >> 1, 0) for literal in read), default=0)
+
 
 def read(path):
     """The circuit of an ASCII file."""

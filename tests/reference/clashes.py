@@ -1,4 +1,4 @@
-"""Which files of a command line are one file, by whatever paths, so that something would be lost: the rule of docs/FORMAT.md."""
+"""Which files of a command line are one file, by whatever paths, so that something would be lost: the rule of docs/MANUAL.md."""
 import os
 import stat
 
