@@ -19,7 +19,7 @@ use pulse::{Crew, MOST_ARCS_KEPT, MaxPreflow, PhaseGate};
 use std::alloc::Global;
 use std::mem;
 use std::thread::Threads;
-use unit_pulses::chosen_least_brought;
+use unit_components::chosen_least_in_parts;
 
 /// The set; its certificate is added, where certificates are wanted.
 fn recorded(
@@ -174,7 +174,7 @@ fn shown_by_units<G: PhaseGate>(
     ensures certificate { IfOk result (λ shown. MatchOption shown (AddsNone records.old records.new)
         (AddsOne circuit.now keep.now records.old records.new)) }
 {
-    match chosen_least_brought(rt, alloc, circuit, keep, choice, crew, &mut records.flows)? {
+    match chosen_least_in_parts(rt, alloc, circuit, keep, choice, crew, &mut records.flows)? {
         Some(set) => certified(alloc, circuit, keep, set, records),
         None => Ok(None),
     }

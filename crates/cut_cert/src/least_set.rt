@@ -12,10 +12,7 @@ use frame_net::{Net, Tables, passable};
 use pulse::{Crew, FlowTables, MaxPreflow, PhaseGate, PulseError, run_along_wishes};
 use std::alloc::Global;
 use std::thread::Threads;
-use unit_flows::{GateFlow, first_flows};
-
-/// From so many nodes on a crew's first flow has a start of its own.
-const MANY_NODES: u32 = 4096;
+use unit_flows::GateFlow;
 
 /// The network of a circuit and its held latches.
 ///
@@ -82,28 +79,9 @@ fn note(
     }
 }
 
-/// Where nothing is known of a flow, `flows` becomes what a start does at the circuit's gates. A crew of two or more begins the flow of a small
-/// network without any: its first pulses are large for their network, so they are shared out.
-///
-/// # Errors
-///
-/// `NoMemory`; then `flows` is as before.
-pub fn start_if_unknown<G: PhaseGate>(
-    alloc: Global,
-    circuit: &Circuit,
-    keep: &Keep,
-    net: &Net,
-    crew: &Crew<G>,
-    flows: &mut Vec<GateFlow>,
-) -> Result<(), NoMemory> {
-    if flows.is_empty() && (crew.workers() < 2 || net.nodes() >= MANY_NODES) {
-        *flows = first_flows(alloc, circuit, keep)?;
-    }
-    Ok(())
-}
-
-/// A maximum preflow of a circuit's network, from a start along `flows`, what the last flow or a start did at the circuit's gates, or from
-/// none; then `flows` is what this one did there. They are hints: what is returned is a maximum preflow whatever they say. Wishes, residuals and pushes stand in the memory of `tables`, where it serves.
+/// A maximum preflow of a circuit's network, from a start along `flows`, what the last flow did at the circuit's gates, or from none; then `flows`
+/// is what this one did there. They are hints: what is returned is a maximum preflow whatever they say. Wishes, residuals and pushes stand in the
+/// memory of `tables`, where it serves.
 ///
 /// # Errors
 ///
@@ -127,7 +105,8 @@ pub fn preflow_along<G: PhaseGate>(
 }
 
 /// The greatest least set of a circuit whose held latches stay where they are, from a start along `flows`, what the last flow did at the
-/// circuit's gates, or along a start of their own where there are none; then `flows` is what this one did there. They are hints: the set is the same whatever they say, and however many there are.
+/// circuit's gates, or from none; then `flows` is what this one did there. They are hints: the set is the same whatever they say, and however
+/// many there are.
 ///
 /// What is made on the way (the network, its flow) is dropped.
 ///
@@ -145,7 +124,6 @@ pub fn greatest_least_along<G: PhaseGate>(
     ensures { IfOk result (IsGreatestLeast circuit.now keep.now) }
 {
     let net = network(alloc, circuit, keep)?;
-    start_if_unknown(alloc, circuit, keep, &net, crew, flows)?;
     let mut tables = FlowTables::none(alloc);
     let preflow = preflow_along(rt, alloc, circuit, &net, crew, flows, &mut tables)?;
     let set = greatest_cut(alloc, &net, &preflow)?;

@@ -43,12 +43,10 @@ pub use certificates::{Certificate, Objection, Routes, Verdict, check};
 pub use certifying::{certificate, certificate_of};
 pub use gathering::routes;
 pub use greatest::greatest_cut;
-pub use least_set::{
-    greatest_least, greatest_least_along, network, network_in, preflow_along, start_if_unknown,
-};
+pub use least_set::{greatest_least, greatest_least_along, network, network_in, preflow_along};
 pub use nearest::near_cut;
 pub use noting::gate_flows;
-pub use unit_flows::{GateFlow, first_flows};
+pub use unit_flows::GateFlow;
 pub use wishing::wishes;
 
 /// Of a flow with no excess at inner nodes whose residual arcs don't lead to the sink, the nodes to which they lead from the

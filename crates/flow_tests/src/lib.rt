@@ -17,6 +17,8 @@ mod distances;
 #[cfg(test)]
 mod greatest_sets;
 #[cfg(test)]
+mod meeting_gates;
+#[cfg(test)]
 mod nets;
 #[cfg(test)]
 mod phase_gates;
@@ -26,6 +28,10 @@ mod runs;
 mod starts;
 #[cfg(test)]
 mod unit_crews;
+#[cfg(test)]
+mod unit_parts;
+#[cfg(test)]
+mod wide_circuits;
 #[cfg(test)]
 mod wished_runs;
 #[cfg(test)]

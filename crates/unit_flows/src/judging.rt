@@ -71,7 +71,7 @@ pub(crate) fn off_marks(alloc: Global, frame: &Frame, before: &[bool]) -> Result
 /// # Errors
 ///
 /// `NoMemory` where a table is refused.
-pub(crate) fn shown_by_marks(
+pub fn shown_by_marks(
     alloc: Global,
     frame: &Frame,
     flows: &[GateFlow],

@@ -6,27 +6,24 @@
 
 ghost use Rattle.unit_flows.specs.Laws.{BorderLaw, ShownLaw, ShownSmallestLaw};
 
-mod along;
 mod balance;
 mod cut;
-mod first_start;
 mod frame;
 mod gate_flow;
 mod judging;
 mod least_set;
-mod left_units;
 mod marks;
 mod nearest;
 mod onward;
 mod onward_sweeps;
 mod passes;
-mod start;
 mod sweeps;
 mod tallies;
 
 pub use frame::Frame;
 pub use gate_flow::GateFlow;
-pub use least_set::{Started, first_flows, shown_chosen, start_along};
+pub use judging::shown_by_marks;
+pub use least_set::shown_chosen;
 pub use sweeps::{NodeMarks, mark};
 
 /// The border of each closed set has at least as many variables as units come to the sink.

@@ -9,7 +9,8 @@ use pulse::PhaseGate;
 use std::alloc::Global;
 use std::mem;
 use std::thread::Threads;
-use unit_flows::{Frame, GateFlow, NodeMarks};
+use unit_flows::{GateFlow, NodeMarks};
+use unit_starts::Region;
 
 /// After so many rounds what is left is left to the network.
 const MOST_ROUNDS: u32 = 1024;
@@ -89,7 +90,7 @@ fn pulses_of_round<R: Threads + Sync, G: PhaseGate>(
 fn round<R: Threads + Sync, G: PhaseGate>(
     rt: &R,
     alloc: Global,
-    frame: &Frame,
+    region: &Region,
     search: &mut Search,
     pulses: &mut Pulses<G>,
 ) -> Result<bool, NoMemory> {
@@ -98,7 +99,7 @@ fn round<R: Threads + Sync, G: PhaseGate>(
     if actives.is_empty() {
         return Ok(true);
     }
-    search.list_readers(alloc, frame)?;
+    search.list_readers(alloc, region)?;
     pulses_of_round(rt, alloc, search, &mut actives, pulses)
 }
 
@@ -106,12 +107,12 @@ fn round<R: Threads + Sync, G: PhaseGate>(
 fn rounds<R: Threads + Sync, G: PhaseGate>(
     rt: &R,
     alloc: Global,
-    frame: &Frame,
+    region: &Region,
     search: &mut Search,
     pulses: &mut Pulses<G>,
 ) -> Result<(), NoMemory> {
     for _ in 0..MOST_ROUNDS {
-        if round(rt, alloc, frame, search, pulses)? {
+        if round(rt, alloc, region, search, pulses)? {
             return Ok(());
         }
     }
@@ -127,19 +128,19 @@ fn rounds<R: Threads + Sync, G: PhaseGate>(
 pub(crate) fn bring<R: Threads + Sync, G: PhaseGate>(
     rt: &R,
     alloc: Global,
-    frame: &Frame,
+    region: &Region,
     marks: Option<NodeMarks>,
     sharing: Sharing<G>,
     flows: &mut Vec<GateFlow>,
 ) -> Result<(), NoMemory> {
     let known = mem::replace(flows, Vec::new(alloc));
-    let mut search = Search::new(alloc, frame, known)?;
+    let mut search = Search::new(alloc, region, known)?;
     if let Some(marks) = marks {
         search.leave_out(marks.before.as_slice());
         drop(marks);
     }
     let mut pulses = Pulses::none(alloc, sharing, search.spots.len())?;
-    rounds(rt, alloc, frame, &mut search, &mut pulses)?;
+    rounds(rt, alloc, region, &mut search, &mut pulses)?;
     *flows = search.into_flows();
     Ok(())
 }

@@ -4,20 +4,19 @@
 use aig_graph::{Gate, NoMemory};
 use std::alloc::Global;
 use std::mem;
-use unit_flows::{Frame, GateFlow};
+use unit_flows::GateFlow;
+use unit_starts::{Region, narrow};
 
 /// By place whether a unit came there, and doesn't leave.
-fn coming(alloc: Global, frame: &Frame, flows: &[GateFlow]) -> Result<Vec<bool>, NoMemory> {
-    let aig = frame.circuit.aig();
-    let first = aig.first_latch();
-    let mut waits = Vec::with_capacity(alloc, frame.leaving.len())?;
-    for place in 0..aig.latches().len() {
-        waits.push(aig.is_known_latch(first.wrapping_add(place as u32)))?;
+fn coming(alloc: Global, region: &Region, flows: &[GateFlow]) -> Result<Vec<bool>, NoMemory> {
+    let mut waits = Vec::with_capacity(alloc, region.places())?;
+    for place in 0..region.latches.len() {
+        waits.push(region.is_known_latch(place))?;
     }
     for flow in flows {
         waits.push(flow.through)?;
     }
-    for (wait, leaves) in waits.iter_mut().zip(frame.leaving.iter()) {
+    for (wait, leaves) in waits.iter_mut().zip(region.leaving.iter()) {
         *wait = *wait && !*leaves;
     }
     Ok(waits)
@@ -32,29 +31,26 @@ fn takes(waits: &mut [bool], place: u32) -> bool {
 }
 
 /// Nothing waits from where units went on to gates.
-fn clear_gone(frame: &Frame, flows: &[GateFlow], waits: &mut [bool]) {
-    let aig = frame.circuit.aig();
-    let first = aig.first_latch();
-    for (gate, flow) in aig.gates().iter().zip(flows) {
+fn clear_gone(region: &Region, flows: &[GateFlow], waits: &mut [bool]) {
+    for (gate, flow) in region.gates.iter().zip(flows) {
         if flow.first_up {
-            takes(waits, gate.rhs1.var().wrapping_sub(first));
+            takes(waits, region.place(gate.rhs1));
         }
         if flow.second_up {
-            takes(waits, gate.rhs0.var().wrapping_sub(first));
+            takes(waits, region.place(gate.rhs0));
         }
     }
 }
 
 /// A gate takes a unit that waits after a fan-in, and it goes through. Whether it leaves after the gate, which is at this place.
-fn take(frame: &Frame, waits: &mut [bool], place: u32, gate: &Gate, flow: &mut GateFlow) -> bool {
-    let first = frame.circuit.aig().first_latch();
-    let second = takes(waits, gate.rhs0.var().wrapping_sub(first));
-    if !second && !takes(waits, gate.rhs1.var().wrapping_sub(first)) {
+fn take(region: &Region, waits: &mut [bool], place: u32, gate: &Gate, flow: &mut GateFlow) -> bool {
+    let second = takes(waits, region.place(gate.rhs0));
+    if !second && !takes(waits, region.place(gate.rhs1)) {
         return false;
     }
     flow.note_up(second);
     flow.through = true;
-    let leaves = frame.leaving.get(place as usize).copied() == Some(true);
+    let leaves = region.leaves(place as usize);
     if let Some(wait) = waits.get_mut(place as usize) {
         *wait = !leaves;
     }
@@ -68,17 +64,16 @@ fn take(frame: &Frame, waits: &mut [bool], place: u32, gate: &Gate, flow: &mut G
 /// `NoMemory` where the table is refused.
 pub(crate) fn extend(
     alloc: Global,
-    frame: &Frame,
+    region: &Region,
     flows: &mut [GateFlow],
 ) -> Result<usize, NoMemory> {
-    let aig = frame.circuit.aig();
-    let mut waits = coming(alloc, frame, flows)?;
-    clear_gone(frame, flows, waits.as_mut_slice());
-    let mut place = aig.first_gate().wrapping_sub(aig.first_latch());
+    let mut waits = coming(alloc, region, flows)?;
+    clear_gone(region, flows, waits.as_mut_slice());
+    let mut place = narrow(region.latches.len());
     let mut brought = 0usize;
-    for (gate, flow) in aig.gates().iter().zip(flows.iter_mut()) {
-        let passes = frame.pass.marks().get(place as usize).copied() == Some(true);
-        if passes && !flow.through && take(frame, waits.as_mut_slice(), place, gate, flow) {
+    for (gate, flow) in region.gates.iter().zip(flows.iter_mut()) {
+        let passes = region.is_passable(place as usize);
+        if passes && !flow.through && take(region, waits.as_mut_slice(), place, gate, flow) {
             brought = brought.saturating_add(1);
         }
         place = place.wrapping_add(1);

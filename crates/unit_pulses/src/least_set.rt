@@ -1,15 +1,17 @@
-//! The chosen least set of a circuit by a flow of units, where a start shows it, or pulses from that start do.
+//! The chosen least set of a circuit by a flow of units, where a start shows it, or pulses from that start do; and such a flow over some components of a
+//! frame's network, which nothing judges.
 ghost use Rattle.std.specs.Prelude.{IfOk, IfSome};
 ghost use Rattle.aig_graph.specs.Chosen.{IsChosen};
 
 use crate::bringing::bring;
 use crate::extending::extend;
 use crate::sharing::Sharing;
-use aig_graph::{Choice, Circuit, ClosedSet, Keep, NoMemory};
+use aig_graph::{Choice, ClosedSet, NoMemory};
 use pulse::{Crew, PhaseGate};
 use std::alloc::Global;
 use std::thread::Threads;
-use unit_flows::{Frame, GateFlow, NodeMarks, Started, shown_chosen, start_along};
+use unit_flows::{Frame, GateFlow, NodeMarks, shown_chosen};
+use unit_starts::{Region, Started, start_along, start_in};
 
 /// Fewer units cost less by pulses than a judge that may say no.
 const MANY_BROUGHT: usize = 64;
@@ -24,7 +26,7 @@ fn shown_by_more(
     ensures { IfOk result (λ shown. IfSome shown (IsChosen choice frame.now.circuit.now
         frame.now.keep.now)) }
 {
-    let brought = extend(alloc, frame, flows.as_mut_slice())?;
+    let brought = extend(alloc, &Region::of(frame), flows.as_mut_slice())?;
     if brought < MANY_BROUGHT {
         return Ok(None);
     }
@@ -66,13 +68,22 @@ fn shown_by_pulses<R: Threads + Sync, G: PhaseGate>(
     ensures { IfOk result (λ shown. IfSome shown (IsChosen choice frame.now.circuit.now
         frame.now.keep.now)) }
 {
-    bring(rt, alloc, frame, marks, sharing, flows)?;
+    bring(rt, alloc, &Region::of(frame), marks, sharing, flows)?;
     shown_chosen(alloc, frame, choice, flows.as_slice())
 }
 
-/// By a start, or by the pulses of a crew from there; of the first flow of a small circuit that has a crew of two or more, by pulses from the
-/// sources, since a start would leave few units to share.
-fn shown_in<R: Threads + Sync, G: PhaseGate>(
+/// The chosen least set of a frame, where a flow of units shows it: that of a start along `flows`, what the last flow did at the circuit's gates, or
+/// along nothing where there are none; or the flow that pulses make of it. Then `flows` is what it does there. They are hints: the set is the same
+/// whatever they say, or there is none.
+///
+/// A pulse in which 4096 nodes or more are active goes to the crew: each worker reads and delivers at its own range of places. The calling thread
+/// makes all others, as worker 0. Of a circuit of at most 256 latches and gates the first flow begins at the sources, for a crew of two or more, and
+/// the crew makes its first pulse: a start would leave few units to share.
+///
+/// # Errors
+///
+/// `NoMemory` where a table is refused; then `flows` may be those of before, of a start, or none.
+pub fn chosen_least_brought<R: Threads + Sync, G: PhaseGate>(
     rt: &R,
     alloc: Global,
     frame: &Frame,
@@ -99,30 +110,25 @@ fn shown_in<R: Threads + Sync, G: PhaseGate>(
     }
 }
 
-/// The chosen least set of a circuit whose held latches stay where they are, where a flow of units shows it: that of a start along `flows`,
-/// what the last flow did at the circuit's gates, or along nothing where there are none; or the flow that pulses make of it. Then `flows` is
-/// what it does there. They are hints: the set is the same whatever they say, or there is none.
-///
-/// A pulse in which 4096 nodes or more are active goes to the crew: each worker reads and delivers at its own range of places. The calling thread
-/// makes all others, as worker 0. Of a circuit of at most 256 latches and gates the first flow begins at the sources, for a crew of two or more, and
-/// the crew makes its first pulse.
+/// Puts a flow over a region in place of `flows`, which are hints as above: that of a start, or what a crew's pulses make of it, so that no more
+/// units can come to the sink. Nothing is judged.
 ///
 /// # Errors
 ///
 /// `NoMemory` where a table is refused; then `flows` may be those of before, of a start, or none.
-pub fn chosen_least_brought<G: PhaseGate>(
-    rt: &(impl Threads + Sync),
+pub fn bring_in<R: Threads + Sync, G: PhaseGate>(
+    rt: &R,
     alloc: Global,
-    circuit: &Circuit,
-    keep: &Keep,
-    choice: Choice,
+    region: &Region,
     crew: &Crew<G>,
     flows: &mut Vec<GateFlow>,
-) -> Result<Option<ClosedSet>, NoMemory>
-    ensures { IfOk result (λ shown. IfSome shown (IsChosen choice circuit.now keep.now)) }
-{
-    let frame = Frame::new(alloc, circuit, keep)?;
-    let shown = shown_in(rt, alloc, &frame, choice, crew, flows);
-    drop(frame);
-    shown
+) -> Result<(), NoMemory> {
+    let is_first = flows.is_empty();
+    if !start_in(alloc, region, flows)? {
+        return Ok(());
+    }
+    if !is_first {
+        extend(alloc, region, flows.as_mut_slice())?;
+    }
+    bring(rt, alloc, region, None, Sharing::of_started(crew), flows)
 }

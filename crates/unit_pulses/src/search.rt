@@ -4,7 +4,8 @@ use crate::readers::Readers;
 use crate::spots::{Labels, Spot, label_before};
 use aig_graph::{Gate, NoMemory};
 use std::alloc::Global;
-use unit_flows::{Frame, GateFlow};
+use unit_flows::GateFlow;
+use unit_starts::{Region, narrow};
 
 /// The places of a gate's two fan-ins, that of the smaller variable first.
 #[derive(Clone, Copy)]
@@ -42,7 +43,7 @@ pub(crate) struct Before {
     pub below: u32,
 }
 
-/// A flow of units over the gates of a frame, and what its pulses need to know.
+/// A flow of units over the gates of a region, and what its pulses need to know.
 #[derive(Drop)]
 pub(crate) struct Search<'a> {
     pub gates: &'a [Gate],
@@ -65,24 +66,23 @@ impl<'a> Search<'a> {
     /// `NoMemory` where a table is refused.
     pub fn new(
         alloc: Global,
-        frame: &'a Frame,
+        region: &Region<'a>,
         flows: Vec<GateFlow>,
     ) -> Result<Search<'a>, NoMemory> {
-        let aig = frame.circuit.aig();
-        let spots = spots_of(alloc, frame)?;
+        let spots = spots_of(alloc, region)?;
         let labels = vec![in alloc; Labels::NONE; spots.len()]?;
         let mut search = Search {
-            gates: aig.gates(),
-            first: aig.first_latch(),
-            latches: aig.first_gate().wrapping_sub(aig.first_latch()),
-            most: aig.known_latches().saturating_add(1),
+            gates: region.gates,
+            first: region.first,
+            latches: narrow(region.latches.len()),
+            most: narrow(region.known_latches()).saturating_add(1),
             readers: Readers::none(alloc),
             labels,
             spots,
             flows,
         };
-        for place in (0..aig.latches_and_gates()).rev() {
-            search.note(place as u32);
+        for place in (0..region.places()).rev() {
+            search.note(narrow(place));
         }
         Ok(search)
     }
@@ -99,9 +99,9 @@ impl<'a> Search<'a> {
     /// # Errors
     ///
     /// `NoMemory` where a table is refused.
-    pub fn list_readers(&mut self, alloc: Global, frame: &Frame) -> Result<(), NoMemory> {
+    pub fn list_readers(&mut self, alloc: Global, region: &Region) -> Result<(), NoMemory> {
         if self.readers.are_none() {
-            self.readers = Readers::of(alloc, frame)?;
+            self.readers = Readers::of(alloc, region)?;
         }
         Ok(())
     }
@@ -206,14 +206,11 @@ impl<'a> Search<'a> {
 
 /// What stands at each place where no gate has done anything: a unit has come after each known latch, and it waits where no arc leads to the
 /// sink.
-fn spots_of(alloc: Global, frame: &Frame) -> Result<Vec<Spot>, NoMemory> {
-    let aig = frame.circuit.aig();
-    let first = aig.first_latch();
-    let mut spots = Vec::with_capacity(alloc, frame.leaving.len())?;
-    for place in 0..aig.latches_and_gates() {
-        let var = first.wrapping_add(place as u32);
-        let holds = frame.pass.has(var) || aig.is_known_latch(var);
-        let is_observed = holds && frame.leaving.get(place).copied() == Some(true);
+fn spots_of(alloc: Global, region: &Region) -> Result<Vec<Spot>, NoMemory> {
+    let mut spots = Vec::with_capacity(alloc, region.places())?;
+    for place in 0..region.places() {
+        let holds = region.is_passable(place) || region.is_known_latch(place);
+        let is_observed = holds && region.leaves(place);
         spots.push(Spot {
             excess: 0,
             reaches: holds,

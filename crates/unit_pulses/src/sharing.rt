@@ -25,11 +25,19 @@ pub(crate) struct Sharing<'a, G> {
 impl<'a, G: PhaseGate> Sharing<'a, G> {
     /// How a crew shares the flow of a circuit of so many latches and gates, where it is the first of a run or not.
     pub fn of(crew: &'a Crew<G>, places: usize, is_first: bool) -> Sharing<'a, G> {
-        let workers = crew.workers();
+        let from_sources = is_first && crew.workers() > 1 && places <= FEW_PLACES;
+        Sharing {
+            from_sources,
+            ..Sharing::of_started(crew)
+        }
+    }
+
+    /// How a crew shares a flow that begins with a start.
+    pub fn of_started(crew: &'a Crew<G>) -> Sharing<'a, G> {
         Sharing {
             gate: crew.gate(),
-            workers,
-            from_sources: is_first && workers > 1 && places <= FEW_PLACES,
+            workers: crew.workers(),
+            from_sources: false,
         }
     }
 

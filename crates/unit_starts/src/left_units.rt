@@ -1,8 +1,8 @@
 //! Where a start left units.
 
-use crate::sweeps::NodeMarks;
 use aig_graph::NoMemory;
 use std::alloc::Global;
+use unit_flows::NodeMarks;
 
 /// The places of the nodes at which units are left, from the first latch on.
 #[derive(Drop)]
@@ -25,6 +25,11 @@ impl LeftUnits {
             before: Vec::new(alloc),
             after: Vec::new(alloc),
         }
+    }
+
+    /// Whether none are left.
+    pub fn is_empty(&self) -> bool {
+        self.before.is_empty() && self.after.is_empty()
     }
 
     /// A unit is left before the gate at a place.

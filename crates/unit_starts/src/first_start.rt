@@ -7,12 +7,12 @@
 //!
 //! Of most circuits one of them brings all units, or all but a few.
 
-use crate::frame::Frame;
-use crate::gate_flow::GateFlow;
 use crate::left_units::LeftUnits;
+use crate::region::Region;
 use crate::start::{FanIn, Start};
 use aig_graph::NoMemory;
 use std::alloc::Global;
+use unit_flows::GateFlow;
 
 /// The places of a passable gate's own variable and of its two fan-ins, from the first latch on, the smaller fan-in first.
 #[derive(Clone, Copy)]
@@ -24,18 +24,16 @@ struct GatePlaces {
 
 impl GatePlaces {
     /// The places of the gate with this number, where it is passable.
-    fn of(frame: &Frame, gate: usize) -> Option<GatePlaces> {
-        let aig = frame.circuit.aig();
-        let own = aig.latches().len().saturating_add(gate);
-        if frame.pass.marks().get(own).copied() != Some(true) {
+    fn of(region: &Region, gate: usize) -> Option<GatePlaces> {
+        let own = region.latches.len().saturating_add(gate);
+        if !region.is_passable(own) {
             return None;
         }
-        let first = aig.first_latch();
-        let literals = aig.gates().get(gate)?;
+        let literals = region.gates.get(gate)?;
         Some(GatePlaces {
             own,
-            smaller: literals.rhs1.var().saturating_sub(first) as usize,
-            larger: literals.rhs0.var().saturating_sub(first) as usize,
+            smaller: region.place(literals.rhs1) as usize,
+            larger: region.place(literals.rhs0) as usize,
         })
     }
 
@@ -48,11 +46,11 @@ impl GatePlaces {
 }
 
 /// A gate that has taken nothing takes a unit that waits after one of its fan-ins, in this order.
-fn take_waiting(frame: &Frame, start: &mut Start, gate: usize, order: [FanIn; 2]) {
+fn take_waiting(region: &Region, start: &mut Start, gate: usize, order: [FanIn; 2]) {
     if start.taken(gate).is_some() {
         return;
     }
-    if let Some(places) = GatePlaces::of(frame, gate) {
+    if let Some(places) = GatePlaces::of(region, gate) {
         for fan_in in order {
             if start.takes_from(gate, places.own, fan_in, places.fan_in(fan_in)) {
                 return;
@@ -62,15 +60,15 @@ fn take_waiting(frame: &Frame, start: &mut Start, gate: usize, order: [FanIn; 2]
 }
 
 /// In one pass up the gates each that has taken nothing takes a unit that waits after a fan-in, in this order.
-fn take_all_waiting(frame: &Frame, start: &mut Start, order: [FanIn; 2]) {
-    for gate in 0..frame.circuit.aig().gates().len() {
-        take_waiting(frame, start, gate, order);
+fn take_all_waiting(region: &Region, start: &mut Start, order: [FanIn; 2]) {
+    for gate in 0..region.gates.len() {
+        take_waiting(region, start, gate, order);
     }
 }
 
 /// A gate whose unit is asked for asks a fan-in that nobody has asked, the smaller first.
-fn ask(frame: &Frame, start: &mut Start, gate: usize) {
-    if let Some(places) = GatePlaces::of(frame, gate) {
+fn ask(region: &Region, start: &mut Start, gate: usize) {
+    if let Some(places) = GatePlaces::of(region, gate) {
         if !start.is_asked(places.own) {
             return;
         }
@@ -83,34 +81,34 @@ fn ask(frame: &Frame, start: &mut Start, gate: usize) {
 }
 
 /// A gate that asked a fan-in takes the unit that waits there, or else nothing.
-fn take_asked(frame: &Frame, start: &mut Start, gate: usize) {
+fn take_asked(region: &Region, start: &mut Start, gate: usize) {
     let Some(fan_in) = start.taken(gate) else {
         return;
     };
     start.note(gate, None);
-    if let Some(places) = GatePlaces::of(frame, gate) {
+    if let Some(places) = GatePlaces::of(region, gate) {
         start.takes_from(gate, places.own, fan_in, places.fan_in(fan_in));
     }
 }
 
 /// The start up the gates.
-fn start_up(alloc: Global, frame: &Frame) -> Result<Start, NoMemory> {
-    let mut start = Start::new(alloc, frame)?;
-    take_all_waiting(frame, &mut start, [FanIn::Larger, FanIn::Smaller]);
+fn start_up(alloc: Global, region: &Region) -> Result<Start, NoMemory> {
+    let mut start = Start::new(alloc, region)?;
+    take_all_waiting(region, &mut start, [FanIn::Larger, FanIn::Smaller]);
     Ok(start)
 }
 
 /// The start from the sink down.
-fn start_down(alloc: Global, frame: &Frame) -> Result<Start, NoMemory> {
-    let gates = frame.circuit.aig().gates().len();
-    let mut start = Start::new(alloc, frame)?;
+fn start_down(alloc: Global, region: &Region) -> Result<Start, NoMemory> {
+    let gates = region.gates.len();
+    let mut start = Start::new(alloc, region)?;
     for gate in (0..gates).rev() {
-        ask(frame, &mut start, gate);
+        ask(region, &mut start, gate);
     }
     for gate in 0..gates {
-        take_asked(frame, &mut start, gate);
+        take_asked(region, &mut start, gate);
     }
-    take_all_waiting(frame, &mut start, [FanIn::Smaller, FanIn::Larger]);
+    take_all_waiting(region, &mut start, [FanIn::Smaller, FanIn::Larger]);
     Ok(start)
 }
 
@@ -148,10 +146,10 @@ pub(crate) struct FirstStart {
 /// `NoMemory` where a table is refused.
 pub(crate) fn put_start_up(
     alloc: Global,
-    frame: &Frame,
+    region: &Region,
     flows: &mut Vec<GateFlow>,
 ) -> Result<FirstStart, NoMemory> {
-    let start = start_up(alloc, frame)?;
+    let start = start_up(alloc, region)?;
     put(flows, &start)?;
     let left = start.left(alloc)?;
     Ok(FirstStart {
@@ -167,11 +165,11 @@ pub(crate) fn put_start_up(
 /// `NoMemory` where a table is refused.
 pub(crate) fn put_start_down(
     alloc: Global,
-    frame: &Frame,
+    region: &Region,
     flows: &mut Vec<GateFlow>,
     arrived: usize,
 ) -> Result<bool, NoMemory> {
-    let start = start_down(alloc, frame)?;
+    let start = start_down(alloc, region)?;
     if start.arrived <= arrived {
         return Ok(false);
     }

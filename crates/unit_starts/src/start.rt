@@ -1,7 +1,7 @@
 //! One start of a circuit's first flow: which gate takes a unit from which fan-in.
 
-use crate::frame::Frame;
 use crate::left_units::LeftUnits;
+use crate::region::Region;
 use aig_graph::NoMemory;
 use std::alloc::Global;
 use std::mem;
@@ -32,25 +32,23 @@ pub(crate) struct Start {
 
 impl Start {
     /// A unit has come after each known latch, and no gate has taken one.
-    pub(crate) fn new(alloc: Global, frame: &Frame) -> Result<Start, NoMemory> {
-        let aig = frame.circuit.aig();
-        let mut spots = Vec::with_capacity(alloc, frame.leaving.len())?;
-        for is_observed in &frame.leaving {
+    pub(crate) fn new(alloc: Global, region: &Region) -> Result<Start, NoMemory> {
+        let mut spots = Vec::with_capacity(alloc, region.places())?;
+        for is_observed in region.leaving {
             spots.push(Spot {
                 is_observed: *is_observed,
                 asked: *is_observed,
                 waits: false,
             })?;
         }
-        let takes = vec![in alloc; None; aig.gates().len()]?;
+        let takes = vec![in alloc; None; region.gates.len()]?;
         let mut start = Start {
             takes,
             spots,
             arrived: 0,
         };
-        let first = aig.first_latch();
-        for place in 0..aig.latches().len() {
-            if aig.is_known_latch(first.saturating_add(place as u32)) {
+        for place in 0..region.latches.len() {
+            if region.is_known_latch(place) {
                 start.put_after(place);
             }
         }

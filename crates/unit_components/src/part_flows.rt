@@ -1,0 +1,109 @@
+//! The flow of a part, which is a region of its own: its known latches and its passable gates, with variables from 0 on in the order of their places.
+
+use crate::parts::Parts;
+use aig_graph::{Gate, Latch, Lit, NoMemory, Reset};
+use pulse::{Crew, PhaseGate};
+use std::alloc::Global;
+use std::thread::Threads;
+use unit_flows::GateFlow;
+use unit_pulses::bring_in;
+use unit_starts::Region;
+
+/// A known latch, wherever its next literal leads: what reads it from outside the gates is in the marks of what leaves.
+const KNOWN: Latch = Latch {
+    next: Lit::FALSE,
+    reset: Reset::Zero,
+};
+
+/// A region that is cut, its parts, and what is known of the flow at its gates, or nothing: lent to all workers.
+#[derive(Clone, Copy)]
+pub(crate) struct Cut<'a> {
+    pub region: Region<'a>,
+    pub parts: &'a Parts,
+    pub known: &'a [GateFlow],
+}
+
+/// The tables of a part.
+#[derive(Drop)]
+struct Part {
+    latches: Vec<Latch>,
+    gates: Vec<Gate>,
+    passes: Vec<bool>,
+    leaving: Vec<bool>,
+    /// What is known of the flow at its gates, or nothing.
+    flows: Vec<GateFlow>,
+}
+
+impl Part {
+    /// A part with room for so many places, of which it has none.
+    fn none(alloc: Global, places: usize) -> Result<Part, NoMemory> {
+        Ok(Part {
+            latches: Vec::new(alloc),
+            gates: Vec::with_capacity(alloc, places)?,
+            passes: Vec::with_capacity(alloc, places)?,
+            leaving: Vec::with_capacity(alloc, places)?,
+            flows: Vec::new(alloc),
+        })
+    }
+
+    /// The latch or the gate at a place comes next.
+    fn push(&mut self, cut: &Cut, place: usize) -> Result<(), NoMemory> {
+        let region = &cut.region;
+        self.leaving.push(region.leaves(place))?;
+        let gate = region.gate(place);
+        self.passes.push(gate.is_some())?;
+        match gate {
+            Some(gate) => {
+                self.gates.push(Gate {
+                    rhs0: cut.parts.literal(region, gate.rhs0),
+                    rhs1: cut.parts.literal(region, gate.rhs1),
+                })?;
+                if let Some(flow) = cut.known.get(region.gate_number(place)) {
+                    self.flows.push(*flow)?;
+                }
+            }
+            None => self.latches.push(KNOWN)?,
+        }
+        Ok(())
+    }
+
+    /// The tables of the part with this number.
+    fn of(alloc: Global, cut: &Cut, number: usize) -> Result<Part, NoMemory> {
+        let places = cut.parts.places(number);
+        let mut part = Part::none(alloc, places.len())?;
+        for place in places {
+            part.push(cut, *place as usize)?;
+        }
+        Ok(part)
+    }
+}
+
+/// The flow at the gates of the part with this number, in order, by the pulses of a crew from a start.
+///
+/// # Errors
+///
+/// `NoMemory` where a table is refused.
+pub(crate) fn part_flow<R: Threads + Sync, G: PhaseGate>(
+    rt: &R,
+    alloc: Global,
+    cut: &Cut,
+    number: usize,
+    crew: &Crew<G>,
+) -> Result<Vec<GateFlow>, NoMemory> {
+    let Part {
+        latches,
+        gates,
+        passes,
+        leaving,
+        mut flows,
+    } = Part::of(alloc, cut, number)?;
+    let own = Region {
+        first: 0,
+        latches: latches.as_slice(),
+        gates: gates.as_slice(),
+        passes: passes.as_slice(),
+        leaving: leaving.as_slice(),
+    };
+    bring_in(rt, alloc, &own, crew, &mut flows)?;
+    Ok(flows)
+}

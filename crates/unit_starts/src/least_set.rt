@@ -1,0 +1,140 @@
+//! The chosen least set of a frame by the flow of a start, where the judge says that it shows one.
+ghost use Rattle.std.specs.Prelude.{IfOk, IfSome};
+ghost use Rattle.aig_graph.specs.Border.{IsGreatestLeast};
+ghost use Rattle.aig_graph.specs.Chosen.{IsChosen};
+
+use crate::along::put_along;
+use crate::first_start::{put_start_down, put_start_up};
+use crate::left_units::LeftUnits;
+use crate::region::Region;
+use aig_graph::{Choice, ClosedSet, NoMemory};
+use std::alloc::Global;
+use unit_flows::{Frame, GateFlow, NodeMarks, mark, shown_by_marks, shown_chosen};
+
+/// What a start comes to.
+#[derive(Drop)]
+pub struct Started {
+    /// The chosen least set, if its flow shows that.
+    pub set: Option<ClosedSet>,
+    /// Else the marks of the nodes from which its units could still come to the sink, if they were looked for.
+    pub marks: Option<NodeMarks>,
+}
+
+/// What a flow comes to that leaves units so, where the greatest least set is looked for: the judge isn't asked where one is left at a node from
+/// which it could come to the sink, since more would come there.
+fn judged_greatest(
+    alloc: Global,
+    frame: &Frame,
+    flows: &[GateFlow],
+    left: &LeftUnits,
+) -> Result<Started, NoMemory>
+    ensures { IfOk result (λ started. IfSome started.set (IsGreatestLeast frame.now.circuit.now
+        frame.now.keep.now)) }
+{
+    if flows.len() != frame.circuit.aig().gates().len() {
+        return Ok(Started {
+            set: None,
+            marks: None,
+        });
+    }
+    let marks = mark(alloc, frame, flows)?;
+    if left.are_marked(&marks) {
+        return Ok(Started {
+            set: None,
+            marks: Some(marks),
+        });
+    }
+    let set = shown_by_marks(alloc, frame, flows, &marks)?;
+    Ok(Started {
+        set,
+        marks: Some(marks),
+    })
+}
+
+/// The same for the chosen one. For the smallest the judge is asked at once, which marks other nodes.
+fn judged(
+    alloc: Global,
+    frame: &Frame,
+    choice: Choice,
+    flows: &[GateFlow],
+    left: &LeftUnits,
+) -> Result<Started, NoMemory>
+    ensures { IfOk result (λ started. IfSome started.set (IsChosen choice frame.now.circuit.now
+        frame.now.keep.now)) }
+{
+    match choice {
+        Choice::Greatest => judged_greatest(alloc, frame, flows, left),
+        Choice::Smallest => {
+            let set = shown_chosen(alloc, frame, choice, flows)?;
+            Ok(Started { set, marks: None })
+        }
+    }
+}
+
+/// By the start up the gates, for a circuit of whose gates no flow is known. Where it shows none, the start from the sink down takes its place if
+/// it brings more.
+fn start_first(
+    alloc: Global,
+    frame: &Frame,
+    choice: Choice,
+    flows: &mut Vec<GateFlow>,
+) -> Result<Started, NoMemory>
+    ensures { IfOk result (λ started. IfSome started.set (IsChosen choice frame.now.circuit.now
+        frame.now.keep.now)) }
+{
+    let region = Region::of(frame);
+    let first = put_start_up(alloc, &region, flows)?;
+    let started = judged(alloc, frame, choice, flows.as_slice(), &first.left)?;
+    if started.set.is_none() && put_start_down(alloc, &region, flows, first.arrived)? {
+        return Ok(Started {
+            set: None,
+            marks: None,
+        });
+    }
+    Ok(started)
+}
+
+/// The chosen least set, where a start shows it: one along `flows`, what the last flow did at the circuit's gates, or along nothing where there
+/// are none. Then `flows` is what the start does there. They are hints: the set is the same whatever they say, or there is none.
+///
+/// # Errors
+///
+/// `NoMemory` where a table is refused; then `flows` may be those of before, or of a start.
+pub fn start_along(
+    alloc: Global,
+    frame: &Frame,
+    choice: Choice,
+    flows: &mut Vec<GateFlow>,
+) -> Result<Started, NoMemory>
+    ensures { IfOk result (λ started. IfSome started.set (IsChosen choice frame.now.circuit.now
+        frame.now.keep.now)) }
+{
+    if flows.is_empty() {
+        return start_first(alloc, frame, choice, flows);
+    }
+    let left = put_along(alloc, &Region::of(frame), flows)?;
+    judged(alloc, frame, choice, flows.as_slice(), &left)
+}
+
+/// Puts a start in place of a flow over a region, and judges nothing: a start along `flows`, or where they are none, the one of two that brings more.
+/// Whether it leaves units.
+///
+/// # Errors
+///
+/// `NoMemory` where a table is refused; then `flows` may be those of before, or of a start.
+pub fn start_in(
+    alloc: Global,
+    region: &Region,
+    flows: &mut Vec<GateFlow>,
+) -> Result<bool, NoMemory> {
+    if !flows.is_empty() {
+        let left = put_along(alloc, region, flows)?;
+        return Ok(!left.is_empty());
+    }
+    let first = put_start_up(alloc, region, flows)?;
+    if first.left.is_empty() {
+        return Ok(false);
+    }
+    put_start_down(alloc, region, flows, first.arrived)?;
+    Ok(true)
+}
