@@ -17,10 +17,8 @@ use Rattle.mapped_answers.specs.declared.options.HeldOptions.{HeldOptions}
 use Rattle.mapped_answers.specs.Answering.{IsHeldAnswer, IsHeldMapStop, IsHeldMapped, IsHeldStop, ReadsBack, text_for}
 use Rattle.mapped_answers.specs.declared.mapped.Mapped.{Mapped}
 use Rattle.mapped_answers.specs.declared.mapped.SpeltMap.{SpeltMap}
-use Rattle.mapped_answers.specs.declared.errors.HeldError.{HeldError}
-use Rattle.mapped_answers.specs.declared.errors.HeldError.TheVariants.{Answer, NoSuchLatch}
-use Rattle.mapped_answers.specs.declared.errors.HeldMapError.{HeldMapError}
-use Rattle.mapped_answers.specs.declared.errors.HeldMapError.TheVariants.{Held, MapTooLarge}
+use Rattle.mapped_answers.specs.declared.errors.AnswerError.{AnswerError}
+use Rattle.mapped_answers.specs.declared.errors.AnswerError.TheVariants.{Bytes, MapTooLarge, NoSuchLatch}
 use Rattle.stream_paths.specs.Streams.{is_stdout}
 use Rattle.stream_paths.specs.declared.target.Target.{Target}
 use Rattle.command_line.specs.StreamUses.{takes_stdout, writes_stdout}
@@ -36,23 +34,25 @@ use Rattle.json_reports.specs.declared.counts.MapCounts.{MapCounts}
 use Rattle.commands.specs.declared.answer.Answer.{Answer as Answered}
 use Rattle.commands.specs.Pipes.{AnswersPipe, IsAnswerTo, IsMapOf, IsPipe, IsToldOf, PrintsRetiming, WritesAnswer, WritesBeside, WritesCertificates, WritesMap, WritesPipe, WritesRetiming, blocks_text}
 use Rattle.command_endings.specs.Printing.{EndsAside, Prints, ending}
-use Rattle.commands.specs.RetimingTasks.{EndsPrintingFrames, HasFailed, IsHeldFailureOf, IsMappedFailureOf, PrintsAlike, SaysFrames, counts_of, levels_told}
+use Rattle.commands.specs.RetimingTasks.{EndsPrintingFrames, HasFailed, IsRunFailureOf, PrintsAlike, SaysFrames, counts_of, levels_told}
 use Rattle.command_endings.proofs.PrintingLaws.{failing_after, prints_after}
 use Rattle.commands.proofs.FrameLaws.{frames_alike, says_alike}
 
 -- why there is no whole answer of what was read, as the failure of the task
-pub stopped : (task : Retiming) (options : HeldOptions) (spelt : SpeltCircuit) (before after : Output) (e : HeldError) (f : Failure)
-    → IsHeldFailureOf task e f → IsHeldStop options spelt before after e → Prints (outcome_of f) before after
+pub stopped : (task : Retiming) (options : HeldOptions) (spelt : SpeltCircuit) (before after : Output) (e : AnswerError) (f : Failure)
+    → IsRunFailureOf task e f → IsHeldStop options spelt before after e → Prints (outcome_of f) before after
 stopped task options spelt before after (NoSuchLatch number) f is p = failing_after f before after p.0
-stopped task options spelt before after (Answer (Read e)) f is p = absurd p
-stopped task options spelt before after (Answer (Retime NoMemory)) f is p = failing_after f before after p
-stopped task options spelt before after (Answer (Retime (NoSuchName place))) f is p = failing_after f before after p.0
-stopped task options spelt before after (Answer (Write e)) f is p = subst (λ (g : Failure). Prints (outcome_of g) before after) (sym is.2) tt
+stopped task options spelt before after (Bytes (Read e)) f is p = absurd p
+stopped task options spelt before after (Bytes (Retime NoMemory)) f is p = failing_after f before after p
+stopped task options spelt before after (Bytes (Retime (NoSuchName place))) f is p = failing_after f before after p.0
+stopped task options spelt before after (Bytes (Write e)) f is p = subst (λ (g : Failure). Prints (outcome_of g) before after) (sym is.2) tt
+stopped task options spelt before after MapTooLarge f is p = absurd p
 
 -- the same where a map is made
-pub stopped_mapped : (task : Retiming) (options : HeldOptions) (spelt : SpeltCircuit) (before after : Output) (e : HeldMapError) (f : Failure)
-    → IsMappedFailureOf task e f → IsHeldMapStop options spelt before after e → Prints (outcome_of f) before after
-stopped_mapped task options spelt before after (Held e) f is p = stopped task options spelt before after e f is p
+pub stopped_mapped : (task : Retiming) (options : HeldOptions) (spelt : SpeltCircuit) (before after : Output) (e : AnswerError) (f : Failure)
+    → IsRunFailureOf task e f → IsHeldMapStop options spelt before after e → Prints (outcome_of f) before after
+stopped_mapped task options spelt before after (NoSuchLatch number) f is p = stopped task options spelt before after (NoSuchLatch number) f is p
+stopped_mapped task options spelt before after (Bytes e) f is p = stopped task options spelt before after (Bytes e) f is p
 stopped_mapped task options spelt before after MapTooLarge f is p = failing_after f before after p
 
 -- an answer with its map is the answer of the run

@@ -6,10 +6,8 @@ use Rattle.stream_paths.specs.Streams.{target_name}
 use Rattle.stream_paths.specs.declared.target.Target.{Target}
 use Rattle.command_line.specs.declared.task.Retiming.{Retiming}
 use Rattle.mapped_answers.specs.declared.options.HeldOptions.{HeldOptions}
-use Rattle.mapped_answers.specs.declared.errors.HeldError.{HeldError}
-use Rattle.mapped_answers.specs.declared.errors.HeldError.TheVariants.{Answer, NoSuchLatch}
-use Rattle.mapped_answers.specs.declared.errors.HeldMapError.{HeldMapError}
-use Rattle.mapped_answers.specs.declared.errors.HeldMapError.TheVariants.{Held, MapTooLarge}
+use Rattle.mapped_answers.specs.declared.errors.AnswerError.{AnswerError}
+use Rattle.mapped_answers.specs.declared.errors.AnswerError.TheVariants.{Bytes, MapTooLarge, NoSuchLatch}
 use Rattle.latch_marks.specs.Marks.{names_held}
 use Rattle.frames.specs.declared.errors.BytesError.{BytesError}
 use Rattle.frames.specs.declared.errors.BytesError.TheVariants.{Read, Retime, Write}
@@ -52,10 +50,11 @@ IsFailureOf task (Retime NoMemory) failure = failure ≡ fails.Memory
 IsFailureOf task (Retime (NoSuchName place)) failure = (name : Bor (List ℕ)) → slice_get task.keep.items place ≡ Some name → OfSource task.input (λ path. failure ≡ fails.NoSuchName path name)
 IsFailureOf task (Write error) failure = (name : Bor (List ℕ)) × (name.now ≡ target_name task.output) × (failure ≡ fails.Device name)
 
--- the same where latches are held by their places
-abbrev pub IsHeldFailureOf : Retiming → HeldError → Failure → Type 0
-IsHeldFailureOf task (Answer error) failure = IsFailureOf task error failure
-IsHeldFailureOf task (NoSuchLatch number) failure = (place : ℕ) → slice_get task.keep_latches.items number ≡ Some place → OfSource task.input (λ path. failure ≡ fails.NoSuchLatch path place)
+-- the same of a whole run: of a place that no latch has, too, or the map is refused
+abbrev pub IsRunFailureOf : Retiming → AnswerError → Failure → Type 0
+IsRunFailureOf task (Bytes error) failure = IsFailureOf task error failure
+IsRunFailureOf task MapTooLarge failure = (outcome_of failure ≡ Refused) × ((map : Target) → task.map ≡ Some map → IsAbout (target_name map) failure)
+IsRunFailureOf task (NoSuchLatch number) failure = (place : ℕ) → slice_get task.keep_latches.items number ≡ Some place → OfSource task.input (λ path. failure ≡ fails.NoSuchLatch path place)
 
 -- a device has failed, that of this target
 abbrev pub HasFailed : Option Target → Failure → Type 0
@@ -73,11 +72,6 @@ remaining_of task r = remaining r.circuit (names_for task r.circuit) (nat_lt (le
 -- the levels of the circuit that is read, which an object tells
 abbrev pub levels_told : Retiming → Netlist → Option ℕ
 levels_told task c = if task.json then Some (levels c) else None
-
--- the failure of a run that makes a map: that of the answer, or the map is refused
-abbrev pub IsMappedFailureOf : Retiming → HeldMapError → Failure → Type 0
-IsMappedFailureOf task (Held error) failure = IsHeldFailureOf task error failure
-IsMappedFailureOf task MapTooLarge failure = outcome_of failure ≡ Refused
 
 -- how many gates and constraints a map has
 abbrev pub counts_of : Netlist → MapCounts

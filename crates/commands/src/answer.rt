@@ -1,14 +1,15 @@
 //! From the circuit that `retime` reads to the one that it writes, with a map of states where one is asked for.
 ghost use Rattle.std.specs.Prelude.{◌≡◌, ◌<◌, ◌≤◌, true, false, IfErr, IfOk, OnOk, Some, option_map};
 ghost use Rattle.aig_binary.specs.Spellings.{text_in};
-ghost use Rattle.stream_paths.specs.Streams.{is_stdout};
+ghost use Rattle.stream_paths.specs.Streams.{is_stdout, target_name};
+ghost use Rattle.stream_paths.specs.declared.target.Target.{Target};
 ghost use Rattle.mapped_answers.specs.Answering.{IsHeldMapStop, IsHeldMapped, IsHeldWritten};
 ghost use Rattle.circuit_files.specs.Outcomes.{outcome_of};
 ghost use Rattle.circuit_files.specs.WrittenFiles.{IsFileGiven, IsTargetGiven};
 ghost use Rattle.command_line.specs.StreamUses.{writes_stdout};
 ghost use Rattle.command_endings.specs.Printing.{Prints};
 ghost use Rattle.commands.specs.Pipes.{IsAnswerTo, WritesMap};
-ghost use Rattle.commands.specs.RetimingTasks.{AreOptionsOf, HasFailed, IsFailureOf, IsHeldFailureOf, IsMappedFailureOf, counts_of, levels_told};
+ghost use Rattle.commands.specs.RetimingTasks.{AreOptionsOf, HasFailed, IsFailureOf, IsRunFailureOf, counts_of, levels_told};
 
 use crate::holding::missing_latch;
 use aig_binary::SpeltCircuit;
@@ -21,8 +22,7 @@ use file_words::ReadError;
 use frames::{BytesError, FrameWatcher, RetimeError, Retimed};
 use json_reports::MapCounts;
 use mapped_answers::{
-    HeldError, HeldMapError, HeldOptions, Mapped, SpeltMap, retime_held, retime_held_mapped,
-    write_state_map,
+    AnswerError, HeldOptions, Mapped, SpeltMap, retime_held, retime_held_mapped, write_state_map,
 };
 use path_levels::levels;
 use pulse::{Crew, OpenGate};
@@ -62,25 +62,26 @@ fn failure_of<'a>(error: BytesError, task: &Retiming<'a>) -> Failure<'a>
     }
 }
 
-/// The same of a run that holds latches by their places.
-fn failure_of_held<'a>(error: HeldError, task: &Retiming<'a>) -> Failure<'a>
-    ensures { IsHeldFailureOf task.now error result }
+/// The path of the map, where one is asked for.
+fn map_name<'a>(task: &Retiming<'a>) -> &'a str
+    ensures { (map : Target) → task.now.map ≡ Some map → result.now ≡ target_name map }
 {
-    match error {
-        HeldError::Answer(error) => failure_of(error, task),
-        HeldError::NoSuchLatch(number) => {
-            missing_latch(task.input.name(), task.keep_latches.as_slice(), number)
-        }
+    match task.map {
+        Some(map) => map.name(),
+        None => "",
     }
 }
 
-/// The same of a run that makes a map: one that is too large fails as a file that says so in its first line.
-fn failure_of_mapped<'a>(error: HeldMapError, task: &Retiming<'a>, map: Target<'a>) -> Failure<'a>
-    ensures { IsMappedFailureOf task.now error result }
+/// The same of a whole run: a map that is too large fails as a file that says so in its first line.
+fn failure_of_run<'a>(error: AnswerError, task: &Retiming<'a>) -> Failure<'a>
+    ensures { IsRunFailureOf task.now error result }
 {
     match error {
-        HeldMapError::Held(error) => failure_of_held(error, task),
-        HeldMapError::MapTooLarge => Failure::Refused(map.name(), ReadError::TooLarge(0)),
+        AnswerError::Bytes(error) => failure_of(error, task),
+        AnswerError::NoSuchLatch(number) => {
+            missing_latch(task.input.name(), task.keep_latches.as_slice(), number)
+        }
+        AnswerError::MapTooLarge => Failure::Refused(map_name(task), ReadError::TooLarge(0)),
     }
 }
 
@@ -117,7 +118,7 @@ fn plain_to<'a, R: Threads + Sync, W: CountedWrite, V: FrameWatcher>(
     let crew = crew(task);
     match retime_held(rt, alloc, spelt, writer, options, &crew, watcher) {
         Ok(retimed) => Ok(retimed),
-        Err(error) => Err(failure_of_held(error, task)),
+        Err(error) => Err(failure_of_run(error, task)),
     }
 }
 
@@ -130,7 +131,7 @@ fn mapped_to<R: Threads + Sync, W: CountedWrite, V: FrameWatcher>(
     spelt: SpeltCircuit,
     writer: &mut W,
     watcher: &mut V,
-) -> Result<Mapped, HeldMapError>
+) -> Result<Mapped, AnswerError>
     ensures ok { IfOk result (IsHeldMapped options.now spelt (W.output writer.old)
         (W.output writer.new)) }
     ensures err { IfErr result (IsHeldMapStop options.now spelt (W.output writer.old)
@@ -196,9 +197,9 @@ pub(crate) fn retime_to<'a, R: Threads + Sync, W: CountedWrite, V: FrameWatcher>
         return Err(Failure::Memory);
     };
     match task.map {
-        Some(map) => match mapped_to(rt, alloc, task, options, spelt, writer, watcher) {
+        Some(_) => match mapped_to(rt, alloc, task, options, spelt, writer, watcher) {
             Ok(mapped) => Ok(answer_of(mapped, levels)),
-            Err(error) => Err(failure_of_mapped(error, task, map)),
+            Err(error) => Err(failure_of_run(error, task)),
         },
         None => match plain_to(rt, alloc, task, options, spelt, writer, watcher) {
             Ok(retimed) => Ok(Answer {

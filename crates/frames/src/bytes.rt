@@ -116,11 +116,7 @@ pub fn retime_bytes<R: CountedRead, W: CountedWrite, G: PhaseGate>(
 }
 
 /// The circuit of a reader's bytes, by a reader of circuits that has been fed nothing yet.
-///
-/// # Errors
-///
-/// Those of `aig_binary::read_circuit`.
-pub fn read_by<R: CountedRead, C: CircuitReader + Drop>(
+fn read_by<R: CountedRead, C: CircuitReader + Drop>(
     reader: &mut R,
     mut circuits: C,
 ) -> Result<SpeltCircuit, ReadError>

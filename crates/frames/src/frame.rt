@@ -78,20 +78,6 @@ fn carried(
     after_cleaning(alloc, kept_gates, moved.as_slice())
 }
 
-/// Carries what the flow did at each gate over a move and a cleaning that keeps gates at these places; where memory is refused, it is lost.
-fn carry(
-    alloc: Global,
-    circuit: &Circuit,
-    set: &ClosedSet,
-    kept_gates: &[u32],
-    flows: &mut Vec<GateFlow>,
-) {
-    match carried(alloc, circuit, set, kept_gates, flows.as_slice()) {
-        Ok(left) => *flows = left,
-        Err(NoMemory) => flows.clear(),
-    }
-}
-
 /// The frame of the circuit that a run has come to, where one makes fewer latches: the set that is found, and what is left of it after its
 /// latches have moved over that and it is cleaned, which is followed. A watcher is told of the move. Where the records want certificates,
 /// they get one of the circuit. Of the run only the follower changes.
@@ -131,7 +117,7 @@ pub(crate) fn next_frame<F: RunFollower, G: PhaseGate, V: FrameWatcher>(
             let follower = &mut run.follower;
             let cleaned = moved_over(alloc, follower, circuit, &keep, set, marks, options)?;
             let kept_gates = cleaned.kept_gates.as_slice();
-            carry(alloc, circuit, set, kept_gates, &mut records.flows);
+            records.flows = carried(alloc, circuit, set, kept_gates, records.flows.as_slice())?;
             Ok(Some(Frame {
                 cleaned,
                 report: found.report,

@@ -24,7 +24,7 @@ mod watcher;
 pub use aig_graph::Choice;
 pub use beginning::begin;
 pub use bound::PathBound;
-pub use bytes::{read_by, retime_bytes, retime_bytes_watched, retime_spelt};
+pub use bytes::{retime_bytes, retime_bytes_watched, retime_spelt};
 pub use certificates::Certificate;
 pub use errors::{BytesError, RetimeError};
 pub use finishing::finish;

@@ -24,8 +24,8 @@ use Rattle.frames.specs.declared.errors.BytesError.TheVariants.{Read, Retime, Wr
 use Rattle.frames.specs.declared.errors.RetimeError.TheVariants.{NoMemory, NoSuchName}
 use Rattle.frames.specs.declared.options.Options.{Options}
 use Rattle.latch_marks.specs.Marks.{AreLatches, circuit_freed, circuit_held, held_places, marked, marks_of, names_held, unmarked, with_latch_names}
-use Rattle.mapped_answers.specs.declared.errors.HeldError.{HeldError}
-use Rattle.mapped_answers.specs.declared.errors.HeldError.TheVariants.{Answer, NoSuchLatch}
+use Rattle.mapped_answers.specs.declared.errors.AnswerError.{AnswerError}
+use Rattle.mapped_answers.specs.declared.errors.AnswerError.TheVariants.{Bytes, MapTooLarge, NoSuchLatch}
 use Rattle.mapped_answers.specs.declared.options.HeldOptions.{HeldOptions}
 use Rattle.mapped_answers.specs.Holding.{CanHold, IsHolding, IsHoldingError, IsMarked, IsRetimedMarked, IsUnwritten, WritesCircuit}
 use Rattle.mapped_answers.specs.Answering.{IsHeldAnswer, IsHeldStop, IsHeldWritten, IsMarkedStop, IsMarkedWritten, IsNamedStop}
@@ -134,7 +134,7 @@ held-written h spelt m old new r some is same written =
 
 -- or not
 pub held-stop : (h : HeldOptions) (spelt : SpeltCircuit) (m : SpeltCircuit) (old new : Output) (e : BytesError) → 0 < length h.places.items
-    → IsMarked h spelt.circuit m.circuit → m.spelling ≡ spelt.spelling → IsMarkedStop h.options m.circuit (unwrap_or h.options.spelling m.spelling) old new e → IsHeldStop h spelt old new (Answer e)
+    → IsMarked h spelt.circuit m.circuit → m.spelling ≡ spelt.spelling → IsMarkedStop h.options m.circuit (unwrap_or h.options.spelling m.spelling) old new e → IsHeldStop h spelt old new (Bytes e)
 held-stop h spelt m old new (Read e) some is same stop = stop
 held-stop h spelt m old new (Retime NoMemory) some is same stop = stop
 held-stop h spelt m old new (Retime (NoSuchName place)) some is same stop = absurd stop
@@ -149,12 +149,13 @@ held-stop h spelt m old new (Write e) some is same stop =
     }
 
 -- the latches can't be held
-pub unheld-stop : (h : HeldOptions) (spelt : SpeltCircuit) (old : Output) (e : HeldError) → IsHoldingError h spelt.circuit e → IsHeldStop h spelt old old e
+pub unheld-stop : (h : HeldOptions) (spelt : SpeltCircuit) (old : Output) (e : AnswerError) → IsHoldingError h spelt.circuit e → IsHeldStop h spelt old old e
 unheld-stop h spelt old (NoSuchLatch place) is = (refl, is)
-unheld-stop h spelt old (Answer (Read e)) is = is
-unheld-stop h spelt old (Answer (Retime NoMemory)) is = refl
-unheld-stop h spelt old (Answer (Retime (NoSuchName place))) is = (refl, is)
-unheld-stop h spelt old (Answer (Write e)) is = absurd is
+unheld-stop h spelt old (Bytes (Read e)) is = is
+unheld-stop h spelt old (Bytes (Retime NoMemory)) is = refl
+unheld-stop h spelt old (Bytes (Retime (NoSuchName place))) is = (refl, is)
+unheld-stop h spelt old (Bytes (Write e)) is = absurd is
+unheld-stop h spelt old MapTooLarge is = absurd is
 
 -- ---- no places
 
@@ -190,7 +191,7 @@ by_names h spelt old new r none written =
 pub named-written : (h : HeldOptions) (spelt : SpeltCircuit) (old new : Output) (r : Retimed) → nat_eq (length h.places.items) 0 ≡ true → IsWritten h.options spelt old new r → IsHeldWritten h spelt old new r
 named-written h spelt old new r none written = by_names h spelt old new r (no-places h.places.items none) written
 
-stopped_by_names : (h : HeldOptions) (spelt : SpeltCircuit) (old new : Output) (e : BytesError) → h.places.items ≡ [] → IsStop h.options spelt old new e → IsHeldStop h spelt old new (Answer e)
+stopped_by_names : (h : HeldOptions) (spelt : SpeltCircuit) (old new : Output) (e : BytesError) → h.places.items ≡ [] → IsStop h.options spelt old new e → IsHeldStop h spelt old new (Bytes e)
 stopped_by_names h spelt old new (Read e) none stop = stop
 stopped_by_names h spelt old new (Retime NoMemory) none stop = stop
 stopped_by_names h spelt old new (Retime (NoSuchName place)) none stop = stop
@@ -203,9 +204,10 @@ stopped_by_names h spelt old new (Write e) none stop =
     }
 
 -- why it didn't
-pub named-stop : (h : HeldOptions) (spelt : SpeltCircuit) (old new : Output) (e : HeldError) → nat_eq (length h.places.items) 0 ≡ true → IsNamedStop h.options spelt old new e → IsHeldStop h spelt old new e
+pub named-stop : (h : HeldOptions) (spelt : SpeltCircuit) (old new : Output) (e : AnswerError) → nat_eq (length h.places.items) 0 ≡ true → IsNamedStop h.options spelt old new e → IsHeldStop h spelt old new e
 named-stop h spelt old new (NoSuchLatch place) none stop = absurd stop
-named-stop h spelt old new (Answer e) none stop = stopped_by_names h spelt old new e (no-places h.places.items none) stop
+named-stop h spelt old new MapTooLarge none stop = absurd stop
+named-stop h spelt old new (Bytes e) none stop = stopped_by_names h spelt old new e (no-places h.places.items none) stop
 
 -- the retiming that was written is the one that was made
 pub if_same : {E : Type 0} (options : Options) (m : Netlist) (spelling : Spelling) (old new : Output) (r : Retimed) (result : Result Retimed E) → IsRetimedMarked options m r

@@ -4,10 +4,8 @@ use Rattle.std.specs.Result.{IfOk}
 use Rattle.aig_graph.specs.Circuits.{Netlist}
 use Rattle.aig_graph.specs.declared.holding.KeepError.{KeepError}
 use Rattle.aig_graph.specs.declared.holding.KeepError.TheVariants as keeping
-use Rattle.counted_io.specs.Input.{Input}
 use Rattle.counted_io.specs.Output.{Output, WritesAll, WritesPart}
 use Rattle.aig_binary.specs.declared.reading.SpeltCircuit.{SpeltCircuit}
-use Rattle.aig_binary.specs.Ending.{ReadsToEnd, Spells}
 use Rattle.frames.specs.declared.errors.BytesError.TheVariants.{Read, Retime, Write}
 use Rattle.frames.specs.declared.errors.RetimeError.TheVariants.{NoMemory, NoSuchName}
 use Rattle.frames.specs.declared.options.Options.{Options}
@@ -17,11 +15,9 @@ use Rattle.frames.specs.Codes.{of_keep_error}
 use Rattle.frames.specs.Named.{IsFirstMissingBy, NoneMissingBy, names_in}
 use Rattle.frames.specs.Stages.{Tells, Told, Writing, looks_of, stages_of}
 use Rattle.frames.proofs.StageLaws.{tells-then}
-use Rattle.frames.proofs.StopLaws.{stops-answering}
 use Rattle.std.specs.Option.{unwrap_or}
 use Rattle.file_words.specs.declared.spelling.Spelling.{Spelling}
 use Rattle.aig_binary.specs.Spellings.{text_in}
-use Rattle.aig_binary.proofs.LimitLaws.{reads-within}
 use Rattle.aig_binary.proofs.SpellingLaws.{the_spelling_law}
 use Rattle.retimed_circuits.specs.declared.report.Retimed.{Retimed}
 use Rattle.retimed_circuits.specs.Retiming.{IsRetimedWith}
@@ -29,17 +25,17 @@ use Rattle.retimed_circuits.proofs.LimitLaws.{stays-within}
 use Rattle.state_maps.specs.MapCircuits.{IsMapCircuit}
 use Rattle.mapped_answers.specs.declared.making.Made.{Made}
 use Rattle.mapped_answers.specs.declared.mapped.Mapped.{Mapped}
-use Rattle.mapped_answers.specs.declared.mapped.MappedError.{MappedError}
-use Rattle.mapped_answers.specs.declared.mapped.MappedError.TheVariants.{Answer, MapTooLarge}
-use Rattle.mapped_answers.specs.Mapping.{IsMade, IsMadeCutOff, IsMadeWritten, IsMakingError, IsMapError, IsMapped, IsMappedError, IsMappedOf, IsMappingStop, IsRetimedMapped}
+use Rattle.mapped_answers.specs.declared.errors.AnswerError.{AnswerError}
+use Rattle.mapped_answers.specs.declared.errors.AnswerError.TheVariants.{Bytes, MapTooLarge, NoSuchLatch}
+use Rattle.mapped_answers.specs.Mapping.{IsMade, IsMadeCutOff, IsMadeWritten, IsMakingError, IsMapError, IsMappedOf, IsMappingStop, IsRetimedMapped}
 
 -- no map
-pub unmapped : (options : Options) (c : Netlist) (e : MappedError) → IsMapError e → IsMakingError options c e
+pub unmapped : (options : Options) (c : Netlist) (e : AnswerError) → IsMapError e → IsMakingError options c e
 unmapped options c e (inl memory) = subst (IsMakingError options c) (sym memory) tt
 unmapped options c e (inr large) = subst (IsMakingError options c) (sym large) tt
 
 -- a name that no latch has
-pub unnamed : (options : Options) (c : Netlist) (e : KeepError) → ((place : ℕ) → e ≡ keeping.NoSuchName place → IsFirstMissingBy options c place) → IsMakingError options c (Answer (Retime (of_keep_error e)))
+pub unnamed : (options : Options) (c : Netlist) (e : KeepError) → ((place : ℕ) → e ≡ keeping.NoSuchName place → IsFirstMissingBy options c place) → IsMakingError options c (Bytes (Retime (of_keep_error e)))
 unnamed options c keeping.NoMemory missing = tt
 unnamed options c (keeping.NoSuchName place) missing = missing place refl
 
@@ -54,18 +50,13 @@ same-told was_told limit a b r (Ok made) told same = subst (λ (x : Retimed). Te
 same-told was_told limit a b r (Err e) told same = tt
 
 -- nothing is written then
-pub makes-nothing : (options : Options) (spelt : SpeltCircuit) (out : Output) (e : MappedError) → IsMakingError options spelt.circuit e → IsMappingStop options spelt out out e
+pub makes-nothing : (options : Options) (spelt : SpeltCircuit) (out : Output) (e : AnswerError) → IsMakingError options spelt.circuit e → IsMappingStop options spelt out out e
 makes-nothing options spelt out MapTooLarge is = refl
-makes-nothing options spelt out (Answer (Read e)) is = absurd is
-makes-nothing options spelt out (Answer (Retime NoMemory)) is = refl
-makes-nothing options spelt out (Answer (Retime (NoSuchName place))) is = (refl, is)
-makes-nothing options spelt out (Answer (Write e)) is = absurd is
-
--- what stops after the reading is why there is no answer
-pub stops-mapping : (options : Options) (old new : Input) (before after : Output) (spelt : SpeltCircuit) (e : MappedError)
-    → ReadsToEnd old new → Spells old spelt → IsMappingStop options spelt before after e → IsMappedError options old new before after e
-stops-mapping options old new before after spelt MapTooLarge read spells stop = (read, stop)
-stops-mapping options old new before after spelt (Answer e) read spells stop = stops-answering options old new before after spelt e read spells stop
+makes-nothing options spelt out (NoSuchLatch place) is = absurd is
+makes-nothing options spelt out (Bytes (Read e)) is = absurd is
+makes-nothing options spelt out (Bytes (Retime NoMemory)) is = refl
+makes-nothing options spelt out (Bytes (Retime (NoSuchName place))) is = (refl, is)
+makes-nothing options spelt out (Bytes (Write e)) is = absurd is
 
 -- what was made is written as the answer
 pub written-answer : (options : Options) (spelt : SpeltCircuit) (made : Made) (spelling : Spelling) (old new : Output) (m : Mapped) → spelling ≡ unwrap_or options.spelling spelt.spelling
@@ -87,23 +78,16 @@ written-answer options spelt made spelling old new m same is written =
     }
 
 -- or a beginning of it
-pub cut_off-answer : (options : Options) (spelt : SpeltCircuit) (made : Made) (spelling : Spelling) (old new : Output) (e : MappedError) → spelling ≡ unwrap_or options.spelling spelt.spelling
+pub cut_off-answer : (options : Options) (spelt : SpeltCircuit) (made : Made) (spelling : Spelling) (old new : Output) (e : AnswerError) → spelling ≡ unwrap_or options.spelling spelt.spelling
     → IsMade options spelt.circuit made → IsMadeCutOff made spelling old new e → IsMappingStop options spelt old new e
 cut_off-answer options spelt made spelling old new MapTooLarge same is none = absurd none
-cut_off-answer options spelt made spelling old new (Answer (Read e)) same is none = absurd none
-cut_off-answer options spelt made spelling old new (Answer (Retime e)) same is none = absurd none
-cut_off-answer options spelt made spelling old new (Answer (Write e)) same is part = record {
+cut_off-answer options spelt made spelling old new (NoSuchLatch place) same is none = absurd none
+cut_off-answer options spelt made spelling old new (Bytes (Read e)) same is none = absurd none
+cut_off-answer options spelt made spelling old new (Bytes (Retime e)) same is none = absurd none
+cut_off-answer options spelt made spelling old new (Bytes (Write e)) same is part = record {
   retimed = made.retimed;
   answer = record { names = is.names; retimed = is.retimed };
   writes = subst (λ (s : Spelling). WritesPart old new (text_in s made.retimed.circuit)) same part;
-}
-
--- the answer of the bytes
-pub mapped-answer : (options : Options) (input : Input) (old new : Output) (spelt : SpeltCircuit) (m : Mapped) → Spells input spelt → IsMappedOf options spelt old new m → IsMapped input old new options m
-mapped-answer options input old new spelt m read of = record {
-  answered = record { spelt = spelt; read = read; written = of.written; reads_back = λ left known. of.written.reads_back (reads-within left spelt.circuit (read.circuit.bytes left known)) };
-  map = of.map;
-  spelling = of.spelling;
 }
 
 -- the stages that are told of a retiming are those of the answer that it is written as

@@ -18,25 +18,23 @@ use Rattle.latch_marks.specs.Marks.{circuit_freed, held_places, marked, unmarked
 use Rattle.mapped_answers.specs.Mapping.{IsMade, IsMakingError, IsMapError, IsMappedOf, IsMappingStop}
 use Rattle.mapped_answers.specs.declared.making.Made.{Made}
 use Rattle.mapped_answers.specs.declared.mapped.Mapped.{Mapped}
-use Rattle.mapped_answers.specs.declared.mapped.MappedError.{MappedError}
-use Rattle.mapped_answers.specs.declared.mapped.MappedError.TheVariants as mapping
-use Rattle.mapped_answers.specs.declared.errors.HeldError.TheVariants as held
-use Rattle.mapped_answers.specs.declared.errors.HeldMapError.{HeldMapError}
-use Rattle.mapped_answers.specs.declared.errors.HeldMapError.TheVariants.{Held, MapTooLarge}
+use Rattle.mapped_answers.specs.declared.errors.AnswerError.{AnswerError}
+use Rattle.mapped_answers.specs.declared.errors.AnswerError.TheVariants.{Bytes, MapTooLarge, NoSuchLatch}
 use Rattle.mapped_answers.specs.declared.options.HeldOptions.{HeldOptions}
-use Rattle.mapped_answers.specs.Holding.{IsHolding, IsMarked, IsRetimedMarked, IsUnwritten, WritesCircuit}
+use Rattle.mapped_answers.specs.Holding.{IsHolding, IsHoldingError, IsMarked, IsRetimedMarked, IsUnwritten, WritesCircuit}
 use Rattle.mapped_answers.specs.Answering.{IsHeldMapped, IsHeldMapStop, IsMarkedStop, IsMarkedWritten}
-use Rattle.mapped_answers.specs.HeldMapping.{IsMadeMarked, IsMadeOwn, IsMapUnwritten, IsMappedFrom, IsMarkedMapStop, IsMarkedMapped, IsNamedMapStop, IsWithOwnMap, of_mapped_error}
-use Rattle.mapped_answers.proofs.AnswerLaws.{held-stop, held-written, holding-retimed, marked-unwritten, marked-written, named-stop, named-written, no-places}
+use Rattle.mapped_answers.specs.HeldMapping.{IsMadeMarked, IsMadeOwn, IsMapUnwritten, IsMappedFrom, IsMarkedMapStop, IsMarkedMapped, IsWithOwnMap}
+use Rattle.mapped_answers.proofs.AnswerLaws.{held-stop, held-written, holding-retimed, marked-unwritten, marked-written, named-stop, named-written, no-places, unheld-stop}
 use Rattle.latch_marks.proofs.HeldLaws.{circuit-freed}
 
 -- where no name is missing, there is no map since memory was refused, or since it is too large
-pub made-unmade : (options : Options) (c : Netlist) (e : MappedError) → NoneMissingBy options c → IsMakingError options c e → IsMapError e
-made-unmade options c mapping.MapTooLarge found is = inr refl
-made-unmade options c (mapping.Answer (Read e)) found is = absurd is
-made-unmade options c (mapping.Answer (Retime NoMemory)) found is = inl refl
-made-unmade options c (mapping.Answer (Retime (NoSuchName place))) found is = absurd (none-some place (sym found ∙ is))
-made-unmade options c (mapping.Answer (Write e)) found is = absurd is
+pub made-unmade : (options : Options) (c : Netlist) (e : AnswerError) → NoneMissingBy options c → IsMakingError options c e → IsMapError e
+made-unmade options c MapTooLarge found is = inr refl
+made-unmade options c (NoSuchLatch place) found is = absurd is
+made-unmade options c (Bytes (Read e)) found is = absurd is
+made-unmade options c (Bytes (Retime NoMemory)) found is = inl refl
+made-unmade options c (Bytes (Retime (NoSuchName place))) found is = absurd (none-some place (sym found ∙ is))
+made-unmade options c (Bytes (Write e)) found is = absurd is
 
 -- what is made by names that are marks
 pub made-marked : (options by : Options) (m : Netlist) (made : Made) → IsHolding options m by → IsMade by m made → IsMadeMarked options m made
@@ -97,13 +95,14 @@ mapped-marked options m spelling old new made mapped is from =
     }
 
 -- or not
-pub mapped-unwritten : (options : Options) (m : Netlist) (spelling : Spelling) (old new : Output) (made : Made) (e : MappedError)
+pub mapped-unwritten : (options : Options) (m : Netlist) (spelling : Spelling) (old new : Output) (made : Made) (e : AnswerError)
     → IsMadeOwn options m made → IsMapUnwritten made spelling old new e → IsMarkedMapStop options m spelling old new e
-mapped-unwritten options m spelling old new made (mapping.Answer e) is un = marked-unwritten options m spelling old new made.retimed e is.retimed un
-mapped-unwritten options m spelling old new made mapping.MapTooLarge is un = absurd un
+mapped-unwritten options m spelling old new made (Bytes e) is un = marked-unwritten options m spelling old new made.retimed e is.retimed un
+mapped-unwritten options m spelling old new made (NoSuchLatch place) is un = absurd un
+mapped-unwritten options m spelling old new made MapTooLarge is un = absurd un
 
 -- where nothing was made, nothing is written
-pub unmade-stop : (options : Options) (m : Netlist) (spelling : Spelling) (old : Output) (e : MappedError) → IsMapError e → IsMarkedMapStop options m spelling old old e
+pub unmade-stop : (options : Options) (m : Netlist) (spelling : Spelling) (old : Output) (e : AnswerError) → IsMapError e → IsMarkedMapStop options m spelling old old e
 unmade-stop options m spelling old e (inl is) = subst (IsMarkedMapStop options m spelling old old) (sym is) refl
 unmade-stop options m spelling old e (inr is) = subst (IsMarkedMapStop options m spelling old old) (sym is) refl
 
@@ -123,10 +122,17 @@ held-mapped h spelt m old new mapped some is same written =
     }
 
 -- or not
-pub held-map-stop : (h : HeldOptions) (spelt : SpeltCircuit) (m : SpeltCircuit) (old new : Output) (e : MappedError) (f : HeldMapError) → 0 < length h.places.items → IsMarked h spelt.circuit m.circuit
-    → m.spelling ≡ spelt.spelling → f ≡ of_mapped_error e → IsMarkedMapStop h.options m.circuit (unwrap_or h.options.spelling m.spelling) old new e → IsHeldMapStop h spelt old new f
-held-map-stop h spelt m old new (mapping.Answer e) f some is same of stop = subst (IsHeldMapStop h spelt old new) (sym of) (held-stop h spelt m old new e some is same stop)
-held-map-stop h spelt m old new mapping.MapTooLarge f some is same of stop = subst (IsHeldMapStop h spelt old new) (sym of) stop
+pub held-map-stop : (h : HeldOptions) (spelt : SpeltCircuit) (m : SpeltCircuit) (old new : Output) (e : AnswerError) → 0 < length h.places.items → IsMarked h spelt.circuit m.circuit
+    → m.spelling ≡ spelt.spelling → IsMarkedMapStop h.options m.circuit (unwrap_or h.options.spelling m.spelling) old new e → IsHeldMapStop h spelt old new e
+held-map-stop h spelt m old new (NoSuchLatch place) some is same stop = absurd stop
+held-map-stop h spelt m old new (Bytes e) some is same stop = held-stop h spelt m old new e some is same stop
+held-map-stop h spelt m old new MapTooLarge some is same stop = stop
+
+-- the latches can't be held
+pub unheld-map-stop : (h : HeldOptions) (spelt : SpeltCircuit) (old : Output) (e : AnswerError) → IsHoldingError h spelt.circuit e → IsHeldMapStop h spelt old old e
+unheld-map-stop h spelt old (NoSuchLatch place) is = unheld-stop h spelt old (NoSuchLatch place) is
+unheld-map-stop h spelt old (Bytes e) is = unheld-stop h spelt old (Bytes e) is
+unheld-map-stop h spelt old MapTooLarge is = absurd is
 
 -- ---- no places
 
@@ -139,12 +145,7 @@ named-mapped h spelt old new m none is = record {
 }
 
 -- why it has none
-pub named-map-stop : (h : HeldOptions) (spelt : SpeltCircuit) (old new : Output) (e : HeldMapError) → nat_eq (length h.places.items) 0 ≡ true → IsNamedMapStop h.options spelt old new e → IsHeldMapStop h spelt old new e
-named-map-stop h spelt old new (Held (held.NoSuchLatch place)) none stop = absurd stop
-named-map-stop h spelt old new (Held (held.Answer e)) none stop = named-stop h spelt old new (held.Answer e) none stop
+pub named-map-stop : (h : HeldOptions) (spelt : SpeltCircuit) (old new : Output) (e : AnswerError) → nat_eq (length h.places.items) 0 ≡ true → IsMappingStop h.options spelt old new e → IsHeldMapStop h spelt old new e
+named-map-stop h spelt old new (NoSuchLatch place) none stop = absurd stop
+named-map-stop h spelt old new (Bytes e) none stop = named-stop h spelt old new (Bytes e) none stop
 named-map-stop h spelt old new MapTooLarge none stop = stop
-
--- the errors of that run
-pub mapping-stop : (options : Options) (spelt : SpeltCircuit) (old new : Output) (e : MappedError) (f : HeldMapError) → f ≡ of_mapped_error e → IsMappingStop options spelt old new e → IsNamedMapStop options spelt old new f
-mapping-stop options spelt old new (mapping.Answer e) f of stop = subst (IsNamedMapStop options spelt old new) (sym of) stop
-mapping-stop options spelt old new mapping.MapTooLarge f of stop = subst (IsNamedMapStop options spelt old new) (sym of) stop

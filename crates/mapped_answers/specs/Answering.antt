@@ -19,10 +19,8 @@ use Rattle.frames.specs.declared.errors.RetimeError.TheVariants.{NoMemory, NoSuc
 use Rattle.frames.specs.declared.options.Options.{Options}
 use Rattle.latch_marks.specs.Marks.{IsFirstNoLatch, circuit_freed, unmarked}
 use Rattle.mapped_answers.specs.declared.mapped.Mapped.{Mapped}
-use Rattle.mapped_answers.specs.declared.errors.HeldError.{HeldError}
-use Rattle.mapped_answers.specs.declared.errors.HeldError.TheVariants.{Answer, NoSuchLatch}
-use Rattle.mapped_answers.specs.declared.errors.HeldMapError.{HeldMapError}
-use Rattle.mapped_answers.specs.declared.errors.HeldMapError.TheVariants.{Held, MapTooLarge}
+use Rattle.mapped_answers.specs.declared.errors.AnswerError.{AnswerError}
+use Rattle.mapped_answers.specs.declared.errors.AnswerError.TheVariants.{Bytes, MapTooLarge, NoSuchLatch}
 use Rattle.mapped_answers.specs.declared.options.HeldOptions.{HeldOptions}
 use Rattle.mapped_answers.specs.Holding.{CanHold, IsRetimedHeld, IsRetimedMarked}
 
@@ -57,17 +55,19 @@ pub record StopsWriting (h : HeldOptions) (spelt : SpeltCircuit) (old new : Outp
   pub writes : WritesPart old new (text_for h spelt retimed)
 
 -- why the circuit that was read wasn't retimed and written; nothing is written before the answer is whole
-abbrev pub IsHeldStop : HeldOptions → SpeltCircuit → Output → Output → HeldError → Type 0
+abbrev pub IsHeldStop : HeldOptions → SpeltCircuit → Output → Output → AnswerError → Type 0
 IsHeldStop h spelt old new (NoSuchLatch place) = (new ≡ old) × IsFirstNoLatch (length spelt.circuit.aig.latches) h.places.items place
-IsHeldStop h spelt old new (Answer (Read e)) = ⊥
-IsHeldStop h spelt old new (Answer (Retime NoMemory)) = new ≡ old
-IsHeldStop h spelt old new (Answer (Retime (NoSuchName place))) = (new ≡ old) × IsFirstMissingBy h.options spelt.circuit place
-IsHeldStop h spelt old new (Answer (Write e)) = StopsWriting h spelt old new
+IsHeldStop h spelt old new (Bytes (Read e)) = ⊥
+IsHeldStop h spelt old new (Bytes (Retime NoMemory)) = new ≡ old
+IsHeldStop h spelt old new (Bytes (Retime (NoSuchName place))) = (new ≡ old) × IsFirstMissingBy h.options spelt.circuit place
+IsHeldStop h spelt old new (Bytes (Write e)) = StopsWriting h spelt old new
+IsHeldStop h spelt old new MapTooLarge = ⊥
 
 -- the same of a run of names alone
-abbrev pub IsNamedStop : Options → SpeltCircuit → Output → Output → HeldError → Type 0
+abbrev pub IsNamedStop : Options → SpeltCircuit → Output → Output → AnswerError → Type 0
 IsNamedStop options spelt old new (NoSuchLatch place) = ⊥
-IsNamedStop options spelt old new (Answer e) = IsStop options spelt old new e
+IsNamedStop options spelt old new (Bytes e) = IsStop options spelt old new e
+IsNamedStop options spelt old new MapTooLarge = ⊥
 
 -- m, a circuit with marks, was retimed, where they hold, and that was written without them
 pub record IsMarkedWritten (options : Options) (m : Netlist) (spelling : Spelling) (old new : Output) (r : Retimed) : Type 0 where
@@ -101,7 +101,8 @@ pub record IsHeldMapped (h : HeldOptions) (spelt : SpeltCircuit) (old new : Outp
   pub map : IsMapCircuit spelt.circuit (freed h m.retimed) m.retimed.kept_free m.map.circuit
   pub spelling : m.map.spelling ≡ unwrap_or h.options.spelling spelt.spelling
 
--- nothing is written where there is no map
-abbrev pub IsHeldMapStop : HeldOptions → SpeltCircuit → Output → Output → HeldMapError → Type 0
-IsHeldMapStop h spelt old new (Held e) = IsHeldStop h spelt old new e
+-- why it wasn't retimed, mapped and written; nothing is written where there is no map
+abbrev pub IsHeldMapStop : HeldOptions → SpeltCircuit → Output → Output → AnswerError → Type 0
+IsHeldMapStop h spelt old new (NoSuchLatch place) = IsHeldStop h spelt old new (NoSuchLatch place)
+IsHeldMapStop h spelt old new (Bytes e) = IsHeldStop h spelt old new (Bytes e)
 IsHeldMapStop h spelt old new MapTooLarge = new ≡ old

@@ -3,19 +3,14 @@ use Rattle.std.specs.Prelude.{◌≡◌}
 use Rattle.counted_io.specs.Output.{Output}
 use Rattle.file_words.specs.declared.spelling.Spelling.{Spelling}
 use Rattle.aig_graph.specs.Circuits.{IsNetlist, Netlist}
-use Rattle.aig_binary.specs.declared.reading.SpeltCircuit.{SpeltCircuit}
 use Rattle.state_maps.specs.MapCircuits.{IsMapCircuit}
 use Rattle.retimed_circuits.specs.declared.report.Retimed.{Retimed}
 use Rattle.frames.specs.declared.options.Options.{Options}
 use Rattle.latch_marks.specs.Marks.{unmarked, unmarked_map}
-use Rattle.mapped_answers.specs.Mapping.{IsMappingStop}
 use Rattle.mapped_answers.specs.declared.making.Made.{Made}
 use Rattle.mapped_answers.specs.declared.mapped.Mapped.{Mapped}
-use Rattle.mapped_answers.specs.declared.mapped.MappedError.{MappedError}
-use Rattle.mapped_answers.specs.declared.mapped.MappedError.TheVariants as mapping
-use Rattle.mapped_answers.specs.declared.errors.HeldError.TheVariants as held
-use Rattle.mapped_answers.specs.declared.errors.HeldMapError.{HeldMapError}
-use Rattle.mapped_answers.specs.declared.errors.HeldMapError.TheVariants.{Held, MapTooLarge}
+use Rattle.mapped_answers.specs.declared.errors.AnswerError.{AnswerError}
+use Rattle.mapped_answers.specs.declared.errors.AnswerError.TheVariants.{Bytes, MapTooLarge, NoSuchLatch}
 use Rattle.mapped_answers.specs.Holding.{IsRetimedMarked, IsUnwritten, WritesCircuit}
 use Rattle.mapped_answers.specs.Answering.{IsMarkedStop, IsMarkedWritten}
 
@@ -43,9 +38,10 @@ pub record IsMappedFrom (made : Made) (spelling : Spelling) (old new : Output) (
   pub writes : WritesCircuit (unmarked made.retimed.circuit) spelling old new
 
 -- why it isn't
-abbrev pub IsMapUnwritten : Made → Spelling → Output → Output → MappedError → Type 0
-IsMapUnwritten made spelling old new (mapping.Answer e) = IsUnwritten (unmarked made.retimed.circuit) spelling old new e
-IsMapUnwritten made spelling old new mapping.MapTooLarge = ⊥
+abbrev pub IsMapUnwritten : Made → Spelling → Output → Output → AnswerError → Type 0
+IsMapUnwritten made spelling old new (Bytes e) = IsUnwritten (unmarked made.retimed.circuit) spelling old new e
+IsMapUnwritten made spelling old new (NoSuchLatch place) = ⊥
+IsMapUnwritten made spelling old new MapTooLarge = ⊥
 
 -- m, a circuit with marks, was retimed, where they hold, that was written without them, and the map is the one to what was written
 pub record IsMarkedMapped (options : Options) (m : Netlist) (spelling : Spelling) (old new : Output) (mapped : Mapped) : Type 0 where
@@ -54,17 +50,7 @@ pub record IsMarkedMapped (options : Options) (m : Netlist) (spelling : Spelling
   pub spelt : mapped.map.spelling ≡ spelling
 
 -- why m wasn't retimed, mapped and written
-abbrev pub IsMarkedMapStop : Options → Netlist → Spelling → Output → Output → MappedError → Type 0
-IsMarkedMapStop options m spelling old new (mapping.Answer e) = IsMarkedStop options m spelling old new e
-IsMarkedMapStop options m spelling old new mapping.MapTooLarge = new ≡ old
-
--- the error of a run that holds latches by their places
-abbrev pub of_mapped_error : MappedError → HeldMapError
-of_mapped_error (mapping.Answer e) = Held (held.Answer e)
-of_mapped_error mapping.MapTooLarge = MapTooLarge
-
--- why a circuit wasn't retimed, mapped and written where latches are held by names alone
-abbrev pub IsNamedMapStop : Options → SpeltCircuit → Output → Output → HeldMapError → Type 0
-IsNamedMapStop options spelt old new (Held (held.NoSuchLatch place)) = ⊥
-IsNamedMapStop options spelt old new (Held (held.Answer e)) = IsMappingStop options spelt old new (mapping.Answer e)
-IsNamedMapStop options spelt old new MapTooLarge = new ≡ old
+abbrev pub IsMarkedMapStop : Options → Netlist → Spelling → Output → Output → AnswerError → Type 0
+IsMarkedMapStop options m spelling old new (Bytes e) = IsMarkedStop options m spelling old new e
+IsMarkedMapStop options m spelling old new (NoSuchLatch place) = ⊥
+IsMarkedMapStop options m spelling old new MapTooLarge = new ≡ old

@@ -15,8 +15,8 @@ use Rattle.frames.specs.declared.errors.BytesError.TheVariants.{Read, Retime, Wr
 use Rattle.frames.specs.declared.errors.RetimeError.TheVariants.{NoMemory, NoSuchName}
 use Rattle.frames.specs.declared.options.Options.{Options}
 use Rattle.latch_marks.specs.Marks.{AreLatches, IsFirstNoLatch, circuit_held, held_places, marked, marks_of, names_held}
-use Rattle.mapped_answers.specs.declared.errors.HeldError.{HeldError}
-use Rattle.mapped_answers.specs.declared.errors.HeldError.TheVariants.{Answer, NoSuchLatch}
+use Rattle.mapped_answers.specs.declared.errors.AnswerError.{AnswerError}
+use Rattle.mapped_answers.specs.declared.errors.AnswerError.TheVariants.{Bytes, MapTooLarge, NoSuchLatch}
 use Rattle.mapped_answers.specs.declared.options.HeldOptions.{HeldOptions}
 
 -- each place is that of a latch of c, and each name too
@@ -36,12 +36,13 @@ abbrev pub IsRetimedHeld : HeldOptions → Netlist → Retimed → Type 0
 IsRetimedHeld h c r = IsRetimedWith h.options.merge (bound_in h.options (circuit_for h c)) h.options.choice (circuit_for h c) (names_for h c) h.options.max_frames h.options.certify r
 
 -- why they can't be held
-abbrev pub IsHoldingError : HeldOptions → Netlist → HeldError → Type 0
+abbrev pub IsHoldingError : HeldOptions → Netlist → AnswerError → Type 0
 IsHoldingError h c (NoSuchLatch place) = IsFirstNoLatch (length c.aig.latches) h.places.items place
-IsHoldingError h c (Answer (Read e)) = ⊥
-IsHoldingError h c (Answer (Retime NoMemory)) = Unit {0}
-IsHoldingError h c (Answer (Retime (NoSuchName place))) = IsFirstMissingBy h.options c place
-IsHoldingError h c (Answer (Write e)) = ⊥
+IsHoldingError h c (Bytes (Read e)) = ⊥
+IsHoldingError h c (Bytes (Retime NoMemory)) = Unit {0}
+IsHoldingError h c (Bytes (Retime (NoSuchName place))) = IsFirstMissingBy h.options c place
+IsHoldingError h c (Bytes (Write e)) = ⊥
+IsHoldingError h c MapTooLarge = ⊥
 
 -- m is c in which the latches that are held have marks
 pub record IsMarked (h : HeldOptions) (c m : Netlist) : Type 0 where

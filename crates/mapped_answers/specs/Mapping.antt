@@ -1,15 +1,13 @@
--- What becomes of a reader's bytes where a map is wanted: the answer, and the map from the circuit of the bytes to the one that is written.
+-- What becomes of a circuit that was read where a map is wanted: the answer, and the map from it to the one that is written.
 use Rattle.std.specs.Prelude.{◌≡◌, ◌⊎◌, unwrap_or}
-use Rattle.counted_io.specs.Input.{Input}
 use Rattle.counted_io.specs.Output.{Output, WritesAll, WritesPart}
 use Rattle.file_words.specs.declared.spelling.Spelling.{Spelling}
 use Rattle.aig_graph.specs.Circuits.{IsNetlist, Netlist}
 use Rattle.aig_graph.specs.Graph.{IsGraph}
 use Rattle.aig_binary.specs.declared.reading.SpeltCircuit.{SpeltCircuit}
-use Rattle.aig_binary.specs.Ending.{ReadsToEnd}
 use Rattle.aig_binary.specs.Spellings.{text_in}
 use Rattle.state_maps.specs.MapCircuits.{IsMapCircuit}
-use Rattle.frames.specs.Answering.{IsAnswered, IsBytesError, IsStop, IsWritten}
+use Rattle.frames.specs.Answering.{IsStop, IsWritten}
 use Rattle.frames.specs.Named.{IsFirstMissingBy, NoneMissingBy}
 use Rattle.frames.specs.Retiming.{IsRetimedBy}
 use Rattle.frames.specs.declared.errors.BytesError.TheVariants.{Read, Retime, Write}
@@ -17,8 +15,8 @@ use Rattle.frames.specs.declared.errors.RetimeError.TheVariants.{NoMemory, NoSuc
 use Rattle.frames.specs.declared.options.Options.{Options}
 use Rattle.mapped_answers.specs.declared.making.Made.{Made}
 use Rattle.mapped_answers.specs.declared.mapped.Mapped.{Mapped}
-use Rattle.mapped_answers.specs.declared.mapped.MappedError.{MappedError}
-use Rattle.mapped_answers.specs.declared.mapped.MappedError.TheVariants.{Answer, MapTooLarge}
+use Rattle.mapped_answers.specs.declared.errors.AnswerError.{AnswerError}
+use Rattle.mapped_answers.specs.declared.errors.AnswerError.TheVariants.{Bytes, MapTooLarge, NoSuchLatch}
 
 -- the circuit retimed by the options, and its map
 pub record IsMade (options : Options) (c : Netlist) (m : Made) : Type 0 where
@@ -32,16 +30,17 @@ pub record IsRetimedMapped (options : Options) (c : Netlist) (m : Made) : Type 0
   pub map : IsMapCircuit c m.retimed.circuit m.retimed.kept_free m.map
 
 -- why there is no map of a retiming
-abbrev pub IsMapError : MappedError → Type 0
-IsMapError e = (e ≡ Answer (Retime NoMemory)) ⊎ (e ≡ MapTooLarge)
+abbrev pub IsMapError : AnswerError → Type 0
+IsMapError e = (e ≡ Bytes (Retime NoMemory)) ⊎ (e ≡ MapTooLarge)
 
 -- why there is no retiming with a map
-abbrev pub IsMakingError : Options → Netlist → MappedError → Type 0
+abbrev pub IsMakingError : Options → Netlist → AnswerError → Type 0
 IsMakingError options c MapTooLarge = Unit {0}
-IsMakingError options c (Answer (Read e)) = ⊥
-IsMakingError options c (Answer (Retime NoMemory)) = Unit {0}
-IsMakingError options c (Answer (Retime (NoSuchName place))) = IsFirstMissingBy options c place
-IsMakingError options c (Answer (Write e)) = ⊥
+IsMakingError options c (NoSuchLatch place) = ⊥
+IsMakingError options c (Bytes (Read e)) = ⊥
+IsMakingError options c (Bytes (Retime NoMemory)) = Unit {0}
+IsMakingError options c (Bytes (Retime (NoSuchName place))) = IsFirstMissingBy options c place
+IsMakingError options c (Bytes (Write e)) = ⊥
 
 -- what was made is written, and its map is in that spelling
 pub record IsMadeWritten (made : Made) (spelling : Spelling) (old new : Output) (m : Mapped) : Type 0 where
@@ -53,11 +52,12 @@ pub record IsMadeWritten (made : Made) (spelling : Spelling) (old new : Output) 
   pub writes : WritesAll old new (text_in spelling made.retimed.circuit)
 
 -- a write failed after a beginning
-abbrev pub IsMadeCutOff : Made → Spelling → Output → Output → MappedError → Type 0
+abbrev pub IsMadeCutOff : Made → Spelling → Output → Output → AnswerError → Type 0
 IsMadeCutOff made spelling old new MapTooLarge = ⊥
-IsMadeCutOff made spelling old new (Answer (Read e)) = ⊥
-IsMadeCutOff made spelling old new (Answer (Retime e)) = ⊥
-IsMadeCutOff made spelling old new (Answer (Write e)) = WritesPart old new (text_in spelling made.retimed.circuit)
+IsMadeCutOff made spelling old new (NoSuchLatch place) = ⊥
+IsMadeCutOff made spelling old new (Bytes (Read e)) = ⊥
+IsMadeCutOff made spelling old new (Bytes (Retime e)) = ⊥
+IsMadeCutOff made spelling old new (Bytes (Write e)) = WritesPart old new (text_in spelling made.retimed.circuit)
 
 -- the answer was written, and the map is that of its circuit, in its spelling
 pub record IsMappedOf (options : Options) (spelt : SpeltCircuit) (old new : Output) (m : Mapped) : Type 0 where
@@ -66,17 +66,7 @@ pub record IsMappedOf (options : Options) (spelt : SpeltCircuit) (old new : Outp
   pub spelling : m.map.spelling ≡ unwrap_or options.spelling spelt.spelling
 
 -- nothing is written where there is no map
-abbrev pub IsMappingStop : Options → SpeltCircuit → Output → Output → MappedError → Type 0
-IsMappingStop options spelt old new (Answer e) = IsStop options spelt old new e
+abbrev pub IsMappingStop : Options → SpeltCircuit → Output → Output → AnswerError → Type 0
+IsMappingStop options spelt old new (Bytes e) = IsStop options spelt old new e
 IsMappingStop options spelt old new MapTooLarge = new ≡ old
-
--- the bytes that were left are those of a circuit, its answer was written, and the map is that of the circuit, in the answer's spelling
-pub record IsMapped (input : Input) (old new : Output) (options : Options) (m : Mapped) : Type 0 where
-  pub answered : IsAnswered input old new options m.retimed
-  pub map : IsMapCircuit answered.spelt.circuit m.retimed.circuit m.retimed.kept_free m.map.circuit
-  pub spelling : m.map.spelling ≡ unwrap_or options.spelling answered.spelt.spelling
-
--- why there is no answer with a map
-abbrev pub IsMappedError : Options → Input → Input → Output → Output → MappedError → Type 0
-IsMappedError options old new before after (Answer e) = IsBytesError options old new before after e
-IsMappedError options old new before after MapTooLarge = ReadsToEnd old new × (after ≡ before)
+IsMappingStop options spelt old new (NoSuchLatch place) = ⊥

@@ -1,4 +1,4 @@
-//! From a reader's bytes to a writer's. The map is made before anything is written, so that memory that is refused for it, or its size,
+//! From a circuit that was read to a writer's bytes. The map is made before anything is written, so that memory that is refused for it, or its size,
 //! leaves what is written as it was.
 ghost use Rattle.std.specs.Prelude.{[], ◌∷◌, ◌++◌, IfErr, IfOk};
 ghost use Rattle.aig_graph.specs.Circuits.{IsNetlist};
@@ -6,14 +6,15 @@ ghost use Rattle.aig_graph.specs.Graph.{IsGraph};
 ghost use Rattle.aig_binary.specs.Spellings.{text_in};
 ghost use Rattle.counted_io.specs.Output.{Writes};
 ghost use Rattle.frames.specs.Stages.{Tells, Writing, stages_of};
-ghost use Rattle.mapped_answers.specs.Mapping.{IsMadeCutOff, IsMadeWritten, IsMapped, IsMappedError, IsMappedOf, IsMappingStop};
+ghost use Rattle.mapped_answers.specs.Mapping.{IsMadeCutOff, IsMadeWritten, IsMappedOf, IsMappingStop};
 
+use crate::errors::AnswerError;
 use crate::making::{Made, made_over};
-use crate::mapped::{Mapped, MappedError, SpeltMap};
-use aig_binary::{AnyReader, Spelling, SpeltCircuit, write};
+use crate::mapped::{Mapped, SpeltMap};
+use aig_binary::{Spelling, SpeltCircuit, write};
 use aig_graph::Circuit;
-use counted_io::{CountedRead, CountedWrite, WriteError};
-use frames::{BytesError, FrameWatcher, Options, Stage, read_by};
+use counted_io::{CountedWrite, WriteError};
+use frames::{BytesError, FrameWatcher, Options, Stage};
 use pulse::{Crew, PhaseGate};
 use std::alloc::Global;
 use std::thread::Threads;
@@ -38,7 +39,7 @@ fn write_made<W: CountedWrite>(
     made: Made,
     spelling: Spelling,
     writer: &mut W,
-) -> Result<Mapped, MappedError>
+) -> Result<Mapped, AnswerError>
     ensures ok { IfOk result (IsMadeWritten made spelling (W.output writer.old)
         (W.output writer.new)) }
     ensures err { IfErr result (IsMadeCutOff made spelling (W.output writer.old)
@@ -57,16 +58,18 @@ fn write_made<W: CountedWrite>(
         }
         Err(error) => {
             drop(made);
-            Err(MappedError::Answer(BytesError::Write(error)))
+            Err(AnswerError::Bytes(BytesError::Write(error)))
         }
     }
 }
 
-/// Retimes a circuit that was read, makes its map, and writes it: what [`retime_bytes_mapped`] does once it has read.
+/// Retimes a circuit that was read and writes it as `frames::retime_spelt` does, and returns its map too, which is made before the
+/// circuit is written. The circuit that was read is kept until the map is there.
 ///
 /// # Errors
 ///
-/// Those of [`retime_bytes_mapped`], but for those of reading.
+/// `Bytes` with what `frames::retime_spelt` would say, and where memory for the map is refused; `MapTooLarge` where the map would
+/// have too many variables: nothing is written then.
 pub fn retime_spelt_mapped<W: CountedWrite, G: PhaseGate, V: FrameWatcher>(
     rt: &(impl Threads + Sync),
     alloc: Global,
@@ -75,7 +78,7 @@ pub fn retime_spelt_mapped<W: CountedWrite, G: PhaseGate, V: FrameWatcher>(
     options: &Options,
     crew: &Crew<G>,
     watcher: &mut V,
-) -> Result<Mapped, MappedError>
+) -> Result<Mapped, AnswerError>
     ensures ok { IfOk result (IsMappedOf options.now spelt (W.output writer.old)
         (W.output writer.new)) }
     ensures err { IfErr result (IsMappingStop options.now spelt (W.output writer.old)
@@ -94,35 +97,5 @@ pub fn retime_spelt_mapped<W: CountedWrite, G: PhaseGate, V: FrameWatcher>(
             write_made(made, spelling, writer)
         }
         Err(error) => Err(error),
-    }
-}
-
-/// Reads a circuit, retimes it and writes it as `frames::retime_bytes` does, and returns its map too, which is made before the
-/// circuit is written. The circuit that was read is kept until the map is there. A watcher is told what
-/// `frames::retime_bytes_watched` tells it.
-///
-/// # Errors
-///
-/// `Answer` with what `frames::retime_bytes` would say, and where memory for the map is refused; `MapTooLarge` where the map would
-/// have too many variables: nothing is written then.
-pub fn retime_bytes_mapped<R: CountedRead, W: CountedWrite, G: PhaseGate, V: FrameWatcher>(
-    rt: &(impl Threads + Sync),
-    alloc: Global,
-    reader: &mut R,
-    writer: &mut W,
-    options: &Options,
-    crew: &Crew<G>,
-    watcher: &mut V,
-) -> Result<Mapped, MappedError>
-    ensures ok { IfOk result (IsMapped (R.input reader.old) (W.output writer.old)
-        (W.output writer.new) options.now) }
-    ensures err { IfErr result (IsMappedError options.now (R.input reader.old) (R.input reader.new)
-        (W.output writer.old) (W.output writer.new)) }
-    ensures told { IfOk result (λ mapped. Tells V.was_told watcher.old watcher.new
-        (stages_of options.now.max_frames mapped.retimed ++ Writing ∷ [])) }
-{
-    match read_by(reader, AnyReader::new(alloc)) {
-        Ok(spelt) => retime_spelt_mapped(rt, alloc, spelt, writer, options, crew, watcher),
-        Err(error) => Err(MappedError::Answer(BytesError::Read(error))),
     }
 }

@@ -5,13 +5,13 @@ ghost use Rattle.frames.specs.Named.{NoneMissingBy};
 ghost use Rattle.latch_marks.specs.Marks.{own_names, unmarked_map};
 ghost use Rattle.mapped_answers.specs.Mapping.{IsMade, IsMapError, IsMappedOf};
 ghost use Rattle.mapped_answers.specs.Answering.{IsHeldMapStop, IsHeldMapped};
-ghost use Rattle.mapped_answers.specs.HeldMapping.{IsMadeMarked, IsMadeOwn, IsMapUnwritten, IsMappedFrom, IsMarkedMapStop, IsMarkedMapped, IsNamedMapStop, IsWithOwnMap, of_mapped_error};
+ghost use Rattle.mapped_answers.specs.HeldMapping.{IsMadeMarked, IsMadeOwn, IsMapUnwritten, IsMappedFrom, IsMarkedMapStop, IsMarkedMapped, IsWithOwnMap};
 
 use crate::bytes::retime_spelt_mapped;
-use crate::errors::{HeldError, HeldMapError};
+use crate::errors::AnswerError;
 use crate::holding::{holding, marked_over};
 use crate::making::{Made, made_over};
-use crate::mapped::{Mapped, MappedError, SpeltMap};
+use crate::mapped::{Mapped, SpeltMap};
 use crate::options::HeldOptions;
 use crate::writing::write_unmarked;
 use aig_binary::{Spelling, SpeltCircuit};
@@ -25,10 +25,10 @@ use std::alloc::Global;
 use std::thread::Threads;
 
 /// The error that memory was refused.
-fn no_memory() -> MappedError
+fn no_memory() -> AnswerError
     ensures { IsMapError result }
 {
-    MappedError::Answer(BytesError::Retime(RetimeError::NoMemory))
+    AnswerError::Bytes(BytesError::Retime(RetimeError::NoMemory))
 }
 
 /// A circuit that has latches of all names retimed, with its map.
@@ -39,7 +39,7 @@ fn made_by_names<G: PhaseGate, V: FrameWatcher>(
     options: &Options,
     crew: &Crew<G>,
     watcher: &mut V,
-) -> Result<Made, MappedError>
+) -> Result<Made, AnswerError>
     requires { NoneMissingBy options.now circuit }
     ensures ok { IfOk result (IsMade options.now circuit) }
     ensures err { IfErr result IsMapError }
@@ -58,7 +58,7 @@ fn made_by_marks<G: PhaseGate, V: FrameWatcher>(
     options: &Options,
     crew: &Crew<G>,
     watcher: &mut V,
-) -> Result<Made, MappedError>
+) -> Result<Made, AnswerError>
     ensures ok { IfOk result (IsMadeMarked options.now circuit) }
     ensures err { IfErr result IsMapError }
 {
@@ -116,7 +116,7 @@ fn made_with_own_map<G: PhaseGate, V: FrameWatcher>(
     options: &Options,
     crew: &Crew<G>,
     watcher: &mut V,
-) -> Result<Made, MappedError>
+) -> Result<Made, AnswerError>
     ensures ok { IfOk result (IsMadeOwn options.now circuit) }
     ensures err { IfErr result IsMapError }
 {
@@ -135,7 +135,7 @@ fn written<W: CountedWrite>(
     made: Made,
     spelling: Spelling,
     writer: &mut W,
-) -> Result<Mapped, MappedError>
+) -> Result<Mapped, AnswerError>
     ensures ok { IfOk result (IsMappedFrom made spelling (W.output writer.old)
         (W.output writer.new)) }
     ensures err { IfErr result (IsMapUnwritten made spelling (W.output writer.old)
@@ -154,7 +154,7 @@ fn written<W: CountedWrite>(
         }
         Err(error) => {
             drop(made);
-            Err(MappedError::Answer(error))
+            Err(AnswerError::Bytes(error))
         }
     }
 }
@@ -168,7 +168,7 @@ fn mapped_marked<W: CountedWrite, G: PhaseGate, V: FrameWatcher>(
     options: &Options,
     crew: &Crew<G>,
     watcher: &mut V,
-) -> Result<Mapped, MappedError>
+) -> Result<Mapped, AnswerError>
     ensures ok { IfOk result (IsMarkedMapped options.now spelt.circuit
         (unwrap_or options.now.spelling spelt.spelling) (W.output writer.old)
         (W.output writer.new)) }
@@ -190,16 +190,6 @@ fn mapped_marked<W: CountedWrite, G: PhaseGate, V: FrameWatcher>(
     }
 }
 
-/// The error that one of a run with a map is, where latches are held by their places.
-fn error_of(error: MappedError) -> HeldMapError
-    ensures { result ≡ of_mapped_error error }
-{
-    match error {
-        MappedError::Answer(error) => HeldMapError::Held(HeldError::Answer(error)),
-        MappedError::MapTooLarge => HeldMapError::MapTooLarge,
-    }
-}
-
 /// A circuit that was read, some of whose latches are held by their places, retimed and written, with its map.
 fn retime_places<W: CountedWrite, G: PhaseGate, V: FrameWatcher>(
     rt: &(impl Threads + Sync),
@@ -209,7 +199,7 @@ fn retime_places<W: CountedWrite, G: PhaseGate, V: FrameWatcher>(
     options: &HeldOptions,
     crew: &Crew<G>,
     watcher: &mut V,
-) -> Result<Mapped, HeldMapError>
+) -> Result<Mapped, AnswerError>
     requires { 0 < length options.now.places.items }
     ensures ok { IfOk result (IsHeldMapped options.now spelt (W.output writer.old)
         (W.output writer.new)) }
@@ -217,40 +207,8 @@ fn retime_places<W: CountedWrite, G: PhaseGate, V: FrameWatcher>(
         (W.output writer.new)) }
 {
     match marked_over(alloc, spelt, options) {
-        Ok(marked) => match mapped_marked(
-            rt,
-            alloc,
-            marked,
-            writer,
-            &options.options,
-            crew,
-            watcher,
-        ) {
-            Ok(mapped) => Ok(mapped),
-            Err(error) => Err(error_of(error)),
-        },
-        Err(error) => Err(HeldMapError::Held(error)),
-    }
-}
-
-/// The run of `mapped_answers`, with the errors of one that holds latches by their places.
-fn retime_names<W: CountedWrite, G: PhaseGate, V: FrameWatcher>(
-    rt: &(impl Threads + Sync),
-    alloc: Global,
-    spelt: SpeltCircuit,
-    writer: &mut W,
-    options: &Options,
-    crew: &Crew<G>,
-    watcher: &mut V,
-) -> Result<Mapped, HeldMapError>
-    ensures ok { IfOk result (IsMappedOf options.now spelt (W.output writer.old)
-        (W.output writer.new)) }
-    ensures err { IfErr result (IsNamedMapStop options.now spelt (W.output writer.old)
-        (W.output writer.new)) }
-{
-    match retime_spelt_mapped(rt, alloc, spelt, writer, options, crew, watcher) {
-        Ok(mapped) => Ok(mapped),
-        Err(error) => Err(error_of(error)),
+        Ok(marked) => mapped_marked(rt, alloc, marked, writer, &options.options, crew, watcher),
+        Err(error) => Err(error),
     }
 }
 
@@ -260,8 +218,8 @@ fn retime_names<W: CountedWrite, G: PhaseGate, V: FrameWatcher>(
 ///
 /// # Errors
 ///
-/// `Held` with what `retime_held` would say, and where memory for the map is refused; `MapTooLarge` where the map would have too many
-/// variables: nothing is written then.
+/// What `retime_held` would say, also where memory for the map is refused; `MapTooLarge` where the map would have too many variables:
+/// nothing is written then.
 pub fn retime_held_mapped<W: CountedWrite, G: PhaseGate, V: FrameWatcher>(
     rt: &(impl Threads + Sync),
     alloc: Global,
@@ -270,14 +228,14 @@ pub fn retime_held_mapped<W: CountedWrite, G: PhaseGate, V: FrameWatcher>(
     options: &HeldOptions,
     crew: &Crew<G>,
     watcher: &mut V,
-) -> Result<Mapped, HeldMapError>
+) -> Result<Mapped, AnswerError>
     ensures ok { IfOk result (IsHeldMapped options.now spelt (W.output writer.old)
         (W.output writer.new)) }
     ensures err { IfErr result (IsHeldMapStop options.now spelt (W.output writer.old)
         (W.output writer.new)) }
 {
     if options.places.as_slice().is_empty() {
-        retime_names(rt, alloc, spelt, writer, &options.options, crew, watcher)
+        retime_spelt_mapped(rt, alloc, spelt, writer, &options.options, crew, watcher)
     } else {
         retime_places(rt, alloc, spelt, writer, options, crew, watcher)
     }

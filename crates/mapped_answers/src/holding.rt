@@ -4,7 +4,7 @@ ghost use Rattle.frames.specs.Named.{NoneMissingBy};
 ghost use Rattle.frames.specs.Retiming.{IsRetimedBy};
 ghost use Rattle.mapped_answers.specs.Holding.{IsHolding, IsHoldingError, IsMarked, IsRetimedMarked, keeping};
 
-use crate::errors::HeldError;
+use crate::errors::AnswerError;
 use crate::options::HeldOptions;
 use aig_binary::SpeltCircuit;
 use aig_graph::{Circuit, NoMemory};
@@ -15,18 +15,18 @@ use std::alloc::Global;
 use std::thread::Threads;
 
 /// A copy of a circuit in which the latches that the options hold have marks.
-fn marked(alloc: Global, circuit: &Circuit, options: &HeldOptions) -> Result<Circuit, HeldError>
+fn marked(alloc: Global, circuit: &Circuit, options: &HeldOptions) -> Result<Circuit, AnswerError>
     ensures ok { IfOk result (IsMarked options.now circuit.now) }
     ensures err { IfErr result (IsHoldingError options.now circuit.now) }
 {
     let names = options.options.keep.as_slice();
     match mark_latches(alloc, circuit, names, options.places.as_slice()) {
         Ok(copy) => Ok(copy),
-        Err(MarkError::NoSuchLatch(place)) => Err(HeldError::NoSuchLatch(place)),
-        Err(MarkError::NoSuchName(place)) => Err(HeldError::Answer(BytesError::Retime(
+        Err(MarkError::NoSuchLatch(place)) => Err(AnswerError::NoSuchLatch(place)),
+        Err(MarkError::NoSuchName(place)) => Err(AnswerError::Bytes(BytesError::Retime(
             RetimeError::NoSuchName(place),
         ))),
-        Err(MarkError::NoMemory) => Err(HeldError::Answer(BytesError::Retime(
+        Err(MarkError::NoMemory) => Err(AnswerError::Bytes(BytesError::Retime(
             RetimeError::NoMemory,
         ))),
     }
@@ -37,7 +37,7 @@ pub(crate) fn marked_over(
     alloc: Global,
     spelt: SpeltCircuit,
     options: &HeldOptions,
-) -> Result<SpeltCircuit, HeldError>
+) -> Result<SpeltCircuit, AnswerError>
     ensures ok { IfOk result (λ copy. IsMarked options.now spelt.circuit copy.circuit) }
     ensures spelling { IfOk result (λ copy. copy.spelling ≡ spelt.spelling) }
     ensures err { IfErr result (IsHoldingError options.now spelt.circuit) }

@@ -6,10 +6,11 @@ ghost use Rattle.frames.specs.Named.{NoneMissingBy, kept_by};
 ghost use Rattle.frames.specs.Stages.{Tells, looks_of, stages_of};
 ghost use Rattle.frames.specs.declared.errors.BytesError.TheVariants.{Retime};
 ghost use Rattle.mapped_answers.specs.Mapping.{IsMade, IsMakingError, IsMapError, IsRetimedMapped};
-ghost use Rattle.mapped_answers.specs.declared.mapped.MappedError.TheVariants.{Answer};
+ghost use Rattle.mapped_answers.specs.declared.errors.AnswerError.TheVariants.{Bytes};
 
+use crate::errors::AnswerError;
 use crate::following::GrowingMap;
-use crate::mapped::{MappedError, map_error};
+use crate::mapped::map_error;
 use aig_graph::{Circuit, Keep, KeepError, NoMemory, keep_of};
 use frames::{
     BytesError, FrameWatcher, Options, RetimeError, Retimed, Run, RunFollower, Stage, begin, finish,
@@ -86,7 +87,7 @@ fn made_mapped<G: PhaseGate, V: FrameWatcher>(
     options: &Options,
     crew: &Crew<G>,
     watcher: &mut V,
-) -> Result<Made, MappedError>
+) -> Result<Made, AnswerError>
     requires keep { keep.now ≡ kept_by options.now circuit.now }
     requires names { NoneMissingBy options.now circuit.now }
     ensures ok { IfOk result (IsMade options.now circuit.now) }
@@ -101,10 +102,10 @@ fn made_mapped<G: PhaseGate, V: FrameWatcher>(
 }
 
 /// The error that one of holding latches is.
-fn unnamed(error: KeepError) -> MappedError
-    ensures { result ≡ Answer (Retime (of_keep_error error)) }
+fn unnamed(error: KeepError) -> AnswerError
+    ensures { result ≡ Bytes (Retime (of_keep_error error)) }
 {
-    MappedError::Answer(BytesError::Retime(RetimeError::from(error)))
+    AnswerError::Bytes(BytesError::Retime(RetimeError::from(error)))
 }
 
 /// The circuit retimed, with its map, after its latches that always agree are merged where the options ask for it.
@@ -115,7 +116,7 @@ fn made_of<G: PhaseGate, V: FrameWatcher>(
     options: &Options,
     crew: &Crew<G>,
     watcher: &mut V,
-) -> Result<Made, MappedError>
+) -> Result<Made, AnswerError>
     ensures ok { IfOk result (IsMade options.now circuit.now) }
     ensures err { IfErr result (IsMakingError options.now circuit.now) }
     ensures told { IfOk result (λ made. Tells V.was_told watcher.old watcher.new
@@ -136,7 +137,7 @@ pub fn made_over<G: PhaseGate, V: FrameWatcher>(
     options: &Options,
     crew: &Crew<G>,
     watcher: &mut V,
-) -> Result<Made, MappedError>
+) -> Result<Made, AnswerError>
     ensures ok { IfOk result (IsMade options.now circuit) }
     ensures err { IfErr result (IsMakingError options.now circuit) }
     ensures told { IfOk result (λ made. Tells V.was_told watcher.old watcher.new

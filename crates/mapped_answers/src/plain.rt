@@ -5,7 +5,7 @@ ghost use Rattle.mapped_answers.specs.Answering.{IsHeldStop, IsHeldWritten, IsMa
 ghost use Rattle.mapped_answers.specs.Holding.{IsUnwritten, WritesCircuit};
 ghost use Rattle.latch_marks.specs.Marks.{unmarked};
 
-use crate::errors::HeldError;
+use crate::errors::AnswerError;
 use crate::holding::{marked_over, retimed_by_marks};
 use crate::options::HeldOptions;
 use crate::writing::write_unmarked;
@@ -96,7 +96,7 @@ fn retime_places<W: CountedWrite, G: PhaseGate, V: FrameWatcher>(
     options: &HeldOptions,
     crew: &Crew<G>,
     watcher: &mut V,
-) -> Result<Retimed, HeldError>
+) -> Result<Retimed, AnswerError>
     requires { 0 < length options.now.places.items }
     ensures ok { IfOk result (IsHeldWritten options.now spelt (W.output writer.old)
         (W.output writer.new)) }
@@ -114,7 +114,7 @@ fn retime_places<W: CountedWrite, G: PhaseGate, V: FrameWatcher>(
             watcher,
         ) {
             Ok(retimed) => Ok(retimed),
-            Err(error) => Err(HeldError::Answer(error)),
+            Err(error) => Err(AnswerError::Bytes(error)),
         },
         Err(error) => Err(error),
     }
@@ -129,7 +129,7 @@ fn retime_names<W: CountedWrite, G: PhaseGate, V: FrameWatcher>(
     options: &Options,
     crew: &Crew<G>,
     watcher: &mut V,
-) -> Result<Retimed, HeldError>
+) -> Result<Retimed, AnswerError>
     ensures ok { IfOk result (IsWritten options.now spelt (W.output writer.old)
         (W.output writer.new)) }
     ensures err { IfErr result (IsNamedStop options.now spelt (W.output writer.old)
@@ -137,7 +137,7 @@ fn retime_names<W: CountedWrite, G: PhaseGate, V: FrameWatcher>(
 {
     match retime_spelt(rt, alloc, spelt, writer, options, crew, watcher) {
         Ok(retimed) => Ok(retimed),
-        Err(error) => Err(HeldError::Answer(error)),
+        Err(error) => Err(AnswerError::Bytes(error)),
     }
 }
 
@@ -156,7 +156,7 @@ pub fn retime_held<W: CountedWrite, G: PhaseGate, V: FrameWatcher>(
     options: &HeldOptions,
     crew: &Crew<G>,
     watcher: &mut V,
-) -> Result<Retimed, HeldError>
+) -> Result<Retimed, AnswerError>
     ensures ok { IfOk result (IsHeldWritten options.now spelt (W.output writer.old)
         (W.output writer.new)) }
     ensures err { IfErr result (IsHeldStop options.now spelt (W.output writer.old)

@@ -102,7 +102,7 @@ fn merged_after(
     }
 }
 
-/// The circuit cleaned, and its latches that always agree merged, as [`frame_start::merged_start`] does it, and the map with it. Its
+/// The circuit cleaned, and its latches that always agree merged, as [`latch_merging::merged_start`] does it, and the map with it. Its
 /// constraints are those of the cleaning, and then one for each latch that reads as another.
 ///
 /// # Errors

@@ -9,8 +9,8 @@ retime_places-requires-after_bounds g c κs within = some-places c.args.options.
 
 pub returns-then-is_empty-clause-ok : goal.returns-then-is_empty-clause-ok
 returns-then-is_empty-clause-ok g c =
-    IfOk-weaker c.retime_names.result _ _ (λ m is. named-mapped c.args.options.now c.args.spelt _ _ m (ap (λ (ps : List ℕ). nat_eq (length ps) 0) (sym c.as_slice.ensures.value) ∙ sym c.is_empty.ensures ∙ c.if-is_empty.true) is) c.retime_names.ensures.ok
+    IfOk-weaker c.retime_spelt_mapped.result _ _ (λ m is. named-mapped c.args.options.now c.args.spelt _ _ m (ap (λ (ps : List ℕ). nat_eq (length ps) 0) (sym c.as_slice.ensures.value) ∙ sym c.is_empty.ensures ∙ c.if-is_empty.true) is) c.retime_spelt_mapped.ensures.ok
 
 pub returns-then-is_empty-clause-err : goal.returns-then-is_empty-clause-err
 returns-then-is_empty-clause-err g c =
-    IfErr-weaker c.retime_names.result _ _ (λ e stop. named-map-stop c.args.options.now c.args.spelt _ _ e (ap (λ (ps : List ℕ). nat_eq (length ps) 0) (sym c.as_slice.ensures.value) ∙ sym c.is_empty.ensures ∙ c.if-is_empty.true) stop) c.retime_names.ensures.err
+    IfErr-weaker c.retime_spelt_mapped.result _ _ (λ e stop. named-map-stop c.args.options.now c.args.spelt _ _ e (ap (λ (ps : List ℕ). nat_eq (length ps) 0) (sym c.as_slice.ensures.value) ∙ sym c.is_empty.ensures ∙ c.if-is_empty.true) stop) c.retime_spelt_mapped.ensures.err

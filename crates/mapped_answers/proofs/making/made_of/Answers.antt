@@ -6,7 +6,7 @@ use Rattle.aig_graph.specs.declared.holding.KeepError.{KeepError}
 use Rattle.frames.specs.Stages.{Cleaning, looks_of}
 use Rattle.frames.proofs.StageLaws.{all-told}
 use Rattle.mapped_answers.specs.Mapping.{IsMakingError, IsMapError}
-use Rattle.mapped_answers.specs.declared.mapped.MappedError.{MappedError}
+use Rattle.mapped_answers.specs.declared.errors.AnswerError.{AnswerError}
 use Rattle.mapped_answers.proofs.MakingLaws.{unmapped, unnamed}
 use Rattle.mapped_answers.proofs.making.made_of.Goals as goal
 
@@ -34,5 +34,5 @@ returns-in-Err-clause-err g c =
     let options = c.args.options.now in
     let circuit = c.args.circuit.now in
     let P : ℕ → List (Vec ℕ) → Type 0 = λ place names. IsFirstMissing (names_of names) circuit place in
-    let Q : MappedError → Type 0 = λ e. IsMakingError options circuit e in
+    let Q : AnswerError → Type 0 = λ e. IsMakingError options circuit e in
     subst Q (sym c.unnamed.ensures) (unnamed options circuit c.in-Err.error (λ place is. subst (P place) c.as_slice.ensures.value (c.in-Err.ensures.missing place (ap (λ (x : KeepError). Err x) is))))
