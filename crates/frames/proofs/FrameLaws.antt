@@ -4,11 +4,13 @@ use Rattle.std.specs.Result.{IfOk}
 use Rattle.std.specs.List.{All}
 use Rattle.std.proofs.lemmas.List.FromFn.{length-range_with_len}
 use Rattle.aig_graph.specs.declared.literal.TheConstants.{MAX_VARIABLES}
+use Rattle.variable_tables.specs.declared.memory.NoMemory.{NoMemory}
 use Rattle.aig_graph.specs.Graph.{Graph, IsGraph, variables_end, free_latches}
 use Rattle.aig_graph.specs.Circuits.{Netlist, IsNetlist}
 use Rattle.aig_graph.specs.Closed.{IsClosedSet}
 use Rattle.aig_graph.specs.Keep.{held_in}
 use Rattle.aig_graph.specs.Laws.{all_free, composed}
+use Rattle.aig_graph.specs.Move.{move_of}
 use Rattle.aig_graph.specs.Streams.{SameStreams}
 use Rattle.aig_graph.proofs.StreamLaws.{same_streams-reflexive, same_streams-transitive}
 use Rattle.certificates.specs.declared.certificate.Certificate.{Certificate}
@@ -20,6 +22,7 @@ use Rattle.variable_tables.specs.Counting.{places}
 use Rattle.variable_tables.specs.Marking.{has}
 use Rattle.variable_tables.proofs.MemberLaws.{places-members}
 use Rattle.variable_tables.proofs.PlacesLaws.{length-places, count-bound}
+use Rattle.rebuild.specs.Moved.{moved_of}
 use Rattle.rebuild.proofs.MovedLaws.{members-below}
 use Rattle.retimed_circuits.specs.declared.report.Retimed.{Retimed}
 use Rattle.retimed_circuits.specs.Names.{held_latches}
@@ -29,11 +32,17 @@ use Rattle.retimed_circuits.proofs.RunLaws.{after-length}
 use Rattle.tidy.proofs.FrameLaws.{cleans-tidy, tidy-cleaned}
 use Rattle.frames.specs.declared.frame.Frame.{Frame}
 use Rattle.frames.specs.declared.options.Options.{Options}
-use Rattle.frames.specs.Found.{Moves}
+use Rattle.frames.specs.Found.{IsAfterMove, Moves}
 use Rattle.frames.specs.Named.{kept_by, names_in}
 use Rattle.frames.specs.Retiming.{IsCleanedBy, IsMovedBy, IsRetimedAsIs, IsTidyBy, Keeps}
 use Rattle.frames.specs.Underway.{IsUnderway, IsRun}
 use Rattle.frames.proofs.CertificateLaws.{certified}
+
+-- a moved circuit is the circuit after the move, with its streams
+pub after-moving : (c : Netlist) (held s : List ℕ) (r : Result Netlist NoMemory) → IfOk r (λ d. d ≡ moved_of (move_of c held s)) → IfOk r (λ d. SameStreams c d (all_free c.aig))
+    → IfOk r (IsAfterMove c held s)
+after-moving c held s (Ok d) value streams = record { value = value; streams = streams }
+after-moving c held s (Err e) value streams = tt
 
 -- a closed set has no more members than the graph has variables
 pub closed-length : (g : Graph) (held s : List ℕ) → IsGraph g → IsClosedSet g held s → length s ≤ MAX_VARIABLES

@@ -55,7 +55,7 @@ module _ (options : Options) (c : Netlist) where
   helps-over bound set None is over = none-helps bound options.choice (names_in options) c set is over
   helps-over bound set (Some h) is over = record {
     set = record { found = subst (IsFound bound options.choice (names_in options) c) (sym over.same) is; fewer = over.saves.fewer };
-    marks = over.marks;
+    prepared = over.prepared;
     report = over.report;
   }
 

@@ -11,7 +11,7 @@ use Rattle.frames.specs.declared.errors.BytesError.TheVariants.{Read, Retime, Wr
 use Rattle.frames.specs.declared.errors.RetimeError.{RetimeError}
 use Rattle.frames.specs.declared.errors.RetimeError.TheVariants.{NoMemory, NoSuchName}
 use Rattle.frames.specs.declared.options.Options.{Options}
-use Rattle.frames.specs.Answering.{AfterReading, AreOfCircuit, BeforeWriting, IsAnswered, IsBytesError, IsStop, RetimesBytes}
+use Rattle.frames.specs.Answering.{AfterReading, AreOfCircuit, BeforeWriting, IsAnswered, IsBytesError, IsStop, KeepsLevelsOf, RetimesBytes}
 use Rattle.frames.specs.Named.{IsFirstMissingBy}
 
 -- what is so of an error is so of the result that has it
@@ -59,11 +59,12 @@ module _ (options : Options) (old new : Input) (before after : Output) where
 
   -- what an answer and an error mean gives each clause of what retiming bytes ensures
   pub facts_of : (r : Result Retimed BytesError) → OnOk r (ReadsToEnd old new) → IfOk r (IsAnswered old before after options)
-      → IfErr r (IsBytesError options old new before after) → RetimesBytes options old new before after r
-  facts_of r read answer why = record {
+      → IfOk r (KeepsLevelsOf options old) → IfErr r (IsBytesError options old new before after) → RetimesBytes options old new before after r
+  facts_of r read answer levels why = record {
     read = read-of r read why;
     circuit = circuit-of r answer why;
     answer = answer;
+    levels = levels;
     unread = λ e is. (of_error r (Read e) (IsBytesError options old new before after) why is).0;
     missing = λ place is.
         let at = of_error r (Retime (NoSuchName place)) (IsBytesError options old new before after) why is in

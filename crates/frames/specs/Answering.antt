@@ -10,10 +10,12 @@ use Rattle.aig_binary.specs.declared.reading.SpeltCircuit.{SpeltCircuit}
 use Rattle.aig_binary.specs.Ending.{ReadsToEnd, Spells, IsReadError}
 use Rattle.retimed_circuits.specs.declared.report.Retimed.{Retimed}
 use Rattle.retimed_circuits.specs.Certified.{IsSameRetiming}
+use Rattle.level_laws.specs.Retiming.{KeepsLevels}
 use Rattle.frames.specs.declared.errors.BytesError.{BytesError}
 use Rattle.frames.specs.declared.errors.BytesError.TheVariants.{Read, Retime, Write}
 use Rattle.frames.specs.declared.errors.RetimeError.TheVariants.{NoMemory, NoSuchName}
 use Rattle.frames.specs.declared.options.Options.{Options}
+use Rattle.frames.specs.Bounds.{bound_in}
 use Rattle.frames.specs.Named.{IsFirstMissingBy, NoneMissingBy}
 use Rattle.frames.specs.Retiming.{IsRetimedBy}
 
@@ -25,6 +27,12 @@ text_for options spelt r = text_in (unwrap_or options.spelling spelt.spelling) r
 pub record IsAnswer (options : Options) (spelt : SpeltCircuit) (r : Retimed) : Type 0 where
   pub names : NoneMissingBy options spelt.circuit
   pub retimed : IsRetimedBy options spelt.circuit r
+
+-- the bytes that were left are those of a circuit, and r has no path longer than the options' bound for it, but for those that it has
+pub record KeepsLevelsOf (options : Options) (input : Input) (r : Retimed) : Type 0 where
+  pub spelt : SpeltCircuit
+  pub spells : Spells input spelt
+  pub levels : KeepsLevels (bound_in options spelt.circuit) spelt.circuit r.circuit
 
 -- the text of a retimed circuit is read as that circuit
 abbrev pub ReadsBack : Options → SpeltCircuit → Retimed → Type 0
@@ -115,6 +123,7 @@ pub record RetimesBytes (options : Options) (old new : Input) (before after : Ou
   pub read : AfterReading result (ReadsToEnd old new)
   pub circuit : AfterReading result (AreOfCircuit old)
   pub answer : IfOk result (IsAnswered old before after options)
+  pub levels : IfOk result (KeepsLevelsOf options old)
   pub unread : (e : ReadError) → IsErrOf result (Read e) → IsReadError old new e
   pub missing : (place : ℕ) → IsErrOf result (Retime (NoSuchName place)) → IsMissingIn options old place
   pub unwritten : BeforeWriting result (after ≡ before)

@@ -1,26 +1,29 @@
 -- What is found in a circuit before a frame.
-use Rattle.std.specs.Prelude.{ℕ, ◌≡◌, ◌<◌, ◌≤◌, ⊤, List, length, Option, Some, None, MatchOption}
+use Rattle.std.specs.Prelude.{ℕ, ◌≡◌, ◌<◌, ◌≤◌, ⊤, List, length, Option, Some, None, IfSome, MatchOption}
 use Rattle.aig_graph.specs.Border.{border_size}
 use Rattle.aig_graph.specs.Chosen.{IsChosen}
 use Rattle.aig_graph.specs.Circuits.{Netlist}
 use Rattle.aig_graph.specs.Closed.{IsClosedSet}
 use Rattle.aig_graph.specs.Graph.{known_latches}
+use Rattle.aig_graph.specs.Laws.{all_free}
 use Rattle.aig_graph.specs.Move.{move_of}
+use Rattle.aig_graph.specs.Streams.{SameStreams}
 use Rattle.aig_graph.specs.declared.choice.Choice.{Choice}
 use Rattle.chosen_cuts.specs.Certified.{AddsOne}
 use Rattle.chosen_cuts.specs.declared.records.Records.{Records}
 use Rattle.path_levels.specs.Levels.{levels}
 use Rattle.rebuild.specs.Marked.{AreMarksOf}
 use Rattle.rebuild.specs.Moved.{moved_of}
-use Rattle.retimed_circuits.specs.Frames.{CleansIn, IsFrame, move_in, moved_in, report_in}
+use Rattle.retimed_circuits.specs.Frames.{CleansIn, IsFrame, moved_in, report_in}
 use Rattle.retimed_circuits.specs.declared.report.FrameReport.{FrameReport}
 use Rattle.frames.specs.declared.helping.Helping.{Helping}
+use Rattle.frames.specs.declared.helping.PreparedMove.{PreparedMove}
 use Rattle.frames.specs.declared.bounding.Judged.{Judged}
 use Rattle.frames.specs.declared.bounding.Judged.TheVariants.{Decided, TooLong}
 use Rattle.frames.specs.declared.frame.Frame.{Frame}
 use Rattle.frames.specs.declared.options.Options.{Options}
 use Rattle.frames.specs.Certified.{AddsFound}
-use Rattle.frames.specs.Named.{names_in}
+use Rattle.frames.specs.Named.{kept_by, names_in}
 use Rattle.frames.specs.Retiming.{IsHelpingSetBy, Keeps, NoneHelpsBy}
 
 -- a closed set that counts less than c has known latches
@@ -32,11 +35,21 @@ pub record Saves (c : Netlist) (held s : List ℕ) : Type 0 where
 abbrev pub report_over : Netlist → List ℕ → List ℕ → FrameReport
 report_over c held s = record { before = known_latches c.aig; after = border_size (move_of c held s); moved = length s }
 
--- it is over this set, which saves latches, with the marks of its move, and its report
+-- d is c after the move over the set
+pub record IsAfterMove (c : Netlist) (held s : List ℕ) (d : Netlist) : Type 0 where
+  pub value : d ≡ moved_of (move_of c held s)
+  pub streams : SameStreams c d (all_free c.aig)
+
+-- it has the marks of the move over the set, and, where the circuit after it was made, that
+pub record IsPrepared (c : Netlist) (held s : List ℕ) (prepared : PreparedMove) : Type 0 where
+  pub marks : AreMarksOf (move_of c held s) prepared.marks
+  pub after : IfSome prepared.after (IsAfterMove c held s)
+
+-- it is over this set, which saves latches, with the move over it, and its report
 pub record IsOver (c : Netlist) (held s : List ℕ) (found : Helping) : Type 0 where
   pub same : found.set ≡ s
   pub saves : Saves c held found.set
-  pub marks : AreMarksOf (move_of c held found.set) found.marks
+  pub prepared : IsPrepared c held found.set found.prepared
   pub report : found.report ≡ report_over c held found.set
 
 -- what is found over a set: nothing where it counts no less than c has known latches
@@ -65,15 +78,15 @@ abbrev pub BreaksBound : ℕ → Netlist → List ℕ → Option Helping → Typ
 BreaksBound bound c held None = ⊥
 BreaksBound bound c held (Some found) = bound < levels_over c held found.set
 
--- what becomes of what is found by the first look
-abbrev pub IsJudged : Option ℕ → Netlist → List ℕ → Option Helping → Judged → Type 0
-IsJudged bound c held first (Decided found) = (found ≡ first) × KeepsBound bound c held first
-IsJudged bound c held first (TooLong most) = (bound ≡ Some most) × BreaksBound most c held first
+-- what becomes of what is found over the set by the first look
+abbrev pub IsJudged : Option ℕ → Netlist → List ℕ → List ℕ → Option Helping → Judged → Type 0
+IsJudged bound c held s first (Decided found) = IsFoundOver c held s found × KeepsBound bound c held found
+IsJudged bound c held s first (TooLong most) = (bound ≡ Some most) × BreaksBound most c held first
 
--- the set that is found, which counts less than the known latches, the marks of its move, and the frame's report
+-- the set that is found, which counts less than the known latches, the move over it, and the frame's report
 pub record Helps (options : Options) (bound : Option ℕ) (c : Netlist) (found : Helping) : Type 0 where
   pub set : IsHelpingSetBy options bound c found.set
-  pub marks : AreMarksOf (move_in (names_in options) c found.set) found.marks
+  pub prepared : IsPrepared c (kept_by options c) found.set found.prepared
   pub report : found.report ≡ report_in (names_in options) c found.set
 
 -- what is found in c, if anything helps; a certificate of the set is added where certificates are wanted

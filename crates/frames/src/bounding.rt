@@ -1,11 +1,12 @@
 //! A frame under a bound. Where the chosen least set makes a path longer than that, the chosen one of those sets is looked for whose gates
 //! arrive within the bound. They are the closed sets of a bounded circuit, so what finds sets and certifies them serves as it is.
-ghost use Rattle.std.specs.Prelude.{◌≡◌, Some, IfOk, IfSome};
+ghost use Rattle.std.specs.Prelude.{ℕ, ◌≡◌, List, Some, IfOk, IfSome};
 ghost use Rattle.aig_graph.specs.Chosen.{IsChosen};
+ghost use Rattle.aig_graph.specs.Circuits.{Netlist};
 ghost use Rattle.chosen_cuts.specs.Certified.{AddsOne};
-ghost use Rattle.frames.specs.Found.{IsJudged, Saves, levels_over};
+ghost use Rattle.frames.specs.Found.{IsAfterMove, IsFoundOver, IsJudged, IsOver, Saves};
 
-use crate::helping::Helping;
+use crate::helping::{Helping, PreparedMove};
 use aig_graph::{Choice, Circuit, ClosedSet, Keep, NoMemory};
 use chosen_cuts::{Records, chosen_least_along};
 use path_levels::levels;
@@ -23,21 +24,64 @@ pub(crate) enum Judged {
     TooLong(u32),
 }
 
-/// How many levels the circuit has after its latches moved over the set. They are counted in the moved circuit itself.
-fn levels_after(
+/// What helps, with the circuit after its move, which is kept.
+fn with_after(found: Helping, after: Circuit) -> Helping
+    ensures { (c : Netlist) (held s : List ℕ) → IsOver c held s found
+        → IsAfterMove c held found.set after → IsOver c held s result }
+{
+    let Helping {
+        set,
+        prepared,
+        report,
+    } = found;
+    let PreparedMove { marks, .. } = prepared;
+    Helping {
+        set,
+        prepared: PreparedMove {
+            marks,
+            after: Some(after),
+        },
+        report,
+    }
+}
+
+/// What helps, with the circuit after its move, unless that has more levels than the bound.
+fn judged_after(
+    alloc: Global,
+    found: Helping,
+    after: Circuit,
+    most: u32,
+) -> Result<Judged, NoMemory>
+    ensures { IfOk result (λ judged. (c : Netlist) (held s : List ℕ) → IsOver c held s found
+        → IsAfterMove c held found.set after → IsJudged (Some most) c held s (Some found) judged) }
+{
+    match levels(alloc, &after) {
+        Ok(high) if high <= most => Ok(Judged::Decided(Some(with_after(found, after)))),
+        Ok(_) => {
+            drop(after);
+            drop(found);
+            Ok(Judged::TooLong(most))
+        }
+        Err(error) => {
+            drop(after);
+            drop(found);
+            Err(error)
+        }
+    }
+}
+
+/// The circuit after the latches moved over the set.
+fn moved_circuit(
     alloc: Global,
     circuit: &Circuit,
     keep: &Keep,
     set: &ClosedSet,
-) -> Result<u32, NoMemory>
+) -> Result<Circuit, NoMemory>
     requires { Saves circuit.now keep.now set.now }
-    ensures { IfOk result (λ high. high ≡ levels_over circuit.now keep.now set.now) }
+    ensures { IfOk result (IsAfterMove circuit.now keep.now set.now) }
 {
     circuit.known();
-    let after = moved(alloc, circuit, set, keep)?;
-    let high = levels(alloc, &after);
-    drop(after);
-    high
+    moved(alloc, circuit, set, keep)
 }
 
 /// What helps, unless it makes a path longer than the bound.
@@ -49,14 +93,11 @@ fn fitted(
     most: u32,
 ) -> Result<Judged, NoMemory>
     requires { Saves circuit.now keep.now found.set }
-    ensures { IfOk result (IsJudged (Some most) circuit.now keep.now (Some found)) }
+    ensures { IfOk result (λ judged. (s : List ℕ) → IsOver circuit.now keep.now s found
+        → IsJudged (Some most) circuit.now keep.now s (Some found) judged) }
 {
-    match levels_after(alloc, circuit, keep, &found.set) {
-        Ok(high) if high <= most => Ok(Judged::Decided(Some(found))),
-        Ok(_) => {
-            drop(found);
-            Ok(Judged::TooLong(most))
-        }
+    match moved_circuit(alloc, circuit, keep, &found.set) {
+        Ok(after) => judged_after(alloc, found, after, most),
         Err(error) => {
             drop(found);
             Err(error)
@@ -73,7 +114,8 @@ pub(crate) fn judge(
     bound: Option<u32>,
 ) -> Result<Judged, NoMemory>
     requires { IfSome first (λ found. Saves circuit.now keep.now found.set) }
-    ensures { IfOk result (IsJudged bound circuit.now keep.now first) }
+    ensures { IfOk result (λ judged. (s : List ℕ) → IsFoundOver circuit.now keep.now s first
+        → IsJudged bound circuit.now keep.now s first judged) }
 {
     let Some(most) = bound else {
         return Ok(Judged::Decided(first));

@@ -5,8 +5,10 @@ ghost use Rattle.counted_io.specs.Output.{Writes};
 ghost use Rattle.aig_graph.specs.Circuits.{IsNetlist};
 ghost use Rattle.aig_graph.specs.Graph.{IsGraph};
 ghost use Rattle.aig_binary.specs.Spellings.{text_in};
-ghost use Rattle.frames.specs.Answering.{AfterReading, AreOfCircuit, BeforeWriting, IsAnswered, IsCutOff, IsMissingIn, IsStop, IsWritten, RetimesBytes};
+ghost use Rattle.frames.specs.Answering.{AfterReading, AreOfCircuit, BeforeWriting, IsAnswered, IsCutOff, IsMissingIn, IsStop, IsWritten, KeepsLevelsOf, RetimesBytes};
+ghost use Rattle.frames.specs.Bounds.{bound_in};
 ghost use Rattle.frames.specs.Stages.{Tells, Writing, stages_of};
+ghost use Rattle.level_laws.specs.Retiming.{KeepsLevels};
 ghost use Rattle.frames.specs.declared.errors.RetimeError.TheVariants.{NoSuchName};
 
 use crate::errors::BytesError;
@@ -61,6 +63,8 @@ pub fn retime_spelt<W: CountedWrite, G: PhaseGate, V: FrameWatcher>(
 ) -> Result<Retimed, BytesError>
     ensures ok { IfOk result (IsWritten options.now spelt (W.output writer.old)
         (W.output writer.new)) }
+    ensures levels { IfOk result (λ r. KeepsLevels (bound_in options.now spelt.circuit)
+        spelt.circuit r.circuit) }
     ensures err { IfErr result (IsStop options.now spelt (W.output writer.old)
         (W.output writer.new)) }
     ensures told { IfOk result (λ r. Tells V.was_told watcher.old watcher.new
@@ -104,6 +108,7 @@ pub fn retime_bytes<R: CountedRead, W: CountedWrite, G: PhaseGate>(
     ensures circuit { AfterReading result (AreOfCircuit (R.input reader.old)) }
     ensures answer { IfOk result (IsAnswered (R.input reader.old) (W.output writer.old)
         (W.output writer.new) options.now) }
+    ensures levels { IfOk result (KeepsLevelsOf options.now (R.input reader.old)) }
     ensures unread { (e : ReadError) → IsErrOf result (BytesError.Read e)
         → IsReadError (R.input reader.old) (R.input reader.new) e }
     ensures missing { (place : ℕ) → IsErrOf result (BytesError.Retime (NoSuchName place))

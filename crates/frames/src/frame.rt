@@ -1,16 +1,14 @@
 //! One frame: the latches of a cleaned circuit move over the set that is found, and the circuit is cleaned again.
 ghost use Rattle.std.specs.Prelude.{◌≡◌, [], ◌∷◌, IfOk, OnOk, MatchOption};
-ghost use Rattle.aig_graph.specs.Move.{move_of};
-ghost use Rattle.rebuild.specs.Marked.{AreMarksOf};
 ghost use Rattle.frames.specs.Certified.{AddsFound};
 ghost use Rattle.frames.specs.Following.{HasComeTo, IsMovedFollowed, MovesFollowed};
-ghost use Rattle.frames.specs.Found.{Saves};
+ghost use Rattle.frames.specs.Found.{IsAfterMove, IsPrepared, Saves};
 ghost use Rattle.frames.specs.Named.{NoneMissingBy, kept_by};
 ghost use Rattle.frames.specs.Retiming.{IsTidyBy, NoneHelpsBy};
 ghost use Rattle.frames.specs.Stages.{Moving, Tells};
 
 use crate::follower::RunFollower;
-use crate::helping::helping_set;
+use crate::helping::{PreparedMove, helping_set};
 use crate::options::Options;
 use crate::run::Run;
 use crate::settling::settled;
@@ -20,7 +18,7 @@ use chosen_cuts::Records;
 use clean::Cleaned;
 use cut_cert::{GateFlow, after_cleaning, after_move};
 use pulse::{Crew, PhaseGate};
-use rebuild::{MoveMarks, moved_by};
+use rebuild::moved_by;
 use retimed_circuits::FrameReport;
 use std::alloc::Global;
 use std::thread::Threads;
@@ -36,6 +34,29 @@ pub(crate) struct Frame {
     pub set: ClosedSet,
 }
 
+/// The circuit after a move over the set, which is made here, unless it was made before.
+fn finished_move(
+    alloc: Global,
+    circuit: &Circuit,
+    keep: &Keep,
+    set: &ClosedSet,
+    prepared: PreparedMove,
+) -> Result<Circuit, NoMemory>
+    requires saves { Saves circuit.now keep.now set.now }
+    requires prepared { IsPrepared circuit.now keep.now set.now prepared }
+    ensures { IfOk result (IsAfterMove circuit.now keep.now set.now) }
+{
+    circuit.known();
+    let PreparedMove { marks, after } = prepared;
+    match after {
+        Some(after) => {
+            drop(marks);
+            Ok(after)
+        }
+        None => moved_by(alloc, circuit, set, keep, marks),
+    }
+}
+
 /// The circuit with its latches moved over the set, cleaned, which is followed.
 fn moved_over<F: RunFollower>(
     alloc: Global,
@@ -43,7 +64,7 @@ fn moved_over<F: RunFollower>(
     circuit: &Circuit,
     keep: &Keep,
     set: &ClosedSet,
-    marks: MoveMarks,
+    prepared: PreparedMove,
     options: &Options,
 ) -> Result<Cleaned, F::Stop>
     requires there { HasComeTo F.has_come follower.old circuit.now }
@@ -51,14 +72,14 @@ fn moved_over<F: RunFollower>(
     requires names { NoneMissingBy options.now circuit.now }
     requires tidy { IsTidyBy options.now circuit.now }
     requires saves { Saves circuit.now keep.now set.now }
-    requires marked { AreMarksOf (move_of circuit.now keep.now set.now) marks }
+    requires prepared { IsPrepared circuit.now keep.now set.now prepared }
     ensures { IfOk result (IsMovedFollowed F.has_come options.now circuit.now set.now follower.old
         follower.new) }
 {
     circuit.known();
     let copies = set.vars().len();
-    follower.see_move(circuit, set, keep, &marks)?;
-    let after = moved_by(alloc, circuit, set, keep, marks)?;
+    follower.see_move(circuit, set, keep, &prepared.marks)?;
+    let after = finished_move(alloc, circuit, keep, set, prepared)?;
     settled(alloc, follower, after, copies, options)
 }
 
@@ -112,10 +133,10 @@ pub(crate) fn next_frame<F: RunFollower, G: PhaseGate, V: FrameWatcher>(
         Some(found) => {
             watcher.enter(Stage::Moving);
             let circuit = &run.retimed.circuit;
-            let marks = found.marks;
+            let prepared = found.prepared;
             let set = &found.set;
             let follower = &mut run.follower;
-            let cleaned = moved_over(alloc, follower, circuit, &keep, set, marks, options)?;
+            let cleaned = moved_over(alloc, follower, circuit, &keep, set, prepared, options)?;
             let kept_gates = cleaned.kept_gates.as_slice();
             records.flows = carried(alloc, circuit, set, kept_gates, records.flows.as_slice())?;
             Ok(Some(Frame {

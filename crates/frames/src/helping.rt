@@ -16,13 +16,22 @@ use retimed_circuits::FrameReport;
 use std::alloc::Global;
 use std::thread::Threads;
 
-/// A closed set over which a circuit has fewer latches, the marks of its move, and what its frame is reported as.
+/// A move that is about to be made.
+#[derive(Drop)]
+pub(crate) struct PreparedMove {
+    /// Its marks.
+    pub marks: MoveMarks,
+    /// The circuit after it, where that was made to count its levels.
+    pub after: Option<Circuit>,
+}
+
+/// A closed set over which a circuit has fewer latches, the move over it, and what its frame is reported as.
 #[derive(Drop)]
 pub(crate) struct Helping {
     /// The set.
     pub set: ClosedSet,
-    /// The marks of a move over it.
-    pub marks: MoveMarks,
+    /// The move over it.
+    pub prepared: PreparedMove,
     /// What the frame over it is reported as.
     pub report: FrameReport,
 }
@@ -45,7 +54,11 @@ fn helping_over(
         moved: set.vars().len() as u32,
     };
     if report.after < report.before {
-        Ok(Some(Helping { set, marks, report }))
+        Ok(Some(Helping {
+            set,
+            prepared: PreparedMove { marks, after: None },
+            report,
+        }))
     } else {
         Ok(None)
     }

@@ -20,3 +20,6 @@ returns-clause-unwritten g c = c.retime_bytes_watched.ensures.retimes.unwritten
 
 pub returns-clause-cut_off : goal.returns-clause-cut_off
 returns-clause-cut_off g c = c.retime_bytes_watched.ensures.retimes.cut_off
+
+pub returns-clause-levels : goal.returns-clause-levels
+returns-clause-levels g c = c.retime_bytes_watched.ensures.retimes.levels

@@ -3,7 +3,9 @@ use Rattle.aig_binary.proofs.LimitLaws.{reads-within}
 use Rattle.std.proofs.lemmas.Result.{IfErr-weaker, IfOk-from_err, IfOk-weaker}
 use Rattle.aig_binary.specs.Ending.{ReadsToEnd}
 use Rattle.frames.specs.declared.errors.BytesError.TheVariants.{Read}
-use Rattle.frames.specs.Answering.{IsAnswered, IsBytesError, IsStop, IsWritten}
+use Rattle.level_laws.specs.Retiming.{KeepsLevels}
+use Rattle.frames.specs.Answering.{IsAnswered, IsBytesError, IsStop, IsWritten, KeepsLevelsOf}
+use Rattle.frames.specs.Bounds.{bound_in}
 use Rattle.frames.proofs.StopLaws.{at-error, facts_of, stops-answering}
 use Rattle.frames.proofs.bytes.retime_bytes_watched.Goals as goal
 
@@ -15,6 +17,7 @@ returns-in_err-spelt-clause-retimes g c =
     let out = g.W.CountedWrite.output c.args.writer.now in
     let result = c.from_residual.result in
     facts_of options old new out out result
+    (IfOk-from_err result _ c.from_residual.ensures.0)
     (IfOk-from_err result _ c.from_residual.ensures.0)
     (IfOk-from_err result _ c.from_residual.ensures.0)
     (at-error result (Read c.in_err-spelt.field-0.0) (IsBytesError options old new out out) c.from_residual.ensures.1 (c.in_err-spelt.ensures.err, refl))
@@ -35,6 +38,8 @@ returns-clause-retimes g c =
     (IfOk-weaker answer.result (IsWritten options spelt before after) (IsAnswered old before after options)
     (λ r written. record { spelt = spelt; read = read; written = written; reads_back = λ left known. written.reads_back (reads-within left spelt.circuit (read.circuit.bytes left known)) })
     answer.ensures.ok)
+    (IfOk-weaker answer.result (λ r. KeepsLevels (bound_in options spelt.circuit) spelt.circuit r.circuit) (KeepsLevelsOf options old)
+    (λ r levels. record { spelt = spelt; spells = read; levels = levels }) answer.ensures.levels)
     (IfErr-weaker answer.result (IsStop options spelt before after) (IsBytesError options old new before after)
     (λ e stop. stops-answering options old new before after spelt e c.in_ok-spelt.ensures.read read stop) answer.ensures.err)
 

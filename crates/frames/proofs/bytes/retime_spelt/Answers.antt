@@ -27,6 +27,12 @@ returns-in-Ok-clause-ok g c =
           (stays-within options.merge (bound_in options spelt.circuit) options.choice spelt.circuit (names_in options) options.max_frames options.certify r retimed within);
     }
 
+pub returns-in-Ok-clause-levels : goal.returns-in-Ok-clause-levels
+returns-in-Ok-clause-levels g c = c.in_ok-retimed.ensures.levels
+
+pub returns-in_err-retimed-clause-levels : goal.returns-in_err-retimed-clause-levels
+returns-in_err-retimed-clause-levels g c = IfOk-from_err c.from_residual.result _ c.from_residual.ensures.0
+
 pub returns-in_err-retimed-clause-ok : goal.returns-in_err-retimed-clause-ok
 returns-in_err-retimed-clause-ok g c = IfOk-from_err c.from_residual.result _ c.from_residual.ensures.0
 

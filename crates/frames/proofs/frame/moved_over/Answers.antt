@@ -17,12 +17,6 @@ use Rattle.frames.specs.Retiming.{IsTidyBy}
 use Rattle.frames.proofs.FollowingLaws.{moved-followed}
 use Rattle.frames.proofs.frame.moved_over.Goals as goal
 
-pub moved_by-requires-clause-room : goal.moved_by-requires-clause-room
-moved_by-requires-clause-room g c =
-    let before = c.args.circuit.now in
-    let set = c.args.set.now in
-    room before.aig (border_size (move_of before c.args.keep.now set)) c.known.ensures.graph (omega (arith, c.requires.saves.fewer))
-
 pub settled-requires-clause-names : goal.settled-requires-clause-names
 settled-requires-clause-names g c =
     let options = c.args.options.now in
@@ -64,7 +58,7 @@ see_move-requires-clause-closed g c =
     c.requires.saves.closed
 
 pub see_move-requires-clause-marked : goal.see_move-requires-clause-marked
-see_move-requires-clause-marked g c = c.requires.marked
+see_move-requires-clause-marked g c = c.requires.prepared.marks
 
 pub settled-requires-clause-there : goal.settled-requires-clause-there
 settled-requires-clause-there g c =
@@ -73,12 +67,11 @@ settled-requires-clause-there g c =
     let whole = subst P (sym c.in_ok-after.ensures.value) c.in_ok-see_move.ensures in
     (start.0, start.1, whole start.0 start.1 start.2)
 
-pub moved_by-requires-clause-closed : goal.moved_by-requires-clause-closed
-moved_by-requires-clause-closed g c =
-    c.requires.saves.closed
+pub finished_move-requires-clause-saves : goal.finished_move-requires-clause-saves
+finished_move-requires-clause-saves g c = c.requires.saves
 
-pub moved_by-requires-clause-marked : goal.moved_by-requires-clause-marked
-moved_by-requires-clause-marked g c = c.requires.marked
+pub finished_move-requires-clause-prepared : goal.finished_move-requires-clause-prepared
+finished_move-requires-clause-prepared g c = c.requires.prepared
 
 pub returns-in_err-see_move : goal.returns-in_err-see_move
 returns-in_err-see_move g c = IfOk-from_err c.from_residual.result _ c.from_residual.ensures.0

@@ -2,10 +2,8 @@ use Rattle.std.proofs.Common.{List, Option, ◌∙◌, ap, refl, subst, sym, ℕ
 use Rattle.std.specs.Option.{MatchOption}
 use Rattle.std.proofs.lemmas.Result.{IfOk-from_err}
 use Rattle.aig_graph.specs.Keep.{NoneMissing, held_in, names_of}
-use Rattle.aig_graph.specs.Move.{move_of}
-use Rattle.rebuild.specs.Marked.{AreMarksOf}
 use Rattle.frames.specs.declared.helping.Helping.{Helping}
-use Rattle.frames.specs.Found.{Helps, Saves}
+use Rattle.frames.specs.Found.{Helps, IsPrepared, Saves}
 use Rattle.frames.specs.Retiming.{NoneHelpsBy}
 use Rattle.frames.proofs.LookLaws.{helps-saves}
 use Rattle.frames.proofs.StageLaws.{tells-nothing}
@@ -98,14 +96,14 @@ returns-in-Some-clause-certificate g c =
     let found = c.in_ok-found.ensures.adds in
     record { certify = found.certify; added = found.added; none = found.none }
 
-pub moved_over-requires-clause-marked : goal.moved_over-requires-clause-marked
-moved_over-requires-clause-marked g c =
+pub moved_over-requires-clause-prepared : goal.moved_over-requires-clause-prepared
+moved_over-requires-clause-prepared g c =
     let options = c.args.options.now in
     let before = c.args.run.now.retimed.circuit in
     let P : Option Helping → Type 0 = λ found. MatchOption found (NoneHelpsBy options c.args.run.now.bound before) (Helps options c.args.run.now.bound before) in
     let helps : Helps options c.args.run.now.bound before c.in-Some.found = subst P c.in-Some.is c.in_ok-found.ensures.found in
     let kept = c.in_ok-keep.ensures ∙ ap (λ names. held_in (names_of names) before) c.as_slice.ensures.value in
-    subst (λ (held : List ℕ). AreMarksOf (move_of before held c.in-Some.found.set) c.in-Some.found.marks) (sym kept) helps.marks
+    subst (λ (held : List ℕ). IsPrepared before held c.in-Some.found.set c.in-Some.found.prepared) (sym kept) helps.prepared
 
 pub returns-clause-told : goal.returns-clause-told
 returns-clause-told g c = tells-nothing g.V.FrameWatcher.was_told c.args.watcher.now

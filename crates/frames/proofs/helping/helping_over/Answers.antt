@@ -24,7 +24,7 @@ returns-then-report c =
     record {
       same = refl;
       saves = record { closed = c.requires; fewer = omega (arith, known, counted, c.if-report.true) };
-      marks = c.in_ok-marks.ensures;
+      prepared = record { marks = c.in_ok-marks.ensures; after = tt };
       report = λ i. record { before = known i; after = counted i; moved = long i };
     }
 

@@ -34,11 +34,16 @@ returns-in-Decided g c =
     let bound = c.args.run.now.bound in
     let first = c.in_ok-first.first in
     let held = c.args.keep.now in
-    let J : Judged → Type 0 = λ it. IsJudged bound before held first it in
-    let stays = subst J c.in-Decided.is c.in_ok-found.ensures in
-    let L : List ℕ → Type 0 = λ js. IsLook options.choice before before js c.args.records.now c.least_helping.new.records first × KeepsBound bound before js first in
-    let both = subst L c.requires (c.in_ok-first.ensures, stays.1) in
-    subst (Finds options bound before c.args.records.now c.least_helping.new.records) (sym stays.0) (finds-first options before bound c.args.records.now c.least_helping.new.records first both.0 both.1)
+    let look = c.in_ok-first.ensures in
+    let found = c.in-Decided.found in
+    let old = c.args.records.now in
+    let new = c.least_helping.new.records in
+    let J : Judged → Type 0 = λ it. IsJudged bound before held look.set first it in
+    let stays = subst J c.in-Decided.is (c.in_ok-found.ensures look.set look.over) in
+    let again : IsLook options.choice before before held old new found = record { set = look.set; chosen = look.chosen; adds = look.adds; over = stays.0 } in
+    let L : List ℕ → Type 0 = λ js. IsLook options.choice before before js old new found × KeepsBound bound before js found in
+    let both = subst L c.requires (again, stays.1) in
+    finds-first options before bound old new found both.0 both.1
 
 pub returns-in_ok-set-in-TooLong : goal.returns-in_ok-set-in-TooLong
 returns-in_ok-set-in-TooLong g c =
@@ -53,8 +58,9 @@ returns-in_ok-set-in-TooLong g c =
     let mid = c.least_helping.new.records in
     let less = c.forget_last.new.self in
     let new = c.chosen_over.new.records in
-    let J : Judged → Type 0 = λ it. IsJudged bound before held first it in
-    let breaks = subst J c.in-TooLong.is c.in_ok-found.ensures in
+    let look = c.in_ok-first.ensures in
+    let J : Judged → Type 0 = λ it. IsJudged bound before held look.set first it in
+    let breaks = subst J c.in-TooLong.is (c.in_ok-found.ensures look.set look.over) in
     let law : BoundedLaw most held before = bounded-law most held before c.known.ensures.graph c.known.ensures.netlist in
     let D : Netlist → Type 0 = λ d. IsChosen options.choice d held set × AddsOne d held less new set in
     let narrowed = subst D c.in_ok-narrowed-in-TooLong.ensures (c.in_ok-set-in-TooLong.ensures.set, c.in_ok-set-in-TooLong.ensures.certificate) in

@@ -1,11 +1,9 @@
-use Rattle.std.proofs.Common.{◌≡◌, ◌∙◌, ap, arith}
-use Rattle.std.proofs.lemmas.Result.{IfOk-weaker}
+use Rattle.std.proofs.Common.{arith}
 use Rattle.aig_graph.specs.Border.{border_size}
 use Rattle.aig_graph.specs.Move.{move_of}
 use Rattle.aig_graph.proofs.GraphLaws.{room}
-use Rattle.path_levels.specs.Levels.{levels}
-use Rattle.frames.specs.Found.{levels_over}
-use Rattle.frames.proofs.bounding.levels_after.Goals as goal
+use Rattle.frames.proofs.FrameLaws.{after-moving}
+use Rattle.frames.proofs.bounding.moved_circuit.Goals as goal
 
 pub moved-requires-clause-closed : goal.moved-requires-clause-closed
 moved-requires-clause-closed c = c.requires.closed
@@ -16,5 +14,4 @@ moved-requires-clause-room c =
     room before.aig (border_size (move_of before c.args.keep.now c.args.set.now)) c.known.ensures.graph (omega (arith, c.requires.fewer))
 
 pub returns : goal.returns
-returns c =
-    IfOk-weaker c.levels-high.result _ (λ high. high ≡ levels_over c.args.circuit.now c.args.keep.now c.args.set.now) (λ high same. same ∙ ap levels c.in_ok-after.ensures.value) c.levels-high.ensures
+returns c = after-moving c.args.circuit.now c.args.keep.now c.args.set.now c.moved.result c.moved.ensures.value c.moved.ensures.streams
