@@ -17,6 +17,7 @@ use Rattle.frames.specs.declared.bound.PathBound.TheVariants as bounds
 use Rattle.command_line.specs.declared.task.Shown.{Shown}
 use Rattle.command_line.specs.declared.task.Shown.TheVariants.{OnTerminal, EachFrame, Nothing}
 use Rattle.command_line.specs.declared.task.Retiming.{Retiming}
+use Rattle.command_line.specs.declared.task.Moving.{Moving}
 use Rattle.command_line.specs.declared.task.Batch.{Batch as Batching}
 use Rattle.command_line.specs.declared.task.Verification.{Verification}
 use Rattle.command_line.specs.declared.task.Sequences.{Sequences}
@@ -31,7 +32,7 @@ use Rattle.command_line.specs.declared.task.Checking.{Checking}
 use Rattle.command_line.specs.declared.task.Asking.{Asking}
 use Rattle.command_line.specs.declared.task.Lifting.{Lifting}
 use Rattle.command_line.specs.declared.task.Task.{Task}
-use Rattle.command_line.specs.declared.task.Task.TheVariants.{Retime, Batch, Stat, Convert, Sim, Same, Verify, Check, Miter, Lift, Dot, Witness, Explain}
+use Rattle.command_line.specs.declared.task.Task.TheVariants.{Retime, Backward, Batch, Stat, Convert, Sim, Same, Verify, Check, Miter, Product, Lift, Dot, Witness, Explain}
 
 -- the text is the first value of the argument with this id
 abbrev pub IsGiven : ArgMatches → List ℕ → Bor (List ℕ) → Type 0
@@ -129,6 +130,18 @@ pub record IsRetiming (matches : ArgMatches) (retiming : Retiming) : Type 0 wher
   pub merge : IsFlag matches (codes "merge") retiming.merge
   pub json : IsFlag matches (codes "json") retiming.json
 
+-- the paths, the options and the names of a move backward are the values of their own arguments
+pub record IsMoving (matches : ArgMatches) (moving : Moving) : Type 0 where
+  pub input : IsSource matches (codes "IN") moving.input
+  pub output : IsTarget matches (codes "OUT") moving.output
+  pub spelling : IsSpelling matches moving.spelling
+  pub frames : IsNumber matches (codes "frames") (2 ^ 28) moving.frames
+  pub bound : IsBound matches moving.bound
+  pub mapping : IsSomeTarget matches (codes "map") moving.map
+  pub names : map (λ name. name.now) moving.keep.items ≡ values_of matches (codes "keep")
+  pub places : moving.keep_latches.items ≡ map number_of (values_of matches (codes "keep-latch"))
+  pub json : IsFlag matches (codes "json") moving.json
+
 -- the list and the options of a batch are the values of their own arguments
 pub record IsBatch (matches : ArgMatches) (batch : Batching) : Type 0 where
   pub list : IsSource matches (codes "LIST") batch.list
@@ -216,6 +229,15 @@ pub record IsAsking (matches : ArgMatches) (asking : Asking) : Type 0 where
   pub certificate : IsSomeTarget matches (codes "certificate") asking.certificate
   pub spelling : IsSpelling matches asking.spelling
 
+-- the same of both circuits side by side, and of the certificate, which is always given
+pub record IsPairing (matches : ArgMatches) (asking : Asking) : Type 0 where
+  pub input : IsSource matches (codes "IN") asking.input
+  pub retimed : IsSource matches (codes "OUT") asking.retimed
+  pub mapping : IsSource matches (codes "MAP") asking.map
+  pub output : IsTarget matches (codes "MODEL") asking.output
+  pub certificate : IsSomeTarget matches (codes "CERT") asking.certificate
+  pub spelling : IsSpelling matches asking.spelling
+
 -- the paths of the files that a witness circuit is lifted by, and the flags of what is written, are the values of their own arguments
 pub record IsLifting (matches : ArgMatches) (lifting : Lifting) : Type 0 where
   pub input : IsSource matches (codes "IN") lifting.input
@@ -228,6 +250,7 @@ pub record IsLifting (matches : ArgMatches) (lifting : Lifting) : Type 0 where
 -- each path of the task, and the name of a fault, is the value of its own argument, so that no file is written that was to be read
 abbrev pub AsksFor : ArgMatches → Task → Type 0
 AsksFor matches (Retime retiming) = IsRetiming matches retiming
+AsksFor matches (Backward moving) = IsMoving matches moving
 AsksFor matches (Batch batch) = IsBatch matches batch
 AsksFor matches (Stat counting) = IsCounting matches counting
 AsksFor matches (Convert input output spelling) = IsSource matches (codes "IN") input × IsTarget matches (codes "OUT") output × IsSpelling matches spelling
@@ -236,6 +259,7 @@ AsksFor matches (Same comparison) = IsComparison matches comparison
 AsksFor matches (Verify verification) = IsVerification matches verification
 AsksFor matches (Check checking) = IsChecking matches checking
 AsksFor matches (Miter asking) = IsAsking matches asking
+AsksFor matches (Product asking) = IsPairing matches asking
 AsksFor matches (Lift lifting) = IsLifting matches lifting
 AsksFor matches (Dot drawing) = IsDrawing matches drawing
 AsksFor matches (Witness carrying) = IsCarrying matches carrying
@@ -244,6 +268,7 @@ AsksFor matches (Explain name) = IsGiven matches (codes "FAULT") name
 -- the name of the command that does the task
 abbrev pub command_of : Task → List ℕ
 command_of (Retime retiming) = codes "retime"
+command_of (Backward moving) = codes "backward"
 command_of (Batch batch) = codes "batch"
 command_of (Stat counting) = codes "stat"
 command_of (Convert input output spelling) = codes "convert"
@@ -252,6 +277,7 @@ command_of (Same comparison) = codes "same"
 command_of (Verify verification) = codes "verify"
 command_of (Check checking) = codes "check"
 command_of (Miter asking) = codes "miter"
+command_of (Product asking) = codes "product"
 command_of (Lift lifting) = codes "lift"
 command_of (Dot drawing) = codes "dot"
 command_of (Witness carrying) = codes "witness"

@@ -8,13 +8,14 @@ use Rattle.stream_paths.specs.declared.target.Target.TheVariants as targets
 use Rattle.command_line.specs.declared.task.Asking.{Asking}
 use Rattle.command_line.specs.declared.task.Comparison.{Comparison}
 use Rattle.command_line.specs.declared.task.Lifting.{Lifting}
+use Rattle.command_line.specs.declared.task.Moving.{Moving}
 use Rattle.command_line.specs.declared.task.Retiming.{Retiming}
 use Rattle.command_line.specs.declared.task.Simulation.{Simulation}
 use Rattle.command_line.specs.declared.task.Stimuli.{Stimuli}
 use Rattle.command_line.specs.declared.task.Stimuli.TheVariants.{Read, Random}
 use Rattle.command_line.specs.declared.task.Task.{Task}
 use Rattle.command_line.specs.declared.task.Verification.{Verification}
-use Rattle.command_line.specs.declared.task.Task.TheVariants.{Retime, Batch, Stat, Convert, Sim, Same, Verify, Check, Miter, Lift, Dot, Witness, Explain}
+use Rattle.command_line.specs.declared.task.Task.TheVariants.{Retime, Backward, Batch, Stat, Convert, Sim, Same, Verify, Check, Miter, Product, Lift, Dot, Witness, Explain}
 
 -- what follows what else is read: a stimulus, unless it is made of random sequences
 abbrev pub with_stimulus : Stimuli → List Source
@@ -44,6 +45,7 @@ sources_of_lifting lifting = lifting.input ∷ lifting.retimed ∷ lifting.map �
 -- what a task reads
 abbrev pub sources_of : Task → List Source
 sources_of (Retime retiming) = retiming.input ∷ []
+sources_of (Backward moving) = moving.input ∷ []
 sources_of (Batch batch) = batch.list ∷ []
 sources_of (Stat counting) = counting.input ∷ []
 sources_of (Convert input output spelling) = input ∷ []
@@ -52,6 +54,7 @@ sources_of (Same comparison) = sources_of_comparison comparison
 sources_of (Verify verification) = sources_of_verification verification
 sources_of (Check checking) = checking.input ∷ checking.retimed ∷ checking.map ∷ []
 sources_of (Miter asking) = sources_of_asking asking
+sources_of (Product asking) = sources_of_asking asking
 sources_of (Lift lifting) = sources_of_lifting lifting
 sources_of (Dot drawing) = drawing.input ∷ []
 sources_of (Witness carrying) = carrying.input ∷ carrying.retimed ∷ carrying.witness ∷ []
@@ -66,6 +69,10 @@ with_target (Some target) targets = target ∷ targets
 abbrev pub retiming_targets : Target → Option Target → Option Target → List Target
 retiming_targets output map certificates = output ∷ with_target map (with_target certificates [])
 
+-- the circuit and the map that a move backward writes
+abbrev pub moving_targets : Moving → List Target
+moving_targets moving = moving.output ∷ with_target moving.map []
+
 -- what a simulation writes: the trace, which is printed, and the waves
 abbrev pub simulation_targets : Option Target → List Target
 simulation_targets waves = targets.Stdout ∷ with_target waves []
@@ -77,6 +84,7 @@ asking_targets asking = asking.output ∷ with_target asking.certificate []
 -- what a task writes, but for the lines that it prints beside that
 abbrev pub targets_of : Task → List Target
 targets_of (Retime retiming) = retiming_targets retiming.output retiming.map retiming.certificates
+targets_of (Backward moving) = moving_targets moving
 targets_of (Batch batch) = []
 targets_of (Stat counting) = []
 targets_of (Convert input output spelling) = output ∷ []
@@ -85,6 +93,7 @@ targets_of (Same comparison) = []
 targets_of (Verify verification) = []
 targets_of (Check checking) = []
 targets_of (Miter asking) = asking_targets asking
+targets_of (Product asking) = asking_targets asking
 targets_of (Lift lifting) = lifting.output ∷ []
 targets_of (Dot drawing) = drawing.output ∷ []
 targets_of (Witness carrying) = []
@@ -103,3 +112,7 @@ writes_stdout None = false
 -- whether a circuit, a map or certificates go to standard output
 abbrev pub takes_stdout : Retiming → Bool
 takes_stdout task = is_stdout task.output || writes_stdout task.certificates || writes_stdout task.map
+
+-- the same of a move backward
+abbrev pub moving_takes_stdout : Moving → Bool
+moving_takes_stdout task = is_stdout task.output || writes_stdout task.map

@@ -10,6 +10,6 @@ mod values;
 pub use parse::parse_arguments;
 pub use refusing::command_error;
 pub use task::{
-    Asking, Batch, Carrying, Checking, Comparison, Counting, Drawing, Lifting, Retiming, Sequences,
-    Shown, Simulation, Stimuli, Task, Verification,
+    Asking, Batch, Carrying, Checking, Comparison, Counting, Drawing, Lifting, Moving, Retiming,
+    Sequences, Shown, Simulation, Stimuli, Task, Verification,
 };

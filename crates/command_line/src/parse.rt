@@ -7,8 +7,8 @@ ghost use Rattle.command_line.specs.StreamUses.{UsesStreamsOnce};
 use crate::refusing::command_error;
 use crate::stream_uses::stream_conflict;
 use crate::task::{
-    Asking, Batch, Carrying, Checking, Comparison, Counting, Drawing, Lifting, Retiming, Sequences,
-    Simulation, Stimuli, Task, Verification,
+    Asking, Batch, Carrying, Checking, Comparison, Counting, Drawing, Lifting, Moving, Retiming,
+    Sequences, Simulation, Stimuli, Task, Verification,
 };
 use crate::values::{
     bound, choice, depth, frames, json, keep, keep_latches, merge, number, shown, source,
@@ -38,6 +38,25 @@ fn retiming<'a>(alloc: Global, matches: &ArgMatches<'a>) -> Result<Option<Task<'
         map: target(matches, "map"),
         json: json(matches),
         shown: shown(matches),
+        keep: keep(alloc, matches)?,
+        keep_latches: keep_latches(alloc, matches)?,
+    })))
+}
+
+fn moving<'a>(alloc: Global, matches: &ArgMatches<'a>) -> Result<Option<Task<'a>>, AllocError>
+    ensures { IfOk result (λ found. IfSome found (Asks (codes "backward") matches.now)) }
+{
+    let (Some(input), Some(output)) = (source(matches, "IN"), target(matches, "OUT")) else {
+        return Ok(None);
+    };
+    Ok(Some(Task::Backward(Moving {
+        input,
+        output,
+        spelling: spelling(matches),
+        frames: frames(matches),
+        bound: bound(matches),
+        map: target(matches, "map"),
+        json: json(matches),
         keep: keep(alloc, matches)?,
         keep_latches: keep_latches(alloc, matches)?,
     })))
@@ -225,6 +244,26 @@ fn miter<'a>(matches: &ArgMatches<'a>) -> Option<Task<'a>>
     }))
 }
 
+fn product<'a>(matches: &ArgMatches<'a>) -> Option<Task<'a>>
+    ensures { IfSome result (Asks (codes "product") matches.now) }
+{
+    let (Some(asked), Some(output), Some(certificate)) = (
+        checking(matches),
+        target(matches, "MODEL"),
+        target(matches, "CERT"),
+    ) else {
+        return None;
+    };
+    Some(Task::Product(Asking {
+        input: asked.input,
+        retimed: asked.retimed,
+        map: asked.map,
+        output,
+        certificate: Some(certificate),
+        spelling: spelling(matches),
+    }))
+}
+
 fn lifting<'a>(matches: &ArgMatches<'a>) -> Option<Task<'a>>
     ensures { IfSome result (Asks (codes "lift") matches.now) }
 {
@@ -264,6 +303,7 @@ fn task_without_names<'a>(name: &str, matches: &ArgMatches<'a>) -> Option<Task<'
         "witness" => witness(matches),
         "check" => check(matches),
         "miter" => miter(matches),
+        "product" => product(matches),
         "lift" => lifting(matches),
         "explain" => explanation(matches),
         _ => None,
@@ -280,6 +320,7 @@ fn task<'a>(
 {
     match name {
         "retime" => retiming(alloc, matches),
+        "backward" => moving(alloc, matches),
         "verify" => verification(alloc, matches),
         "dot" => drawing(alloc, matches),
         _ => Ok(task_without_names(name, matches)),

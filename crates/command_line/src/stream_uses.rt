@@ -2,10 +2,12 @@
 ghost use Rattle.std.specs.Prelude.{◌≡◌, ◌≤◌, IfNone};
 ghost use Rattle.std.specs.List.{count_by};
 ghost use Rattle.stream_paths.specs.Streams.{is_stdin, is_stdout};
-ghost use Rattle.command_line.specs.StreamUses.{UsesStreamsOnce, asking_targets, retiming_targets, simulation_targets, sources_of, sources_of_comparison, sources_of_lifting, sources_of_simulation, sources_of_verification, targets_of};
+ghost use Rattle.command_line.specs.StreamUses.{UsesStreamsOnce, asking_targets, moving_targets, retiming_targets, simulation_targets, sources_of, sources_of_comparison, sources_of_lifting, sources_of_simulation, sources_of_verification, targets_of};
 ghost use Rattle.command_line.specs.StreamUses as wanted;
 
-use crate::task::{Asking, Comparison, Lifting, Retiming, Simulation, Stimuli, Task, Verification};
+use crate::task::{
+    Asking, Comparison, Lifting, Moving, Retiming, Simulation, Stimuli, Task, Verification,
+};
 use stream_paths::{Source, Target};
 
 fn stdin_count(sources: &[Source<'_>]) -> usize
@@ -67,6 +69,7 @@ fn stdin_uses(task: &Task<'_>) -> usize
 {
     match task {
         Task::Retime(retiming) => stdin_count(&[retiming.input]),
+        Task::Backward(moving) => stdin_count(&[moving.input]),
         Task::Batch(batch) => stdin_count(&[batch.list]),
         Task::Stat(counting) => stdin_count(&[counting.input]),
         Task::Convert(input, _, _) => stdin_count(&[*input]),
@@ -78,6 +81,7 @@ fn stdin_uses(task: &Task<'_>) -> usize
         Task::Verify(verification) => stdin_uses_of_verification(verification),
         Task::Check(checking) => stdin_count(&[checking.input, checking.retimed, checking.map]),
         Task::Miter(asking) => stdin_count(&[asking.input, asking.retimed, asking.map]),
+        Task::Product(asking) => stdin_count(&[asking.input, asking.retimed, asking.map]),
         Task::Lift(lifting) => stdin_uses_of_lifting(lifting),
         Task::Dot(drawing) => stdin_count(&[drawing.input]),
         Task::Explain(_) => 0,
@@ -94,6 +98,16 @@ fn stdout_uses_of(retiming: &Retiming<'_>) -> usize
         (Some(map), None) => stdout_count(&[retiming.output, map]),
         (None, Some(certificates)) => stdout_count(&[retiming.output, certificates]),
         (None, None) => stdout_count(&[retiming.output]),
+    }
+}
+
+/// How many of the circuit and the map go to standard output.
+fn stdout_uses_of_moving(moving: &Moving<'_>) -> usize
+    ensures { result ≡ count_by is_stdout (moving_targets moving.now) }
+{
+    match moving.map {
+        Some(map) => stdout_count(&[moving.output, map]),
+        None => stdout_count(&[moving.output]),
     }
 }
 
@@ -123,10 +137,12 @@ fn stdout_uses(task: &Task<'_>) -> usize
 {
     match task {
         Task::Retime(retiming) => stdout_uses_of(retiming),
+        Task::Backward(moving) => stdout_uses_of_moving(moving),
         Task::Convert(_, output, _) => stdout_count(&[*output]),
         Task::Dot(drawing) => stdout_count(&[drawing.output]),
         Task::Sim(simulation) => stdout_uses_of_simulation(simulation),
         Task::Miter(asking) => stdout_uses_of_asking(asking),
+        Task::Product(asking) => stdout_uses_of_asking(asking),
         Task::Lift(lifting) => stdout_count(&[lifting.output]),
         Task::Batch(_)
         | Task::Stat(_)
@@ -144,6 +160,12 @@ fn stdout_message(task: &Task<'_>) -> &'static str {
         Task::Sim(_) => "standard output has the values: --vcd wants a file of its own",
         Task::Miter(_) => {
             "standard output is written once: '-' can stand for one of MITER and CERT only"
+        }
+        Task::Product(_) => {
+            "standard output is written once: '-' can stand for one of MODEL and CERT only"
+        }
+        Task::Backward(_) => {
+            "standard output is written once: '-' can stand for one of OUT and MAP only"
         }
         _ => {
             "standard output is written once: '-' can stand for one of OUT, MAP and the file of certificates only"
@@ -180,5 +202,14 @@ impl<'a> Retiming<'a> {
         ensures { result ≡ wanted.takes_stdout self.now }
     {
         self.output.is_stdout() || writes_stdout(self.certificates) || writes_stdout(self.map)
+    }
+}
+
+impl<'a> Moving<'a> {
+    /// Whether a circuit or a map goes to standard output, so that what is printed goes to standard error.
+    pub fn takes_stdout(&self) -> bool
+        ensures { result ≡ wanted.moving_takes_stdout self.now }
+    {
+        self.output.is_stdout() || writes_stdout(self.map)
     }
 }

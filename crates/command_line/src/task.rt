@@ -52,6 +52,29 @@ pub struct Retiming<'a> {
     pub json: bool,
 }
 
+/// What `backward` is to do.
+#[derive(Drop)]
+pub struct Moving<'a> {
+    /// What is read.
+    pub input: Source<'a>,
+    /// What is written.
+    pub output: Target<'a>,
+    /// The format of the written files; `None` is that of the read one.
+    pub spelling: Option<Spelling>,
+    /// The most frames that are taken.
+    pub frames: u32,
+    /// How long moves may make paths.
+    pub bound: PathBound,
+    /// What the map of states is written to; `None` asks for none.
+    pub map: Option<Target<'a>>,
+    /// The names of the latches that are held in their places.
+    pub keep: Vec<&'a str>,
+    /// The positions of the latches that are held in their places.
+    pub keep_latches: Vec<u32>,
+    /// Whether an object of JSON is printed in place of the lines.
+    pub json: bool,
+}
+
 /// What `verify` is to do.
 #[derive(Drop)]
 pub struct Verification<'a> {
@@ -196,7 +219,7 @@ pub struct Checking<'a> {
     pub map: Source<'a>,
 }
 
-/// What `miter` is to do.
+/// What `miter` is to do, and `product`, which always has a certificate.
 #[derive(Clone, Copy)]
 pub struct Asking<'a> {
     /// The circuit.
@@ -205,7 +228,7 @@ pub struct Asking<'a> {
     pub retimed: Source<'a>,
     /// The map of the states of the one to those of the other.
     pub map: Source<'a>,
-    /// What the miter is written to.
+    /// What the miter, or the model of both, is written to.
     pub output: Target<'a>,
     /// What the pair of both with its invariant, a witness circuit, is written to; `None` asks for none.
     pub certificate: Option<Target<'a>>,
@@ -235,6 +258,8 @@ pub struct Lifting<'a> {
 pub enum Task<'a> {
     /// Retime a circuit.
     Retime(Retiming<'a>),
+    /// Move the latches of a circuit backward.
+    Backward(Moving<'a>),
     /// Retime the circuits of a list.
     Batch(Batch<'a>),
     /// Count what a circuit has.
@@ -251,6 +276,8 @@ pub enum Task<'a> {
     Check(Checking<'a>),
     /// Write what a map of states has to meet as a circuit.
     Miter(Asking<'a>),
+    /// Write two circuits side by side, and a certificate that they agree.
+    Product(Asking<'a>),
     /// Write a witness circuit for a circuit, of one for the circuit that was made of it.
     Lift(Lifting<'a>),
     /// Write a picture of a circuit.
@@ -268,6 +295,7 @@ impl Task<'_> {
     {
         match self {
             Task::Retime(_) => "retime",
+            Task::Backward(_) => "backward",
             Task::Batch(_) => "batch",
             Task::Stat(_) => "stat",
             Task::Convert(_, _, _) => "convert",
@@ -276,6 +304,7 @@ impl Task<'_> {
             Task::Verify(_) => "verify",
             Task::Check(_) => "check",
             Task::Miter(_) => "miter",
+            Task::Product(_) => "product",
             Task::Lift(_) => "lift",
             Task::Dot(_) => "dot",
             Task::Witness(_) => "witness",

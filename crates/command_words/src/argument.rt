@@ -14,6 +14,8 @@ pub(crate) enum Form {
     Text(&'static str),
     /// The same, which may be repeated.
     Texts(&'static str),
+    /// An option with a text that the help doesn't show.
+    Hidden(&'static str),
     /// An option with a number within these bounds.
     Number(u64, u64),
     /// An option with a number from 1 to this one, which has a default.
@@ -68,6 +70,7 @@ fn formed<'a>(alloc: Global, argument: &Argument) -> Arg<'a> {
             .help(help),
         Form::Text(value) => option(alloc, argument, value, ArgAction::Set),
         Form::Texts(value) => option(alloc, argument, value, ArgAction::Append),
+        Form::Hidden(value) => option(alloc, argument, value, ArgAction::Set).hide(true),
         Form::Number(least, most) => option(alloc, argument, "n", ArgAction::Set).value_parser(
             ValueParser::unsigned(least, most),
         ),

@@ -1,6 +1,6 @@
 //! The arguments of each command, in the order of its help. Those of several commands come first.
 use crate::argument::Argument;
-use crate::argument::Form::{Flag, Limit, Number, Numbers, Path, Text, Texts};
+use crate::argument::Form::{Flag, Hidden, Limit, Number, Numbers, Path, Text, Texts};
 use crate::argument::Tie::{Always, Apart, Free, With, WithApart};
 
 /// The flag for ASCII, which isn't given together with the one for binary.
@@ -145,6 +145,26 @@ pub(crate) const RETIME: &[Argument] = &[
     JSON,
 ];
 
+pub(crate) const BACKWARD: &[Argument] = &[
+    READ_CIRCUIT,
+    WRITTEN_CIRCUIT,
+    ASCII,
+    BINARY,
+    FRAMES,
+    LEVELS,
+    NO_LONGER,
+    Argument(
+        "map",
+        Text("MAP"),
+        Free,
+        "Write how IN's latches follow from OUT's to MAP",
+    ),
+    KEEP,
+    KEEP_FROM,
+    KEEP_LATCH,
+    JSON,
+];
+
 pub(crate) const BATCH: &[Argument] = &[
     Argument(
         "LIST",
@@ -240,10 +260,25 @@ pub(crate) const MITER: &[Argument] = &[
     BINARY,
     Argument(
         "certificate",
-        Text("CERT"),
+        Hidden("CERT"),
         Free,
         "Write a model of both, and its certificate to CERT",
     ),
+];
+
+pub(crate) const PRODUCT: &[Argument] = &[
+    ORIGINAL,
+    RETIMED,
+    MAP,
+    Argument("MODEL", Path, Always, "The AIGER file to write"),
+    Argument(
+        "CERT",
+        Path,
+        Always,
+        "The witness circuit for MODEL to write",
+    ),
+    ASCII,
+    BINARY,
 ];
 
 pub(crate) const LIFT: &[Argument] = &[

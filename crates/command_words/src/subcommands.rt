@@ -1,4 +1,5 @@
-//! The program's commands, in the order of its help.
+//! The program's commands, in the order of its help: what makes circuits, what looks at them, what checks the frames of a retiming, and
+//! what is about maps of states.
 use crate::argument::Argument;
 use crate::{arguments, texts};
 
@@ -18,7 +19,7 @@ pub(crate) struct Subcommand {
 }
 
 /// How many commands there are.
-pub(crate) const COUNT: usize = 13;
+pub(crate) const COUNT: usize = 15;
 
 /// The command with this number, from 0.
 pub(crate) fn subcommand_at(number: usize) -> Option<Subcommand> {
@@ -31,18 +32,18 @@ pub(crate) fn subcommand_at(number: usize) -> Option<Subcommand> {
             arguments: arguments::RETIME,
         },
         1 => Subcommand {
+            name: "backward",
+            about: texts::BACKWARD_ABOUT,
+            long_about: Some(texts::BACKWARD_LONG_ABOUT),
+            example: Some(texts::BACKWARD_EXAMPLE),
+            arguments: arguments::BACKWARD,
+        },
+        2 => Subcommand {
             name: "batch",
             about: texts::BATCH_ABOUT,
             long_about: Some(texts::BATCH_LONG_ABOUT),
             example: Some(texts::BATCH_EXAMPLE),
             arguments: arguments::BATCH,
-        },
-        2 => Subcommand {
-            name: "stat",
-            about: texts::STAT_ABOUT,
-            long_about: None,
-            example: Some(texts::STAT_EXAMPLE),
-            arguments: arguments::STAT,
         },
         3 => Subcommand {
             name: "convert",
@@ -52,67 +53,81 @@ pub(crate) fn subcommand_at(number: usize) -> Option<Subcommand> {
             arguments: arguments::CONVERT,
         },
         4 => Subcommand {
+            name: "stat",
+            about: texts::STAT_ABOUT,
+            long_about: None,
+            example: Some(texts::STAT_EXAMPLE),
+            arguments: arguments::STAT,
+        },
+        5 => Subcommand {
             name: "sim",
             about: texts::SIM_ABOUT,
             long_about: None,
             example: Some(texts::SIM_EXAMPLE),
             arguments: arguments::SIM,
         },
-        5 => Subcommand {
+        6 => Subcommand {
             name: "same",
             about: texts::SAME_ABOUT,
             long_about: None,
             example: Some(texts::SAME_EXAMPLE),
             arguments: arguments::SAME,
         },
-        6 => Subcommand {
-            name: "verify",
-            about: texts::VERIFY_ABOUT,
-            long_about: Some(texts::VERIFY_LONG_ABOUT),
-            example: Some(texts::VERIFY_EXAMPLE),
-            arguments: arguments::VERIFY,
-        },
         7 => Subcommand {
-            name: "check",
-            about: texts::CHECK_ABOUT,
-            long_about: Some(texts::CHECK_LONG_ABOUT),
-            example: Some(texts::CHECK_EXAMPLE),
-            arguments: arguments::CHECK,
-        },
-        8 => Subcommand {
-            name: "miter",
-            about: texts::MITER_ABOUT,
-            long_about: Some(texts::MITER_LONG_ABOUT),
-            example: Some(texts::MITER_EXAMPLE),
-            arguments: arguments::MITER,
-        },
-        9 => Subcommand {
-            name: "lift",
-            about: texts::LIFT_ABOUT,
-            long_about: Some(texts::LIFT_LONG_ABOUT),
-            example: Some(texts::LIFT_EXAMPLE),
-            arguments: arguments::LIFT,
-        },
-        10 => Subcommand {
             name: "dot",
             about: texts::DOT_ABOUT,
             long_about: Some(texts::DOT_LONG_ABOUT),
             example: Some(texts::DOT_EXAMPLE),
             arguments: arguments::DOT,
         },
-        11 => Subcommand {
-            name: "witness",
-            about: texts::WITNESS_ABOUT,
-            long_about: Some(texts::WITNESS_LONG_ABOUT),
-            example: Some(texts::WITNESS_EXAMPLE),
-            arguments: arguments::WITNESS,
-        },
-        12 => Subcommand {
+        8 => Subcommand {
             name: "explain",
             about: texts::EXPLAIN_ABOUT,
             long_about: Some(texts::EXPLAIN_LONG_ABOUT),
             example: Some(texts::EXPLAIN_EXAMPLE),
             arguments: arguments::EXPLAIN,
+        },
+        9 => Subcommand {
+            name: "verify",
+            about: texts::VERIFY_ABOUT,
+            long_about: Some(texts::VERIFY_LONG_ABOUT),
+            example: Some(texts::VERIFY_EXAMPLE),
+            arguments: arguments::VERIFY,
+        },
+        10 => Subcommand {
+            name: "check",
+            about: texts::CHECK_ABOUT,
+            long_about: Some(texts::CHECK_LONG_ABOUT),
+            example: Some(texts::CHECK_EXAMPLE),
+            arguments: arguments::CHECK,
+        },
+        11 => Subcommand {
+            name: "miter",
+            about: texts::MITER_ABOUT,
+            long_about: Some(texts::MITER_LONG_ABOUT),
+            example: Some(texts::MITER_EXAMPLE),
+            arguments: arguments::MITER,
+        },
+        12 => Subcommand {
+            name: "product",
+            about: texts::PRODUCT_ABOUT,
+            long_about: Some(texts::PRODUCT_LONG_ABOUT),
+            example: Some(texts::PRODUCT_EXAMPLE),
+            arguments: arguments::PRODUCT,
+        },
+        13 => Subcommand {
+            name: "lift",
+            about: texts::LIFT_ABOUT,
+            long_about: Some(texts::LIFT_LONG_ABOUT),
+            example: Some(texts::LIFT_EXAMPLE),
+            arguments: arguments::LIFT,
+        },
+        14 => Subcommand {
+            name: "witness",
+            about: texts::WITNESS_ABOUT,
+            long_about: Some(texts::WITNESS_LONG_ABOUT),
+            example: Some(texts::WITNESS_EXAMPLE),
+            arguments: arguments::WITNESS,
         },
         _ => return None,
     })

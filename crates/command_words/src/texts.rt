@@ -1,10 +1,9 @@
 //! What the help says of the program and of each command; what it says of an argument stands with the argument. Nothing is proved
 //! of texts: tests compare what is printed.
-pub(crate) const ABOUT: &str =
-    "Moves the latches of a sequential circuit forward so that fewer are left";
+pub(crate) const ABOUT: &str = "Moves the latches of a sequential circuit so that fewer are left";
 
 pub(crate) const LONG_ABOUT: &str =
-    "Moves the latches of a sequential circuit forward so that fewer are left.
+    "Moves the latches of a sequential circuit so that fewer are left.
 
 Circuits are files in the formats of AIGER 1.9, ASCII (aag) or binary (aig).
 
@@ -14,7 +13,12 @@ written. A file of that name is './-'.
 What is written has a file of its own, by whatever paths files are named. A
 circuit may take the place of the one that it is made of, and of no other.";
 
-pub(crate) const EXAMPLE: &str = "Example:
+pub(crate) const EXAMPLE: &str = "To make a circuit: retime, backward, batch, convert.
+To look at one: stat, sim, same, dot, explain.
+To check the frames of a retiming: verify.
+About maps of states: check, miter, product, lift, witness.
+
+Example:
   fretime retime counter.aag smaller.aag
 
 'fretime help COMMAND' says more.";
@@ -71,6 +75,46 @@ latches:
 
 In a pipe:
   zcat counter.aig.gz | fretime retime - - | gzip > smaller.aig.gz
+
+Exit status: 0 done, 1 IN is no circuit or has no such latch, 2 command line,
+3 device, 4 out of memory.";
+
+pub(crate) const BACKWARD_ABOUT: &str =
+    "Moves latches backward over gates, frame by frame, until none helps";
+
+pub(crate) const BACKWARD_LONG_ABOUT: &str =
+    "Reads a circuit, moves latches from behind gates to before them, frame by frame,
+as long as that leaves fewer, and writes it. IN is best what 'retime' wrote.
+
+Free latches stay where they are, and so do held ones, and gates that a property
+reads. What is found is checked as 'check OUT IN MAP' does it. If the check
+doesn't show that IN is a retiming of OUT, OUT is IN, and a line says so.
+
+With --map, MAP gets a circuit whose inputs are the latches of OUT and whose
+outputs are those of IN: step for step each latch of IN holds what its output
+says. The direction is that of 'check OUT IN MAP' and 'miter OUT IN MAP MITER'.
+
+With --no-longer no path of OUT has more gates than the longest one of IN; with
+--levels no path gets more than n gates, or than the longest one of IN.
+
+It isn't promised that no other move leaves fewer latches.
+
+OUT is created once IN has been read and its latches are moved: a circuit that
+is refused leaves OUT as it was. If OUT or MAP is '-', standard output, the
+lines that are printed go to standard error.";
+
+pub(crate) const BACKWARD_EXAMPLE: &str = "Example:
+  fretime retime counter.aag middle.aag
+  fretime backward middle.aag smaller.aag --map smaller.map
+  fretime check smaller.aag middle.aag smaller.map
+
+It prints a line for each frame that was taken, and then the numbers of all
+latches:
+  frame 1: 24 to 13
+  latches 24 to 13
+
+In a pipe:
+  fretime retime in.aig - | fretime backward - out.aig
 
 Exit status: 0 done, 1 IN is no circuit or has no such latch, 2 command line,
 3 device, 4 out of memory.";
@@ -166,11 +210,7 @@ MAP doesn't hold or MAP gives no first state of OUT; the others where the
 constraints of MAP hold: 'keep' where after a step they don't, 'next' where MAP
 then gives another state than the step of OUT, 'read' where a property of OUT
 isn't that of IN. So MAP shows that OUT is a retiming of IN where no output is
-ever 1, as any SAT solver or equivalence checker can find.
-
-With --certificate, MITER is IN and OUT side by side, under the same inputs: a
-model that is bad where a property of theirs differs. CERT is the same with an
-inductive invariant by MAP: a witness circuit for that model, as of 'lift'.";
+ever 1, as any SAT solver or equivalence checker can find.";
 
 pub(crate) const MITER_EXAMPLE: &str = "Example:
   fretime retime counter.aag smaller.aag --map counter.map
@@ -178,6 +218,30 @@ pub(crate) const MITER_EXAMPLE: &str = "Example:
 
 MITER is made at its first byte: where something is refused, it stays as it was.
 'shapes differ' is printed where IN, OUT and MAP don't fit together.
+
+Exit status: 0 done, 1 a file is refused, MAP is no map, or shapes differ,
+2 command line, 3 device, 4 out of memory.";
+
+pub(crate) const PRODUCT_ABOUT: &str =
+    "Writes two circuits side by side, with a proof that they agree";
+
+pub(crate) const PRODUCT_LONG_ABOUT: &str =
+    "Reads a circuit, the circuit that was made of it, and a map of the states of the
+one to those of the other, as 'retime --map' writes it, and writes a model and a
+certificate for it, in the spelling of MAP if none is chosen.
+
+MODEL is IN and OUT side by side, under the same inputs. It is bad if a property
+of theirs differs. CERT is the same with an inductive invariant by MAP: a witness
+circuit for MODEL, as of 'lift'. If MAP shows that OUT is a retiming of IN, CERT
+passes the five checks for MODEL, as any SAT solver can find.";
+
+pub(crate) const PRODUCT_EXAMPLE: &str = "Example:
+  fretime retime counter.aag smaller.aag --map counter.map
+  fretime product counter.aag smaller.aag counter.map model.aig cert.aig
+
+MODEL is made at its first byte, and then CERT: if something is refused, they
+stay as they were. 'shapes differ' is printed if IN, OUT and MAP don't fit
+together.
 
 Exit status: 0 done, 1 a file is refused, MAP is no map, or shapes differ,
 2 command line, 3 device, 4 out of memory.";

@@ -7,16 +7,17 @@ use Rattle.stream_paths.specs.declared.source.Source.{Source}
 use Rattle.stream_paths.specs.declared.source.Source.TheVariants as sources
 use Rattle.stream_paths.specs.declared.target.Target.{Target}
 use Rattle.stream_paths.specs.declared.target.Target.TheVariants as targets
-use Rattle.command_line.specs.StreamUses.{takes_stdout}
+use Rattle.command_line.specs.StreamUses.{moving_takes_stdout, takes_stdout}
 use Rattle.command_line.specs.declared.task.Asking.{Asking}
 use Rattle.command_line.specs.declared.task.Lifting.{Lifting}
+use Rattle.command_line.specs.declared.task.Moving.{Moving}
 use Rattle.command_line.specs.declared.task.Retiming.{Retiming}
 use Rattle.command_line.specs.declared.task.Stimuli.{Stimuli}
 use Rattle.command_line.specs.declared.task.Stimuli.TheVariants as stimuli
 use Rattle.command_line.specs.declared.task.Task.{Task}
-use Rattle.command_line.specs.declared.task.Task.TheVariants.{Retime, Batch, Stat, Convert, Sim, Same, Verify, Check, Miter, Lift, Dot, Witness, Explain}
+use Rattle.command_line.specs.declared.task.Task.TheVariants.{Retime, Backward, Batch, Stat, Convert, Sim, Same, Verify, Check, Miter, Product, Lift, Dot, Witness, Explain}
 use Rattle.file_identities.specs.declared.file_use.Argument.{Argument}
-use Rattle.file_identities.specs.declared.file_use.Argument.TheVariants.{In, Out, Map, MapOption, Cert, Stim, Vcd, MiterFile, Certificate, WitnessFile, ResultFile, KeepFrom, Printed}
+use Rattle.file_identities.specs.declared.file_use.Argument.TheVariants.{In, Out, Map, MapOption, Cert, Stim, Vcd, MiterFile, Certificate, ModelFile, CertificateFile, WitnessFile, ResultFile, KeepFrom, Printed}
 use Rattle.file_identities.specs.declared.file_use.Role.TheVariants as roles
 use Rattle.file_identities.specs.declared.file_use.Place.{Place}
 use Rattle.file_identities.specs.declared.file_use.Place.TheVariants as places
@@ -59,6 +60,10 @@ printed = record { argument = Printed; role = roles.Written; place = places.Stdo
 abbrev pub printed_by : Retiming → Option FileUse
 printed_by retiming = if takes_stdout retiming then None else Some printed
 
+-- the lines of a move backward, unless they go to standard error
+abbrev pub printed_by_moving : Moving → Option FileUse
+printed_by_moving moving = if moving_takes_stdout moving then None else Some printed
+
 -- a stimulus, where one is read
 abbrev pub stimulus_of : Stimuli → Option FileUse
 stimulus_of (stimuli.Read source) = Some (reading Stim source)
@@ -76,6 +81,10 @@ abbrev pub written_by_retiming : Retiming → List FileUse
 written_by_retiming retiming =
     given (Some (remade Out retiming.output) ∷ writing_if_asked MapOption retiming.map ∷ writing_if_asked Cert retiming.certificates ∷ printed_by retiming ∷ [])
 
+-- the circuit and the map of a move backward, and its lines where they go to standard output
+abbrev pub written_by_moving : Moving → List FileUse
+written_by_moving moving = given (Some (remade Out moving.output) ∷ writing_if_asked MapOption moving.map ∷ printed_by_moving moving ∷ [])
+
 abbrev pub read_by_asking : Asking → List FileUse
 read_by_asking asking = given (Some (reading In asking.input) ∷ Some (reading Out asking.retimed) ∷ Some (original Map asking.map) ∷ [])
 
@@ -86,9 +95,11 @@ read_by_lifting lifting =
 -- what a task writes; the files of a batch are those of its list, which may be any
 abbrev pub written_by : Task → List FileUse
 written_by (Retime retiming) = written_by_retiming retiming
+written_by (Backward moving) = written_by_moving moving
 written_by (Convert input output spelling) = given (Some (remade Out output) ∷ [])
 written_by (Sim simulation) = given (Some printed ∷ writing_if_asked Vcd simulation.waves ∷ [])
 written_by (Miter asking) = given (Some (remade MiterFile asking.output) ∷ writing_if_asked Certificate asking.certificate ∷ [])
+written_by (Product asking) = given (Some (remade ModelFile asking.output) ∷ writing_if_asked CertificateFile asking.certificate ∷ [])
 written_by (Lift lifting) = given (Some (remade ResultFile lifting.output) ∷ [])
 written_by (Dot drawing) = given (Some (writing Out drawing.output) ∷ [])
 written_by (Batch batch) = []
@@ -102,9 +113,11 @@ written_by (Explain name) = []
 -- what a task reads that writes a file
 abbrev pub read_by : Task → List FileUse
 read_by (Retime retiming) = given (Some (original In retiming.input) ∷ [])
+read_by (Backward moving) = given (Some (original In moving.input) ∷ [])
 read_by (Convert input output spelling) = given (Some (original In input) ∷ [])
 read_by (Sim simulation) = given (Some (reading In simulation.input) ∷ stimulus_of simulation.stimuli ∷ [])
 read_by (Miter asking) = read_by_asking asking
+read_by (Product asking) = read_by_asking asking
 read_by (Lift lifting) = read_by_lifting lifting
 read_by (Dot drawing) = given (Some (reading In drawing.input) ∷ [])
 read_by (Batch batch) = []

@@ -26,6 +26,10 @@ pub enum Argument {
     MiterFile,
     /// The option for the certificate of a miter.
     Certificate,
+    /// The model of two circuits.
+    ModelFile,
+    /// The certificate of that model.
+    CertificateFile,
     /// The witness circuit that is read.
     WitnessFile,
     /// The witness circuit that is written.
@@ -49,6 +53,8 @@ impl Argument {
             Argument::Vcd => "--vcd",
             Argument::MiterFile => "MITER",
             Argument::Certificate => "--certificate",
+            Argument::ModelFile => "MODEL",
+            Argument::CertificateFile => "CERT",
             Argument::WitnessFile => "CERT",
             Argument::ResultFile => "RESULT",
             Argument::KeepFrom => "--keep-from",

@@ -6,7 +6,7 @@ ghost use Rattle.file_identities.specs.FileUses as wanted;
 
 use crate::file_use::{Argument, FileUse, Place, Role};
 use crate::identity::{Asked, ask};
-use command_line::{Asking, Lifting, Retiming, Stimuli, Task};
+use command_line::{Asking, Lifting, Moving, Retiming, Stimuli, Task};
 use std::alloc::{AllocError, Global};
 use std::rt::Files;
 use stream_paths::{Source, Target};
@@ -99,6 +99,17 @@ fn printed_by<'a>(retiming: &Retiming<'_>) -> Option<FileUse<'a>>
     ensures { result ≡ wanted.printed_by retiming.now }
 {
     if retiming.takes_stdout() {
+        None
+    } else {
+        Some(printed())
+    }
+}
+
+/// The lines of a move backward, unless they go to standard error.
+fn printed_by_moving<'a>(moving: &Moving<'_>) -> Option<FileUse<'a>>
+    ensures { result ≡ wanted.printed_by_moving moving.now }
+{
+    if moving.takes_stdout() {
         None
     } else {
         Some(printed())
@@ -219,6 +230,22 @@ fn written_by_retiming<'a, R: Files>(
     ask_all(rt, alloc, &uses)
 }
 
+fn written_by_moving<'a, R: Files>(
+    rt: &R,
+    alloc: Global,
+    moving: &Moving<'a>,
+) -> Result<Vec<Asked<'a>>, AllocError>
+    ensures { IfOk result (λ files. map (λ asked. asked.file) files.items
+        ≡ wanted.written_by_moving moving.now) }
+{
+    let uses = [
+        Some(remade(Argument::Out, moving.output)),
+        writing_if_asked(Argument::MapOption, moving.map),
+        printed_by_moving(moving),
+    ];
+    ask_all(rt, alloc, &uses)
+}
+
 /// What a task writes.
 pub(crate) fn written_by<'a, R: Files>(
     rt: &R,
@@ -230,6 +257,7 @@ pub(crate) fn written_by<'a, R: Files>(
 {
     match task {
         Task::Retime(retiming) => written_by_retiming(rt, alloc, retiming),
+        Task::Backward(moving) => written_by_moving(rt, alloc, moving),
         Task::Convert(_, output, _) => {
             ask_all(rt, alloc, &[Some(remade(Argument::Out, *output))])
         }
@@ -241,6 +269,11 @@ pub(crate) fn written_by<'a, R: Files>(
             let miter = Some(remade(Argument::MiterFile, asking.output));
             let certificate = writing_if_asked(Argument::Certificate, asking.certificate);
             ask_all(rt, alloc, &[miter, certificate])
+        }
+        Task::Product(asking) => {
+            let model = Some(remade(Argument::ModelFile, asking.output));
+            let certificate = writing_if_asked(Argument::CertificateFile, asking.certificate);
+            ask_all(rt, alloc, &[model, certificate])
         }
         Task::Lift(lifting) => {
             ask_all(
@@ -273,12 +306,16 @@ fn read_by<'a, R: Files>(
         Task::Retime(retiming) => {
             ask_all(rt, alloc, &[Some(original(Argument::In, retiming.input))])
         }
+        Task::Backward(moving) => {
+            ask_all(rt, alloc, &[Some(original(Argument::In, moving.input))])
+        }
         Task::Convert(input, _, _) => ask_all(rt, alloc, &[Some(original(Argument::In, *input))]),
         Task::Sim(simulation) => {
             let input = Some(reading(Argument::In, simulation.input));
             ask_all(rt, alloc, &[input, stimulus_of(simulation.stimuli)])
         }
         Task::Miter(asking) => read_by_asking(rt, alloc, asking),
+        Task::Product(asking) => read_by_asking(rt, alloc, asking),
         Task::Lift(lifting) => read_by_lifting(rt, alloc, lifting),
         Task::Dot(drawing) => ask_all(rt, alloc, &[Some(reading(Argument::In, drawing.input))]),
         Task::Batch(_)

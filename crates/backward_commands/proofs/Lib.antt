@@ -1,0 +1,4 @@
+mod HeldLaws
+mod MovingLaws
+mod PlainLaws
+mod PrintingLaws

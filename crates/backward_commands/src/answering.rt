@@ -1,0 +1,101 @@
+//! What a move backward answers.
+ghost use Rattle.std.specs.Prelude.{◌≡◌, IfOk};
+ghost use Rattle.backward_retiming.specs.Answered.{IsAnswerTo};
+ghost use Rattle.backward_commands.specs.Held.{held_for};
+ghost use Rattle.backward_commands.specs.Moving.{AnswersTask, IsAnswerOf, bound_of};
+ghost use Rattle.backward_commands.specs.Moving as wanted;
+
+use crate::holding::held_latches;
+use aig_binary::{Spelling, SpeltCircuit};
+use aig_graph::Circuit;
+use backward_retiming::{MoveOptions, MovedBack, move_back};
+use circuit_counts::Counts;
+use circuit_files::{Failure, circuit_at};
+use command_line::Moving;
+use counted_io::CountedRead;
+use frames::PathBound;
+use std::alloc::Global;
+use std::rt::Files;
+
+/// The circuit and its map, what the circuit that was read has, and the format that both are written in.
+#[derive(Drop)]
+pub(crate) struct Answer {
+    pub(crate) moved: MovedBack,
+    pub(crate) before: Counts,
+    pub(crate) spelling: Spelling,
+}
+
+/// The most gates on a path of the new circuit, if the longest one that is read has fewer.
+fn bound_of(bound: PathBound) -> Option<u32>
+    ensures { result ≡ wanted.bound_of bound }
+{
+    match bound {
+        PathBound::None => None,
+        PathBound::NoLonger => Some(0),
+        PathBound::Levels(levels) => Some(levels),
+    }
+}
+
+/// Moves the latches of the circuit that are not held.
+fn moved<'a>(alloc: Global, circuit: Circuit, task: &Moving<'a>) -> Result<MovedBack, Failure<'a>>
+    ensures { IfOk result (IsAnswerTo circuit (held_for task.now circuit)
+        (wanted.bound_of task.now.bound)) }
+{
+    let options = MoveOptions {
+        frames: task.frames,
+        levels: bound_of(task.bound),
+    };
+    match held_latches(alloc, &circuit, task) {
+        Ok(keep) => {
+            let moved = move_back(alloc, circuit, &keep, &options);
+            drop(keep);
+            match moved {
+                Ok(moved) => Ok(moved),
+                Err(_) => Err(Failure::Memory),
+            }
+        }
+        Err(failure) => {
+            drop(circuit);
+            Err(failure)
+        }
+    }
+}
+
+/// The answer of the circuit that is read.
+fn answer_of<'a>(
+    alloc: Global,
+    spelt: SpeltCircuit,
+    task: &Moving<'a>,
+) -> Result<Answer, Failure<'a>>
+    ensures { IfOk result (IsAnswerOf task.now spelt) }
+{
+    let SpeltCircuit { circuit, spelling } = spelt;
+    let spelling = task.spelling.unwrap_or(spelling);
+    let Ok(before) = Counts::of(alloc, &circuit) else {
+        drop(circuit);
+        return Err(Failure::Memory);
+    };
+    match moved(alloc, circuit, task) {
+        Ok(moved) => Ok(Answer {
+            moved,
+            before,
+            spelling,
+        }),
+        Err(failure) => Err(failure),
+    }
+}
+
+/// Reads what the task reads, and moves its latches.
+pub(crate) fn answer_for<'a, R: Files, I: CountedRead>(
+    rt: &R,
+    alloc: Global,
+    task: &Moving<'a>,
+    stdin: &mut I,
+) -> Result<Answer, Failure<'a>>
+    ensures { IfOk result (AnswersTask task.now (I.input stdin.old) (I.input stdin.new)) }
+{
+    match circuit_at(rt, alloc, task.input, stdin) {
+        Ok(spelt) => answer_of(alloc, spelt, task),
+        Err(failure) => Err(failure),
+    }
+}

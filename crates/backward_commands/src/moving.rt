@@ -1,0 +1,85 @@
+//! The command `backward`.
+ghost use Rattle.std.specs.Prelude.{◌≡◌, false, IfErr, IfOk, OnOk};
+ghost use Rattle.aig_binary.specs.Spellings.{text_in};
+ghost use Rattle.command_line.specs.StreamUses.{moving_takes_stdout, writes_stdout};
+ghost use Rattle.circuit_files.specs.Outcomes.{outcome_of};
+ghost use Rattle.circuit_files.specs.WrittenFiles.{IsFileGiven};
+ghost use Rattle.circuit_files.specs.declared.outcome.Outcome.TheVariants.{Device};
+ghost use Rattle.command_endings.specs.Printing.{Prints, ending};
+ghost use Rattle.backward_commands.specs.Moving.{PrintsMoves, WritesIfAsked, WritesMoves};
+
+use crate::answering::{Answer, answer_for};
+use crate::printing::print_answer;
+use circuit_files::{Failure, Outcome};
+use command_endings::write_circuit;
+use command_line::Moving;
+use counted_io::{CountedRead, CountedWrite};
+use std::alloc::Global;
+use std::rt::Files;
+
+/// Writes the map of an answer where it is asked for.
+fn write_map<'a, R: Files, O: CountedWrite>(
+    rt: &R,
+    task: &Moving<'a>,
+    answer: &Answer,
+    out: &mut O,
+) -> Result<(), Failure<'a>>
+    ensures written { OnOk result (WritesIfAsked (IsFileGiven R R.Dir R.File.contents)
+        task.now.map (text_in answer.now.spelling answer.now.moved.map) (O.output out.old)
+        (O.output out.new)) }
+    ensures file { writes_stdout task.now.map ≡ false → O.output out.new ≡ O.output out.old }
+    ensures err { IfErr result (λ failure. outcome_of failure ≡ Device) }
+{
+    match task.map {
+        Some(target) => write_circuit(rt, &answer.moved.map, answer.spelling, target, out),
+        None => Ok(()),
+    }
+}
+
+/// Writes the circuit of an answer, and then its map.
+fn write_answer<'a, R: Files, O: CountedWrite>(
+    rt: &R,
+    task: &Moving<'a>,
+    answer: &Answer,
+    out: &mut O,
+) -> Result<(), Failure<'a>>
+    ensures written { OnOk result (WritesMoves (IsFileGiven R R.Dir R.File.contents) task.now
+        answer.now (O.output out.old) (O.output out.new)) }
+    ensures file { moving_takes_stdout task.now ≡ false
+        → O.output out.new ≡ O.output out.old }
+    ensures err { IfErr result (λ failure. outcome_of failure ≡ Device) }
+{
+    match write_circuit(rt, &answer.moved.circuit, answer.spelling, task.output, out) {
+        Ok(()) => write_map(rt, task, answer, out),
+        Err(failure) => Err(failure),
+    }
+}
+
+/// Reads a circuit, moves its latches backward, writes it, and its map where that is asked for, and then prints the frames that were
+/// taken, as an object of JSON or in lines.
+pub fn print_moves<'a, R: Files, I: CountedRead, O: CountedWrite, E: CountedWrite>(
+    rt: &R,
+    alloc: Global,
+    task: &Moving<'a>,
+    stdin: &mut I,
+    out: &mut O,
+    err: &mut E,
+) -> Result<Outcome, Failure<'a>>
+    ensures moves { IfOk result (PrintsMoves (IsFileGiven R R.Dir R.File.contents) task.now
+        (I.input stdin.old) (I.input stdin.new) (O.output out.old) (O.output out.new)
+        (E.output err.new)) }
+    ensures prints { Prints (ending result) (O.output out.old) (O.output out.new) }
+{
+    let answer = answer_for(rt, alloc, task, stdin)?;
+    match write_answer(rt, task, &answer, out) {
+        Ok(()) => {
+            let ended = print_answer(alloc, task, &answer, out, err);
+            drop(answer);
+            ended
+        }
+        Err(failure) => {
+            drop(answer);
+            Err(failure)
+        }
+    }
+}
