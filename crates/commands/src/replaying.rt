@@ -18,9 +18,11 @@ use reports::{Agreement, compare};
 use std::alloc::Global;
 use std::rt::Files;
 
-/// What blocks show of a circuit, and whether a file has the circuit that they end in, where one was compared.
+/// What blocks show of a circuit under a bound on levels, or without one, and whether a file has the circuit that they end in, where one
+/// was compared.
 #[derive(Clone, Copy)]
 pub(crate) struct Judgement {
+    pub(crate) bound: Option<u32>,
     pub(crate) audit: Audit,
     pub(crate) agreement: Option<Agreement>,
 }
@@ -145,19 +147,24 @@ fn agreement_of(
     }
 }
 
-/// What a replay shows, whose circuit is compared with these bytes.
+/// What a replay shows that had this bound, or none, whose circuit is compared with these bytes.
 pub(crate) fn judged(
     alloc: Global,
     replay: Replay,
     bytes: &Option<Vec<u8>>,
+    bound: Option<u32>,
 ) -> Result<Judgement, NoMemory>
-    ensures { IfOk result (IsJudgement (bytes_in bytes.now) replay) }
+    ensures { IfOk result (IsJudgement bound (bytes_in bytes.now) replay) }
 {
     let audit = replay.audit;
     let found = agreement_of(alloc, &replay.last, bytes);
     drop(replay);
     match found {
-        Ok(agreement) => Ok(Judgement { audit, agreement }),
+        Ok(agreement) => Ok(Judgement {
+            bound,
+            audit,
+            agreement,
+        }),
         Err(error) => Err(error),
     }
 }
