@@ -6,9 +6,10 @@ ghost use Rattle.backward_commands.specs.Held.{held_for, marked_latches, names_g
 
 use aig_graph::{Circuit, Keep, NoMemory, keep_of};
 use circuit_files::Failure;
-use command_endings::{bytes_of_names, failure_of_names, missing_name};
+use command_endings::{bytes_of_names, failure_of_names};
 use command_line::Moving;
-use latch_marks::{MarkError, mark_latches, marks_of};
+use held_circuits::marked_circuit;
+use latch_marks::marks_of;
 use std::alloc::Global;
 
 /// The latches that the names hold.
@@ -25,42 +26,6 @@ fn held_by_names<'a>(
     match keep_of(alloc, circuit, names.as_slice()) {
         Ok(keep) => Ok(keep),
         Err(error) => Err(failure_of_names(error, task.input, task.keep.as_slice())),
-    }
-}
-
-/// The failure that an error is, of the latches that the task holds.
-fn failure_of_marks<'a>(error: MarkError, task: &Moving<'a>) -> Failure<'a> {
-    let path = task.input.name();
-    match error {
-        MarkError::NoMemory => Failure::Memory,
-        MarkError::NoSuchName(number) => missing_name(path, task.keep.as_slice(), number),
-        MarkError::NoSuchLatch(number) => {
-            let places = task.keep_latches.as_slice();
-            Failure::NoSuchLatch(path, places.get(number).copied().unwrap_or(0))
-        }
-    }
-}
-
-/// A copy of the circuit in which the latches that the names and places hold have marks.
-fn marked_copy<'a>(
-    alloc: Global,
-    circuit: &Circuit,
-    task: &Moving<'a>,
-) -> Result<Circuit, Failure<'a>>
-    ensures { IfOk result (λ copy. copy ≡ marked
-        (held_places (names_given task.now) task.now.keep_latches.items circuit.now) circuit.now) }
-{
-    let Ok(names) = bytes_of_names(alloc, task.keep.as_slice()) else {
-        return Err(Failure::Memory);
-    };
-    match mark_latches(
-        alloc,
-        circuit,
-        names.as_slice(),
-        task.keep_latches.as_slice(),
-    ) {
-        Ok(copy) => Ok(copy),
-        Err(error) => Err(failure_of_marks(error, task)),
     }
 }
 
@@ -84,7 +49,13 @@ fn held_by_marks<'a>(
     ensures { IfOk result (λ keep. keep ≡ marked_latches (marked
         (held_places (names_given task.now) task.now.keep_latches.items circuit.now) circuit.now)) }
 {
-    match marked_copy(alloc, circuit, task) {
+    match marked_circuit(
+        alloc,
+        circuit,
+        task.input,
+        task.keep.as_slice(),
+        task.keep_latches.as_slice(),
+    ) {
         Ok(copy) => {
             let held = marked_latches(alloc, &copy);
             drop(copy);

@@ -1,5 +1,5 @@
 -- Counting latches from the first one on.
-use Rattle.std.proofs.Common.{ℕ, ◌≡◌, ◌∙◌, ◌<◌, ◌≤◌, ◌-◌, ◌&&◌, ◌+◌, ◌⊎◌, inl, inr, Bool, false, not, List, length, replicate, Option, sym, ap, arith, refl}
+use Rattle.std.proofs.Common.{ℕ, ◌≡◌, ◌∙◌, ◌<◌, ◌≤◌, ◌-◌, ◌&&◌, ◌+◌, ◌⊎◌, inl, inr, Bool, false, not, List, length, replicate, Option, None, sym, ap, arith, refl}
 use Rattle.std.proofs.lemmas.Bool.{and_right, cases_lt}
 use Rattle.variable_tables.specs.Counting.{count_below}
 use Rattle.variable_tables.specs.Marking.{mark_at, Marks}
@@ -52,7 +52,7 @@ marked-latch c held marks filled v below =
 pub held_back-is : (c : Netlist) (held : List ℕ) (g : Graph) (marks : List Bool) (free kept read pass : ℕ) → g ≡ c.aig → AreMarksElsewhere c held marks
     → free ≡ free_latches g → kept ≡ count_below (is_known_held g held) (first_gate g) → read ≡ count_below (is_marked_latch g held marks) (first_gate g)
     → pass ≡ length (passable_gates g held)
-    → record { free = free; held = kept; read_elsewhere = read; passable = pass } ≡ held_back c held
+    → record { free = free; held = kept; read_elsewhere = read; too_long = None; passable = pass } ≡ held_back c held
 unfolding held_back
 held_back-is c held g marks free kept read pass same filled is_free is_kept is_read is_pass =
     let all_free : free ≡ free_latches c.aig = is_free ∙ ap free_latches same in
@@ -61,7 +61,7 @@ held_back-is c held g marks free kept read pass same filled is_free is_kept is_r
     is_read ∙ ap (λ (x : Graph). count_below (is_marked_latch x held marks) (first_gate x)) same
     ∙ count_below-same (is_marked_latch c.aig held marks) (is_read_elsewhere c held) (first_gate c.aig) (marked-latch c held marks filled) in
     let all_pass : pass ≡ length (passable_gates c.aig held) = is_pass ∙ ap (λ (x : Graph). length (passable_gates x held)) same in
-    λ i. record { free = all_free i; held = all_kept i; read_elsewhere = all_read i; passable = all_pass i }
+    λ i. record { free = all_free i; held = all_kept i; read_elsewhere = all_read i; too_long = None; passable = all_pass i }
 
 -- what the marks of passable gates leave marked
 pub elsewhere-marks : (c : Netlist) (held : List ℕ) (g : Graph) (props : Props) (n first : ℕ) (pass old new : List Bool) → g ≡ c.aig → props ≡ c.props → n ≡ latches_and_gates g

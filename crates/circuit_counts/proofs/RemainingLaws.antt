@@ -3,7 +3,7 @@ use Rattle.std.proofs.Common.{ℕ, ◌≡◌, ◌∙◌, List, [], Bool, Option,
 use Rattle.aig_graph.specs.Circuits.{Netlist}
 use Rattle.aig_graph.specs.Keep.{first_missing, held_in, NoneMissing, IsFirstMissing}
 use Rattle.circuit_counts.specs.Counts.{counts}
-use Rattle.circuit_counts.specs.HeldBack.{held_back}
+use Rattle.circuit_counts.specs.HeldBack.{held_back_within}
 use Rattle.circuit_counts.specs.Remaining.{held_latches, remaining}
 use Rattle.circuit_counts.specs.declared.held_back.HeldBack.{HeldBack}
 use Rattle.circuit_counts.specs.declared.remaining.Remaining.{Remaining}
@@ -20,9 +20,9 @@ unfolding held_latches
 one-missing names c held place is missing = is ∙ sym (ap (λ (o : Option ℕ). cond (is_some o) [] (held_in names c)) missing)
 
 -- the counts and what holds latches back, where the names hold theirs, are what a retiming leaves
-pub remaining-is : (c : Netlist) (names : List (List ℕ)) (is_least : Bool) (n : Counts) (h : HeldBack) (held : List ℕ) → n ≡ counts c → held ≡ held_latches names c → h ≡ held_back c held
-    → record { counts = n; held_back = h; is_least = is_least } ≡ remaining c names is_least
+pub remaining-is : (c : Netlist) (names : List (List ℕ)) (bound : Option ℕ) (is_least : Bool) (n : Counts) (h : HeldBack) (held : List ℕ) → n ≡ counts c → held ≡ held_latches names c → h ≡ held_back_within bound c held
+    → record { counts = n; held_back = h; is_least = is_least } ≡ remaining c names bound is_least
 unfolding remaining
-remaining-is c names is_least n h held is_counts is_held is_back =
-    let back : h ≡ held_back c (held_latches names c) = is_back ∙ ap (held_back c) is_held in
+remaining-is c names bound is_least n h held is_counts is_held is_back =
+    let back : h ≡ held_back_within bound c (held_latches names c) = is_back ∙ ap (held_back_within bound c) is_held in
     λ i. record { counts = is_counts i; held_back = back i; is_least = is_least }

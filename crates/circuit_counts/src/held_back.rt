@@ -1,14 +1,16 @@
 //! What holds the latches of a circuit where they are.
-ghost use Rattle.std.specs.Prelude.{◌≡◌, IfOk};
+ghost use Rattle.std.specs.Prelude.{◌≡◌, IfOk, Some};
 ghost use Rattle.variable_tables.specs.Counting.{count_below};
 ghost use Rattle.variable_tables.specs.Tables.{table};
 ghost use Rattle.aig_graph.specs.Graph.{first_latch, first_gate, latches_and_gates};
 ghost use Rattle.aig_graph.specs.Border.{is_read_outside};
 ghost use Rattle.frame_net.specs.Passable.{IsPassSet, is_passable};
-ghost use Rattle.circuit_counts.specs.HeldBack.{held_back, is_known_held, is_marked_latch};
+ghost use Rattle.path_levels.specs.Bounded.{bounded};
+ghost use Rattle.circuit_counts.specs.HeldBack.{held_back, held_back_within, is_known_held, is_marked_latch};
 
 use aig_graph::{Aig, Circuit, Keep, NoMemory, mark_read};
 use frame_net::{PassSet, passable};
+use path_levels::bounded;
 use std::alloc::Global;
 use variable_tables::mark_at;
 
@@ -21,6 +23,8 @@ pub struct HeldBack {
     pub held: u32,
     /// The other latches with a known reset that a gate that isn't passable, a next literal or a property reads.
     pub read_elsewhere: u32,
+    /// Under a bound on levels, the latches that passable gates alone read, one of which is past the bound; none without a bound.
+    pub too_long: Option<u32>,
     /// The gates that latches may move over.
     pub passable: u32,
 }
@@ -101,7 +105,59 @@ impl HeldBack {
             free: aig.free_latches(),
             held: count_held(aig, keep),
             read_elsewhere: count_marked(aig, keep, marks.as_slice()),
+            too_long: None,
             passable: pass.count(),
         })
     }
+
+    /// The same under a bound on levels, where there is one.
+    ///
+    /// # Errors
+    ///
+    /// Memory is refused.
+    pub fn within(
+        alloc: Global,
+        circuit: &Circuit,
+        keep: &Keep,
+        bound: Option<u32>,
+    ) -> Result<HeldBack, NoMemory>
+        ensures { IfOk result (λ found. found
+            ≡ held_back_within bound circuit.now keep.now) }
+    {
+        let found = HeldBack::of(alloc, circuit, keep)?;
+        match bound {
+            Some(most) => under_bound(alloc, circuit, keep, found, most),
+            None => Ok(found),
+        }
+    }
+}
+
+/// How many latches a gate reads that isn't passable within the bound, or something else does.
+fn read_within(alloc: Global, circuit: &Circuit, keep: &Keep, bound: u32) -> Result<u32, NoMemory>
+    ensures { IfOk result (λ read. read
+        ≡ (held_back (bounded bound keep.now circuit.now) keep.now).read_elsewhere) }
+{
+    let narrowed = bounded(alloc, circuit, keep, bound)?;
+    let found = HeldBack::of(alloc, &narrowed, keep);
+    drop(narrowed);
+    Ok(found?.read_elsewhere)
+}
+
+/// What was found, with the latches that a gate past the bound reads.
+fn under_bound(
+    alloc: Global,
+    circuit: &Circuit,
+    keep: &Keep,
+    found: HeldBack,
+    bound: u32,
+) -> Result<HeldBack, NoMemory>
+    requires { found ≡ held_back circuit.now keep.now }
+    ensures { IfOk result (λ under. under
+        ≡ held_back_within (Some bound) circuit.now keep.now) }
+{
+    let read = read_within(alloc, circuit, keep, bound)?;
+    Ok(HeldBack {
+        too_long: Some(read.saturating_sub(found.read_elsewhere)),
+        ..found
+    })
 }

@@ -31,7 +31,8 @@ fn held_latches(alloc: Global, circuit: &Circuit, names: &[Vec<u8>]) -> Result<K
 }
 
 impl Remaining {
-    /// What a retiming leaves that held the latches of these names, by the circuit that it made. Linear in the circuit and the names.
+    /// What a retiming leaves that held the latches of these names and had this bound on levels, or none, by the circuit that it made.
+    /// Linear in the circuit and the names.
     ///
     /// # Errors
     ///
@@ -40,14 +41,15 @@ impl Remaining {
         alloc: Global,
         circuit: &Circuit,
         names: &[Vec<u8>],
+        bound: Option<u32>,
         is_least: bool,
     ) -> Result<Remaining, NoMemory>
         ensures { IfOk result (λ found. found
-            ≡ remaining circuit.now (names_of names.now) is_least) }
+            ≡ remaining circuit.now (names_of names.now) bound is_least) }
     {
         let counts = Counts::of(alloc, circuit)?;
         let keep = held_latches(alloc, circuit, names)?;
-        let held_back = HeldBack::of(alloc, circuit, &keep)?;
+        let held_back = HeldBack::within(alloc, circuit, &keep, bound)?;
         Ok(Remaining {
             counts,
             held_back,

@@ -15,7 +15,7 @@ use certificates::Certificate;
 use circuit_counts::{Remaining, Statistics};
 use circuit_files::{Failure, Outcome};
 use counted_io::CountedWrite;
-use json_reports::{MapCounts, PrintError, Times};
+use json_reports::{MapCounts, PrintError, ReadLevels, Times};
 use lane_sim::Place;
 use merged_latches::MergeCounts;
 use reports::{Agreement, JobReport};
@@ -33,12 +33,12 @@ fn ended<'a>(printed: Result<(), PrintError>, outcome: Outcome) -> Result<Outcom
     }
 }
 
-/// Prints the frames of a retiming, the levels of the circuit that was read, what the written one has and why no more latches go, which free latches stayed, what the map
-/// of states has, and how long the parts of the run took, where that was measured.
+/// Prints the frames of a retiming, the levels of the circuit that was read and the bound on levels, what the written one has and why no
+/// more latches go, which free latches stayed, what the map of states has, and how long the parts of the run took, where that was measured.
 pub fn print_retiming<'a, W: CountedWrite>(
     alloc: Global,
     retimed: &Retimed,
-    levels: Option<u32>,
+    levels: ReadLevels,
     remaining: &Remaining,
     times: Option<&Times>,
     map: Option<MapCounts>,
@@ -102,21 +102,22 @@ pub fn print_shapes_differ<'a, W: CountedWrite>(
     ended(printed, Outcome::ShapesDiffer)
 }
 
-/// Prints an audit, and what came of a file that was compared with the circuit that its blocks end in, after which the run ends so.
+/// Prints an audit under a bound on levels, or none, and what came of a file that was compared with the circuit that its blocks end in, after which the run ends so.
 pub fn print_audit<'a, W: CountedWrite>(
     alloc: Global,
     blocks: &[Certificate],
     audit: Audit,
     agreement: Option<Agreement>,
+    bound: Option<u32>,
     outcome: Outcome,
     writer: &mut W,
 ) -> Result<Outcome, Failure<'a>>
     ensures { EndsPrintingObject outcome
-        (audit_data blocks.now audit agreement (status_of outcome))
+        (audit_data blocks.now audit agreement bound (status_of outcome))
         (W.output writer.old) (W.output writer.new) result }
 {
     let status = outcome.status();
-    let printed = json_reports::print_audit(alloc, blocks, audit, agreement, status, writer);
+    let printed = json_reports::print_audit(alloc, blocks, audit, agreement, bound, status, writer);
     ended(printed, outcome)
 }
 

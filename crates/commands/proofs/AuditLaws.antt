@@ -58,9 +58,10 @@ marked_replay task c m blocks r some is replays =
     subst (λ (d : Netlist). A (names_held names places d) d) (sym held) (subst (λ (ns : List (List ℕ)). A ns m) (sym (names-held names places m some)) replays)
 
 -- what is judged of a replay is judged of the task
-pub judged-result : (task : Verification) (c : Netlist) (blocks : List Certificate) (bytes : Option (List ℕ)) (replay : Replay) (judgement : Judgement)
-    → IsReplayOf task c blocks replay → IsJudgement bytes replay judgement → IsJudgedBy task c blocks bytes judgement
-judged-result task c blocks bytes replay judgement replays judges = record { replay = replay; replays = replays; judges = judges }
+pub judged-result : (task : Verification) (c : Netlist) (blocks : List Certificate) (bytes : Option (List ℕ)) (replay : Replay) (bound : Option ℕ) (judgement : Judgement)
+    → bound ≡ bound_for task.bound c → IsReplayOf task c blocks replay → IsJudgement bound bytes replay judgement → IsJudgedBy task c blocks bytes judgement
+judged-result task c blocks bytes replay bound judgement is replays judges =
+    record { replay = replay; replays = replays; judges = subst (λ (b : Option ℕ). IsJudgement b bytes replay judgement) is judges }
 
 end_may_be_printed : (e : End) (old new : Output) → Prints (outcome_of_end e) old new
 end_may_be_printed NoBlocks old new = tt
@@ -90,7 +91,7 @@ ends_with_object json blocks judgement old new result asked p =
 pub audit_object_prints : (blocks : List Certificate) (judgement : Judgement) (old new : Output) (result : Result Outcome Failure)
     → EndsWithObject blocks judgement (outcome_of_judgement judgement) old new result → Prints (ending result) old new
 audit_object_prints blocks judgement old new result p =
-    object_prints (outcome_of_judgement judgement) (audit_data blocks judgement.audit judgement.agreement (status_of (outcome_of_judgement judgement))) old new result
+    object_prints (outcome_of_judgement judgement) (audit_data blocks judgement.audit judgement.agreement judgement.bound (status_of (outcome_of_judgement judgement))) old new result
     (λ written. audit_may_be_printed judgement.agreement judgement.audit.end old new) p
 
 lines_of_audit : (blocks : List Certificate) (judgement : Judgement) (old new : Output) (result : Result Outcome Failure)

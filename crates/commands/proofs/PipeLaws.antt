@@ -31,6 +31,7 @@ use Rattle.circuit_files.specs.declared.outcome.Failure.{Failure}
 use Rattle.circuit_files.specs.declared.outcome.Failure.TheVariants as fails
 use Rattle.json_reports.specs.declared.times.Times.{Times}
 use Rattle.json_reports.specs.declared.counts.MapCounts.{MapCounts}
+use Rattle.json_reports.specs.declared.counts.ReadLevels.{ReadLevels}
 use Rattle.commands.specs.declared.answer.Answer.{Answer as Answered}
 use Rattle.commands.specs.Pipes.{AnswersPipe, IsAnswerTo, IsMapOf, IsPipe, IsToldOf, PrintsRetiming, WritesAnswer, WritesBeside, WritesCertificates, WritesMap, WritesPipe, WritesRetiming, blocks_text}
 use Rattle.command_endings.specs.Printing.{EndsAside, Prints, ending}
@@ -109,7 +110,7 @@ answers_pipe FileGiven task input old new answer pipe all =
     })
 
 -- what is written beside the answer changes nothing of what is told of it
-pub told_of : (FileGiven : List ℕ → List ℕ → Type 0) (task : Retiming) (input : Input) (old mid new : Output) (answer after : Answered) (r : Retimed) (levels : Option ℕ) (counts : Option MapCounts)
+pub told_of : (FileGiven : List ℕ → List ℕ → Type 0) (task : Retiming) (input : Input) (old mid new : Output) (answer after : Answered) (r : Retimed) (levels : ReadLevels) (counts : Option MapCounts)
     → levels ≡ after.levels → after.levels ≡ answer.levels → r ≡ after.retimed → PrintsAlike after.retimed answer.retimed
     → counts ≡ option_map (λ (m : SpeltMap). counts_of m.circuit) after.map → after.map ≡ answer.map
     → WritesAnswer FileGiven task input old mid answer → WritesBeside FileGiven task answer mid new → IsToldOf FileGiven task input old new r levels counts
@@ -144,7 +145,7 @@ if_ended (Ok ended) P p = p
 if_ended (Err failure) P p = tt
 
 -- what is told of it is printed
-pub prints_retiming : (FileGiven : List ℕ → List ℕ → Type 0) (task : Retiming) (is_terminal : Bool) (input : Input) (old mid new shown told said : Output) (r : Retimed) (levels : Option ℕ) (times : Option Times) (mapped : Option MapCounts) (result : Result Outcome Failure)
+pub prints_retiming : (FileGiven : List ℕ → List ℕ → Type 0) (task : Retiming) (is_terminal : Bool) (input : Input) (old mid new shown told said : Output) (r : Retimed) (levels : ReadLevels) (times : Option Times) (mapped : Option MapCounts) (result : Result Outcome Failure)
     → IsToldOf FileGiven task input old mid r levels mapped → (takes_stdout task ≡ true → EndsAside Done mid new result)
     → (takes_stdout task ≡ true → SaysFrames task r levels times mapped shown told) → (takes_stdout task ≡ false → EndsPrintingFrames task.json task r levels times mapped mid new result)
     → (is_terminal ≡ false → said ≡ told) → IfOk result (λ ended. PrintsRetiming FileGiven task is_terminal input old new said (Ok ended))
@@ -157,13 +158,13 @@ prints_retiming FileGiven task is_terminal input old mid new shown told said r l
       between = mid;
       written = of.written;
       printed = λ free. subst (λ (m : Option MapCounts). EndsPrintingFrames task.json task answer.retimed answer.levels times m mid new result) of.counts_are
-          (subst (λ (l : Option ℕ). EndsPrintingFrames task.json task answer.retimed l times mapped mid new result) of.levels_are
+          (subst (λ (l : ReadLevels). EndsPrintingFrames task.json task answer.retimed l times mapped mid new result) of.levels_are
           (frames_alike task.json task r answer.retimed levels times mapped mid new result of.alike (frames free)));
       quiet = λ taken. stays_quiet mid mid new result (aside taken);
       shown = shown;
       aside = λ taken quiet. subst (SaysFrames task answer.retimed answer.levels times counts shown) (sym (still quiet))
           (subst (λ (m : Option MapCounts). SaysFrames task answer.retimed answer.levels times m shown told) of.counts_are
-          (subst (λ (l : Option ℕ). SaysFrames task answer.retimed l times mapped shown told) of.levels_are
+          (subst (λ (l : ReadLevels). SaysFrames task answer.retimed l times mapped shown told) of.levels_are
           (says_alike task r answer.retimed levels times mapped shown told of.alike (says taken))));
     })
 
@@ -173,7 +174,7 @@ if_done (Ok x) P p = p
 if_done (Err e) P p = tt
 
 -- so a pipe has its answer
-pub writes_pipe : {T E : Type 0} (FileGiven : List ℕ → List ℕ → Type 0) (task : Retiming) (input : Input) (old mid new : Output) (r : Retimed) (levels : Option ℕ) (mapped : Option MapCounts) (result : Result Outcome Failure) (ended : Result T E)
+pub writes_pipe : {T E : Type 0} (FileGiven : List ℕ → List ℕ → Type 0) (task : Retiming) (input : Input) (old mid new : Output) (r : Retimed) (levels : ReadLevels) (mapped : Option MapCounts) (result : Result Outcome Failure) (ended : Result T E)
     → IsToldOf FileGiven task input old mid r levels mapped → (takes_stdout task ≡ true → EndsAside Done mid new result) → IfOk ended (λ x. IsPipe task → WritesPipe task input old new)
 writes_pipe FileGiven task input old mid new r levels mapped result ended of aside =
     let answer = of.answer in

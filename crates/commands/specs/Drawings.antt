@@ -28,7 +28,7 @@ use Rattle.latch_marks.specs.Marks.{circuit_freed, circuit_held, names_held}
 use Rattle.command_line.specs.declared.task.Drawing.{Drawing}
 use Rattle.command_endings.specs.HeldNames.{OfSource}
 use Rattle.command_endings.specs.Sources.{IsCircuitAt}
-use Rattle.commands.specs.HeldLatches.{texts_of}
+use Rattle.held_circuits.specs.HeldLatches.{texts_of}
 use Rattle.commands.specs.declared.scene.Scene.{Scene}
 
 -- a circuit while the task holds its latches, and the names by which it does in one that is so

@@ -3,6 +3,5 @@ pub mod OtherSpelling
 pub mod Pipes
 pub mod Replaying
 pub mod Verifying
-pub mod HeldLatches
 pub mod Drawings
 pub mod Statistics

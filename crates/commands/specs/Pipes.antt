@@ -21,6 +21,7 @@ use Rattle.commands.specs.OtherSpelling.{spelling_for}
 use Rattle.certificate_files.specs.Texts.{file_text as certificates_text}
 use Rattle.json_reports.specs.declared.times.Times.{Times}
 use Rattle.json_reports.specs.declared.counts.MapCounts.{MapCounts}
+use Rattle.json_reports.specs.declared.counts.ReadLevels.{ReadLevels}
 use Rattle.circuit_files.specs.WrittenFiles.{IsTargetGiven}
 use Rattle.circuit_files.specs.declared.outcome.Outcome.{Outcome}
 use Rattle.circuit_files.specs.declared.outcome.Failure.{Failure}
@@ -93,7 +94,7 @@ pub record WritesRetiming (FileGiven : List ℕ → List ℕ → Type 0) (task :
   pub beside : WritesBeside FileGiven task answer between new
 
 -- what is told of r is told of an answer whose parts were all written, and of its map
-pub record IsToldOf (FileGiven : List ℕ → List ℕ → Type 0) (task : Retiming) (input : Input) (old new : Output) (r : Retimed) (levels : Option ℕ) (mapped : Option MapCounts) : Type 0 where
+pub record IsToldOf (FileGiven : List ℕ → List ℕ → Type 0) (task : Retiming) (input : Input) (old new : Output) (r : Retimed) (levels : ReadLevels) (mapped : Option MapCounts) : Type 0 where
   pub answer : Answer
   pub alike : PrintsAlike r answer.retimed
   pub levels_are : levels ≡ answer.levels
@@ -114,7 +115,7 @@ pub record PrintsRetiming (FileGiven : List ℕ → List ℕ → Type 0) (task :
 
 -- the answer by the options of the task, of the bytes that standard input had left, was written, and nothing else; the levels are those of
 -- the circuit of the bytes
-pub record AnswersPipe (task : Retiming) (input : Input) (old new : Output) (retimed : Retimed) (levels : Option ℕ) : Type 0 where
+pub record AnswersPipe (task : Retiming) (input : Input) (old new : Output) (retimed : Retimed) (levels : ReadLevels) : Type 0 where
   pub options : HeldOptions
   pub are_options : AreOptionsOf task options
   pub answered : IsHeldAnswered input old new options retimed
@@ -123,7 +124,7 @@ pub record AnswersPipe (task : Retiming) (input : Input) (old new : Output) (ret
 -- that is so of some retiming
 pub record WritesPipe (task : Retiming) (input : Input) (old new : Output) : Type 0 where
   pub retimed : Retimed
-  pub levels : Option ℕ
+  pub levels : ReadLevels
   pub answers : AnswersPipe task input old new retimed levels
 
 -- the circuit that is read, of standard input that of the bytes that were left, was written in the chosen spelling, else in the one that wasn't read

@@ -62,7 +62,8 @@ abbrev pub IsAgreementOn : Option (List ℕ) → Option Netlist → Option Agree
 IsAgreementOn None last agreement = agreement ≡ None
 IsAgreementOn (Some bytes) last agreement = IsAgreementWith last bytes agreement
 
--- the replay's audit, and what comes of comparing these bytes with its circuit
-pub record IsJudgement (bytes : Option (List ℕ)) (replay : Replay) (judgement : Judgement) : Type 0 where
+-- the bound of the replay, its audit, and what comes of comparing these bytes with its circuit
+pub record IsJudgement (bound : Option ℕ) (bytes : Option (List ℕ)) (replay : Replay) (judgement : Judgement) : Type 0 where
+  pub bound_is : judgement.bound ≡ bound
   pub audit : judgement.audit ≡ replay.audit
   pub agreement : IsAgreementOn bytes replay.last judgement.agreement

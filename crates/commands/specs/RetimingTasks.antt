@@ -21,6 +21,7 @@ use Rattle.reports.specs.Retimings.{retiming_text}
 use Rattle.json_reports.specs.Retimings.{retiming_data}
 use Rattle.json_reports.specs.declared.times.Times.{Times}
 use Rattle.json_reports.specs.declared.counts.MapCounts.{MapCounts}
+use Rattle.json_reports.specs.declared.counts.ReadLevels.{ReadLevels}
 use Rattle.circuit_files.specs.Outcomes.{IsAbout, failure_of_reading, outcome_of}
 use Rattle.circuit_files.specs.declared.outcome.Outcome.{Outcome}
 use Rattle.circuit_files.specs.declared.outcome.Outcome.TheVariants.{Device, Done, Refused}
@@ -29,7 +30,8 @@ use Rattle.circuit_files.specs.declared.outcome.Failure.TheVariants as fails
 use Rattle.command_endings.specs.Objects.{EndsPrintingObject}
 use Rattle.command_endings.specs.HeldNames.{OfSource}
 use Rattle.command_endings.specs.Printing.{EndsPrinting}
-use Rattle.commands.specs.HeldLatches.{texts_of}
+use Rattle.held_circuits.specs.HeldLatches.{texts_of}
+use Rattle.frames.specs.Bounds.{bound_for}
 use Rattle.frames.specs.Named.{names_in}
 
 -- the options are the task's
@@ -65,29 +67,30 @@ HasFailed (Some target) failure = (outcome_of failure ≡ Device) × IsAbout (ta
 abbrev pub names_for : Retiming → Netlist → List (List ℕ)
 names_for task c = names_held (texts_of task.keep.items) task.keep_latches.items c
 
--- what the task's retiming leaves: the circuit, where its held latches stay; fewer frames than the limit end where no set leaves fewer
-abbrev pub remaining_of : Retiming → Retimed → Remaining
-remaining_of task r = remaining r.circuit (names_for task r.circuit) (nat_lt (length r.frames) task.frames)
+-- what the task's retiming leaves under a bound, or without one: the circuit, where its held latches stay; fewer frames than the limit end where
+-- no set leaves fewer
+abbrev pub remaining_of : Retiming → Option ℕ → Retimed → Remaining
+remaining_of task bound r = remaining r.circuit (names_for task r.circuit) bound (nat_lt (length r.frames) task.frames)
 
--- the levels of the circuit that is read, which an object tells
-abbrev pub levels_told : Retiming → Netlist → Option ℕ
-levels_told task c = if task.json then Some (levels c) else None
+-- the levels of the circuit that is read, which an object tells, and the bound that its run has
+abbrev pub levels_told : Retiming → Netlist → ReadLevels
+levels_told task c = record { counted = if task.json then Some (levels c) else None; bound = bound_for task.bound c }
 
 -- how many gates and constraints a map has
 abbrev pub counts_of : Netlist → MapCounts
 counts_of m = record { gates = length m.aig.gates; constraints = length m.props.constraints }
 
 -- how printing a retiming ends, as an object of JSON where that is asked for, else in lines
-abbrev pub EndsPrintingFrames : Bool → Retiming → Retimed → Option ℕ → Option Times → Option MapCounts → Output → Output → Result Outcome Failure → Type 0
-EndsPrintingFrames true task r levels times mapped old new result = EndsPrintingObject Done (retiming_data r levels (remaining_of task r) times mapped) old new result
+abbrev pub EndsPrintingFrames : Bool → Retiming → Retimed → ReadLevels → Option Times → Option MapCounts → Output → Output → Result Outcome Failure → Type 0
+EndsPrintingFrames true task r levels times mapped old new result = EndsPrintingObject Done (retiming_data r levels (remaining_of task levels.bound r) times mapped) old new result
 EndsPrintingFrames false task r levels times mapped old new result = EndsPrinting Done (retiming_text r) old new result
 
 -- so it was printed where nobody asks how that ended
-pub record SaysFrames (task : Retiming) (r : Retimed) (levels : Option ℕ) (times : Option Times) (mapped : Option MapCounts) (old new : Output) : Type 0 where
+pub record SaysFrames (task : Retiming) (r : Retimed) (levels : ReadLevels) (times : Option Times) (mapped : Option MapCounts) (old new : Output) : Type 0 where
   pub ended : Result Outcome Failure
   pub prints : EndsPrintingFrames task.json task r levels times mapped old new ended
 
 -- what is printed of it is the same, certificates or none
 abbrev pub PrintsAlike : Retimed → Retimed → Type 0
 PrintsAlike r s = (retiming_text r ≡ retiming_text s)
-    × ((task : Retiming) (levels : Option ℕ) (times : Option Times) (mapped : Option MapCounts) → retiming_data r levels (remaining_of task r) times mapped ≡ retiming_data s levels (remaining_of task s) times mapped)
+    × ((task : Retiming) (levels : ReadLevels) (times : Option Times) (mapped : Option MapCounts) → retiming_data r levels (remaining_of task levels.bound r) times mapped ≡ retiming_data s levels (remaining_of task levels.bound s) times mapped)

@@ -12,6 +12,7 @@ use Rattle.certificate_audits.specs.declared.outcome.Replay.{Replay}
 use Rattle.reports.specs.Audits.{audit_text}
 use Rattle.reports.specs.declared.agreement.Agreement.{Agreement}
 use Rattle.reports.specs.declared.agreement.Agreement.TheVariants.{Same, DiffersAt}
+use Rattle.frames.specs.Bounds.{bound_for}
 use Rattle.json_reports.specs.Audits.{audit_data}
 use Rattle.json_reports.specs.Lines.{json_line}
 use Rattle.latch_marks.specs.Marks.{circuit_held, held_places, marked, names_held}
@@ -48,11 +49,11 @@ held_names task = map (λ name. name.now) task.keep.items
 -- the object of a judgement after which the run ends so
 abbrev pub EndsWithObject : List Certificate → Judgement → Outcome → Output → Output → Result Outcome Failure → Type 0
 EndsWithObject blocks judgement outcome old new result =
-    EndsPrintingObject outcome (audit_data blocks judgement.audit judgement.agreement (status_of outcome)) old new result
+    EndsPrintingObject outcome (audit_data blocks judgement.audit judgement.agreement judgement.bound (status_of outcome)) old new result
 
 -- what is printed of a judgement: an object on a line where that is asked for, else lines
 abbrev pub printed_audit : Bool → List Certificate → Judgement → List ℕ
-printed_audit true blocks judgement = json_line (audit_data blocks judgement.audit judgement.agreement (status_of (outcome_of_judgement judgement)))
+printed_audit true blocks judgement = json_line (audit_data blocks judgement.audit judgement.agreement judgement.bound (status_of (outcome_of_judgement judgement)))
 printed_audit false blocks judgement = audit_text blocks judgement.audit judgement.agreement
 
 -- the judgement is printed in this form, and the run ends by it
@@ -84,7 +85,7 @@ pub record IsReplayOf (task : Verification) (c : Netlist) (blocks : List Certifi
 pub record IsJudgedBy (task : Verification) (c : Netlist) (blocks : List Certificate) (bytes : Option (List ℕ)) (judgement : Judgement) : Type 0 where
   pub replay : Replay
   pub replays : IsReplayOf task c blocks replay
-  pub judges : IsJudgement bytes replay judgement
+  pub judges : IsJudgement (bound_for task.bound c) bytes replay judgement
 
 -- that is printed as the task asks, and the run ends by it
 pub record PrintsAudit (task : Verification) (c : Netlist) (blocks : List Certificate) (bytes : Option (List ℕ)) (ended : Outcome) (old new : Output) : Type 0 where

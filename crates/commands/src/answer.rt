@@ -11,8 +11,7 @@ ghost use Rattle.command_endings.specs.Printing.{Prints};
 ghost use Rattle.commands.specs.Pipes.{IsAnswerTo, WritesMap};
 ghost use Rattle.commands.specs.RetimingTasks.{AreOptionsOf, HasFailed, IsFailureOf, IsRunFailureOf, counts_of, levels_told};
 
-use crate::holding::missing_latch;
-use aig_binary::SpeltCircuit;
+use aig_binary::{Spelling, SpeltCircuit};
 use aig_graph::{Circuit, NoMemory};
 use circuit_files::{Failure, file_at};
 use command_endings::missing_name;
@@ -20,7 +19,8 @@ use command_line::Retiming;
 use counted_io::{CountedWrite, WriteError};
 use file_words::ReadError;
 use frames::{BytesError, FrameWatcher, RetimeError, Retimed};
-use json_reports::MapCounts;
+use held_circuits::missing_latch;
+use json_reports::{MapCounts, ReadLevels};
 use mapped_answers::{
     AnswerError, HeldOptions, Mapped, SpeltMap, retime_held, retime_held_mapped, write_state_map,
 };
@@ -34,11 +34,13 @@ use stream_paths::Target;
 /// The most workers of a crew.
 const MOST_WORKERS: u32 = 64;
 
-/// A retiming whose circuit is written, without the marks by which it may still hold latches, the levels of the circuit that was read, where they are told, and its map where one is asked for.
+/// A retiming whose circuit is written, without the marks by which it may still hold latches, what is told of the levels of the circuit
+/// that was read, the spelling of that, and its map where one is asked for.
 #[derive(Drop)]
 pub(crate) struct Answer {
     pub retimed: Retimed,
-    pub levels: Option<u32>,
+    pub levels: ReadLevels,
+    pub spelling: Spelling,
     pub map: Option<SpeltMap>,
 }
 
@@ -85,19 +87,28 @@ fn failure_of_run<'a>(error: AnswerError, task: &Retiming<'a>) -> Failure<'a>
     }
 }
 
-/// The levels of the circuit that was read, where they are told.
-fn levels_for(
+/// The levels of the circuit that was read, where an object tells them.
+fn levels_counted(
     alloc: Global,
     circuit: &Circuit,
     task: &Retiming<'_>,
 ) -> Result<Option<u32>, NoMemory>
-    ensures { IfOk result (λ told. told ≡ levels_told task.now circuit.now) }
+    ensures { IfOk result (λ counted. counted ≡ (levels_told task.now circuit.now).counted) }
 {
     if task.json {
         Ok(Some(levels(alloc, circuit)?))
     } else {
         Ok(None)
     }
+}
+
+/// What is told of the levels of the circuit that was read.
+fn levels_for(alloc: Global, circuit: &Circuit, task: &Retiming<'_>) -> Result<ReadLevels, NoMemory>
+    ensures { IfOk result (λ told. told ≡ levels_told task.now circuit.now) }
+{
+    let bound = task.bound.for_circuit(alloc, circuit)?;
+    let counted = levels_counted(alloc, circuit, task)?;
+    Ok(ReadLevels { counted, bound })
 }
 
 /// The circuit that was read, retimed and written without a map.
@@ -142,7 +153,7 @@ fn mapped_to<R: Threads + Sync, W: CountedWrite, V: FrameWatcher>(
 }
 
 /// A retiming with its map, as an answer.
-fn answer_of(mapped: Mapped, levels: Option<u32>) -> Answer
+fn answer_of(mapped: Mapped, levels: ReadLevels, spelling: Spelling) -> Answer
     ensures retimed { result.retimed ≡ mapped.retimed }
     ensures levels { result.levels ≡ levels }
     ensures map { result.map ≡ Some mapped.map }
@@ -151,6 +162,7 @@ fn answer_of(mapped: Mapped, levels: Option<u32>) -> Answer
     Answer {
         retimed,
         levels,
+        spelling,
         map: Some(map),
     }
 }
@@ -176,7 +188,7 @@ pub(crate) fn map_counts(answer: &Answer) -> Option<MapCounts>
     }
 }
 
-/// Writes the circuit that was read, retimed, and tells its levels where the task asks for them.
+/// Writes the circuit that was read, retimed, and tells of its levels.
 pub(crate) fn retime_to<'a, R: Threads + Sync, W: CountedWrite, V: FrameWatcher>(
     rt: &R,
     alloc: Global,
@@ -196,15 +208,17 @@ pub(crate) fn retime_to<'a, R: Threads + Sync, W: CountedWrite, V: FrameWatcher>
         drop(spelt);
         return Err(Failure::Memory);
     };
+    let spelling = spelt.spelling;
     match task.map {
         Some(_) => match mapped_to(rt, alloc, task, options, spelt, writer, watcher) {
-            Ok(mapped) => Ok(answer_of(mapped, levels)),
+            Ok(mapped) => Ok(answer_of(mapped, levels, spelling)),
             Err(error) => Err(failure_of_run(error, task)),
         },
         None => match plain_to(rt, alloc, task, options, spelt, writer, watcher) {
             Ok(retimed) => Ok(Answer {
                 retimed,
                 levels,
+                spelling,
                 map: None,
             }),
             Err(failure) => Err(failure),

@@ -6,7 +6,6 @@ mod answer;
 mod conversion;
 mod drawable;
 mod drawing;
-mod holding;
 mod replaying;
 mod retiming;
 mod scene;

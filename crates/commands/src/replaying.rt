@@ -5,7 +5,6 @@ ghost use Rattle.aig_binary.specs.Spellings.{text_in};
 ghost use Rattle.reports.specs.Agreements.{IsAgreement};
 ghost use Rattle.commands.specs.Replaying.{AreRetimedAt, IsAboutRetimed, IsAgreementOn, IsAgreementWith, IsFreed, IsJudgement, IsReplayFor, bytes_in, text_like};
 
-use crate::holding::freed_circuit;
 use aig_binary::{Spelling, spelling, write};
 use aig_graph::{Circuit, KeepError, NoMemory};
 use certificate_audits::{Audit, Replay, replay_blocks, replay_merged};
@@ -14,13 +13,16 @@ use circuit_files::{Failure, bytes_at};
 use command_line::Verification;
 use counted_io::{Counted, CountedRead};
 use frames::PathBound;
+use held_circuits::freed_circuit;
 use reports::{Agreement, compare};
 use std::alloc::Global;
 use std::rt::Files;
 
-/// What blocks show of a circuit, and whether a file has the circuit that they end in, where one was compared.
+/// What blocks show of a circuit under a bound on levels, or without one, and whether a file has the circuit that they end in, where one
+/// was compared.
 #[derive(Clone, Copy)]
 pub(crate) struct Judgement {
+    pub(crate) bound: Option<u32>,
     pub(crate) audit: Audit,
     pub(crate) agreement: Option<Agreement>,
 }
@@ -145,19 +147,24 @@ fn agreement_of(
     }
 }
 
-/// What a replay shows, whose circuit is compared with these bytes.
+/// What a replay shows that had this bound, or none, whose circuit is compared with these bytes.
 pub(crate) fn judged(
     alloc: Global,
     replay: Replay,
     bytes: &Option<Vec<u8>>,
+    bound: Option<u32>,
 ) -> Result<Judgement, NoMemory>
-    ensures { IfOk result (IsJudgement (bytes_in bytes.now) replay) }
+    ensures { IfOk result (IsJudgement bound (bytes_in bytes.now) replay) }
 {
     let audit = replay.audit;
     let found = agreement_of(alloc, &replay.last, bytes);
     drop(replay);
     match found {
-        Ok(agreement) => Ok(Judgement { audit, agreement }),
+        Ok(agreement) => Ok(Judgement {
+            bound,
+            audit,
+            agreement,
+        }),
         Err(error) => Err(error),
     }
 }

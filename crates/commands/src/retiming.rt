@@ -14,8 +14,7 @@ ghost use Rattle.commands.specs.RetimingTasks.{AreOptionsOf, EndsPrintingFrames,
 ghost use Rattle.command_line.specs.declared.task.Shown.TheVariants.{Nothing};
 
 use crate::answer::{Answer, map_counts, map_written, retime_to, retimed_of};
-use crate::holding::names_held;
-use aig_binary::SpeltCircuit;
+use aig_binary::{Spelling, SpeltCircuit};
 use aig_graph::{Circuit, NoMemory, Sequence};
 use certificate_files::{CertFile, Choice, write_cert};
 use certificates::Certificate;
@@ -23,9 +22,10 @@ use circuit_counts::Remaining;
 use circuit_files::{Failure, Outcome, circuit_at, file_at};
 use command_endings::{bytes_of_names, ended};
 use command_line::{Retiming, Shown};
-use counted_io::{CountedRead, CountedWrite, WriteError};
+use counted_io::{CountedRead, CountedWrite, WriteError, write_all};
 use frames::{FrameWatcher, Options, Retimed};
-use json_reports::{MapCounts, Times};
+use held_circuits::names_held;
+use json_reports::{MapCounts, ReadLevels, Times};
 use mapped_answers::HeldOptions;
 use progress::Progress;
 use reports::{print_remaining, print_retiming};
@@ -206,12 +206,13 @@ fn write_beside<'a, R: Files, O: CountedWrite>(
     certify(rt, alloc, task, &mut answer.retimed, out)
 }
 
-/// A retiming, the levels of the circuit that was read, where they are told, how long the parts of the run took, where that was measured,
-/// and what its map has, where one is written.
+/// A retiming, what is told of the levels of the circuit that was read, its spelling, how long the parts of the run took, where that was
+/// measured, and what its map has, where one is written.
 #[derive(Drop)]
 struct Timed {
     retimed: Retimed,
-    levels: Option<u32>,
+    levels: ReadLevels,
+    spelling: Spelling,
     times: Option<Times>,
     map: Option<MapCounts>,
 }
@@ -224,9 +225,11 @@ fn with_times(answer: Answer, times: Option<Times>) -> Timed
 {
     let map = map_counts(&answer);
     let levels = answer.levels;
+    let spelling = answer.spelling;
     Timed {
         retimed: retimed_of(answer),
         levels,
+        spelling,
         times,
         map,
     }
@@ -280,13 +283,18 @@ fn names_for(
     names_held(alloc, circuit, task.keep.as_slice(), places)
 }
 
-/// What the task's retiming leaves.
-fn remaining(alloc: Global, task: &Retiming<'_>, retimed: &Retimed) -> Result<Remaining, NoMemory>
-    ensures { IfOk result (λ left. left ≡ remaining_of task.now retimed.now) }
+/// What the task's retiming leaves under a bound, or without one.
+fn remaining(
+    alloc: Global,
+    task: &Retiming<'_>,
+    retimed: &Retimed,
+    bound: Option<u32>,
+) -> Result<Remaining, NoMemory>
+    ensures { IfOk result (λ left. left ≡ remaining_of task.now bound retimed.now) }
 {
     let names = names_for(alloc, &retimed.circuit, task)?;
     let is_least = retimed.frames.len() < task.frames as usize;
-    Remaining::of(alloc, &retimed.circuit, names.as_slice(), is_least)
+    Remaining::of(alloc, &retimed.circuit, names.as_slice(), bound, is_least)
 }
 
 /// Prints the frames that were taken as an object of JSON.
@@ -299,7 +307,7 @@ fn print_object<'a, W: CountedWrite>(
     ensures { EndsPrintingFrames true task.now timed.now.retimed timed.now.levels timed.now.times
         timed.now.map (W.output writer.old) (W.output writer.new) result }
 {
-    match remaining(alloc, task, &timed.retimed) {
+    match remaining(alloc, task, &timed.retimed, timed.levels.bound) {
         Ok(left) => {
             let times = timed.times.as_ref();
             command_endings::print_retiming(
@@ -335,11 +343,24 @@ fn print_as<'a, W: CountedWrite>(
     }
 }
 
-/// Tells on a terminal why no more latches go, where nobody asks for an object or for quiet. What can't be told changes nothing.
+/// What a terminal is told where a file of binary name is written in ASCII, as the circuit that was read.
+const STILL_ASCII: &[u8] = b"written in ASCII, as IN is: --binary writes binary\n";
+
+/// Whether the circuit is written in ASCII, because it was read so, to a file that is named as a binary one.
+fn is_still_ascii(task: &Retiming<'_>, timed: &Timed) -> bool {
+    let is_named_binary = match task.output {
+        Target::File(path) => path.ends_with(".aig"),
+        Target::Stdout => false,
+    };
+    is_named_binary && task.spelling.is_none() && timed.spelling == Spelling::Ascii
+}
+
+/// Tells on a terminal why no more latches go, and where a file has another spelling than its name says, unless somebody asks for an object
+/// or for quiet. What can't be told changes nothing.
 fn tell_remaining<E: CountedWrite>(
     alloc: Global,
     task: &Retiming<'_>,
-    retimed: &Retimed,
+    timed: &Timed,
     is_terminal: bool,
     err: &mut E,
 )
@@ -347,8 +368,11 @@ fn tell_remaining<E: CountedWrite>(
     ensures quiet { task.now.shown ≡ Nothing → E.output err.new ≡ E.output err.old }
 {
     if is_terminal && !task.json && task.shown != Shown::Nothing {
-        if let Ok(left) = remaining(alloc, task, retimed) {
+        if let Ok(left) = remaining(alloc, task, &timed.retimed, timed.levels.bound) {
             let _ = print_remaining(&left, err);
+        }
+        if is_still_ascii(task, timed) {
+            let _ = write_all(err, STILL_ASCII);
         }
     }
 }
@@ -409,7 +433,7 @@ pub fn print_retimed<
 {
     let timed = certified(rt, alloc, task, is_terminal, stdin, out, err)?;
     let ended = print_frames(alloc, task, &timed, out, err);
-    tell_remaining(alloc, task, &timed.retimed, is_terminal, err);
+    tell_remaining(alloc, task, &timed, is_terminal, err);
     drop(timed);
     ended
 }

@@ -6,7 +6,6 @@ ghost use Rattle.latch_marks.specs.Marks.{circuit_freed};
 ghost use Rattle.commands.specs.Drawings.{AreOptionsFor, CanBeDrawn, IsCircuitFor, IsCleanedFor, IsScene, IsSceneOf, IsSceneWith, IsSetFor, held_for, names_for};
 
 use crate::drawable::check_drawable;
-use crate::holding::{freed_circuit, held_circuit, names_held};
 use aig_graph::{Circuit, ClosedSet, Keep, NoMemory, count, keep_of};
 use circuit_files::{Failure, circuit_at};
 use command_endings::{failure_of_names, missing_name};
@@ -14,6 +13,7 @@ use command_line::Drawing;
 use counted_io::CountedRead;
 use cut_cert::greatest_least;
 use frames::{Options, RetimeError, Retimed, retime};
+use held_circuits::{freed_circuit, held_circuit, names_held};
 use pulse::{Crew, OpenGate};
 use std::alloc::Global;
 use std::rt::Files;

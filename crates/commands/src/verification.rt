@@ -10,7 +10,6 @@ ghost use Rattle.command_endings.specs.Sources.{AreCertificatesAt, IsCircuitAt};
 ghost use Rattle.commands.specs.Replaying.{IsReplayFor, bytes_in};
 ghost use Rattle.commands.specs.Verifying.{EndsWithAudit, EndsWithObject, IsJudgedBy, IsMarkedFor, IsReplayHeld, IsReplayOf, PrintsAudit, PrintsAuditBeside, PrintsAuditFor, PrintsAuditOf, held_names, outcome_of_end, outcome_of_judgement};
 
-use crate::holding::marked_circuit;
 use crate::replaying::{Judgement, freed, judged, replay_of, retimed_at};
 use aig_graph::Circuit;
 use certificate_audits::{End, Replay};
@@ -18,10 +17,12 @@ use certificates::Certificate;
 use circuit_files::{Failure, Outcome, certificates_at, circuit_at};
 use command_endings::{bytes_of_names, ended, failure_of_names};
 use command_line::Verification;
-use counted_io::{Buffered, CountedRead, CountedWrite};
+use counted_io::{CountedRead, CountedWrite};
+use held_circuits::marked_circuit;
 use latch_marks::marks_of;
 use reports::{Agreement, print_audit};
 use std::alloc::Global;
+use std::fmt::Write;
 use std::rt::Files;
 
 /// What the certificates end in, where the latches with these names are held.
@@ -149,8 +150,11 @@ fn judged_by<'a>(
 ) -> Result<Judgement, Failure<'a>>
     ensures { IfOk result (IsJudgedBy task.now circuit.now blocks.now (bytes_in bytes.now)) }
 {
+    let Ok(bound) = task.bound.for_circuit(alloc, circuit) else {
+        return Err(Failure::Memory);
+    };
     match replayed(alloc, circuit, blocks, task) {
-        Ok(replay) => match judged(alloc, replay, bytes) {
+        Ok(replay) => match judged(alloc, replay, bytes, bound) {
             Ok(judgement) => Ok(judgement),
             Err(_) => Err(Failure::Memory),
         },
@@ -202,8 +206,12 @@ fn print_object<'a, O: CountedWrite>(
         (O.output out.old) (O.output out.new) result }
 {
     let outcome = outcome_of(judgement);
-    let audit = judgement.audit;
-    command_endings::print_audit(alloc, blocks, audit, judgement.agreement, outcome, out)
+    let Judgement {
+        bound,
+        audit,
+        agreement,
+    } = *judgement;
+    command_endings::print_audit(alloc, blocks, audit, agreement, bound, outcome, out)
 }
 
 /// Prints what certificates show as an object of JSON or in lines.
@@ -295,25 +303,24 @@ fn certificates_of<'a, R: Files, I: CountedRead>(
 }
 
 /// Says that a file has no certificate, and so what was checked. A failed write changes nothing.
-fn tell_of_none<E: CountedWrite>(task: &Verification<'_>, err: &mut E) {
-    let mut out = Buffered::new(err);
-    out.put(task.certificates.name().as_bytes());
-    match task.retimed {
-        Some(_) => out.put(b": no certificate: no frame was checked\n"),
-        None => out.put(b": no certificate: nothing was checked\n"),
-    }
-    let _ = out.flush();
+fn tell_of_none<M: Write>(task: &Verification<'_>, told: &mut M) {
+    let _ = told.write_str(task.certificates.name());
+    let _ = told.write_str(": no certificate: ");
+    let _ = told.write_str(match task.retimed {
+        Some(_) => "no frame was checked\n",
+        None => "nothing was checked\n",
+    });
 }
 
-/// Prints what the certificates that are read show. Where there is none, standard error is told so once that is done.
-fn print_file<'a, R: Files, I: CountedRead, O: CountedWrite, E: CountedWrite>(
+/// Prints what the certificates that are read show. Where there is none, `told` gets a line that says so once that is done.
+fn print_file<'a, R: Files, I: CountedRead, O: CountedWrite, M: Write>(
     rt: &R,
     alloc: Global,
     circuit: &Circuit,
     task: &Verification<'a>,
     stdin: &mut I,
     out: &mut O,
-    err: &mut E,
+    told: &mut M,
 ) -> Result<Outcome, Failure<'a>>
     ensures audit { IfOk result (PrintsAuditFor task.now circuit.now (I.input stdin.old)
         (I.input stdin.new) (O.output out.old) (O.output out.new)) }
@@ -324,7 +331,7 @@ fn print_file<'a, R: Files, I: CountedRead, O: CountedWrite, E: CountedWrite>(
             let blocks = file.blocks.as_slice();
             let printed = print_beside(rt, alloc, circuit, blocks, task, stdin, out);
             if printed.is_ok() && file.blocks.is_empty() {
-                tell_of_none(task, err);
+                tell_of_none(task, told);
             }
             drop(file);
             printed
@@ -335,15 +342,15 @@ fn print_file<'a, R: Files, I: CountedRead, O: CountedWrite, E: CountedWrite>(
 
 /// Reads a circuit, then certificates, and then the circuit that they are to end in, where one is given. Prints whether each
 /// certificate is confirmed, and, where nothing speaks against one, whether they end in that circuit, byte for byte: as an object of
-/// JSON or in lines. Whether a name is that of no latch shows once all was read. Where there is no certificate, standard error is told
-/// so; a failed write there changes nothing.
-pub fn print_verification<'a, R: Files, I: CountedRead, O: CountedWrite, E: CountedWrite>(
+/// JSON or in lines. Whether a name is that of no latch shows once all was read. Where there is no certificate, `told` gets a line that
+/// says so; a failed write there changes nothing.
+pub fn print_verification<'a, R: Files, I: CountedRead, O: CountedWrite, M: Write>(
     rt: &R,
     alloc: Global,
     task: &Verification<'a>,
     stdin: &mut I,
     out: &mut O,
-    err: &mut E,
+    told: &mut M,
 ) -> Result<Outcome, Failure<'a>>
     ensures audit { IfOk result (PrintsAuditOf task.now (I.input stdin.old) (I.input stdin.new)
         (O.output out.old) (O.output out.new)) }
@@ -351,7 +358,7 @@ pub fn print_verification<'a, R: Files, I: CountedRead, O: CountedWrite, E: Coun
 {
     match circuit_of(rt, alloc, task, stdin) {
         Ok(spelt) => {
-            let printed = print_file(rt, alloc, &spelt.circuit, task, stdin, out, err);
+            let printed = print_file(rt, alloc, &spelt.circuit, task, stdin, out, told);
             drop(spelt);
             printed
         }

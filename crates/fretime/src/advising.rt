@@ -1,20 +1,34 @@
 //! What a terminal is told where a command did its work, and what it found may be owed to how it was called.
 use circuit_files::Outcome;
 use command_line::{Task, Verification};
-use counted_io::{CountedWrite, write_all};
+use counted_io::{Buffered, CountedWrite};
 use fault_pages::{Fault, tell_page};
+use frames::PathBound;
 
-/// What is said where a certificate is rejected, by the options that 'verify' wasn't given; nothing where it has all of them.
-fn missing_options(task: &Verification<'_>) -> &'static [u8] {
+/// The options of `retime` that bear on certificates and that 'verify' wasn't given; `None` where it has all of them.
+fn missing_options(task: &Verification<'_>) -> Option<&'static [u8]> {
     let holds = !task.keep.as_slice().is_empty() || !task.keep_latches.as_slice().is_empty();
-    if holds && task.merge {
-        b""
-    } else if holds {
-        b"where 'retime' got --merge, 'verify' needs it too\n"
-    } else if task.merge {
-        b"where 'retime' got --keep or --keep-latch, 'verify' needs the same\n"
-    } else {
-        b"where 'retime' got --keep, --keep-latch or --merge, 'verify' needs the same\n"
+    let is_bounded = task.bound != PathBound::None;
+    match (holds, task.merge, is_bounded) {
+        (true, true, true) => None,
+        (true, true, false) => Some(b"--levels or --no-longer"),
+        (true, false, true) => Some(b"--merge"),
+        (true, false, false) => Some(b"--merge, --levels or --no-longer"),
+        (false, true, true) => Some(b"--keep or --keep-latch"),
+        (false, true, false) => Some(b"--keep, --keep-latch, --levels or --no-longer"),
+        (false, false, true) => Some(b"--keep, --keep-latch or --merge"),
+        (false, false, false) => Some(b"--keep, --keep-latch, --merge, --levels or --no-longer"),
+    }
+}
+
+/// Says which options may be missing where a certificate is rejected.
+fn tell_missing<E: CountedWrite>(task: &Verification<'_>, err: &mut E) {
+    if let Some(options) = missing_options(task) {
+        let mut out = Buffered::new(err);
+        out.put(b"where 'retime' got ");
+        out.put(options);
+        out.put(b", 'verify' needs the same\n");
+        let _ = out.flush();
     }
 }
 
@@ -32,7 +46,7 @@ pub(crate) fn advise<E: CountedWrite>(
         Outcome::ShapesDiffer => tell_page(Fault::ShapesDiffer, err),
         Outcome::Unconfirmed => {
             if let Task::Verify(verification) = task {
-                let _ = write_all(err, missing_options(verification));
+                tell_missing(verification, err);
             }
         }
         _ => {}

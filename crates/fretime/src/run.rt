@@ -7,6 +7,8 @@ ghost use Rattle.clap.specs.Values.{kind_of};
 ghost use Rattle.clap.specs.declared.error.kind.ErrorKind.TheVariants.{DisplayHelp, DisplayVersion, OutOfMemory};
 ghost use Rattle.circuit_files.specs.WrittenFiles.{IsFileGiven};
 ghost use Rattle.circuit_files.specs.declared.outcome.Outcome.TheVariants.{Done, Refused, CommandLine, Memory};
+ghost use Rattle.command_endings.specs.Printing.{Prints, ending};
+ghost use Rattle.commands.specs.Verifying.{PrintsAuditOf};
 ghost use Rattle.fretime.specs.Runs.{Does, MayGive, MayPrint, PrintsFilesOrRefusal, PrintsShapes};
 
 use crate::batch::retime_list;
@@ -17,7 +19,7 @@ use crate::reporting::{report_failure, reported};
 use circuit_files::{Failure, Outcome};
 use clap::Error;
 use clap::error::ErrorKind;
-use command_line::{Task, parse_arguments};
+use command_line::{Task, Verification, parse_arguments};
 use commands::{convert, print_retimed, print_statistics, print_verification, write_picture};
 use counted_io::{Buffered, CountedRead, CountedWrite};
 use fault_pages::Message;
@@ -29,6 +31,26 @@ use std::io;
 use std::rt::Files;
 use std::thread::Threads;
 use std::time::Clock;
+
+/// Checks certificates; what is told of a file that has none is shown as a terminal may have it.
+fn verify<'a, R: Files, I: CountedRead, O: CountedWrite, E: CountedWrite>(
+    rt: &R,
+    alloc: Global,
+    task: &Verification<'a>,
+    is_terminal: bool,
+    stdin: &mut I,
+    out: &mut O,
+    err: &mut E,
+) -> Result<Outcome, Failure<'a>>
+    ensures audit { IfOk result (PrintsAuditOf task.now (I.input stdin.old) (I.input stdin.new)
+        (O.output out.old) (O.output out.new)) }
+    ensures prints { Prints (ending result) (O.output out.old) (O.output out.new) }
+{
+    let mut told = Message::new(err, is_terminal);
+    let printed = print_verification(rt, alloc, task, stdin, out, &mut told);
+    told.send();
+    printed
+}
 
 /// Does what the command line asks for.
 fn run_task<
@@ -62,7 +84,9 @@ fn run_task<
         }
         Task::Sim(simulation) => print_simulation(rt, alloc, simulation, stdin, out),
         Task::Same(comparison) => print_comparison(rt, alloc, comparison, stdin, out),
-        Task::Verify(verification) => print_verification(rt, alloc, verification, stdin, out, err),
+        Task::Verify(verification) => {
+            verify(rt, alloc, verification, is_terminal, stdin, out, err)
+        }
         Task::Check(checking) => print_check(rt, alloc, checking, stdin, out),
         Task::Miter(asking) => write_miter(rt, alloc, asking, stdin, out),
         Task::Lift(lifting) => write_lifted(rt, alloc, lifting, stdin, out),

@@ -40,13 +40,13 @@ stat_example : json_line (statistics_data (record { counts = two_latches; passab
 unfolding serde_json_on_literals digits
 stat_example = refl
 
-audit_example : json_line (audit_data [] (record { confirmed = 0; end = Objected BadRoute }) None 5)
-    ≡ codes "{\"command\":\"verify\",\"counts\":[],\"end\":\"Objected\",\"objection\":\"BadRoute\",\"out\":null,\"status\":5}\n"
+audit_example : json_line (audit_data [] (record { confirmed = 0; end = Objected BadRoute }) None (Some 3) 5)
+    ≡ codes "{\"bound\":3,\"command\":\"verify\",\"counts\":[],\"end\":\"Objected\",\"objection\":\"BadRoute\",\"out\":null,\"status\":5}\n"
 unfolding serde_json_on_literals digits
 audit_example = refl
 
-compared_example : json_line (audit_data [] (record { confirmed = 0; end = NoBlocks }) (Some (DiffersAt 17)) 5)
-    ≡ codes "{\"command\":\"verify\",\"counts\":[],\"end\":\"NoBlocks\",\"objection\":null,\"out\":{\"offset\":17,\"result\":\"Differs\"},\"status\":5}\n"
+compared_example : json_line (audit_data [] (record { confirmed = 0; end = NoBlocks }) (Some (DiffersAt 17)) None 5)
+    ≡ codes "{\"bound\":null,\"command\":\"verify\",\"counts\":[],\"end\":\"NoBlocks\",\"objection\":null,\"out\":{\"offset\":17,\"result\":\"Differs\"},\"status\":5}\n"
 unfolding serde_json_on_literals digits
 compared_example = refl
 
@@ -71,12 +71,12 @@ one_latch = record {
 abbrev one_left : Remaining
 one_left = record {
   counts = record two_latches { latches = 1; known = 1 };
-  held_back = record { free = 0; held = 0; read_elsewhere = 1; passable = 0 };
+  held_back = record { free = 0; held = 0; read_elsewhere = 1; too_long = Some 0; passable = 0 };
   is_least = true;
 }
 
-retime_example : json_line (retiming_data (record { circuit = one_latch; kept_free = []; read_latches = 2; merged = None; frames = record { before = 2; after = 1; moved = 1 } ∷ []; certificates = [] }) (Some 1) one_left (Some (record { reading = 120; cleaning = 7; frames = record { looking = 40; moving = 5 } ∷ []; writing = 60 })) (Some (record { gates = 3; constraints = 2 })))
-    ≡ codes "{\"after\":{\"bad\":0,\"constraints\":0,\"fairness\":0,\"free\":0,\"gates\":1,\"inputs\":2,\"justice\":0,\"known\":1,\"latches\":1,\"levels\":1,\"outputs\":1},\"before\":{\"latches\":2,\"levels\":1},\"command\":\"retime\",\"frames\":[{\"after\":1,\"before\":2,\"gates\":1}],\"free_kept\":[],\"held_back\":{\"free\":0,\"held\":0,\"least\":true,\"passable\":0,\"read_elsewhere\":1},\"map\":{\"constraints\":2,\"gates\":3},\"merged\":null,\"microseconds\":{\"cleaning\":7,\"frames\":[{\"looking\":40,\"moving\":5}],\"reading\":120,\"writing\":60},\"status\":0}\n"
+retime_example : json_line (retiming_data (record { circuit = one_latch; kept_free = []; read_latches = 2; merged = None; frames = record { before = 2; after = 1; moved = 1 } ∷ []; certificates = [] }) (record { counted = Some 1; bound = Some 2 }) one_left (Some (record { reading = 120; cleaning = 7; frames = record { looking = 40; moving = 5 } ∷ []; writing = 60 })) (Some (record { gates = 3; constraints = 2 })))
+    ≡ codes "{\"after\":{\"bad\":0,\"constraints\":0,\"fairness\":0,\"free\":0,\"gates\":1,\"inputs\":2,\"justice\":0,\"known\":1,\"latches\":1,\"levels\":1,\"outputs\":1},\"before\":{\"latches\":2,\"levels\":1},\"bound\":2,\"command\":\"retime\",\"frames\":[{\"after\":1,\"before\":2,\"gates\":1}],\"free_kept\":[],\"held_back\":{\"free\":0,\"held\":0,\"least\":true,\"passable\":0,\"read_elsewhere\":1,\"too_long\":0},\"map\":{\"constraints\":2,\"gates\":3},\"merged\":null,\"microseconds\":{\"cleaning\":7,\"frames\":[{\"looking\":40,\"moving\":5}],\"reading\":120,\"writing\":60},\"status\":0}\n"
 unfolding serde_json_on_literals digits
 retime_example = refl
 

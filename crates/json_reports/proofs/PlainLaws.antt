@@ -1,8 +1,9 @@
 -- What is printed has no float and nests a few levels, so that readers take it.
-use Rattle.std.proofs.Common.{ℕ, ◌≡◌, ◌≤◌, suc, false, List, [], ◌∷◌, map, Option, Some, None, Result, Ok, Err, IfOk, refl, sym, subst, arith}
+use Rattle.std.proofs.Common.{ℕ, ◌≡◌, ◌≤◌, suc, Bool, false, List, [], ◌∷◌, map, Option, Some, None, Result, Ok, Err, IfOk, refl, sym, subst, arith}
 use Rattle.std.specs.Prelude.{codes}
 use Rattle.std.proofs.Math.Nat.{max-le}
 use Rattle.std.proofs.lemmas.Bool.{or_from}
+use Rattle.circuit_counts.specs.declared.held_back.HeldBack.{HeldBack}
 use Rattle.circuit_counts.specs.declared.remaining.Remaining.{Remaining}
 use Rattle.circuit_counts.specs.declared.statistics.Counts.{Counts}
 use Rattle.circuit_counts.specs.declared.statistics.Statistics.{Statistics}
@@ -28,7 +29,7 @@ use Rattle.json_reports.specs.Faults.{fault_data, fault_offset}
 use Rattle.json_reports.specs.Lines.{IsPlain, PrintsLine, PrintsMade}
 use Rattle.json_reports.specs.Members.{count, array_of, or_null}
 use Rattle.json_reports.specs.Refusals.{refusal_data}
-use Rattle.json_reports.specs.Retimings.{frame_data, retiming_data}
+use Rattle.json_reports.specs.Retimings.{frame_data, held_back_data, retiming_data}
 use Rattle.json_reports.specs.Timings.{frame_times_data, times_data}
 use Rattle.json_reports.specs.declared.fault.Fault.{Fault}
 use Rattle.json_reports.specs.declared.fault.Fault.TheVariants as faults
@@ -36,6 +37,7 @@ use Rattle.json_reports.specs.declared.printing.PrintError.{PrintError}
 use Rattle.json_reports.specs.declared.refusal.Refusal.{Refusal}
 use Rattle.json_reports.specs.declared.times.Times.{Times}
 use Rattle.json_reports.specs.declared.counts.MapCounts.{MapCounts}
+use Rattle.json_reports.specs.declared.counts.ReadLevels.{ReadLevels}
 
 record Plain (n : ℕ) (d : Data) : Type 0 where
   whole : has_float d ≡ false
@@ -115,23 +117,28 @@ plain-merge counts = record { whole = refl; nests = omega arith }
 plain-map : (counts : MapCounts) → Plain 3 (map_data counts)
 plain-map counts = record { whole = refl; nests = omega arith }
 
+plain-held_back : (h : HeldBack) (is_least : Bool) → Plain 3 (held_back_data h is_least)
+plain-held_back h is_least =
+    plain-object (plain-member (plain-count h.free) (plain-member (plain-count h.held) (plain-member record { whole = refl; nests = omega arith } (plain-member (plain-count h.passable)
+    (plain-member (plain-count h.read_elsewhere) (plain-member (plain-or_null count plain-count h.too_long) plain-none))))))
+
 -- of a retiming
-pub retiming : (r : Retimed) (levels : Option ℕ) (left : Remaining) (times : Option Times) (mapped : Option MapCounts) → IsPlain (retiming_data r levels left times mapped)
+pub retiming : (r : Retimed) (levels : ReadLevels) (left : Remaining) (times : Option Times) (mapped : Option MapCounts) → IsPlain (retiming_data r levels left times mapped)
 retiming r levels left times mapped =
-    is_plain {n = 4} (omega arith) (plain-object (plain-member (plain-circuit left.counts) (plain-member (plain-object (plain-member (plain-count r.read_latches) (plain-member (plain-or_null count plain-count levels) plain-none)))
-    (plain-member (plain-string _) (plain-member (plain-array frame_data r.frames plain-frame) (plain-member (plain-array count r.kept_free plain-count) (plain-member record { whole = refl; nests = omega arith }
-    (plain-member (plain-or_null map_data plain-map mapped) (plain-member (plain-or_null merge_data plain-merge r.merged) (plain-member (plain-or_null times_data plain-times times) (plain-member (plain-count 0) plain-none)))))))))))
+    is_plain {n = 4} (omega arith) (plain-object (plain-member (plain-circuit left.counts) (plain-member (plain-object (plain-member (plain-count r.read_latches) (plain-member (plain-or_null count plain-count levels.counted) plain-none)))
+    (plain-member (plain-or_null count plain-count levels.bound) (plain-member (plain-string _) (plain-member (plain-array frame_data r.frames plain-frame) (plain-member (plain-array count r.kept_free plain-count) (plain-member (plain-held_back left.held_back left.is_least)
+    (plain-member (plain-or_null map_data plain-map mapped) (plain-member (plain-or_null merge_data plain-merge r.merged) (plain-member (plain-or_null times_data plain-times times) (plain-member (plain-count 0) plain-none))))))))))))
 
 plain-agreement : (agreement : Agreement) → Plain 1 (agreement_data agreement)
 plain-agreement Same = record { whole = refl; nests = omega arith }
 plain-agreement (DiffersAt offset) = record { whole = refl; nests = omega arith }
 
 -- of an audit
-pub audit : (blocks : List Certificate) (a : Audit) (agreement : Option Agreement) (status : ℕ) → IsPlain (audit_data blocks a agreement status)
-audit blocks a agreement status =
-    is_plain {n = 2} (omega arith) (plain-object (plain-member (plain-string _) (plain-member (plain-array block_data _ (λ b. plain-count b.count))
+pub audit : (blocks : List Certificate) (a : Audit) (agreement : Option Agreement) (bound : Option ℕ) (status : ℕ) → IsPlain (audit_data blocks a agreement bound status)
+audit blocks a agreement bound status =
+    is_plain {n = 2} (omega arith) (plain-object (plain-member (plain-or_null count plain-count bound) (plain-member (plain-string _) (plain-member (plain-array block_data _ (λ b. plain-count b.count))
     (plain-member (plain-string _) (plain-member (plain-or_null (λ o. string (objection_name o)) (λ o. plain-string _) (objection_at a.end))
-    (plain-member (plain-or_null agreement_data plain-agreement agreement) (plain-member (plain-count status) plain-none)))))))
+    (plain-member (plain-or_null agreement_data plain-agreement agreement) (plain-member (plain-count status) plain-none))))))))
 
 plain-job : (report : JobReport) → Plain 2 (job_data report)
 plain-job (Done before after) = record { whole = refl; nests = omega arith }

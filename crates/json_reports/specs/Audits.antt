@@ -40,12 +40,13 @@ abbrev pub agreement_data : Agreement → Data
 agreement_data Same = object (member (codes "offset") null (member (codes "result") (string (codes "Same")) no_members))
 agreement_data (DiffersAt offset) = object (member (codes "offset") (count offset) (member (codes "result") (string (codes "Differs")) no_members))
 
--- the counts of the confirmed blocks, in order, how the audit ended, and what came of comparing a file
-abbrev pub audit_data : List Certificate → Audit → Option Agreement → ℕ → Data
-audit_data blocks audit agreement status =
-    object (member (codes "command") (string (codes "verify"))
+-- the bound on levels, where there is one, the counts of the confirmed blocks, in order, how the audit ended, and what came of comparing a file
+abbrev pub audit_data : List Certificate → Audit → Option Agreement → Option ℕ → ℕ → Data
+audit_data blocks audit agreement bound status =
+    object (member (codes "bound") (or_null count bound)
+    (member (codes "command") (string (codes "verify"))
     (member (codes "counts") (array_of block_data (take audit.confirmed blocks))
     (member (codes "end") (string (end_name audit.end))
     (member (codes "objection") (or_null (λ objection. string (objection_name objection)) (objection_at audit.end))
     (member (codes "out") (or_null agreement_data agreement)
-    (member (codes "status") (count status) no_members))))))
+    (member (codes "status") (count status) no_members)))))))

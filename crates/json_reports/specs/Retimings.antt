@@ -9,6 +9,7 @@ use Rattle.json_reports.specs.Counts.{circuit_data, map_data, merge_data}
 use Rattle.json_reports.specs.Members.{count, array_of, or_null}
 use Rattle.json_reports.specs.Timings.{times_data}
 use Rattle.json_reports.specs.declared.counts.MapCounts.{MapCounts}
+use Rattle.json_reports.specs.declared.counts.ReadLevels.{ReadLevels}
 use Rattle.json_reports.specs.declared.times.Times.{Times}
 
 -- the known latches before and right after a frame, and the gates that they move over
@@ -19,19 +20,22 @@ frame_data f = object (member (codes "after") (count f.after) (member (codes "be
 abbrev pub before_data : ℕ → Option ℕ → Data
 before_data latches levels = object (member (codes "latches") (count latches) (member (codes "levels") (or_null count levels) no_members))
 
--- how many latches stay and for what, how many gates are passable, and whether no set of gates leaves fewer latches
+-- how many latches stay and for what, how many gates are passable, and whether no set of gates leaves fewer latches; those that a gate on too
+-- long a path reads are counted under a bound alone
 abbrev pub held_back_data : HeldBack → Bool → Data
 held_back_data h is_least =
     object (member (codes "free") (count h.free)
     (member (codes "held") (count h.held)
     (member (codes "least") (boolean is_least)
     (member (codes "passable") (count h.passable)
-    (member (codes "read_elsewhere") (count h.read_elsewhere) no_members)))))
+    (member (codes "read_elsewhere") (count h.read_elsewhere)
+    (member (codes "too_long") (or_null count h.too_long) no_members))))))
 
-abbrev pub retiming_data : Retimed → Option ℕ → Remaining → Option Times → Option MapCounts → Data
+abbrev pub retiming_data : Retimed → ReadLevels → Remaining → Option Times → Option MapCounts → Data
 retiming_data r levels left times mapped =
     object (member (codes "after") (circuit_data left.counts)
-    (member (codes "before") (before_data r.read_latches levels)
+    (member (codes "before") (before_data r.read_latches levels.counted)
+    (member (codes "bound") (or_null count levels.bound)
     (member (codes "command") (string (codes "retime"))
     (member (codes "frames") (array_of frame_data r.frames)
     (member (codes "free_kept") (array_of count r.kept_free)
@@ -39,4 +43,4 @@ retiming_data r levels left times mapped =
     (member (codes "map") (or_null map_data mapped)
     (member (codes "merged") (or_null merge_data r.merged)
     (member (codes "microseconds") (or_null times_data times)
-    (member (codes "status") (count 0) no_members))))))))))
+    (member (codes "status") (count 0) no_members)))))))))))

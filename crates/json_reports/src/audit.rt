@@ -6,7 +6,7 @@ ghost use Rattle.json_reports.specs.Audits as names;
 ghost use Rattle.json_reports.specs.Members.{array_of, or_null};
 ghost use Rattle.serde_json.specs.Data.{no_members, object, string};
 
-use crate::members::{Scalar, put_scalars, scalars_object};
+use crate::members::{Scalar, put_scalars, scalars_object, wide};
 use certificate_audits::{Audit, End};
 use certificates::{Certificate, Objection};
 use reports::Agreement;
@@ -100,11 +100,12 @@ fn put_audit(
     blocks: &[Certificate],
     audit: Audit,
     agreement: Option<Agreement>,
+    bound: Option<u32>,
     status: u8,
 ) -> Result<(), AllocError>
     ensures { OnOk result (members_view members.old.entries ≡ no_members
         → object (members_view members.new.entries)
-        ≡ audit_data blocks.now audit agreement status) }
+        ≡ audit_data blocks.now audit agreement bound status) }
 {
     let confirmed = first_blocks(blocks, audit.confirmed);
     serde_json::put(members, alloc, "counts", counts_array(alloc, confirmed)?)?;
@@ -119,6 +120,7 @@ fn put_audit(
         members,
         alloc,
         &[
+            ("bound", Scalar::CountIfAny(wide(bound))),
             ("command", Scalar::Text("verify")),
             ("end", Scalar::Text(end_name(audit.end))),
             ("status", Scalar::Count(u64::from(status))),
@@ -126,8 +128,8 @@ fn put_audit(
     )
 }
 
-/// What `verify` prints of the audit of a file's blocks, and of a file that was compared with the circuit that they end in, where it
-/// ends with this status.
+/// What `verify` prints of the audit of a file's blocks under a bound on levels, or none, and of a file that was compared with the circuit
+/// that they end in, where it ends with this status.
 ///
 /// # Errors
 ///
@@ -137,11 +139,12 @@ pub fn audit_object(
     blocks: &[Certificate],
     audit: Audit,
     agreement: Option<Agreement>,
+    bound: Option<u32>,
     status: u8,
 ) -> Result<Value, AllocError>
-    ensures { IfOk result (λ v. view v ≡ audit_data blocks.now audit agreement status) }
+    ensures { IfOk result (λ v. view v ≡ audit_data blocks.now audit agreement bound status) }
 {
     let mut members = Map::new(alloc);
-    put_audit(&mut members, alloc, blocks, audit, agreement, status)?;
+    put_audit(&mut members, alloc, blocks, audit, agreement, bound, status)?;
     Ok(Value::Object(members))
 }

@@ -10,7 +10,7 @@ ghost use Rattle.json_reports.specs.Retimings.{retiming_data};
 
 use crate::audit::audit_object;
 use crate::batch::batch_object;
-use crate::counts::{MapCounts, statistics_object};
+use crate::counts::{MapCounts, ReadLevels, statistics_object};
 use crate::difference::{difference_object, shapes_object};
 use crate::printing::{PrintError, print_made};
 use crate::refusal::{Refusal, refusal_object};
@@ -34,7 +34,7 @@ use std::alloc::Global;
 pub fn print_retiming<W: CountedWrite>(
     alloc: Global,
     retimed: &Retimed,
-    levels: Option<u32>,
+    levels: ReadLevels,
     remaining: &Remaining,
     times: Option<&Times>,
     map: Option<MapCounts>,
@@ -104,15 +104,16 @@ pub fn print_audit<W: CountedWrite>(
     blocks: &[Certificate],
     audit: Audit,
     agreement: Option<Agreement>,
+    bound: Option<u32>,
     status: u8,
     writer: &mut W,
 ) -> Result<(), PrintError>
-    ensures { PrintsLine (audit_data blocks.now audit agreement status)
+    ensures { PrintsLine (audit_data blocks.now audit agreement bound status)
         (W.output writer.old) (W.output writer.new) result }
 {
     print_made(
         alloc,
-        audit_object(alloc, blocks, audit, agreement, status),
+        audit_object(alloc, blocks, audit, agreement, bound, status),
         writer,
     )
 }

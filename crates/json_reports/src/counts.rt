@@ -49,6 +49,15 @@ fn merge_object(alloc: Global, counts: MergeCounts) -> Result<Value, AllocError>
     )
 }
 
+/// What is told of the levels of the circuit that was read.
+#[derive(Clone, Copy)]
+pub struct ReadLevels {
+    /// How many it has, where they were counted.
+    pub counted: Option<u32>,
+    /// The bound on levels that its run has, where there is one.
+    pub bound: Option<u32>,
+}
+
 /// How many gates and constraints a map of states has.
 #[derive(Clone, Copy)]
 pub struct MapCounts {

@@ -20,7 +20,7 @@ pub use commands::{
     print_audit, print_batch, print_difference, print_refusal, print_retiming, print_shapes_differ,
     print_statistics,
 };
-pub use counts::{MapCounts, circuit_object, statistics_object};
+pub use counts::{MapCounts, ReadLevels, circuit_object, statistics_object};
 pub use difference::{difference_object, shapes_object};
 pub use fault::Fault;
 pub use printing::{PrintError, print_object};

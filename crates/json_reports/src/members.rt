@@ -20,6 +20,16 @@ pub(crate) enum Scalar<'a> {
     TextIfAny(Option<&'a str>),
 }
 
+/// The number in 64 bits, where there is one.
+pub(crate) fn wide(number: Option<u32>) -> Option<u64>
+    ensures { result ≡ number }
+{
+    match number {
+        Some(number) => Some(u64::from(number)),
+        None => None,
+    }
+}
+
 fn count_value(number: Option<u64>) -> Value
     ensures { view result ≡ or_null count number }
 {

@@ -5,8 +5,8 @@ ghost use Rattle.serde_json.specs.View.{members_view, view};
 ghost use Rattle.json_reports.specs.Members.{array_of, count};
 ghost use Rattle.json_reports.specs.Retimings.{before_data, frame_data, held_back_data, retiming_data};
 
-use crate::counts::{MapCounts, circuit_object, map_value, merged_value};
-use crate::members::{Scalar, put_scalars, scalars_object};
+use crate::counts::{MapCounts, ReadLevels, circuit_object, map_value, merged_value};
+use crate::members::{Scalar, put_scalars, scalars_object, wide};
 use crate::times::{Times, times_value};
 use circuit_counts::{HeldBack, Remaining};
 use retimed_circuits::{FrameReport, Retimed};
@@ -47,15 +47,6 @@ fn numbers_array(alloc: Global, numbers: &[u32]) -> Result<Value, AllocError>
     Ok(Value::Array(list))
 }
 
-fn wide(number: Option<u32>) -> Option<u64>
-    ensures { result ≡ number }
-{
-    match number {
-        Some(number) => Some(u64::from(number)),
-        None => None,
-    }
-}
-
 fn before_object(alloc: Global, latches: u32, levels: Option<u32>) -> Result<Value, AllocError>
     ensures { IfOk result (λ v. view v ≡ before_data latches levels) }
 {
@@ -84,6 +75,7 @@ fn held_back_object(
             ("least", Scalar::Flag(is_least)),
             ("passable", Scalar::Count(u64::from(held_back.passable))),
             ("read_elsewhere", Scalar::Count(elsewhere)),
+            ("too_long", Scalar::CountIfAny(wide(held_back.too_long))),
         ],
     )
 }
@@ -93,7 +85,7 @@ fn put_retiming(
     members: &mut Map<String, Value>,
     alloc: Global,
     retimed: &Retimed,
-    levels: Option<u32>,
+    levels: ReadLevels,
     remaining: &Remaining,
     times: Option<&Times>,
     map: Option<MapCounts>,
@@ -114,7 +106,7 @@ fn put_retiming(
         members,
         alloc,
         "before",
-        before_object(alloc, retimed.read_latches, levels)?,
+        before_object(alloc, retimed.read_latches, levels.counted)?,
     )?;
     serde_json::put(members, alloc, "frames", frames_array(alloc, frames)?)?;
     serde_json::put(
@@ -141,15 +133,16 @@ fn put_retiming(
         members,
         alloc,
         &[
+            ("bound", Scalar::CountIfAny(wide(levels.bound))),
             ("command", Scalar::Text("retime")),
             ("status", Scalar::Count(0)),
         ],
     )
 }
 
-/// What `retime` prints: each frame, the levels of the circuit that was read, what the written one has and why no more latches go, the places of the free latches that
-/// stayed among those of the circuit that was read, what the map of states has and how many latches were merged, where these were asked
-/// for, and how long the parts of the run took, where that was measured.
+/// What `retime` prints: each frame, the levels of the circuit that was read and the bound on levels, what the written one has and why no
+/// more latches go, the places of the free latches that stayed among those of the circuit that was read, what the map of states has and
+/// how many latches were merged, where these were asked for, and how long the parts of the run took, where that was measured.
 ///
 /// # Errors
 ///
@@ -157,7 +150,7 @@ fn put_retiming(
 pub fn retiming_object(
     alloc: Global,
     retimed: &Retimed,
-    levels: Option<u32>,
+    levels: ReadLevels,
     remaining: &Remaining,
     times: Option<&Times>,
     map: Option<MapCounts>,

@@ -2,12 +2,12 @@
 ghost use Rattle.std.specs.Prelude.{◌≡◌};
 ghost use Rattle.counted_io.specs.Buffered.{Puts};
 ghost use Rattle.counted_io.specs.Output.{Writes};
-ghost use Rattle.reports.specs.Remaining.{end_text, movable, movable_lead, remaining_text, staying_text};
+ghost use Rattle.reports.specs.Remaining.{end_text, movable, movable_lead, remaining_text, staying_text, too_long_text};
 
 use circuit_counts::Remaining;
 use counted_io::{Buffered, CountedWrite, WriteError};
 
-/// How many latches nothing holds where they are: gates that they may move over alone read them.
+/// How many latches nothing holds where they are: gates that they may move over alone read them, within the bound, where there is one.
 fn movable(remaining: &Remaining) -> u64
     ensures { result ≡ movable remaining.now }
 {
@@ -17,7 +17,18 @@ fn movable(remaining: &Remaining) -> u64
         .latches
         .saturating_sub(u64::from(held_back.free));
     let unheld = others.saturating_sub(u64::from(held_back.held));
-    unheld.saturating_sub(u64::from(held_back.read_elsewhere))
+    let passed = unheld.saturating_sub(u64::from(held_back.read_elsewhere));
+    passed.saturating_sub(u64::from(held_back.too_long.unwrap_or(0)))
+}
+
+/// Puts how many latches a gate on too long a path reads, where there is a bound.
+fn put_too_long<W: CountedWrite>(out: &mut Buffered<'_, W>, too_long: Option<u32>)
+    ensures { Puts W.output out.old out.new (too_long_text too_long) }
+{
+    if let Some(count) = too_long {
+        out.put(b", read by a gate on too long a path ");
+        out.put_number(u64::from(count));
+    }
 }
 
 /// What the number of these follows.
@@ -42,19 +53,22 @@ fn put_staying<W: CountedWrite>(out: &mut Buffered<'_, W>, remaining: &Remaining
     out.put_number(u64::from(held_back.held));
     out.put(b", read elsewhere ");
     out.put_number(u64::from(held_back.read_elsewhere));
+    put_too_long(out, held_back.too_long);
     out.put(movable_lead(remaining.is_least));
     out.put_number(movable(remaining));
     out.put_byte(b'\n');
 }
 
 /// Puts why the frames ended, and the newline.
-fn put_end<W: CountedWrite>(out: &mut Buffered<'_, W>, is_least: bool)
-    ensures { Puts W.output out.old out.new (end_text is_least) }
+fn put_end<W: CountedWrite>(out: &mut Buffered<'_, W>, is_least: bool, is_bounded: bool)
+    ensures { Puts W.output out.old out.new (end_text is_least is_bounded) }
 {
-    if is_least {
-        out.put(b", no set of gates leaves fewer\n");
-    } else {
+    if !is_least {
         out.put(b", the limit of frames is reached\n");
+    } else if is_bounded {
+        out.put(b", no set of gates within the bound leaves fewer\n");
+    } else {
+        out.put(b", no set of gates leaves fewer\n");
     }
 }
 
@@ -64,7 +78,8 @@ fn put_remaining<W: CountedWrite>(out: &mut Buffered<'_, W>, remaining: &Remaini
     put_staying(out, remaining);
     out.put(b"passable gates ");
     out.put_number(u64::from(remaining.held_back.passable));
-    put_end(out, remaining.is_least);
+    let is_bounded = remaining.held_back.too_long.is_some();
+    put_end(out, remaining.is_least, is_bounded);
 }
 
 /// Prints what holds the latches of a retimed circuit where they are, and why the frames ended.

@@ -3,7 +3,7 @@ ghost use Rattle.std.specs.Prelude.{ℕ, ◌≡◌, Some, IfOk, map, slice_get};
 ghost use Rattle.circuit_files.specs.declared.outcome.Failure.TheVariants as fails;
 ghost use Rattle.latch_marks.specs.Marks.{circuit_freed, circuit_held, held_places, marked, names_held};
 ghost use Rattle.aig_graph.specs.Keep.{names_of};
-ghost use Rattle.commands.specs.HeldLatches.{IsFailureOfMarks, texts_of};
+ghost use Rattle.held_circuits.specs.HeldLatches.{IsFailureOfMarks, texts_of};
 
 use aig_graph::{Circuit, NoMemory};
 use circuit_files::Failure;
@@ -13,7 +13,7 @@ use std::alloc::Global;
 use stream_paths::Source;
 
 /// The failure that no latch of the file's circuit has the place with this number.
-pub(crate) fn missing_latch<'a>(path: &'a str, places: &[u32], number: usize) -> Failure<'a>
+pub fn missing_latch<'a>(path: &'a str, places: &[u32], number: usize) -> Failure<'a>
     ensures { (place : ℕ) → slice_get places.now number ≡ Some place
         → result ≡ fails.NoSuchLatch path.entry place }
 {
@@ -37,7 +37,7 @@ fn failure_of_marks<'a>(
 }
 
 /// A copy of the circuit that is read in which the latches with these names and at these places have marks.
-pub(crate) fn marked_circuit<'a>(
+pub fn marked_circuit<'a>(
     alloc: Global,
     circuit: &Circuit,
     input: Source<'a>,
@@ -57,7 +57,7 @@ pub(crate) fn marked_circuit<'a>(
 }
 
 /// The circuit that is read while the latches with these names and at these places are held: itself where there is no place.
-pub(crate) fn held_circuit<'a>(
+pub fn held_circuit<'a>(
     alloc: Global,
     circuit: Circuit,
     input: Source<'a>,
@@ -76,7 +76,7 @@ pub(crate) fn held_circuit<'a>(
 }
 
 /// The names by which they are held in it.
-pub(crate) fn names_held(
+pub fn names_held(
     alloc: Global,
     circuit: &Circuit,
     names: &[&str],
@@ -96,7 +96,7 @@ pub(crate) fn names_held(
 }
 
 /// The circuit when they are let go.
-pub(crate) fn freed_circuit(
+pub fn freed_circuit(
     alloc: Global,
     circuit: Circuit,
     places: &[u32],

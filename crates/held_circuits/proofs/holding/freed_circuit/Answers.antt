@@ -2,7 +2,7 @@ use Rattle.std.proofs.Common.{◌∙◌, sym}
 use Rattle.std.proofs.lemmas.Result.{IfOk-weaker}
 use Rattle.latch_marks.proofs.HeldLaws.{circuit-freed, circuit-unfreed, some-places}
 use Rattle.mapped_answers.proofs.AnswerLaws.{no-places}
-use Rattle.commands.proofs.holding.freed_circuit.Goals as goal
+use Rattle.held_circuits.proofs.holding.freed_circuit.Goals as goal
 
 pub returns-then-is_empty : goal.returns-then-is_empty
 returns-then-is_empty c = sym (circuit-unfreed c.args.places.now c.args.circuit (no-places c.args.places.now (sym c.is_empty.ensures ∙ c.if-is_empty.true)))

@@ -2,8 +2,8 @@ use Rattle.std.proofs.Common.{◌∙◌, sym}
 use Rattle.std.proofs.lemmas.Result.{IfOk-weaker}
 use Rattle.latch_marks.proofs.HeldLaws.{names-held, names-unheld, some-places}
 use Rattle.mapped_answers.proofs.AnswerLaws.{no-places}
-use Rattle.commands.specs.HeldLatches.{texts_of}
-use Rattle.commands.proofs.holding.names_held.Goals as goal
+use Rattle.held_circuits.specs.HeldLatches.{texts_of}
+use Rattle.held_circuits.proofs.holding.names_held.Goals as goal
 
 pub returns-in-Ok : goal.returns-in-Ok
 returns-in-Ok c =
