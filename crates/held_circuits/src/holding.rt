@@ -96,11 +96,7 @@ pub fn names_held(
 }
 
 /// The circuit when they are let go.
-pub fn freed_circuit(
-    alloc: Global,
-    circuit: Circuit,
-    places: &[u32],
-) -> Result<Circuit, NoMemory>
+pub fn freed_circuit(alloc: Global, circuit: Circuit, places: &[u32]) -> Result<Circuit, NoMemory>
     ensures { IfOk result (λ freed. freed ≡ circuit_freed places.now circuit) }
 {
     if places.is_empty() {
