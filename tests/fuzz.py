@@ -4,6 +4,7 @@ status, printed text, written file. The last line is 'N passed, M failed', a com
 import argparse
 import contextlib
 import dataclasses
+import json
 import os
 import pathlib
 import random
@@ -23,8 +24,8 @@ from reference.retiming import greatest_least_by_flow, held_latches, least_of_al
 TESTS = pathlib.Path(__file__).resolve().parent
 BENCH = TESTS.parent / 'bench'
 WORKERS = [1, 2, 7, 64]
-# Crews share pulses of the first, in which more than 4096 nodes are active.
-LARGE = ['copies 1200 cordic 4', 'products 70', 'gates 20000 9000', 'delay_lines 4200 8']
+# Crews share pulses of the first, in which more than 4096 nodes are active, and own components of the last, which has over 2^19 places.
+LARGE = ['copies 1200 cordic 4', 'products 70', 'gates 20000 9000', 'delay_lines 4200 8', 'copies 8 two_stages 128 12']
 FAMILIES = ['products 6', 'multiplier 5', 'divider 5', 'cordic 6', 'fir 4 4', 'two_stages 4 4', 'adder_tree 8 4',
             'delay_lines 16 4', 'rounds 8 4', 'gates 300 40']
 
@@ -351,16 +352,24 @@ def circuit_of(family):
     return subprocess.run([BENCH / 'families.py', *family.split()], capture_output=True, check=True).stdout
 
 
+def without_times(text):
+    """A report without what its run took."""
+    report = json.loads(text or b'{}')
+    report.pop('microseconds', None)
+    return report
+
+
 def compare_with_one_worker(comparison, family):
-    """Every crew prints and writes what one worker does. (The reference would take minutes here.)"""
+    """Every crew prints and writes what one worker does, the map of states and the report too. (The reference would take minutes here.)"""
     write('in', circuit_of(family))
     answers = []
     for workers in WORKERS:
-        pathlib.Path('out').unlink(missing_ok=True)
-        ran = subprocess.run([comparison.program, 'retime', 'in', 'out', '--workers', str(workers)],
+        for name in ('out', 'map'):
+            pathlib.Path(name).unlink(missing_ok=True)
+        ran = subprocess.run([comparison.program, 'retime', 'in', 'out', '--map', 'map', '--json', '--workers', str(workers)],
                              capture_output=True, timeout=600, check=False)
-        answers.append((ran.returncode, ran.stdout, ran.stderr, content('out')))
-        well = ran.returncode == 0 and answers[-1] == answers[0] and bool(answers[-1][-1])
+        answers.append((ran.returncode, without_times(ran.stdout), ran.stderr, content('out'), content('map')))
+        well = ran.returncode == 0 and answers[-1] == answers[0] and all(answers[-1][-2:])
         comparison.count(well, f'{workers} workers on {family}')
 
 
